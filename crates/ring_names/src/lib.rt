@@ -1,0 +1,19 @@
+//! Names, bodies, messages and numbers: the words that every other crate of the ring speaks in.
+//! Begin at `Name` and `Body`, whose readers say what text is taken, and at `Reason`, the refusals.
+#![tactic(auto)]
+
+mod body;
+mod memory;
+mod message;
+mod name;
+mod numbers;
+mod reason;
+#[cfg(test)]
+mod tests;
+
+pub use body::{Body, BodyFault};
+pub use memory::OutOfMemory;
+pub use message::Message;
+pub use name::{Name, NameFault};
+pub use numbers::{CreditSpec, MemberId, Position, Stamp};
+pub use reason::Reason;
