@@ -3,6 +3,7 @@ ghost use Rattle.std.specs.Prelude.{◌≡◌, ℕ, ◌<◌, ◌≤◌, length, 
 ghost use Rattle.ring_names.specs.Body.{IsBody, is_bad_body_byte, FailsAsBody};
 
 use crate::memory::OutOfMemory;
+use smallvec::SmallVec;
 use std::alloc::Global;
 use std::marker::Model;
 
@@ -17,10 +18,11 @@ pub enum BodyFault {
     OutOfMemory,
 }
 
-/// The body of a message: 0 to 256 bytes from the space to the tilde.
+/// The body of a message: 0 to 256 bytes from the space to the tilde. One of at most 16 bytes takes no
+/// memory beside its own.
 #[derive(Drop, Debug)]
 pub struct Body {
-    bytes: Vec<u8>,
+    bytes: SmallVec<u8, 16>,
 }
 
 impl Model for Body {
@@ -47,7 +49,7 @@ impl Body {
         if let Some(at) = bad_place(bytes) {
             return Err(BodyFault::BadByte { at: at as u32 });
         }
-        match Vec::from_slice(alloc, bytes) {
+        match SmallVec::from_slice(alloc, bytes) {
             Ok(bytes) => Ok(Body { bytes }),
             Err(_) => Err(BodyFault::OutOfMemory),
         }
@@ -58,14 +60,14 @@ impl Body {
         ensures bytes { result.now ≡ self.now }
         ensures grammar { IsBody result.now }
     {
-        &self.bytes
+        self.bytes.as_slice()
     }
 
     /// An equal body.
     pub fn copy(&self) -> Result<Body, OutOfMemory>
         ensures { IfOk result (λ body. body ≡ self.now) }
     {
-        match self.bytes.clone() {
+        match SmallVec::from_slice(*self.bytes.allocator(), self.bytes.as_slice()) {
             Ok(bytes) => Ok(Body { bytes }),
             Err(_) => Err(OutOfMemory),
         }

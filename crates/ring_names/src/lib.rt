@@ -3,6 +3,7 @@
 #![tactic(auto)]
 
 mod body;
+mod items;
 mod memory;
 mod message;
 mod name;
@@ -12,6 +13,7 @@ mod reason;
 mod tests;
 
 pub use body::{Body, BodyFault};
+pub use items::Items;
 pub use memory::OutOfMemory;
 pub use message::Message;
 pub use name::{Name, NameFault};

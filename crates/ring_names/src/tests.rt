@@ -71,3 +71,11 @@ fn numbers_its_refusals(rt: HostRuntime) {
     assert_eq!(rt; Reason::NotRetired { got: 3, retired: 2 }.code(), 24);
     assert_eq!(rt; Reason::NotRefused.code(), 44);
 }
+
+#[test]
+fn keeps_items_in_order(rt: HostRuntime) -> Result<(), Fail> {
+    let items = Items::from_vec(vec![in rt.alloc(); 3u32, 1, 2]?);
+    assert_eq!(rt; items.as_slice(), [3, 1, 2].as_slice());
+    assert_eq!(rt; items.into_vec().as_slice(), [3, 1, 2].as_slice());
+    Ok(())
+}
