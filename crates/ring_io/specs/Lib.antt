@@ -1,0 +1,4 @@
+pub mod Count
+pub mod Contents
+pub mod Memory
+pub mod Counted

@@ -1,0 +1,16 @@
+//! What is called around each turn of a round.
+use ring_names::MemberId;
+
+/// Told of the turns of a round, and free to hold the caller up there.
+pub trait Gate: Sync {
+    /// A turn of `who` begins, at `kind` 1, or is over, at `kind` 2.
+    fn pass(&self, who: MemberId, kind: u8);
+}
+
+/// A gate that does nothing.
+#[derive(Clone, Copy, Debug)]
+pub struct ShutGate;
+
+impl Gate for ShutGate {
+    fn pass(&self, _who: MemberId, _kind: u8) {}
+}

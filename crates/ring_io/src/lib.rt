@@ -1,0 +1,23 @@
+//! Byte streams that fail only where they count a fault: sources, sinks, and what reads or writes a
+//! whole text through them. Begin at `Source` and `Sink`, and at `read_all` and `write_all`.
+#![tactic(auto)]
+
+mod adapters;
+mod calls;
+mod front;
+mod gate;
+mod memory;
+mod sink;
+mod source;
+mod sure;
+#[cfg(test)]
+mod tests;
+mod whole;
+
+pub use adapters::{ReadSource, WriteSink};
+pub use gate::{Gate, ShutGate};
+pub use memory::{MemorySink, MemorySource};
+pub use sink::Sink;
+pub use source::{Failed, Source};
+pub use sure::{SureSink, SureSource};
+pub use whole::{ReadEnd, Short, read_all, write_all};
