@@ -1,0 +1,14 @@
+pub mod Writes
+pub mod Round
+pub mod Chain
+pub mod Good
+pub mod KeptPublish
+pub mod KeptPut
+pub mod KeptTake
+pub mod Run
+pub mod Lawful
+pub mod Later
+pub mod Names
+pub mod Sized
+pub mod Views
+pub mod Running

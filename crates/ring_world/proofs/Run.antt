@@ -1,0 +1,148 @@
+-- Inductions over runs.
+use Rattle.std.proofs.Common.{◌≡◌, ℕ, zero, suc, ◌+◌, ◌<◌, List, [], ◌∷◌, ◌++◌, length, map, take, get_or, refl, sym, ap, subst, ◌∙◌, true, false, Bool, nat_eq, arith, Option, Some, None}
+use Rattle.std.specs.List.{range_with_len}
+use Rattle.std.specs.Prelude.{bytes_eq}
+use Rattle.std.proofs.lemmas.List.{length-map, get_or-map, length_push}
+use Rattle.std.proofs.lemmas.List.FromFn.{length-map-range_with_len}
+use Rattle.std.proofs.lemmas.List.Quantifiers.{position-Some}
+use Rattle.ring_names.specs.declared.message.Message.TheVariants as message
+use Rattle.ring_names.specs.declared.reason.Reason.{Reason}
+use Rattle.ring_names.specs.declared.reason.Reason.TheVariants.{NothingToTake}
+use Rattle.ring_world.specs.declared.event.Event.{Event}
+use Rattle.ring_world.specs.declared.event.Event.TheVariants.{Cast, Put, Take}
+use Rattle.ring_world.specs.World.{World, AreOpeningNames, no_row, no_member, no_link, row_at, member_at, log_of, size, place_of}
+use Rattle.ring_world.specs.Refusal.{refusal, of_member, refuse_if}
+use Rattle.ring_world.specs.Effect.{at_place, effect, publish_at, put_at, take_at}
+use Rattle.ring_world.specs.Run.{IsRun, last, opening, opening_member, opening_link, IsReachedIn, IsShaped}
+use Rattle.ring_world.specs.Laws.{row_of}
+use Rattle.ring_world.proofs.Good.{IsGood, LinkIsChain, LinkIsFall, low, low_forgot}
+use Rattle.ring_world.proofs.KeptPublish.{publish_keeps}
+use Rattle.ring_world.proofs.KeptPut.{put_keeps}
+use Rattle.ring_world.proofs.KeptTake.{take_keeps}
+
+-- ---- one event
+
+pub place-lt : (w : World) (name : List ℕ) (i : ℕ) → place_of w.members name ≡ Some i → i < size w
+place-lt w name i e = (position-Some (λ m. bytes_eq m.name name) w.members i no_member e).0
+
+-- what each place's effect has, the event's effect has
+pub at_place_does : (P : World → Type 0) (w : World) (name : List ℕ) (later : ℕ → Option Reason) (f : ℕ → World) (o : Option ℕ) → place_of w.members name ≡ o → of_member o later ≡ None → ((i : ℕ) → i < size w → later i ≡ None → P (f i)) → P (at_place o w f)
+at_place_does P w name later f None e r k = cc
+at_place_does P w name later f (Some i) e r k = k i (place-lt w name i e) r
+
+pub not_refused : (b : Bool) (r : Reason) → refuse_if b r ≡ None → b ≡ false
+not_refused true r e = cc
+not_refused false r e = refl
+
+pub effect_keeps : (w : World) (e : Event) → refusal w e ≡ None → IsGood w → IsGood (effect w e)
+effect_keeps w (Cast by body) r h = at_place_does IsGood w by _ (publish_at w (message.Cast body)) _ refl r (λ i l _. publish_keeps w i (message.Cast body) l h)
+effect_keeps w (Put by) r h = at_place_does IsGood w by _ (put_at w) _ refl r (λ i l _. put_keeps w i l h)
+effect_keeps w (Take by) r h = at_place_does IsGood w by _ (take_at w) _ refl r (λ i l x. take_keeps w i l (not_refused _ NothingToTake x) h)
+
+-- ---- the opening
+
+pub opening_size : (names : List (List ℕ)) → size (opening names) ≡ length names
+opening_size names = length-map names (opening_member (length names))
+
+pub opening_at : (names : List (List ℕ)) (q : ℕ) → q < length names → member_at (opening names) q ≡ opening_member (length names) (get_or names q [])
+opening_at names q l = get_or-map (opening_member (length names)) names q [] no_member l
+
+pub get_or-no_rows : (n a p : ℕ) → get_or (map (λ (_ : ℕ). no_row) (range_with_len a n)) p no_row ≡ no_row
+get_or-no_rows zero a p = refl
+get_or-no_rows (suc n) a zero = refl
+get_or-no_rows (suc n) a (suc p) = get_or-no_rows n (a + 1) p
+
+pub opening_row : (names : List (List ℕ)) (q p : ℕ) → q < size (opening names) → row_of (opening names) q p ≡ no_row
+opening_row names q p l = ap (λ y. row_at y p) (opening_at names q (omega (arith, opening_size names))) ∙ get_or-no_rows (length names) 0 p
+
+pub get_or-no_links : (names : List (List ℕ)) (s : ℕ) → get_or (map opening_link names) s no_link ≡ no_link
+get_or-no_links [] s = refl
+get_or-no_links (n ∷ ns) zero = refl
+get_or-no_links (n ∷ ns) (suc s) = get_or-no_links ns s
+
+pub low-no_row : (b : Bool) → low b no_row ≡ 0
+low-no_row true = refl
+low-no_row false = refl
+
+pub low_forgot-no_row : (b : Bool) → low_forgot b no_row ≡ 0
+low_forgot-no_row true = refl
+low_forgot-no_row false = refl
+
+pub opening_good : (names : List (List ℕ)) → IsGood (opening names)
+opening_good names = record {
+  links = length-map names opening_link ∙ sym (opening_size names);
+  rows = λ q ql. ap (λ y. length y.rows) (opening_at names q (omega (arith, opening_size names))) ∙ length-map-range_with_len (λ (_ : ℕ). no_row) 0 (length names) ∙ sym (opening_size names);
+  own = λ q ql. ap (λ r. r.got) (opening_row names q q ql) ∙ sym (ap (λ y. length y.log) (opening_at names q (omega (arith, opening_size names))));
+  within = λ q p ql pl. omega (arith, ap (λ r. r.got) (opening_row names q p ql));
+  heard = λ q p ql pl. ap (λ r. r.heard) (opening_row names q p ql) ∙ sym (ap (λ r. take r.got (log_of (opening names) p)) (opening_row names q p ql));
+  chain = λ q p s ql pl e.
+      subst (λ l. LinkIsChain p (low (nat_eq p q) (row_of (opening names) q p)) l (row_of (opening names) s p).got) (sym (get_or-no_links names s))
+      (rw (opening_row names q p ql) (rw (low-no_row (nat_eq p q)) (omega arith, omega arith)));
+  fall = λ q p s ql pl e.
+      subst (λ l. LinkIsFall p (low_forgot (nat_eq p q) (row_of (opening names) q p)) l (row_of (opening names) s p).forgot) (sym (get_or-no_links names s))
+      (rw (opening_row names q p ql) (rw (low_forgot-no_row (nat_eq p q)) (omega arith, omega arith)));
+  fresh = λ s _. ap (λ l. l.packets) (get_or-no_links names s);
+}
+
+-- ---- runs
+
+-- what each enabled event keeps holds at the end of a run
+pub run_keeps : (P : World → Type 0) → ((w : World) (e : Event) → refusal w e ≡ None → P w → P (effect w e)) → (w : World) (events : List Event) → IsRun w events → P w → P (last w events)
+run_keeps P step w [] r h = h
+run_keeps P step w (e ∷ es) r h = run_keeps P step (effect w e) es r.1 (step w e r.0 h)
+
+pub last_keeps : (w : World) (events : List Event) → IsRun w events → IsGood w → IsGood (last w events)
+last_keeps = run_keeps IsGood effect_keeps
+
+pub run_good : (names : List (List ℕ)) (events : List Event) → IsRun (opening names) events → IsGood (last (opening names) events)
+run_good names events r = last_keeps (opening names) events r (opening_good names)
+
+-- every state of every run
+pub IsReachedIn-IsGood : (w : World) (n : ℕ) → IsReachedIn w n → IsGood w
+IsReachedIn-IsGood w n r = subst IsGood (sym r.is) (run_good r.names r.events r.run)
+
+pub IsGood-IsShaped : (w : World) → IsGood w → IsShaped w
+IsGood-IsShaped w h = record { links = h.links; rows = h.rows; own = h.own }
+
+-- a run of two parts
+pub IsRun-append : (w : World) (es fs : List Event) → IsRun w es → IsRun (last w es) fs → IsRun w (es ++ fs)
+IsRun-append w [] fs r s = s
+IsRun-append w (e ∷ es) fs r s = (r.0, IsRun-append (effect w e) es fs r.1 s)
+
+pub IsRun-front : (w : World) (es fs : List Event) → IsRun w (es ++ fs) → IsRun w es
+IsRun-front w [] fs r = tt
+IsRun-front w (e ∷ es) fs r = (r.0, IsRun-front (effect w e) es fs r.1)
+
+pub IsRun-back : (w : World) (es fs : List Event) → IsRun w (es ++ fs) → IsRun (last w es) fs
+IsRun-back w [] fs r = r
+IsRun-back w (e ∷ es) fs r = IsRun-back (effect w e) es fs r.1
+
+pub last-append : (w : World) (es fs : List Event) → last w (es ++ fs) ≡ last (last w es) fs
+last-append w [] fs = refl
+last-append w (e ∷ es) fs = last-append (effect w e) es fs
+
+-- each prefix of a run is a run
+pub IsRun-take : (w : World) (k : ℕ) (events : List Event) → IsRun w events → IsRun w (take k events)
+IsRun-take w zero events r = tt
+IsRun-take w (suc k) [] r = tt
+IsRun-take w (suc k) (e ∷ es) r = (r.0, IsRun-take (effect w e) k es r.1)
+
+-- one more event
+pub IsRun-push : (w : World) (events : List Event) (e : Event) → IsRun w events → refusal (last w events) e ≡ None → IsRun w (events ++ e ∷ [])
+IsRun-push w events e r x = IsRun-append w events (e ∷ []) r (x, tt)
+
+pub last-push : (w : World) (events : List Event) (e : Event) → last w (events ++ e ∷ []) ≡ effect (last w events) e
+last-push w events e = last-append w events (e ∷ [])
+
+pub opening_is_reached : (names : List (List ℕ)) → AreOpeningNames names → IsReachedIn (opening names) 0
+opening_is_reached names are = record { names = names; are = are; events = []; run = tt; is = refl; count = refl }
+
+pub IsReachedIn-more : (w w' : World) (n n' : ℕ) (e : Event) → IsReachedIn w n → refusal w e ≡ None → w' ≡ effect w e → n' ≡ n + 1 → IsReachedIn w' n'
+IsReachedIn-more w w' n n' e r x is count = record {
+  names = r.names;
+  are = r.are;
+  events = r.events ++ e ∷ [];
+  run = IsRun-push (opening r.names) r.events e r.run (ap (λ v. refusal v e) (sym r.is) ∙ x);
+  is = is ∙ ap (λ v. effect v e) r.is ∙ sym (last-push (opening r.names) r.events e);
+  count = length_push r.events e ∙ ap (λ k. k + 1) r.count ∙ sym count;
+}

@@ -1,0 +1,41 @@
+-- The laws of the ring, over states and over steps.
+use Rattle.std.specs.Prelude.{◌≡◌, ℕ, ◌<◌, ◌≤◌, ◌++◌, length, take}
+use Rattle.ring_world.specs.World.{Row, World, row_at, member_at, log_of, size}
+use Rattle.ring_world.specs.Member.{messages_between}
+
+abbrev pub row_of : World → ℕ → ℕ → Row
+row_of w q p = row_at (member_at w q) p
+
+-- what a member heard of a publisher is the publisher's log up to the number that the member got:
+-- in order, without gap, and each message once
+abbrev pub HearsInOrder : World → Type 0
+HearsInOrder w = (q p : ℕ) → q < size w → p < size w → (row_of w q p).heard ≡ take (row_of w q p).got (log_of w p)
+
+-- no number is above the length of the log
+abbrev pub StaysWithinLogs : World → Type 0
+StaysWithinLogs w = (q p : ℕ) → q < size w → p < size w → (row_of w q p).got ≤ length (log_of w p)
+
+-- a publisher has its whole own log
+abbrev pub HasOwnLog : World → Type 0
+HasOwnLog w = (p : ℕ) → p < size w → (row_of w p p).got ≡ length (log_of w p)
+
+-- a message that has come round to its publisher is at every member
+abbrev pub ConfirmedEverywhere : World → Type 0
+ConfirmedEverywhere w = (q p : ℕ) → q < size w → p < size w → (row_of w p p).forgot ≤ (row_of w q p).got
+
+-- from one state to a later one the ring stays, logs only grow, numbers never fall,
+-- and what a member hears is what follows in the publisher's log
+pub record NeverFalls (w w' : World) : Type 0 where
+  pub same_ring : size w' ≡ size w
+  pub logs : (p : ℕ) → p < size w → take (length (log_of w p)) (log_of w' p) ≡ log_of w p
+  pub got : (q p : ℕ) → q < size w → p < size w → (row_of w q p).got ≤ (row_of w' q p).got
+  pub forgot : (q p : ℕ) → q < size w → p < size w → (row_of w q p).forgot ≤ (row_of w' q p).forgot
+  pub retired : (q p : ℕ) → q < size w → p < size w → (row_of w q p).retired ≤ (row_of w' q p).retired
+  pub hears : (q p : ℕ) → q < size w → p < size w → (row_of w' q p).heard ≡ (row_of w q p).heard ++ messages_between (row_of w q p).got (row_of w' q p).got (log_of w' p)
+
+-- the laws of a state
+pub record IsLawful (w : World) : Type 0 where
+  pub in_order : HearsInOrder w
+  pub within : StaysWithinLogs w
+  pub own : HasOwnLog w
+  pub confirmed : ConfirmedEverywhere w

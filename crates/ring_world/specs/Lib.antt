@@ -1,0 +1,9 @@
+pub mod World
+pub mod Member
+pub mod Refusal
+pub mod Effect
+pub mod Run
+pub mod Shown
+pub mod Laws
+pub mod View
+pub mod Reached

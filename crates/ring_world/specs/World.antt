@@ -1,0 +1,99 @@
+-- The state of the ring: what each member knows of each origin, and what stands on each link.
+use Rattle.std.specs.Prelude.{◌≡◌, ◌<◌, ◌≤◌, ℕ, suc, zero, ◌-◌, Bool, true, List, [], length, slice_index_or, Option, position, bytes_eq}
+use Rattle.ring_names.specs.declared.message.Message.{Message}
+use Rattle.ring_world.specs.declared.numbers.Numbers.{Numbers}
+
+-- What a member knows of one origin: the number up to which it has received the origin's messages, the
+-- number up to which it has forgotten them (their acknowledgement has passed), the number up to which that
+-- acknowledgement has come round, and the messages themselves in the order in which they were received.
+pub record Row : Type 0 where
+  pub got : ℕ
+  pub forgot : ℕ
+  pub retired : ℕ
+  pub heard : List Message
+
+-- A member: its name, the log of its own messages, and a row for each origin.
+pub record Member : Type 0 where
+  pub name : List ℕ
+  pub log : List Message
+  pub rows : List Row
+
+-- A packet carries numbers for each origin.
+pub record Packet : Type 0 where
+  pub numbers : List Numbers
+
+-- What the sending side of a link knows: whether no packet was put yet, and the packet last put.
+pub record Sending : Type 0 where
+  pub fresh : Bool
+  pub sent : Packet
+
+-- A link: its packets on the way, the oldest first, and its sending side.
+pub record Link : Type 0 where
+  pub packets : List Packet
+  pub sending : Sending
+
+-- The members in ring order, and the links by their senders.
+pub record World : Type 0 where
+  pub members : List Member
+  pub links : List Link
+
+abbrev pub no_row : Row
+no_row = record { got = 0; forgot = 0; retired = 0; heard = [] }
+
+abbrev pub no_numbers : Numbers
+no_numbers = record { lo = 0; got = 0; forgot = 0 }
+
+abbrev pub no_packet : Packet
+no_packet = record { numbers = [] }
+
+abbrev pub no_member : Member
+no_member = record { name = []; log = []; rows = [] }
+
+abbrev pub no_sending : Sending
+no_sending = record { fresh = true; sent = no_packet }
+
+abbrev pub no_link : Link
+no_link = record { packets = []; sending = no_sending }
+
+-- an origin without a row counts with 0 in all its numbers
+abbrev pub row_at : Member → ℕ → Row
+row_at y p = slice_index_or y.rows p no_row
+
+abbrev pub numbers_at : Packet → ℕ → Numbers
+numbers_at k p = slice_index_or k.numbers p no_numbers
+
+abbrev pub member_at : World → ℕ → Member
+member_at w i = slice_index_or w.members i no_member
+
+abbrev pub link_at : World → ℕ → Link
+link_at w i = slice_index_or w.links i no_link
+
+abbrev pub log_of : World → ℕ → List Message
+log_of w p = (member_at w p).log
+
+abbrev pub size : World → ℕ
+size w = length w.members
+
+-- the place of the member of that name
+abbrev pub place_of : List Member → List ℕ → Option ℕ
+place_of members name = position (λ m. bytes_eq m.name name) members
+
+-- the left neighbour in a ring of n: member i takes from the link of its left neighbour
+abbrev pub left_of : ℕ → ℕ → ℕ
+left_of n zero = n - 1
+left_of n (suc i) = i
+
+-- ---- names
+
+abbrev pub AreDifferent : List (List ℕ) → Type 0
+AreDifferent names = (j k : ℕ) → j < length names → k < length names → slice_index_or names j [] ≡ slice_index_or names k [] → j ≡ k
+
+-- how many members a ring ever admits
+abbrev pub most_members : ℕ
+most_members = 64
+
+-- the names with which a ring opens: 1 to 64 different ones
+pub record AreOpeningNames (names : List (List ℕ)) : Type 0 where
+  pub some : 0 < length names
+  pub few : length names ≤ most_members
+  pub different : AreDifferent names

@@ -1,0 +1,31 @@
+//! The events of the ring.
+ghost use Rattle.std.specs.Prelude.{◌≡◌, IfOk};
+
+use ring_names::{Body, Name, OutOfMemory};
+
+/// One atomic step of one member, as `gm` takes them.
+#[derive(Drop, Debug)]
+pub enum Event {
+    /// The member publishes a message of its own.
+    Cast { by: Name, body: Body },
+    /// The member puts a packet on the link to its right neighbour.
+    Put { by: Name },
+    /// The member takes the oldest packet from the link of its left neighbour.
+    Take { by: Name },
+}
+
+impl Event {
+    /// An equal event.
+    pub fn copy(&self) -> Result<Event, OutOfMemory>
+        ensures { IfOk result (λ event. event ≡ self.now) }
+    {
+        match self {
+            Event::Cast { by, body } => Ok(Event::Cast {
+                by: *by,
+                body: body.copy()?,
+            }),
+            Event::Put { by } => Ok(Event::Put { by: *by }),
+            Event::Take { by } => Ok(Event::Take { by: *by }),
+        }
+    }
+}

@@ -1,0 +1,27 @@
+//! The ring as a plain machine: its state, its events, and what each event does, as `gm` has it for a
+//! ring whose members stay. Begin at `World`, and at specs/World.antt for what a state is.
+#![tactic(auto)]
+
+mod cast;
+mod event;
+mod laws;
+mod log;
+mod numbers;
+mod opening;
+mod place;
+mod put;
+mod seat;
+mod shown;
+mod step;
+mod take;
+#[cfg(test)]
+mod tests;
+mod wire;
+mod world;
+
+pub use event::Event;
+pub use laws::{every_state_is_lawful, numbers_never_fall};
+pub use numbers::Numbers;
+pub use opening::are_opening_names;
+pub use shown::{Counts, MemberState};
+pub use world::{Refused, World};
