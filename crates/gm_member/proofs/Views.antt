@@ -1,0 +1,71 @@
+-- The structs and what they show.
+use Rattle.std.proofs.lemmas.Bool.{cases_eq}
+use Rattle.std.proofs.lemmas.Grind.{common_steps}
+use Rattle.std.proofs.Common.{◌++◌, take, drop, nat_eq, Bool, true, arith, refl, eq-eqb, ◌≡◌, ◌≢◌, ⊎_elim, ℕ, ◌<◌, List, map, length, get_or, set, sym, ap, subst, ◌∙◌}
+use Rattle.std.proofs.lemmas.List.{length-map, get_or-map, map-set, set-get_or, get_or-set_same, get_or-set_other}
+use Rattle.ring_names.specs.declared.message.Message.{Message}
+use Rattle.std.specs.List.{range_with_len}
+use Rattle.std.proofs.lemmas.List.FromFn.{get_or-map-range_with_len, length-map-range_with_len}
+use Rattle.ring_world.specs.declared.numbers.Numbers.{Numbers}
+use Rattle.ring_world.specs.World.{Row, no_row}
+use Rattle.gm_member.specs.Held.{Carried, Parcel, places, founded, accepted_row, accepted_held, carried_at}
+use Rattle.ring_world.specs.Member.{published_row}
+use Rattle.gm_member.specs.declared.known.Known.{Known}
+use Rattle.gm_member.specs.View.{row_of, shown}
+
+pub read_row : (rows : List Known) (i : ℕ) (x : Known) → i < length rows → x ≡ get_or rows i x → get_or (map row_of rows) i no_row ≡ row_of x
+read_row rows i x l e = get_or-map row_of rows i x no_row l ∙ ap row_of (sym e)
+
+pub published_rows : (rows : List Known) (i : ℕ) (x y : Known) (m : Message) → i < length rows → x ≡ get_or rows i x → row_of y ≡ published_row (row_of x) m → map row_of (set rows i y) ≡ set (map row_of rows) i (published_row (get_or (map row_of rows) i no_row) m)
+published_rows rows i x y m l e g = map-set row_of rows i y ∙ ap (set (map row_of rows) i) (g ∙ ap (λ r. published_row r m) (sym (read_row rows i x l e)))
+
+pub rewrite_row : (rows : List Known) (i : ℕ) (x y : Known) → i < length rows → x ≡ get_or rows i x → row_of y ≡ row_of x → map row_of (set rows i y) ≡ map row_of rows
+rewrite_row rows i x y l e g = map-set row_of rows i y ∙ ap (set (map row_of rows) i) (g ∙ sym (read_row rows i x l e)) ∙ set-get_or (map row_of rows) i no_row
+
+-- the element that is read, as the mapped list shows it
+pub mapped_read : {A B : Type 0} (f : A → B) (xs : List A) (i : ℕ) (x : A) (d : B) → i < length xs → x ≡ get_or xs i x → f x ≡ get_or (map f xs) i d
+mapped_read f xs i x d l e = ap f e ∙ sym (get_or-map f xs i x d l)
+
+pub at_set_here : {A : Type 0} (P : ℕ → A → Type 0) (xs : List A) (i q : ℕ) (y d : A) → i < length xs → P i y → (q ≢ i → P q (get_or xs q d)) → P q (get_or (set xs i y) q d)
+at_set_here P xs i q y d l here other =
+    ⊎_elim
+    (λ (same : q ≡ i). subst (λ k. P k (get_or (set xs i y) k d)) (sym same) (subst (P i) (sym (get_or-set_same xs i y d l)) here))
+    (λ (ne : q ≢ i). subst (P q) (sym (get_or-set_other xs i q y d ne)) (other ne))
+    (cases_eq q i)
+
+-- what holds of the written element at its place, and of the old ones elsewhere, through a map
+pub at_mapped_set : {A B : Type 0} (P : ℕ → B → Type 0) (f : A → B) (xs : List A) (i q : ℕ) (y : A) (d : B) → i < length xs → P i (f y) → (q ≢ i → P q (get_or (map f xs) q d)) → P q (get_or (map f (set xs i y)) q d)
+at_mapped_set P f xs i q y d l here other =
+    let l' : i < length (map f xs) = rw length-map l in
+    subst (λ zs. P q (get_or zs q d)) (sym (map-set f xs i y)) (at_set_here P (map f xs) i q (f y) d l' here other)
+
+-- ---- a member's own log
+
+pub no_row_at : (p : ℕ) → p < 64 → get_or (map (λ (_ : ℕ). no_row) places) p no_row ≡ no_row
+no_row_at p l = get_or-map-range_with_len (λ (_ : ℕ). no_row) 0 64 p p no_row l (omega arith)
+
+pub founded_is : (rows : List Row) (numbers : List Numbers) (name : List ℕ) (place : ℕ) → place < 64 → rows ≡ map (λ (_ : ℕ). no_row) places → numbers ≡ map (λ (_ : ℕ). record { lo = 0; got = 0; forgot = 0 }) places
+    → shown place name rows true numbers ≡ founded name place
+founded_is rows numbers name place l e f =
+    ap (λ rs. shown place name rs true numbers) e ∙ ap (λ ns. shown place name (map (λ (_ : ℕ). no_row) places) true ns) f
+    ∙ ap (λ r. record { place = place; member = record { name = name; log = r.heard; rows = map (λ (_ : ℕ). no_row) places }; sending = record { fresh = true; sent = record { numbers = map (λ (_ : ℕ). record { lo = 0; got = 0; forgot = 0 }) places } } }) (no_row_at place l)
+
+pub lines_count : {A B : Type 0} (f : A → B) (g : ℕ → B) (xs : List A) (n : ℕ) → map f xs ≡ map g (range_with_len 0 n) → n ≡ 64 → length xs ≡ 64
+lines_count f g xs n e n64 = sym (length-map xs f) ∙ ap length e ∙ length-map-range_with_len g 0 n ∙ n64
+
+pub accepted_own : (i : ℕ) (rows : List Row) (lines : List Carried) → i < 64 → (get_or (map (λ p. accepted_row (nat_eq p i) (get_or rows p no_row) (carried_at lines p)) places) i no_row).heard ≡ (get_or rows i no_row).heard
+accepted_own i rows lines l =
+    ap (λ r. r.heard) (get_or-map-range_with_len (λ p. accepted_row (nat_eq p i) (get_or rows p no_row) (carried_at lines p)) 0 64 i i no_row l (omega arith))
+    ∙ ap (λ b. (accepted_row b (get_or rows i no_row) (carried_at lines i)).heard) (eq-eqb i i refl)
+
+pub accepted_is : (place : ℕ) (name : List ℕ) (rows rows' : List Row) (n : ℕ) (fresh : Bool) (numbers : List Numbers) (k : Parcel) → place < 64 → n ≡ 64
+    → rows' ≡ map (λ p. accepted_row (nat_eq p place) (get_or rows p no_row) (carried_at k.lines p)) (range_with_len 0 n)
+    → shown place name rows' fresh numbers ≡ accepted_held (shown place name rows fresh numbers) k
+accepted_is place name rows rows' n fresh numbers k l n64 e =
+    let e' : rows' ≡ map (λ p. accepted_row (nat_eq p place) (get_or rows p no_row) (carried_at k.lines p)) places = e ∙ ap (λ m. map (λ p. accepted_row (nat_eq p place) (get_or rows p no_row) (carried_at k.lines p)) (range_with_len 0 m)) n64 in
+    ap (λ rs. shown place name rs fresh numbers) e'
+    ∙ ap (λ h. record { place = place; member = record { name = name; log = h; rows = map (λ p. accepted_row (nat_eq p place) (get_or rows p no_row) (carried_at k.lines p)) places }; sending = record { fresh = fresh; sent = record { numbers = numbers } } }) (accepted_own place rows k.lines l)
+
+-- a vector whose items were written through a slice holds what was written
+pub refilled : {A : Type 0} (len : ℕ) (ws old : List A) → length old ≡ len → length ws ≡ length old → take len (ws ++ drop (length ws) old) ≡ ws
+refilled len ws old e f = grind (arith, common_steps)
