@@ -1,0 +1,96 @@
+-- What the top call answers, and why.
+use Rattle.std.specs.Prelude.{◌≡◌, ◌⊎◌, ℕ, ◌<◌, ◌≤◌, ◌^◌, List, [], ◌++◌, length, take, codes, Option, Some, None, IfSome}
+use Rattle.ring_world.specs.declared.event.Event.{Event}
+use Rattle.ring_world.specs.World.{World}
+use Rattle.ring_world.specs.Run.{IsRun, opening, last}
+use Rattle.ring_world.specs.Laws.{IsLawful, NeverFalls}
+use Rattle.ringplay.specs.declared.call.Cause.{Cause}
+use Rattle.ringplay.specs.declared.call.Cause.TheVariants as causes
+use Rattle.ringplay.specs.declared.call.Ended.{Ended}
+use Rattle.ringplay.specs.Words.{IsPlay}
+use Rattle.ringplay.specs.Script.{Script, script_of}
+use Rattle.ringplay.specs.Plays.{Plays}
+use Rattle.ringplay.specs.Report.{newline, report_of}
+
+-- ---- what is played
+
+-- the state after the first k events of a journal
+abbrev pub state_after : Script → List Event → ℕ → World
+state_after script journal k = last (opening script.members) (take k journal)
+
+-- the journal is a run of the ring from the script's members, each member's client events in it are its
+-- commands, the laws hold after each of its prefixes and from each prefix to the next, and the text is the
+-- report of its last state
+pub record IsPlayed (script : Script) (journal : List Event) (text : List ℕ) : Type 0 where
+  pub run : IsRun (opening script.members) journal
+  pub few : length journal < 2 ^ 59
+  pub plays : Plays script journal
+  pub lawful : (k : ℕ) → IsLawful (state_after script journal k)
+  pub never_falls : (j k : ℕ) → j ≤ k → NeverFalls (state_after script journal j) (state_after script journal k)
+  pub report : text ≡ report_of (last (opening script.members) journal)
+
+-- ---- what is read
+
+-- how many bytes of input are taken
+abbrev pub most_bytes : ℕ
+most_bytes = 1048576
+
+-- the input is these bytes, where the source tells it, and they are within the limit
+pub record IsInput (told : Option (List ℕ)) (bytes : List ℕ) : Type 0 where
+  pub is : IfSome told (λ all. bytes ≡ all)
+  pub within : length bytes ≤ most_bytes
+
+-- the input is a script, and it was played
+pub record IsDone (told : Option (List ℕ)) (journal : List Event) (text : List ℕ) : Type 0 where
+  pub bytes : List ℕ
+  pub input : IsInput told bytes
+  pub script : Script
+  pub says : script_of bytes ≡ Some script
+  pub played : IsPlayed script journal text
+
+-- the input is no script
+pub record IsNoScript (told : Option (List ℕ)) : Type 0 where
+  pub bytes : List ℕ
+  pub input : IsInput told bytes
+  pub says : script_of bytes ≡ None
+
+-- ---- causes
+
+-- the status with which the program ends
+abbrev pub status_of : Cause → ℕ
+status_of causes.Done = 0
+status_of causes.Usage = 1
+status_of (causes.Script line kind) = 2
+status_of causes.ReadFault = 3
+status_of causes.WriteFault = 4
+status_of causes.OutOfMemory = 5
+status_of causes.TooLarge = 6
+
+-- why an answer other than a played script has this journal and this line
+pub record SaysOnly (why : Type 0) (journal : List Event) (text line : List ℕ) : Type 0 where
+  pub because : why
+  pub nothing : journal ≡ []
+  pub says : text ≡ line
+
+-- What is due before anything is written. Want of memory alone is free. `told` is what the source tells of
+-- its bytes, and `rose` says that its count of faults rose.
+abbrev pub IsDue : List (List ℕ) → Option (List ℕ) → Type 0 → Cause → List Event → List ℕ → Type 0
+IsDue words told rose causes.Done journal text = IsPlay words × IsDone told journal text
+IsDue words told rose causes.Usage journal text = SaysOnly (IsPlay words → ⊥) journal text (codes "usage" ++ newline)
+IsDue words told rose (causes.Script line kind) journal text = SaysOnly (IsPlay words × (line ≡ 1) × (kind ≡ 52) × IsNoScript told) journal text (codes "script 1 52" ++ newline)
+IsDue words told rose causes.ReadFault journal text = SaysOnly (IsPlay words × rose) journal text []
+IsDue words told rose causes.WriteFault journal text = ⊥
+IsDue words told rose causes.OutOfMemory journal text = SaysOnly (Unit {0}) journal text []
+IsDue words told rose causes.TooLarge journal text = SaysOnly (IsPlay words × IfSome told (λ all. most_bytes < length all)) journal text (codes "too large" ++ newline)
+
+-- The answer: what was due was written whole, or the sink failed (`rose`) and has gained the first bytes of it.
+pub record Answers (words : List (List ℕ)) (told : Option (List ℕ)) (read_rose : Type 0) (gains : List ℕ → Type 0) (write_rose : Type 0) (ended : Ended) : Type 0 where
+  pub cause : Cause
+  pub text : List ℕ
+  pub due : IsDue words told read_rose cause ended.journal text
+  pub written : ((ended.cause ≡ cause) × (ended.written ≡ length text) × gains text)
+      ⊎ ((ended.cause ≡ causes.WriteFault) × write_rose × (ended.written < length text) × gains (take ended.written text))
+
+-- this cause, but for a line that can't be written, and for want of memory
+abbrev pub IsUnlessFailed : Cause → Cause → Type 0
+IsUnlessFailed found due = (found ≡ due) ⊎ (found ≡ causes.WriteFault) ⊎ (found ≡ causes.OutOfMemory)

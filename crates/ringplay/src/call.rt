@@ -1,0 +1,200 @@
+//! The top call: all that the program does, over any source and sink.
+ghost use Rattle.std.specs.Prelude.{◌≡◌, ◌⊎◌, ◌<◌, ◌≤◌, ℕ, List, ◌++◌, length, codes, Some, None, IsSome, IfSome, IfOk};
+ghost use Rattle.ring_io.specs.Contents.{Gains};
+ghost use Rattle.ring_io.specs.Count.{Rose};
+ghost use Rattle.ringplay.specs.Words.{IsPlay};
+ghost use Rattle.ringplay.specs.Script.{script_of};
+ghost use Rattle.ringplay.specs.Report.{newline};
+ghost use Rattle.ringplay.specs.Due.{IsLineDue, IsDueToInput, IsWritten};
+ghost use Rattle.ringplay.specs.Call.{Answers, IsDue, IsUnlessFailed, most_bytes, status_of};
+
+use crate::play::play;
+use crate::script::{ScriptEnd, read_script};
+use crate::word::{Word, is_play};
+use ring_io::{Gate, ReadEnd, Sink, Source, read_all, write_all};
+use ring_names::{Items, OutOfMemory};
+use ring_world::Event;
+use std::alloc::Global;
+use std::thread::Threads;
+
+/// Why the call ended as it did.
+#[derive(Clone, Copy, PartialEq, Eq, Debug)]
+pub enum Cause {
+    /// The input was read to its end, and the command's text was written whole.
+    Done,
+    /// The words are none that the program takes.
+    Usage,
+    /// The input is no script: its first bad line, and what is wrong with it.
+    Script { line: u32, kind: u32 },
+    /// The source failed.
+    ReadFault,
+    /// The sink failed.
+    WriteFault,
+    /// Memory was wanted and not found.
+    OutOfMemory,
+    /// The input has more than 1,048,576 bytes.
+    TooLarge,
+}
+
+/// How a call ended.
+#[derive(Drop, Debug)]
+pub struct Ended {
+    /// The status with which the program ends, by the cause.
+    pub status: u8,
+    pub cause: Cause,
+    /// What has happened in the ring, where a script was played.
+    pub journal: Items<Event>,
+    /// How many bytes the sink took.
+    pub written: u64,
+}
+
+/// What is due before anything is written.
+#[derive(Drop)]
+struct Due {
+    cause: Cause,
+    journal: Vec<Event>,
+    text: Vec<u8>,
+}
+
+/// How many bytes of input are taken.
+const MOST_BYTES: u64 = 1_048_576;
+
+impl Cause {
+    /// The status with which the program ends.
+    pub fn status(&self) -> u8
+        ensures { result ≡ status_of self.now }
+    {
+        match self {
+            Cause::Done => 0,
+            Cause::Usage => 1,
+            Cause::Script { .. } => 2,
+            Cause::ReadFault => 3,
+            Cause::WriteFault => 4,
+            Cause::OutOfMemory => 5,
+            Cause::TooLarge => 6,
+        }
+    }
+}
+
+/// An answer that writes one line, or nothing, and has no journal.
+fn line_due(alloc: Global, cause: Cause, line: &[u8]) -> Due
+    ensures { IsLineDue cause line.now result }
+{
+    let journal = Vec::new(alloc);
+    match Vec::from_slice(alloc, line) {
+        Ok(text) => Due {
+            cause,
+            journal,
+            text,
+        },
+        Err(_) => Due {
+            cause: Cause::OutOfMemory,
+            journal,
+            text: Vec::new(alloc),
+        },
+    }
+}
+
+/// What the bytes of an input ask for.
+fn due_to_input(alloc: Global, bytes: &[u8]) -> Due
+    ensures { IsDueToInput bytes.now result }
+{
+    match read_script(alloc, bytes) {
+        Ok(script) => match play(alloc, &script) {
+            Ok(played) => Due {
+                cause: Cause::Done,
+                journal: played.journal,
+                text: played.text,
+            },
+            Err(OutOfMemory) => line_due(alloc, Cause::OutOfMemory, b""),
+        },
+        Err(ScriptEnd::NotAScript) => {
+            line_due(alloc, Cause::Script { line: 1, kind: 52 }, b"script 1 52\n")
+        }
+        Err(ScriptEnd::OutOfMemory) => line_due(alloc, Cause::OutOfMemory, b""),
+    }
+}
+
+/// What is due for these words and this source.
+fn due_for<S: Source>(alloc: Global, words: &[Word], source: &mut S) -> Due
+    ensures due { IsDue words.now (S.remaining source.old) (Rose (S.faults source.old) (S.faults source.new)) result.cause result.journal.items result.text.items }
+    ensures unread { (IsPlay words.now → ⊥) → source.new ≡ source.old }
+{
+    if !is_play(words) {
+        return line_due(alloc, Cause::Usage, b"usage\n");
+    }
+    match read_all(alloc, source, MOST_BYTES) {
+        Ok(bytes) => due_to_input(alloc, &bytes),
+        Err(ReadEnd::Fault) => line_due(alloc, Cause::ReadFault, b""),
+        Err(ReadEnd::TooLarge) => line_due(alloc, Cause::TooLarge, b"too large\n"),
+        Err(ReadEnd::OutOfMemory) => line_due(alloc, Cause::OutOfMemory, b""),
+    }
+}
+
+/// Does what the words ask for: `play` alone plays the script that the source gives, and writes the
+/// report of the ring's last state to the sink. The whole text stands before its first byte is written.
+/// No round runs yet, so neither the thread handle nor the gate is used.
+pub fn ring_call<T: Threads, S: Source, K: Sink, G: Gate>(
+    threads: &T,
+    alloc: Global,
+    words: &[Word],
+    source: &mut S,
+    sink: &mut K,
+    gate: &G,
+) -> Ended
+    ensures status { result.status ≡ status_of result.cause }
+
+    // What is answered, why, and what was written.
+    ensures answers { Answers words.now (S.remaining source.old) (Rose (S.faults source.old) (S.faults source.new))
+        (Gains K.may_lose_track (K.contents sink.old) (K.contents sink.new)) (Rose (K.faults sink.old) (K.faults sink.new)) result }
+
+    // Refused words leave the source unread.
+    ensures unread { (IsPlay words.now → ⊥) → source.new ≡ source.old }
+
+    // Each cause, exactly.
+    ensures usage_only { result.cause ≡ Cause.Usage → IsPlay words.now → ⊥ }
+    ensures usage { (IsPlay words.now → ⊥) → IsUnlessFailed result.cause Cause.Usage }
+    ensures read_fault_only { result.cause ≡ Cause.ReadFault → Rose (S.faults source.old) (S.faults source.new) }
+    ensures write_fault_only { result.cause ≡ Cause.WriteFault → Rose (K.faults sink.old) (K.faults sink.new) }
+    ensures too_large_only { result.cause ≡ Cause.TooLarge → IfSome (S.remaining source.old) (λ all. most_bytes < length all) }
+    ensures too_large { (all : List ℕ) → IsPlay words.now → S.remaining source.old ≡ Some all → most_bytes < length all
+        → (Rose (S.faults source.old) (S.faults source.new) → ⊥) → IsUnlessFailed result.cause Cause.TooLarge }
+    ensures script_only { (line kind : ℕ) → result.cause ≡ Cause.Script line kind
+        → (line ≡ 1) × (kind ≡ 52) × IfSome (S.remaining source.old) (λ all. script_of all ≡ None) }
+    ensures script { (all : List ℕ) → IsPlay words.now → S.remaining source.old ≡ Some all → length all ≤ most_bytes → script_of all ≡ None
+        → (Rose (S.faults source.old) (S.faults source.new) → ⊥) → IsUnlessFailed result.cause (Cause.Script 1 52) }
+
+    // With words and input in the grammar and within the limits, and no fault, the script is played.
+    ensures complete { (all : List ℕ) → IsPlay words.now → S.remaining source.old ≡ Some all → length all ≤ most_bytes → IsSome (script_of all)
+        → (Rose (S.faults source.old) (S.faults source.new) → ⊥) → (Rose (K.faults sink.old) (K.faults sink.new) → ⊥)
+        → (result.cause ≡ Cause.Done) ⊎ (result.cause ≡ Cause.OutOfMemory) }
+{
+    let _ = threads;
+    let _ = gate;
+    let due = due_for(alloc, words, source);
+    written(sink, due)
+}
+
+/// Writes what is due.
+fn written<K: Sink>(sink: &mut K, due: Due) -> Ended
+    ensures status { result.status ≡ status_of result.cause }
+    ensures journal { result.journal ≡ due.journal.items }
+    ensures written { IsWritten due (Gains K.may_lose_track (K.contents sink.old) (K.contents sink.new)) (Rose (K.faults sink.old) (K.faults sink.new)) result }
+{
+    let len = due.text.len() as u64;
+    let cause = due.cause;
+    match write_all(sink, &due.text) {
+        Ok(()) => Ended {
+            status: cause.status(),
+            cause,
+            journal: Items::from_vec(due.journal),
+            written: len,
+        },
+        Err(short) => Ended {
+            status: Cause::WriteFault.status(),
+            cause: Cause::WriteFault,
+            journal: Items::from_vec(due.journal),
+            written: short.written,
+        },
+    }
+}

@@ -1,0 +1,48 @@
+//! Plays a script of a ring of members that multicast to one another as RabbitMQ's `gm` does: reads it from
+//! standard input and writes the report of the ring's last state to standard output. Begin at `call`, whose
+//! `ring_call` does all that the program does, and at specs/Call.antt for what it answers.
+#![tactic(auto)]
+
+mod call;
+mod play;
+mod report;
+mod ring;
+mod script;
+#[cfg(test)]
+mod tests;
+mod word;
+
+use call::{Cause, ring_call};
+use ring_io::{ReadSource, ShutGate, WriteSink};
+use ring_names::OutOfMemory;
+use std::env;
+use std::io::ErrorKind;
+use std::process::ExitCode;
+use std::rt::Env;
+use word::Word;
+
+/// The words of the command line, behind the program's own name. Words that are no text are none that
+/// the program takes, as no words are.
+fn words_of(rt: &(impl Env + AllocGlobal)) -> Result<Vec<Word>, OutOfMemory> {
+    let alloc = rt.alloc();
+    let mut words = Vec::new(alloc);
+    let args = match env::args(rt) {
+        Ok(args) => args,
+        Err(error) if error.kind() == ErrorKind::InvalidData => return Ok(words),
+        Err(_) => return Err(OutOfMemory),
+    };
+    for arg in args.skip(1) {
+        words.push(Word::new(alloc, arg.as_str())?)?;
+    }
+    Ok(words)
+}
+
+fn main(rt: HostRuntime) -> ExitCode {
+    let Ok(words) = words_of(&rt) else {
+        return ExitCode::from(Cause::OutOfMemory.status());
+    };
+    let mut source = ReadSource::new(rt.stdin());
+    let mut sink = WriteSink::new(rt.stdout());
+    let ended = ring_call(&rt, rt.alloc(), &words, &mut source, &mut sink, &ShutGate);
+    ExitCode::from(ended.status)
+}

@@ -1,0 +1,59 @@
+//! The text of a report, of rings of one member and of two.
+ghost use Rattle.std.specs.Prelude.{◌<◌};
+
+use super::report;
+use gm_member::Member;
+use ring_names::{Body, MemberId, Message, Name};
+use std::alloc::Global;
+use std::test::Fail;
+
+fn founding(alloc: Global, name: &[u8], place: u32) -> Result<Member, Fail>
+    requires { place < 64 }
+{
+    Ok(Member::founding(alloc, Name::read(name)?, MemberId(place + 1))?)
+}
+
+fn cast(alloc: Global, body: &[u8]) -> Result<Message, Fail> {
+    Ok(Message::Cast(Body::read(alloc, body)?))
+}
+
+#[test]
+fn reports_a_founding_member(rt: HostRuntime) -> Result<(), Fail> {
+    let alone = founding(rt.alloc(), b"a", 0)?;
+    let text = report(rt.alloc(), &[alone])?;
+    let want =
+        "ring view=1 term=1 master=a\nmember a up synced\ncasts 0 confirmed 0\npublishes 0 confirmed 0\n";
+    assert_eq!(rt; text.as_slice(), want.as_bytes());
+    Ok(())
+}
+
+// The member is its own left neighbour: what it packs comes round at once.
+#[test]
+fn reports_what_has_come_round(rt: HostRuntime) -> Result<(), Fail> {
+    let mut alone = founding(rt.alloc(), b"a", 0)?;
+    for body in ["hi", ""] {
+        assert!(rt; alone.publish(cast(rt.alloc(), body.as_bytes())?).is_ok());
+    }
+    let packet = alone.pack()?;
+    assert!(rt; alone.accept(packet).is_ok());
+    let text = report(rt.alloc(), &[alone])?;
+    let want =
+        "ring view=1 term=1 master=a\nmember a up synced\ncasts 2 confirmed 2\npublishes 0 confirmed 0\nheard a hi\nheard a \n";
+    assert_eq!(rt; text.as_slice(), want.as_bytes());
+    Ok(())
+}
+
+#[test]
+fn reports_what_has_not_come_round(rt: HostRuntime) -> Result<(), Fail> {
+    let mut first = founding(rt.alloc(), b"a", 0)?;
+    let mut second = founding(rt.alloc(), b"b2", 1)?;
+    assert!(rt; first.publish(cast(rt.alloc(), b"one")?).is_ok());
+    assert!(rt; second.publish(cast(rt.alloc(), b"two")?).is_ok());
+    let packet = first.pack()?;
+    assert!(rt; second.accept(packet).is_ok());
+    let text = report(rt.alloc(), &[first, second])?;
+    let want =
+        "ring view=1 term=1 master=a\nmember a up synced\ncasts 1 confirmed 0\npublishes 0 confirmed 0\nheard a one\nmember b2 up synced\ncasts 1 confirmed 0\npublishes 0 confirmed 0\nheard a one\nheard b2 two\n";
+    assert_eq!(rt; text.as_slice(), want.as_bytes());
+    Ok(())
+}

@@ -1,0 +1,145 @@
+//! The worked rows: what a script's report is, byte for byte, and how each fault ends.
+use crate::call::{Cause, ring_call};
+use crate::word::Word;
+use ring_io::{MemorySink, MemorySource, ShutGate, SureSink, SureSource};
+use std::process::Abort;
+use std::test::Fail;
+use std::thread::Threads;
+
+/// Plays a script and compares the report.
+fn reports<R: Threads + Abort + AllocGlobal>(
+    rt: &R,
+    script: &str,
+    report: &str,
+) -> Result<(), Fail> {
+    let words = [Word::new(rt.alloc(), "play")?];
+    let mut source = SureSource::new(script.as_bytes().to_vec(rt.alloc())?);
+    let mut sink = SureSink::new(rt.alloc(), 1_048_576)?;
+    let ended = ring_call(rt, rt.alloc(), &words, &mut source, &mut sink, &ShutGate);
+    assert_eq!(rt; ended.cause, Cause::Done);
+    assert_eq!(rt; ended.status, 0);
+    assert_eq!(rt; sink.bytes(), report.as_bytes());
+    assert_eq!(rt; ended.written, report.len() as u64);
+    Ok(())
+}
+
+#[test]
+fn plays_the_worked_scripts(rt: HostRuntime) -> Result<(), Fail> {
+    // The sole member is its own neighbour.
+    reports(
+        &rt,
+        "members a\ncast a hi\nsettle\n",
+        "ring view=1 term=1 master=a\nmember a up synced\ncasts 1 confirmed 1\npublishes 0 confirmed 0\nheard a hi\n",
+    )?;
+    // Nobody publishes.
+    reports(
+        &rt,
+        "members a b\n",
+        "ring view=1 term=1 master=a\nmember a up synced\ncasts 0 confirmed 0\npublishes 0 confirmed 0\nmember b up synced\ncasts 0 confirmed 0\npublishes 0 confirmed 0\n",
+    )?;
+    // Two publish in a ring of three, and the script has no line feed at its end.
+    reports(
+        &rt,
+        "members a b c\ncast a a1\ncast b b1\ncast a a2\ncast b b2\ncast a a3\nsettle",
+        "ring view=1 term=1 master=a\nmember a up synced\ncasts 3 confirmed 3\npublishes 0 confirmed 0\nheard a a1\nheard a a2\nheard a a3\nheard b b1\nheard b b2\nmember b up synced\ncasts 2 confirmed 2\npublishes 0 confirmed 0\nheard a a1\nheard a a2\nheard a a3\nheard b b1\nheard b b2\nmember c up synced\ncasts 0 confirmed 0\npublishes 0 confirmed 0\nheard a a1\nheard a a2\nheard a a3\nheard b b1\nheard b b2\n",
+    )?;
+    // The end of the script settles, and an empty body leaves its space.
+    reports(
+        &rt,
+        "members a b\ncast b\n",
+        "ring view=1 term=1 master=a\nmember a up synced\ncasts 0 confirmed 0\npublishes 0 confirmed 0\nheard b \nmember b up synced\ncasts 1 confirmed 1\npublishes 0 confirmed 0\nheard b \n",
+    )
+}
+
+/// Ends with one line and an empty journal, which the whole of the line's bytes says.
+fn says<R: Threads + Abort + AllocGlobal>(
+    rt: &R,
+    words: &[&str],
+    input: &[u8],
+    cause: Cause,
+    line: &str,
+) -> Result<(), Fail> {
+    let mut given = Vec::new(rt.alloc());
+    for word in words {
+        given.push(Word::new(rt.alloc(), word)?)?;
+    }
+    let mut source = SureSource::new(input.to_vec(rt.alloc())?);
+    let mut sink = SureSink::new(rt.alloc(), 1_048_576)?;
+    let ended = ring_call(rt, rt.alloc(), &given, &mut source, &mut sink, &ShutGate);
+    assert_eq!(rt; ended.cause, cause);
+    assert_eq!(rt; ended.status, cause.status());
+    assert_eq!(rt; sink.bytes(), line.as_bytes());
+    assert!(rt; ended.journal.as_slice().is_empty());
+    Ok(())
+}
+
+/// A line of so many bytes, without its end.
+fn endless_line(rt: &impl AllocGlobal, len: usize) -> Result<Vec<u8>, Fail> {
+    let mut line = Vec::new(rt.alloc());
+    for _place in 0..len {
+        line.push(b'x')?;
+    }
+    Ok(line)
+}
+
+#[test]
+fn names_each_fault_of_words_and_input(rt: HostRuntime) -> Result<(), Fail> {
+    let script = b"members a\n".as_slice();
+    says(&rt, &[], script, Cause::Usage, "usage\n")?;
+    says(&rt, &["fly"], script, Cause::Usage, "usage\n")?;
+    says(&rt, &["play", "x"], script, Cause::Usage, "usage\n")?;
+    let no_script = Cause::Script { line: 1, kind: 52 };
+    for input in [
+        b"".as_slice(),
+        b"members a\ncast z x\n".as_slice(),
+        b"members a\ncast a \x07\n".as_slice(),
+        b"members a a\n".as_slice(),
+    ] {
+        says(&rt, &["play"], input, no_script, "script 1 52\n")?;
+    }
+    for (len, cause, line) in [
+        (2_001, no_script, "script 1 52\n"),
+        (1_048_576, no_script, "script 1 52\n"),
+        (1_048_577, Cause::TooLarge, "too large\n"),
+    ] {
+        let endless = endless_line(&rt, len)?;
+        says(&rt, &["play"], &endless, cause, line)?;
+    }
+    Ok(())
+}
+
+#[test]
+fn ends_at_a_fault_of_the_source(rt: HostRuntime) -> Result<(), Fail> {
+    for call in [1u32, 2, 4] {
+        let words = [Word::new(rt.alloc(), "play")?];
+        let script = b"members a\ncast a hi\n".to_vec(rt.alloc())?;
+        let mut source = MemorySource::new(script, 8, vec![in rt.alloc(); call]?);
+        let mut sink = MemorySink::new(rt.alloc(), 1_048_576, 64, Vec::new(rt.alloc()))?;
+        let ended = ring_call(&rt, rt.alloc(), &words, &mut source, &mut sink, &ShutGate);
+        assert_eq!(rt; ended.cause, Cause::ReadFault);
+        assert_eq!(rt; ended.status, 3);
+        assert_eq!(rt; ended.written, 0);
+        assert!(rt; sink.bytes().is_empty());
+    }
+    Ok(())
+}
+
+#[test]
+fn ends_at_a_fault_of_the_sink(rt: HostRuntime) -> Result<(), Fail> {
+    let report =
+        "ring view=1 term=1 master=a\nmember a up synced\ncasts 1 confirmed 1\npublishes 0 confirmed 0\nheard a hi\n";
+    for call in 1u32..=12 {
+        let words = [Word::new(rt.alloc(), "play")?];
+        let script = b"members a\ncast a hi\n".to_vec(rt.alloc())?;
+        let mut source = SureSource::new(script);
+        let mut sink = MemorySink::new(rt.alloc(), 1_048_576, 8, vec![in rt.alloc(); call]?)?;
+        let ended = ring_call(&rt, rt.alloc(), &words, &mut source, &mut sink, &ShutGate);
+        assert_eq!(rt; ended.cause, Cause::WriteFault);
+        assert_eq!(rt; ended.status, 4);
+        assert_eq!(rt; ended.written, u64::from(call - 1) * 8);
+        assert!(rt; report.as_bytes().starts_with(sink.bytes()));
+        assert_eq!(rt; sink.bytes().len() as u64, ended.written);
+        assert_eq!(rt; ended.journal.as_slice().len(), 5);
+    }
+    Ok(())
+}
