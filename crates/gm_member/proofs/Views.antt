@@ -1,8 +1,7 @@
 -- The structs and what they show.
-use Rattle.std.proofs.lemmas.Bool.{cases_eq}
 use Rattle.std.proofs.lemmas.Grind.{common_steps}
-use Rattle.std.proofs.Common.{◌++◌, take, drop, nat_eq, Bool, true, arith, refl, eq-eqb, ◌≡◌, ◌≢◌, ⊎_elim, ℕ, ◌<◌, List, map, length, get_or, set, sym, ap, subst, ◌∙◌}
-use Rattle.std.proofs.lemmas.List.{length-map, get_or-map, map-set, set-get_or, get_or-set_same, get_or-set_other}
+use Rattle.std.proofs.Common.{◌++◌, take, drop, nat_eq, Bool, true, arith, refl, eq-eqb, ◌≡◌, ℕ, ◌<◌, List, map, length, get_or, set, sym, ap, ◌∙◌}
+use Rattle.std.proofs.lemmas.List.{length-map, get_or-map, map-set, set-get_or}
 use Rattle.ring_names.specs.declared.message.Message.{Message}
 use Rattle.std.specs.List.{range_with_len}
 use Rattle.std.proofs.lemmas.List.FromFn.{get_or-map-range_with_len, length-map-range_with_len}
@@ -21,23 +20,6 @@ published_rows rows i x y m l e g = map-set row_of rows i y ∙ ap (set (map row
 
 pub rewrite_row : (rows : List Known) (i : ℕ) (x y : Known) → i < length rows → x ≡ get_or rows i x → row_of y ≡ row_of x → map row_of (set rows i y) ≡ map row_of rows
 rewrite_row rows i x y l e g = map-set row_of rows i y ∙ ap (set (map row_of rows) i) (g ∙ sym (read_row rows i x l e)) ∙ set-get_or (map row_of rows) i no_row
-
--- the element that is read, as the mapped list shows it
-pub mapped_read : {A B : Type 0} (f : A → B) (xs : List A) (i : ℕ) (x : A) (d : B) → i < length xs → x ≡ get_or xs i x → f x ≡ get_or (map f xs) i d
-mapped_read f xs i x d l e = ap f e ∙ sym (get_or-map f xs i x d l)
-
-pub at_set_here : {A : Type 0} (P : ℕ → A → Type 0) (xs : List A) (i q : ℕ) (y d : A) → i < length xs → P i y → (q ≢ i → P q (get_or xs q d)) → P q (get_or (set xs i y) q d)
-at_set_here P xs i q y d l here other =
-    ⊎_elim
-    (λ (same : q ≡ i). subst (λ k. P k (get_or (set xs i y) k d)) (sym same) (subst (P i) (sym (get_or-set_same xs i y d l)) here))
-    (λ (ne : q ≢ i). subst (P q) (sym (get_or-set_other xs i q y d ne)) (other ne))
-    (cases_eq q i)
-
--- what holds of the written element at its place, and of the old ones elsewhere, through a map
-pub at_mapped_set : {A B : Type 0} (P : ℕ → B → Type 0) (f : A → B) (xs : List A) (i q : ℕ) (y : A) (d : B) → i < length xs → P i (f y) → (q ≢ i → P q (get_or (map f xs) q d)) → P q (get_or (map f (set xs i y)) q d)
-at_mapped_set P f xs i q y d l here other =
-    let l' : i < length (map f xs) = rw length-map l in
-    subst (λ zs. P q (get_or zs q d)) (sym (map-set f xs i y)) (at_set_here P (map f xs) i q (f y) d l' here other)
 
 -- ---- a member's own log
 

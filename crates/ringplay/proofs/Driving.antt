@@ -18,7 +18,7 @@ use Rattle.gm_member.specs.Held.{Parcel, places, founded, published_held, pack_r
 use Rattle.gm_member.specs.View.{held_of}
 use Rattle.gm_member.specs.Stands.{held_in, lines_in, StepsTo, IsNextPacket}
 use Rattle.gm_member.proofs.Places.{map-range_same}
-use Rattle.gm_member.proofs.Views.{at_mapped_set}
+use Rattle.ring_world.proofs.Views.{at_mapped_set}
 use Rattle.gm_member.proofs.Reached.{IsFit, run_fit}
 use Rattle.gm_member.proofs.PublishStands.{publish_stands, publish_others}
 use Rattle.gm_member.proofs.PackStands.{leaving, pack_others, pack_lines}

@@ -9,7 +9,8 @@ use Rattle.std.proofs.lemmas.List.Sums.{AllPass-from_list_all}
 use Rattle.std.proofs.lemmas.Slice.Eq.{bytes_eq-Decides}
 use Rattle.ring_names.specs.Name.{IsName, is_bad_name_byte, unless_bad}
 use Rattle.ring_names.specs.declared.name.NameFault.TheVariants.{Empty, TooLong}
-use Rattle.ringplay.specs.Script.{is_name, are_different, are_members, AreDifferent}
+use Rattle.ring_world.specs.World.{AreDifferent}
+use Rattle.ringplay.specs.Script.{is_name, are_different, are_members}
 
 pub same_bytes : (a b : List ℕ) → bytes_eq a b ≡ true → a ≡ b
 same_bytes a b e = grind (arith, bytes_eq-Decides a b)

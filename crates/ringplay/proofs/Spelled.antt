@@ -12,7 +12,8 @@ use Rattle.ring_names.specs.Name.{IsName, is_bad_name_byte}
 use Rattle.ring_names.specs.Body.{IsBody}
 use Rattle.ringplay.specs.declared.script.Command.{Command}
 use Rattle.ringplay.specs.declared.script.Command.TheVariants.{Cast, Settle}
-use Rattle.ringplay.specs.Script.{Script, lines_of, is_text_byte, is_text, is_space, behind, is_name, are_different, are_members, names_of, members_of, cast_by, cast_of, command_of, commands_of, script_of_lines, script_of, AreDifferent, IsCommandTo, IsScript, spaced, line_of, spelled, ended, text_of}
+use Rattle.ring_world.specs.World.{AreDifferent}
+use Rattle.ringplay.specs.Script.{Script, lines_of, is_text_byte, is_text, is_space, behind, is_name, are_different, are_members, names_of, members_of, cast_by, cast_of, command_of, commands_of, script_of_lines, script_of, IsCommandTo, IsScript, spaced, line_of, spelled, ended, text_of}
 use Rattle.ringplay.proofs.Cuts.{list_all_missed}
 use Rattle.ringplay.proofs.Bodies.{all_text, is_body_yes}
 use Rattle.ringplay.proofs.Names.{same_bytes, equal_bytes, is_name-from}

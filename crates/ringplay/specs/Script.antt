@@ -1,8 +1,9 @@
 -- The text of a script: its lines, what they say, and how a script is spelled.
-use Rattle.std.specs.Prelude.{◌≡◌, ℕ, ◌<◌, ◌≤◌, Bool, true, ◌&&◌, not, nat_le, nat_lt, ◌==◌, if◌then◌else◌, Option, Some, None, option_map, option_and_then, is_ok, List, [], ◌∷◌, ◌++◌, length, take, drop, map, slice_index_or, codes, bytes_eq, All, Contains}
+use Rattle.std.specs.Prelude.{ℕ, ◌<◌, ◌≤◌, Bool, true, ◌&&◌, not, nat_le, nat_lt, ◌==◌, if◌then◌else◌, Option, Some, None, option_map, option_and_then, is_ok, List, [], ◌∷◌, ◌++◌, length, take, drop, map, codes, bytes_eq, All, Contains}
 use Rattle.std.specs.List.{list_all, list_any, slice_split, onto_first, before_first, after_first, flat_map}
 use Rattle.ring_names.specs.Name.{IsName, name_or_fault}
 use Rattle.ring_names.specs.Body.{IsBody}
+use Rattle.ring_world.specs.World.{AreDifferent, most_members}
 use Rattle.ringplay.specs.declared.script.Command.{Command}
 use Rattle.ringplay.specs.declared.script.Command.TheVariants.{Cast, Settle}
 
@@ -110,9 +111,6 @@ script_of bytes = script_of_lines (lines_of bytes)
 -- ---- what a script is, and its spelling
 
 -- no two places have one name
-abbrev pub AreDifferent : List (List ℕ) → Type 0
-AreDifferent names = (j k : ℕ) → j < length names → k < length names → slice_index_or names j [] ≡ slice_index_or names k [] → j ≡ k
-
 -- a command that these members can be given
 abbrev pub IsCommandTo : List (List ℕ) → Command → Type 0
 IsCommandTo members (Cast by body) = Contains members by × IsBody body
@@ -121,7 +119,7 @@ IsCommandTo members Settle = Unit {0}
 -- 1 to 64 different names, and commands to these members
 pub record IsScript (script : Script) : Type 0 where
   pub some : 0 < length script.members
-  pub few : length script.members ≤ 64
+  pub few : length script.members ≤ most_members
   pub different : AreDifferent script.members
   pub names : All IsName script.members
   pub commands : All (IsCommandTo script.members) script.commands

@@ -96,11 +96,13 @@ fn line_due(alloc: Global, cause: Cause, line: &[u8]) -> Due
 }
 
 /// What the bytes of an input ask for.
-fn due_to_input(alloc: Global, bytes: &[u8]) -> Due
-    ensures { IsDueToInput bytes.now result }
+fn due_to_input(alloc: Global, bytes: Vec<u8>) -> Due
+    ensures { IsDueToInput bytes.items result }
 {
-    match read_script(alloc, bytes) {
-        Ok(script) => match play(alloc, &script) {
+    let read = read_script(alloc, &bytes);
+    drop(bytes);
+    match read {
+        Ok(script) => match play(alloc, script) {
             Ok(played) => Due {
                 cause: Cause::Done,
                 journal: played.journal,
@@ -124,7 +126,7 @@ fn due_for<S: Source>(alloc: Global, words: &[Word], source: &mut S) -> Due
         return line_due(alloc, Cause::Usage, b"usage\n");
     }
     match read_all(alloc, source, MOST_BYTES) {
-        Ok(bytes) => due_to_input(alloc, &bytes),
+        Ok(bytes) => due_to_input(alloc, bytes),
         Err(ReadEnd::Fault) => line_due(alloc, Cause::ReadFault, b""),
         Err(ReadEnd::TooLarge) => line_due(alloc, Cause::TooLarge, b"too large\n"),
         Err(ReadEnd::OutOfMemory) => line_due(alloc, Cause::OutOfMemory, b""),

@@ -24,12 +24,16 @@ pub(crate) struct Played {
 const MOST_EVENTS: usize = 576_460_752_303_423_487;
 
 /// Plays the script: its commands in order, and at its end the ring settles once more.
-pub(crate) fn play(alloc: Global, script: &Script) -> Result<Played, OutOfMemory>
-    requires { IsScript (script_with script.now.members.items script.now.commands.items) }
-    ensures { IfOk result (λ played. IsPlayed (script_with script.now.members.items script.now.commands.items) played.journal.items played.text.items) }
+pub(crate) fn play(alloc: Global, script: Script) -> Result<Played, OutOfMemory>
+    requires { IsScript (script_with script.members.items script.commands.items) }
+    ensures { IfOk result (λ played. IsPlayed (script_with script.members.items script.commands.items) played.journal.items played.text.items) }
 {
-    let mut members = founded(alloc, &script.members)?;
-    let played = play_with(alloc, &script.members, &mut members, &script.commands)?;
+    let Script {
+        members: names,
+        commands,
+    } = script;
+    let mut members = founded(alloc, &names)?;
+    let played = play_with(alloc, &names, &mut members, commands)?;
     Ok(played)
 }
 
@@ -38,14 +42,15 @@ fn play_with(
     alloc: Global,
     names: &[Name],
     members: &mut [Member],
-    commands: &[Command],
+    commands: Vec<Command>,
 ) -> Result<Played, OutOfMemory>
     requires ring { IsRing names.now members.old [] }
-    requires script { IsScript (script_with names.now commands.now) }
-    ensures { IfOk result (λ played. IsPlayed (script_with names.now commands.now) played.journal.items played.text.items) }
+    requires script { IsScript (script_with names.now commands.items) }
+    ensures { IfOk result (λ played. IsPlayed (script_with names.now commands.items) played.journal.items played.text.items) }
 {
     let mut journal = Vec::new(alloc);
-    perform(names, members, &mut journal, commands)?;
+    perform(names, members, &mut journal, &commands)?;
+    drop(commands);
     settle(names, members, &mut journal)?;
     if journal.len() > MOST_EVENTS {
         return Err(OutOfMemory);
