@@ -1,0 +1,17 @@
+//! What stands on a link.
+
+/// Why a link ended.
+#[derive(Clone, Copy, PartialEq, Eq, Debug)]
+pub enum EndReason {
+    /// The sender stopped.
+    Stopped,
+    /// The sender goes on at another link.
+    Moved,
+}
+
+/// What stands on a link: loads, and after the last of them the end of the link.
+#[derive(Drop, Debug)]
+pub enum Item<T> {
+    Load(T),
+    End(EndReason),
+}
