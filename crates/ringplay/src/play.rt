@@ -50,12 +50,13 @@ fn play_with(
 {
     let mut journal = Vec::new(alloc);
     perform(names, members, &mut journal, &commands)?;
+    let casts = commands.len();
     drop(commands);
     settle(names, members, &mut journal)?;
     if journal.len() > MOST_EVENTS {
         return Err(OutOfMemory);
     }
-    let text = report(alloc, members)?;
+    let text = report(alloc, members, casts)?;
     Ok(Played { journal, text })
 }
 

@@ -17,11 +17,22 @@ use ring_names::{Message, OutOfMemory};
 use ring_world::Counts;
 use std::alloc::Global;
 
-/// The report of the state in which all members stand.
-pub(crate) fn report(alloc: Global, members: &[Member]) -> Result<Vec<u8>, OutOfMemory>
+/// The bytes of the shortest line of a message that was received, its line feed with it.
+const SHORTEST_HEARD: usize = 9;
+
+/// The report of the state in which all members stand. At first it has room for `heard` short lines of each.
+pub(crate) fn report(
+    alloc: Global,
+    members: &[Member],
+    heard: usize,
+) -> Result<Vec<u8>, OutOfMemory>
     ensures { IfOk result (λ text. (w : World) → AllStand w members.now → text.items ≡ report_of w) }
 {
-    let mut text = Vec::new(alloc);
+    let room = members
+        .len()
+        .saturating_mul(heard)
+        .saturating_mul(SHORTEST_HEARD);
+    let mut text = Vec::with_capacity(alloc, room)?;
     push_ring(&mut text, name_of_master(members))?;
     for member in members {
         push_member(alloc, &mut text, member, members)?;

@@ -20,7 +20,7 @@ fn cast(alloc: Global, body: &[u8]) -> Result<Message, Fail> {
 #[test]
 fn reports_a_founding_member(rt: HostRuntime) -> Result<(), Fail> {
     let alone = founding(rt.alloc(), b"a", 0)?;
-    let text = report(rt.alloc(), &[alone])?;
+    let text = report(rt.alloc(), &[alone], 1)?;
     let want =
         "ring view=1 term=1 master=a\nmember a up synced\ncasts 0 confirmed 0\npublishes 0 confirmed 0\n";
     assert_eq!(rt; text.as_slice(), want.as_bytes());
@@ -36,7 +36,7 @@ fn reports_what_has_come_round(rt: HostRuntime) -> Result<(), Fail> {
     }
     let packet = alone.pack()?;
     assert!(rt; alone.accept(packet).is_ok());
-    let text = report(rt.alloc(), &[alone])?;
+    let text = report(rt.alloc(), &[alone], 1)?;
     let want =
         "ring view=1 term=1 master=a\nmember a up synced\ncasts 2 confirmed 2\npublishes 0 confirmed 0\nheard a hi\nheard a \n";
     assert_eq!(rt; text.as_slice(), want.as_bytes());
@@ -51,7 +51,7 @@ fn reports_what_has_not_come_round(rt: HostRuntime) -> Result<(), Fail> {
     assert!(rt; second.publish(cast(rt.alloc(), b"two")?).is_ok());
     let packet = first.pack()?;
     assert!(rt; second.accept(packet).is_ok());
-    let text = report(rt.alloc(), &[first, second])?;
+    let text = report(rt.alloc(), &[first, second], 1)?;
     let want =
         "ring view=1 term=1 master=a\nmember a up synced\ncasts 1 confirmed 0\npublishes 0 confirmed 0\nheard a one\nmember b2 up synced\ncasts 1 confirmed 0\npublishes 0 confirmed 0\nheard a one\nheard b2 two\n";
     assert_eq!(rt; text.as_slice(), want.as_bytes());
