@@ -14,17 +14,17 @@ pub record IsKept (initial more : ℕ) (l : Link) : Type 0 where
   pub kept : l.sender.credit + l.loads + l.receiver.taken + sum l.grants + l.receiver.held ≡ initial
 
 -- the grants are the oldest one and the others
-sum-oldest : (grants : List ℕ) → sum grants ≡ oldest grants + sum (drop 1 grants)
+pub sum-oldest : (grants : List ℕ) → sum grants ≡ oldest grants + sum (drop 1 grants)
 sum-oldest [] = refl
 sum-oldest (grant ∷ grants) = grind (arith, common_steps)
 
 -- what has a sum is held back
-is_held : (holding : Bool) (held : ℕ) → (holding ≡ false → held ≡ 0) → 0 < held → holding ≡ true
+pub is_held : (holding : Bool) (held : ℕ) → (holding ≡ false → held ≡ 0) → 0 < held → holding ≡ true
 is_held true held none some = refl
 is_held false held none some = absurd (omega (arith, none refl))
 
 -- an opening keeps it
-new_keeps : (initial more : ℕ) → 1 ≤ more → IsKept initial more (new_link initial more)
+pub new_keeps : (initial more : ℕ) → 1 ≤ more → IsKept initial more (new_link initial more)
 new_keeps initial more positive = record {
   sender_initial = refl;
   receiver_initial = refl;
@@ -35,7 +35,7 @@ new_keeps initial more positive = record {
 }
 
 -- and so does each call
-send_keeps : (initial more : ℕ) (l : Link) → CanCall l Send → IsKept initial more l → IsKept initial more (after_call l Send)
+pub send_keeps : (initial more : ℕ) (l : Link) → CanCall l Send → IsKept initial more l → IsKept initial more (after_call l Send)
 send_keeps initial more l can h = record {
   sender_initial = h.sender_initial;
   receiver_initial = h.receiver_initial;
@@ -45,7 +45,7 @@ send_keeps initial more l can h = record {
   kept = grind (arith, common_steps, h.kept);
 }
 
-take_keeps : (initial more : ℕ) (l : Link) → 1 ≤ more → CanCall l Take → IsKept initial more l → IsKept initial more (after_call l Take)
+pub take_keeps : (initial more : ℕ) (l : Link) → 1 ≤ more → CanCall l Take → IsKept initial more l → IsKept initial more (after_call l Take)
 take_keeps initial more l positive can h = record {
   sender_initial = h.sender_initial;
   receiver_initial = h.receiver_initial;
@@ -55,7 +55,7 @@ take_keeps initial more l positive can h = record {
   kept = grind (arith, common_steps, h.kept, h.none, h.receiver_more, h.receiver_initial);
 }
 
-hold_keeps : (initial more : ℕ) (l : Link) → IsKept initial more l → IsKept initial more (after_call l Hold)
+pub hold_keeps : (initial more : ℕ) (l : Link) → IsKept initial more l → IsKept initial more (after_call l Hold)
 hold_keeps initial more l h = record {
   sender_initial = h.sender_initial;
   receiver_initial = h.receiver_initial;
@@ -65,7 +65,7 @@ hold_keeps initial more l h = record {
   kept = h.kept;
 }
 
-release_keeps : (initial more : ℕ) (l : Link) → IsKept initial more l → IsKept initial more (after_call l Release)
+pub release_keeps : (initial more : ℕ) (l : Link) → IsKept initial more l → IsKept initial more (after_call l Release)
 release_keeps initial more l h = record {
   sender_initial = h.sender_initial;
   receiver_initial = h.receiver_initial;
@@ -75,7 +75,7 @@ release_keeps initial more l h = record {
   kept = grind (arith, common_steps, h.kept);
 }
 
-gain_keeps : (initial more : ℕ) (l : Link) → CanCall l Gain → IsKept initial more l → IsKept initial more (after_call l Gain)
+pub gain_keeps : (initial more : ℕ) (l : Link) → CanCall l Gain → IsKept initial more l → IsKept initial more (after_call l Gain)
 gain_keeps initial more l can h = record {
   sender_initial = h.sender_initial;
   receiver_initial = h.receiver_initial;
@@ -86,7 +86,7 @@ gain_keeps initial more l can h = record {
 }
 
 -- any call
-call_keeps : (initial more : ℕ) (l : Link) (call : Call) → 1 ≤ more → CanCall l call → IsKept initial more l → IsKept initial more (after_call l call)
+pub call_keeps : (initial more : ℕ) (l : Link) (call : Call) → 1 ≤ more → CanCall l call → IsKept initial more l → IsKept initial more (after_call l call)
 call_keeps initial more l Send positive can h = send_keeps initial more l can h
 call_keeps initial more l Take positive can h = take_keeps initial more l positive can h
 call_keeps initial more l Hold positive can h = hold_keeps initial more l h
@@ -94,13 +94,13 @@ call_keeps initial more l Release positive can h = release_keeps initial more l 
 call_keeps initial more l Gain positive can h = gain_keeps initial more l can h
 
 -- any list of them
-after_keeps : (initial more : ℕ) (l : Link) (calls : List Call) → 1 ≤ more → IsCalls l calls → IsKept initial more l → IsKept initial more (after l calls)
+pub after_keeps : (initial more : ℕ) (l : Link) (calls : List Call) → 1 ≤ more → IsCalls l calls → IsKept initial more l → IsKept initial more (after l calls)
 after_keeps initial more l [] positive can h = h
 after_keeps initial more l (call ∷ calls) positive can h =
     after_keeps initial more (after_call l call) calls positive can.1 (call_keeps initial more l call positive can.0 h)
 
 -- the law, of a link that is kept
-kept_law : (initial more : ℕ) (l : Link) → more ≤ initial → IsKept initial more l → KeepsCredit initial l
+pub kept_law : (initial more : ℕ) (l : Link) → more ≤ initial → IsKept initial more l → KeepsCredit initial l
 kept_law initial more l covered h = record {
   kept = h.kept;
   few = omega (arith, h.kept);

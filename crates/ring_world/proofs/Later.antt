@@ -3,13 +3,14 @@ use Rattle.std.proofs.Common.{◌≡◌, ℕ, ◌<◌, ◌≤◌, List, [], ◌�
 use Rattle.std.proofs.lemmas.List.{length-set, length-take, take-append-le, take-take, take_all}
 use Rattle.ring_names.specs.declared.message.Message.{Message}
 use Rattle.ring_names.specs.declared.message.Message.TheVariants as message
+use Rattle.ring_names.specs.declared.numbers.CreditSpec.{CreditSpec}
 use Rattle.ring_names.specs.declared.reason.Reason.TheVariants.{NothingToTake}
 use Rattle.ring_world.specs.declared.event.Event.{Event}
-use Rattle.ring_world.specs.declared.event.Event.TheVariants.{Cast, Put, Take}
+use Rattle.ring_world.specs.declared.event.Event.TheVariants.{Cast, Put, Take, Gain}
 use Rattle.ring_world.specs.World.{World, no_member, member_at, log_of, size}
 use Rattle.ring_world.specs.Member.{messages_between, published}
 use Rattle.ring_world.specs.Refusal.{refusal, is_empty}
-use Rattle.ring_world.specs.Effect.{effect, publish_at, put_at, take_at}
+use Rattle.ring_world.specs.Effect.{effect, publish_at, put_at, take_at, gain_at}
 use Rattle.ring_world.specs.Run.{IsRun, last, opening}
 use Rattle.ring_world.specs.Laws.{row_of, NeverFalls}
 use Rattle.ring_world.proofs.Writes.{at_set}
@@ -18,6 +19,7 @@ use Rattle.ring_world.proofs.Good.{IsGood}
 use Rattle.ring_world.proofs.KeptPublish.{publish_keeps, publish_got, publish_forgot, publish_retired}
 use Rattle.ring_world.proofs.KeptPut.{put_keeps}
 use Rattle.ring_world.proofs.KeptTake.{take_keeps, take_got, take_forgot, take_retired, take_log, inward}
+use Rattle.ring_world.proofs.KeptGain.{gain_keeps}
 use Rattle.ring_world.proofs.Run.{at_place_does, not_refused, effect_keeps, last_keeps, run_good, IsRun-front, IsRun-back, last-append}
 
 -- what is heard by a later state: the log that grew, from the number before to the number after
@@ -77,6 +79,11 @@ put_rises w i l h =
     never_falls w (put_at w i) h (put_keeps w i l h) refl
     (λ p pl. take_all _ (log_of w p) (omega arith)) (λ q p ql pl. omega arith) (λ q p ql pl. omega arith) (λ q p ql pl. omega arith)
 
+pub gain_rises : (w : World) (i : ℕ) → i < size w → IsGood w → NeverFalls w (gain_at w i)
+gain_rises w i l h =
+    never_falls w (gain_at w i) h (gain_keeps w i l h) refl
+    (λ p pl. take_all _ (log_of w p) (omega arith)) (λ q p ql pl. omega arith) (λ q p ql pl. omega arith) (λ q p ql pl. omega arith)
+
 pub take_rises : (w : World) (i : ℕ) → i < size w → is_empty (inward w i).packets ≡ false → IsGood w → NeverFalls w (take_at w i)
 take_rises w i l e h =
     never_falls w (take_at w i) h (take_keeps w i l e h) (length-set w.members i _)
@@ -89,6 +96,7 @@ pub effect_rises : (w : World) (e : Event) → refusal w e ≡ None → IsGood w
 effect_rises w (Cast by body) r h = at_place_does (NeverFalls w) w by _ (publish_at w (message.Cast body)) _ refl r (λ i l _. publish_rises w i (message.Cast body) l h)
 effect_rises w (Put by) r h = at_place_does (NeverFalls w) w by _ (put_at w) _ refl r (λ i l _. put_rises w i l h)
 effect_rises w (Take by) r h = at_place_does (NeverFalls w) w by _ (take_at w) _ refl r (λ i l x. take_rises w i l (not_refused _ NothingToTake x) h)
+effect_rises w (Gain by) r h = at_place_does (NeverFalls w) w by _ (gain_at w) _ refl r (λ i l _. gain_rises w i l h)
 
 -- ---- runs
 
@@ -99,8 +107,8 @@ last_rises w (e ∷ es) r h =
     NeverFalls-trans w (effect w e) (last (effect w e) es) h (last_keeps (effect w e) es r.1 h') (effect_rises w e r.0 h) (last_rises (effect w e) es r.1 h')
 
 -- from the state after some events of a run to the state after further ones
-pub run_rises : (names : List (List ℕ)) (es fs : List Event) → IsRun (opening names) (es ++ fs) → NeverFalls (last (opening names) es) (last (opening names) (es ++ fs))
-run_rises names es fs r =
-    let front : IsRun (opening names) es = IsRun-front (opening names) es fs r in
-    subst (NeverFalls (last (opening names) es)) (sym (last-append (opening names) es fs))
-    (last_rises (last (opening names) es) fs (IsRun-back (opening names) es fs r) (run_good names es front))
+pub run_rises : (credit : CreditSpec) (names : List (List ℕ)) (es fs : List Event) → IsRun (opening credit names) (es ++ fs) → NeverFalls (last (opening credit names) es) (last (opening credit names) (es ++ fs))
+run_rises credit names es fs r =
+    let front : IsRun (opening credit names) es = IsRun-front (opening credit names) es fs r in
+    subst (NeverFalls (last (opening credit names) es)) (sym (last-append (opening credit names) es fs))
+    (last_rises (last (opening credit names) es) fs (IsRun-back (opening credit names) es fs r) (run_good credit names es front))

@@ -1,22 +1,25 @@
 -- Every state of every run is lawful.
-use Rattle.std.proofs.Common.{ℕ, List}
+use Rattle.std.proofs.Common.{◌≡◌, ℕ, ◌<◌, ◌≤◌, List, length, take, subst, sym, ap, ◌∙◌, arith}
+use Rattle.ring_names.specs.declared.numbers.CreditSpec.{CreditSpec}
 use Rattle.ring_world.specs.declared.event.Event.{Event}
 use Rattle.ring_world.specs.World.{World}
 use Rattle.ring_world.specs.Run.{IsRun, last, opening, IsReachedIn}
-use Rattle.ring_world.specs.Laws.{IsLawful}
+use Rattle.ring_world.specs.Laws.{IsLawful, EachKeepsCredit, IsQuiet, HasHeardAll}
 use Rattle.ring_world.proofs.Good.{IsGood, forgot_everywhere}
-use Rattle.ring_world.proofs.Run.{run_good, IsReachedIn-IsGood}
+use Rattle.ring_world.proofs.Run.{run_good}
+use Rattle.ring_world.proofs.Credit.{run_each_keeps_credit}
 
-pub IsGood-IsLawful : (w : World) → IsGood w → IsLawful w
-IsGood-IsLawful w h = record {
+pub good_is_lawful : (w : World) → IsGood w → EachKeepsCredit w → IsLawful w
+good_is_lawful w h credit = record {
   in_order = h.heard;
   within = h.within;
   own = h.own;
   confirmed = λ q p ql pl. forgot_everywhere w p q p h pl ql pl;
+  credit = credit;
 }
 
-pub run_lawful : (names : List (List ℕ)) (events : List Event) → IsRun (opening names) events → IsLawful (last (opening names) events)
-run_lawful names events r = IsGood-IsLawful _ (run_good names events r)
+pub run_lawful : (credit : CreditSpec) (names : List (List ℕ)) (events : List Event) → IsRun (opening credit names) events → IsLawful (last (opening credit names) events)
+run_lawful credit names events r = good_is_lawful _ (run_good credit names events r) (run_each_keeps_credit credit names events r)
 
 pub IsReachedIn-IsLawful : (w : World) (n : ℕ) → IsReachedIn w n → IsLawful w
-IsReachedIn-IsLawful w n r = IsGood-IsLawful w (IsReachedIn-IsGood w n r)
+IsReachedIn-IsLawful w n r = subst IsLawful (sym r.is) (run_lawful r.credit r.names r.events r.run)

@@ -5,10 +5,13 @@ pub mod Good
 pub mod KeptPublish
 pub mod KeptPut
 pub mod KeptTake
+pub mod KeptGain
 pub mod Run
+pub mod Sized
+pub mod Credit
 pub mod Lawful
+pub mod HeardAll
 pub mod Later
 pub mod Names
-pub mod Sized
 pub mod Views
 pub mod Running

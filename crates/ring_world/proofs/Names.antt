@@ -8,11 +8,12 @@ use Rattle.std.proofs.lemmas.List.{length-map, get_or-map}
 use Rattle.std.proofs.lemmas.List.Sums.{prefix_len_passes, prefix_len_stops}
 use Rattle.std.proofs.lemmas.Slice.Eq.{bytes_eq-Decides}
 use Rattle.ring_names.specs.declared.message.Message.TheVariants as message
+use Rattle.ring_names.specs.declared.numbers.CreditSpec.{CreditSpec}
 use Rattle.ring_world.specs.declared.event.Event.{Event}
-use Rattle.ring_world.specs.declared.event.Event.TheVariants.{Cast, Put, Take}
+use Rattle.ring_world.specs.declared.event.Event.TheVariants.{Cast, Put, Take, Gain}
 use Rattle.ring_world.specs.World.{World, AreDifferent, no_member, member_at, size, place_of, most_members}
 use Rattle.ring_world.specs.Refusal.{refusal}
-use Rattle.ring_world.specs.Effect.{effect, publish_at, put_at, take_at}
+use Rattle.ring_world.specs.Effect.{effect, publish_at, put_at, take_at, gain_at}
 use Rattle.ring_world.specs.Run.{IsRun, last, opening, opening_member, IsReachedIn}
 use Rattle.ring_world.proofs.KeptTake.{taker}
 use Rattle.ring_world.proofs.Run.{at_place_does, run_keeps}
@@ -52,14 +53,15 @@ NamesAre names w = map (λ m. m.name) w.members ≡ names
 pub effect_names : (names : List (List ℕ)) (w : World) (e : Event) → refusal w e ≡ None → NamesAre names w → NamesAre names (effect w e)
 effect_names names w (Cast by body) r h = at_place_does (NamesAre names) w by _ (publish_at w (message.Cast body)) _ refl r (λ i l _. map-set_same (λ m. m.name) w.members i _ no_member refl ∙ h)
 effect_names names w (Put by) r h = at_place_does (NamesAre names) w by _ (put_at w) _ refl r (λ i l _. h)
+effect_names names w (Gain by) r h = at_place_does (NamesAre names) w by _ (gain_at w) _ refl r (λ i l _. h)
 effect_names names w (Take by) r h = at_place_does (NamesAre names) w by _ (take_at w) _ refl r (λ i l _. map-set_same (λ m. m.name) w.members i (taker w i) no_member refl ∙ h)
 
 pub opening_names : (n : ℕ) (names : List (List ℕ)) → map (λ m. m.name) (map (opening_member n) names) ≡ names
 opening_names n [] = refl
 opening_names n (x ∷ xs) = ap (λ ys. x ∷ ys) (opening_names n xs)
 
-pub run_names : (names : List (List ℕ)) (events : List Event) → IsRun (opening names) events → NamesAre names (last (opening names) events)
-run_names names events r = run_keeps (NamesAre names) (effect_names names) (opening names) events r (opening_names (length names) names)
+pub run_names : (credit : CreditSpec) (names : List (List ℕ)) (events : List Event) → IsRun (opening credit names) events → NamesAre names (last (opening credit names) events)
+run_names credit names events r = run_keeps (NamesAre names) (effect_names names) (opening credit names) events r (opening_names (length names) names)
 
 pub names_size : (names : List (List ℕ)) (w : World) → NamesAre names w → size w ≡ length names
 names_size names w e = sym (length-map w.members (λ m. m.name)) ∙ ap length e
@@ -76,19 +78,19 @@ place_of_name names w i d e il =
 
 -- ---- in every state of every run
 
-pub run_size : (names : List (List ℕ)) (events : List Event) → IsRun (opening names) events → size (last (opening names) events) ≡ length names
-run_size names events r = names_size names (last (opening names) events) (run_names names events r)
+pub run_size : (credit : CreditSpec) (names : List (List ℕ)) (events : List Event) → IsRun (opening credit names) events → size (last (opening credit names) events) ≡ length names
+run_size credit names events r = names_size names (last (opening credit names) events) (run_names credit names events r)
 
-pub run_name_at : (names : List (List ℕ)) (events : List Event) (i : ℕ) → IsRun (opening names) events → i < size (last (opening names) events) → (member_at (last (opening names) events) i).name ≡ get_or names i []
-run_name_at names events i r l = name_at names (last (opening names) events) i (run_names names events r) l
+pub run_name_at : (credit : CreditSpec) (names : List (List ℕ)) (events : List Event) (i : ℕ) → IsRun (opening credit names) events → i < size (last (opening credit names) events) → (member_at (last (opening credit names) events) i).name ≡ get_or names i []
+run_name_at credit names events i r l = name_at names (last (opening credit names) events) i (run_names credit names events r) l
 
-pub run_place_of : (names : List (List ℕ)) (events : List Event) (i : ℕ) → AreDifferent names → IsRun (opening names) events → i < size (last (opening names) events) → place_of (last (opening names) events).members (member_at (last (opening names) events) i).name ≡ Some i
-run_place_of names events i d r l = place_of_name names (last (opening names) events) i d (run_names names events r) l
+pub run_place_of : (credit : CreditSpec) (names : List (List ℕ)) (events : List Event) (i : ℕ) → AreDifferent names → IsRun (opening credit names) events → i < size (last (opening credit names) events) → place_of (last (opening credit names) events).members (member_at (last (opening credit names) events) i).name ≡ Some i
+run_place_of credit names events i d r l = place_of_name names (last (opening credit names) events) i d (run_names credit names events r) l
 
 -- ---- in every state that is reached
 
 pub IsReachedIn-names : (w : World) (n : ℕ) (r : IsReachedIn w n) → NamesAre r.names w
-IsReachedIn-names w n r = subst (NamesAre r.names) (sym r.is) (run_names r.names r.events r.run)
+IsReachedIn-names w n r = subst (NamesAre r.names) (sym r.is) (run_names r.credit r.names r.events r.run)
 
 pub IsReachedIn-some : (w : World) (n : ℕ) → IsReachedIn w n → 0 < size w
 IsReachedIn-some w n r = omega (arith, names_size r.names w (IsReachedIn-names w n r), r.are.some)

@@ -6,19 +6,21 @@ use Rattle.std.proofs.lemmas.List.{length-map, get_or-map, length_push}
 use Rattle.std.proofs.lemmas.List.FromFn.{length-map-range_with_len}
 use Rattle.std.proofs.lemmas.List.Quantifiers.{position-Some}
 use Rattle.ring_names.specs.declared.message.Message.TheVariants as message
+use Rattle.ring_names.specs.declared.numbers.CreditSpec.{CreditSpec}
 use Rattle.ring_names.specs.declared.reason.Reason.{Reason}
-use Rattle.ring_names.specs.declared.reason.Reason.TheVariants.{NothingToTake}
+use Rattle.ring_names.specs.declared.reason.Reason.TheVariants.{NoCredit, NothingNew, NothingToTake}
 use Rattle.ring_world.specs.declared.event.Event.{Event}
-use Rattle.ring_world.specs.declared.event.Event.TheVariants.{Cast, Put, Take}
-use Rattle.ring_world.specs.World.{World, AreOpeningNames, no_row, no_member, no_link, row_at, member_at, log_of, size, place_of}
-use Rattle.ring_world.specs.Refusal.{refusal, of_member, refuse_if}
-use Rattle.ring_world.specs.Effect.{at_place, effect, publish_at, put_at, take_at}
+use Rattle.ring_world.specs.declared.event.Event.TheVariants.{Cast, Put, Take, Gain}
+use Rattle.ring_world.specs.World.{Link, World, AreOpeningNames, no_row, no_member, no_link, row_at, member_at, log_of, size, place_of}
+use Rattle.ring_world.specs.Refusal.{refusal, of_member, refuse_if, or_else}
+use Rattle.ring_world.specs.Effect.{at_place, effect, publish_at, put_at, take_at, gain_at}
 use Rattle.ring_world.specs.Run.{IsRun, last, opening, opening_member, opening_link, IsReachedIn, IsShaped}
 use Rattle.ring_world.specs.Laws.{row_of}
 use Rattle.ring_world.proofs.Good.{IsGood, LinkIsChain, LinkIsFall, low, low_forgot}
 use Rattle.ring_world.proofs.KeptPublish.{publish_keeps}
 use Rattle.ring_world.proofs.KeptPut.{put_keeps}
 use Rattle.ring_world.proofs.KeptTake.{take_keeps}
+use Rattle.ring_world.proofs.KeptGain.{gain_keeps}
 
 -- ---- one event
 
@@ -34,31 +36,48 @@ pub not_refused : (b : Bool) (r : Reason) → refuse_if b r ≡ None → b ≡ f
 not_refused true r e = cc
 not_refused false r e = refl
 
+-- the first of two conditions holds, and so does the second
+pub or_else_first : (a b : Option Reason) → or_else a b ≡ None → a ≡ None
+or_else_first None b e = refl
+or_else_first (Some r) b e = cc
+
+pub or_else_second : (a b : Option Reason) → or_else a b ≡ None → b ≡ None
+or_else_second None b e = e
+or_else_second (Some r) b e = cc
+
 pub effect_keeps : (w : World) (e : Event) → refusal w e ≡ None → IsGood w → IsGood (effect w e)
 effect_keeps w (Cast by body) r h = at_place_does IsGood w by _ (publish_at w (message.Cast body)) _ refl r (λ i l _. publish_keeps w i (message.Cast body) l h)
 effect_keeps w (Put by) r h = at_place_does IsGood w by _ (put_at w) _ refl r (λ i l _. put_keeps w i l h)
 effect_keeps w (Take by) r h = at_place_does IsGood w by _ (take_at w) _ refl r (λ i l x. take_keeps w i l (not_refused _ NothingToTake x) h)
+effect_keeps w (Gain by) r h = at_place_does IsGood w by _ (gain_at w) _ refl r (λ i l _. gain_keeps w i l h)
 
 -- ---- the opening
 
-pub opening_size : (names : List (List ℕ)) → size (opening names) ≡ length names
-opening_size names = length-map names (opening_member (length names))
+pub opening_size : (credit : CreditSpec) (names : List (List ℕ)) → size (opening credit names) ≡ length names
+opening_size credit names = length-map names (opening_member (length names))
 
-pub opening_at : (names : List (List ℕ)) (q : ℕ) → q < length names → member_at (opening names) q ≡ opening_member (length names) (get_or names q [])
-opening_at names q l = get_or-map (opening_member (length names)) names q [] no_member l
+pub opening_at : (credit : CreditSpec) (names : List (List ℕ)) (q : ℕ) → q < length names → member_at (opening credit names) q ≡ opening_member (length names) (get_or names q [])
+opening_at credit names q l = get_or-map (opening_member (length names)) names q [] no_member l
 
 pub get_or-no_rows : (n a p : ℕ) → get_or (map (λ (_ : ℕ). no_row) (range_with_len a n)) p no_row ≡ no_row
 get_or-no_rows zero a p = refl
 get_or-no_rows (suc n) a zero = refl
 get_or-no_rows (suc n) a (suc p) = get_or-no_rows n (a + 1) p
 
-pub opening_row : (names : List (List ℕ)) (q p : ℕ) → q < size (opening names) → row_of (opening names) q p ≡ no_row
-opening_row names q p l = ap (λ y. row_at y p) (opening_at names q (omega (arith, opening_size names))) ∙ get_or-no_rows (length names) 0 p
+pub opening_row : (credit : CreditSpec) (names : List (List ℕ)) (q p : ℕ) → q < size (opening credit names) → row_of (opening credit names) q p ≡ no_row
+opening_row credit names q p l = ap (λ y. row_at y p) (opening_at credit names q (omega (arith, opening_size credit names))) ∙ get_or-no_rows (length names) 0 p
 
-pub get_or-no_links : (names : List (List ℕ)) (s : ℕ) → get_or (map opening_link names) s no_link ≡ no_link
-get_or-no_links [] s = refl
-get_or-no_links (n ∷ ns) zero = refl
-get_or-no_links (n ∷ ns) (suc s) = get_or-no_links ns s
+-- what the links of an opening have, and what stands beyond them
+pub opening_links : (P : Link → Type 0) (credit : CreditSpec) (names : List (List ℕ)) (s : ℕ) → P no_link → P (opening_link credit []) → P (get_or (map (opening_link credit) names) s no_link)
+opening_links P credit [] s none one = none
+opening_links P credit (n ∷ ns) zero none one = one
+opening_links P credit (n ∷ ns) (suc s) none one = opening_links P credit ns s none one
+
+-- a link of the opening
+pub opening_link_at : (credit : CreditSpec) (names : List (List ℕ)) (s : ℕ) → s < length names → get_or (map (opening_link credit) names) s no_link ≡ opening_link credit []
+opening_link_at credit [] s l = absurd (omega arith)
+opening_link_at credit (n ∷ ns) zero l = refl
+opening_link_at credit (n ∷ ns) (suc s) l = opening_link_at credit ns s (omega arith)
 
 pub low-no_row : (b : Bool) → low b no_row ≡ 0
 low-no_row true = refl
@@ -68,20 +87,20 @@ pub low_forgot-no_row : (b : Bool) → low_forgot b no_row ≡ 0
 low_forgot-no_row true = refl
 low_forgot-no_row false = refl
 
-pub opening_good : (names : List (List ℕ)) → IsGood (opening names)
-opening_good names = record {
-  links = length-map names opening_link ∙ sym (opening_size names);
-  rows = λ q ql. ap (λ y. length y.rows) (opening_at names q (omega (arith, opening_size names))) ∙ length-map-range_with_len (λ (_ : ℕ). no_row) 0 (length names) ∙ sym (opening_size names);
-  own = λ q ql. ap (λ r. r.got) (opening_row names q q ql) ∙ sym (ap (λ y. length y.log) (opening_at names q (omega (arith, opening_size names))));
-  within = λ q p ql pl. omega (arith, ap (λ r. r.got) (opening_row names q p ql));
-  heard = λ q p ql pl. ap (λ r. r.heard) (opening_row names q p ql) ∙ sym (ap (λ r. take r.got (log_of (opening names) p)) (opening_row names q p ql));
+pub opening_good : (credit : CreditSpec) (names : List (List ℕ)) → IsGood (opening credit names)
+opening_good credit names = record {
+  links = length-map names (opening_link credit) ∙ sym (opening_size credit names);
+  rows = λ q ql. ap (λ y. length y.rows) (opening_at credit names q (omega (arith, opening_size credit names))) ∙ length-map-range_with_len (λ (_ : ℕ). no_row) 0 (length names) ∙ sym (opening_size credit names);
+  own = λ q ql. ap (λ r. r.got) (opening_row credit names q q ql) ∙ sym (ap (λ y. length y.log) (opening_at credit names q (omega (arith, opening_size credit names))));
+  within = λ q p ql pl. omega (arith, ap (λ r. r.got) (opening_row credit names q p ql));
+  heard = λ q p ql pl. ap (λ r. r.heard) (opening_row credit names q p ql) ∙ sym (ap (λ r. take r.got (log_of (opening credit names) p)) (opening_row credit names q p ql));
   chain = λ q p s ql pl e.
-      subst (λ l. LinkIsChain p (low (nat_eq p q) (row_of (opening names) q p)) l (row_of (opening names) s p).got) (sym (get_or-no_links names s))
-      (rw (opening_row names q p ql) (rw (low-no_row (nat_eq p q)) (omega arith, omega arith)));
+      let none : LinkIsChain p (low (nat_eq p q) (row_of (opening credit names) q p)) no_link (row_of (opening credit names) s p).got = rw (opening_row credit names q p ql) (rw (low-no_row (nat_eq p q)) (omega arith, omega arith)) in
+      opening_links (λ l. LinkIsChain p (low (nat_eq p q) (row_of (opening credit names) q p)) l (row_of (opening credit names) s p).got) credit names s none none;
   fall = λ q p s ql pl e.
-      subst (λ l. LinkIsFall p (low_forgot (nat_eq p q) (row_of (opening names) q p)) l (row_of (opening names) s p).forgot) (sym (get_or-no_links names s))
-      (rw (opening_row names q p ql) (rw (low_forgot-no_row (nat_eq p q)) (omega arith, omega arith)));
-  fresh = λ s _. ap (λ l. l.packets) (get_or-no_links names s);
+      let none : LinkIsFall p (low_forgot (nat_eq p q) (row_of (opening credit names) q p)) no_link (row_of (opening credit names) s p).forgot = rw (opening_row credit names q p ql) (rw (low_forgot-no_row (nat_eq p q)) (omega arith, omega arith)) in
+      opening_links (λ l. LinkIsFall p (low_forgot (nat_eq p q) (row_of (opening credit names) q p)) l (row_of (opening credit names) s p).forgot) credit names s none none;
+  fresh = λ s _. opening_links (λ l. l.packets ≡ []) credit names s refl refl;
 }
 
 -- ---- runs
@@ -94,12 +113,12 @@ run_keeps P step w (e ∷ es) r h = run_keeps P step (effect w e) es r.1 (step w
 pub last_keeps : (w : World) (events : List Event) → IsRun w events → IsGood w → IsGood (last w events)
 last_keeps = run_keeps IsGood effect_keeps
 
-pub run_good : (names : List (List ℕ)) (events : List Event) → IsRun (opening names) events → IsGood (last (opening names) events)
-run_good names events r = last_keeps (opening names) events r (opening_good names)
+pub run_good : (credit : CreditSpec) (names : List (List ℕ)) (events : List Event) → IsRun (opening credit names) events → IsGood (last (opening credit names) events)
+run_good credit names events r = last_keeps (opening credit names) events r (opening_good credit names)
 
 -- every state of every run
 pub IsReachedIn-IsGood : (w : World) (n : ℕ) → IsReachedIn w n → IsGood w
-IsReachedIn-IsGood w n r = subst IsGood (sym r.is) (run_good r.names r.events r.run)
+IsReachedIn-IsGood w n r = subst IsGood (sym r.is) (run_good r.credit r.names r.events r.run)
 
 pub IsGood-IsShaped : (w : World) → IsGood w → IsShaped w
 IsGood-IsShaped w h = record { links = h.links; rows = h.rows; own = h.own }
@@ -134,15 +153,16 @@ IsRun-push w events e r x = IsRun-append w events (e ∷ []) r (x, tt)
 pub last-push : (w : World) (events : List Event) (e : Event) → last w (events ++ e ∷ []) ≡ effect (last w events) e
 last-push w events e = last-append w events (e ∷ [])
 
-pub opening_is_reached : (names : List (List ℕ)) → AreOpeningNames names → IsReachedIn (opening names) 0
-opening_is_reached names are = record { names = names; are = are; events = []; run = tt; is = refl; count = refl }
+pub opening_is_reached : (credit : CreditSpec) (names : List (List ℕ)) → AreOpeningNames names → IsReachedIn (opening credit names) 0
+opening_is_reached credit names are = record { credit = credit; names = names; are = are; events = []; run = tt; is = refl; count = refl }
 
 pub IsReachedIn-more : (w w' : World) (n n' : ℕ) (e : Event) → IsReachedIn w n → refusal w e ≡ None → w' ≡ effect w e → n' ≡ n + 1 → IsReachedIn w' n'
 IsReachedIn-more w w' n n' e r x is count = record {
+  credit = r.credit;
   names = r.names;
   are = r.are;
   events = r.events ++ e ∷ [];
-  run = IsRun-push (opening r.names) r.events e r.run (ap (λ v. refusal v e) (sym r.is) ∙ x);
-  is = is ∙ ap (λ v. effect v e) r.is ∙ sym (last-push (opening r.names) r.events e);
+  run = IsRun-push (opening r.credit r.names) r.events e r.run (ap (λ v. refusal v e) (sym r.is) ∙ x);
+  is = is ∙ ap (λ v. effect v e) r.is ∙ sym (last-push (opening r.credit r.names) r.events e);
   count = length_push r.events e ∙ ap (λ k. k + 1) r.count ∙ sym count;
 }

@@ -6,6 +6,7 @@ use Rattle.std.proofs.Props.{props}
 use Rattle.std.proofs.Math.Logic.{∥∥₁_elim, ∥∥₁_map}
 use Rattle.std.proofs.lemmas.List.{length-map}
 use Rattle.ring_names.specs.declared.message.Message.{Message}
+use Rattle.ring_names.specs.declared.numbers.CreditSpec.{CreditSpec}
 use Rattle.ring_world.specs.declared.event.Event.{Event}
 use Rattle.ring_world.specs.declared.world.World.TheInside.{Inside}
 use Rattle.ring_world.specs.World.{World, AreOpeningNames, most_members, size, place_of}
@@ -20,8 +21,8 @@ use Rattle.ring_world.proofs.Run.{place-lt, IsReachedIn-IsGood, IsReachedIn-more
 use Rattle.ring_world.proofs.Lawful.{IsReachedIn-IsLawful}
 use Rattle.ring_world.proofs.Names.{IsReachedIn-few}
 
-pub running_opening : (a : Inside) (names : List (List ℕ)) → AreOpeningNames names → state_of a ≡ opening names → a.applied ≡ 0 → IsRunning a
-running_opening a names are e z = record { reached = ∣ record { names = names; are = are; events = []; run = tt; is = e; count = sym z } ∣₁; few = rw z (lit< tt) }
+pub running_opening : (a : Inside) (credit : CreditSpec) (names : List (List ℕ)) → AreOpeningNames names → state_of a ≡ opening credit names → a.applied ≡ 0 → IsRunning a
+running_opening a credit names are e z = record { reached = ∣ record { credit = credit; names = names; are = are; events = []; run = tt; is = e; count = sym z } ∣₁; few = rw z (lit< tt) }
 
 pub running_more : (w : World) (n : ℕ) (a : Inside) (e : Event) → ∥ IsReachedIn w n ∥₁ → refusal w e ≡ None → state_of a ≡ effect w e → a.applied ≡ n + 1 → a.applied < 2 ^ 59 → IsRunning a
 running_more w n a e r x is count few = record { reached = ∥∥₁_map r (λ h. IsReachedIn-more w (state_of a) n a.applied e h x is count); few = few }
@@ -42,6 +43,11 @@ reached_lawful w n r = record {
   within = λ q p ql pl. ∥∥₁_elim r le_prop (λ h. (IsReachedIn-IsLawful w n h).within q p ql pl);
   own = λ p pl. ∥∥₁_elim r (ℕ_set _ _) (λ h. (IsReachedIn-IsLawful w n h).own p pl);
   confirmed = λ q p ql pl. ∥∥₁_elim r le_prop (λ h. (IsReachedIn-IsLawful w n h).confirmed q p ql pl);
+  credit = λ s sl. record {
+    kept = ∥∥₁_elim r (ℕ_set _ _) (λ h. ((IsReachedIn-IsLawful w n h).credit s sl).kept);
+    few = ∥∥₁_elim r le_prop (λ h. ((IsReachedIn-IsLawful w n h).credit s sl).few);
+    whole = ∥∥₁_elim r (ℕ_set _ _) (λ h. ((IsReachedIn-IsLawful w n h).credit s sl).whole);
+  };
 }
 
 pub reached_few : (w : World) (n : ℕ) → ∥ IsReachedIn w n ∥₁ → size w ≤ most_members

@@ -5,16 +5,17 @@ use Rattle.std.proofs.lemmas.List.{length-set, get_or_past, length-map}
 use Rattle.std.proofs.lemmas.List.FromFn.{length-map-range_with_len}
 use Rattle.ring_names.specs.declared.message.Message.{Message}
 use Rattle.ring_names.specs.declared.message.Message.TheVariants as message
+use Rattle.ring_names.specs.declared.numbers.CreditSpec.{CreditSpec}
 use Rattle.ring_world.specs.declared.event.Event.{Event}
-use Rattle.ring_world.specs.declared.event.Event.TheVariants.{Cast, Put, Take}
+use Rattle.ring_world.specs.declared.event.Event.TheVariants.{Cast, Put, Take, Gain}
 use Rattle.ring_world.specs.World.{Packet, Link, World, no_numbers, no_link, numbers_at, row_at, member_at, link_at, size, left_of}
 use Rattle.ring_world.specs.Member.{next_packet, next_numbers, popped, oldest}
 use Rattle.ring_world.specs.Refusal.{refusal}
-use Rattle.ring_world.specs.Effect.{effect, publish_at, put_at, take_at}
+use Rattle.ring_world.specs.Effect.{effect, publish_at, put_at, take_at, gain_at}
 use Rattle.ring_world.specs.Run.{IsRun, opening, last, opening_link}
 use Rattle.ring_world.proofs.Writes.{at_set}
 use Rattle.ring_world.proofs.Round.{left_of-lt}
-use Rattle.ring_world.proofs.Run.{at_place_does, run_keeps, opening_size, get_or-no_links}
+use Rattle.ring_world.proofs.Run.{at_place_does, run_keeps, opening_size, opening_links}
 
 abbrev pub AreShort : ℕ → List Packet → Type 0
 AreShort n [] = ⊤
@@ -65,21 +66,32 @@ take_sized n w i l h =
       packets = λ s. at_set (λ _ k. AreShort n k.packets) w.links s0 s _ no_link s0l (AreShort-drop n (link_at w s0) (link_at w s0).packets refl (h.packets s0)) (λ _. h.packets s);
     }
 
+pub gain_sized : (n : ℕ) (w : World) (i : ℕ) → i < size w → IsSized n w → IsSized n (gain_at w i)
+gain_sized n w i l h =
+    let il : i < length w.links = omega (arith, h.links, h.size_is) in
+    record {
+      size_is = h.size_is;
+      links = length-set w.links i _ ∙ h.links;
+      sent = λ s. at_set (λ _ k. length k.sending.sent.numbers ≤ n) w.links i s _ no_link il (h.sent i) (λ _. h.sent s);
+      packets = λ s. at_set (λ _ k. AreShort n k.packets) w.links i s _ no_link il (h.packets i) (λ _. h.packets s);
+    }
+
 pub effect_sized : (n : ℕ) (w : World) (e : Event) → refusal w e ≡ None → IsSized n w → IsSized n (effect w e)
 effect_sized n w (Cast by body) r h = at_place_does (IsSized n) w by _ (publish_at w (message.Cast body)) _ refl r (λ i l _. publish_sized n w i (message.Cast body) h)
 effect_sized n w (Put by) r h = at_place_does (IsSized n) w by _ (put_at w) _ refl r (λ i l _. put_sized n w i l h)
 effect_sized n w (Take by) r h = at_place_does (IsSized n) w by _ (take_at w) _ refl r (λ i l _. take_sized n w i l h)
+effect_sized n w (Gain by) r h = at_place_does (IsSized n) w by _ (gain_at w) _ refl r (λ i l _. gain_sized n w i l h)
 
-pub opening_sized : (names : List (List ℕ)) → IsSized (length names) (opening names)
-opening_sized names = record {
-  size_is = opening_size names;
-  links = length-map names opening_link;
-  sent = λ s. subst (λ l. length l.sending.sent.numbers ≤ length names) (sym (get_or-no_links names s)) (omega arith);
-  packets = λ s. subst (λ l. AreShort (length names) l.packets) (sym (get_or-no_links names s)) tt;
+pub opening_sized : (credit : CreditSpec) (names : List (List ℕ)) → IsSized (length names) (opening credit names)
+opening_sized credit names = record {
+  size_is = opening_size credit names;
+  links = length-map names (opening_link credit);
+  sent = λ s. opening_links (λ l. length l.sending.sent.numbers ≤ length names) credit names s (omega arith) (omega arith);
+  packets = λ s. opening_links (λ l. AreShort (length names) l.packets) credit names s tt tt;
 }
 
-pub run_sized : (names : List (List ℕ)) (events : List Event) → IsRun (opening names) events → IsSized (length names) (last (opening names) events)
-run_sized names events r = run_keeps (IsSized (length names)) (effect_sized (length names)) (opening names) events r (opening_sized names)
+pub run_sized : (credit : CreditSpec) (names : List (List ℕ)) (events : List Event) → IsRun (opening credit names) events → IsSized (length names) (last (opening credit names) events)
+run_sized credit names events r = run_keeps (IsSized (length names)) (effect_sized (length names)) (opening credit names) events r (opening_sized credit names)
 
 -- no packet says anything of a place beyond the ring
 pub numbers_past : (k : Packet) (n p : ℕ) → length k.numbers ≤ n → n ≤ p → numbers_at k p ≡ no_numbers

@@ -10,8 +10,9 @@ use Rattle.ring_world.specs.declared.seat.KnownOrigin.{KnownOrigin}
 use Rattle.ring_world.specs.declared.seat.Seat.{Seat}
 use Rattle.ring_world.specs.declared.wire.Wire.{Wire}
 use Rattle.ring_world.specs.World.{Packet, no_row, no_member, no_link, row_at, numbers_at, left_of}
-use Rattle.ring_world.specs.Member.{published_row, published, next_packet, pushed, taken_with, with_rows, taken, oldest, popped}
+use Rattle.ring_world.specs.Member.{published_row, published, next_packet, pushed, taken_with, with_rows, taken, oldest, popped, granted}
 use Rattle.ring_world.specs.Effect.{put_at, take_at, brought_at}
+use Rattle.ring_world.specs.Laws.{IsQuiet}
 use Rattle.ring_world.specs.View.{row_of, member_of, link_of, world_of, items_of, row_in, member_in, link_in, news_in}
 
 -- ---- maps
@@ -84,6 +85,25 @@ put_world seats wires i n x l y en li ll ex el g =
     (mapped_write link_of (λ z. pushed z (next_packet n (member_of x) z.sending)) wires i l y no_link ll el g
     ∙ ap (λ m. set (map link_of wires) i (pushed (link_in wires i) (next_packet n m (link_in wires i).sending))) member
     ∙ ap (λ m. set (map link_of wires) i (pushed (link_in wires i) (next_packet m (member_in seats i) (link_in wires i).sending))) sizes)
+
+-- ---- gaining
+
+pub granted_wires : (wires : List Wire) (i : ℕ) (x y : Wire) → i < length wires → x ≡ get_or wires i x → link_of y ≡ granted (link_of x) → map link_of (set wires i y) ≡ set (map link_of wires) i (granted (link_in wires i))
+granted_wires wires i x y l e g = mapped_write link_of granted wires i x y no_link l e g
+
+-- ---- quiet
+
+pub quiet_of : (seats : List Seat) (wires : List Wire) → length wires ≡ length seats → ((s : ℕ) → s < length wires → (link_in wires s).packets ≡ []) → ((p : ℕ) → p < length seats → (row_at (member_in seats p) p).retired ≡ length (member_in seats p).log) → IsQuiet (world_of seats wires)
+quiet_of seats wires e empty come = record {
+  empty = λ s l. empty s (omega (arith, l, e, length-map seats member_of));
+  come_round = λ p l. come p (omega (arith, l, length-map seats member_of));
+}
+
+pub quiet_links : (seats : List Seat) (wires : List Wire) → length wires ≡ length seats → IsQuiet (world_of seats wires) → (s : ℕ) → s < length wires → (link_in wires s).packets ≡ []
+quiet_links seats wires e q s l = q.empty s (omega (arith, l, e, length-map seats member_of))
+
+pub quiet_logs : (seats : List Seat) (wires : List Wire) → IsQuiet (world_of seats wires) → (p : ℕ) → p < length seats → (row_at (member_in seats p) p).retired ≡ length (member_in seats p).log
+quiet_logs seats wires q p l = q.come_round p (omega (arith, l, length-map seats member_of))
 
 -- ---- taking
 

@@ -3,9 +3,9 @@ use Rattle.std.specs.Prelude.{ℕ, List, Option, Some, None, slice_set, slice_in
 use Rattle.ring_names.specs.declared.message.Message.{Message}
 use Rattle.ring_names.specs.declared.message.Message.TheVariants as message
 use Rattle.ring_world.specs.declared.event.Event.{Event}
-use Rattle.ring_world.specs.declared.event.Event.TheVariants.{Cast, Put, Take}
+use Rattle.ring_world.specs.declared.event.Event.TheVariants.{Cast, Put, Take, Gain}
 use Rattle.ring_world.specs.World.{Member, Packet, Link, World, no_member, row_at, numbers_at, member_at, link_at, log_of, size, place_of, left_of}
-use Rattle.ring_world.specs.Member.{published, next_packet, pushed, popped, oldest, brought, taken}
+use Rattle.ring_world.specs.Member.{published, next_packet, pushed, popped, oldest, brought, taken, granted}
 
 abbrev pub with_member : World → ℕ → Member → World
 with_member w i y = record w { members = slice_set w.members i y }
@@ -31,11 +31,16 @@ take_at w i =
     let s : ℕ = left_of (size w) i in
     with_link (with_member w i (taken (size w) i (log_of w) (member_at w i) (oldest (link_at w s)))) s (popped (link_at w s))
 
+-- member i gains the oldest grant on its link
+abbrev pub gain_at : World → ℕ → World
+gain_at w i = with_link w i (granted (link_at w i))
+
 -- the state after an event
 abbrev pub effect : World → Event → World
 effect w (Cast by body) = at_place (place_of w.members by) w (publish_at w (message.Cast body))
 effect w (Put by) = at_place (place_of w.members by) w (put_at w)
 effect w (Take by) = at_place (place_of w.members by) w (take_at w)
+effect w (Gain by) = at_place (place_of w.members by) w (gain_at w)
 
 -- what a packet brings member i of the origin at place p
 abbrev pub brought_at : List Member → ℕ → Packet → ℕ → List Message

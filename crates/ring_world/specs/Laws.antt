@@ -1,7 +1,8 @@
 -- The laws of the ring, over states and over steps.
-use Rattle.std.specs.Prelude.{◌≡◌, ℕ, ◌<◌, ◌≤◌, ◌++◌, length, take}
-use Rattle.ring_world.specs.World.{Row, World, row_at, member_at, log_of, size}
-use Rattle.ring_world.specs.Member.{messages_between}
+use Rattle.std.specs.Prelude.{◌≡◌, ℕ, ◌+◌, ◌<◌, ◌≤◌, ◌++◌, length, take, sum, []}
+use Rattle.credit_flow.specs.Link.{oldest as oldest_grant}
+use Rattle.ring_world.specs.World.{Row, Link, World, row_at, member_at, link_at, log_of, size}
+use Rattle.ring_world.specs.Member.{messages_between, regained}
 
 abbrev pub row_of : World → ℕ → ℕ → Row
 row_of w q p = row_at (member_at w q) p
@@ -23,6 +24,22 @@ HasOwnLog w = (p : ℕ) → p < size w → (row_of w p p).got ≡ length (log_of
 abbrev pub ConfirmedEverywhere : World → Type 0
 ConfirmedEverywhere w = (q p : ℕ) → q < size w → p < size w → (row_of w p p).forgot ≤ (row_of w q p).got
 
+-- The credit of a link, whose initial credit is this: what the sender may still send, the packets on the link,
+-- those counted since the last grant, and the grants under way are together the initial credit. So no link ever
+-- holds more packets than that; and a grant becomes credit whole.
+pub record CreditIsKept (initial : ℕ) (l : Link) : Type 0 where
+  pub kept : l.flow.sender.credit + length l.packets + l.flow.receiver.taken + sum l.flow.grants ≡ initial
+  pub few : length l.packets ≤ initial
+  pub whole : (regained l.flow).sender.credit ≡ l.flow.sender.credit + oldest_grant l.flow.grants
+
+-- each link keeps this credit
+abbrev pub KeepsCredit : ℕ → World → Type 0
+KeepsCredit initial w = (s : ℕ) → s < size w → CreditIsKept initial (link_at w s)
+
+-- each link keeps the credit with which it opened
+abbrev pub EachKeepsCredit : World → Type 0
+EachKeepsCredit w = (s : ℕ) → s < size w → CreditIsKept (link_at w s).flow.sender.initial (link_at w s)
+
 -- from one state to a later one the ring stays, logs only grow, numbers never fall,
 -- and what a member hears is what follows in the publisher's log
 pub record NeverFalls (w w' : World) : Type 0 where
@@ -39,3 +56,15 @@ pub record IsLawful (w : World) : Type 0 where
   pub within : StaysWithinLogs w
   pub own : HasOwnLog w
   pub confirmed : ConfirmedEverywhere w
+  pub credit : EachKeepsCredit w
+
+-- A ring is quiet when no link holds a packet, and every message has come round to its publisher, and its
+-- acknowledgement too.
+pub record IsQuiet (w : World) : Type 0 where
+  pub empty : (s : ℕ) → s < size w → (link_at w s).packets ≡ []
+  pub come_round : (p : ℕ) → p < size w → (row_of w p p).retired ≡ length (log_of w p)
+
+-- every message of every publisher is confirmed, and every member has heard all of them
+pub record HasHeardAll (w : World) : Type 0 where
+  pub confirmed : (p : ℕ) → p < size w → (row_of w p p).forgot ≡ length (log_of w p)
+  pub heard : (q p : ℕ) → q < size w → p < size w → (row_of w q p).heard ≡ log_of w p

@@ -2,8 +2,10 @@
 use Rattle.std.specs.Prelude.{ℕ, ◌+◌, Bool, true, false, if◌then◌else◌, ◌&&◌, List, [], ◌∷◌, ◌++◌, map, take, drop, slice_set, slice_index_or, nat_eq, max}
 use Rattle.std.specs.List.{range_with_len, list_all}
 use Rattle.ring_names.specs.declared.message.Message.{Message}
+use Rattle.credit_flow.specs.Credit.{sent, gained, took, grant_due}
+use Rattle.credit_flow.specs.Link.{with_grant, oldest as oldest_grant}
 use Rattle.ring_world.specs.declared.numbers.Numbers.{Numbers}
-use Rattle.ring_world.specs.World.{Row, Member, Packet, Sending, Link, no_packet, row_at, numbers_at}
+use Rattle.ring_world.specs.World.{Row, Member, Packet, Sending, Flow, Link, no_packet, row_at, numbers_at}
 
 -- ---- publishing
 
@@ -40,16 +42,24 @@ next_packet n y s = record { numbers = map (λ p. next_numbers s.fresh (row_at y
 abbrev pub after_put : Packet → Sending
 after_put k = record { fresh = false; sent = k }
 
+-- a packet takes one credit
+abbrev pub spent : Flow → Flow
+spent f = record f { sender = sent f.sender }
+
 abbrev pub pushed : Link → Packet → Link
-pushed l k = record l { packets = l.packets ++ k ∷ []; sending = after_put k }
+pushed l k = record l { packets = l.packets ++ k ∷ []; sending = after_put k; flow = spent l.flow }
 
 -- ---- taking a packet
 
 abbrev pub oldest : Link → Packet
 oldest l = slice_index_or l.packets 0 no_packet
 
+-- the receiver counts a packet, and the grant that is due then goes under way
+abbrev pub counted : Flow → Flow
+counted f = record f { receiver = took f.receiver; grants = with_grant f.grants (grant_due f.receiver) }
+
 abbrev pub popped : Link → Link
-popped l = record l { packets = drop 1 l.packets }
+popped l = record l { packets = drop 1 l.packets; flow = counted l.flow }
 
 -- messages lo + 1 to hi of a log
 abbrev pub messages_between : {A : Type 0} → ℕ → ℕ → List A → List A
@@ -74,3 +84,12 @@ taken n i logs y k = record y { rows = map (λ p. taken_row (nat_eq p i) (logs p
 
 abbrev pub with_rows : Member → List Row → Member
 with_rows y rows = record y { rows = rows }
+
+-- ---- gaining credit
+
+-- the oldest grant under way becomes credit
+abbrev pub regained : Flow → Flow
+regained f = record f { sender = gained f.sender (oldest_grant f.grants); grants = drop 1 f.grants }
+
+abbrev pub granted : Link → Link
+granted l = record l { flow = regained l.flow }

@@ -6,7 +6,7 @@ use Rattle.ring_world.specs.declared.numbers.Numbers.{Numbers}
 use Rattle.ring_world.specs.declared.seat.KnownOrigin.{KnownOrigin}
 use Rattle.ring_world.specs.declared.seat.Seat.{Seat}
 use Rattle.ring_world.specs.declared.wire.Wire.{Wire}
-use Rattle.ring_world.specs.World.{Row, Member, Packet, Link, World, no_row, no_member, no_link}
+use Rattle.ring_world.specs.World.{Row, Member, Packet, Flow, Link, World, no_row, no_member, no_link}
 
 abbrev pub row_of : KnownOrigin → Row
 row_of r = record { got = r.got; forgot = r.forgot; retired = r.retired; heard = r.heard.items }
@@ -21,8 +21,11 @@ packet_with numbers = record { numbers = numbers }
 abbrev pub packet_of : Vec Numbers Global → Packet
 packet_of k = record { numbers = k.items }
 
+abbrev pub flow_of : Wire → Flow
+flow_of l = record { sender = l.sender; receiver = l.receiver; grants = l.grants.items }
+
 abbrev pub link_of : Wire → Link
-link_of l = record { packets = map packet_of l.packets.items; sending = record { fresh = l.fresh; sent = packet_of l.sent } }
+link_of l = record { packets = map packet_of l.packets.items; sending = record { fresh = l.fresh; sent = packet_of l.sent }; flow = flow_of l }
 
 abbrev pub world_of : List Seat → List Wire → World
 world_of seats wires = record { members = map member_of seats; links = map link_of wires }

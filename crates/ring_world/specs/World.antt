@@ -1,6 +1,7 @@
 -- The state of the ring: what each member knows of each origin, and what stands on each link.
 use Rattle.std.specs.Prelude.{◌≡◌, ◌<◌, ◌≤◌, ℕ, suc, zero, ◌-◌, Bool, true, List, [], length, slice_index_or, Option, position, bytes_eq}
 use Rattle.ring_names.specs.declared.message.Message.{Message}
+use Rattle.credit_flow.specs.Credit.{Credit, Counted, full_credit, none_taken}
 use Rattle.ring_world.specs.declared.numbers.Numbers.{Numbers}
 
 -- What a member knows of one origin: the number up to which it has received the origin's messages, the
@@ -27,10 +28,18 @@ pub record Sending : Type 0 where
   pub fresh : Bool
   pub sent : Packet
 
--- A link: its packets on the way, the oldest first, and its sending side.
+-- The credit of a link, as credit_flow has it: what its sender may still send, what its receiver has taken
+-- since the last grant, and the grants under way back to the sender, the oldest first.
+pub record Flow : Type 0 where
+  pub sender : Credit
+  pub receiver : Counted
+  pub grants : List ℕ
+
+-- A link: its packets on the way, the oldest first, its sending side, and its credit.
 pub record Link : Type 0 where
   pub packets : List Packet
   pub sending : Sending
+  pub flow : Flow
 
 -- The members in ring order, and the links by their senders.
 pub record World : Type 0 where
@@ -52,8 +61,12 @@ no_member = record { name = []; log = []; rows = [] }
 abbrev pub no_sending : Sending
 no_sending = record { fresh = true; sent = no_packet }
 
+-- the flow of a link with these numbers, on which nothing was sent
+abbrev pub full_flow : ℕ → ℕ → Flow
+full_flow initial more = record { sender = full_credit initial more; receiver = none_taken initial more; grants = [] }
+
 abbrev pub no_link : Link
-no_link = record { packets = []; sending = no_sending }
+no_link = record { packets = []; sending = no_sending; flow = full_flow 0 0 }
 
 -- an origin without a row counts with 0 in all its numbers
 abbrev pub row_at : Member → ℕ → Row

@@ -12,6 +12,8 @@ pub enum Event {
     Put { by: Name },
     /// The member takes the oldest packet from the link of its left neighbour.
     Take { by: Name },
+    /// The member gains the oldest grant under way on its link as credit, as `credit_flow:handle_bump_msg`.
+    Gain { by: Name },
 }
 
 impl Event {
@@ -26,6 +28,7 @@ impl Event {
             }),
             Event::Put { by } => Ok(Event::Put { by: *by }),
             Event::Take { by } => Ok(Event::Take { by: *by }),
+            Event::Gain { by } => Ok(Event::Gain { by: *by }),
         }
     }
 }

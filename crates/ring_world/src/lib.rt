@@ -4,12 +4,14 @@
 
 mod cast;
 mod event;
+mod gain;
 mod laws;
 mod log;
 mod numbers;
 mod opening;
 mod place;
 mod put;
+mod quiet;
 mod seat;
 mod shown;
 mod step;
@@ -20,7 +22,10 @@ mod wire;
 mod world;
 
 pub use event::Event;
-pub use laws::{every_state_is_lawful, numbers_never_fall};
+pub use laws::{
+    a_quiet_ring_has_heard_all, every_link_keeps_its_credit, every_state_is_lawful,
+    numbers_never_fall,
+};
 pub use numbers::Numbers;
 pub use opening::are_opening_names;
 pub use shown::{Counts, MemberState};

@@ -6,7 +6,7 @@ ghost use Rattle.ring_world.specs.View.{member_of, link_of};
 
 use crate::seat::Seat;
 use crate::wire::Wire;
-use ring_names::{Name, OutOfMemory};
+use ring_names::{CreditSpec, Name, OutOfMemory};
 use std::alloc::Global;
 
 /// How many members a ring ever has.
@@ -56,12 +56,16 @@ pub(crate) fn opening_seats(alloc: Global, members: &[Name]) -> Result<Vec<Seat>
 }
 
 /// A link for each name.
-pub(crate) fn opening_wires(alloc: Global, members: &[Name]) -> Result<Vec<Wire>, OutOfMemory>
-    ensures { IfOk result (λ v. map link_of v.items ≡ map opening_link members.now) }
+pub(crate) fn opening_wires(
+    alloc: Global,
+    members: &[Name],
+    credit: CreditSpec,
+) -> Result<Vec<Wire>, OutOfMemory>
+    ensures { IfOk result (λ v. map link_of v.items ≡ map (opening_link credit) members.now) }
 {
     let mut wires = Vec::new(alloc);
     for _name in members {
-        if wires.push(Wire::opening(alloc)).is_err() {
+        if wires.push(Wire::opening(alloc, credit)).is_err() {
             return Err(OutOfMemory);
         }
     }

@@ -1,8 +1,9 @@
 //! A member puts a packet on the link to its right neighbour.
-ghost use Rattle.std.specs.Prelude.{◌≡◌, ◌<◌, length, OnOk, OnErr};
+ghost use Rattle.std.specs.Prelude.{◌≡◌, ◌<◌, false, length, OnOk, OnErr};
 ghost use Rattle.ring_world.specs.Refusal.{put_refusal, answer_of};
 ghost use Rattle.ring_world.specs.Effect.{put_at};
-ghost use Rattle.ring_world.specs.View.{world_of};
+ghost use Rattle.credit_flow.specs.Credit.{is_blocked};
+ghost use Rattle.ring_world.specs.View.{link_in, world_of};
 
 use crate::seat::Seat;
 use crate::wire::Wire;
@@ -16,6 +17,9 @@ pub(crate) fn enabled(seats: &[Seat], wires: &[Wire], place: usize) -> Result<()
     requires links { length wires.now ≡ length seats.now }
     ensures { result ≡ answer_of (put_refusal (world_of seats.now wires.now) place) }
 {
+    if wires[place].is_blocked() {
+        return Err(Reason::NoCredit);
+    }
     if wires[place].has_nothing_new(seats.len(), &seats[place]) {
         return Err(Reason::NothingNew);
     }
@@ -32,6 +36,7 @@ pub(crate) fn put(
 ) -> Result<(), OutOfMemory>
     requires within { place < length seats.now }
     requires links { length wires.old ≡ length seats.now }
+    requires credit { is_blocked (link_in wires.old place).flow.sender ≡ false }
     ensures ok { OnOk result (world_of seats.now wires.new
         ≡ put_at (world_of seats.now wires.old) place) }
     ensures err { OnErr result (world_of seats.now wires.new ≡ world_of seats.now wires.old) }

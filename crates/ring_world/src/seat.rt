@@ -1,5 +1,5 @@
 //! A member's seat in the machine.
-ghost use Rattle.std.specs.Prelude.{◌≡◌, ℕ, ◌+◌, ◌^◌, ◌<◌, ◌≤◌, [], ◌∷◌, ◌++◌, length, map, nat_eq, bytes_eq, vec_len, vec_capacity, IfOk, OnOk, OnErr};
+ghost use Rattle.std.specs.Prelude.{◌≡◌, ◌↔◌, IsTrue, ℕ, ◌+◌, ◌^◌, ◌<◌, ◌≤◌, [], ◌∷◌, ◌++◌, length, map, nat_eq, bytes_eq, vec_len, vec_capacity, IfOk, OnOk, OnErr};
 ghost use Rattle.std.specs.List.{range_with_len};
 ghost use Rattle.ring_world.specs.World.{no_row, row_at, numbers_at as the_numbers};
 ghost use Rattle.ring_world.specs.Member.{published as is_published, published_row, taken_with, with_rows};
@@ -109,6 +109,19 @@ impl Seat {
             Some(row) => (row.got, row.forgot),
             None => (0, 0),
         }
+    }
+
+    /// Whether its messages have come round to it, and their acknowledgement too; the seat's place is
+    /// given.
+    pub(crate) fn has_come_round(&self, place: usize) -> bool
+        ensures { IsTrue result ↔ ((row_at (member_of self.now) place).retired
+            ≡ length (member_of self.now).log) }
+    {
+        let retired = match self.rows.get(place) {
+            Some(row) => row.retired,
+            None => 0,
+        };
+        retired == self.log.len() as u64
     }
 
     /// Publishes a message; the seat's place is given.

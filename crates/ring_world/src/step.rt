@@ -9,7 +9,7 @@ use crate::event::Event;
 use crate::place::place_of;
 use crate::seat::Seat;
 use crate::wire::Wire;
-use crate::{cast, put, take};
+use crate::{cast, gain, put, take};
 use ring_names::{Message, OutOfMemory, Reason};
 use std::alloc::Global;
 
@@ -30,6 +30,10 @@ pub(crate) fn enabled(seats: &[Seat], wires: &[Wire], event: &Event) -> Result<(
         Event::Take { by } => match place_of(seats, by) {
             None => Err(Reason::UnknownMember),
             Some(place) => take::enabled(seats, wires, place),
+        },
+        Event::Gain { by } => match place_of(seats, by) {
+            None => Err(Reason::UnknownMember),
+            Some(place) => gain::enabled(wires, place),
         },
     }
 }
@@ -62,6 +66,13 @@ pub(crate) fn step(
         Event::Take { by } => match place_of(seats, by) {
             None => unreachable!(),
             Some(place) => take::take(alloc, seats, wires, place),
+        },
+        Event::Gain { by } => match place_of(seats, by) {
+            None => unreachable!(),
+            Some(place) => {
+                gain::gain(wires, place);
+                Ok(())
+            }
         },
     }
 }

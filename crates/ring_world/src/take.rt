@@ -69,6 +69,7 @@ fn take_from(
     ensures err_seats { OnErr result (map member_of seats.new ≡ map member_of seats.old) }
     ensures err_wire { OnErr result (link_of wire.new ≡ link_of wire.old) }
 {
+    wire.reserve_grant()?;
     let packet = wire.oldest();
     let mut news = all_news(alloc, seats, place, packet)?;
     seats[place].take(place, packet, &mut news)?;

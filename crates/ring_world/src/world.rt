@@ -1,21 +1,22 @@
 //! The machine.
-ghost use Rattle.std.specs.Prelude.{◌≡◌, ◌<◌, length, take, Option, Some, None, Result, Ok, Err, IsSome, IfSome, IfOk, IfErr, OnOk, OnErr};
+ghost use Rattle.std.specs.Prelude.{◌≡◌, ◌↔◌, IsTrue, ◌<◌, length, take, Option, Some, None, Result, Ok, Err, IsSome, IfSome, IfOk, IfErr, OnOk, OnErr};
 ghost use Rattle.ring_names.specs.declared.reason.Reason.{Reason};
 ghost use Rattle.ring_world.specs.World.{AreOpeningNames, place_of as the_place};
 ghost use Rattle.ring_world.specs.Refusal.{refusal, answer_of};
 ghost use Rattle.ring_world.specs.Effect.{effect};
 ghost use Rattle.ring_world.specs.Run.{opening};
-ghost use Rattle.ring_world.specs.Laws.{IsLawful};
+ghost use Rattle.ring_world.specs.Laws.{IsLawful, IsQuiet};
 ghost use Rattle.ring_world.specs.Shown.{heard_by, got_by, log_by, id_at, counts_at, state_at};
 
 use crate::event::Event;
 use crate::opening::{opening_seats, opening_wires};
 use crate::place::place_of;
+use crate::quiet::is_quiet;
 use crate::seat::Seat;
 use crate::shown::{Counts, MemberState};
 use crate::wire::Wire;
 use crate::{shown, step};
-use ring_names::{MemberId, Message, Name, OutOfMemory, Reason};
+use ring_names::{CreditSpec, MemberId, Message, Name, OutOfMemory, Reason};
 use std::alloc::Global;
 use std::marker::Model;
 
@@ -54,13 +55,17 @@ impl Model for World {
 
 impl World {
     /// The opening of a ring of these members, in ring order: nobody has published, and each link is
-    /// empty.
-    pub fn opening(alloc: Global, members: &[Name]) -> Result<World, OutOfMemory>
+    /// empty and has its whole credit.
+    pub fn opening(
+        alloc: Global,
+        members: &[Name],
+        credit: CreditSpec,
+    ) -> Result<World, OutOfMemory>
         requires { AreOpeningNames members.now }
-        ensures { IfOk result (λ w. w ≡ opening members.now) }
+        ensures { IfOk result (λ w. w ≡ opening credit members.now) }
     {
         let seats = opening_seats(alloc, members)?;
-        let wires = opening_wires(alloc, members)?;
+        let wires = opening_wires(alloc, members, credit)?;
         Ok(World {
             alloc,
             seats,
@@ -139,6 +144,15 @@ impl World {
             (λ place. result ≡ state_at self.now place) }
     {
         MemberState::Up { missing: Some(0) }
+    }
+
+    /// Whether the ring is quiet: no packet is under way, and every message has come round to its
+    /// publisher, and its acknowledgement too. It wants no memory.
+    #[tactic(auto, using(crate::proofs::Running::running_links))]
+    pub fn quiet(&self) -> bool
+        ensures { IsTrue result ↔ IsQuiet self.now }
+    {
+        is_quiet(&self.seats, &self.wires)
     }
 
     /// What a member has published, and how much of it every member is known to have. It wants no

@@ -4,4 +4,4 @@ use Rattle.ring_world.specs.Run.{opening_link}
 use Rattle.ring_world.proofs.opening.opening_wires.Given as goal
 
 abbrev pub invariant-loop-name : goal.invariant-loop-name
-invariant-loop-name l = map link_of l.wires.items ≡ map opening_link (take l._name-index l.members)
+invariant-loop-name l = map link_of l.wires.items ≡ map (opening_link l.credit) (take l._name-index l.members)
