@@ -12,10 +12,10 @@ use Rattle.gm_member.specs.declared.taken.Taken.{Taken}
 use Rattle.gm_member.specs.Held.{Held, Parcel, published_held, pack_refused, packed, parcel_of, accepted_held}
 use Rattle.gm_member.specs.View.{known_at}
 use Rattle.gm_member.specs.News.{news_of}
-use Rattle.gm_member.specs.Stands.{Stands, WhereItStands, StepsTo, publishing, IsPutPacket, IsNextPacket, taken_in, held_in}
+use Rattle.gm_member.specs.Stands.{Stands, WhereItStands, HasCredit, StepsTo, publishing, IsPutPacket, IsNextPacket, taken_in, held_in}
 use Rattle.gm_member.proofs.Reached.{IsFit, run_fit}
 use Rattle.gm_member.proofs.PublishStands.{publish_stands}
-use Rattle.gm_member.proofs.PackStands.{row_in, pack_refuses, pack_stands, pack_lines}
+use Rattle.gm_member.proofs.PackStands.{row_in, pack_refuses_as_put, pack_stands, pack_lines}
 use Rattle.gm_member.proofs.AcceptStands.{accept_stands, news_are}
 
 -- ---- in one state
@@ -40,13 +40,13 @@ publish_steps w i h m l f s =
 pub publish_number : (w : World) (i : ℕ) (h : Held) → i < size w → IsFit w → Stands w i h → (known_at h.member.rows h.place).got ≡ length (log_of w i)
 publish_number w i h l f s = ap (λ x. (known_at x.member.rows x.place).got) s ∙ ap (λ r. r.got) (row_in w i i (omega (arith, f.few))) ∙ f.good.own i l
 
-pub put_refusal_is : (w : World) (i : ℕ) (h : Held) → i < size w → IsFit w → Stands w i h → pack_refused h ≡ refusal w (event.Put h.member.name)
-put_refusal_is w i h l f s =
-    ap pack_refused s ∙ pack_refuses w i l f ∙ sym (ap (λ o. of_member o (put_refusal w)) (found_by_name w i h l f s))
+pub put_refusal_is : (w : World) (i : ℕ) (h : Held) → HasCredit w i → i < size w → IsFit w → Stands w i h → pack_refused h ≡ refusal w (event.Put h.member.name)
+put_refusal_is w i h can l f s =
+    ap pack_refused s ∙ pack_refuses_as_put w i can l f ∙ sym (ap (λ o. of_member o (put_refusal w)) (found_by_name w i h l f s))
 
-pub pack_steps : (w : World) (i : ℕ) (h : Held) → pack_refused h ≡ None → i < size w → IsFit w → Stands w i h → StepsTo w i (event.Put h.member.name) (packed h)
-pack_steps w i h e l f s = (
-  sym (put_refusal_is w i h l f s) ∙ e,
+pub pack_steps : (w : World) (i : ℕ) (h : Held) → pack_refused h ≡ None → HasCredit w i → i < size w → IsFit w → Stands w i h → StepsTo w i (event.Put h.member.name) (packed h)
+pack_steps w i h e can l f s = (
+  sym (put_refusal_is w i h can l f s) ∙ e,
   ap packed s ∙ pack_stands w i l f ∙ ap (λ v. held_in v i) (sym (ap (λ o. at_place o w (put_at w)) (found_by_name w i h l f s))),
 )
 
@@ -65,28 +65,28 @@ accept_news w i h k n l f s = ap (λ x. news_of x k) s ∙ news_are w i k l f n.
 -- ---- in every state of every run
 
 pub publish_lifts : (h h' : Held) (m : Message) → h' ≡ published_held h m → WhereItStands h (λ w i. StepsTo w i (publishing h.member.name m) h')
-publish_lifts h h' m e names events i are r l s =
-    let t : StepsTo (last (opening names) events) i (publishing h.member.name m) (published_held h m) = publish_steps (last (opening names) events) i h m l (run_fit names events are r) s in
+publish_lifts h h' m e credit names events i are r l s =
+    let t : StepsTo (last (opening credit names) events) i (publishing h.member.name m) (published_held h m) = publish_steps (last (opening credit names) events) i h m l (run_fit credit names events are r) s in
     (t.0, e ∙ t.1)
 
 pub number_lifts : (h : Held) (n : ℕ) → n ≡ (known_at h.member.rows h.place).got + 1 → WhereItStands h (λ w i. n ≡ length (log_of w i) + 1)
-number_lifts h n e names events i are r l s = e ∙ ap (λ k. k + 1) (publish_number (last (opening names) events) i h l (run_fit names events are r) s)
+number_lifts h n e credit names events i are r l s = e ∙ ap (λ k. k + 1) (publish_number (last (opening credit names) events) i h l (run_fit credit names events are r) s)
 
-pub pack_lifts : (h h' : Held) → pack_refused h ≡ None → h' ≡ packed h → WhereItStands h (λ w i. StepsTo w i (event.Put h.member.name) h')
-pack_lifts h h' en e names events i are r l s =
-    let t : StepsTo (last (opening names) events) i (event.Put h.member.name) (packed h) = pack_steps (last (opening names) events) i h en l (run_fit names events are r) s in
+pub pack_lifts : (h h' : Held) → pack_refused h ≡ None → h' ≡ packed h → WhereItStands h (λ w i. HasCredit w i → StepsTo w i (event.Put h.member.name) h')
+pack_lifts h h' en e credit names events i are r l s can =
+    let t : StepsTo (last (opening credit names) events) i (event.Put h.member.name) (packed h) = pack_steps (last (opening credit names) events) i h en can l (run_fit credit names events are r) s in
     (t.0, e ∙ t.1)
 
 pub pack_put_lifts : (h : Held) → WhereItStands h (λ w i. IsPutPacket w i (parcel_of h))
-pack_put_lifts h names events i are r l s = pack_is_put (last (opening names) events) i h l (run_fit names events are r) s
+pack_put_lifts h credit names events i are r l s = pack_is_put (last (opening credit names) events) i h l (run_fit credit names events are r) s
 
-pub pack_refusal_lifts : (h : Held) → WhereItStands h (λ w i. pack_refused h ≡ refusal w (event.Put h.member.name))
-pack_refusal_lifts h names events i are r l s = put_refusal_is (last (opening names) events) i h l (run_fit names events are r) s
+pub pack_refusal_lifts : (h : Held) → WhereItStands h (λ w i. HasCredit w i → pack_refused h ≡ refusal w (event.Put h.member.name))
+pack_refusal_lifts h credit names events i are r l s can = put_refusal_is (last (opening credit names) events) i h can l (run_fit credit names events are r) s
 
 pub accept_lifts : (h h' : Held) (k : Parcel) → h' ≡ accepted_held h k → WhereItStands h (λ w i. IsNextPacket w i k → StepsTo w i (event.Take h.member.name) h')
-accept_lifts h h' k e names events i are r l s n =
-    let t : StepsTo (last (opening names) events) i (event.Take h.member.name) (accepted_held h k) = accept_steps (last (opening names) events) i h k n l (run_fit names events are r) s in
+accept_lifts h h' k e credit names events i are r l s n =
+    let t : StepsTo (last (opening credit names) events) i (event.Take h.member.name) (accepted_held h k) = accept_steps (last (opening credit names) events) i h k n l (run_fit credit names events are r) s in
     (t.0, e ∙ t.1)
 
 pub news_lift : (h : Held) (k : Parcel) (t : List Taken) → t ≡ news_of h k → WhereItStands h (λ w i. IsNextPacket w i k → t ≡ taken_in w i)
-news_lift h k t e names events i are r l s n = e ∙ accept_news (last (opening names) events) i h k n l (run_fit names events are r) s
+news_lift h k t e credit names events i are r l s n = e ∙ accept_news (last (opening credit names) events) i h k n l (run_fit credit names events are r) s

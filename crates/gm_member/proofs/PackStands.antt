@@ -3,11 +3,11 @@ use Rattle.std.proofs.Common.{◌≡◌, ◌≢◌, ℕ, ◌<◌, ◌≤◌, Boo
 use Rattle.std.proofs.lemmas.Bool.{cases_lt}
 use Rattle.std.proofs.lemmas.List.FromFn.{length-map-range_with_len}
 use Rattle.ring_names.specs.declared.message.Message.{Message}
-use Rattle.ring_names.specs.declared.reason.Reason.TheVariants.{NothingNew}
+use Rattle.ring_names.specs.declared.reason.Reason.TheVariants.{NoCredit, NothingNew}
 use Rattle.ring_world.specs.declared.numbers.Numbers.{Numbers}
 use Rattle.ring_world.specs.World.{World, Packet, Row, no_row, no_numbers, row_at, numbers_at, member_at, link_at, log_of, size}
-use Rattle.ring_world.specs.Member.{is_sent, next_numbers, next_packet, pushed}
-use Rattle.ring_world.specs.Refusal.{refuse_if, put_refusal}
+use Rattle.ring_world.specs.Member.{has_nothing_new, is_sent, next_numbers, next_packet, pushed}
+use Rattle.ring_world.specs.Refusal.{refuse_if, or_else, put_refusal}
 use Rattle.ring_world.specs.Effect.{put_at}
 use Rattle.ring_world.specs.Laws.{row_of}
 use Rattle.ring_world.specs.Shown.{id_of}
@@ -15,7 +15,7 @@ use Rattle.ring_world.proofs.Writes.{link_same, link_other}
 use Rattle.ring_world.proofs.KeptPut.{numbers_at-next_packet}
 use Rattle.ring_world.proofs.Sized.{numbers_past}
 use Rattle.gm_member.specs.Held.{places, carried_now, pack_refused, packed, parcel_of}
-use Rattle.gm_member.specs.Stands.{held_in, carried_in, lines_in}
+use Rattle.gm_member.specs.Stands.{held_in, carried_in, lines_in, HasCredit}
 use Rattle.gm_member.proofs.Places.{map-range_same, all-range_same_from, all-range_longer, tabled_at}
 use Rattle.gm_member.proofs.Reached.{IsFit, row_past, sent_past}
 
@@ -50,12 +50,17 @@ leaving_at w i p l h =
 pub nothing_is_sent : (w : World) (i p : ℕ) → i < size w → IsFit w → size w ≤ p → is_sent (row_of w i p) (numbers_at (link_at w i).sending.sent p) ≡ true
 nothing_is_sent w i p l h ge = ap (λ r. is_sent r (numbers_at (link_at w i).sending.sent p)) (row_past w i p h.good l ge) ∙ ap (λ k. is_sent no_row k) (sent_past w i p h.sized ge)
 
-pub pack_refuses : (w : World) (i : ℕ) → i < size w → IsFit w → pack_refused (held_in w i) ≡ put_refusal w i
+pub pack_refuses : (w : World) (i : ℕ) → i < size w → IsFit w → pack_refused (held_in w i) ≡ refuse_if (has_nothing_new (size w) (member_at w i) (link_at w i).sending) NothingNew
 pack_refuses w i l h =
     ap (λ b. refuse_if b NothingNew)
     (all-range_same_from (λ p. is_sent (row_at (held_in w i).member p) (numbers_at (held_in w i).sending.sent p)) (λ p. is_sent (row_of w i p) (numbers_at (link_at w i).sending.sent p)) 0 64
     (λ p _ pl. let lt : p < 64 = omega arith in ap (λ r. is_sent r (numbers_at (held_in w i).sending.sent p)) (row_in w i p lt) ∙ ap (λ k. is_sent (row_of w i p) k) (sent_in w i p lt))
     ∙ all-range_longer (λ p. is_sent (row_of w i p) (numbers_at (link_at w i).sending.sent p)) (size w) 64 h.few (λ p ge. nothing_is_sent w i p l h ge))
+
+-- on a link that has credit this is all that the ring asks
+pub pack_refuses_as_put : (w : World) (i : ℕ) → HasCredit w i → i < size w → IsFit w → pack_refused (held_in w i) ≡ put_refusal w i
+pack_refuses_as_put w i can l h =
+    pack_refuses w i l h ∙ sym (ap (λ b. or_else (refuse_if b NoCredit) (refuse_if (has_nothing_new (size w) (member_at w i) (link_at w i).sending) NothingNew)) can)
 
 -- ---- the numbers that are sent
 

@@ -1,6 +1,7 @@
 -- What the lemmas on members need of a state of a run.
 use Rattle.std.proofs.Common.{◌≡◌, ℕ, ◌<◌, ◌≤◌, List, sym, subst, arith, Some}
 use Rattle.std.proofs.lemmas.List.{get_or_past}
+use Rattle.ring_names.specs.declared.numbers.CreditSpec.{CreditSpec}
 use Rattle.ring_world.specs.declared.event.Event.{Event}
 use Rattle.ring_world.specs.World.{World, AreOpeningNames, no_row, no_numbers, numbers_at, member_at, link_at, size, place_of}
 use Rattle.ring_world.specs.Run.{IsRun, opening, last}
@@ -16,12 +17,12 @@ pub record IsFit (w : World) : Type 0 where
   pub few : size w ≤ 64
   pub found : (i : ℕ) → i < size w → place_of w.members (member_at w i).name ≡ Some i
 
-pub run_fit : (names : List (List ℕ)) (events : List Event) → AreOpeningNames names → IsRun (opening names) events → IsFit (last (opening names) events)
-run_fit names events are r = record {
-  good = run_good names events r;
-  sized = subst (λ n. IsSized n (last (opening names) events)) (sym (run_size names events r)) (run_sized names events r);
-  few = omega (arith, run_size names events r, are.few);
-  found = λ i l. run_place_of names events i are.different r l;
+pub run_fit : (credit : CreditSpec) (names : List (List ℕ)) (events : List Event) → AreOpeningNames names → IsRun (opening credit names) events → IsFit (last (opening credit names) events)
+run_fit credit names events are r = record {
+  good = run_good credit names events r;
+  sized = subst (λ n. IsSized n (last (opening credit names) events)) (sym (run_size credit names events r)) (run_sized credit names events r);
+  few = omega (arith, run_size credit names events r, are.few);
+  found = λ i l. run_place_of credit names events i are.different r l;
 }
 
 -- nothing is known beyond the ring

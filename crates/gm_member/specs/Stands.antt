@@ -2,6 +2,8 @@
 use Rattle.std.specs.Prelude.{◌≡◌, ℕ, zero, suc, ◌<◌, ◌++◌, Bool, true, false, List, [], map, take, max, nat_eq, None}
 use Rattle.ring_names.specs.declared.message.Message.{Message}
 use Rattle.ring_names.specs.declared.message.Message.TheVariants.{Cast}
+use Rattle.ring_names.specs.declared.numbers.CreditSpec.{CreditSpec}
+use Rattle.credit_flow.specs.Credit.{is_blocked}
 use Rattle.ring_world.specs.declared.event.Event.{Event}
 use Rattle.ring_world.specs.declared.event.Event.TheVariants as event
 use Rattle.ring_world.specs.declared.numbers.Numbers.{Numbers}
@@ -35,10 +37,15 @@ carried_in log p k = record { origin = id_of p; lo = k.lo; all = take k.got log;
 abbrev pub lines_in : World → Packet → List Carried
 lines_in w k = map (λ p. carried_in (log_of w p) p (numbers_at k p)) places
 
--- P holds of every state of a run, and place there, at which a member that holds h stands
+-- P holds of every state of a run with any credit, and place there, at which a member that holds h stands
 abbrev pub WhereItStands : Held → (World → ℕ → Type 0) → Type 0
-WhereItStands h P = (names : List (List ℕ)) (events : List Event) (i : ℕ) → AreOpeningNames names → IsRun (opening names) events
-    → i < size (last (opening names) events) → Stands (last (opening names) events) i h → P (last (opening names) events) i
+WhereItStands h P = (credit : CreditSpec) (names : List (List ℕ)) (events : List Event) (i : ℕ)
+    → AreOpeningNames names → IsRun (opening credit names) events → i < size (last (opening credit names) events)
+    → Stands (last (opening credit names) events) i h → P (last (opening credit names) events) i
+
+-- the link of member i has credit
+abbrev pub HasCredit : World → ℕ → Type 0
+HasCredit w i = is_blocked (link_at w i).flow.sender ≡ false
 
 -- the event is enabled, and a member that holds h stands at place i after it
 abbrev pub StepsTo : World → ℕ → Event → Held → Type 0

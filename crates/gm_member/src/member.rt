@@ -40,7 +40,7 @@ impl Member {
     ghost use Rattle.gm_member.specs.Held.{founded, published_held, pack_refused, packed, parcel_of, accepted_held};
     ghost use Rattle.gm_member.specs.View.{held_of, known_at};
     ghost use Rattle.gm_member.specs.News.{news_of};
-    ghost use Rattle.gm_member.specs.Stands.{WhereItStands, StepsTo, IsPutPacket, IsNextPacket, publishing, taken_in};
+    ghost use Rattle.gm_member.specs.Stands.{WhereItStands, HasCredit, StepsTo, IsPutPacket, IsNextPacket, publishing, taken_in};
     ghost use Rattle.ring_world.specs.declared.event.Event.TheVariants.{Put, Take};
     ghost use Rattle.ring_world.specs.World.{log_of};
     ghost use Rattle.ring_world.specs.Refusal.{refusal};
@@ -129,7 +129,8 @@ impl Member {
     }
 
     /// A packet for the right neighbour with all that is known of each origin. Refused with
-    /// `NothingNew` where all numbers equal those last sent.
+    /// `NothingNew` where all numbers equal those last sent. The member keeps no credit of its link:
+    /// whether the link has any is its caller's part.
     pub fn pack(&mut self) -> Result<Packet, MemberFault>
         ensures enabled { OnOk result (pack_refused (held_of self.old) ≡ None) }
         ensures ok { OnOk result (held_of self.new ≡ packed (held_of self.old)) }
@@ -139,10 +140,15 @@ impl Member {
         ensures memory { IsErrOf result MemberFault.OutOfMemory → pack_refused (held_of self.old) ≡ None }
         ensures err { OnErr result (held_of self.new ≡ held_of self.old) }
 
-        // Wherever the member stands, this is the ring's event, and the packet is the one that it puts.
-        ensures steps { OnOk result (WhereItStands (held_of self.old) (λ w i. StepsTo w i (Put (held_of self.old).member.name) (held_of self.new))) }
-        ensures put { IfOk result (λ packet. WhereItStands (held_of self.old) (λ w i. IsPutPacket w i packet)) }
-        ensures not_enabled { WhereItStands (held_of self.old) (λ w i. (r : Reason) → refusal w (Put (held_of self.old).member.name) ≡ Some r → result ≡ Err (MemberFault.Refused r)) }
+        // Wherever the member stands and its link has credit, this is the ring's event, and the packet is
+        // the one that it puts.
+        ensures steps { OnOk result (WhereItStands (held_of self.old) (λ w i. HasCredit w i
+            → StepsTo w i (Put (held_of self.old).member.name) (held_of self.new))) }
+        ensures put { IfOk result (λ packet. WhereItStands (held_of self.old)
+            (λ w i. IsPutPacket w i packet)) }
+        ensures not_enabled { WhereItStands (held_of self.old) (λ w i. (r : Reason) → HasCredit w i
+            → refusal w (Put (held_of self.old).member.name) ≡ Some r
+            → result ≡ Err (MemberFault.Refused r)) }
     {
         match self.next_packet() {
             Ok(packet) => Ok(packet),

@@ -11,7 +11,7 @@ pub returns-in-Ok-clause-put : goal.returns-in-Ok-clause-put
 returns-in-Ok-clause-put c = subst (λ k. WhereItStands (held_of c.args.self.now) (λ w i. IsPutPacket w i k)) (sym c.in-Ok.ensures.packet) (pack_put_lifts (held_of c.args.self.now))
 
 pub returns-in-Ok-clause-not_enabled : goal.returns-in-Ok-clause-not_enabled
-returns-in-Ok-clause-not_enabled c = λ names events i are r l s q x. cc (sym x ∙ sym (pack_refusal_lifts (held_of c.args.self.now) names events i are r l s) ∙ c.in-Ok.ensures.enabled)
+returns-in-Ok-clause-not_enabled c = λ credit names events i are r l s q can x. cc (sym x ∙ sym (pack_refusal_lifts (held_of c.args.self.now) credit names events i are r l s can) ∙ c.in-Ok.ensures.enabled)
 
 pub returns-in-Err-clause-not_enabled : goal.returns-in-Err-clause-not_enabled
-returns-in-Err-clause-not_enabled c = λ names events i are r l s q x. c.in-Err.ensures.refused q (pack_refusal_lifts (held_of c.args.self.now) names events i are r l s ∙ x)
+returns-in-Err-clause-not_enabled c = λ credit names events i are r l s q can x. c.in-Err.ensures.refused q (pack_refusal_lifts (held_of c.args.self.now) credit names events i are r l s can ∙ x)
