@@ -73,5 +73,6 @@ abbrev pub taken_below : ℕ → World → ℕ → List Taken
 taken_below zero w i = []
 taken_below (suc p) w i = taken_below p w i ++ taken_of (nat_eq p i) p (log_of w p) (row_at (member_at w i) p).got (numbers_at (oldest (link_at w (left_of (size w) i))) p)
 
+-- all that a take at place i brings, in order of origin and number: what gm hands to its callback
 abbrev pub taken_in : World → ℕ → List Taken
 taken_in w i = taken_below most_members w i

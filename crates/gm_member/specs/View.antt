@@ -7,15 +7,19 @@ use Rattle.gm_member.specs.declared.packet.Line.{Line}
 use Rattle.gm_member.specs.declared.member.Member.{Member}
 use Rattle.gm_member.specs.Held.{Held, Carried}
 
+-- the row that a struct shows: it has received the messages that it holds
 abbrev pub row_of : Known → Row
 row_of r = record { got = length r.all.items; forgot = r.forgot; retired = r.retired; heard = r.all.items }
 
+-- the line that a struct shows
 abbrev pub carried_of : Line → Carried
 carried_of l = record { origin = l.origin; lo = l.lo; all = l.all.items; forgot = l.forgot }
 
+-- the row of the origin at place p
 abbrev pub known_at : List Row → ℕ → Row
 known_at rows p = slice_index_or rows p no_row
 
+-- the numbers last sent of the origin at place p
 abbrev pub numbers_of : List Numbers → ℕ → Numbers
 numbers_of sent p = slice_index_or sent p no_numbers
 

@@ -100,13 +100,16 @@ impl Member {
     /// A message joins the member's own log, and its number there, from 1, is answered.
     pub fn publish(&mut self, message: Message) -> Result<u64, (Message, MemberFault)>
         ensures ok { OnOk result (held_of self.new ≡ published_held (held_of self.old) message) }
-        ensures number { IfOk result (λ n. n ≡ (known_at (held_of self.old).member.rows (held_of self.old).place).got + 1) }
+        ensures number { IfOk result (λ n.
+            n ≡ (known_at (held_of self.old).member.rows (held_of self.old).place).got + 1) }
         ensures fault { IfErr result (λ e. (e.0 ≡ message) × (e.1 ≡ MemberFault.OutOfMemory)) }
         ensures err { OnErr result (held_of self.new ≡ held_of self.old) }
 
         // Wherever the member stands, this is the ring's event.
-        ensures steps { OnOk result (WhereItStands (held_of self.old) (λ w i. StepsTo w i (publishing (held_of self.old).member.name message) (held_of self.new))) }
-        ensures logged { IfOk result (λ n. WhereItStands (held_of self.old) (λ w i. n ≡ length (log_of w i) + 1)) }
+        ensures steps { OnOk result (WhereItStands (held_of self.old) (λ w i.
+            StepsTo w i (publishing (held_of self.old).member.name message) (held_of self.new))) }
+        ensures logged { IfOk result (λ n. WhereItStands (held_of self.old)
+            (λ w i. n ≡ length (log_of w i) + 1)) }
     {
         match self.log(message) {
             Ok(number) => Ok(number),
@@ -117,7 +120,8 @@ impl Member {
     /// The member's own part of `publish`.
     fn log(&mut self, message: Message) -> Result<u64, (Message, MemberFault)>
         ensures ok { OnOk result (held_of self.new ≡ published_held (held_of self.old) message) }
-        ensures number { IfOk result (λ n. n ≡ (known_at (held_of self.old).member.rows (held_of self.old).place).got + 1) }
+        ensures number { IfOk result (λ n.
+            n ≡ (known_at (held_of self.old).member.rows (held_of self.old).place).got + 1) }
         ensures fault { IfErr result (λ e. (e.0 ≡ message) × (e.1 ≡ MemberFault.OutOfMemory)) }
         ensures err { OnErr result (held_of self.new ≡ held_of self.old) }
     {
@@ -135,9 +139,12 @@ impl Member {
         ensures enabled { OnOk result (pack_refused (held_of self.old) ≡ None) }
         ensures ok { OnOk result (held_of self.new ≡ packed (held_of self.old)) }
         ensures packet { IfOk result (λ packet. packet ≡ parcel_of (held_of self.old)) }
-        ensures refused { (r : Reason) → pack_refused (held_of self.old) ≡ Some r → result ≡ Err (MemberFault.Refused r) }
-        ensures reason { (r : Reason) → result ≡ Err (MemberFault.Refused r) → pack_refused (held_of self.old) ≡ Some r }
-        ensures memory { IsErrOf result MemberFault.OutOfMemory → pack_refused (held_of self.old) ≡ None }
+        ensures refused { (r : Reason) → pack_refused (held_of self.old) ≡ Some r
+            → result ≡ Err (MemberFault.Refused r) }
+        ensures reason { (r : Reason) → result ≡ Err (MemberFault.Refused r)
+            → pack_refused (held_of self.old) ≡ Some r }
+        ensures memory { IsErrOf result MemberFault.OutOfMemory
+            → pack_refused (held_of self.old) ≡ None }
         ensures err { OnErr result (held_of self.new ≡ held_of self.old) }
 
         // Wherever the member stands and its link has credit, this is the ring's event, and the packet is
@@ -161,9 +168,12 @@ impl Member {
         ensures enabled { OnOk result (pack_refused (held_of self.old) ≡ None) }
         ensures ok { OnOk result (held_of self.new ≡ packed (held_of self.old)) }
         ensures packet { IfOk result (λ packet. packet ≡ parcel_of (held_of self.old)) }
-        ensures refused { (r : Reason) → pack_refused (held_of self.old) ≡ Some r → result ≡ Err (MemberFault.Refused r) }
-        ensures reason { (r : Reason) → result ≡ Err (MemberFault.Refused r) → pack_refused (held_of self.old) ≡ Some r }
-        ensures memory { IsErrOf result MemberFault.OutOfMemory → pack_refused (held_of self.old) ≡ None }
+        ensures refused { (r : Reason) → pack_refused (held_of self.old) ≡ Some r
+            → result ≡ Err (MemberFault.Refused r) }
+        ensures reason { (r : Reason) → result ≡ Err (MemberFault.Refused r)
+            → pack_refused (held_of self.old) ≡ Some r }
+        ensures memory { IsErrOf result MemberFault.OutOfMemory
+            → pack_refused (held_of self.old) ≡ None }
         ensures err { OnErr result (held_of self.new ≡ held_of self.old) }
     {
         if has_nothing_new(&self.known, &self.sent) {
@@ -195,8 +205,10 @@ impl Member {
 
         // Wherever the member stands and the packet is the oldest on its link, this is the ring's event,
         // and the messages are those of the logs.
-        ensures steps { OnOk result (WhereItStands (held_of self.old) (λ w i. IsNextPacket w i packet → StepsTo w i (Take (held_of self.old).member.name) (held_of self.new))) }
-        ensures taken { IfOk result (λ taken. WhereItStands (held_of self.old) (λ w i. IsNextPacket w i packet → taken.items ≡ taken_in w i)) }
+        ensures steps { OnOk result (WhereItStands (held_of self.old) (λ w i. IsNextPacket w i packet
+            → StepsTo w i (Take (held_of self.old).member.name) (held_of self.new))) }
+        ensures taken { IfOk result (λ taken. WhereItStands (held_of self.old)
+            (λ w i. IsNextPacket w i packet → taken.items ≡ taken_in w i)) }
     {
         match self.take_in(packet) {
             Ok(taken) => Ok(taken),

@@ -1,8 +1,10 @@
 -- What the journal of a played script has.
-use Rattle.std.proofs.Common.{◌≡◌, ℕ, ◌+◌, ◌<◌, ◌≤◌, ◌^◌, List, [], ◌∷◌, ◌++◌, length, take, drop, get_or, sym, ap, subst, ◌∙◌, append_assoc, append-nil}
+use Rattle.std.proofs.Common.{◌≡◌, ℕ, ◌+◌, ◌<◌, ◌≤◌, ◌^◌, List, [], ◌∷◌, ◌++◌, length, take, drop, get_or, Option, Some, None, refl, sym, ap, subst, ◌∙◌, append_assoc, append-nil}
 use Rattle.std.proofs.lemmas.List.{take_more, take-take, take-append-drop, take_all}
+use Rattle.ring_names.specs.declared.numbers.CreditSpec.{CreditSpec}
+use Rattle.credit_flow.specs.Credit.{Counted}
 use Rattle.ring_world.specs.declared.event.Event.{Event}
-use Rattle.ring_world.specs.declared.event.Event.TheVariants.{Cast}
+use Rattle.ring_world.specs.declared.event.Event.TheVariants.{Cast, Gain}
 use Rattle.ring_world.specs.World.{World, AreOpeningNames}
 use Rattle.ring_world.specs.Run.{IsRun, opening, last}
 use Rattle.ring_world.specs.Laws.{IsLawful, NeverFalls}
@@ -14,7 +16,7 @@ use Rattle.ringplay.specs.declared.script.Command.TheVariants as command
 use Rattle.ringplay.specs.Script.{Script, IsScript}
 use Rattle.ringplay.specs.Plays.{client_event, client_events, asked_by, asked, SameClients, PerformsOne, Performs, Plays}
 use Rattle.gm_member.specs.declared.member.Member.{Member}
-use Rattle.ringplay.specs.Ring.{AllStand, IsRing}
+use Rattle.ringplay.specs.Ring.{AllStand, IsRing, gain_of}
 use Rattle.ringplay.specs.Report.{report_of}
 use Rattle.ringplay.specs.Call.{state_after, IsPlayed}
 
@@ -49,19 +51,24 @@ performs_more commands i c old journal journal' l e h one name =
     ∙ ap (λ ys. client_events name old ++ ys) (sym (asked-push name (take i commands) c))
     ∙ ap (λ cs. client_events name old ++ asked name cs) (sym (take_more commands i c l ∙ ap (λ z. take i commands ++ z ∷ []) (sym e)))
 
+-- the grant that is gained is no client's
+pub same_clients_gain : (old journal : List Event) (grant : Option ℕ) (by : List ℕ) → SameClients old journal → SameClients old (journal ++ gain_of grant by)
+same_clients_gain old journal None by h = subst (SameClients old) (sym (append-nil journal)) h
+same_clients_gain old journal (Some grant) by h = same_clients_push old journal (Gain by) (λ name. refl) h
+
 -- ---- the laws after each prefix
 
-pub lawful_after : (script : Script) (journal : List Event) → IsRun (opening script.members) journal → (k : ℕ) → IsLawful (state_after script journal k)
-lawful_after script journal run k = run_lawful script.members (take k journal) (IsRun-take (opening script.members) k journal run)
+pub lawful_after : (credit : CreditSpec) (script : Script) (journal : List Event) → IsRun (opening credit script.members) journal → (k : ℕ) → IsLawful (state_after credit script journal k)
+lawful_after credit script journal run k = run_lawful credit script.members (take k journal) (IsRun-take (opening credit script.members) k journal run)
 
 pub split_at_front : (j k : ℕ) (journal : List Event) → j ≤ k → take j journal ++ drop j (take k journal) ≡ take k journal
 split_at_front j k journal l = ap (λ xs. xs ++ drop j (take k journal)) (sym (take-take j k journal l)) ∙ take-append-drop j (take k journal)
 
-pub falls_never : (script : Script) (journal : List Event) → IsRun (opening script.members) journal → (j k : ℕ) → j ≤ k → NeverFalls (state_after script journal j) (state_after script journal k)
-falls_never script journal run j k l =
+pub falls_never : (credit : CreditSpec) (script : Script) (journal : List Event) → IsRun (opening credit script.members) journal → (j k : ℕ) → j ≤ k → NeverFalls (state_after credit script journal j) (state_after credit script journal k)
+falls_never credit script journal run j k l =
     let whole : take j journal ++ drop j (take k journal) ≡ take k journal = split_at_front j k journal l in
-    subst (λ es. NeverFalls (state_after script journal j) (last (opening script.members) es)) whole
-    (run_rises script.members (take j journal) (drop j (take k journal)) (subst (IsRun (opening script.members)) (sym whole) (IsRun-take (opening script.members) k journal run)))
+    subst (λ es. NeverFalls (state_after credit script journal j) (last (opening credit script.members) es)) whole
+    (run_rises credit script.members (take j journal) (drop j (take k journal)) (subst (IsRun (opening credit script.members)) (sym whole) (IsRun-take (opening credit script.members) k journal run)))
 
 -- ---- the names
 
@@ -76,13 +83,15 @@ performed_all commands i old new l h = subst (λ cs. Performs cs old new) (take_
 pub plays_from_nothing : (script : Script) (before journal : List Event) → Performs script.commands [] before → SameClients before journal → Plays script journal
 plays_from_nothing script before journal h same name = same name ∙ h name
 
-pub played_is : (script : Script) (members : List Member) (before journal : List Event) (text : List ℕ) → IsRing script.members members journal → Performs script.commands [] before → SameClients before journal → length journal < 2 ^ 59
+pub played_is : (script : Script) (members : List Member) (receivers : List Counted) (before journal : List Event) (text : List ℕ) → IsRing script.members members receivers journal → Performs script.commands [] before → SameClients before journal → length journal < 2 ^ 59
     → ((w : World) → AllStand w members → text ≡ report_of w) → IsPlayed script journal text
-played_is script members before journal text h performs same few report = record {
+played_is script members receivers before journal text h performs same few report = record {
+  credit = h.credit;
+  is = h.is;
   run = h.run;
   few = few;
   plays = plays_from_nothing script before journal performs same;
-  lawful = lawful_after script journal h.run;
-  never_falls = falls_never script journal h.run;
-  report = report (last (opening script.members) journal) h.stand;
+  lawful = lawful_after h.credit script journal h.run;
+  never_falls = falls_never h.credit script journal h.run;
+  report = report (last (opening h.credit script.members) journal) h.stand;
 }

@@ -1,5 +1,6 @@
 -- What the top call answers, and why.
 use Rattle.std.specs.Prelude.{◌≡◌, ◌⊎◌, ℕ, ◌<◌, ◌≤◌, ◌^◌, List, [], ◌++◌, length, take, codes, Option, Some, None, IfSome}
+use Rattle.ring_names.specs.declared.numbers.CreditSpec.{CreditSpec}
 use Rattle.ring_world.specs.declared.event.Event.{Event}
 use Rattle.ring_world.specs.World.{World}
 use Rattle.ring_world.specs.Run.{IsRun, opening, last}
@@ -9,25 +10,29 @@ use Rattle.ringplay.specs.declared.call.Cause.TheVariants as causes
 use Rattle.ringplay.specs.declared.call.Ended.{Ended}
 use Rattle.ringplay.specs.Words.{IsPlay}
 use Rattle.ringplay.specs.Script.{Script, script_of}
+use Rattle.ringplay.specs.Ring.{IsUsualCredit}
 use Rattle.ringplay.specs.Plays.{Plays}
 use Rattle.ringplay.specs.Report.{newline, report_of}
 
 -- ---- what is played
 
--- the state after the first k events of a journal
-abbrev pub state_after : Script → List Event → ℕ → World
-state_after script journal k = last (opening script.members) (take k journal)
+-- the state after the first k events of a journal, in a ring whose links have this credit
+abbrev pub state_after : CreditSpec → Script → List Event → ℕ → World
+state_after credit script journal k = last (opening credit script.members) (take k journal)
 
--- the journal is a run of the ring from the script's members, each member's client events in it are its
--- commands, the laws hold after each of its prefixes and from each prefix to the next, and the text is the
--- report of its last state
+-- the journal is a run of the ring from the script's members, with credit 8 4, where a script names none;
+-- each member's client events in it are its commands, the laws hold after each of its prefixes and from
+-- each prefix to the next, and the text is the report of its last state
 pub record IsPlayed (script : Script) (journal : List Event) (text : List ℕ) : Type 0 where
-  pub run : IsRun (opening script.members) journal
+  pub credit : CreditSpec
+  pub is : IsUsualCredit credit
+  pub run : IsRun (opening credit script.members) journal
   pub few : length journal < 2 ^ 59
   pub plays : Plays script journal
-  pub lawful : (k : ℕ) → IsLawful (state_after script journal k)
-  pub never_falls : (j k : ℕ) → j ≤ k → NeverFalls (state_after script journal j) (state_after script journal k)
-  pub report : text ≡ report_of (last (opening script.members) journal)
+  pub lawful : (k : ℕ) → IsLawful (state_after credit script journal k)
+  pub never_falls : (j k : ℕ) → j ≤ k
+      → NeverFalls (state_after credit script journal j) (state_after credit script journal k)
+  pub report : text ≡ report_of (last (opening credit script.members) journal)
 
 -- ---- what is read
 

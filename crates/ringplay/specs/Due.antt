@@ -20,6 +20,7 @@ IsPlayDue bytes due = (due.cause ≡ causes.Done) × ((script : Script) × (scri
 abbrev pub IsRefusalDue : List ℕ → Due → Type 0
 IsRefusalDue bytes due = (script_of bytes ≡ None) × IsLineDue (causes.Script 1 52) (codes "script 1 52" ++ newline) due
 
+-- the script was played, the bytes were refused, or memory was wanted
 abbrev pub IsDueToInput : List ℕ → Due → Type 0
 IsDueToInput bytes due = IsPlayDue bytes due ⊎ (IsRefusalDue bytes due ⊎ IsLineDue causes.OutOfMemory [] due)
 

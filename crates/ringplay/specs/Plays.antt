@@ -2,7 +2,7 @@
 use Rattle.std.specs.Prelude.{◌≡◌, ℕ, List, [], ◌∷◌, ◌++◌, bytes_eq, if◌then◌else◌}
 use Rattle.std.specs.List.{flat_map}
 use Rattle.ring_world.specs.declared.event.Event.{Event}
-use Rattle.ring_world.specs.declared.event.Event.TheVariants.{Cast, Put, Take}
+use Rattle.ring_world.specs.declared.event.Event.TheVariants.{Cast, Put, Take, Gain}
 use Rattle.ringplay.specs.declared.script.Command.{Command}
 use Rattle.ringplay.specs.declared.script.Command.TheVariants as command
 use Rattle.ringplay.specs.Script.{Script}
@@ -12,6 +12,7 @@ abbrev pub client_event : List ℕ → Event → List Event
 client_event name (Cast by body) = if bytes_eq by name then Cast by body ∷ [] else []
 client_event name (Put by) = []
 client_event name (Take by) = []
+client_event name (Gain by) = []
 
 -- the client events of a member, in the order of the journal
 abbrev pub client_events : List ℕ → List Event → List Event

@@ -9,9 +9,11 @@ use Rattle.ring_world.specs.World.{World, member_at, size}
 use Rattle.ring_world.specs.Shown.{counts_of}
 use Rattle.ring_world.specs.Laws.{row_of}
 
+-- the name of the member at place i
 abbrev pub name_of : World → ℕ → List ℕ
 name_of w i = (member_at w i).name
 
+-- the line feed that ends a line
 abbrev pub newline : List ℕ
 newline = 10 ∷ []
 
@@ -29,6 +31,7 @@ counts_lines c =
     codes "casts " ++ decimal c.casts ++ codes " confirmed " ++ decimal c.casts_confirmed ++ newline
     ++ codes "publishes " ++ decimal c.publishes ++ codes " confirmed " ++ decimal c.publishes_confirmed ++ newline
 
+-- one message of the origin of that name, as a member received it
 abbrev pub heard_line : List ℕ → Message → List ℕ
 heard_line origin (Cast body) = codes "heard " ++ origin ++ codes " " ++ body ++ newline
 
@@ -36,6 +39,7 @@ heard_line origin (Cast body) = codes "heard " ++ origin ++ codes " " ++ body ++
 abbrev pub heard_lines : World → ℕ → List ℕ
 heard_lines w q = flat_map (λ p. flat_map (heard_line (name_of w p)) (row_of w q p).heard) (range_with_len 0 (size w))
 
+-- the lines of the member at place q
 abbrev pub lines_of_member : World → ℕ → List ℕ
 lines_of_member w q = member_line (name_of w q) ++ counts_lines (counts_of q (member_at w q)) ++ heard_lines w q
 

@@ -1,6 +1,9 @@
 -- The members of a ring, and what has happened in it.
-use Rattle.std.specs.Prelude.{◌≡◌, ℕ, ◌<◌, ◌≤◌, Bool, List, [], length, map, slice_index_or, bytes_eq, position, Option}
+use Rattle.std.specs.Prelude.{◌≡◌, ℕ, ◌<◌, ◌≤◌, Bool, List, [], ◌∷◌, length, map, slice_index_or, bytes_eq, position, Option, Some, None}
+use Rattle.ring_names.specs.declared.numbers.CreditSpec.{CreditSpec}
+use Rattle.credit_flow.specs.Credit.{Counted}
 use Rattle.ring_world.specs.declared.event.Event.{Event}
+use Rattle.ring_world.specs.declared.event.Event.TheVariants.{Gain}
 use Rattle.ring_world.specs.World.{World, AreOpeningNames, size, link_at, most_members}
 use Rattle.ring_world.specs.Run.{IsRun, opening, last}
 use Rattle.gm_member.specs.declared.member.Member.{Member}
@@ -8,6 +11,7 @@ use Rattle.gm_member.specs.Held.{Held, founded}
 use Rattle.gm_member.specs.View.{held_of}
 use Rattle.gm_member.specs.Stands.{held_in}
 
+-- what stands where a list has no member
 abbrev pub no_held : Held
 no_held = founded [] 0
 
@@ -21,16 +25,34 @@ pub record AllStand (w : World) (members : List Member) : Type 0 where
   pub few : size w ≤ most_members
   pub each : (i : ℕ) → i < size w → held_at members i ≡ held_in w i
 
--- nothing is on its way from one member to the next
-abbrev pub LinksAreEmpty : World → Type 0
-LinksAreEmpty w = (s : ℕ) → (link_at w s).packets ≡ []
+-- what the receivers of the links have counted, by the links' senders
+abbrev pub receivers_in : World → List Counted
+receivers_in w = map (λ l. l.flow.receiver) w.links
 
--- the journal is a run of the ring with these opening names, all members stand in its last state, and no packet is under way
-pub record IsRing (names : List (List ℕ)) (members : List Member) (journal : List Event) : Type 0 where
+-- nothing is on its way from one member to the next, and no grant is under way back
+abbrev pub LinksAreEmpty : World → Type 0
+LinksAreEmpty w = (s : ℕ) → ((link_at w s).packets ≡ []) × ((link_at w s).flow.grants ≡ [])
+
+-- a link opens with 8 credits and each grant is of 4
+abbrev pub IsUsualCredit : CreditSpec → Type 0
+IsUsualCredit credit = (credit.initial ≡ 8) × (credit.more ≡ 4)
+
+-- the journal is a run of the ring with these opening names and credit 8 4, all members and receivers
+-- stand in its last state, and no packet and no grant is under way
+pub record IsRing (names : List (List ℕ)) (members : List Member)
+    (receivers : List Counted) (journal : List Event) : Type 0 where
+  pub credit : CreditSpec
+  pub is : IsUsualCredit credit
   pub are : AreOpeningNames names
-  pub run : IsRun (opening names) journal
-  pub stand : AllStand (last (opening names) journal) members
-  pub empty : LinksAreEmpty (last (opening names) journal)
+  pub run : IsRun (opening credit names) journal
+  pub stand : AllStand (last (opening credit names) journal) members
+  pub counted : receivers ≡ receivers_in (last (opening credit names) journal)
+  pub empty : LinksAreEmpty (last (opening credit names) journal)
+
+-- the sender gains a grant, if there is one
+abbrev pub gain_of : Option ℕ → List ℕ → List Event
+gain_of None by = []
+gain_of (Some grant) by = Gain by ∷ []
 
 -- whether a member has this name
 abbrev pub is_named : List ℕ → Member → Bool

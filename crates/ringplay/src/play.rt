@@ -8,8 +8,9 @@ ghost use Rattle.ringplay.specs.Call.{IsPlayed};
 use crate::report::report;
 use crate::ring::{cast, founded, settle};
 use crate::script::{Command, Script};
+use credit_flow::CreditIn;
 use gm_member::Member;
-use ring_names::{Name, OutOfMemory};
+use ring_names::{CreditSpec, Name, OutOfMemory};
 use ring_world::Event;
 use std::alloc::Global;
 
@@ -23,17 +24,29 @@ pub(crate) struct Played {
 /// How many events a journal holds at most: one fewer than 2^59.
 const MOST_EVENTS: usize = 576_460_752_303_423_487;
 
-/// Plays the script: its commands in order, and at its end the ring settles once more.
+/// Plays the script: its commands in order, and at its end the ring settles once more. Each link has
+/// credit 8 4, as a script names none.
 pub(crate) fn play(alloc: Global, script: Script) -> Result<Played, OutOfMemory>
     requires { IsScript (script_with script.members.items script.commands.items) }
-    ensures { IfOk result (λ played. IsPlayed (script_with script.members.items script.commands.items) played.journal.items played.text.items) }
+    ensures { IfOk result (λ played.
+        IsPlayed (script_with script.members.items script.commands.items)
+        played.journal.items played.text.items) }
 {
     let Script {
         members: names,
         commands,
     } = script;
-    let mut members = founded(alloc, &names)?;
-    let played = play_with(alloc, &names, &mut members, commands)?;
+    let Some(credit) = CreditSpec::new(8, 4) else {
+        unreachable!()
+    };
+    let mut ring = founded(alloc, credit, &names)?;
+    let played = play_with(
+        alloc,
+        &names,
+        &mut ring.members,
+        &mut ring.receivers,
+        commands,
+    )?;
     Ok(played)
 }
 
@@ -42,21 +55,23 @@ fn play_with(
     alloc: Global,
     names: &[Name],
     members: &mut [Member],
+    receivers: &mut [CreditIn],
     commands: Vec<Command>,
 ) -> Result<Played, OutOfMemory>
-    requires ring { IsRing names.now members.old [] }
+    requires ring { IsRing names.now members.old receivers.old [] }
     requires script { IsScript (script_with names.now commands.items) }
-    ensures { IfOk result (λ played. IsPlayed (script_with names.now commands.items) played.journal.items played.text.items) }
+    ensures { IfOk result (λ played. IsPlayed (script_with names.now commands.items)
+        played.journal.items played.text.items) }
 {
     let mut journal = Vec::new(alloc);
-    perform(names, members, &mut journal, &commands)?;
-    let casts = commands.len();
+    perform(names, members, receivers, &mut journal, &commands)?;
+    let commands_count = commands.len();
     drop(commands);
-    settle(names, members, &mut journal)?;
+    settle(names, members, receivers, &mut journal)?;
     if journal.len() > MOST_EVENTS {
         return Err(OutOfMemory);
     }
-    let text = report(alloc, members, casts)?;
+    let text = report(alloc, members, commands_count)?;
     Ok(Played { journal, text })
 }
 
@@ -64,16 +79,17 @@ fn play_with(
 fn perform(
     names: &[Name],
     members: &mut [Member],
+    receivers: &mut [CreditIn],
     journal: &mut Vec<Event>,
     commands: &[Command],
 ) -> Result<(), OutOfMemory>
-    requires ring { IsRing names.now members.old journal.old.items }
+    requires ring { IsRing names.now members.old receivers.old journal.old.items }
     requires known { All (IsCommandTo names.now) commands.now }
-    ensures ring { OnOk result (IsRing names.now members.new journal.new.items) }
+    ensures ring { OnOk result (IsRing names.now members.new receivers.new journal.new.items) }
     ensures plays { OnOk result (Performs commands.now journal.old.items journal.new.items) }
 {
     for command in commands {
-        perform_one(names, members, journal, command)?;
+        perform_one(names, members, receivers, journal, command)?;
     }
     Ok(())
 }
@@ -82,17 +98,18 @@ fn perform(
 fn perform_one(
     names: &[Name],
     members: &mut [Member],
+    receivers: &mut [CreditIn],
     journal: &mut Vec<Event>,
     command: &Command,
 ) -> Result<(), OutOfMemory>
-    requires ring { IsRing names.now members.old journal.old.items }
+    requires ring { IsRing names.now members.old receivers.old journal.old.items }
     requires known { IsCommandTo names.now command.now }
-    ensures ring { OnOk result (IsRing names.now members.new journal.new.items) }
+    ensures ring { OnOk result (IsRing names.now members.new receivers.new journal.new.items) }
     ensures plays { OnOk result (PerformsOne command.now journal.old.items journal.new.items) }
 {
     match command {
-        Command::Cast { by, body } => cast(names, members, journal, by, body)?,
-        Command::Settle => settle(names, members, journal)?,
+        Command::Cast { by, body } => cast(names, members, receivers, journal, by, body)?,
+        Command::Settle => settle(names, members, receivers, journal)?,
     }
     Ok(())
 }

@@ -1,20 +1,50 @@
 //! The members of a ring, driven one after another on the calling thread. The members carry the
-//! messages: the driver moves packets from one to the next, and writes down what has happened.
-ghost use Rattle.std.specs.Prelude.{◌≡◌, ℕ, ◌<◌, ◌++◌, ◌∷◌, [], List, length, map, IfOk, IfSome, OnOk, Contains};
+//! messages, and the driver keeps the receiving end of each link's credit: it moves packets from one
+//! member to the next, and writes down what has happened.
+ghost use Rattle.std.specs.Prelude.{◌≡◌, ℕ, ◌<◌, ◌++◌, ◌∷◌, [], List, length, map, slice_index_or, IfOk, IfSome, OnOk, Contains};
+ghost use Rattle.std.specs.List.{range_with_len};
+ghost use Rattle.credit_flow.specs.Credit.{none_taken};
+ghost use Rattle.gm_member.specs.Held.{founded as founded_as};
+ghost use Rattle.gm_member.specs.View.{held_of};
 ghost use Rattle.ring_world.specs.World.{AreOpeningNames};
 ghost use Rattle.ring_world.specs.World.{left_of};
-ghost use Rattle.ringplay.specs.Ring.{IsRing, IsNamedAt, is_named, place_in};
+ghost use Rattle.ringplay.specs.Ring.{IsRing, IsUsualCredit, IsNamedAt, gain_of, is_named, place_in};
 ghost use Rattle.ringplay.specs.Plays.{SameClients};
 
+use credit_flow::CreditIn;
 use gm_member::{Member, MemberFault};
-use ring_names::{Body, MemberId, Message, Name, OutOfMemory};
+use ring_names::{Body, CreditSpec, MemberId, Message, Name, OutOfMemory};
 use ring_world::Event;
 use std::alloc::Global;
 
+/// The members in ring order, and for each the receiving end of the link to its right neighbour.
+#[derive(Drop)]
+pub(crate) struct Ring {
+    pub(crate) members: Vec<Member>,
+    pub(crate) receivers: Vec<CreditIn>,
+}
+
+/// A ring that opens.
+pub(crate) fn founded(
+    alloc: Global,
+    credit: CreditSpec,
+    names: &[Name],
+) -> Result<Ring, OutOfMemory>
+    requires names { AreOpeningNames names.now }
+    requires credit { IsUsualCredit credit }
+    ensures { IfOk result (λ ring. IsRing names.now ring.members.items ring.receivers.items []) }
+{
+    let members = founded_members(alloc, names)?;
+    let receivers = new_receivers(alloc, credit, names)?;
+    Ok(Ring { members, receivers })
+}
+
 /// The members with which a ring opens.
-pub(crate) fn founded(alloc: Global, names: &[Name]) -> Result<Vec<Member>, OutOfMemory>
+fn founded_members(alloc: Global, names: &[Name]) -> Result<Vec<Member>, OutOfMemory>
     requires { AreOpeningNames names.now }
-    ensures { IfOk result (λ members. IsRing names.now members.items []) }
+    ensures { IfOk result (λ members. map held_of members.items
+        ≡ map (λ j. founded_as (slice_index_or names.now j []) j)
+        (range_with_len 0 (length names.now))) }
 {
     let mut members = Vec::new(alloc);
     for (place, name) in names.iter().enumerate() {
@@ -25,6 +55,24 @@ pub(crate) fn founded(alloc: Global, names: &[Name]) -> Result<Vec<Member>, OutO
         }
     }
     Ok(members)
+}
+
+/// The receiving ends with which the links of a ring open, one for each name.
+fn new_receivers(
+    alloc: Global,
+    credit: CreditSpec,
+    names: &[Name],
+) -> Result<Vec<CreditIn>, OutOfMemory>
+    ensures { IfOk result (λ receivers. receivers.items
+        ≡ map (λ (_ : List ℕ). none_taken credit.initial credit.more) names.now) }
+{
+    let mut receivers = Vec::new(alloc);
+    for _name in names {
+        if receivers.push(CreditIn::new(credit)).is_err() {
+            return Err(OutOfMemory);
+        }
+    }
+    Ok(receivers)
 }
 
 fn has_name(member: &Member, name: &Name) -> bool
@@ -58,23 +106,35 @@ fn record(journal: &mut Vec<Event>, event: Event) -> Result<(), OutOfMemory>
     }
 }
 
+/// The member of that name gains a grant, if there is one.
+fn record_gain(journal: &mut Vec<Event>, grant: Option<u32>, by: Name) -> Result<(), OutOfMemory>
+    ensures { OnOk result (journal.new.items ≡ journal.old.items ++ gain_of grant by) }
+{
+    match grant {
+        Some(_) => record(journal, Event::Gain { by }),
+        None => Ok(()),
+    }
+}
+
 /// A member publishes a body for its client.
 pub(crate) fn cast(
     names: &[Name],
     members: &mut [Member],
+    receivers: &[CreditIn],
     journal: &mut Vec<Event>,
     by: &Name,
     body: &Body,
 ) -> Result<(), OutOfMemory>
-    requires ring { IsRing names.now members.old journal.old.items }
+    requires ring { IsRing names.now members.old receivers.now journal.old.items }
     requires known { Contains names.now by.now }
-    ensures ring { OnOk result (IsRing names.now members.new journal.new.items) }
-    ensures journal { OnOk result (journal.new.items ≡ journal.old.items ++ Event.Cast by.now body.now ∷ []) }
+    ensures ring { OnOk result (IsRing names.now members.new receivers.now journal.new.items) }
+    ensures journal { OnOk result (journal.new.items
+        ≡ journal.old.items ++ Event.Cast by.now body.now ∷ []) }
 {
     let Some(i) = place_of(members, by) else {
         unreachable!()
     };
-    cast_at(names, members, journal, i, by, body)?;
+    cast_at(names, members, receivers, journal, i, by, body)?;
     Ok(())
 }
 
@@ -82,16 +142,18 @@ pub(crate) fn cast(
 fn cast_at(
     names: &[Name],
     members: &mut [Member],
+    receivers: &[CreditIn],
     journal: &mut Vec<Event>,
     i: usize,
     by: &Name,
     body: &Body,
 ) -> Result<(), OutOfMemory>
-    requires ring { IsRing names.now members.old journal.old.items }
+    requires ring { IsRing names.now members.old receivers.now journal.old.items }
     requires within { i < length members.old }
     requires named { IsNamedAt members.old i by.now }
-    ensures ring { OnOk result (IsRing names.now members.new journal.new.items) }
-    ensures journal { OnOk result (journal.new.items ≡ journal.old.items ++ Event.Cast by.now body.now ∷ []) }
+    ensures ring { OnOk result (IsRing names.now members.new receivers.now journal.new.items) }
+    ensures journal { OnOk result (journal.new.items
+        ≡ journal.old.items ++ Event.Cast by.now body.now ∷ []) }
 {
     let message = Message::Cast(body.copy()?);
     let event = Event::Cast {
@@ -107,17 +169,18 @@ fn cast_at(
     Ok(())
 }
 
-/// The member at place `s` packs what is new, and its right neighbour accepts it. Answers whether
-/// there was anything new.
+/// The member at place `s` packs what is new, and its right neighbour accepts and counts it. Where a
+/// grant is due then, the sender gains it at once. Answers whether there was anything new.
 fn pass_on(
     names: &[Name],
     members: &mut [Member],
+    receivers: &mut [CreditIn],
     journal: &mut Vec<Event>,
     s: usize,
 ) -> Result<bool, OutOfMemory>
-    requires ring { IsRing names.now members.old journal.old.items }
+    requires ring { IsRing names.now members.old receivers.old journal.old.items }
     requires within { s < length members.old }
-    ensures ring { OnOk result (IsRing names.now members.new journal.new.items) }
+    ensures ring { OnOk result (IsRing names.now members.new receivers.new journal.new.items) }
     ensures clients { OnOk result (SameClients journal.old.items journal.new.items) }
 {
     let r = right_of(members.len(), s);
@@ -136,6 +199,9 @@ fn pass_on(
     }
     record(journal, Event::Put { by: from })?;
     record(journal, Event::Take { by: to })?;
+    let link = &mut receivers[s];
+    let grant = link.took();
+    record_gain(journal, grant, from)?;
     Ok(true)
 }
 
@@ -143,15 +209,16 @@ fn pass_on(
 fn pass(
     names: &[Name],
     members: &mut [Member],
+    receivers: &mut [CreditIn],
     journal: &mut Vec<Event>,
 ) -> Result<bool, OutOfMemory>
-    requires ring { IsRing names.now members.old journal.old.items }
-    ensures ring { OnOk result (IsRing names.now members.new journal.new.items) }
+    requires ring { IsRing names.now members.old receivers.old journal.old.items }
+    ensures ring { OnOk result (IsRing names.now members.new receivers.new journal.new.items) }
     ensures clients { OnOk result (SameClients journal.old.items journal.new.items) }
 {
     let mut moved = false;
     for s in 0..members.len() {
-        let here = pass_on(names, members, journal, s)?;
+        let here = pass_on(names, members, receivers, journal, s)?;
         moved = moved || here;
     }
     Ok(moved)
@@ -162,14 +229,15 @@ fn pass(
 pub(crate) fn settle(
     names: &[Name],
     members: &mut [Member],
+    receivers: &mut [CreditIn],
     journal: &mut Vec<Event>,
 ) -> Result<(), OutOfMemory>
-    requires ring { IsRing names.now members.old journal.old.items }
-    ensures ring { OnOk result (IsRing names.now members.new journal.new.items) }
+    requires ring { IsRing names.now members.old receivers.old journal.old.items }
+    ensures ring { OnOk result (IsRing names.now members.new receivers.new journal.new.items) }
     ensures clients { OnOk result (SameClients journal.old.items journal.new.items) }
 {
     for _pass in 0..MOST_PASSES {
-        let moved = pass(names, members, journal)?;
+        let moved = pass(names, members, receivers, journal)?;
         if !moved {
             return Ok(());
         }

@@ -13,8 +13,8 @@ pub returns-clause-ring : goal.returns-clause-ring
 returns-clause-ring c =
     let x : Member = get_or c.args.members.now c.args.i c.index-members-i.result in
     let is : x ≡ get_or c.args.members.now c.args.i x = get_or_default c.args.members.now c.args.i c.index-members-i.result x c.requires.within in
-    subst (IsRing c.args.names.now (set c.args.members.now c.args.i c.publish.new.self)) (sym (grind (arith, common_steps)))
-    (cast_ring c.args.names.now c.args.journal.now.items c.args.members.now c.args.i x c.publish.new.self c.args.by.now c.args.body.now c.requires.ring c.requires.within
+    subst (IsRing c.args.names.now (set c.args.members.now c.args.i c.publish.new.self) c.args.receivers.now) (sym (grind (arith, common_steps)))
+    (cast_ring c.args.names.now c.args.journal.now.items c.args.members.now c.args.receivers.now c.args.i x c.publish.new.self c.args.by.now c.args.body.now c.requires.ring c.requires.within
     is
     (sym c.requires.named ∙ ap (λ h. h.member.name) (read_held c.args.members.now c.args.i x c.requires.within is))
     (c.in-Ok.ensures.ok ∙ ap (λ body. published_held (held_of x) (message.Cast body)) c.in_ok-copy.ensures))

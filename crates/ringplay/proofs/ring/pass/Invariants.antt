@@ -4,6 +4,6 @@ use Rattle.ringplay.proofs.ring.pass.Given as goal
 
 abbrev pub invariant-loop-s : goal.invariant-loop-s
 invariant-loop-s l = record {
-  ring : IsRing l.names l.members l.journal.items;
+  ring : IsRing l.names l.members l.receivers l.journal.items;
   clients : SameClients l.initial.journal.items l.journal.items;
 }
