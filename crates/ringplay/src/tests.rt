@@ -2,6 +2,7 @@
 use crate::call::{Cause, ring_call};
 use crate::word::Word;
 use ring_io::{MemorySink, MemorySource, ShutGate, SureSink, SureSource};
+use ring_world::Event;
 use std::process::Abort;
 use std::test::Fail;
 use std::thread::Threads;
@@ -140,6 +141,32 @@ fn ends_at_a_fault_of_the_sink(rt: HostRuntime) -> Result<(), Fail> {
         assert!(rt; report.as_bytes().starts_with(sink.bytes()));
         assert_eq!(rt; sink.bytes().len() as u64, ended.written);
         assert_eq!(rt; ended.journal.as_slice().len(), 5);
+    }
+    Ok(())
+}
+
+fn is_gain(event: &Event) -> bool {
+    matches!(event, Event::Gain { .. })
+}
+
+/// A sole member puts two packets for each cast that settles: after each four its link's credit comes back,
+/// so that a link that opened with 8 carries 12.
+#[test]
+fn gains_what_each_fourth_packet_grants(rt: HostRuntime) -> Result<(), Fail> {
+    let words = [Word::new(rt.alloc(), "play")?];
+    let script =
+        b"members a\ncast a u\nsettle\ncast a v\nsettle\ncast a w\nsettle\ncast a x\nsettle\ncast a y\nsettle\ncast a z\n".to_vec(
+            rt.alloc(),
+        )?;
+    let mut source = SureSource::new(script);
+    let mut sink = SureSink::new(rt.alloc(), 1_048_576)?;
+    let ended = ring_call(&rt, rt.alloc(), &words, &mut source, &mut sink, &ShutGate);
+    assert_eq!(rt; ended.cause, Cause::Done);
+    let journal = ended.journal.as_slice();
+    assert_eq!(rt; journal.len(), 33);
+    let places = [10, 21, 32];
+    for (place, event) in journal.iter().enumerate() {
+        assert_eq!(rt; is_gain(event), places.contains(&place), "event {place}");
     }
     Ok(())
 }
