@@ -4,13 +4,7 @@ use Rattle.std.specs.List.{range_with_len, list_all}
 use Rattle.std.proofs.lemmas.List.{length-set}
 use Rattle.std.proofs.lemmas.List.FromFn.{fill_by_all, get_or-map-range_with_len, length-map-range_with_len}
 use Rattle.ring_world.proofs.Writes.{at_set}
-
-pub map-range_same_from : {A : Type 0} (f g : ℕ → A) (a n : ℕ) → ((k : ℕ) → a ≤ k → k < a + n → f k ≡ g k) → map f (range_with_len a n) ≡ map g (range_with_len a n)
-map-range_same_from f g a zero h = refl
-map-range_same_from f g a (suc n) h = ap (λ x. x ∷ map f (range_with_len (a + 1) n)) (h a (omega arith) (omega arith)) ∙ ap (λ xs. g a ∷ xs) (map-range_same_from f g (a + 1) n (λ k l m. h k (omega arith) (omega arith)))
-
-pub map-range_same : {A : Type 0} (f g : ℕ → A) (n : ℕ) → ((k : ℕ) → k < n → f k ≡ g k) → map f (range_with_len 0 n) ≡ map g (range_with_len 0 n)
-map-range_same f g n h = map-range_same_from f g 0 n (λ k l m. h k (omega arith))
+pub use Rattle.ring_world.proofs.Views.{map-range_same_from, map-range_same}
 
 pub all-range_same_from : (p q : ℕ → Bool) (a n : ℕ) → ((k : ℕ) → a ≤ k → k < a + n → p k ≡ q k) → list_all p (range_with_len a n) ≡ list_all q (range_with_len a n)
 all-range_same_from p q a zero h = refl

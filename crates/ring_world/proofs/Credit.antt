@@ -1,12 +1,12 @@
 -- The credit of every link, over every run.
-use Rattle.std.proofs.Common.{◌≡◌, ℕ, ◌+◌, ◌<◌, ◌≤◌, false, List, [], ◌∷◌, length, drop, refl, subst, sym, ap, ◌∙◌, arith, None}
+use Rattle.std.proofs.Common.{◌≡◌, ℕ, ◌+◌, ◌<◌, false, List, [], ◌∷◌, length, refl, subst, sym, arith, None}
 use Rattle.std.proofs.lemmas.Bool.{false≢true}
 use Rattle.std.proofs.lemmas.List.{length-set, length-drop, length_push}
 use Rattle.ring_names.specs.declared.numbers.CreditSpec.{CreditSpec}
 use Rattle.ring_names.specs.declared.message.Message.TheVariants as message
 use Rattle.ring_names.specs.declared.reason.Reason.TheVariants.{NoCredit, NothingToTake, NoGrant}
 use Rattle.credit_flow.specs.Credit.{is_blocked}
-use Rattle.credit_flow.specs.Link.{Link as CreditLink, KeepsCredit as KeepsLoads, Send, Take as TakeLoad, Gain as GainGrant, after_call, new_link}
+use Rattle.credit_flow.specs.Link.{Link as CreditLink, KeepsCredit as KeepsLoads, Send, Take as TakeLoad, after_call}
 use Rattle.credit_flow.proofs.Links.{IsKept, new_keeps, send_keeps, take_keeps, gain_keeps, kept_law}
 use Rattle.ring_world.specs.declared.event.Event.{Event}
 use Rattle.ring_world.specs.declared.event.Event.TheVariants.{Cast, Put, Take, Gain}

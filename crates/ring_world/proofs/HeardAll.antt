@@ -1,5 +1,5 @@
 -- A quiet ring has heard all.
-use Rattle.std.proofs.Common.{◌≡◌, ℕ, ◌<◌, ◌≤◌, List, length, refl, subst, ◌∙◌, arith, Bool, true, eq-eqb, nat_eq}
+use Rattle.std.proofs.Common.{ℕ, ◌<◌, ◌≤◌, List, length, refl, subst, ◌∙◌, arith, eq-eqb, nat_eq}
 use Rattle.std.proofs.lemmas.List.{take_all}
 use Rattle.ring_names.specs.declared.numbers.CreditSpec.{CreditSpec}
 use Rattle.ring_world.specs.declared.event.Event.{Event}

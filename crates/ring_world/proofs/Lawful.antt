@@ -1,10 +1,10 @@
 -- Every state of every run is lawful.
-use Rattle.std.proofs.Common.{◌≡◌, ℕ, ◌<◌, ◌≤◌, List, length, take, subst, sym, ap, ◌∙◌, arith}
+use Rattle.std.proofs.Common.{ℕ, List, subst, sym}
 use Rattle.ring_names.specs.declared.numbers.CreditSpec.{CreditSpec}
 use Rattle.ring_world.specs.declared.event.Event.{Event}
 use Rattle.ring_world.specs.World.{World}
 use Rattle.ring_world.specs.Run.{IsRun, last, opening, IsReachedIn}
-use Rattle.ring_world.specs.Laws.{IsLawful, EachKeepsCredit, IsQuiet, HasHeardAll}
+use Rattle.ring_world.specs.Laws.{IsLawful, EachKeepsCredit}
 use Rattle.ring_world.proofs.Good.{IsGood, forgot_everywhere}
 use Rattle.ring_world.proofs.Run.{run_good}
 use Rattle.ring_world.proofs.Credit.{run_each_keeps_credit}

@@ -8,7 +8,7 @@ use Rattle.std.proofs.lemmas.List.Quantifiers.{position-Some}
 use Rattle.ring_names.specs.declared.message.Message.TheVariants as message
 use Rattle.ring_names.specs.declared.numbers.CreditSpec.{CreditSpec}
 use Rattle.ring_names.specs.declared.reason.Reason.{Reason}
-use Rattle.ring_names.specs.declared.reason.Reason.TheVariants.{NoCredit, NothingNew, NothingToTake}
+use Rattle.ring_names.specs.declared.reason.Reason.TheVariants.{NothingToTake}
 use Rattle.ring_world.specs.declared.event.Event.{Event}
 use Rattle.ring_world.specs.declared.event.Event.TheVariants.{Cast, Put, Take, Gain}
 use Rattle.ring_world.specs.World.{Link, World, AreOpeningNames, no_row, no_member, no_link, row_at, member_at, log_of, size, place_of}

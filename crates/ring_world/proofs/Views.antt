@@ -1,8 +1,8 @@
 -- The structs and what they show.
-use Rattle.std.proofs.Common.{Vec, ◌≡◌, ◌≢◌, subst, ℕ, arith, nat_eq, ◌+◌, List, [], ◌∷◌, length, map, Bool, true, false, cond, not, get_or, set, ◌<◌, refl, sym, ap, ◌∙◌}
+use Rattle.std.proofs.Common.{Vec, ◌≡◌, ◌≢◌, subst, ℕ, zero, suc, ◌≤◌, arith, nat_eq, ◌+◌, List, [], ◌∷◌, length, map, Bool, true, false, cond, not, get_or, set, ◌<◌, refl, sym, ap, ◌∙◌}
 use Rattle.std.specs.List.{position, prefix_len, range_with_len}
 use Rattle.std.specs.declared.alloc.Global.{Global}
-use Rattle.std.proofs.lemmas.List.FromFn.{fill_by_all, get_or-map-range_with_len, length-map-range_with_len}
+use Rattle.std.proofs.lemmas.List.FromFn.{get_or-map-range_with_len, length-map-range_with_len}
 use Rattle.std.proofs.lemmas.List.{length-map, get_or-map, map-set, set-get_or}
 use Rattle.ring_world.proofs.Writes.{at_set}
 use Rattle.ring_names.specs.declared.message.Message.{Message}
@@ -107,8 +107,12 @@ quiet_logs seats wires q p l = q.come_round p (omega (arith, l, length-map seats
 
 -- ---- taking
 
-pub map-range_same : {A : Type 0} (f g : ℕ → A) (n : ℕ) (d : A) → ((k : ℕ) → k < n → f k ≡ g k) → map f (range_with_len 0 n) ≡ map g (range_with_len 0 n)
-map-range_same f g n d h = fill_by_all g (map f (range_with_len 0 n)) n d (length-map-range_with_len f 0 n) (λ k l. get_or-map-range_with_len f 0 n k k d l (omega arith) ∙ h k l)
+pub map-range_same_from : {A : Type 0} (f g : ℕ → A) (a n : ℕ) → ((k : ℕ) → a ≤ k → k < a + n → f k ≡ g k) → map f (range_with_len a n) ≡ map g (range_with_len a n)
+map-range_same_from f g a zero h = refl
+map-range_same_from f g a (suc n) h = ap (λ x. x ∷ map f (range_with_len (a + 1) n)) (h a (omega arith) (omega arith)) ∙ ap (λ xs. g a ∷ xs) (map-range_same_from f g (a + 1) n (λ k l m. h k (omega arith) (omega arith)))
+
+pub map-range_same : {A : Type 0} (f g : ℕ → A) (n : ℕ) → ((k : ℕ) → k < n → f k ≡ g k) → map f (range_with_len 0 n) ≡ map g (range_with_len 0 n)
+map-range_same f g n h = map-range_same_from f g 0 n (λ k l m. h k (omega arith))
 
 -- the rows that are written are those of the machine's take
 pub taken_seat : (seats : List Seat) (i m : ℕ) (x y : Seat) (packet : Packet) (news : List (Vec Message Global)) → i < length seats → x ≡ get_or seats i x → map items_of news ≡ map (brought_at (map member_of seats) i packet) (range_with_len 0 (length seats)) → m ≡ length seats → member_of y ≡ with_rows (member_of x) (map (λ p. taken_with (nat_eq p i) (row_at (member_of x) p) (numbers_at packet p) (news_in news p)) (range_with_len 0 m)) → member_of y ≡ taken (length seats) i (λ p. (member_in seats p).log) (member_in seats i) packet
@@ -116,7 +120,7 @@ taken_seat seats i m x y packet news l e en em ey =
     let member : member_of x ≡ member_in seats i = mapped_read member_of seats i x no_member l e in
     ey ∙ ap (λ rs. with_rows (member_of x) rs)
     (ap (λ k. map (λ p. taken_with (nat_eq p i) (row_at (member_of x) p) (numbers_at packet p) (news_in news p)) (range_with_len 0 k)) em
-    ∙ map-range_same _ (λ p. taken_with (nat_eq p i) (row_at (member_of x) p) (numbers_at packet p) (brought_at (map member_of seats) i packet p)) (length seats) no_row
+    ∙ map-range_same _ (λ p. taken_with (nat_eq p i) (row_at (member_of x) p) (numbers_at packet p) (brought_at (map member_of seats) i packet p)) (length seats)
     (λ k kl. ap (taken_with (nat_eq k i) (row_at (member_of x) k) (numbers_at packet k)) (ap (λ zs. get_or zs k []) en ∙ get_or-map-range_with_len (brought_at (map member_of seats) i packet) 0 (length seats) k k [] kl (omega arith))))
     ∙ ap (λ z. with_rows z (map (λ p. taken_with (nat_eq p i) (row_at z p) (numbers_at packet p) (brought_at (map member_of seats) i packet p)) (range_with_len 0 (length seats)))) member
 

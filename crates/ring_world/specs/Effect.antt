@@ -7,12 +7,15 @@ use Rattle.ring_world.specs.declared.event.Event.TheVariants.{Cast, Put, Take, G
 use Rattle.ring_world.specs.World.{Member, Packet, Link, World, no_member, row_at, numbers_at, member_at, link_at, log_of, size, place_of, left_of}
 use Rattle.ring_world.specs.Member.{published, next_packet, pushed, popped, oldest, brought, taken, granted}
 
+-- member i is another
 abbrev pub with_member : World → ℕ → Member → World
 with_member w i y = record w { members = slice_set w.members i y }
 
+-- the link from member i is another
 abbrev pub with_link : World → ℕ → Link → World
 with_link w i l = record w { links = slice_set w.links i l }
 
+-- what happens at a place that was found; nothing where none was
 abbrev pub at_place : Option ℕ → World → (ℕ → World) → World
 at_place None w f = w
 at_place (Some i) w f = f i

@@ -4,6 +4,7 @@ use Rattle.credit_flow.specs.Link.{oldest as oldest_grant}
 use Rattle.ring_world.specs.World.{Row, Link, World, row_at, member_at, link_at, log_of, size}
 use Rattle.ring_world.specs.Member.{messages_between, regained}
 
+-- what the member at place q knows of the origin at place p
 abbrev pub row_of : World → ℕ → ℕ → Row
 row_of w q p = row_at (member_at w q) p
 

@@ -39,6 +39,7 @@ next_numbers fresh r last = record { lo = lo_of fresh r.forgot last; got = r.got
 abbrev pub next_packet : ℕ → Member → Sending → Packet
 next_packet n y s = record { numbers = map (λ p. next_numbers s.fresh (row_at y p) (numbers_at s.sent p)) (range_with_len 0 n) }
 
+-- the sending side after a packet was put
 abbrev pub after_put : Packet → Sending
 after_put k = record { fresh = false; sent = k }
 
@@ -46,11 +47,13 @@ after_put k = record { fresh = false; sent = k }
 abbrev pub spent : Flow → Flow
 spent f = record f { sender = sent f.sender }
 
+-- a packet joins the link behind the others, and its numbers are the last sent
 abbrev pub pushed : Link → Packet → Link
 pushed l k = record l { packets = l.packets ++ k ∷ []; sending = after_put k; flow = spent l.flow }
 
 -- ---- taking a packet
 
+-- the packet that was put first of those on the link
 abbrev pub oldest : Link → Packet
 oldest l = slice_index_or l.packets 0 no_packet
 
@@ -58,6 +61,7 @@ oldest l = slice_index_or l.packets 0 no_packet
 abbrev pub counted : Flow → Flow
 counted f = record f { receiver = took f.receiver; grants = with_grant f.grants (grant_due f.receiver) }
 
+-- the oldest packet is gone, and its receiver has counted it
 abbrev pub popped : Link → Link
 popped l = record l { packets = drop 1 l.packets; flow = counted l.flow }
 
@@ -75,6 +79,7 @@ abbrev pub taken_with : Bool → Row → Numbers → List Message → Row
 taken_with true r k news = record r { forgot = k.got; retired = k.forgot }
 taken_with false r k news = record r { got = k.got; forgot = k.forgot; heard = r.heard ++ news }
 
+-- what the numbers of a packet do to a row, with the messages that they bring
 abbrev pub taken_row : Bool → List Message → Row → Numbers → Row
 taken_row own log r k = taken_with own r k (brought own log r k)
 
@@ -82,6 +87,7 @@ taken_row own log r k = taken_with own r k (brought own log r k)
 abbrev pub taken : ℕ → ℕ → (ℕ → List Message) → Member → Packet → Member
 taken n i logs y k = record y { rows = map (λ p. taken_row (nat_eq p i) (logs p) (row_at y p) (numbers_at k p)) (range_with_len 0 n) }
 
+-- a member with these rows
 abbrev pub with_rows : Member → List Row → Member
 with_rows y rows = record y { rows = rows }
 
@@ -91,5 +97,6 @@ with_rows y rows = record y { rows = rows }
 abbrev pub regained : Flow → Flow
 regained f = record f { sender = gained f.sender (oldest_grant f.grants); grants = drop 1 f.grants }
 
+-- the oldest grant under way on the link has come to its sender
 abbrev pub granted : Link → Link
 granted l = record l { flow = regained l.flow }

@@ -5,6 +5,7 @@ use Rattle.ring_world.specs.View.{world_of}
 use Rattle.ring_world.specs.World.{World as State}
 use Rattle.ring_world.specs.declared.world.World.TheInside.{Inside}
 
+-- the state that a World holds
 abbrev pub state_of : Inside → State
 state_of a = world_of a.seats.items a.wires.items
 

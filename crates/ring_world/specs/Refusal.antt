@@ -18,6 +18,7 @@ abbrev pub or_else : Option Reason → Option Reason → Option Reason
 or_else (Some r) later = Some r
 or_else None later = later
 
+-- whether a list has nothing in it
 abbrev pub is_empty : {A : Type 0} → List A → Bool
 is_empty [] = true
 is_empty (x ∷ xs) = false

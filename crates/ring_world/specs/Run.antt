@@ -11,9 +11,11 @@ use Rattle.ring_world.specs.Effect.{effect}
 abbrev pub opening_member : ℕ → List ℕ → Member
 opening_member n name = record { name = name; log = []; rows = map (λ _. no_row) (range_with_len 0 n) }
 
+-- a link of the opening
 abbrev pub opening_link : CreditSpec → List ℕ → Link
 opening_link credit name = record { packets = []; sending = no_sending; flow = full_flow credit.initial credit.more }
 
+-- the opening of a ring with these names and this credit
 abbrev pub opening : CreditSpec → List (List ℕ) → World
 opening credit names = record { members = map (opening_member (length names)) names; links = map (opening_link credit) names }
 

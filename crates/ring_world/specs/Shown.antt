@@ -14,6 +14,7 @@ heard_at w (Some q) (Some p) = (row_at (member_at w q) p).heard
 heard_at w (Some q) None = []
 heard_at w None p = []
 
+-- the same by their names
 abbrev pub heard_by : World → List ℕ → List ℕ → List Message
 heard_by w by of = heard_at w (place_of w.members by) (place_of w.members of)
 
@@ -23,6 +24,7 @@ got_at w (Some q) (Some p) = (row_at (member_at w q) p).got
 got_at w (Some q) None = 0
 got_at w None p = 0
 
+-- the same by their names
 abbrev pub got_by : World → List ℕ → List ℕ → ℕ
 got_by w by of = got_at w (place_of w.members by) (place_of w.members of)
 
@@ -31,6 +33,7 @@ abbrev pub log_at : World → Option ℕ → List Message
 log_at w None = []
 log_at w (Some p) = log_of w p
 
+-- the same by name
 abbrev pub log_by : World → List ℕ → List Message
 log_by w of = log_at w (place_of w.members of)
 
@@ -43,9 +46,11 @@ abbrev pub id_at : Option ℕ → Option MemberId
 id_at None = None
 id_at (Some i) = Some (id_of i)
 
+-- whether a message is a client's own multicast
 abbrev pub is_cast : Message → Bool
 is_cast (Cast body) = true
 
+-- whether it is a publish of the queue, of which there is none yet
 abbrev pub is_publish : Message → Bool
 is_publish (Cast body) = false
 
@@ -62,9 +67,11 @@ counts_of i y = record {
   publishes_confirmed = count_by is_publish (confirmed_of i y);
 }
 
+-- nothing was published
 abbrev pub no_counts : Counts
 no_counts = record { casts = 0; casts_confirmed = 0; publishes = 0; publishes_confirmed = 0 }
 
+-- the counts of the member at a place that was found
 abbrev pub counts_at : World → Option ℕ → Counts
 counts_at w None = no_counts
 counts_at w (Some i) = counts_of i (member_at w i)

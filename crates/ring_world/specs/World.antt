@@ -46,18 +46,23 @@ pub record World : Type 0 where
   pub members : List Member
   pub links : List Link
 
+-- what is known of an origin without a row
 abbrev pub no_row : Row
 no_row = record { got = 0; forgot = 0; retired = 0; heard = [] }
 
+-- what a packet says of an origin of which it says nothing
 abbrev pub no_numbers : Numbers
 no_numbers = record { lo = 0; got = 0; forgot = 0 }
 
+-- a packet that says nothing
 abbrev pub no_packet : Packet
 no_packet = record { numbers = [] }
 
+-- what stands at a place beyond the ring
 abbrev pub no_member : Member
 no_member = record { name = []; log = []; rows = [] }
 
+-- the sending side of a link on which nothing was put
 abbrev pub no_sending : Sending
 no_sending = record { fresh = true; sent = no_packet }
 
@@ -65,6 +70,7 @@ no_sending = record { fresh = true; sent = no_packet }
 abbrev pub full_flow : ℕ → ℕ → Flow
 full_flow initial more = record { sender = full_credit initial more; receiver = none_taken initial more; grants = [] }
 
+-- a link beyond the ring
 abbrev pub no_link : Link
 no_link = record { packets = []; sending = no_sending; flow = full_flow 0 0 }
 
@@ -72,18 +78,23 @@ no_link = record { packets = []; sending = no_sending; flow = full_flow 0 0 }
 abbrev pub row_at : Member → ℕ → Row
 row_at y p = slice_index_or y.rows p no_row
 
+-- what a packet says of the origin at a place
 abbrev pub numbers_at : Packet → ℕ → Numbers
 numbers_at k p = slice_index_or k.numbers p no_numbers
 
+-- the member at a place
 abbrev pub member_at : World → ℕ → Member
 member_at w i = slice_index_or w.members i no_member
 
+-- the link from the member at a place
 abbrev pub link_at : World → ℕ → Link
 link_at w i = slice_index_or w.links i no_link
 
+-- the messages that the member at a place has published, in order
 abbrev pub log_of : World → ℕ → List Message
 log_of w p = (member_at w p).log
 
+-- how many members there are
 abbrev pub size : World → ℕ
 size w = length w.members
 
@@ -98,6 +109,7 @@ left_of n (suc i) = i
 
 -- ---- names
 
+-- no name stands twice
 abbrev pub AreDifferent : List (List ℕ) → Type 0
 AreDifferent names = (j k : ℕ) → j < length names → k < length names → slice_index_or names j [] ≡ slice_index_or names k [] → j ≡ k
 
