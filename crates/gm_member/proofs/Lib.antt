@@ -1,8 +1,11 @@
 pub mod Views
 pub mod Fresh
 pub mod Places
+pub mod Parts
 pub mod Reached
 pub mod PublishStands
-pub mod PackStands
-pub mod AcceptStands
+pub mod PutStands
+pub mod TakeStands
+pub mod GainStands
 pub mod Lifts
+pub mod Pairs

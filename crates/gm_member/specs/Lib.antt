@@ -1,4 +1,5 @@
 pub mod Held
 pub mod View
+pub mod Steps
 pub mod News
 pub mod Stands

@@ -8,7 +8,7 @@ use Rattle.ring_world.specs.Shown.{id_of}
 use Rattle.gm_member.specs.declared.taken.Taken.{Taken}
 use Rattle.gm_member.specs.Held.{Carried, Held, Parcel, carried_at}
 
--- what stands where a list has no message
+-- what stands at no place of a list
 abbrev pub no_message : Message
 no_message = message.Cast []
 

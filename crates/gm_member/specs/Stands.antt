@@ -3,7 +3,7 @@ use Rattle.std.specs.Prelude.{◌≡◌, ℕ, zero, suc, ◌<◌, ◌++◌, Bool
 use Rattle.ring_names.specs.declared.message.Message.{Message}
 use Rattle.ring_names.specs.declared.message.Message.TheVariants.{Cast}
 use Rattle.ring_names.specs.declared.numbers.CreditSpec.{CreditSpec}
-use Rattle.credit_flow.specs.Credit.{is_blocked}
+use Rattle.credit_flow.specs.Link.{oldest as oldest_grant}
 use Rattle.ring_world.specs.declared.event.Event.{Event}
 use Rattle.ring_world.specs.declared.event.Event.TheVariants as event
 use Rattle.ring_world.specs.declared.numbers.Numbers.{Numbers}
@@ -23,6 +23,8 @@ held_in w i = record {
   place = i;
   member = record (member_at w i) { rows = map (row_at (member_at w i)) places };
   sending = record { fresh = (link_at w i).sending.fresh; sent = record { numbers = map (numbers_at (link_at w i).sending.sent) places } };
+  sender = (link_at w i).flow.sender;
+  receiver = (link_at w (left_of (size w) i)).flow.receiver;
 }
 
 -- a member that holds h stands at place i
@@ -37,15 +39,12 @@ carried_in log p k = record { origin = id_of p; lo = k.lo; all = take k.got log;
 abbrev pub lines_in : World → Packet → List Carried
 lines_in w k = map (λ p. carried_in (log_of w p) p (numbers_at k p)) places
 
--- P holds of every state of a run with any credit, and place there, at which a member that holds h stands
+-- P holds of every state of a run, and place there, at which a member that holds h stands
 abbrev pub WhereItStands : Held → (World → ℕ → Type 0) → Type 0
 WhereItStands h P = (credit : CreditSpec) (names : List (List ℕ)) (events : List Event) (i : ℕ)
-    → AreOpeningNames names → IsRun (opening credit names) events → i < size (last (opening credit names) events)
-    → Stands (last (opening credit names) events) i h → P (last (opening credit names) events) i
-
--- the link of member i has credit
-abbrev pub HasCredit : World → ℕ → Type 0
-HasCredit w i = is_blocked (link_at w i).flow.sender ≡ false
+    → AreOpeningNames names → IsRun (opening credit names) events
+    → i < size (last (opening credit names) events) → Stands (last (opening credit names) events) i h
+    → P (last (opening credit names) events) i
 
 -- the event is enabled, and a member that holds h stands at place i after it
 abbrev pub StepsTo : World → ℕ → Event → Held → Type 0
@@ -63,6 +62,10 @@ IsPutPacket w i k = k.lines ≡ lines_in w (next_packet (size w) (member_at w i)
 abbrev pub IsNextPacket : World → ℕ → Parcel → Type 0
 IsNextPacket w i k = (is_empty (link_at w (left_of (size w) i)).packets ≡ false) × (k.lines ≡ lines_in w (oldest (link_at w (left_of (size w) i))))
 
+-- a grant that is the oldest under way on the link of member i
+abbrev pub IsNextGrant : World → ℕ → ℕ → Type 0
+IsNextGrant w i amount = (is_empty (link_at w i).flow.grants ≡ false) × (oldest_grant (link_at w i).flow.grants ≡ amount)
+
 -- the messages of a log that numbers bring to one who has got so many
 abbrev pub taken_of : Bool → ℕ → List Message → ℕ → Numbers → List Taken
 taken_of true p log got k = []
@@ -73,6 +76,6 @@ abbrev pub taken_below : ℕ → World → ℕ → List Taken
 taken_below zero w i = []
 taken_below (suc p) w i = taken_below p w i ++ taken_of (nat_eq p i) p (log_of w p) (row_at (member_at w i) p).got (numbers_at (oldest (link_at w (left_of (size w) i))) p)
 
--- all that a take at place i brings, in order of origin and number: what gm hands to its callback
+-- all that a take at place i brings
 abbrev pub taken_in : World → ℕ → List Taken
 taken_in w i = taken_below most_members w i

@@ -1,7 +1,7 @@
 //! What a member keeps of each origin.
 ghost use Rattle.std.specs.Prelude.{◌≡◌, ℕ, ◌<◌, ◌≤◌, ◌+◌, ◌-◌, ◌^◌, IfOk, OnOk, OnErr, IfErr, length, map, nat_eq, slice_index_or, slice_set};
 ghost use Rattle.std.specs.List.{range_with_len, list_all};
-ghost use Rattle.ring_world.specs.World.{no_row, Packet};
+ghost use Rattle.ring_world.specs.World.{no_row, no_numbers, Packet};
 ghost use Rattle.ring_world.specs.Member.{published_row, is_sent as sent_is, lo_of, next_numbers};
 ghost use Rattle.gm_member.specs.Held.{carried_now, accepted_row, carried_at, no_carried};
 ghost use Rattle.gm_member.specs.View.{row_of, known_at, numbers_of, carried_of};
@@ -57,7 +57,7 @@ pub(crate) fn nothing_known(alloc: Global, n: usize) -> Result<Vec<Known>, OutOf
 
 /// No numbers were sent for so many origins.
 pub(crate) fn nothing_sent(alloc: Global, n: usize) -> Result<Vec<Numbers>, OutOfMemory>
-    ensures { IfOk result (λ v. v.items ≡ map (λ (_ : ℕ). record { lo = 0; got = 0; forgot = 0 }) (range_with_len 0 n)) }
+    ensures { IfOk result (λ v. v.items ≡ map (λ (_ : ℕ). no_numbers) (range_with_len 0 n)) }
 {
     match (0..n)
         .map(|_p| Numbers {

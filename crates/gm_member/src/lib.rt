@@ -1,5 +1,6 @@
-//! A member of the ring as `gm` runs one: it publishes, packs what is new for its right neighbour, and
-//! accepts what its left neighbour packed. Packets carry each origin's whole list of messages.
+//! A member of the ring as `gm` runs one, over the ends of its two links: it publishes, puts what is new
+//! on the link to its right neighbour under credit, and takes what its left neighbour put. Packets carry
+//! each origin's whole list of messages.
 //! Begin at `Member`, and at specs/Held.antt for what a member holds and what its steps do to it.
 #![tactic(auto)]
 
@@ -15,5 +16,5 @@ mod tests;
 pub use fault::MemberFault;
 pub use known::Known;
 pub use member::Member;
-pub use packet::{Line, Packet};
+pub use packet::{Line, Load, Packet};
 pub use taken::Taken;

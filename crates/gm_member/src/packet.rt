@@ -1,5 +1,9 @@
 //! What goes from a member to its right neighbour.
-use ring_names::{MemberId, Message};
+use crate::known::Known;
+use crate::news::all_news;
+use crate::taken::Taken;
+use ring_names::{MemberId, Message, OutOfMemory};
+use std::alloc::Global;
 use std::marker::Model;
 
 /// What a packet says of one origin: its whole list of messages, the number after which they are new
@@ -13,7 +17,7 @@ pub struct Line {
 }
 
 /// A packet: the version of its sender's view, whether it is the first on its link, and a line for
-/// each origin that a ring may have, in order of their ids. Only `Member::pack` makes one.
+/// each origin that a ring may have, in order of their ids. Only `Member::put` makes one.
 #[derive(Drop, Debug)]
 pub struct Packet {
     pub(crate) view: u32,
@@ -33,4 +37,66 @@ impl Model for Packet {
     ghost view = { λ p. record { view = p.view; first = p.first; lines = map carried_of p.lines.items } };
 
     ghost invariant = { λ p. length p.lines.items ≡ most_members };
+}
+
+impl Packet {
+    ghost use Rattle.std.specs.Prelude.{◌≡◌, IfOk, length, map};
+    ghost use Rattle.ring_world.specs.World.{most_members};
+    ghost use Rattle.gm_member.specs.News.{rows_news};
+    ghost use Rattle.gm_member.specs.View.{row_of};
+
+    /// The messages that it brings to a member at this place, with copies of their own.
+    pub(crate) fn news(
+        &self,
+        alloc: Global,
+        known: &[Known],
+        place: usize,
+    ) -> Result<Vec<Taken>, OutOfMemory>
+        requires { length known.now ≡ most_members }
+        ensures { IfOk result (λ v. v.items
+            ≡ rows_news most_members place (map row_of known.now) (self.now).lines) }
+    {
+        let news = all_news(alloc, known, place, &self.lines)?;
+        Ok(news)
+    }
+}
+
+/// What stands on a link.
+#[derive(Drop, Debug)]
+pub enum Load {
+    Packet(Packet),
+}
+
+impl Load {
+    ghost use Rattle.std.specs.Prelude.{◌≡◌, IfOk, length, map};
+    ghost use Rattle.ring_world.specs.World.{most_members};
+    ghost use Rattle.gm_member.specs.News.{rows_news};
+    ghost use Rattle.gm_member.specs.Steps.{parcel_in};
+    ghost use Rattle.gm_member.specs.View.{row_of};
+    ghost use Rattle.gm_member.specs.declared.packet.Load.TheVariants as load;
+
+    /// The messages that it brings to a member at this place, with copies of their own.
+    pub(crate) fn news(
+        &self,
+        alloc: Global,
+        known: &[Known],
+        place: usize,
+    ) -> Result<Vec<Taken>, OutOfMemory>
+        requires { length known.now ≡ most_members }
+        ensures { IfOk result (λ v. v.items
+            ≡ rows_news most_members place (map row_of known.now) (parcel_in self.now).lines) }
+    {
+        match self {
+            Load::Packet(packet) => packet.news(alloc, known, place),
+        }
+    }
+
+    /// The packet that it is.
+    pub(crate) fn into_packet(self) -> Packet
+        ensures { self ≡ load.Packet result }
+    {
+        match self {
+            Load::Packet(packet) => packet,
+        }
+    }
 }

@@ -4,6 +4,5 @@ pub mod Names
 pub mod Reading
 pub mod Scripts
 pub mod Spelled
-pub mod Driving
 pub mod Playing
 pub mod Reports

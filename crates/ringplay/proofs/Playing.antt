@@ -1,60 +1,53 @@
 -- What the journal of a played script has.
-use Rattle.std.proofs.Common.{◌≡◌, ℕ, ◌+◌, ◌<◌, ◌≤◌, ◌^◌, List, [], ◌∷◌, ◌++◌, length, take, drop, get_or, Option, Some, None, refl, sym, ap, subst, ◌∙◌, append_assoc, append-nil}
-use Rattle.std.proofs.lemmas.List.{take_more, take-take, take-append-drop, take_all}
+use Rattle.std.proofs.Common.{◌≡◌, ℕ, zero, suc, ◌+◌, ◌<◌, ◌≤◌, Bool, true, false, cond, nat_lt, not, List, [], ◌∷◌, ◌++◌, length, take, drop, get_or, Some, None, IsSome, bytes_eq, refl, sym, ap, subst, ◌∙◌, arith}
+use Rattle.std.specs.Prelude.{Contains}
+use Rattle.std.specs.List.{position, prefix_len}
+use Rattle.std.proofs.lemmas.Bool.Decides.{nat_tests}
+use Rattle.std.proofs.lemmas.List.{take-take, take-append-drop}
 use Rattle.ring_names.specs.declared.numbers.CreditSpec.{CreditSpec}
-use Rattle.credit_flow.specs.Credit.{Counted}
+use Rattle.ring_script.specs.declared.command.Command.{Command}
+use Rattle.ring_script.specs.declared.command.Command.TheVariants as command
 use Rattle.ring_world.specs.declared.event.Event.{Event}
-use Rattle.ring_world.specs.declared.event.Event.TheVariants.{Cast, Gain}
-use Rattle.ring_world.specs.World.{World, AreOpeningNames}
+use Rattle.ring_world.specs.World.{AreOpeningNames}
 use Rattle.ring_world.specs.Run.{IsRun, opening, last}
-use Rattle.ring_world.specs.Laws.{IsLawful, NeverFalls}
+use Rattle.ring_world.specs.Laws.{IsLawful, NeverFalls, IsQuiet}
+use Rattle.ring_world.proofs.Names.{own_bytes}
 use Rattle.ring_world.proofs.Run.{IsRun-take}
 use Rattle.ring_world.proofs.Lawful.{run_lawful}
 use Rattle.ring_world.proofs.Later.{run_rises}
-use Rattle.ringplay.specs.declared.script.Command.{Command}
-use Rattle.ringplay.specs.declared.script.Command.TheVariants as command
-use Rattle.ringplay.specs.Script.{Script, IsScript}
-use Rattle.ringplay.specs.Plays.{client_event, client_events, asked_by, asked, SameClients, PerformsOne, Performs, Plays}
-use Rattle.gm_member.specs.declared.member.Member.{Member}
-use Rattle.ringplay.specs.Ring.{AllStand, IsRing, gain_of}
+use Rattle.ring_world.proofs.HeardAll.{run_quiet_has_heard}
+use Rattle.ring_cluster.specs.Seen.{Seen, IsGoing, state_of, opening_seen}
+use Rattle.ring_cluster.specs.Plays.{Plays, PlaysSoFar, HasGoneOn, AgendasAreEmpty, place_among}
+use Rattle.ring_cluster.specs.Plays as cluster
+use Rattle.ringplay.specs.Script.{Script, IsScript, IsCommandTo}
 use Rattle.ringplay.specs.Report.{report_of}
-use Rattle.ringplay.specs.Call.{state_after, IsPlayed}
+use Rattle.ringplay.specs.Call.{state_after, IsUsualCredit, SameRing, given_of, IsPlayedBy}
 
--- ---- client events
+-- ---- a name that the ring has, has a place
 
-pub client_events-push : (name : List ℕ) (journal : List Event) (e : Event) → client_events name (journal ++ e ∷ []) ≡ client_events name journal ++ client_event name e
-client_events-push name [] e = append-nil (client_event name e)
-client_events-push name (x ∷ xs) e =
-    ap (λ ys. client_event name x ++ ys) (client_events-push name xs e) ∙ sym (append_assoc (client_event name x) (client_events name xs) (client_event name e))
+prefix_at_most : {X : Type 0} (p : X → Bool) (xs : List X) (k : ℕ) (d : X) → k < length xs → p (get_or xs k d) ≡ false → prefix_len p xs ≤ k
+prefix_at_most p [] k d l e = absurd (omega arith)
+prefix_at_most p (x ∷ xs) zero d l e = rw e (omega arith)
+prefix_at_most p (x ∷ xs) (suc k) d l e =
+    (elim (p x) as (λ b. cond b (1 + prefix_len p xs) 0 ≤ suc k) [ true ↦ omega (arith, prefix_at_most p xs k d (omega arith) e) | false ↦ omega arith ])
 
-pub asked-push : (name : List ℕ) (commands : List Command) (c : Command) → asked name (commands ++ c ∷ []) ≡ asked name commands ++ asked_by name c
-asked-push name [] c = append-nil (asked_by name c)
-asked-push name (x ∷ xs) c =
-    ap (λ ys. asked_by name x ++ ys) (asked-push name xs c) ∙ sym (append_assoc (asked_by name x) (asked name xs) (asked_by name c))
+some_below : (a n : ℕ) (b : Bool) → nat_lt a n ≡ b → a < n → IsSome (cond b (Some a) None)
+some_below a n true e l = refl
+some_below a n false e l = absurd (grind (arith, nat_tests))
 
--- a step of the ring's own
-pub same_clients_push : (old journal : List Event) (e : Event) → ((name : List ℕ) → client_event name e ≡ []) → SameClients old journal → SameClients old (journal ++ e ∷ [])
-same_clients_push old journal e none h name = client_events-push name journal e ∙ ap (λ ys. client_events name journal ++ ys) (none name) ∙ append-nil (client_events name journal) ∙ h name
+position_there : {X : Type 0} (p : X → Bool) (xs : List X) (k : ℕ) (d : X) → k < length xs → p (get_or xs k d) ≡ true → IsSome (position p xs)
+position_there p xs k d l e =
+    let most : prefix_len (λ x. not (p x)) xs ≤ k = prefix_at_most (λ x. not (p x)) xs k d l (ap not e) in
+    some_below (prefix_len (λ x. not (p x)) xs) (length xs) _ refl (omega arith)
 
-pub performs_cast : (journal journal' : List Event) (by body : List ℕ) → journal' ≡ journal ++ Cast by body ∷ [] → PerformsOne (command.Cast by body) journal journal'
-performs_cast journal journal' by body e name = ap (client_events name) e ∙ client_events-push name journal (Cast by body)
+pub known_place : (names : List (List ℕ)) (by : List ℕ) → Contains names by → IsSome (place_among names by)
+known_place names by (k, l, e) = position_there (λ n. bytes_eq n by) names k by l (ap (λ n. bytes_eq n by) e ∙ own_bytes by)
 
-pub performs_settle : (journal journal' : List Event) → SameClients journal journal' → PerformsOne command.Settle journal journal'
-performs_settle journal journal' h name = h name ∙ sym (append-nil (client_events name journal))
-
-pub performs_none : (journal : List Event) → Performs [] journal journal
-performs_none journal name = sym (append-nil (client_events name journal))
-
-pub performs_more : (commands : List Command) (i : ℕ) (c : Command) (old journal journal' : List Event) → i < length commands → c ≡ get_or commands i c → Performs (take i commands) old journal → PerformsOne c journal journal' → Performs (take (i + 1) commands) old journal'
-performs_more commands i c old journal journal' l e h one name =
-    one name ∙ ap (λ ys. ys ++ asked_by name c) (h name) ∙ append_assoc (client_events name old) (asked name (take i commands)) (asked_by name c)
-    ∙ ap (λ ys. client_events name old ++ ys) (sym (asked-push name (take i commands) c))
-    ∙ ap (λ cs. client_events name old ++ asked name cs) (sym (take_more commands i c l ∙ ap (λ z. take i commands ++ z ∷ []) (sym e)))
-
--- the grant that is gained is no client's
-pub same_clients_gain : (old journal : List Event) (grant : Option ℕ) (by : List ℕ) → SameClients old journal → SameClients old (journal ++ gain_of grant by)
-same_clients_gain old journal None by h = subst (SameClients old) (sym (append-nil journal)) h
-same_clients_gain old journal (Some grant) by h = same_clients_push old journal (Gain by) (λ name. refl) h
+-- a command of a script, but for a settling, is one to a member
+pub known_command_of : (names : List (List ℕ)) (x : Command) → (x ≡ command.Settle → ⊥) → IsCommandTo names x → cluster.IsCommandTo names x
+known_command_of names (command.Cast by body) ne h = known_place names by h.0
+known_command_of names (command.Go turns) ne h = h
+known_command_of names command.Settle ne h = ne refl
 
 -- ---- the laws after each prefix
 
@@ -77,21 +70,37 @@ opening_names_of script h = record { some = h.some; few = h.few; different = h.d
 
 -- ---- a played script
 
-pub performed_all : (commands : List Command) (i : ℕ) (old new : List Event) → length commands ≤ i → Performs (take i commands) old new → Performs commands old new
-performed_all commands i old new l h = subst (λ cs. Performs cs old new) (take_all i commands l) h
+-- a cluster that has performed a script and settled has played it
+pub played_by : (script : Script) (c : Seen) (journal : List Event) (text : List ℕ) → IsUsualCredit c.credit → c.names ≡ script.members → c.given ≡ given_of script
+    → IsGoing c → IsQuiet (state_of c) → AgendasAreEmpty c → Plays c.credit c.names c.events c.given → journal ≡ c.events → text ≡ report_of (state_of c)
+    → IsPlayedBy script journal text (Some c)
+played_by script c journal text is en eg going quiet empty plays ej et =
+    let run : IsRun (opening c.credit script.members) journal = rw (sym en, ej) going.run in
+    let quiet' : IsQuiet (last (opening c.credit script.members) journal) = rw (sym en, ej) quiet in
+    record {
+      played = record {
+        credit = c.credit;
+        is = is;
+        run = run;
+        few = rw ej going.few;
+        plays = rw (sym en, ej, sym eg) plays;
+        lawful = lawful_after c.credit script journal run;
+        never_falls = falls_never c.credit script journal run;
+        quiet = quiet';
+        heard_all = run_quiet_has_heard c.credit script.members journal run quiet';
+        report = rw (sym en, ej) et;
+      };
+      by = record { seen = c; is = refl; names = en; credit_is = refl; events = sym ej; given = eg; empty = empty };
+    }
 
-pub plays_from_nothing : (script : Script) (before journal : List Event) → Performs script.commands [] before → SameClients before journal → Plays script journal
-plays_from_nothing script before journal h same name = same name ∙ h name
-
-pub played_is : (script : Script) (members : List Member) (receivers : List Counted) (before journal : List Event) (text : List ℕ) → IsRing script.members members receivers journal → Performs script.commands [] before → SameClients before journal → length journal < 2 ^ 59
-    → ((w : World) → AllStand w members → text ≡ report_of w) → IsPlayed script journal text
-played_is script members receivers before journal text h performs same few report = record {
-  credit = h.credit;
-  is = h.is;
-  run = h.run;
-  few = few;
-  plays = plays_from_nothing script before journal performs same;
-  lawful = lawful_after h.credit script journal h.run;
-  never_falls = falls_never h.credit script journal h.run;
-  report = report (last (opening h.credit script.members) journal) h.stand;
-}
+-- a cluster that opened as a, performed the commands of a script to b and settled to c
+pub played_all : (script : Script) (credit : CreditSpec) (a b c : Seen) (journal : List Event) (text : List ℕ) → IsUsualCredit credit → a ≡ opening_seen credit script.members
+    → SameRing a b → b.given ≡ a.given ++ script.commands → HasGoneOn b c → c.given ≡ b.given ++ command.Settle ∷ []
+    → IsGoing c → IsQuiet (state_of c) → AgendasAreEmpty c → Plays c.credit c.names c.events c.given → journal ≡ c.events → text ≡ report_of (state_of c)
+    → IsPlayedBy script journal text (Some c)
+played_all script credit a b c journal text is ea ring given goes settled going quiet empty plays ej et =
+    let credits : c.credit ≡ credit = goes.1.credit ∙ ring.1 ∙ ap (λ s. s.credit) ea in
+    played_by script c journal text (rw credits is)
+    (goes.1.names ∙ ring.0 ∙ ap (λ s. s.names) ea)
+    (settled ∙ ap (λ xs. xs ++ command.Settle ∷ []) (given ∙ ap (λ s. s.given ++ script.commands) ea))
+    going quiet empty plays ej et

@@ -4,7 +4,7 @@ use Rattle.std.specs.List.{slice_split, list_all, list_any}
 use Rattle.std.proofs.lemmas.Bool.{and_parts, and_from, le-leb, leb-true, lt-ltb, ltb-true, both_ways}
 use Rattle.std.proofs.lemmas.List.{append-nil, append_assoc}
 use Rattle.std.proofs.lemmas.List.Folds.{list_any-append, list_all-append}
-use Rattle.ringplay.specs.declared.script.Command.{Command}
+use Rattle.ring_script.specs.declared.command.Command.{Command}
 use Rattle.ringplay.specs.Script.{is_space, is_name, is_further, are_different, are_members, names_of}
 
 -- the commands read, with those of the lines that are left, where each is one

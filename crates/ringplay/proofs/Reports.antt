@@ -1,19 +1,17 @@
 -- What members that stand in a state show of it.
-use Rattle.std.proofs.lemmas.List.{get_or-map, flat_map_more}
+use Rattle.std.proofs.lemmas.List.{flat_map_more}
 use Rattle.std.proofs.lemmas.List.FromFn.{get_or-map-range_with_len}
 use Rattle.std.specs.List.{flat_map, range_with_len}
-use Rattle.std.proofs.Common.{◌≡◌, ℕ, zero, suc, ◌+◌, ◌<◌, List, [], ◌∷◌, ◌++◌, length, get_or, ap, sym, subst, ◌∙◌, arith, append_assoc, add-zero, zero-add, add-one, take, refl, count_by}
+use Rattle.std.proofs.Common.{◌≡◌, ℕ, zero, suc, ◌+◌, ◌<◌, List, [], ◌∷◌, ◌++◌, ap, sym, ◌∙◌, arith, append_assoc, add-zero, zero-add, add-one, take, refl, count_by}
 use Rattle.ring_world.specs.World.{World, row_at, member_at, log_of, no_row}
 use Rattle.ring_world.specs.Laws.{row_of}
 use Rattle.ring_world.specs.Shown.{counts_of, is_cast, is_publish}
-use Rattle.gm_member.specs.declared.member.Member.{Member}
 use Rattle.ring_names.specs.declared.message.Message.{Message}
 use Rattle.ring_world.specs.declared.shown.Counts.{Counts}
 use Rattle.gm_member.specs.Held.{Held}
-use Rattle.gm_member.specs.View.{held_of, known_at}
+use Rattle.gm_member.specs.View.{known_at}
 use Rattle.gm_member.specs.Stands.{held_in}
 use Rattle.ringplay.specs.Report.{name_of, member_line, counts_lines, heard_line, heard_lines, lines_of_member}
-use Rattle.ringplay.specs.Ring.{AllStand, no_held}
 
 -- the numbers from a on, and the next one
 range_more : (a n k : ℕ) → a + n ≡ k → range_with_len a (n + 1) ≡ range_with_len a n ++ k ∷ []
@@ -36,10 +34,6 @@ counts_in confirmed log = record {
   publishes = count_by is_publish log;
   publishes_confirmed = count_by is_publish confirmed;
 }
-
--- the member at place i of the list stands at place i
-pub stands_at : (w : World) (members : List Member) (i : ℕ) (m : Member) → AllStand w members → i < length members → m ≡ get_or members i m → held_of m ≡ held_in w i
-stands_at w members i m s l e = ap held_of e ∙ sym (get_or-map held_of members i m no_held l) ∙ s.each i (subst (λ n. i < n) s.count l)
 
 -- what a member that stands at place q shows: its name, its rows and its counts
 pub name_stands : (w : World) (q : ℕ) (h : Held) → h ≡ held_in w q → h.member.name ≡ name_of w q

@@ -6,8 +6,8 @@ use Rattle.std.proofs.lemmas.List.{get_or_default}
 use Rattle.std.proofs.lemmas.List.Elements.{All-nil, All-cons}
 use Rattle.std.proofs.lemmas.List.Folds.{Any-from_list_any}
 use Rattle.std.proofs.lemmas.List.Splits.{length-slice_split}
-use Rattle.ringplay.specs.declared.script.Command.{Command}
-use Rattle.ringplay.specs.declared.script.Command.TheVariants.{Cast, Settle}
+use Rattle.ring_script.specs.declared.command.Command.{Command}
+use Rattle.ring_script.specs.declared.command.Command.TheVariants.{Cast, Settle}
 use Rattle.ringplay.specs.Script.{Script, script_with, lines_of, is_text, is_space, behind, are_members, names_of, members_of, is_body, cast_of, command_of, in_front, commands_of, script_of_lines, script_of, IsCommandTo, IsScript}
 use Rattle.ringplay.proofs.Bodies.{IsBody-from}
 use Rattle.ringplay.proofs.Names.{same_bytes, members_few, members_different, members_names}

@@ -10,8 +10,8 @@ use Rattle.std.proofs.lemmas.List.Folds.{list_all-append, list_any_none, list_an
 use Rattle.std.proofs.lemmas.List.Sums.{list_all-from_AllPass}
 use Rattle.ring_names.specs.Name.{IsName, is_bad_name_byte}
 use Rattle.ring_names.specs.Body.{IsBody}
-use Rattle.ringplay.specs.declared.script.Command.{Command}
-use Rattle.ringplay.specs.declared.script.Command.TheVariants.{Cast, Settle}
+use Rattle.ring_script.specs.declared.command.Command.{Command}
+use Rattle.ring_script.specs.declared.command.Command.TheVariants.{Cast, Go, Settle}
 use Rattle.ring_world.specs.World.{AreDifferent}
 use Rattle.ringplay.specs.Script.{Script, lines_of, is_text_byte, is_text, is_space, behind, is_name, are_different, are_members, names_of, members_of, cast_by, cast_of, command_of, commands_of, script_of_lines, script_of, IsCommandTo, IsScript, spaced, line_of, spelled, ended, text_of}
 use Rattle.ringplay.proofs.Cuts.{list_all_missed}
@@ -157,11 +157,13 @@ command_line : (members : List (List ℕ)) (command : Command) → All IsName me
 command_line members (Cast by body) names h =
     let name = All-contains IsName members by names h.0 in
     rw (cast_text by body name h.1) (cast_line members by body name h.0 h.1)
+command_line members (Go turns) names h = absurd h
 command_line members Settle names h = refl
 
 command_text : (members : List (List ℕ)) (command : Command) → All IsName members → IsCommandTo members command → list_all is_text_byte (line_of command) ≡ true
 command_text members (Cast by body) names h =
     (and_parts (nat_le (length (line_of (Cast by body))) 2000) (list_all is_text_byte (line_of (Cast by body))) (cast_text by body (All-contains IsName members by names h.0) h.1)).1
+command_text members (Go turns) names h = absurd h
 command_text members Settle names h = refl
 
 commands_lines : (members : List (List ℕ)) (commands : List Command) → All IsName members → All (IsCommandTo members) commands → commands_of members (map line_of commands) ≡ Some commands

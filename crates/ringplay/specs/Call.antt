@@ -1,17 +1,19 @@
 -- What the top call answers, and why.
-use Rattle.std.specs.Prelude.{◌≡◌, ◌⊎◌, ℕ, ◌<◌, ◌≤◌, ◌^◌, List, [], ◌++◌, length, take, codes, Option, Some, None, IfSome}
+use Rattle.std.specs.Prelude.{◌≡◌, ◌⊎◌, ℕ, ◌<◌, ◌≤◌, ◌^◌, List, [], ◌∷◌, ◌++◌, length, take, codes, Option, Some, None, IfSome}
 use Rattle.ring_names.specs.declared.numbers.CreditSpec.{CreditSpec}
+use Rattle.ring_script.specs.declared.command.Command.{Command}
+use Rattle.ring_script.specs.declared.command.Command.TheVariants.{Settle}
 use Rattle.ring_world.specs.declared.event.Event.{Event}
 use Rattle.ring_world.specs.World.{World}
 use Rattle.ring_world.specs.Run.{IsRun, opening, last}
-use Rattle.ring_world.specs.Laws.{IsLawful, NeverFalls}
+use Rattle.ring_world.specs.Laws.{IsLawful, NeverFalls, IsQuiet, HasHeardAll}
+use Rattle.ring_cluster.specs.Seen.{Seen}
+use Rattle.ring_cluster.specs.Plays.{Plays, AgendasAreEmpty}
 use Rattle.ringplay.specs.declared.call.Cause.{Cause}
 use Rattle.ringplay.specs.declared.call.Cause.TheVariants as causes
 use Rattle.ringplay.specs.declared.call.Ended.{Ended}
 use Rattle.ringplay.specs.Words.{IsPlay}
 use Rattle.ringplay.specs.Script.{Script, script_of}
-use Rattle.ringplay.specs.Ring.{IsUsualCredit}
-use Rattle.ringplay.specs.Plays.{Plays}
 use Rattle.ringplay.specs.Report.{newline, report_of}
 
 -- ---- what is played
@@ -20,19 +22,51 @@ use Rattle.ringplay.specs.Report.{newline, report_of}
 abbrev pub state_after : CreditSpec → Script → List Event → ℕ → World
 state_after credit script journal k = last (opening credit script.members) (take k journal)
 
--- the journal is a run of the ring from the script's members, with credit 8 4, where a script names none;
--- each member's client events in it are its commands, the laws hold after each of its prefixes and from
--- each prefix to the next, and the text is the report of its last state
+-- a link opens with 8 credits and each grant is of 4
+abbrev pub IsUsualCredit : CreditSpec → Type 0
+IsUsualCredit credit = (credit.initial ≡ 8) × (credit.more ≡ 4)
+
+-- the cluster's ring opened with the same members and credit
+abbrev pub SameRing : Seen → Seen → Type 0
+SameRing c d = (d.names ≡ c.names) × (d.credit ≡ c.credit)
+
+-- what the ring is given: the commands of the script, and at its end it settles
+abbrev pub given_of : Script → List Command
+given_of script = script.commands ++ Settle ∷ []
+
+-- The journal is a run of the ring from the script's members, with credit 8 4, where a script names none.
+-- Each member's client events in it are its commands, and at each settling all earlier commands were done
+-- and the ring was quiet. The laws hold after each of its prefixes and from each prefix to the next. Its
+-- last state is quiet, each message is confirmed there and every member has heard all, and the text is the
+-- report of it.
 pub record IsPlayed (script : Script) (journal : List Event) (text : List ℕ) : Type 0 where
   pub credit : CreditSpec
   pub is : IsUsualCredit credit
   pub run : IsRun (opening credit script.members) journal
   pub few : length journal < 2 ^ 59
-  pub plays : Plays script journal
+  pub plays : Plays credit script.members journal (given_of script)
   pub lawful : (k : ℕ) → IsLawful (state_after credit script journal k)
   pub never_falls : (j k : ℕ) → j ≤ k
       → NeverFalls (state_after credit script journal j) (state_after credit script journal k)
+  pub quiet : IsQuiet (last (opening credit script.members) journal)
+  pub heard_all : HasHeardAll (last (opening credit script.members) journal)
   pub report : text ≡ report_of (last (opening credit script.members) journal)
+
+-- The cluster played it: its ring opened with the script's members, it was given the commands of the script
+-- and the settling at its end and nothing else, its journal is this one, and nobody has anything left to do.
+pub record HasPlayed (script : Script) (credit : CreditSpec) (journal : List Event) (cluster : Option Seen) : Type 0 where
+  pub seen : Seen
+  pub is : cluster ≡ Some seen
+  pub names : seen.names ≡ script.members
+  pub credit_is : seen.credit ≡ credit
+  pub events : seen.events ≡ journal
+  pub given : seen.given ≡ given_of script
+  pub empty : AgendasAreEmpty seen
+
+-- the script was played, by this cluster
+pub record IsPlayedBy (script : Script) (journal : List Event) (text : List ℕ) (cluster : Option Seen) : Type 0 where
+  pub played : IsPlayed script journal text
+  pub by : HasPlayed script played.credit journal cluster
 
 -- ---- what is read
 
@@ -45,13 +79,13 @@ pub record IsInput (told : Option (List ℕ)) (bytes : List ℕ) : Type 0 where
   pub is : IfSome told (λ all. bytes ≡ all)
   pub within : length bytes ≤ most_bytes
 
--- the input is a script, and it was played
-pub record IsDone (told : Option (List ℕ)) (journal : List Event) (text : List ℕ) : Type 0 where
+-- the input is a script, and this cluster played it
+pub record IsDone (told : Option (List ℕ)) (journal : List Event) (text : List ℕ) (cluster : Option Seen) : Type 0 where
   pub bytes : List ℕ
   pub input : IsInput told bytes
   pub script : Script
   pub says : script_of bytes ≡ Some script
-  pub played : IsPlayed script journal text
+  pub played : IsPlayedBy script journal text cluster
 
 -- the input is no script
 pub record IsNoScript (told : Option (List ℕ)) : Type 0 where
@@ -71,28 +105,32 @@ status_of causes.WriteFault = 4
 status_of causes.OutOfMemory = 5
 status_of causes.TooLarge = 6
 
--- why an answer other than a played script has this journal and this line
-pub record SaysOnly (why : Type 0) (journal : List Event) (text line : List ℕ) : Type 0 where
+-- why an answer other than a played script has this journal, this line and no cluster
+pub record SaysOnly (why : Type 0) (journal : List Event) (text : List ℕ) (cluster : Option Seen) (line : List ℕ) : Type 0 where
   pub because : why
   pub nothing : journal ≡ []
+  pub nobody : cluster ≡ None
   pub says : text ≡ line
 
 -- What is due before anything is written. Want of memory alone is free. `told` is what the source tells of
 -- its bytes, and `rose` says that its count of faults rose.
-abbrev pub IsDue : List (List ℕ) → Option (List ℕ) → Type 0 → Cause → List Event → List ℕ → Type 0
-IsDue words told rose causes.Done journal text = IsPlay words × IsDone told journal text
-IsDue words told rose causes.Usage journal text = SaysOnly (IsPlay words → ⊥) journal text (codes "usage" ++ newline)
-IsDue words told rose (causes.Script line kind) journal text = SaysOnly (IsPlay words × (line ≡ 1) × (kind ≡ 52) × IsNoScript told) journal text (codes "script 1 52" ++ newline)
-IsDue words told rose causes.ReadFault journal text = SaysOnly (IsPlay words × rose) journal text []
-IsDue words told rose causes.WriteFault journal text = ⊥
-IsDue words told rose causes.OutOfMemory journal text = SaysOnly (Unit {0}) journal text []
-IsDue words told rose causes.TooLarge journal text = SaysOnly (IsPlay words × IfSome told (λ all. most_bytes < length all)) journal text (codes "too large" ++ newline)
+abbrev pub IsDue : List (List ℕ) → Option (List ℕ) → Type 0 → Cause → List Event → List ℕ → Option Seen → Type 0
+IsDue words told rose causes.Done journal text cluster = IsPlay words × IsDone told journal text cluster
+IsDue words told rose causes.Usage journal text cluster =
+    SaysOnly (IsPlay words → ⊥) journal text cluster (codes "usage" ++ newline)
+IsDue words told rose (causes.Script line kind) journal text cluster =
+    SaysOnly (IsPlay words × (line ≡ 1) × (kind ≡ 52) × IsNoScript told) journal text cluster (codes "script 1 52" ++ newline)
+IsDue words told rose causes.ReadFault journal text cluster = SaysOnly (IsPlay words × rose) journal text cluster []
+IsDue words told rose causes.WriteFault journal text cluster = ⊥
+IsDue words told rose causes.OutOfMemory journal text cluster = SaysOnly (Unit {0}) journal text cluster []
+IsDue words told rose causes.TooLarge journal text cluster =
+    SaysOnly (IsPlay words × IfSome told (λ all. most_bytes < length all)) journal text cluster (codes "too large" ++ newline)
 
 -- The answer: what was due was written whole, or the sink failed (`rose`) and has gained the first bytes of it.
 pub record Answers (words : List (List ℕ)) (told : Option (List ℕ)) (read_rose : Type 0) (gains : List ℕ → Type 0) (write_rose : Type 0) (ended : Ended) : Type 0 where
   pub cause : Cause
   pub text : List ℕ
-  pub due : IsDue words told read_rose cause ended.journal text
+  pub due : IsDue words told read_rose cause ended.journal text ended.cluster
   pub written : ((ended.cause ≡ cause) × (ended.written ≡ length text) × gains text)
       ⊎ ((ended.cause ≡ causes.WriteFault) × write_rose × (ended.written < length text) × gains (take ended.written text))
 

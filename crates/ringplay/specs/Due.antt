@@ -6,15 +6,15 @@ use Rattle.ringplay.specs.declared.call.Due.{Due}
 use Rattle.ringplay.specs.declared.call.Ended.{Ended}
 use Rattle.ringplay.specs.Script.{Script, script_of}
 use Rattle.ringplay.specs.Report.{newline}
-use Rattle.ringplay.specs.Call.{IsPlayed}
+use Rattle.ringplay.specs.Call.{IsPlayedBy}
 
--- a line and no journal, or want of memory
+-- a line, no journal and no cluster, or want of memory
 abbrev pub IsLineDue : Cause → List ℕ → Due → Type 0
-IsLineDue cause line due = (due.journal.items ≡ []) × (((due.cause ≡ cause) × (due.text.items ≡ line)) ⊎ ((due.cause ≡ causes.OutOfMemory) × (due.text.items ≡ [])))
+IsLineDue cause line due = (due.journal.items ≡ []) × (due.cluster ≡ None) × (((due.cause ≡ cause) × (due.text.items ≡ line)) ⊎ ((due.cause ≡ causes.OutOfMemory) × (due.text.items ≡ [])))
 
--- the script that the bytes spell was played
+-- the script that the bytes spell was played, by this cluster
 abbrev pub IsPlayDue : List ℕ → Due → Type 0
-IsPlayDue bytes due = (due.cause ≡ causes.Done) × ((script : Script) × (script_of bytes ≡ Some script) × IsPlayed script due.journal.items due.text.items)
+IsPlayDue bytes due = (due.cause ≡ causes.Done) × ((script : Script) × (script_of bytes ≡ Some script) × IsPlayedBy script due.journal.items due.text.items due.cluster)
 
 -- the bytes spell no script
 abbrev pub IsRefusalDue : List ℕ → Due → Type 0

@@ -1,11 +1,12 @@
 -- The text of a script: its lines, what they say, and how a script is spelled.
 use Rattle.std.specs.Prelude.{ℕ, ◌<◌, ◌≤◌, Bool, true, ◌&&◌, not, nat_le, nat_lt, ◌==◌, if◌then◌else◌, Option, Some, None, option_map, option_and_then, is_ok, List, [], ◌∷◌, ◌++◌, length, take, drop, map, codes, bytes_eq, All, Contains}
 use Rattle.std.specs.List.{list_all, list_any, slice_split, onto_first, before_first, after_first, flat_map}
+use Rattle.std.specs.Fmt.{decimal}
 use Rattle.ring_names.specs.Name.{IsName, name_or_fault}
 use Rattle.ring_names.specs.Body.{IsBody}
 use Rattle.ring_world.specs.World.{AreDifferent, most_members}
-use Rattle.ringplay.specs.declared.script.Command.{Command}
-use Rattle.ringplay.specs.declared.script.Command.TheVariants.{Cast, Settle}
+use Rattle.ring_script.specs.declared.command.Command.{Command}
+use Rattle.ring_script.specs.declared.command.Command.TheVariants.{Cast, Go, Settle}
 
 -- what a script says: the members that open the ring, and what is then done with it
 pub record Script : Type 0 where
@@ -110,10 +111,10 @@ script_of bytes = script_of_lines (lines_of bytes)
 
 -- ---- what a script is, and its spelling
 
--- no two places have one name
--- a command that these members can be given
+-- a command that the script of these members may give
 abbrev pub IsCommandTo : List (List ℕ) → Command → Type 0
 IsCommandTo members (Cast by body) = Contains members by × IsBody body
+IsCommandTo members (Go turns) = ⊥
 IsCommandTo members Settle = Unit {0}
 
 -- 1 to 64 different names, and commands to these members
@@ -128,9 +129,10 @@ pub record IsScript (script : Script) : Type 0 where
 abbrev pub spaced : List ℕ → List ℕ
 spaced bytes = 32 ∷ bytes
 
--- the line that gives a command
+-- the line that gives a command; no script of this form has turns
 abbrev pub line_of : Command → List ℕ
 line_of (Cast by body) = codes "cast" ++ (spaced by ++ spaced body)
+line_of (Go turns) = codes "go " ++ decimal turns
 line_of Settle = codes "settle"
 
 -- the lines of a script

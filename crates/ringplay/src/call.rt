@@ -11,6 +11,7 @@ ghost use Rattle.ringplay.specs.Call.{Answers, IsDue, IsUnlessFailed, most_bytes
 use crate::play::play;
 use crate::script::{ScriptEnd, read_script};
 use crate::word::{Word, is_play};
+use ring_cluster::Cluster;
 use ring_io::{Gate, ReadEnd, Sink, Source, read_all, write_all};
 use ring_names::{Items, OutOfMemory};
 use ring_world::Event;
@@ -37,13 +38,15 @@ pub enum Cause {
 }
 
 /// How a call ended.
-#[derive(Drop, Debug)]
+#[derive(Drop)]
 pub struct Ended {
     /// The status with which the program ends, by the cause.
     pub status: u8,
     pub cause: Cause,
     /// What has happened in the ring, where a script was played.
     pub journal: Items<Event>,
+    /// The cluster that played it, where a script was played.
+    pub cluster: Option<Cluster>,
     /// How many bytes the sink took.
     pub written: u64,
 }
@@ -54,6 +57,7 @@ struct Due {
     cause: Cause,
     journal: Vec<Event>,
     text: Vec<u8>,
+    cluster: Option<Cluster>,
 }
 
 /// How many bytes of input are taken.
@@ -76,7 +80,7 @@ impl Cause {
     }
 }
 
-/// An answer that writes one line, or nothing, and has no journal.
+/// An answer that writes one line, or nothing, and has no journal and no cluster.
 fn line_due(alloc: Global, cause: Cause, line: &[u8]) -> Due
     ensures { IsLineDue cause line.now result }
 {
@@ -86,27 +90,30 @@ fn line_due(alloc: Global, cause: Cause, line: &[u8]) -> Due
             cause,
             journal,
             text,
+            cluster: None,
         },
         Err(_) => Due {
             cause: Cause::OutOfMemory,
             journal,
             text: Vec::new(alloc),
+            cluster: None,
         },
     }
 }
 
 /// What the bytes of an input ask for.
-fn due_to_input(alloc: Global, bytes: Vec<u8>) -> Due
+fn due_to_input<T: Threads, G: Gate>(threads: &T, alloc: Global, bytes: Vec<u8>, gate: &G) -> Due
     ensures { IsDueToInput bytes.items result }
 {
     let read = read_script(alloc, &bytes);
     drop(bytes);
     match read {
-        Ok(script) => match play(alloc, script) {
+        Ok(script) => match play(threads, alloc, script, gate) {
             Ok(played) => Due {
                 cause: Cause::Done,
                 journal: played.journal,
                 text: played.text,
+                cluster: Some(played.cluster),
             },
             Err(OutOfMemory) => line_due(alloc, Cause::OutOfMemory, b""),
         },
@@ -118,15 +125,22 @@ fn due_to_input(alloc: Global, bytes: Vec<u8>) -> Due
 }
 
 /// What is due for these words and this source.
-fn due_for<S: Source>(alloc: Global, words: &[Word], source: &mut S) -> Due
-    ensures due { IsDue words.now (S.remaining source.old) (Rose (S.faults source.old) (S.faults source.new)) result.cause result.journal.items result.text.items }
+fn due_for<T: Threads, S: Source, G: Gate>(
+    threads: &T,
+    alloc: Global,
+    words: &[Word],
+    source: &mut S,
+    gate: &G,
+) -> Due
+    ensures due { IsDue words.now (S.remaining source.old) (Rose (S.faults source.old) (S.faults source.new))
+        result.cause result.journal.items result.text.items result.cluster }
     ensures unread { (IsPlay words.now → ⊥) → source.new ≡ source.old }
 {
     if !is_play(words) {
         return line_due(alloc, Cause::Usage, b"usage\n");
     }
     match read_all(alloc, source, MOST_BYTES) {
-        Ok(bytes) => due_to_input(alloc, bytes),
+        Ok(bytes) => due_to_input(threads, alloc, bytes, gate),
         Err(ReadEnd::Fault) => line_due(alloc, Cause::ReadFault, b""),
         Err(ReadEnd::TooLarge) => line_due(alloc, Cause::TooLarge, b"too large\n"),
         Err(ReadEnd::OutOfMemory) => line_due(alloc, Cause::OutOfMemory, b""),
@@ -135,7 +149,7 @@ fn due_for<S: Source>(alloc: Global, words: &[Word], source: &mut S) -> Due
 
 /// Does what the words ask for: `play` alone plays the script that the source gives, and writes the
 /// report of the ring's last state to the sink. The whole text stands before its first byte is written.
-/// No round runs yet, so neither the thread handle nor the gate is used.
+/// The cluster runs its rounds with the thread handle and the gate.
 pub fn ring_call<T: Threads, S: Source, K: Sink, G: Gate>(
     threads: &T,
     alloc: Global,
@@ -146,7 +160,7 @@ pub fn ring_call<T: Threads, S: Source, K: Sink, G: Gate>(
 ) -> Ended
     ensures status { result.status ≡ status_of result.cause }
 
-    // What is answered, why, and what was written.
+    // What is answered, why, and what was written; and of a played script the cluster that took its commands.
     ensures answers { Answers words.now (S.remaining source.old) (Rose (S.faults source.old) (S.faults source.new))
         (Gains K.may_lose_track (K.contents sink.old) (K.contents sink.new)) (Rose (K.faults sink.old) (K.faults sink.new)) result }
 
@@ -171,9 +185,7 @@ pub fn ring_call<T: Threads, S: Source, K: Sink, G: Gate>(
         → (Rose (S.faults source.old) (S.faults source.new) → ⊥) → (Rose (K.faults sink.old) (K.faults sink.new) → ⊥)
         → (result.cause ≡ Cause.Done) ⊎ (result.cause ≡ Cause.OutOfMemory) }
 {
-    let _ = threads;
-    let _ = gate;
-    let due = due_for(alloc, words, source);
+    let due = due_for(threads, alloc, words, source, gate);
     written(sink, due)
 }
 
@@ -181,6 +193,7 @@ pub fn ring_call<T: Threads, S: Source, K: Sink, G: Gate>(
 fn written<K: Sink>(sink: &mut K, due: Due) -> Ended
     ensures status { result.status ≡ status_of result.cause }
     ensures journal { result.journal ≡ due.journal.items }
+    ensures cluster { result.cluster ≡ due.cluster }
     ensures written { IsWritten due (Gains K.may_lose_track (K.contents sink.old) (K.contents sink.new)) (Rose (K.faults sink.old) (K.faults sink.new)) result }
 {
     let len = due.text.len() as u64;
@@ -190,12 +203,14 @@ fn written<K: Sink>(sink: &mut K, due: Due) -> Ended
             status: cause.status(),
             cause,
             journal: Items::from_vec(due.journal),
+            cluster: due.cluster,
             written: len,
         },
         Err(short) => Ended {
             status: Cause::WriteFault.status(),
             cause: Cause::WriteFault,
             journal: Items::from_vec(due.journal),
+            cluster: due.cluster,
             written: short.written,
         },
     }

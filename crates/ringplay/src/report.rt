@@ -1,53 +1,60 @@
 //! The report: the ring, and of each member what it has published and what it has received.
-ghost use Rattle.std.specs.Prelude.{◌≡◌, ℕ, ◌<◌, ◌≤◌, ◌++◌, IfOk, OnOk, codes, count_by, take};
+ghost use Rattle.std.specs.Prelude.{◌≡◌, ℕ, ◌<◌, ◌≤◌, ◌++◌, IfOk, OnOk, codes, count_by, length, take};
 ghost use Rattle.std.specs.Fmt.{decimal};
 ghost use Rattle.std.specs.List.{flat_map};
-ghost use Rattle.ring_world.specs.World.{World, size};
+ghost use Rattle.ring_world.specs.World.{most_members, size};
 ghost use Rattle.ring_world.specs.Shown.{is_cast as is_cast_message, is_publish as is_publish_message, counts_of};
-ghost use Rattle.gm_member.specs.View.{held_of, known_at};
-ghost use Rattle.gm_member.specs.Stands.{Stands};
-ghost use Rattle.ringplay.specs.Report.{report_of, name_of, newline, ring_line, member_line, counts_lines, heard_line, heard_lines, lines_of_member};
-ghost use Rattle.ringplay.specs.Ring.{AllStand};
+ghost use Rattle.gm_member.specs.View.{known_at};
+ghost use Rattle.gm_member.specs.Stands.{held_in};
+ghost use Rattle.ring_cluster.specs.Nodes.{held_of};
+ghost use Rattle.ring_cluster.specs.Seen.{state_of};
+ghost use Rattle.ringplay.specs.Report.{report_of, newline, ring_line, member_line, counts_lines, heard_line, heard_lines, lines_of_member};
 
 #[cfg(test)]
 mod tests;
 
-use gm_member::Member;
-use ring_names::{Message, OutOfMemory};
+use ring_cluster::{Cluster, Node};
+use ring_names::{MemberId, Message, Name, OutOfMemory};
 use ring_world::Counts;
 use std::alloc::Global;
 
 /// The bytes of the shortest line of a message that was received, its line feed with it.
 const SHORTEST_HEARD: usize = 9;
 
-/// The report of the state in which all members stand. At first it has room for `heard` short lines of each.
+/// The report of the state in which the cluster's members stand, whose ring opened with these names. At
+/// first it has room for `heard` short lines of each.
 pub(crate) fn report(
     alloc: Global,
-    members: &[Member],
+    names: &[Name],
+    cluster: &Cluster,
     heard: usize,
 ) -> Result<Vec<u8>, OutOfMemory>
-    ensures { IfOk result (λ text. (w : World) → AllStand w members.now → text.items ≡ report_of w) }
+    requires { names.now ≡ (cluster.now).names }
+    ensures { IfOk result (λ text. text.items ≡ report_of (state_of cluster.now)) }
 {
-    let room = members
-        .len()
-        .saturating_mul(heard)
-        .saturating_mul(SHORTEST_HEARD);
+    cluster.is_going();
+    let count = names.len();
+    let room = count.saturating_mul(heard).saturating_mul(SHORTEST_HEARD);
     let mut text = Vec::with_capacity(alloc, room)?;
-    push_ring(&mut text, name_of_master(members))?;
-    for member in members {
-        push_member(alloc, &mut text, member, members)?;
+    push_ring(&mut text, member_at(cluster, 0).name().bytes())?;
+    for place in 0..count {
+        push_member(alloc, &mut text, cluster, count, place)?;
     }
     Ok(text)
 }
 
-/// The first member is master.
-fn name_of_master(members: &[Member]) -> &[u8]
-    ensures { (w : World) → AllStand w members.now → result.now ≡ name_of w 0 }
+/// The member at a place. The last state of the journal has as many as the ring opened with.
+fn member_at(cluster: &Cluster, place: usize) -> &Node
+    requires { place < length (cluster.now).names }
+    ensures stands { held_of result.now ≡ held_in (state_of cluster.now) place }
+    ensures few { place < most_members }
+    ensures size { size (state_of cluster.now) ≡ length (cluster.now).names }
 {
-    match members.first() {
-        Some(master) => master.name().bytes(),
-        None => &[],
-    }
+    cluster.is_going();
+    let Some(member) = cluster.member(MemberId(place as u32 + 1)) else {
+        unreachable!()
+    };
+    member
 }
 
 fn push_around(
@@ -70,17 +77,22 @@ fn push_ring(out: &mut Vec<u8>, master: &[u8]) -> Result<(), OutOfMemory>
     push_around(out, b"ring view=1 term=1 master=", master, b"\n")
 }
 
+/// What the report says of the member at a place of a ring of so many.
 fn push_member(
     alloc: Global,
     out: &mut Vec<u8>,
-    member: &Member,
-    members: &[Member],
+    cluster: &Cluster,
+    count: usize,
+    place: usize,
 ) -> Result<(), OutOfMemory>
-    ensures { (w : World) (q : ℕ) → AllStand w members.now → q < size w → Stands w q (held_of member.now) → OnOk result (out.new.items ≡ out.old.items ++ lines_of_member w q) }
+    requires count { count ≡ length (cluster.now).names }
+    requires within { place < count }
+    ensures { OnOk result (out.new.items ≡ out.old.items ++ lines_of_member (state_of cluster.now) place) }
 {
+    let member = member_at(cluster, place);
     push_up(out, member.name().bytes())?;
     push_counts(alloc, out, &counts(member))?;
-    push_heard(out, member, members)?;
+    push_heard(out, cluster, count, place)?;
     Ok(())
 }
 
@@ -132,7 +144,7 @@ fn first_of(messages: &[Message], many: u64) -> &[Message]
 }
 
 /// What a member has published. Those of its messages that have come round to it are confirmed.
-fn counts(member: &Member) -> Counts
+fn counts(member: &Node) -> Counts
     ensures { result ≡ counts_of (held_of member.now).place (held_of member.now).member }
 {
     let own = member.heard(member.id());
@@ -174,17 +186,27 @@ fn push_count(
 }
 
 /// What a member has received of each, its own messages among them.
-fn push_heard(out: &mut Vec<u8>, member: &Member, members: &[Member]) -> Result<(), OutOfMemory>
-    ensures { (w : World) (q : ℕ) → AllStand w members.now → Stands w q (held_of member.now) → OnOk result (out.new.items ≡ out.old.items ++ heard_lines w q) }
+fn push_heard(
+    out: &mut Vec<u8>,
+    cluster: &Cluster,
+    count: usize,
+    place: usize,
+) -> Result<(), OutOfMemory>
+    requires count { count ≡ length (cluster.now).names }
+    requires within { place < count }
+    ensures { OnOk result (out.new.items ≡ out.old.items ++ heard_lines (state_of cluster.now) place) }
 {
-    for origin in members {
-        push_heard_of(out, member, origin)?;
+    let member = member_at(cluster, place);
+    for origin in 0..count {
+        push_heard_of(out, member, member_at(cluster, origin))?;
     }
     Ok(())
 }
 
-fn push_heard_of(out: &mut Vec<u8>, member: &Member, origin: &Member) -> Result<(), OutOfMemory>
-    ensures { OnOk result (out.new.items ≡ out.old.items ++ flat_map (heard_line (held_of origin.now).member.name) (known_at (held_of member.now).member.rows (held_of origin.now).place).heard) }
+fn push_heard_of(out: &mut Vec<u8>, member: &Node, origin: &Node) -> Result<(), OutOfMemory>
+    ensures { OnOk result (out.new.items ≡ out.old.items
+        ++ flat_map (heard_line (held_of origin.now).member.name)
+        (known_at (held_of member.now).member.rows (held_of origin.now).place).heard) }
 {
     push_messages(out, origin.name().bytes(), member.heard(origin.id()))
 }

@@ -8,6 +8,7 @@ ghost use Rattle.ringplay.specs.Script.{Script as Said, IsScript, script_with, t
 mod tests;
 
 use ring_names::{Body, BodyFault, Name};
+use ring_script::Command;
 use std::alloc::Global;
 
 /// What a script says.
@@ -17,15 +18,6 @@ pub(crate) struct Script {
     pub(crate) members: Vec<Name>,
     /// What is then done with the ring, in order.
     pub(crate) commands: Vec<Command>,
-}
-
-/// A command of a script.
-#[derive(Drop, Debug)]
-pub(crate) enum Command {
-    /// `cast M BODY`: the member multicasts the body.
-    Cast { by: Name, body: Body },
-    /// `settle`: the ring works until nothing is left to do.
-    Settle,
 }
 
 /// Why no script was read.

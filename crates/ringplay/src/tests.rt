@@ -1,4 +1,6 @@
 //! The worked rows: what a script's report is, byte for byte, and how each fault ends.
+ghost use Rattle.std.specs.Prelude.{◌<◌};
+
 use crate::call::{Cause, ring_call};
 use crate::word::Word;
 use ring_io::{MemorySink, MemorySource, ShutGate, SureSink, SureSource};
@@ -168,5 +170,59 @@ fn gains_what_each_fourth_packet_grants(rt: HostRuntime) -> Result<(), Fail> {
     for (place, event) in journal.iter().enumerate() {
         assert_eq!(rt; is_gain(event), places.contains(&place), "event {place}");
     }
+    Ok(())
+}
+
+/// A script in which so many members, m0 and on, cast so many short bodies in turn, and settle.
+fn busy_script(rt: &impl AllocGlobal, members: u32, casts: u32) -> Result<String, Fail>
+    requires { 0 < members }
+{
+    let mut text = String::from_str(rt.alloc(), "members")?;
+    for place in 0..members {
+        let name = format!(in rt.alloc(); " m{place}")?;
+        text.push_str(name.as_str())?;
+    }
+    for turn in 0..casts {
+        let by = turn % members;
+        let line = format!(in rt.alloc(); "\ncast m{by} x{turn}")?;
+        text.push_str(line.as_str())?;
+    }
+    text.push_str("\nsettle\n")?;
+    Ok(text)
+}
+
+/// Whether a line that begins so ends in the same number twice.
+fn confirms_all(line: &str, beginning: &str) -> bool {
+    match line.strip_prefix(beginning) {
+        Some(counts) => match counts.split_once(" confirmed ") {
+            Some((all, confirmed)) => all == confirmed,
+            None => false,
+        },
+        None => true,
+    }
+}
+
+#[test]
+fn settles_a_full_ring(rt: HostRuntime) -> Result<(), Fail> {
+    let words = [Word::new(rt.alloc(), "play")?];
+    let script = busy_script(&rt, 64, 500)?;
+    let mut source = SureSource::new(script.as_bytes().to_vec(rt.alloc())?);
+    let mut sink = SureSink::new(rt.alloc(), 1_048_576)?;
+    let ended = ring_call(&rt, rt.alloc(), &words, &mut source, &mut sink, &ShutGate);
+    assert_eq!(rt; ended.cause, Cause::Done);
+    let Ok(report) = str::from_utf8(sink.bytes()) else {
+        panic!(rt; "the report is no text");
+    };
+    let mut heard = 0u32;
+    for line in report.lines() {
+        assert!(rt; confirms_all(line, "casts "), "at {line}");
+        assert!(rt; confirms_all(line, "publishes "), "at {line}");
+        heard = heard.saturating_add(u32::from(line.starts_with("heard ")));
+    }
+    assert_eq!(rt; heard, 64 * 500);
+    let Some(cluster) = &ended.cluster else {
+        panic!(rt; "no cluster");
+    };
+    assert!(rt; cluster.rounds() > 0);
     Ok(())
 }

@@ -1,68 +1,121 @@
 //! The text of a report, of rings of one member and of two.
-ghost use Rattle.std.specs.Prelude.{◌<◌};
+ghost use Rattle.std.specs.Prelude.{◌≡◌};
 
 use super::report;
-use gm_member::Member;
-use ring_names::{Body, CreditSpec, MemberId, Message, Name, Reason};
-use ring_world::{Event, Refused, World, are_opening_names};
+use ring_cluster::Cluster;
+use ring_names::{Body, CreditSpec, Name, Reason};
+use ring_world::{Event, Refused, are_opening_names};
 use std::alloc::Global;
 use std::process::Abort;
 use std::test::Fail;
 
-fn founding(alloc: Global, name: &[u8], place: u32) -> Result<Member, Fail>
-    requires { place < 64 }
-{
-    Ok(Member::founding(alloc, Name::read(name)?, MemberId(place + 1))?)
+fn credit(rt: &impl Abort, initial: u32, more: u32) -> CreditSpec {
+    match CreditSpec::new(initial, more) {
+        Some(credit) => credit,
+        None => panic!(rt; "no credit {initial} {more}"),
+    }
 }
 
-fn cast(alloc: Global, body: &[u8]) -> Result<Message, Fail> {
-    Ok(Message::Cast(Body::read(alloc, body)?))
+fn cast(alloc: Global, by: Name, body: &[u8]) -> Result<Event, Fail> {
+    let body = Body::read(alloc, body)?;
+    Ok(Event::Cast { by, body })
+}
+
+/// The events happen, one after another.
+fn happen(rt: &impl Abort, cluster: &mut Cluster, events: &[Event])
+    ensures { (cluster.new).names ≡ (cluster.old).names }
+{
+    for event in events {
+        match cluster.step(event) {
+            Ok(()) => {}
+            Err(_) => panic!(rt; "refused"),
+        }
+    }
+}
+
+/// The report of the ring of these names with credit 8 4 after these events.
+fn reports(
+    rt: &(impl Abort + AllocGlobal),
+    names: &[Name],
+    events: &[Event],
+    want: &str,
+) -> Result<(), Fail> {
+    assert!(rt; are_opening_names(names));
+    let mut cluster = Cluster::opening(rt.alloc(), names, credit(rt, 8, 4))?;
+    happen(rt, &mut cluster, events);
+    reads(rt, names, &cluster, want)
+}
+
+/// The cluster's report.
+fn reads(
+    rt: &(impl Abort + AllocGlobal),
+    names: &[Name],
+    cluster: &Cluster,
+    want: &str,
+) -> Result<(), Fail>
+    requires { names.now ≡ (cluster.now).names }
+{
+    let text = report(rt.alloc(), names, cluster, 1)?;
+    assert_eq!(rt; text.as_slice(), want.as_bytes());
+    Ok(())
 }
 
 #[test]
 fn reports_a_founding_member(rt: HostRuntime) -> Result<(), Fail> {
-    let alone = founding(rt.alloc(), b"a", 0)?;
-    let text = report(rt.alloc(), &[alone], 1)?;
-    let want =
-        "ring view=1 term=1 master=a\nmember a up synced\ncasts 0 confirmed 0\npublishes 0 confirmed 0\n";
-    assert_eq!(rt; text.as_slice(), want.as_bytes());
-    Ok(())
+    let a = Name::read(b"a")?;
+    reports(
+        &rt,
+        &[a],
+        &[],
+        "ring view=1 term=1 master=a\nmember a up synced\ncasts 0 confirmed 0\npublishes 0 confirmed 0\n",
+    )
 }
 
-// The member is its own left neighbour: what it packs comes round at once.
+// The member is its own left neighbour: what it puts comes round at once.
 #[test]
 fn reports_what_has_come_round(rt: HostRuntime) -> Result<(), Fail> {
-    let mut alone = founding(rt.alloc(), b"a", 0)?;
-    for body in ["hi", ""] {
-        assert!(rt; alone.publish(cast(rt.alloc(), body.as_bytes())?).is_ok());
-    }
-    let packet = alone.pack()?;
-    assert!(rt; alone.accept(packet).is_ok());
-    let text = report(rt.alloc(), &[alone], 1)?;
-    let want =
-        "ring view=1 term=1 master=a\nmember a up synced\ncasts 2 confirmed 2\npublishes 0 confirmed 0\nheard a hi\nheard a \n";
-    assert_eq!(rt; text.as_slice(), want.as_bytes());
-    Ok(())
+    let a = Name::read(b"a")?;
+    let events = [
+        cast(rt.alloc(), a, b"hi")?,
+        cast(rt.alloc(), a, b"")?,
+        Event::Put { by: a },
+        Event::Take { by: a },
+    ];
+    reports(
+        &rt,
+        &[a],
+        &events,
+        "ring view=1 term=1 master=a\nmember a up synced\ncasts 2 confirmed 2\npublishes 0 confirmed 0\nheard a hi\nheard a \n",
+    )
 }
 
 #[test]
 fn reports_what_has_not_come_round(rt: HostRuntime) -> Result<(), Fail> {
-    let mut first = founding(rt.alloc(), b"a", 0)?;
-    let mut second = founding(rt.alloc(), b"b2", 1)?;
-    assert!(rt; first.publish(cast(rt.alloc(), b"one")?).is_ok());
-    assert!(rt; second.publish(cast(rt.alloc(), b"two")?).is_ok());
-    let packet = first.pack()?;
-    assert!(rt; second.accept(packet).is_ok());
-    let text = report(rt.alloc(), &[first, second], 1)?;
-    let want =
-        "ring view=1 term=1 master=a\nmember a up synced\ncasts 1 confirmed 0\npublishes 0 confirmed 0\nheard a one\nmember b2 up synced\ncasts 1 confirmed 0\npublishes 0 confirmed 0\nheard a one\nheard b2 two\n";
-    assert_eq!(rt; text.as_slice(), want.as_bytes());
-    Ok(())
+    let a = Name::read(b"a")?;
+    let b2 = Name::read(b"b2")?;
+    let events = [
+        cast(rt.alloc(), a, b"one")?,
+        cast(rt.alloc(), b2, b"two")?,
+        Event::Put { by: a },
+        Event::Take { by: b2 },
+    ];
+    reports(
+        &rt,
+        &[a, b2],
+        &events,
+        "ring view=1 term=1 master=a\nmember a up synced\ncasts 1 confirmed 0\npublishes 0 confirmed 0\nheard a one\nmember b2 up synced\ncasts 1 confirmed 0\npublishes 0 confirmed 0\nheard a one\nheard b2 two\n",
+    )
 }
 
-/// The event happens.
-fn happens(rt: &impl Abort, world: &mut World, event: Event) {
-    assert_eq!(rt; world.apply(&event), Ok(()));
+/// The member's put is refused for want of credit.
+fn lacks_credit(rt: &impl Abort, cluster: &mut Cluster, by: Name)
+    ensures { (cluster.new).names ≡ (cluster.old).names }
+{
+    match cluster.step(&Event::Put { by }) {
+        Ok(()) => panic!(rt; "not refused"),
+        Err(refused) => assert_eq!(rt; refused, Refused::NotEnabled(Reason::NoCredit)),
+    }
+    assert_eq!(rt; Reason::NoCredit.code(), 15);
 }
 
 // Credit for one packet: the second put is refused until the grant of the first was gained.
@@ -70,37 +123,27 @@ fn happens(rt: &impl Abort, world: &mut World, event: Event) {
 fn reports_a_link_that_had_no_credit(rt: HostRuntime) -> Result<(), Fail> {
     let a = Name::read(b"a")?;
     let b = Name::read(b"b")?;
-    let Some(credit) = CreditSpec::new(1, 1) else {
-        assert!(rt; false, "no credit");
-        return Ok(());
-    };
-    assert!(rt; are_opening_names(&[a, b]));
-    let mut world = World::opening(rt.alloc(), &[a, b], credit)?;
-    let mut first = founding(rt.alloc(), b"a", 0)?;
-    let mut second = founding(rt.alloc(), b"b", 1)?;
-    for text in ["x", "y"] {
-        let body = Body::read(rt.alloc(), text.as_bytes())?;
-        happens(&rt, &mut world, Event::Cast { by: a, body });
-        assert!(rt; first.publish(cast(rt.alloc(), text.as_bytes())?).is_ok());
-        if text == "y" {
-            let refused = Err(Refused::NotEnabled(Reason::NoCredit));
-            assert_eq!(rt; world.apply(&Event::Put { by: a }), refused);
-            assert_eq!(rt; Reason::NoCredit.code(), 15);
-            happens(&rt, &mut world, Event::Take { by: b });
-            happens(&rt, &mut world, Event::Gain { by: a });
-        }
-        happens(&rt, &mut world, Event::Put { by: a });
-        let packet = first.pack()?;
-        assert!(rt; second.accept(packet).is_ok());
-    }
-    happens(&rt, &mut world, Event::Take { by: b });
-    assert!(rt; world.member(&a).is_some() && world.member(&b).is_some());
-    let counts = world.counts(&a);
-    assert_eq!(rt; (counts.casts, counts.casts_confirmed), (2, 0));
-    assert_eq!(rt; world.heard(&b, &a)?.len(), 2);
-    let text = report(rt.alloc(), &[first, second], 2)?;
-    let want =
-        "ring view=1 term=1 master=a\nmember a up synced\ncasts 2 confirmed 0\npublishes 0 confirmed 0\nheard a x\nheard a y\nmember b up synced\ncasts 0 confirmed 0\npublishes 0 confirmed 0\nheard a x\nheard a y\n";
-    assert_eq!(rt; text.as_slice(), want.as_bytes());
-    Ok(())
+    let names = [a, b];
+    assert!(rt; are_opening_names(&names));
+    let mut cluster = Cluster::opening(rt.alloc(), &names, credit(&rt, 1, 1))?;
+    let before = [
+        cast(rt.alloc(), a, b"x")?,
+        Event::Put { by: a },
+        cast(rt.alloc(), a, b"y")?,
+    ];
+    happen(&rt, &mut cluster, &before);
+    lacks_credit(&rt, &mut cluster, a);
+    let after = [
+        Event::Take { by: b },
+        Event::Gain { by: a },
+        Event::Put { by: a },
+        Event::Take { by: b },
+    ];
+    happen(&rt, &mut cluster, &after);
+    reads(
+        &rt,
+        &names,
+        &cluster,
+        "ring view=1 term=1 master=a\nmember a up synced\ncasts 2 confirmed 0\npublishes 0 confirmed 0\nheard a x\nheard a y\nmember b up synced\ncasts 0 confirmed 0\npublishes 0 confirmed 0\nheard a x\nheard a y\n",
+    )
 }

@@ -20,6 +20,7 @@ fn shown(rt: &HostRuntime, bytes: &[u8]) -> Result<String, Fail> {
                         text.push_str(as_text(body.bytes()))?;
                         text.push('>')?;
                     }
+                    Command::Go { .. } => text.push('>')?,
                     Command::Settle => text.push('.')?,
                 }
             }

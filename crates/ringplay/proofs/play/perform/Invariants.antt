@@ -1,10 +1,16 @@
-use Rattle.std.proofs.Common.{take}
-use Rattle.ringplay.specs.Ring.{IsRing}
-use Rattle.ringplay.specs.Plays.{Performs}
+use Rattle.std.proofs.Common.{◌≡◌, ◌++◌, length}
+use Rattle.std.specs.List.{All}
+use Rattle.ring_cluster.specs.Plays.{PlaysSoFar}
+use Rattle.ringplay.specs.Script.{IsCommandTo}
+use Rattle.ringplay.specs.Call.{SameRing}
 use Rattle.ringplay.proofs.play.perform.Given as goal
 
 abbrev pub invariant-loop-command : goal.invariant-loop-command
-invariant-loop-command l = record {
-  ring : IsRing l.names l.members l.receivers l.journal.items;
-  plays : Performs (take l.command-index l.commands) l.initial.journal.items l.journal.items;
+invariant-loop-command g l = record {
+  ring : SameRing l.initial.cluster l.cluster;
+  all : l.fn.commands.items ≡ l.yielded ++ l.command-iterator.rest.items;
+  len : l.command-iterator.rest.len ≡ length l.command-iterator.rest.items;
+  known : All (IsCommandTo l.initial.cluster.names) l.command-iterator.rest.items;
+  given : l.cluster.given ≡ l.initial.cluster.given ++ l.yielded;
+  plays : PlaysSoFar l.cluster;
 }

@@ -1,0 +1,17 @@
+pub mod Sums
+pub mod Falls
+pub mod TakeFalls
+pub mod Quieting
+pub mod Named
+pub mod Runs
+pub mod Views
+pub mod Shown
+pub mod Grants
+pub mod Within
+pub mod Carrying
+pub mod Moving
+pub mod Closing
+pub mod Playing
+pub mod Going
+pub mod Turning
+pub mod Holding

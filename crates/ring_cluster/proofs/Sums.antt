@@ -1,0 +1,55 @@
+-- Sums below a number, and tests of each number below it.
+use Rattle.std.proofs.Common.{◌≡◌, ◌≢◌, ℕ, zero, suc, ◌+◌, ◌<◌, ◌≤◌, ◌&&◌, Bool, true, false, refl, sym, ap, subst, ◌∙◌, ⊎_elim, arith}
+use Rattle.std.specs.List.{range_with_len, list_all}
+use Rattle.std.proofs.lemmas.Bool.{cases_eq, false≢true}
+use Rattle.ring_cluster.specs.Work.{sum_below}
+
+-- where each term is at most the other, so is the sum
+pub sum_below-le : (n : ℕ) (f g : ℕ → ℕ) → ((k : ℕ) → k < n → g k ≤ f k) → sum_below n g ≤ sum_below n f
+sum_below-le zero f g h = omega arith
+sum_below-le (suc n) f g h = omega (arith, sum_below-le n f g (λ k l. h k (omega arith)), h n (omega arith))
+
+-- and what one term falls or rises by, the sum does
+pub sum_below-at : (n : ℕ) (f g : ℕ → ℕ) (i a b : ℕ) → i < n → ((k : ℕ) → k < n → k ≢ i → g k ≤ f k) → g i + a ≤ f i + b → sum_below n g + a ≤ sum_below n f + b
+sum_below-at zero f g i a b l h here = absurd (omega arith)
+sum_below-at (suc n) f g i a b l h here =
+    ⊎_elim
+    (λ (e : n ≡ i).
+    let before : sum_below n g ≤ sum_below n f = sum_below-le n f g (λ k kl. h k (omega arith) (λ x. omega arith)) in
+    let last : g n + a ≤ f n + b = subst (λ j. g j + a ≤ f j + b) (sym e) here in
+    omega arith)
+    (λ (ne : n ≢ i). omega (arith, sum_below-at n f g i a b (omega arith) (λ k kl x. h k (omega arith) x) here, h n (omega arith) ne))
+    (cases_eq n i)
+
+-- ---- tests
+
+pub and_left : (a b : Bool) → (a && b) ≡ true → a ≡ true
+and_left true b e = refl
+and_left false b e = e
+
+pub and_right : (a b : Bool) → (a && b) ≡ true → b ≡ true
+and_right true b e = e
+and_right false b e = absurd (false≢true e)
+
+-- what passes at each number passes at all
+pub all_pass : (p : ℕ → Bool) (a n : ℕ) → ((k : ℕ) → a ≤ k → k < a + n → p k ≡ true) → list_all p (range_with_len a n) ≡ true
+all_pass p a zero h = refl
+all_pass p a (suc n) h = ap (λ b. b && list_all p (range_with_len (a + 1) n)) (h a (omega arith) (omega arith)) ∙ all_pass p (a + 1) n (λ k l m. h k (omega arith) (omega arith))
+
+-- and what passes at all passes at each
+pub each_passes : (p : ℕ → Bool) (a n k : ℕ) → list_all p (range_with_len a n) ≡ true → a ≤ k → k < a + n → p k ≡ true
+each_passes p a zero k e l m = absurd (omega arith)
+each_passes p a (suc n) k e l m =
+    ⊎_elim
+    (λ (x : k ≡ a). subst (λ j. p j ≡ true) (sym x) (and_left (p a) _ e))
+    (λ (ne : k ≢ a). each_passes p (a + 1) n k (and_right (p a) _ e) (omega arith) (omega arith))
+    (cases_eq k a)
+
+-- where not all pass, one fails
+pub one_fails : (p : ℕ → Bool) (a n : ℕ) → list_all p (range_with_len a n) ≡ false → (k : ℕ) × (k < a + n) × (p k ≡ false)
+one_fails p a zero e = absurd (false≢true (sym e))
+one_fails p a (suc n) e =
+    (elim (p a) as (λ b. p a ≡ b → (b && list_all p (range_with_len (a + 1) n)) ≡ false → (k : ℕ) × (k < a + suc n) × (p k ≡ false)) [
+      | true ↦ λ x y. let r : (k : ℕ) × (k < (a + 1) + n) × (p k ≡ false) = one_fails p (a + 1) n y in (r.0, omega (arith, r.1), r.2)
+      | false ↦ λ x y. (a, omega arith, x)
+    ]) refl e

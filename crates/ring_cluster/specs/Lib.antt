@@ -1,0 +1,11 @@
+pub mod Work
+pub mod Idle
+pub mod Seen
+pub mod Ends
+pub mod Nodes
+pub mod Acting
+pub mod Standing
+pub mod Plays
+pub mod Kept
+pub mod Holds
+pub mod Turns

@@ -1,0 +1,22 @@
+//! The cluster: the members of a ring over plain pairs, the journal of what has happened among them, and a
+//! driver that gives each member its turns until nothing is left to do.
+//! Begin at `Cluster`, at specs/Seen.antt for what is seen of one, and at specs/Work.antt for how much a ring
+//! still has to do.
+#![tactic(auto)]
+
+mod acting;
+mod agenda;
+mod cluster;
+mod driver;
+mod laws;
+mod meeting;
+mod node;
+mod opening;
+mod stepping;
+#[cfg(test)]
+mod tests;
+
+pub use agenda::{Agenda, Task};
+pub use cluster::Cluster;
+pub use laws::an_idle_ring_is_quiet;
+pub use node::Node;
