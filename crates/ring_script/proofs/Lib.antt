@@ -1,0 +1,11 @@
+pub mod FirstWord
+pub mod Numbers
+pub mod FirstLine
+pub mod Bodies
+pub mod Members
+pub mod Taking
+pub mod Lines
+pub mod Walk
+pub mod Playable
+pub mod Names
+pub mod Exact

@@ -1,8 +1,11 @@
 -- What the top call answers, and why.
-use Rattle.std.specs.Prelude.{◌≡◌, ◌⊎◌, ℕ, ◌<◌, ◌≤◌, ◌^◌, List, [], ◌∷◌, ◌++◌, length, take, codes, Option, Some, None, IfSome}
-use Rattle.ring_names.specs.declared.numbers.CreditSpec.{CreditSpec}
+use Rattle.std.specs.Prelude.{◌≡◌, ◌⊎◌, ℕ, ◌<◌, ◌≤◌, ◌^◌, List, [], ◌∷◌, ◌++◌, length, take, map, codes, Option, Some, None, IfSome}
+use Rattle.std.specs.Fmt.{decimal}
 use Rattle.ring_script.specs.declared.command.Command.{Command}
 use Rattle.ring_script.specs.declared.command.Command.TheVariants.{Settle}
+use Rattle.ring_script.specs.declared.script.Script.{Script}
+use Rattle.ring_script.specs.Words.{lines_of}
+use Rattle.ring_script.specs.Reading.{IsScriptOf, IsFirstFault}
 use Rattle.ring_world.specs.declared.event.Event.{Event}
 use Rattle.ring_world.specs.World.{World}
 use Rattle.ring_world.specs.Run.{IsRun, opening, last}
@@ -13,52 +16,48 @@ use Rattle.ringplay.specs.declared.call.Cause.{Cause}
 use Rattle.ringplay.specs.declared.call.Cause.TheVariants as causes
 use Rattle.ringplay.specs.declared.call.Ended.{Ended}
 use Rattle.ringplay.specs.Words.{IsPlay}
-use Rattle.ringplay.specs.Script.{Script, script_of}
 use Rattle.ringplay.specs.Report.{newline, report_of}
 
 -- ---- what is played
 
--- the state after the first k events of a journal, in a ring whose links have this credit
-abbrev pub state_after : CreditSpec → Script → List Event → ℕ → World
-state_after credit script journal k = last (opening credit script.members) (take k journal)
-
--- a link opens with 8 credits and each grant is of 4
-abbrev pub IsUsualCredit : CreditSpec → Type 0
-IsUsualCredit credit = (credit.initial ≡ 8) × (credit.more ≡ 4)
+-- the state after the first k events of a journal, in a ring with the script's members and credit
+abbrev pub state_after : Script → List Event → ℕ → World
+state_after script journal k = last (opening script.credit script.members) (take k journal)
 
 -- the cluster's ring opened with the same members and credit
 abbrev pub SameRing : Seen → Seen → Type 0
 SameRing c d = (d.names ≡ c.names) × (d.credit ≡ c.credit)
 
+-- the commands of lines, each behind its number
+abbrev pub commands_on : List (ℕ × Command) → List Command
+commands_on lines = map (λ line. line.1) lines
+
 -- what the ring is given: the commands of the script, and at its end it settles
 abbrev pub given_of : Script → List Command
-given_of script = script.commands ++ Settle ∷ []
+given_of script = commands_on script.lines ++ Settle ∷ []
 
--- The journal is a run of the ring from the script's members, with credit 8 4, where a script names none.
--- Each member's client events in it are its commands, and at each settling all earlier commands were done
--- and the ring was quiet. The laws hold after each of its prefixes and from each prefix to the next. Its
--- last state is quiet, each message is confirmed there and every member has heard all, and the text is the
--- report of it.
+-- The journal is a run of the ring from the script's members and credit. Each member's client events in it are
+-- its commands, and at each settling all earlier commands were done and the ring was quiet. The laws hold after
+-- each of its prefixes and from each prefix to the next. Its last state is quiet, each message is confirmed
+-- there and every member has heard all, and the text is the report of it.
 pub record IsPlayed (script : Script) (journal : List Event) (text : List ℕ) : Type 0 where
-  pub credit : CreditSpec
-  pub is : IsUsualCredit credit
-  pub run : IsRun (opening credit script.members) journal
+  pub run : IsRun (opening script.credit script.members) journal
   pub few : length journal < 2 ^ 59
-  pub plays : Plays credit script.members journal (given_of script)
-  pub lawful : (k : ℕ) → IsLawful (state_after credit script journal k)
-  pub never_falls : (j k : ℕ) → j ≤ k
-      → NeverFalls (state_after credit script journal j) (state_after credit script journal k)
-  pub quiet : IsQuiet (last (opening credit script.members) journal)
-  pub heard_all : HasHeardAll (last (opening credit script.members) journal)
-  pub report : text ≡ report_of (last (opening credit script.members) journal)
+  pub plays : Plays script.credit script.members journal (given_of script)
+  pub lawful : (k : ℕ) → IsLawful (state_after script journal k)
+  pub never_falls : (j k : ℕ) → j ≤ k → NeverFalls (state_after script journal j) (state_after script journal k)
+  pub quiet : IsQuiet (last (opening script.credit script.members) journal)
+  pub heard_all : HasHeardAll (last (opening script.credit script.members) journal)
+  pub report : text ≡ report_of (last (opening script.credit script.members) journal)
 
--- The cluster played it: its ring opened with the script's members, it was given the commands of the script
--- and the settling at its end and nothing else, its journal is this one, and nobody has anything left to do.
-pub record HasPlayed (script : Script) (credit : CreditSpec) (journal : List Event) (cluster : Option Seen) : Type 0 where
+-- The cluster played it: its ring opened with the script's members and credit, it was given the commands of the
+-- script and the settling at its end and nothing else, its journal is this one, and nobody has anything left to
+-- do.
+pub record HasPlayed (script : Script) (journal : List Event) (cluster : Option Seen) : Type 0 where
   pub seen : Seen
   pub is : cluster ≡ Some seen
   pub names : seen.names ≡ script.members
-  pub credit_is : seen.credit ≡ credit
+  pub credit : seen.credit ≡ script.credit
   pub events : seen.events ≡ journal
   pub given : seen.given ≡ given_of script
   pub empty : AgendasAreEmpty seen
@@ -66,32 +65,46 @@ pub record HasPlayed (script : Script) (credit : CreditSpec) (journal : List Eve
 -- the script was played, by this cluster
 pub record IsPlayedBy (script : Script) (journal : List Event) (text : List ℕ) (cluster : Option Seen) : Type 0 where
   pub played : IsPlayed script journal text
-  pub by : HasPlayed script played.credit journal cluster
+  pub by : HasPlayed script journal cluster
 
 -- ---- what is read
 
--- how many bytes of input are taken
+-- how many bytes of input are taken, and how many lines
 abbrev pub most_bytes : ℕ
 most_bytes = 1048576
 
--- the input is these bytes, where the source tells it, and they are within the limit
+abbrev pub most_lines : ℕ
+most_lines = 20000
+
+-- an input is within the limits, or passes one of them
+abbrev pub IsWithin : List ℕ → Type 0
+IsWithin bytes = (length bytes ≤ most_bytes) × (length (lines_of bytes) ≤ most_lines)
+
+abbrev pub IsTooLarge : List ℕ → Type 0
+IsTooLarge bytes = (most_bytes < length bytes) ⊎ (most_lines < length (lines_of bytes))
+
+-- the input is these bytes, where the source tells it, and they are within the limits
 pub record IsInput (told : Option (List ℕ)) (bytes : List ℕ) : Type 0 where
   pub is : IfSome told (λ all. bytes ≡ all)
-  pub within : length bytes ≤ most_bytes
+  pub within : IsWithin bytes
 
--- the input is a script, and this cluster played it
+-- the input spells a script, and this cluster played it
 pub record IsDone (told : Option (List ℕ)) (journal : List Event) (text : List ℕ) (cluster : Option Seen) : Type 0 where
   pub bytes : List ℕ
   pub input : IsInput told bytes
   pub script : Script
-  pub says : script_of bytes ≡ Some script
+  pub says : IsScriptOf bytes script
   pub played : IsPlayedBy script journal text cluster
 
--- the input is no script
-pub record IsNoScript (told : Option (List ℕ)) : Type 0 where
+-- the first fault of the input is this one
+pub record IsFaulty (told : Option (List ℕ)) (line kind : ℕ) : Type 0 where
   pub bytes : List ℕ
   pub input : IsInput told bytes
-  pub says : script_of bytes ≡ None
+  pub fault : IsFirstFault bytes line kind
+
+-- how it is told
+abbrev pub fault_line : ℕ → ℕ → List ℕ
+fault_line line kind = codes "script " ++ decimal line ++ codes " " ++ decimal kind ++ newline
 
 -- ---- causes
 
@@ -119,12 +132,12 @@ IsDue words told rose causes.Done journal text cluster = IsPlay words × IsDone 
 IsDue words told rose causes.Usage journal text cluster =
     SaysOnly (IsPlay words → ⊥) journal text cluster (codes "usage" ++ newline)
 IsDue words told rose (causes.Script line kind) journal text cluster =
-    SaysOnly (IsPlay words × (line ≡ 1) × (kind ≡ 52) × IsNoScript told) journal text cluster (codes "script 1 52" ++ newline)
+    SaysOnly (IsPlay words × IsFaulty told line kind) journal text cluster (fault_line line kind)
 IsDue words told rose causes.ReadFault journal text cluster = SaysOnly (IsPlay words × rose) journal text cluster []
 IsDue words told rose causes.WriteFault journal text cluster = ⊥
 IsDue words told rose causes.OutOfMemory journal text cluster = SaysOnly (Unit {0}) journal text cluster []
 IsDue words told rose causes.TooLarge journal text cluster =
-    SaysOnly (IsPlay words × IfSome told (λ all. most_bytes < length all)) journal text cluster (codes "too large" ++ newline)
+    SaysOnly (IsPlay words × IfSome told IsTooLarge) journal text cluster (codes "too large" ++ newline)
 
 -- The answer: what was due was written whole, or the sink failed (`rose`) and has gained the first bytes of it.
 pub record Answers (words : List (List ℕ)) (told : Option (List ℕ)) (read_rose : Type 0) (gains : List ℕ → Type 0) (write_rose : Type 0) (ended : Ended) : Type 0 where

@@ -1,28 +1,39 @@
 -- What is due before anything is written, as the parts of the top call hand it on.
-use Rattle.std.specs.Prelude.{◌≡◌, ◌⊎◌, ℕ, ◌<◌, List, [], ◌++◌, length, take, codes, Some, None}
+use Rattle.std.specs.Prelude.{◌≡◌, ◌⊎◌, ℕ, ◌<◌, ◌≤◌, List, [], ◌++◌, length, take, codes, None}
 use Rattle.ringplay.specs.declared.call.Cause.{Cause}
 use Rattle.ringplay.specs.declared.call.Cause.TheVariants as causes
 use Rattle.ringplay.specs.declared.call.Due.{Due}
 use Rattle.ringplay.specs.declared.call.Ended.{Ended}
-use Rattle.ringplay.specs.Script.{Script, script_of}
+use Rattle.ring_script.specs.declared.script.Script.{Script}
+use Rattle.ring_script.specs.Words.{lines_of}
+use Rattle.ring_script.specs.Reading.{IsScriptOf, IsFirstFault}
 use Rattle.ringplay.specs.Report.{newline}
-use Rattle.ringplay.specs.Call.{IsPlayedBy}
+use Rattle.ringplay.specs.Call.{IsPlayedBy, fault_line, most_lines}
 
 -- a line, no journal and no cluster, or want of memory
 abbrev pub IsLineDue : Cause → List ℕ → Due → Type 0
 IsLineDue cause line due = (due.journal.items ≡ []) × (due.cluster ≡ None) × (((due.cause ≡ cause) × (due.text.items ≡ line)) ⊎ ((due.cause ≡ causes.OutOfMemory) × (due.text.items ≡ [])))
 
--- the script that the bytes spell was played, by this cluster
-abbrev pub IsPlayDue : List ℕ → Due → Type 0
-IsPlayDue bytes due = (due.cause ≡ causes.Done) × ((script : Script) × (script_of bytes ≡ Some script) × IsPlayedBy script due.journal.items due.text.items due.cluster)
+-- the script was played, by this cluster
+abbrev pub IsPlayDue : Script → Due → Type 0
+IsPlayDue script due = (due.cause ≡ causes.Done) × IsPlayedBy script due.journal.items due.text.items due.cluster
 
--- the bytes spell no script
-abbrev pub IsRefusalDue : List ℕ → Due → Type 0
-IsRefusalDue bytes due = (script_of bytes ≡ None) × IsLineDue (causes.Script 1 52) (codes "script 1 52" ++ newline) due
+-- the bytes spell a script, and it was played
+abbrev pub IsScriptDue : List ℕ → Due → Type 0
+IsScriptDue bytes due = (script : Script) × IsScriptOf bytes script × IsPlayDue script due
 
--- the script was played, the bytes were refused, or memory was wanted
+-- the bytes are refused, by their first fault
+abbrev pub IsFaultDue : List ℕ → Due → Type 0
+IsFaultDue bytes due = (line : ℕ) × (kind : ℕ) × IsFirstFault bytes line kind × IsLineDue (causes.Script line kind) (fault_line line kind) due
+
+-- the bytes have too many lines
+abbrev pub IsLargeDue : List ℕ → Due → Type 0
+IsLargeDue bytes due = (most_lines < length (lines_of bytes)) × IsLineDue causes.TooLarge (codes "too large" ++ newline) due
+
+-- the lines are not too many, and the script was played or the first fault told; or they are; or memory was wanted
 abbrev pub IsDueToInput : List ℕ → Due → Type 0
-IsDueToInput bytes due = IsPlayDue bytes due ⊎ (IsRefusalDue bytes due ⊎ IsLineDue causes.OutOfMemory [] due)
+IsDueToInput bytes due =
+    ((length (lines_of bytes) ≤ most_lines) × (IsScriptDue bytes due ⊎ IsFaultDue bytes due)) ⊎ (IsLargeDue bytes due ⊎ IsLineDue causes.OutOfMemory [] due)
 
 -- what was due was written whole, or its first bytes and the sink failed
 abbrev pub IsWritten : Due → (List ℕ → Type 0) → Type 0 → Ended → Type 0

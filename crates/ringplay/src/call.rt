@@ -1,19 +1,18 @@
 //! The top call: all that the program does, over any source and sink.
-ghost use Rattle.std.specs.Prelude.{◌≡◌, ◌⊎◌, ◌<◌, ◌≤◌, ℕ, List, ◌++◌, length, codes, Some, None, IsSome, IfSome, IfOk};
+ghost use Rattle.std.specs.Prelude.{◌≡◌, ◌⊎◌, ℕ, List, [], Some, IfSome, IfOk};
 ghost use Rattle.ring_io.specs.Contents.{Gains};
 ghost use Rattle.ring_io.specs.Count.{Rose};
 ghost use Rattle.ringplay.specs.Words.{IsPlay};
-ghost use Rattle.ringplay.specs.Script.{script_of};
-ghost use Rattle.ringplay.specs.Report.{newline};
-ghost use Rattle.ringplay.specs.Due.{IsLineDue, IsDueToInput, IsWritten};
-ghost use Rattle.ringplay.specs.Call.{Answers, IsDue, IsUnlessFailed, most_bytes, status_of};
+ghost use Rattle.ring_script.specs.Reading.{IsRight, IsFirstFault, IsPlayable};
+ghost use Rattle.ringplay.specs.Due.{IsLineDue, IsPlayDue, IsDueToInput, IsWritten};
+ghost use Rattle.ringplay.specs.Call.{Answers, IsDue, IsUnlessFailed, IsWithin, IsTooLarge, fault_line, status_of};
 
 use crate::play::play;
-use crate::script::{ScriptEnd, read_script};
 use crate::word::{Word, is_play};
 use ring_cluster::Cluster;
 use ring_io::{Gate, ReadEnd, Sink, Source, read_all, write_all};
 use ring_names::{Items, OutOfMemory};
+use ring_script::{Script, ScriptFault, line_count, read_script};
 use ring_world::Event;
 use std::alloc::Global;
 use std::thread::Threads;
@@ -33,7 +32,7 @@ pub enum Cause {
     WriteFault,
     /// Memory was wanted and not found.
     OutOfMemory,
-    /// The input has more than 1,048,576 bytes.
+    /// The input has more than 1,048,576 bytes, or more than 20,000 lines.
     TooLarge,
 }
 
@@ -62,6 +61,9 @@ struct Due {
 
 /// How many bytes of input are taken.
 const MOST_BYTES: u64 = 1_048_576;
+
+/// How many lines of input are taken.
+const MOST_LINES: u64 = 20_000;
 
 impl Cause {
     /// The status with which the program ends.
@@ -105,22 +107,41 @@ fn line_due(alloc: Global, cause: Cause, line: &[u8]) -> Due
 fn due_to_input<T: Threads, G: Gate>(threads: &T, alloc: Global, bytes: Vec<u8>, gate: &G) -> Due
     ensures { IsDueToInput bytes.items result }
 {
+    if line_count(&bytes) > MOST_LINES {
+        return line_due(alloc, Cause::TooLarge, b"too large\n");
+    }
     let read = read_script(alloc, &bytes);
     drop(bytes);
     match read {
-        Ok(script) => match play(threads, alloc, script, gate) {
-            Ok(played) => Due {
-                cause: Cause::Done,
-                journal: played.journal,
-                text: played.text,
-                cluster: Some(played.cluster),
-            },
-            Err(OutOfMemory) => line_due(alloc, Cause::OutOfMemory, b""),
+        Ok(script) => due_to_script(threads, alloc, script, gate),
+        Err(ScriptFault::At { line, kind }) => fault_due(alloc, line, kind),
+        Err(ScriptFault::OutOfMemory) => line_due(alloc, Cause::OutOfMemory, b""),
+    }
+}
+
+/// A script that is played.
+fn due_to_script<T: Threads, G: Gate>(threads: &T, alloc: Global, script: Script, gate: &G) -> Due
+    requires { IsPlayable script }
+    ensures { IsPlayDue script result ⊎ IsLineDue Cause.OutOfMemory [] result }
+{
+    match play(threads, alloc, script, gate) {
+        Ok(played) => Due {
+            cause: Cause::Done,
+            journal: played.journal,
+            text: played.text,
+            cluster: Some(played.cluster),
         },
-        Err(ScriptEnd::NotAScript) => {
-            line_due(alloc, Cause::Script { line: 1, kind: 52 }, b"script 1 52\n")
-        }
-        Err(ScriptEnd::OutOfMemory) => line_due(alloc, Cause::OutOfMemory, b""),
+        Err(OutOfMemory) => line_due(alloc, Cause::OutOfMemory, b""),
+    }
+}
+
+/// The first fault of an input that is no script.
+fn fault_due(alloc: Global, line: u32, kind: u32) -> Due
+    ensures { IsLineDue (Cause.Script line kind) (fault_line line kind) result }
+{
+    match format!(in alloc; "script {line} {kind}\n") {
+        Ok(text) => line_due(alloc, Cause::Script { line, kind }, text.as_bytes()),
+        Err(_) => line_due(alloc, Cause::OutOfMemory, b""),
     }
 }
 
@@ -172,16 +193,16 @@ pub fn ring_call<T: Threads, S: Source, K: Sink, G: Gate>(
     ensures usage { (IsPlay words.now → ⊥) → IsUnlessFailed result.cause Cause.Usage }
     ensures read_fault_only { result.cause ≡ Cause.ReadFault → Rose (S.faults source.old) (S.faults source.new) }
     ensures write_fault_only { result.cause ≡ Cause.WriteFault → Rose (K.faults sink.old) (K.faults sink.new) }
-    ensures too_large_only { result.cause ≡ Cause.TooLarge → IfSome (S.remaining source.old) (λ all. most_bytes < length all) }
-    ensures too_large { (all : List ℕ) → IsPlay words.now → S.remaining source.old ≡ Some all → most_bytes < length all
+    ensures too_large_only { result.cause ≡ Cause.TooLarge → IfSome (S.remaining source.old) IsTooLarge }
+    ensures too_large { (all : List ℕ) → IsPlay words.now → S.remaining source.old ≡ Some all → IsTooLarge all
         → (Rose (S.faults source.old) (S.faults source.new) → ⊥) → IsUnlessFailed result.cause Cause.TooLarge }
     ensures script_only { (line kind : ℕ) → result.cause ≡ Cause.Script line kind
-        → (line ≡ 1) × (kind ≡ 52) × IfSome (S.remaining source.old) (λ all. script_of all ≡ None) }
-    ensures script { (all : List ℕ) → IsPlay words.now → S.remaining source.old ≡ Some all → length all ≤ most_bytes → script_of all ≡ None
-        → (Rose (S.faults source.old) (S.faults source.new) → ⊥) → IsUnlessFailed result.cause (Cause.Script 1 52) }
+        → IfSome (S.remaining source.old) (λ all. IsWithin all × IsFirstFault all line kind) }
+    ensures script { (all : List ℕ) (line kind : ℕ) → IsPlay words.now → S.remaining source.old ≡ Some all → IsWithin all → IsFirstFault all line kind
+        → (Rose (S.faults source.old) (S.faults source.new) → ⊥) → IsUnlessFailed result.cause (Cause.Script line kind) }
 
     // With words and input in the grammar and within the limits, and no fault, the script is played.
-    ensures complete { (all : List ℕ) → IsPlay words.now → S.remaining source.old ≡ Some all → length all ≤ most_bytes → IsSome (script_of all)
+    ensures complete { (all : List ℕ) → IsPlay words.now → S.remaining source.old ≡ Some all → IsWithin all → IsRight all
         → (Rose (S.faults source.old) (S.faults source.new) → ⊥) → (Rose (K.faults sink.old) (K.faults sink.new) → ⊥)
         → (result.cause ≡ Cause.Done) ⊎ (result.cause ≡ Cause.OutOfMemory) }
 {

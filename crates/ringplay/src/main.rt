@@ -6,7 +6,6 @@
 mod call;
 mod play;
 mod report;
-mod script;
 #[cfg(test)]
 mod tests;
 mod word;

@@ -1,15 +1,14 @@
 //! Playing a script.
 ghost use Rattle.std.specs.Prelude.{◌≡◌, ◌∷◌, ◌++◌, [], Some, All, IfOk, OnOk};
+ghost use Rattle.ring_script.specs.Reading.{IsPlayable, IsCommandTo};
 ghost use Rattle.ring_cluster.specs.Plays.{PlaysSoFar};
-ghost use Rattle.ringplay.specs.Script.{script_with, IsScript, IsCommandTo};
-ghost use Rattle.ringplay.specs.Call.{SameRing, IsPlayedBy};
+ghost use Rattle.ringplay.specs.Call.{SameRing, IsPlayedBy, commands_on};
 
 use crate::report::report;
-use crate::script::Script;
 use ring_cluster::Cluster;
 use ring_io::Gate;
-use ring_names::{CreditSpec, OutOfMemory};
-use ring_script::Command;
+use ring_names::OutOfMemory;
+use ring_script::{Command, Script};
 use ring_world::Event;
 use std::alloc::Global;
 use std::thread::Threads;
@@ -22,29 +21,26 @@ pub(crate) struct Played {
     pub(crate) cluster: Cluster,
 }
 
-/// Plays the script: its commands in order, and at its end the ring settles once more. Each link has
-/// credit 8 4, as a script names none.
+/// Plays the script: the commands on its lines in order, and at its end the ring settles once more.
 pub(crate) fn play<T: Threads, G: Gate>(
     threads: &T,
     alloc: Global,
     script: Script,
     gate: &G,
 ) -> Result<Played, OutOfMemory>
-    requires { IsScript (script_with script.members.items script.commands.items) }
-    ensures { IfOk result (λ played.
-        IsPlayedBy (script_with script.members.items script.commands.items)
-        played.journal.items played.text.items (Some played.cluster)) }
+    requires { IsPlayable script }
+    ensures { IfOk result (λ played. IsPlayedBy script played.journal.items played.text.items (Some played.cluster)) }
 {
     let Script {
-        members: names,
-        commands,
+        members,
+        credit,
+        lines,
     } = script;
-    let Some(credit) = CreditSpec::new(8, 4) else {
-        unreachable!()
-    };
-    let heard = commands.len();
+    let names = members.into_vec();
+    let lines = lines.into_vec();
+    let heard = lines.len();
     let mut cluster = Cluster::opening(alloc, &names, credit)?;
-    perform(threads, &mut cluster, commands, gate)?;
+    perform(threads, &mut cluster, lines, gate)?;
     cluster.settle(threads, gate)?;
     cluster.is_going();
     let journal = cluster.journal()?;
@@ -56,26 +52,26 @@ pub(crate) fn play<T: Threads, G: Gate>(
     })
 }
 
-/// Performs the commands in order.
+/// Performs the commands on the lines, in order.
 fn perform<T: Threads, G: Gate>(
     threads: &T,
     cluster: &mut Cluster,
-    commands: Vec<Command>,
+    lines: Vec<(u32, Command)>,
     gate: &G,
 ) -> Result<(), OutOfMemory>
-    requires known { All (IsCommandTo (cluster.old).names) commands.items }
+    requires known { All (λ line. IsCommandTo (cluster.old).names line.1) lines.items }
     requires plays { PlaysSoFar cluster.old }
     ensures ring { SameRing cluster.old cluster.new }
-    ensures given { OnOk result ((cluster.new).given ≡ (cluster.old).given ++ commands.items) }
+    ensures given { OnOk result ((cluster.new).given ≡ (cluster.old).given ++ commands_on lines.items) }
     ensures plays { PlaysSoFar cluster.new }
 {
-    for command in commands {
+    for (_, command) in lines {
         perform_one(threads, cluster, command, gate)?;
     }
     Ok(())
 }
 
-/// Performs one command: a member takes it, or the ring settles.
+/// Performs one command: a member takes it, or the ring works for so many turns, or settles.
 fn perform_one<T: Threads, G: Gate>(
     threads: &T,
     cluster: &mut Cluster,
@@ -89,6 +85,7 @@ fn perform_one<T: Threads, G: Gate>(
     ensures plays { PlaysSoFar cluster.new }
 {
     match command {
+        Command::Go { turns } => cluster.go(threads, turns, gate),
         Command::Settle => cluster.settle(threads, gate),
         _ => match cluster.command(command) {
             Ok(()) => Ok(()),

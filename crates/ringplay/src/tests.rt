@@ -51,7 +51,29 @@ fn plays_the_worked_scripts(rt: HostRuntime) -> Result<(), Fail> {
         &rt,
         "members a b\ncast b\n",
         "ring view=1 term=1 master=a\nmember a up synced\ncasts 0 confirmed 0\npublishes 0 confirmed 0\nheard b \nmember b up synced\ncasts 1 confirmed 1\npublishes 0 confirmed 0\nheard b \n",
+    )?;
+    // Links of credit 1, rounds, a comment, and a body with spaces.
+    reports(
+        &rt,
+        "# two members\nmembers a b\ncredit 1 1\ngo 2\n  cast  a  one  \n\ngo 1000\ncast b two\ngo 1",
+        "ring view=1 term=1 master=a\nmember a up synced\ncasts 1 confirmed 1\npublishes 0 confirmed 0\nheard a  one  \nheard b two\nmember b up synced\ncasts 1 confirmed 1\npublishes 0 confirmed 0\nheard a  one  \nheard b two\n",
     )
+}
+
+/// A `go` is one round of the cluster, and each settling at least another.
+#[test]
+fn goes_one_round(rt: HostRuntime) -> Result<(), Fail> {
+    let words = [Word::new(rt.alloc(), "play")?];
+    let mut source = SureSource::new(b"members a\ngo 3\ngo 1000\n".to_vec(rt.alloc())?);
+    let mut sink = SureSink::new(rt.alloc(), 1_048_576)?;
+    let ended = ring_call(&rt, rt.alloc(), &words, &mut source, &mut sink, &ShutGate);
+    assert_eq!(rt; ended.cause, Cause::Done);
+    assert!(rt; ended.journal.as_slice().is_empty());
+    let Some(cluster) = &ended.cluster else {
+        panic!(rt; "no cluster");
+    };
+    assert!(rt; 2 <= cluster.rounds() && cluster.rounds() <= 2 + 129);
+    Ok(())
 }
 
 /// Ends with one line and an empty journal, which the whole of the line's bytes says.
@@ -91,23 +113,85 @@ fn names_each_fault_of_words_and_input(rt: HostRuntime) -> Result<(), Fail> {
     says(&rt, &[], script, Cause::Usage, "usage\n")?;
     says(&rt, &["fly"], script, Cause::Usage, "usage\n")?;
     says(&rt, &["play", "x"], script, Cause::Usage, "usage\n")?;
-    let no_script = Cause::Script { line: 1, kind: 52 };
-    for input in [
-        b"".as_slice(),
-        b"members a\ncast z x\n".as_slice(),
-        b"members a\ncast a \x07\n".as_slice(),
-        b"members a a\n".as_slice(),
-    ] {
-        says(&rt, &["play"], input, no_script, "script 1 52\n")?;
-    }
     for (len, cause, line) in [
-        (2_001, no_script, "script 1 52\n"),
-        (1_048_576, no_script, "script 1 52\n"),
+        (2_000, Cause::Script { line: 1, kind: 61 }, "script 1 61\n"),
+        (2_001, Cause::Script { line: 1, kind: 51 }, "script 1 51\n"),
+        (
+            1_048_576,
+            Cause::Script { line: 1, kind: 51 },
+            "script 1 51\n",
+        ),
         (1_048_577, Cause::TooLarge, "too large\n"),
     ] {
         let endless = endless_line(&rt, len)?;
         says(&rt, &["play"], &endless, cause, line)?;
     }
+    Ok(())
+}
+
+/// The input is refused with this line and kind, and the one line that tells them.
+fn refuses<R: Threads + Abort + AllocGlobal>(
+    rt: &R,
+    input: &[u8],
+    line: u32,
+    kind: u32,
+) -> Result<(), Fail> {
+    let told = format!(in rt.alloc(); "script {line} {kind}\n")?;
+    says(
+        rt,
+        &["play"],
+        input,
+        Cause::Script { line, kind },
+        told.as_str(),
+    )
+}
+
+#[test]
+fn tells_the_first_fault_of_a_script(rt: HostRuntime) -> Result<(), Fail> {
+    for (input, line, kind) in [
+        ("", 1, 61),
+        ("members a a", 1, 58),
+        ("members a\ncredit 2 3", 2, 55),
+        ("members abcdefghijklmnopq", 1, 56),
+        (
+            "members a\ncast a x\ncast a x\ncast a x\ncast a x\ncast a x\ncast z x",
+            7,
+            57,
+        ),
+        (
+            "members a\n\n# all that follows is wrong\npublish a x\nfly",
+            4,
+            52,
+        ),
+        ("members a\ncast a \u{7}\n", 2, 50),
+    ] {
+        refuses(&rt, input.as_bytes(), line, kind)?;
+    }
+    Ok(())
+}
+
+/// A script of one member and so many lines, of which only the first is used.
+fn long_script(rt: &impl AllocGlobal, lines: u32) -> Result<Vec<u8>, Fail> {
+    let mut script = b"members a\n".to_vec(rt.alloc())?;
+    for _line in 1..lines {
+        script.push(b'\n')?;
+    }
+    Ok(script)
+}
+
+/// How the call ends that plays this input.
+fn cause_of<R: Threads + AllocGlobal>(rt: &R, input: Vec<u8>) -> Result<Cause, Fail> {
+    let words = [Word::new(rt.alloc(), "play")?];
+    let mut source = SureSource::new(input);
+    let mut sink = SureSink::new(rt.alloc(), 1_048_576)?;
+    let ended = ring_call(rt, rt.alloc(), &words, &mut source, &mut sink, &ShutGate);
+    Ok(ended.cause)
+}
+
+#[test]
+fn takes_twenty_thousand_lines(rt: HostRuntime) -> Result<(), Fail> {
+    assert_eq!(rt; cause_of(&rt, long_script(&rt, 20_000)?)?, Cause::Done);
+    assert_eq!(rt; cause_of(&rt, long_script(&rt, 20_001)?)?, Cause::TooLarge);
     Ok(())
 }
 

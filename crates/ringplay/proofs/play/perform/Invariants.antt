@@ -1,16 +1,16 @@
 use Rattle.std.proofs.Common.{◌≡◌, ◌++◌, length}
 use Rattle.std.specs.List.{All}
 use Rattle.ring_cluster.specs.Plays.{PlaysSoFar}
-use Rattle.ringplay.specs.Script.{IsCommandTo}
-use Rattle.ringplay.specs.Call.{SameRing}
+use Rattle.ring_script.specs.Reading.{IsCommandTo}
+use Rattle.ringplay.specs.Call.{SameRing, commands_on}
 use Rattle.ringplay.proofs.play.perform.Given as goal
 
 abbrev pub invariant-loop-command : goal.invariant-loop-command
 invariant-loop-command g l = record {
   ring : SameRing l.initial.cluster l.cluster;
-  all : l.fn.commands.items ≡ l.yielded ++ l.command-iterator.rest.items;
+  all : l.fn.lines.items ≡ l.yielded ++ l.command-iterator.rest.items;
   len : l.command-iterator.rest.len ≡ length l.command-iterator.rest.items;
-  known : All (IsCommandTo l.initial.cluster.names) l.command-iterator.rest.items;
-  given : l.cluster.given ≡ l.initial.cluster.given ++ l.yielded;
+  known : All (λ line. IsCommandTo l.initial.cluster.names line.1) l.command-iterator.rest.items;
+  given : l.cluster.given ≡ l.initial.cluster.given ++ commands_on l.yielded;
   plays : PlaysSoFar l.cluster;
 }
