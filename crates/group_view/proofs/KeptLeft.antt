@@ -1,0 +1,59 @@
+-- `since`, and the same left neighbour in all versions from one up to another: they say one thing.
+use Rattle.std.proofs.Common.{◌≡◌, ◌≢◌, ℕ, ◌+◌, ◌-◌, ◌≤◌, ◌<◌, Bool, true, false, List, refl, sym, ap, ◌∙◌, arith, nat_eq, zero, suc}
+use Rattle.std.specs.Prelude.{◌↔◌, ◌&&◌}
+use Rattle.std.specs.List.{list_all, range_with_len}
+use Rattle.std.proofs.lemmas.Bool.{false≢true}
+use Rattle.group_view.specs.View.{Group}
+use Rattle.group_view.specs.Since.{left_at, KeepsLeft, keeps_left, IsSince}
+use Rattle.group_view.proofs.Rings.{nat_eq-is, nat_eq-same}
+
+-- there is one such version
+pub since_unique : (views : List Group) (y v u w : ℕ) → IsSince views y v u → IsSince views y v w → u ≡ w
+since_unique views y v u w a b = let less : u ≤ w = a.least w b.first b.same in let more : w ≤ u = b.least u a.first a.same in omega arith
+
+-- the same neighbour up to a later version is the same up to an earlier one
+pub keeps_less : (views : List Group) (y s opened u v : ℕ) → u ≤ v → KeepsLeft views y s opened v → KeepsLeft views y s opened u
+keeps_less views y s opened u v l h = λ k a b. h k a (omega arith)
+
+-- and from a later version on
+pub keeps_later : (views : List Group) (y s opened from v : ℕ) → opened ≤ from → KeepsLeft views y s opened v → KeepsLeft views y s from v
+keeps_later views y s opened from v l h = λ k a b. h k (omega arith) b
+
+-- s has been the left neighbour since before a version exactly where it has been it in each view from then on
+pub keeps_since : (views : List Group) (y v u s opened : ℕ) → IsSince views y v u → u ≤ opened → left_at views v y ≡ s → KeepsLeft views y s opened v
+keeps_since views y v u s opened h l e = λ k a b. h.same k (omega arith) b ∙ e
+
+pub since_keeps : (views : List Group) (y v u s opened : ℕ) → IsSince views y v u → 1 ≤ opened → opened ≤ v → KeepsLeft views y s opened v → (u ≤ opened) × (left_at views v y ≡ s)
+since_keeps views y v u s opened h pos l k =
+    let now : left_at views v y ≡ s = k v l (omega arith) in
+    (h.least opened pos (λ j a b. k j a b ∙ sym now), now)
+
+pub since_is_keeping : (views : List Group) (y v u s opened : ℕ) → IsSince views y v u → 1 ≤ opened → opened ≤ v → ((u ≤ opened) × (left_at views v y ≡ s)) ↔ KeepsLeft views y s opened v
+since_is_keeping views y v u s opened h pos l = (λ p. keeps_since views y v u s opened h p.0 p.1, λ k. since_keeps views y v u s opened h pos l k)
+
+-- ---- the test
+
+pub all_range : (t : ℕ → Bool) (a n : ℕ) → ((u : ℕ) → a ≤ u → u < a + n → t u ≡ true) → list_all t (range_with_len a n) ≡ true
+all_range t a zero h = refl
+all_range t a (suc n) h = ap (λ b. b && list_all t (range_with_len (a + 1) n)) (h a (omega arith) (omega arith)) ∙ all_range t (a + 1) n (λ u l m. h u (omega arith) (omega arith))
+
+pub at_range : (t : ℕ → Bool) (a n u : ℕ) → list_all t (range_with_len a n) ≡ true → a ≤ u → u < a + n → t u ≡ true
+at_range t a zero u h l m = absurd (omega arith)
+at_range t a (suc n) u h l m = by_case (nat_eq a u) refl (t a) refl h (λ k j. at_range t (a + 1) n u k j (omega arith))
+  where
+    by_case : (c : Bool) → nat_eq a u ≡ c → (b : Bool) → t a ≡ b → (b && list_all t (range_with_len (a + 1) n)) ≡ true → (list_all t (range_with_len (a + 1) n) ≡ true → a + 1 ≤ u → t u ≡ true) → t u ≡ true
+    by_case true ec true eb k ih = ap t (sym (nat_eq-is a u ec)) ∙ eb
+    by_case false ec true eb k ih = let ne : a ≢ u = (λ same. false≢true (sym ec ∙ ap (nat_eq a) (sym same) ∙ nat_eq-same a)) in ih k (omega arith)
+    by_case c ec false eb k ih = absurd (false≢true k)
+
+pub keeps_left_true : (views : List Group) (y s opened v : ℕ) → KeepsLeft views y s opened v → keeps_left views y s opened v ≡ true
+unfolding keeps_left
+keeps_left_true views y s opened v h =
+    all_range (λ u. nat_eq (left_at views u y) s) opened (v + 1 - opened)
+    (λ u l m. let upto : u ≤ v = omega arith in ap (λ n. nat_eq n s) (h u l upto) ∙ nat_eq-same s)
+
+pub keeps_left_says : (views : List Group) (y s opened v : ℕ) → keeps_left views y s opened v ≡ true → KeepsLeft views y s opened v
+unfolding keeps_left
+keeps_left_says views y s opened v h = λ u l m.
+    let inside : u < opened + (v + 1 - opened) = omega arith in
+    nat_eq-is (left_at views u y) s (at_range (λ u. nat_eq (left_at views u y) s) opened (v + 1 - opened) u h l inside)

@@ -1,0 +1,9 @@
+pub mod Rings
+pub mod Neighbours
+pub mod Cuts
+pub mod Marks
+pub mod Groups
+pub mod Passing
+pub mod KeptLeft
+pub mod History
+pub mod Arcs

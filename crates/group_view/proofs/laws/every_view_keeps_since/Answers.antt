@@ -1,0 +1,5 @@
+use Rattle.group_view.proofs.History.{views_are_history}
+use Rattle.group_view.proofs.laws.every_view_keeps_since.Goals as goal
+
+pub returns : goal.returns
+returns c = views_are_history

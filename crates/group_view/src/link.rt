@@ -1,0 +1,21 @@
+//! The names of links.
+use ring_names::MemberId;
+
+/// What a link is for.
+#[derive(Clone, Copy, PartialEq, Eq, Debug)]
+pub enum LinkKind {
+    /// It carries the group's packets from a member to its right neighbour.
+    Ring,
+    /// It carries a copy of the queue from the master to a member that lacks it.
+    Copy,
+}
+
+/// A link by its sender, its receiver, the sender's version when it was opened, and its kind. No two
+/// links of a run have one name.
+#[derive(Clone, Copy, PartialEq, Eq, Debug)]
+pub struct LinkName {
+    pub from: MemberId,
+    pub to: MemberId,
+    pub view: u32,
+    pub kind: LinkKind,
+}

@@ -1,0 +1,61 @@
+//! What members ask of the registrar, who keeps the group, and what it answers.
+use crate::link::LinkKind;
+use crate::view::View;
+use ring_names::{Items, MemberId, Reason};
+
+/// What a member asks. `I` is the receiving end of a link; `by` is the asker, and a `view` is the version
+/// that the asker holds.
+#[derive(Drop, Debug)]
+pub enum Request<I> {
+    /// To mark a member that has stopped, which the asker saw as its neighbour. `has_current` is whether
+    /// the asker has a link that it takes from, or one at its door that it may pick or could pick in a
+    /// later view.
+    Mark {
+        by: MemberId,
+        dead: MemberId,
+        view: u32,
+        has_current: bool,
+    },
+    /// For the newest view.
+    Refresh {
+        by: MemberId,
+    },
+    /// That the asker has stopped.
+    Stopped {
+        by: MemberId,
+    },
+    /// To hand the receiving end of a link that the asker has opened to another member.
+    Deposit {
+        by: MemberId,
+        to: MemberId,
+        view: u32,
+        kind: LinkKind,
+        link: I,
+    },
+    /// For the links that others have deposited for the asker.
+    Collect {
+        by: MemberId,
+    },
+}
+
+/// The receiving end of a link that waits at the registrar, and what it is named by beside its receiver.
+#[derive(Drop, Debug)]
+pub struct Deposited<I> {
+    pub from: MemberId,
+    pub view: u32,
+    pub kind: LinkKind,
+    pub link: I,
+}
+
+/// What the registrar answers.
+#[derive(Drop, Debug)]
+pub enum Answer<I> {
+    /// The newest view.
+    Viewed(View),
+    /// The links that were deposited for the asker, the oldest first.
+    Links(Items<Deposited<I>>),
+    /// It is done, and nothing is to be told.
+    Noted,
+    /// It isn't done, for this reason, and nothing has changed.
+    No(Reason),
+}

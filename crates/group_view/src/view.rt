@@ -1,0 +1,136 @@
+//! A view of the group.
+ghost use Rattle.std.specs.Prelude.{◌≡◌, map, option_map, IfOk, OnOk, OnErr};
+ghost use Rattle.group_view.specs.View.{number, as_id, left_of as the_left, right_of as the_right, owner_of as the_owner, is_between as the_test, aliases_of as the_aliases, id_named};
+ghost use Rattle.group_view.specs.Change.{AreOpeningNames, opening, marked, mark_refusal, answer_of};
+
+use crate::entries::Entries;
+use crate::ring;
+use ring_names::{MemberId, Name, OutOfMemory, Reason};
+use std::alloc::Global;
+use std::marker::Model;
+
+/// One version of the group: its entries in ring order, going right. Versions go from 1, and a group has
+/// at most 256.
+#[derive(Drop, Debug)]
+pub struct View {
+    pub version: u32,
+    pub entries: Entries,
+    /// Whose operations the queue's mirrors follow.
+    pub master: Option<MemberId>,
+    /// The number of masters so far.
+    pub term: u32,
+    /// The id that the next entry gets: one more than the number of entries.
+    pub next_id: u32,
+}
+
+impl Model for View {
+    ghost use Rattle.group_view.specs.View.{Group};
+
+    ghost Value = { Group };
+
+    ghost use Rattle.group_view.specs.Kept.{IsGroup};
+    ghost use Rattle.group_view.specs.Seen.{group_of, KeepsGroup};
+
+    ghost view = { group_of };
+
+    ghost invariant = { KeepsGroup };
+}
+
+impl View {
+    /// The first view of a group of these members, in ring order: all are live and synchronised, and the
+    /// first is the master of the first term.
+    pub fn opening(alloc: Global, names: &[Name]) -> Result<View, OutOfMemory>
+        requires { AreOpeningNames names.now }
+        ensures { IfOk result (λ view. view ≡ opening names.now) }
+    {
+        let entries = ring::opening(alloc, names)?;
+        Ok(View {
+            version: 1,
+            entries: Entries::from_vec(entries),
+            master: Some(MemberId(1)),
+            term: 1,
+            next_id: names.len() as u32 + 1,
+        })
+    }
+
+    /// The id of the member of that name. It wants no memory.
+    pub fn find(&self, name: &Name) -> Option<MemberId>
+        ensures { result ≡ id_named self.now.entries name.now }
+    {
+        ring::find(self.entries.as_slice(), name)
+    }
+
+    /// The left neighbour of an entry of any mark: the nearest live entry, going left. A sole live entry
+    /// is its own; where nobody lives, and where the id has no entry, the answer is `id`. It wants no
+    /// memory.
+    pub fn left_of(&self, id: MemberId) -> MemberId
+        ensures { result.0 ≡ the_left self.now.entries id.0 }
+    {
+        ring::left_of(self.entries.as_slice(), id)
+    }
+
+    /// The right neighbour likewise, going right. It wants no memory.
+    pub fn right_of(&self, id: MemberId) -> MemberId
+        ensures { result.0 ≡ the_right self.now.entries id.0 }
+    {
+        ring::right_of(self.entries.as_slice(), id)
+    }
+
+    /// Who answers for what an entry published: the first live entry from it rightwards, itself included,
+    /// and nobody where nobody lives. For an id without an entry it is the first live one of the list. It
+    /// wants no memory.
+    pub fn owner_of(&self, id: MemberId) -> Option<MemberId>
+        ensures { option_map number result ≡ the_owner self.now.entries id.0 }
+    {
+        ring::owner_of(self.entries.as_slice(), id)
+    }
+
+    /// Whether `x` stands strictly between, going right from `from` to `to`; where these are one, all
+    /// others do. It wants no memory.
+    pub fn is_between(&self, from: MemberId, x: MemberId, to: MemberId) -> bool
+        ensures { result ≡ the_test self.now.entries from.0 x.0 to.0 }
+    {
+        ring::is_between(self.entries.as_slice(), from, x, to)
+    }
+
+    /// The dead entries for which a live one answers, as the aliases of a `gm` view, going left from it.
+    /// Erased ones are none.
+    pub fn aliases_of(&self, id: MemberId) -> Result<Vec<MemberId>, OutOfMemory>
+        ensures { IfOk result (λ v. map number v.items ≡ the_aliases self.now.entries id.0) }
+    {
+        ring::aliases_of(self.entries.allocator(), self.entries.as_slice(), id)
+    }
+
+    /// The group without a member that has stopped: its entry is marked dead. It is refused as
+    /// `UnknownMember` where the id has no entry, and as `AlreadyDead` where the entry isn't live. It wants
+    /// no memory.
+    pub fn mark_dead(&mut self, id: MemberId) -> Result<(), Reason>
+        ensures answer { result ≡ answer_of (mark_refusal self.old.entries id.0) }
+        ensures ok { OnOk result (self.new ≡ marked self.old id.0) }
+        ensures err { OnErr result (self.new ≡ self.old) }
+    {
+        let Some(mark) = ring::mark_of(self.entries.as_slice(), id) else {
+            return Err(Reason::UnknownMember);
+        };
+        if !mark.is_live() {
+            return Err(Reason::AlreadyDead);
+        }
+        let version = self.version + 1;
+        self.entries.mark_dead(id, version);
+        self.version = version;
+        Ok(())
+    }
+
+    /// An equal view.
+    pub fn copy(&self) -> Result<View, OutOfMemory>
+        ensures { IfOk result (λ view. view ≡ self.now) }
+    {
+        Ok(View {
+            version: self.version,
+            entries: self.entries.copy()?,
+            master: self.master,
+            term: self.term,
+            next_id: self.next_id,
+        })
+    }
+}
