@@ -15,3 +15,4 @@ pub mod Later
 pub mod Names
 pub mod Views
 pub mod Running
+pub mod Deaths

@@ -7,3 +7,4 @@ pub mod Shown
 pub mod Laws
 pub mod View
 pub mod Reached
+pub mod Deaths

@@ -1,8 +1,10 @@
 -- The state of the ring: what each member knows of each origin, and what stands on each link.
-use Rattle.std.specs.Prelude.{◌≡◌, ◌<◌, ◌≤◌, ℕ, suc, zero, ◌-◌, Bool, true, List, [], length, slice_index_or, Option, position, bytes_eq}
+use Rattle.std.specs.Prelude.{ℕ, suc, zero, ◌-◌, Bool, true, List, [], length, slice_index_or, Option, position, bytes_eq}
 use Rattle.ring_names.specs.declared.message.Message.{Message}
 use Rattle.credit_flow.specs.Credit.{Credit, Counted, full_credit, none_taken}
 use Rattle.ring_world.specs.declared.numbers.Numbers.{Numbers}
+-- the names with which a ring opens are those with which its group does
+pub use Rattle.group_view.specs.Change.{AreDifferent, AreOpeningNames, most_entries as most_members}
 
 -- What a member knows of one origin: the number up to which it has received the origin's messages, the
 -- number up to which it has forgotten them (their acknowledgement has passed), the number up to which that
@@ -106,19 +108,3 @@ place_of members name = position (λ m. bytes_eq m.name name) members
 abbrev pub left_of : ℕ → ℕ → ℕ
 left_of n zero = n - 1
 left_of n (suc i) = i
-
--- ---- names
-
--- no name stands twice
-abbrev pub AreDifferent : List (List ℕ) → Type 0
-AreDifferent names = (j k : ℕ) → j < length names → k < length names → slice_index_or names j [] ≡ slice_index_or names k [] → j ≡ k
-
--- how many members a ring ever admits
-abbrev pub most_members : ℕ
-most_members = 64
-
--- the names with which a ring opens: 1 to 64 different ones
-pub record AreOpeningNames (names : List (List ℕ)) : Type 0 where
-  pub some : 0 < length names
-  pub few : length names ≤ most_members
-  pub different : AreDifferent names

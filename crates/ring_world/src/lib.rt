@@ -22,11 +22,12 @@ mod wire;
 mod world;
 
 pub use event::Event;
+pub use group_view::are_opening_names;
 pub use laws::{
-    a_quiet_ring_has_heard_all, every_link_keeps_its_credit, every_state_is_lawful,
+    a_fixed_ring_runs_the_same, a_quiet_ring_has_heard_all, every_link_keeps_its_credit,
+    every_state_is_lawful, every_state_with_deaths_is_lawful, nothing_falls_through_deaths,
     numbers_never_fall,
 };
 pub use numbers::Numbers;
-pub use opening::are_opening_names;
 pub use shown::{Counts, MemberState};
 pub use world::{Refused, World};
