@@ -3,7 +3,7 @@ use Rattle.std.proofs.Common.{◌≡◌, ℕ, ◌+◌, ◌<◌, List, length, So
 use Rattle.ring_names.specs.declared.message.Message.{Message}
 use Rattle.ring_names.specs.declared.message.Message.TheVariants.{Cast}
 use Rattle.ring_names.specs.declared.reason.Reason.TheVariants.{NothingToTake, NoGrant}
-use Rattle.ring_world.specs.declared.event.Event.TheVariants as event
+use Rattle.ring_world.specs.declared.fixed.Event.TheVariants as event
 use Rattle.ring_world.specs.World.{World, log_of, size, place_of}
 use Rattle.ring_world.specs.Refusal.{refusal, of_member, put_refusal, take_refusal, gain_refusal, refuse_if}
 use Rattle.ring_world.specs.Effect.{effect, at_place, publish_at, put_at, take_at, gain_at}

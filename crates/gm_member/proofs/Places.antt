@@ -4,7 +4,7 @@ use Rattle.std.specs.List.{range_with_len, list_all}
 use Rattle.std.proofs.lemmas.List.{length-set}
 use Rattle.std.proofs.lemmas.List.FromFn.{fill_by_all, get_or-map-range_with_len, length-map-range_with_len}
 use Rattle.ring_world.proofs.Writes.{at_set}
-pub use Rattle.ring_world.proofs.Views.{map-range_same_from, map-range_same}
+pub use Rattle.ring_world.proofs.Maps.{map-range_same_from, map-range_same}
 
 pub all-range_same_from : (p q : ℕ → Bool) (a n : ℕ) → ((k : ℕ) → a ≤ k → k < a + n → p k ≡ q k) → list_all p (range_with_len a n) ≡ list_all q (range_with_len a n)
 all-range_same_from p q a zero h = refl

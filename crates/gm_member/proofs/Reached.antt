@@ -2,7 +2,7 @@
 use Rattle.std.proofs.Common.{◌≡◌, ℕ, ◌<◌, ◌≤◌, List, sym, subst, arith, Some}
 use Rattle.std.proofs.lemmas.List.{get_or_past}
 use Rattle.ring_names.specs.declared.numbers.CreditSpec.{CreditSpec}
-use Rattle.ring_world.specs.declared.event.Event.{Event}
+use Rattle.ring_world.specs.declared.fixed.Event.{Event}
 use Rattle.ring_world.specs.World.{World, AreOpeningNames, no_row, no_numbers, numbers_at, member_at, link_at, size, place_of}
 use Rattle.ring_world.specs.Run.{IsRun, opening, last}
 use Rattle.ring_world.specs.Laws.{row_of}

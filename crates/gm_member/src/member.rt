@@ -45,7 +45,7 @@ impl<O: LinkPair<Load, In = I>, I: LinkIn<Load> + Drop> Member<O, I> {
     ghost use Rattle.ring_world.specs.World.{most_members, log_of};
     ghost use Rattle.ring_world.specs.Refusal.{refusal};
     ghost use Rattle.ring_world.specs.Shown.{id_of};
-    ghost use Rattle.ring_world.specs.declared.event.Event.TheVariants.{Put, Take, Gain};
+    ghost use Rattle.ring_world.specs.declared.fixed.Event.TheVariants.{Put, Take, Gain};
     ghost use Rattle.gm_member.specs.Held.{Parcel, founded, published_held, put_refused, put_held, parcel_of, accepted_held, counted_held, took_held, gained_held};
     ghost use Rattle.gm_member.specs.View.{held_of, known_at};
     ghost use Rattle.gm_member.specs.Steps.{parcel_in, OutIsOpen, SameEnds, LooksOut, LooksIn, PutsOn, TakesOn, IsReady, CountsOn, TookOn, KeepsGrant, LoadIsNext, IsTakeRefusal, IsTakeFault, IsPutRefusal, NoGrantBack, GrantIsBack, IsGainRefusal};

@@ -7,11 +7,11 @@ use Rattle.std.proofs.lemmas.List.FromFn.{fill_by_all, length-map-range_with_len
 use Rattle.ring_names.specs.declared.numbers.CreditSpec.{CreditSpec}
 use Rattle.ring_names.specs.declared.reason.Reason.TheVariants.{UnknownMember}
 use Rattle.credit_flow.specs.Credit.{full_credit, none_taken}
-use Rattle.ring_world.specs.declared.event.Event.{Event}
+use Rattle.ring_world.specs.declared.fixed.Event.{Event}
 use Rattle.ring_world.specs.World.{World, AreOpeningNames, no_row, no_numbers, no_packet, no_member, no_sending, row_at, numbers_at, member_at, link_at, size, left_of, place_of}
 use Rattle.ring_world.specs.Refusal.{refusal}
 use Rattle.ring_world.specs.Run.{IsRun, opening, opening_member, opening_link}
-use Rattle.ring_world.proofs.Views.{position_map}
+use Rattle.ring_world.proofs.Maps.{position_map}
 use Rattle.ring_world.proofs.Round.{left_of-lt}
 use Rattle.ring_world.proofs.Run.{place-lt, opening_size, opening_at, opening_link_at, opening_links, get_or-no_rows, IsRun-push, last-push}
 use Rattle.ring_world.proofs.Names.{run_size}

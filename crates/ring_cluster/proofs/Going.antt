@@ -5,8 +5,8 @@ use Rattle.std.proofs.lemmas.Bool.{false≢true}
 use Rattle.std.proofs.lemmas.List.{length-map, map-append, length-set, get_or-set_same, get_or-set_other}
 use Rattle.std.proofs.lemmas.List.Quantifiers.{position-Some}
 use Rattle.std.proofs.lemmas.List.Elements.{Contains-append_left, Contains-append_right, Contains-append_cases}
-use Rattle.ring_world.specs.declared.event.Event.{Event}
-use Rattle.ring_world.specs.declared.event.Event.TheVariants.{Cast, Put, Take, Gain}
+use Rattle.ring_world.specs.declared.fixed.Event.{Event}
+use Rattle.ring_world.specs.declared.fixed.Event.TheVariants.{Cast, Put, Take, Gain}
 use Rattle.ring_world.specs.World.{AreOpeningNames, size, place_of}
 use Rattle.ring_world.specs.Refusal.{refusal, of_member}
 use Rattle.ring_world.specs.Run.{IsRun, opening}

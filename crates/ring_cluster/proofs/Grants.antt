@@ -6,8 +6,8 @@ use Rattle.ring_names.specs.declared.message.Message.TheVariants as message
 use Rattle.ring_names.specs.declared.numbers.CreditSpec.{CreditSpec}
 use Rattle.credit_flow.specs.Credit.{is_grant_next}
 use Rattle.credit_flow.specs.Link.{with_grant}
-use Rattle.ring_world.specs.declared.event.Event.{Event}
-use Rattle.ring_world.specs.declared.event.Event.TheVariants.{Cast, Put, Take, Gain}
+use Rattle.ring_world.specs.declared.fixed.Event.{Event}
+use Rattle.ring_world.specs.declared.fixed.Event.TheVariants.{Cast, Put, Take, Gain}
 use Rattle.ring_world.specs.World.{World, Link, AreOpeningNames, no_link, link_at, size, left_of}
 use Rattle.ring_world.specs.Member.{popped}
 use Rattle.ring_world.specs.Refusal.{refusal}

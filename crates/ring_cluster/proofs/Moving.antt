@@ -10,8 +10,8 @@ use Rattle.ring_names.specs.declared.numbers.CreditSpec.{CreditSpec}
 use Rattle.ring_names.specs.declared.reason.Reason.{Reason}
 use Rattle.ring_names.specs.declared.reason.Reason.TheVariants.{NothingToTake, NoGrant, UnknownMember}
 use Rattle.credit_flow.specs.Link.{oldest as oldest_grant}
-use Rattle.ring_world.specs.declared.event.Event.{Event}
-use Rattle.ring_world.specs.declared.event.Event.TheVariants.{Cast, Put, Take, Gain}
+use Rattle.ring_world.specs.declared.fixed.Event.{Event}
+use Rattle.ring_world.specs.declared.fixed.Event.TheVariants.{Cast, Put, Take, Gain}
 use Rattle.ring_world.specs.World.{World, Packet, Link, no_packet, link_at, size, left_of, place_of}
 use Rattle.ring_world.specs.Member.{pushed, granted}
 use Rattle.ring_world.specs.Refusal.{refusal, of_member, refuse_if, is_empty, put_refusal, take_refusal, gain_refusal}

@@ -1,6 +1,6 @@
 -- The events of members by their names.
 use Rattle.std.proofs.Common.{◌≡◌, ◌≢◌, ℕ, ◌<◌, List, Some, None, refl, ap, ◌∙◌}
-use Rattle.ring_world.specs.declared.event.Event.TheVariants.{Put, Take, Gain}
+use Rattle.ring_world.specs.declared.fixed.Event.TheVariants.{Put, Take, Gain}
 use Rattle.ring_world.specs.World.{World, place_of}
 use Rattle.ring_world.specs.Refusal.{refusal, of_member, put_refusal, take_refusal, gain_refusal}
 use Rattle.ring_world.specs.Effect.{effect, at_place, put_at, take_at, gain_at}

@@ -6,7 +6,7 @@ use Rattle.std.proofs.lemmas.List.{length-append, take-append-le, take_all, get_
 use Rattle.ring_script.specs.declared.command.Command.{Command}
 use Rattle.ring_script.specs.declared.command.Command.TheVariants as command
 use Rattle.ring_names.specs.declared.numbers.CreditSpec.{CreditSpec}
-use Rattle.ring_world.specs.declared.event.Event.{Event}
+use Rattle.ring_world.specs.declared.fixed.Event.{Event}
 use Rattle.ring_world.specs.Laws.{IsQuiet}
 use Rattle.ring_cluster.specs.Seen.{Seen, state, opening_seen}
 use Rattle.ring_cluster.specs.Plays.{client_event, client_events, asked_by, asked, todo, agenda_at, agenda_found, place_among, agenda_of, HasSettled, HasSettledEach, Plays, PlaysSoFar, GoesOn, HasGoneOn, AgendasAreEmpty}

@@ -1,7 +1,7 @@
 -- The same in every state of every run.
 use Rattle.std.proofs.Common.{◌≡◌, ℕ, ◌<◌, None, List}
 use Rattle.ring_names.specs.declared.numbers.CreditSpec.{CreditSpec}
-use Rattle.ring_world.specs.declared.event.Event.{Event}
+use Rattle.ring_world.specs.declared.fixed.Event.{Event}
 use Rattle.ring_world.specs.World.{size}
 use Rattle.ring_world.specs.Refusal.{put_refusal, take_refusal, gain_refusal}
 use Rattle.ring_world.specs.Effect.{put_at, take_at, gain_at}

@@ -5,8 +5,8 @@ use Rattle.ring_names.specs.declared.reason.Reason.{Reason}
 use Rattle.ring_names.specs.declared.reason.Reason.TheVariants.{NothingToTake, NoGrant, EndNext}
 use Rattle.credit_flow.specs.Credit.{grant_due}
 use Rattle.credit_flow.specs.Link.{with_grant}
-use Rattle.ring_world.specs.declared.event.Event.{Event}
-use Rattle.ring_world.specs.declared.event.Event.TheVariants.{Cast, Put, Take, Gain}
+use Rattle.ring_world.specs.declared.fixed.Event.{Event}
+use Rattle.ring_world.specs.declared.fixed.Event.TheVariants.{Cast, Put, Take, Gain}
 use Rattle.gm_member.specs.Held.{Carried, Parcel, Held, published_held, put_refused, put_held, parcel_of, took_held, gained_held}
 use Rattle.ring_cluster.specs.Ends.{OutSeen, InSeen}
 

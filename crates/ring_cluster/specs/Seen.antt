@@ -2,7 +2,7 @@
 use Rattle.std.specs.Prelude.{◌≡◌, ℕ, ◌<◌, ◌^◌, List, [], length, replicate}
 use Rattle.ring_names.specs.declared.numbers.CreditSpec.{CreditSpec}
 use Rattle.ring_script.specs.declared.command.Command.{Command}
-use Rattle.ring_world.specs.declared.event.Event.{Event}
+use Rattle.ring_world.specs.declared.fixed.Event.{Event}
 use Rattle.ring_world.specs.World.{World, AreOpeningNames}
 use Rattle.ring_world.specs.Run.{IsRun, opening, last}
 use Rattle.ring_cluster.specs.declared.agenda.Task.{Task}

@@ -1,7 +1,7 @@
 -- The fact that every cluster keeps of its members.
 use Rattle.std.specs.Prelude.{◌≡◌, ℕ, ◌+◌, ◌<◌, ◌^◌, true, false, List, [], length, slice_index_or, Option, None, position, bytes_eq}
 use Rattle.ring_names.specs.declared.numbers.CreditSpec.{CreditSpec}
-use Rattle.ring_world.specs.declared.event.Event.{Event}
+use Rattle.ring_world.specs.declared.fixed.Event.{Event}
 use Rattle.ring_world.specs.World.{World, AreOpeningNames, size}
 use Rattle.ring_world.specs.Run.{IsRun, opening}
 use Rattle.gm_member.specs.Held.{Held, founded}

@@ -1,7 +1,7 @@
 -- The turns of a cluster.
 use Rattle.std.specs.Prelude.{◌≡◌, ℕ, ◌≤◌, Bool, true, false, [], ◌∷◌, ◌++◌, length}
-use Rattle.ring_world.specs.declared.event.Event.{Event}
-use Rattle.ring_world.specs.declared.event.Event.TheVariants.{Cast, Put, Take, Gain}
+use Rattle.ring_world.specs.declared.fixed.Event.{Event}
+use Rattle.ring_world.specs.declared.fixed.Event.TheVariants.{Cast, Put, Take, Gain}
 use Rattle.ring_cluster.specs.Seen.{Seen}
 use Rattle.ring_cluster.specs.Plays.{agenda_at, HasGoneOn, SameGiven, SameElsewhere}
 

@@ -7,7 +7,8 @@ ghost use Rattle.ring_cluster.specs.Acting.{IsReady, refused_at, Acts};
 
 use crate::node::{Node, act, check};
 use ring_names::Reason;
-use ring_world::{Event, Refused};
+use ring_world::Refused;
+use ring_world::fixed::Event;
 
 /// The event of the member at a place happens, where it is enabled.
 #[tactic(auto, using(crate::proofs::Views::writes))]

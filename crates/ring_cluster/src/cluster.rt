@@ -14,7 +14,8 @@ use crate::stepping::step;
 use ring_io::Gate;
 use ring_names::{CreditSpec, MemberId, Name, OutOfMemory};
 use ring_script::Command;
-use ring_world::{Event, Refused};
+use ring_world::Refused;
+use ring_world::fixed::Event;
 use std::alloc::Global;
 use std::marker::Model;
 use std::thread::Threads;
@@ -56,7 +57,7 @@ impl Cluster {
     ghost use Rattle.ring_names.specs.declared.reason.Reason.{Reason};
     ghost use Rattle.ring_script.specs.declared.command.Command.{Command};
     ghost use Rattle.ring_script.specs.declared.command.Command.TheVariants as command;
-    ghost use Rattle.ring_world.specs.declared.event.Event.{Event};
+    ghost use Rattle.ring_world.specs.declared.fixed.Event.{Event};
     ghost use Rattle.ring_world.specs.World.{AreOpeningNames, size};
     ghost use Rattle.ring_world.specs.Laws.{IsQuiet};
     ghost use Rattle.ring_world.specs.Refusal.{refusal};

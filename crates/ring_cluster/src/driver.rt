@@ -11,7 +11,8 @@ ghost use Rattle.ring_cluster.specs.Work.{work};
 use crate::cluster::Cluster;
 use ring_io::Gate;
 use ring_names::{MemberId, OutOfMemory};
-use ring_world::{Event, Refused};
+use ring_world::Refused;
+use ring_world::fixed::Event;
 
 /// A step of a member of its own, where it is enabled: whether it was.
 #[tactic(auto, using(crate::proofs::Going::link_falls, crate::proofs::Turning::link_works, crate::proofs::Turning::works_same))]

@@ -1,7 +1,7 @@
 //! The law of a ring left to itself, over all runs.
 ghost use Rattle.std.specs.Prelude.{ℕ, List};
 ghost use Rattle.ring_names.specs.declared.numbers.CreditSpec.{CreditSpec};
-ghost use Rattle.ring_world.specs.declared.event.Event.{Event};
+ghost use Rattle.ring_world.specs.declared.fixed.Event.{Event};
 ghost use Rattle.ring_world.specs.Run.{IsRun, last, opening};
 ghost use Rattle.ring_world.specs.Laws.{IsQuiet};
 ghost use Rattle.ring_cluster.specs.Idle.{AllIdle};

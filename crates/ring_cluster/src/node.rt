@@ -9,7 +9,8 @@ ghost use Rattle.ring_cluster.specs.Acting.{IsReady, take_refused, gain_refused,
 use gm_member::{Load, Member, MemberFault};
 use ordered_link::{PlainIn, PlainOut};
 use ring_names::{Body, Message, Reason};
-use ring_world::{Event, Refused};
+use ring_world::Refused;
+use ring_world::fixed::Event;
 
 /// A member whose links are plain pairs.
 pub type Node = Member<PlainOut<Load>, PlainIn<Load>>;

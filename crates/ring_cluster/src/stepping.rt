@@ -12,7 +12,8 @@ use crate::acting::{act_at, check_at};
 use crate::meeting::meet_all;
 use crate::node::Node;
 use ring_names::{CreditSpec, Name, Reason};
-use ring_world::{Event, Refused};
+use ring_world::Refused;
+use ring_world::fixed::Event;
 
 /// The most events of a journal.
 const MOST_EVENTS: usize = (1 << 59) - 1;

@@ -8,8 +8,8 @@ use Rattle.ring_names.specs.declared.reason.Reason.TheVariants.{NoCredit, Nothin
 use Rattle.credit_flow.specs.Credit.{is_blocked}
 use Rattle.credit_flow.specs.Link.{Link as CreditLink, KeepsCredit as KeepsLoads, Send, Take as TakeLoad, after_call}
 use Rattle.credit_flow.proofs.Links.{IsKept, new_keeps, send_keeps, take_keeps, gain_keeps, kept_law}
-use Rattle.ring_world.specs.declared.event.Event.{Event}
-use Rattle.ring_world.specs.declared.event.Event.TheVariants.{Cast, Put, Take, Gain}
+use Rattle.ring_world.specs.declared.fixed.Event.{Event}
+use Rattle.ring_world.specs.declared.fixed.Event.TheVariants.{Cast, Put, Take, Gain}
 use Rattle.ring_world.specs.World.{Packet, Link, World, no_link, member_at, link_at, size, left_of}
 use Rattle.ring_world.specs.Member.{published, pushed, popped, granted}
 use Rattle.ring_world.specs.Refusal.{refusal, is_empty}

@@ -54,3 +54,14 @@ pub mod OpenWalk
 pub mod LeftLinks
 pub mod OpenExamples
 pub mod FixedRing
+pub mod Shown
+pub mod Told
+pub mod Sent
+pub mod Found
+pub mod Taken
+pub mod Looks
+pub mod Enabled
+pub mod Sized
+pub mod Running
+pub mod Starts
+pub mod HeldLaws

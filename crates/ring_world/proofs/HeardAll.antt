@@ -2,7 +2,7 @@
 use Rattle.std.proofs.Common.{ℕ, ◌<◌, ◌≤◌, List, length, refl, subst, ◌∙◌, arith, eq-eqb, nat_eq}
 use Rattle.std.proofs.lemmas.List.{take_all}
 use Rattle.ring_names.specs.declared.numbers.CreditSpec.{CreditSpec}
-use Rattle.ring_world.specs.declared.event.Event.{Event}
+use Rattle.ring_world.specs.declared.fixed.Event.{Event}
 use Rattle.ring_world.specs.World.{World, log_of, size, left_of}
 use Rattle.ring_world.specs.Run.{IsRun, last, opening}
 use Rattle.ring_world.specs.Laws.{row_of, IsQuiet, HasHeardAll}

@@ -1,9 +1,9 @@
 -- Every state of every run is lawful.
-use Rattle.std.proofs.Common.{ℕ, List, subst, sym}
+use Rattle.std.proofs.Common.{ℕ, List}
 use Rattle.ring_names.specs.declared.numbers.CreditSpec.{CreditSpec}
-use Rattle.ring_world.specs.declared.event.Event.{Event}
+use Rattle.ring_world.specs.declared.fixed.Event.{Event}
 use Rattle.ring_world.specs.World.{World}
-use Rattle.ring_world.specs.Run.{IsRun, last, opening, IsReachedIn}
+use Rattle.ring_world.specs.Run.{IsRun, last, opening}
 use Rattle.ring_world.specs.Laws.{IsLawful, EachKeepsCredit}
 use Rattle.ring_world.proofs.Good.{IsGood, forgot_everywhere}
 use Rattle.ring_world.proofs.Run.{run_good}
@@ -20,6 +20,3 @@ good_is_lawful w h credit = record {
 
 pub run_lawful : (credit : CreditSpec) (names : List (List ℕ)) (events : List Event) → IsRun (opening credit names) events → IsLawful (last (opening credit names) events)
 run_lawful credit names events r = good_is_lawful _ (run_good credit names events r) (run_each_keeps_credit credit names events r)
-
-pub IsReachedIn-IsLawful : (w : World) (n : ℕ) → IsReachedIn w n → IsLawful w
-IsReachedIn-IsLawful w n r = subst IsLawful (sym r.is) (run_lawful r.credit r.names r.events r.run)

@@ -1,4 +1,5 @@
 pub mod Writes
+pub mod Maps
 pub mod Round
 pub mod Chain
 pub mod Good
@@ -13,6 +14,4 @@ pub mod Lawful
 pub mod HeardAll
 pub mod Later
 pub mod Names
-pub mod Views
-pub mod Running
 pub mod Deaths

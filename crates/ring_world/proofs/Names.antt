@@ -9,12 +9,12 @@ use Rattle.std.proofs.lemmas.List.Sums.{prefix_len_passes, prefix_len_stops}
 use Rattle.std.proofs.lemmas.Slice.Eq.{bytes_eq-Decides}
 use Rattle.ring_names.specs.declared.message.Message.TheVariants as message
 use Rattle.ring_names.specs.declared.numbers.CreditSpec.{CreditSpec}
-use Rattle.ring_world.specs.declared.event.Event.{Event}
-use Rattle.ring_world.specs.declared.event.Event.TheVariants.{Cast, Put, Take, Gain}
+use Rattle.ring_world.specs.declared.fixed.Event.{Event}
+use Rattle.ring_world.specs.declared.fixed.Event.TheVariants.{Cast, Put, Take, Gain}
 use Rattle.ring_world.specs.World.{World, AreDifferent, no_member, member_at, size, place_of, most_members}
 use Rattle.ring_world.specs.Refusal.{refusal}
 use Rattle.ring_world.specs.Effect.{effect, publish_at, put_at, take_at, gain_at}
-use Rattle.ring_world.specs.Run.{IsRun, last, opening, opening_member, IsReachedIn}
+use Rattle.ring_world.specs.Run.{IsRun, last, opening, opening_member}
 use Rattle.ring_world.proofs.KeptTake.{taker}
 use Rattle.ring_world.proofs.Run.{at_place_does, run_keeps}
 
@@ -86,17 +86,3 @@ run_name_at credit names events i r l = name_at names (last (opening credit name
 
 pub run_place_of : (credit : CreditSpec) (names : List (List ℕ)) (events : List Event) (i : ℕ) → AreDifferent names → IsRun (opening credit names) events → i < size (last (opening credit names) events) → place_of (last (opening credit names) events).members (member_at (last (opening credit names) events) i).name ≡ Some i
 run_place_of credit names events i d r l = place_of_name names (last (opening credit names) events) i d (run_names credit names events r) l
-
--- ---- in every state that is reached
-
-pub IsReachedIn-names : (w : World) (n : ℕ) (r : IsReachedIn w n) → NamesAre r.names w
-IsReachedIn-names w n r = subst (NamesAre r.names) (sym r.is) (run_names r.credit r.names r.events r.run)
-
-pub IsReachedIn-some : (w : World) (n : ℕ) → IsReachedIn w n → 0 < size w
-IsReachedIn-some w n r = omega (arith, names_size r.names w (IsReachedIn-names w n r), r.are.some)
-
-pub IsReachedIn-few : (w : World) (n : ℕ) → IsReachedIn w n → size w ≤ most_members
-IsReachedIn-few w n r = omega (arith, names_size r.names w (IsReachedIn-names w n r), r.are.few)
-
-pub IsReachedIn-place_of : (w : World) (n i : ℕ) → IsReachedIn w n → i < size w → place_of w.members (member_at w i).name ≡ Some i
-IsReachedIn-place_of w n i r l = place_of_name r.names w i r.are.different (IsReachedIn-names w n r) l

@@ -2,19 +2,19 @@
 use Rattle.std.proofs.Common.{◌≡◌, ℕ, zero, suc, ◌+◌, ◌<◌, List, [], ◌∷◌, ◌++◌, length, map, take, get_or, refl, sym, ap, subst, ◌∙◌, true, false, Bool, nat_eq, arith, Option, Some, None}
 use Rattle.std.specs.List.{range_with_len}
 use Rattle.std.specs.Prelude.{bytes_eq}
-use Rattle.std.proofs.lemmas.List.{length-map, get_or-map, length_push}
+use Rattle.std.proofs.lemmas.List.{length-map, get_or-map}
 use Rattle.std.proofs.lemmas.List.FromFn.{length-map-range_with_len}
 use Rattle.std.proofs.lemmas.List.Quantifiers.{position-Some}
 use Rattle.ring_names.specs.declared.message.Message.TheVariants as message
 use Rattle.ring_names.specs.declared.numbers.CreditSpec.{CreditSpec}
 use Rattle.ring_names.specs.declared.reason.Reason.{Reason}
 use Rattle.ring_names.specs.declared.reason.Reason.TheVariants.{NothingToTake}
-use Rattle.ring_world.specs.declared.event.Event.{Event}
-use Rattle.ring_world.specs.declared.event.Event.TheVariants.{Cast, Put, Take, Gain}
-use Rattle.ring_world.specs.World.{Link, World, AreOpeningNames, no_row, no_member, no_link, row_at, member_at, log_of, size, place_of}
+use Rattle.ring_world.specs.declared.fixed.Event.{Event}
+use Rattle.ring_world.specs.declared.fixed.Event.TheVariants.{Cast, Put, Take, Gain}
+use Rattle.ring_world.specs.World.{Link, World, no_row, no_member, no_link, row_at, member_at, log_of, size, place_of}
 use Rattle.ring_world.specs.Refusal.{refusal, of_member, refuse_if, or_else}
 use Rattle.ring_world.specs.Effect.{at_place, effect, publish_at, put_at, take_at, gain_at}
-use Rattle.ring_world.specs.Run.{IsRun, last, opening, opening_member, opening_link, IsReachedIn, IsShaped}
+use Rattle.ring_world.specs.Run.{IsRun, last, opening, opening_member, opening_link}
 use Rattle.ring_world.specs.Laws.{row_of}
 use Rattle.ring_world.proofs.Good.{IsGood, LinkIsChain, LinkIsFall, low, low_forgot}
 use Rattle.ring_world.proofs.KeptPublish.{publish_keeps}
@@ -116,13 +116,6 @@ last_keeps = run_keeps IsGood effect_keeps
 pub run_good : (credit : CreditSpec) (names : List (List ℕ)) (events : List Event) → IsRun (opening credit names) events → IsGood (last (opening credit names) events)
 run_good credit names events r = last_keeps (opening credit names) events r (opening_good credit names)
 
--- every state of every run
-pub IsReachedIn-IsGood : (w : World) (n : ℕ) → IsReachedIn w n → IsGood w
-IsReachedIn-IsGood w n r = subst IsGood (sym r.is) (run_good r.credit r.names r.events r.run)
-
-pub IsGood-IsShaped : (w : World) → IsGood w → IsShaped w
-IsGood-IsShaped w h = record { links = h.links; rows = h.rows; own = h.own }
-
 -- a run of two parts
 pub IsRun-append : (w : World) (es fs : List Event) → IsRun w es → IsRun (last w es) fs → IsRun w (es ++ fs)
 IsRun-append w [] fs r s = s
@@ -152,17 +145,3 @@ IsRun-push w events e r x = IsRun-append w events (e ∷ []) r (x, tt)
 
 pub last-push : (w : World) (events : List Event) (e : Event) → last w (events ++ e ∷ []) ≡ effect (last w events) e
 last-push w events e = last-append w events (e ∷ [])
-
-pub opening_is_reached : (credit : CreditSpec) (names : List (List ℕ)) → AreOpeningNames names → IsReachedIn (opening credit names) 0
-opening_is_reached credit names are = record { credit = credit; names = names; are = are; events = []; run = tt; is = refl; count = refl }
-
-pub IsReachedIn-more : (w w' : World) (n n' : ℕ) (e : Event) → IsReachedIn w n → refusal w e ≡ None → w' ≡ effect w e → n' ≡ n + 1 → IsReachedIn w' n'
-IsReachedIn-more w w' n n' e r x is count = record {
-  credit = r.credit;
-  names = r.names;
-  are = r.are;
-  events = r.events ++ e ∷ [];
-  run = IsRun-push (opening r.credit r.names) r.events e r.run (ap (λ v. refusal v e) (sym r.is) ∙ x);
-  is = is ∙ ap (λ v. effect v e) r.is ∙ sym (last-push (opening r.credit r.names) r.events e);
-  count = length_push r.events e ∙ ap (λ k. k + 1) r.count ∙ sym count;
-}

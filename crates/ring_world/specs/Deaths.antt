@@ -9,3 +9,9 @@ pub mod Lawful
 pub mod Laws
 pub mod OpenLinks
 pub mod FixedRing
+pub mod Asked
+pub mod Quiet
+pub mod Placed
+pub mod Reached
+pub mod Shows
+pub mod Walking

@@ -2,8 +2,8 @@
 use Rattle.std.specs.Prelude.{ℕ, List, Option, Some, None, slice_set, slice_index_or, nat_eq}
 use Rattle.ring_names.specs.declared.message.Message.{Message}
 use Rattle.ring_names.specs.declared.message.Message.TheVariants as message
-use Rattle.ring_world.specs.declared.event.Event.{Event}
-use Rattle.ring_world.specs.declared.event.Event.TheVariants.{Cast, Put, Take, Gain}
+use Rattle.ring_world.specs.declared.fixed.Event.{Event}
+use Rattle.ring_world.specs.declared.fixed.Event.TheVariants.{Cast, Put, Take, Gain}
 use Rattle.ring_world.specs.World.{Member, Packet, Link, World, no_member, row_at, numbers_at, member_at, link_at, log_of, size, place_of, left_of}
 use Rattle.ring_world.specs.Member.{published, next_packet, pushed, popped, oldest, brought, taken, granted}
 
@@ -44,7 +44,3 @@ effect w (Cast by body) = at_place (place_of w.members by) w (publish_at w (mess
 effect w (Put by) = at_place (place_of w.members by) w (put_at w)
 effect w (Take by) = at_place (place_of w.members by) w (take_at w)
 effect w (Gain by) = at_place (place_of w.members by) w (gain_at w)
-
--- what a packet brings member i of the origin at place p
-abbrev pub brought_at : List Member → ℕ → Packet → ℕ → List Message
-brought_at ms i k p = brought (nat_eq p i) (slice_index_or ms p no_member).log (row_at (slice_index_or ms i no_member) p) (numbers_at k p)

@@ -5,6 +5,4 @@ pub mod Effect
 pub mod Run
 pub mod Shown
 pub mod Laws
-pub mod View
-pub mod Reached
 pub mod Deaths

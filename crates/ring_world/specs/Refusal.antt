@@ -3,8 +3,8 @@ use Rattle.std.specs.Prelude.{ℕ, Bool, true, false, List, [], ◌∷◌, Optio
 use Rattle.ring_names.specs.declared.reason.Reason.{Reason}
 use Rattle.ring_names.specs.declared.reason.Reason.TheVariants.{UnknownMember, NoCredit, NothingNew, NothingToTake, NoGrant}
 use Rattle.credit_flow.specs.Credit.{is_blocked}
-use Rattle.ring_world.specs.declared.event.Event.{Event}
-use Rattle.ring_world.specs.declared.event.Event.TheVariants.{Cast, Put, Take, Gain}
+use Rattle.ring_world.specs.declared.fixed.Event.{Event}
+use Rattle.ring_world.specs.declared.fixed.Event.TheVariants.{Cast, Put, Take, Gain}
 use Rattle.ring_world.specs.World.{World, member_at, link_at, size, place_of, left_of}
 use Rattle.ring_world.specs.Member.{has_nothing_new}
 

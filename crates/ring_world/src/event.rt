@@ -8,12 +8,23 @@ use ring_names::{Body, Name, OutOfMemory};
 pub enum Event {
     /// The member publishes a message of its own.
     Cast { by: Name, body: Body },
-    /// The member puts a packet on the link to its right neighbour.
+    /// The member puts a packet on the link that it sends on.
     Put { by: Name },
-    /// The member takes the oldest packet from the link of its left neighbour.
+    /// The member takes the oldest packet from the link that it takes from.
     Take { by: Name },
-    /// The member gains the oldest grant under way on its link as credit, as `credit_flow:handle_bump_msg`.
+    /// The member has taken all packets from that link, and takes its end.
+    TakeEnd { by: Name },
+    /// The member gains the oldest grant under way on the link that it sends on as credit, as
+    /// `credit_flow:handle_bump_msg`.
     Gain { by: Name },
+    /// The member stops.
+    Stop { by: Name },
+    /// The member sees that a neighbour has stopped, and has it marked dead.
+    Mark { by: Name, dead: Name },
+    /// The member reads the view of a version, and sends to its right neighbour in it.
+    Refresh { by: Name, view: u32 },
+    /// The member takes from now on from the oldest link at its door.
+    Pick { by: Name },
 }
 
 impl Event {
@@ -28,7 +39,18 @@ impl Event {
             }),
             Event::Put { by } => Ok(Event::Put { by: *by }),
             Event::Take { by } => Ok(Event::Take { by: *by }),
+            Event::TakeEnd { by } => Ok(Event::TakeEnd { by: *by }),
             Event::Gain { by } => Ok(Event::Gain { by: *by }),
+            Event::Stop { by } => Ok(Event::Stop { by: *by }),
+            Event::Mark { by, dead } => Ok(Event::Mark {
+                by: *by,
+                dead: *dead,
+            }),
+            Event::Refresh { by, view } => Ok(Event::Refresh {
+                by: *by,
+                view: *view,
+            }),
+            Event::Pick { by } => Ok(Event::Pick { by: *by }),
         }
     }
 }

@@ -1,7 +1,7 @@
 //! The laws of the ring, over all runs.
 ghost use Rattle.std.specs.Prelude.{ℕ, List, ◌++◌};
 ghost use Rattle.ring_names.specs.declared.numbers.CreditSpec.{CreditSpec};
-ghost use Rattle.ring_world.specs.declared.event.Event.{Event};
+ghost use Rattle.ring_world.specs.declared.fixed.Event.{Event};
 ghost use Rattle.ring_world.specs.Run.{IsRun, last, opening};
 ghost use Rattle.ring_world.specs.Laws.{HasHeardAll, IsLawful, IsQuiet, KeepsCredit, NeverFalls};
 ghost use Rattle.group_view.specs.Change.{AreOpeningNames};
@@ -46,9 +46,10 @@ pub fn a_quiet_ring_has_heard_all()
 
 /// However members stop, are marked dead, refresh late and pick up links, every state that the ring reaches is
 /// lawful. Going twice round the ring from the owner of an origin, past the packets on the links between the
-/// members, the numbers for that origin never rise; so no take leaves a gap, each member has heard of each
-/// publisher just its messages in their order, each once, and what has come round to a publisher is at every
-/// member that is up.
+/// members, the numbers for that origin never rise; so no take of a member that is up leaves a gap, but for
+/// origins that the member answers for against the sender; each member has heard of each publisher just its
+/// messages in their order, each once; and what has come round to a running publisher is at every member that
+/// is up.
 pub fn every_state_with_deaths_is_lawful()
     ensures { (credit : CreditSpec) (names : List (List ℕ)) (events : List RingEvent)
         → AreOpeningNames names → IsRingRun (opening_of credit names) events

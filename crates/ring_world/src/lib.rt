@@ -1,24 +1,36 @@
-//! The ring as a plain machine: its state, its events, and what each event does, as `gm` has it for a
-//! ring whose members stay. Begin at `World`, and at specs/World.antt for what a state is.
+//! The ring as a plain machine: its state, its events, and what each event does, as `gm` has it for a ring whose
+//! members may stop. Begin at `World`, and at specs/Deaths/Machine.antt for what a state is. The ring in which
+//! nobody stops, in whose states the members of a cluster stand so far, is that of specs/World.antt.
 #![tactic(auto)]
 
-mod cast;
+mod arms;
+mod asked;
+mod conditions;
+mod dispatch;
+mod effects;
 mod event;
-mod gain;
+pub mod fixed;
 mod laws;
 mod log;
+mod marking;
+mod membership;
+mod neighbours;
 mod numbers;
-mod opening;
-mod place;
-mod put;
+mod phase;
+mod places;
 mod quiet;
+mod refreshing;
 mod seat;
+mod seats;
 mod shown;
-mod step;
-mod take;
+mod starting;
+mod state;
+mod taking;
 #[cfg(test)]
 mod tests;
+mod walk;
 mod wire;
+mod wires;
 mod world;
 
 pub use event::Event;
@@ -29,5 +41,6 @@ pub use laws::{
     numbers_never_fall,
 };
 pub use numbers::Numbers;
+pub use phase::{Ending, Phase};
 pub use shown::{Counts, MemberState};
 pub use world::{Refused, World};

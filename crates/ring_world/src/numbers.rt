@@ -1,7 +1,6 @@
 //! What a packet says of one origin.
-ghost use Rattle.std.specs.Prelude.{◌≡◌};
-ghost use Rattle.ring_world.specs.View.{packet_with};
-ghost use Rattle.ring_world.specs.World.{numbers_at as the_numbers};
+ghost use Rattle.std.specs.Prelude.{◌≡◌, slice_index_or};
+ghost use Rattle.ring_world.specs.World.{no_numbers};
 
 /// The numbers of one origin in a packet: the packet brings the origin's messages from `lo` + 1 to
 /// `got`, and its sender has forgotten those up to `forgot`, as their acknowledgement has passed.
@@ -12,12 +11,12 @@ pub struct Numbers {
     pub forgot: u64,
 }
 
-/// The numbers of the origin at a place; all 0 where the packet has none.
-pub(crate) fn numbers_at(packet: &[Numbers], place: usize) -> Numbers
-    ensures { result ≡ the_numbers (packet_with packet.now) place }
+/// The numbers of the origin of an id; all 0 where the list has none.
+pub(crate) fn numbers_at(numbers: &[Numbers], id: usize) -> Numbers
+    ensures { result ≡ slice_index_or numbers.now id no_numbers }
 {
-    match packet.get(place) {
-        Some(numbers) => *numbers,
+    match numbers.get(id) {
+        Some(found) => *found,
         None => Numbers {
             lo: 0,
             got: 0,

@@ -1,45 +1,120 @@
-//! Whether a ring is quiet.
-ghost use Rattle.std.specs.Prelude.{◌≡◌, ◌↔◌, ℕ, ◌<◌, [], length, IsTrue};
-ghost use Rattle.ring_world.specs.World.{row_at};
-ghost use Rattle.ring_world.specs.Laws.{IsQuiet};
-ghost use Rattle.ring_world.specs.View.{member_in, link_in, world_of};
+//! Whether a ring rests.
+ghost use Rattle.std.specs.Prelude.{◌≡◌, ◌↔◌, ◌<◌, ℕ, suc, true, false, length, All, IsTrue};
+ghost use Rattle.ring_world.specs.Deaths.Machine.{Up, link_at, runs as runs_at, row_at};
+ghost use Rattle.ring_world.specs.Deaths.OpenLinks.{is_open as open_is};
+ghost use Rattle.ring_world.specs.Deaths.Event.{holds_nothing};
+ghost use Rattle.ring_world.specs.Deaths.Quiet.{IsResting, IsSettled, IsQuiet};
+ghost use Rattle.ring_world.specs.Deaths.Placed.{IsPlaced};
+ghost use Rattle.ring_world.specs.Deaths.Shows.{world_of, member_of};
 
+use crate::neighbours::{id_at, newest, newest_view};
+use crate::phase::Phase;
 use crate::seat::Seat;
-use crate::wire::Wire;
+use crate::state::Ring;
+use crate::walk::{is_open, running_place};
+use group_view::{Entry, Mark};
 
-/// Whether the ring of these seats and links is quiet.
-#[tactic(auto, using(crate::proofs::Views::quiet_of, crate::proofs::Views::quiet_links, crate::proofs::Views::quiet_logs))]
-pub(crate) fn is_quiet(seats: &[Seat], wires: &[Wire]) -> bool
-    requires { length wires.now ≡ length seats.now }
-    ensures { IsTrue result ↔ IsQuiet (world_of seats.now wires.now) }
+/// Whether no link holds an item that is open to the running member at a place.
+#[tactic(auto, using(crate::proofs::Deaths::Shown::read_link))]
+fn has_nothing_to_take(ring: &Ring, place: usize) -> bool
+    requires placed { IsPlaced (world_of ring.now) }
+    requires place { place < length ring.now.seats.items }
+    requires runs { runs_at (world_of ring.now) (suc place) ≡ true }
+    ensures { IsTrue result ↔ ((s : ℕ) → s < length ring.now.wires.items
+        → open_is (world_of ring.now) (suc place) s ≡ true
+        → holds_nothing (link_at (world_of ring.now) s) ≡ true) }
 {
-    are_empty(wires) && have_come_round(seats)
-}
-
-/// Whether no link holds a packet.
-#[tactic(auto, using(crate::proofs::Views::read_link))]
-fn are_empty(wires: &[Wire]) -> bool
-    ensures { IsTrue result
-        ↔ ((s : ℕ) → s < length wires.now → (link_in wires.now s).packets ≡ []) }
-{
-    for place in 0..wires.len() {
-        if !wires[place].is_empty() {
+    for s in 0..ring.wires.len() {
+        if is_open(ring, place, s) && !ring.wires[s].holds_nothing() {
             return false;
         }
     }
     true
 }
 
-/// Whether every message has come round to its publisher, and its acknowledgement too.
-#[tactic(auto, using(crate::proofs::Views::read_member))]
-fn have_come_round(seats: &[Seat]) -> bool
-    ensures { IsTrue result ↔ ((p : ℕ) → p < length seats.now
-        → (row_at (member_in seats.now p) p).retired ≡ length (member_in seats.now p).log) }
+/// Whether all that a member published, whose id is given, has come round to it, and its acknowledgement too.
+fn has_come_round(seat: &Seat, id: usize) -> bool
+    ensures { IsTrue result ↔ ((row_at (member_of seat.now) id).retired ≡ length seat.now.log.items) }
 {
-    for place in 0..seats.len() {
-        if !seats[place].has_come_round(place) {
+    seat.retired(id) == seat.log.len() as u64
+}
+
+/// Whether the running member at a place rests.
+#[tactic(auto, using(crate::proofs::Deaths::Shown::read_member, crate::proofs::Deaths::Found::few_seats))]
+fn is_resting(ring: &Ring, place: usize) -> bool
+    requires placed { IsPlaced (world_of ring.now) }
+    requires place { place < length ring.now.seats.items }
+    requires runs { runs_at (world_of ring.now) (suc place) ≡ true }
+    ensures { IsTrue result ↔ IsResting (world_of ring.now) (suc place) }
+{
+    let seat = &ring.seats[place];
+    if !matches!(seat.phase, Phase::Up) {
+        return false;
+    }
+    if seat.version != newest(ring) {
+        return false;
+    }
+    if !has_come_round(seat, id_at(place) as usize) {
+        return false;
+    }
+    has_nothing_to_take(ring, place)
+}
+
+/// Whether every running member rests.
+#[tactic(auto, using(crate::proofs::Deaths::Shown::read_member))]
+fn all_rest(ring: &Ring) -> bool
+    requires { IsPlaced (world_of ring.now) }
+    ensures { IsTrue result ↔ ((y : ℕ) → runs_at (world_of ring.now) y ≡ true
+        → IsResting (world_of ring.now) y) }
+{
+    for place in 0..ring.seats.len() {
+        if ring.seats[place].phase.is_running() && !is_resting(ring, place) {
             return false;
         }
     }
     true
+}
+
+/// Whether an entry isn't dead, and its member runs where it is live.
+fn is_settled(ring: &Ring, entry: &Entry) -> bool
+    ensures { IsTrue result ↔ IsSettled (world_of ring.now) entry.now }
+{
+    match entry.mark {
+        Mark::Dead => false,
+        Mark::Erased => true,
+        Mark::Live => running_place(ring, entry.id.0 as usize).is_some(),
+    }
+}
+
+/// Whether all these entries are settled.
+fn are_settled(ring: &Ring, entries: &[Entry]) -> bool
+    ensures { IsTrue result ↔ All (IsSettled (world_of ring.now)) entries.now }
+{
+    for entry in entries {
+        if !is_settled(ring, entry) {
+            return false;
+        }
+    }
+    true
+}
+
+/// Whether every member has stopped.
+#[tactic(auto, using(crate::proofs::Deaths::Shown::read_member))]
+fn nobody_runs(ring: &Ring) -> bool
+    ensures { IsTrue result ↔ ((y : ℕ) → runs_at (world_of ring.now) y ≡ false) }
+{
+    for place in 0..ring.seats.len() {
+        if ring.seats[place].phase.is_running() {
+            return false;
+        }
+    }
+    true
+}
+
+/// Whether the ring is quiet.
+pub(crate) fn is_quiet(ring: &Ring) -> bool
+    requires { IsPlaced (world_of ring.now) }
+    ensures { IsTrue result ↔ IsQuiet (world_of ring.now) }
+{
+    nobody_runs(ring) || (all_rest(ring) && are_settled(ring, newest_view(ring).entries.as_slice()))
 }

@@ -1,12 +1,15 @@
 //! A member's seat in the machine.
 ghost use Rattle.std.specs.Prelude.{◌≡◌, ◌↔◌, IsTrue, ℕ, ◌+◌, ◌^◌, ◌<◌, ◌≤◌, [], ◌∷◌, ◌++◌, length, map, nat_eq, bytes_eq, vec_len, vec_capacity, IfOk, OnOk, OnErr};
 ghost use Rattle.std.specs.List.{range_with_len};
-ghost use Rattle.ring_world.specs.World.{no_row, row_at, numbers_at as the_numbers};
-ghost use Rattle.ring_world.specs.Member.{published as is_published, published_row, taken_with, with_rows};
-ghost use Rattle.ring_world.specs.Run.{opening_member};
-ghost use Rattle.ring_world.specs.View.{row_of, row_in, member_of, packet_with, room_of, items_of, news_in, HasRoom};
+ghost use Rattle.ring_world.specs.World.{no_row};
+ghost use Rattle.ring_world.specs.Member.{published_row};
+ghost use Rattle.ring_world.specs.Deaths.Machine.{row_at, numbers_at as the_numbers};
+ghost use Rattle.ring_world.specs.Deaths.Step.{published as is_published, taken_with};
+ghost use Rattle.ring_world.specs.Deaths.Shows.{row_of, row_in, member_of, packet_of, room_of, with_rows, News, news_of, news_in, looked, HasRoom};
 
 use crate::numbers::{Numbers, numbers_at};
+use crate::phase::Phase;
+use crate::wire::Parcel;
 use ring_names::{Message, Name, OutOfMemory};
 use std::alloc::Global;
 
@@ -19,12 +22,24 @@ pub struct KnownOrigin {
     pub(crate) heard: Vec<Message>,
 }
 
-/// A member with its log and a row for each origin.
+/// A member with its log and a row for each origin, by id, of which place 0 has nobody's; and where among
+/// the links the one stands on which it sends, and the one from which it takes.
 #[derive(Drop)]
 pub struct Seat {
     pub(crate) name: Name,
+    pub(crate) phase: Phase,
+    pub(crate) version: u32,
     pub(crate) log: Vec<Message>,
     pub(crate) rows: Vec<KnownOrigin>,
+    pub(crate) out: Option<usize>,
+    pub(crate) current: Option<usize>,
+}
+
+/// What a packet brings of one origin, and whether the taker answers for it.
+#[derive(Drop)]
+pub struct Brought {
+    pub(crate) own: bool,
+    pub(crate) messages: Vec<Message>,
 }
 
 impl KnownOrigin {
@@ -64,36 +79,34 @@ impl KnownOrigin {
     }
 
     /// Takes in what a packet says of the origin, where there is room for its news.
-    fn take(&mut self, own: bool, numbers: Numbers, news: &mut Vec<Message>)
-        requires { vec_len self.old.heard + vec_len news.old ≤ vec_capacity self.old.heard }
-        ensures { row_of self.new ≡ taken_with own (row_of self.old) numbers news.old.items }
+    fn take(&mut self, numbers: Numbers, news: &mut Brought)
+        requires { vec_len self.old.heard + vec_len news.old.messages
+            ≤ vec_capacity self.old.heard }
+        ensures { row_of self.new ≡ taken_with news.old.own (row_of self.old) numbers
+            news.old.messages.items }
     {
-        if own {
+        if news.own {
             self.forgot = numbers.got;
             self.retired = numbers.forgot;
             return;
         }
         self.got = numbers.got;
         self.forgot = numbers.forgot;
-        if self.heard.append(news).is_err() {
+        if self.heard.append(&mut news.messages).is_err() {
             unreachable!()
         }
     }
 }
 
-impl Seat {
-    /// The seat as a ring of so many members opens.
-    pub(crate) fn opening(alloc: Global, name: Name, size: usize) -> Result<Seat, OutOfMemory>
-        ensures { IfOk result (λ seat. member_of seat ≡ opening_member size name) }
+impl Brought {
+    fn count(&self) -> usize
+        ensures { result ≡ length (news_of self.now).messages }
     {
-        let rows = opening_rows(alloc, size)?;
-        Ok(Seat {
-            name,
-            log: Vec::new(alloc),
-            rows,
-        })
+        self.messages.len()
     }
+}
 
+impl Seat {
     pub(crate) fn is_named(&self, name: &Name) -> bool
         ensures { result ≡ bytes_eq self.now.name name.now }
     {
@@ -101,63 +114,63 @@ impl Seat {
     }
 
     /// How much of an origin's log it got and how much it forgot.
-    pub(crate) fn got_and_forgot(&self, place: usize) -> (u64, u64)
-        ensures got { result.0 ≡ (row_at (member_of self.now) place).got }
-        ensures forgot { result.1 ≡ (row_at (member_of self.now) place).forgot }
+    pub(crate) fn got_and_forgot(&self, id: usize) -> (u64, u64)
+        ensures got { result.0 ≡ (row_at (member_of self.now) id).got }
+        ensures forgot { result.1 ≡ (row_at (member_of self.now) id).forgot }
     {
-        match self.rows.get(place) {
+        match self.rows.get(id) {
             Some(row) => (row.got, row.forgot),
             None => (0, 0),
         }
     }
 
-    /// Whether its messages have come round to it, and their acknowledgement too; the seat's place is
-    /// given.
-    pub(crate) fn has_come_round(&self, place: usize) -> bool
-        ensures { IsTrue result ↔ ((row_at (member_of self.now) place).retired
-            ≡ length (member_of self.now).log) }
+    /// It has the view of a version, and this current link.
+    pub(crate) fn look(&mut self, version: u32, current: Option<usize>)
+        ensures { member_of self.new ≡ looked version current (member_of self.old) }
     {
-        let retired = match self.rows.get(place) {
-            Some(row) => row.retired,
-            None => 0,
-        };
-        retired == self.log.len() as u64
+        self.version = version;
+        self.current = current;
     }
 
-    /// Publishes a message; the seat's place is given.
-    #[tactic(auto, using(crate::proofs::Views::published_rows, crate::proofs::Views::rewrite_row, crate::proofs::Views::read_row))]
-    pub(crate) fn publish(&mut self, place: usize, message: Message) -> Result<(), OutOfMemory>
-        requires row { place < length self.old.rows.items }
-        requires own { (row_at (member_of self.old) place).got ≡ length self.old.log.items }
+    /// How much of an origin's log it retired.
+    pub(crate) fn retired(&self, id: usize) -> u64
+        ensures { result ≡ (row_at (member_of self.now) id).retired }
+    {
+        match self.rows.get(id) {
+            Some(row) => row.retired,
+            None => 0,
+        }
+    }
+
+    /// Publishes a message; the member's id is given.
+    #[tactic(auto, using(crate::proofs::Deaths::Shown::published_rows, crate::proofs::Deaths::Shown::rewrite_row, crate::proofs::Deaths::Shown::read_row))]
+    pub(crate) fn publish(&mut self, id: usize, message: Message) -> Result<(), OutOfMemory>
+        requires row { id < length self.old.rows.items }
+        requires own { (row_at (member_of self.old) id).got ≡ length self.old.log.items }
         ensures ok { OnOk result (member_of self.new
-            ≡ is_published place (member_of self.old) message) }
+            ≡ is_published id message (member_of self.old)) }
         ensures err { OnErr result (member_of self.new ≡ member_of self.old) }
     {
         let heard = message.copy()?;
         if self.log.reserve(1).is_err() {
             return Err(OutOfMemory);
         }
-        self.rows[place].publish(heard)?;
+        self.rows[id].publish(heard)?;
         push_reserved(&mut self.log, message);
         Ok(())
     }
 
-    /// Takes in a packet with the news that it brings of each origin; the seat's place is given.
-    pub(crate) fn take(
-        &mut self,
-        place: usize,
-        packet: &[Numbers],
-        news: &mut [Vec<Message>],
-    ) -> Result<(), OutOfMemory>
+    /// Takes in a packet with what it brings of each origin.
+    pub(crate) fn take(&mut self, packet: &Parcel, news: &mut [Brought]) -> Result<(), OutOfMemory>
         requires { length self.old.rows.items ≡ length news.old }
         ensures ok { OnOk result (member_of self.new ≡ with_rows (member_of self.old)
-            (map (λ p. taken_with (nat_eq p place) (row_at (member_of self.old) p)
-            (the_numbers (packet_with packet.now) p) (news_in news.old p))
+            (map (λ p. taken_with (news_in news.old p).own (row_at (member_of self.old) p)
+            (the_numbers (packet_of packet.now) p) (news_in news.old p).messages)
             (range_with_len 0 (length news.old)))) }
         ensures err { OnErr result (member_of self.new ≡ member_of self.old) }
     {
         make_room(&mut self.rows, news)?;
-        take_rows(&mut self.rows, place, packet, news);
+        take_rows(&mut self.rows, packet, news);
         Ok(())
     }
 }
@@ -172,12 +185,13 @@ fn push_reserved(log: &mut Vec<Message>, message: Message)
     }
 }
 
-fn opening_rows(alloc: Global, size: usize) -> Result<Vec<KnownOrigin>, OutOfMemory>
+/// So many rows that say nothing.
+pub(crate) fn opening_rows(alloc: Global, size: usize) -> Result<Vec<KnownOrigin>, OutOfMemory>
     ensures { IfOk result (λ v. map row_of v.items
         ≡ map (λ (_ : ℕ). no_row) (range_with_len 0 size)) }
 {
     let mut rows = Vec::new(alloc);
-    for _place in 0..size {
+    for _id in 0..size {
         if rows.push(KnownOrigin::opening(alloc)).is_err() {
             return Err(OutOfMemory);
         }
@@ -186,28 +200,28 @@ fn opening_rows(alloc: Global, size: usize) -> Result<Vec<KnownOrigin>, OutOfMem
 }
 
 /// Makes room in each row for its news.
-#[tactic(auto, using(crate::proofs::Views::rewrite_row))]
-fn make_room(rows: &mut [KnownOrigin], news: &[Vec<Message>]) -> Result<(), OutOfMemory>
+#[tactic(auto, using(crate::proofs::Deaths::Shown::rewrite_row))]
+fn make_room(rows: &mut [KnownOrigin], news: &[Brought]) -> Result<(), OutOfMemory>
     requires { length rows.old ≡ length news.now }
     ensures same { map row_of rows.new ≡ map row_of rows.old }
     ensures room { OnOk result (HasRoom rows.new news.now) }
 {
     for k in 0..rows.len() {
-        rows[k].reserve(news[k].len())?;
+        rows[k].reserve(news[k].count())?;
     }
     Ok(())
 }
 
 /// Each row takes in its part of a packet.
-fn take_rows(rows: &mut [KnownOrigin], place: usize, packet: &[Numbers], news: &mut [Vec<Message>])
+fn take_rows(rows: &mut [KnownOrigin], packet: &Parcel, news: &mut [Brought])
     requires lengths { length rows.old ≡ length news.old }
     requires room { HasRoom rows.old news.old }
     ensures { map row_of rows.new
-        ≡ map (λ p. taken_with (nat_eq p place) (row_in rows.old p)
-        (the_numbers (packet_with packet.now) p) (news_in news.old p))
+        ≡ map (λ p. taken_with (news_in news.old p).own (row_in rows.old p)
+        (the_numbers (packet_of packet.now) p) (news_in news.old p).messages)
         (range_with_len 0 (length rows.old)) }
 {
     for k in 0..rows.len() {
-        rows[k].take(k == place, numbers_at(packet, k), &mut news[k]);
+        rows[k].take(numbers_at(&packet.numbers, k), &mut news[k]);
     }
 }

@@ -1,138 +1,183 @@
 //! A link of the machine.
-ghost use Rattle.std.specs.Prelude.{◌≡◌, ◌↔◌, ◌<◌, [], IsTrue, false, IfOk, OnOk, OnErr, vec_len, vec_capacity};
+ghost use Rattle.std.specs.Prelude.{◌≡◌, ◌<◌, ◌+◌, ◌&&◌, false, not, is_some, length, map, slice_index_or, IfOk, OnOk, OnErr, vec_len, vec_capacity};
+ghost use Rattle.std.specs.List.{range_with_len};
 ghost use Rattle.credit_flow.specs.Credit.{is_blocked as blocked_is};
-ghost use Rattle.ring_world.specs.World.{row_at, numbers_at as the_numbers};
-ghost use Rattle.ring_world.specs.Run.{opening_link};
-ghost use Rattle.ring_world.specs.Member.{next_numbers as the_next_numbers, next_packet as the_next_packet, is_sent as sent_is, has_nothing_new as nothing_is_new, pushed, oldest as the_oldest, popped, granted};
-ghost use Rattle.ring_world.specs.Refusal.{is_empty};
-ghost use Rattle.ring_world.specs.View.{member_of, link_of, packet_of, packet_with};
+ghost use Rattle.ring_world.specs.World.{no_numbers};
+ghost use Rattle.ring_world.specs.Member.{next_numbers as the_next_numbers, is_sent as sent_is};
+ghost use Rattle.ring_world.specs.Refusal.{is_empty as empty_is};
+ghost use Rattle.ring_world.specs.Deaths.Machine.{row_at, numbers_at as the_numbers};
+ghost use Rattle.ring_world.specs.Deaths.Walk.{oldest as the_oldest};
+ghost use Rattle.ring_world.specs.Deaths.Step.{next_packet as the_next_packet, next_lines, pushed, popped, finished, ended as is_ended};
+ghost use Rattle.ring_world.specs.Deaths.Event.{has_nothing_new as nothing_is_new, holds_nothing as nothing_is_held};
+ghost use Rattle.ring_world.specs.Deaths.Shows.{member_of, link_of, packet_of, gained_on, link_opened, link_at_first};
 
 use crate::numbers::{Numbers, numbers_at};
+use crate::phase::Ending;
 use crate::seat::Seat;
 use credit_flow::{CreditIn, CreditOut};
 use ring_names::{CreditSpec, OutOfMemory};
 use std::alloc::Global;
 
-/// A link from a member to its right neighbour, with the grants under way back to the sender.
+/// A packet: the version of its sender's view, and numbers for each origin by id.
+#[derive(Drop)]
+pub struct Parcel {
+    pub(crate) version: u32,
+    pub(crate) numbers: Vec<Numbers>,
+}
+
+/// A link from one member to another, with the grants under way back to the sender.
 #[derive(Drop)]
 pub struct Wire {
-    pub(crate) packets: Vec<Vec<Numbers>>,
+    pub(crate) sender: u32,
+    pub(crate) receiver: u32,
+    pub(crate) opened: u32,
+    pub(crate) packets: Vec<Parcel>,
+    pub(crate) ending: Option<Ending>,
+    pub(crate) over: bool,
     pub(crate) fresh: bool,
-    pub(crate) sent: Vec<Numbers>,
-    pub(crate) sender: CreditOut,
-    pub(crate) receiver: CreditIn,
+    pub(crate) sent: Parcel,
+    pub(crate) outgoing: CreditOut,
+    pub(crate) incoming: CreditIn,
     pub(crate) grants: Vec<u32>,
 }
 
 impl Wire {
-    /// The link as a ring with this credit opens.
-    pub(crate) fn opening(alloc: Global, credit: CreditSpec) -> Wire
-        ensures { link_of result ≡ opening_link credit [] }
+    /// A link as a ring with this credit opens.
+    pub(crate) fn opening(alloc: Global, credit: CreditSpec, sender: u32, receiver: u32) -> Wire
+        ensures { link_of result ≡ link_at_first credit sender receiver }
     {
         Wire {
+            sender,
+            receiver,
+            opened: 1,
             packets: Vec::new(alloc),
+            ending: None,
+            over: false,
             fresh: true,
-            sent: Vec::new(alloc),
-            sender: CreditOut::new(credit),
-            receiver: CreditIn::new(credit),
+            sent: Parcel {
+                version: 0,
+                numbers: Vec::new(alloc),
+            },
+            outgoing: CreditOut::new(credit),
+            incoming: CreditIn::new(credit),
             grants: Vec::new(alloc),
         }
+    }
+
+    /// A link opens in a version, with a first packet of these rows.
+    pub(crate) fn open(
+        alloc: Global,
+        credit: CreditSpec,
+        sender: u32,
+        receiver: u32,
+        version: u32,
+        seat: &Seat,
+    ) -> Result<Wire, OutOfMemory>
+        ensures { IfOk result (λ wire. link_of wire
+            ≡ link_opened credit.initial credit.more sender receiver version
+            (member_of seat.now).rows) }
+    {
+        let none = Vec::new(alloc);
+        let numbers = next_numbers(alloc, true, &none, seat)?;
+        let sent = match Vec::from_slice(alloc, &numbers) {
+            Ok(sent) => sent,
+            Err(_) => return Err(OutOfMemory),
+        };
+        let mut packets = Vec::new(alloc);
+        if packets.push(Parcel { version, numbers }).is_err() {
+            return Err(OutOfMemory);
+        }
+        let mut outgoing = CreditOut::new(credit);
+        outgoing.send();
+        Ok(Wire {
+            sender,
+            receiver,
+            opened: version,
+            packets,
+            ending: None,
+            over: false,
+            fresh: false,
+            sent: Parcel {
+                version,
+                numbers: sent,
+            },
+            outgoing,
+            incoming: CreditIn::new(credit),
+            grants: Vec::new(alloc),
+        })
     }
 
     /// Whether the sender has no credit left.
     pub(crate) fn is_blocked(&self) -> bool
         ensures { result ≡ blocked_is (link_of self.now).flow.sender }
     {
-        self.sender.blocked()
+        self.outgoing.blocked()
     }
 
     /// Whether a packet would repeat what was last sent of one origin.
-    fn is_sent(&self, sender: &Seat, place: usize) -> bool
-        ensures { result ≡ sent_is (row_at (member_of sender.now) place)
-            (the_numbers (link_of self.now).sending.sent place) }
+    fn is_sent(&self, sender: &Seat, id: usize) -> bool
+        ensures { result ≡ sent_is (row_at (member_of sender.now) id)
+            (the_numbers (link_of self.now).sending.sent id) }
     {
-        let (got, forgot) = sender.got_and_forgot(place);
-        let sent = numbers_at(&self.sent, place);
+        let (got, forgot) = sender.got_and_forgot(id);
+        let sent = numbers_at(&self.sent.numbers, id);
         got == sent.got && forgot == sent.forgot
     }
 
-    /// Whether a packet would repeat what was last sent of each origin of a ring of that size.
+    /// Whether a packet would repeat what was last sent of each origin of ids below `size`.
     pub(crate) fn has_nothing_new(&self, size: usize, sender: &Seat) -> bool
         ensures { result ≡ nothing_is_new size (member_of sender.now) (link_of self.now).sending }
     {
-        (0..size).all(|place| self.is_sent(sender, place))
-    }
-
-    fn next_numbers(&self, sender: &Seat, place: usize) -> Numbers
-        ensures { result ≡ the_next_numbers (link_of self.now).sending.fresh
-            (row_at (member_of sender.now) place)
-            (the_numbers (link_of self.now).sending.sent place) }
-    {
-        let (got, forgot) = sender.got_and_forgot(place);
-        let lo = if self.fresh {
-            forgot
-        } else {
-            numbers_at(&self.sent, place).got
-        };
-        Numbers { lo, got, forgot }
-    }
-
-    fn next_packet(
-        &self,
-        alloc: Global,
-        size: usize,
-        sender: &Seat,
-    ) -> Result<Vec<Numbers>, OutOfMemory>
-        ensures { IfOk result (λ packet. packet.items
-            ≡ (the_next_packet size (member_of sender.now) (link_of self.now).sending).numbers) }
-    {
-        match (0..size)
-            .map(|place| self.next_numbers(sender, place))
-            .collect(alloc)
-        {
-            Ok(packet) => Ok(packet),
-            Err(_) => Err(OutOfMemory),
-        }
+        (0..size).all(|id| self.is_sent(sender, id))
     }
 
     /// The sender puts its next packet.
-    pub(crate) fn put(
-        &mut self,
-        alloc: Global,
-        size: usize,
-        sender: &Seat,
-    ) -> Result<(), OutOfMemory>
+    pub(crate) fn put(&mut self, alloc: Global, sender: &Seat) -> Result<(), OutOfMemory>
         requires { blocked_is (link_of self.old).flow.sender ≡ false }
         ensures ok { OnOk result (link_of self.new
             ≡ pushed (link_of self.old)
-            (the_next_packet size (member_of sender.now) (link_of self.old).sending)) }
+            (the_next_packet (member_of sender.now) (link_of self.old).sending)) }
         ensures err { OnErr result (link_of self.new ≡ link_of self.old) }
     {
-        let packet = self.next_packet(alloc, size, sender)?;
-        let sent = match Vec::from_slice(alloc, &packet) {
+        let numbers = next_numbers(alloc, self.fresh, &self.sent.numbers, sender)?;
+        let sent = match Vec::from_slice(alloc, &numbers) {
             Ok(sent) => sent,
             Err(_) => return Err(OutOfMemory),
         };
-        if self.packets.push(packet).is_err() {
+        let parcel = Parcel {
+            version: sender.version,
+            numbers,
+        };
+        if self.packets.push(parcel).is_err() {
             return Err(OutOfMemory);
         }
-        self.sent = sent;
+        self.sent = Parcel {
+            version: sender.version,
+            numbers: sent,
+        };
         self.fresh = false;
-        self.sender.send();
+        self.outgoing.send();
         Ok(())
     }
 
     /// Whether no packet is on the way.
     pub(crate) fn is_empty(&self) -> bool
-        ensures { IsTrue result ↔ ((link_of self.now).packets ≡ []) }
+        ensures { result ≡ empty_is (link_of self.now).packets }
     {
         self.packets.is_empty()
     }
 
+    /// Whether there is neither a packet nor an end.
+    pub(crate) fn holds_nothing(&self) -> bool
+        ensures { result ≡ nothing_is_held (link_of self.now) }
+    {
+        self.packets.is_empty() && self.ending.is_none()
+    }
+
     /// The oldest packet on the way.
-    pub(crate) fn oldest(&self) -> &[Numbers]
-        requires { is_empty (link_of self.now).packets ≡ false }
-        ensures { packet_with result.now ≡ the_oldest (link_of self.now) }
+    pub(crate) fn oldest(&self) -> &Parcel
+        requires { empty_is (link_of self.now).packets ≡ false }
+        ensures { packet_of result.now ≡ the_oldest (link_of self.now) }
     {
         &self.packets[0]
     }
@@ -150,24 +195,95 @@ impl Wire {
 
     /// The oldest packet goes, and its receiver counts it.
     pub(crate) fn pop(&mut self)
-        requires some { is_empty (link_of self.old).packets ≡ false }
+        requires some { empty_is (link_of self.old).packets ≡ false }
         requires room { vec_len self.old.grants < vec_capacity self.old.grants }
         ensures { link_of self.new ≡ popped (link_of self.old) }
     {
         self.packets.remove(0);
-        if let Some(grant) = self.receiver.took() {
+        if let Some(grant) = self.incoming.took() {
             if self.grants.push(grant).is_err() {
                 unreachable!()
             }
         }
     }
 
+    /// Whether no grant is under way.
+    pub(crate) fn has_no_grant(&self) -> bool
+        ensures { result ≡ empty_is (link_of self.now).flow.grants }
+    {
+        self.grants.is_empty()
+    }
+
     /// The oldest grant becomes credit.
     pub(crate) fn gain(&mut self)
-        requires { is_empty (link_of self.old).flow.grants ≡ false }
-        ensures { link_of self.new ≡ granted (link_of self.old) }
+        requires { empty_is (link_of self.old).flow.grants ≡ false }
+        ensures { link_of self.new ≡ gained_on (link_of self.old) }
     {
         let grant = self.grants.remove(0);
-        self.sender.gain(grant);
+        self.outgoing.gain(grant);
     }
+
+    /// It ends so, if it hasn't ended yet.
+    pub(crate) fn end(&mut self, why: Ending)
+        ensures { link_of self.new ≡ is_ended why (link_of self.old) }
+    {
+        if self.ending.is_none() {
+            self.ending = Some(why);
+        }
+    }
+
+    /// Its end was taken.
+    pub(crate) fn finish(&mut self)
+        ensures { link_of self.new ≡ finished (link_of self.old) }
+    {
+        self.over = true;
+    }
+}
+
+fn next_line(fresh: bool, sent: &[Numbers], sender: &Seat, id: usize) -> Numbers
+    ensures { result ≡ the_next_numbers fresh (row_at (member_of sender.now) id)
+        (slice_index_or sent.now id no_numbers) }
+{
+    let (got, forgot) = sender.got_and_forgot(id);
+    let lo = if fresh {
+        forgot
+    } else {
+        numbers_at(sent, id).got
+    };
+    Numbers { lo, got, forgot }
+}
+
+/// The numbers of the origins of ids below `size`.
+fn next_lines_to(
+    alloc: Global,
+    size: usize,
+    fresh: bool,
+    sent: &[Numbers],
+    sender: &Seat,
+) -> Result<Vec<Numbers>, OutOfMemory>
+    ensures { IfOk result (λ packet. packet.items
+        ≡ map (λ p. the_next_numbers fresh (row_at (member_of sender.now) p)
+        (slice_index_or sent.now p no_numbers)) (range_with_len 0 size)) }
+{
+    match (0..size)
+        .map(|id| next_line(fresh, sent, sender, id))
+        .collect(alloc)
+    {
+        Ok(packet) => Ok(packet),
+        Err(_) => Err(OutOfMemory),
+    }
+}
+
+/// The numbers of a member's rows, beside those last sent.
+fn next_numbers(
+    alloc: Global,
+    fresh: bool,
+    sent: &[Numbers],
+    sender: &Seat,
+) -> Result<Vec<Numbers>, OutOfMemory>
+    ensures { IfOk result (λ packet. packet.items
+        ≡ next_lines fresh (member_of sender.now).rows sent.now) }
+{
+    let numbers = next_lines_to(alloc, sender.rows.len(), fresh, sent, sender)?;
+    Ok(numbers)
 }

@@ -1,21 +1,25 @@
 //! The machine.
-ghost use Rattle.std.specs.Prelude.{◌≡◌, ◌↔◌, IsTrue, ◌<◌, length, take, Option, Some, None, Result, Ok, Err, IsSome, IfSome, IfOk, IfErr, OnOk, OnErr};
+ghost use Rattle.std.specs.Prelude.{◌≡◌, ◌↔◌, IsTrue, Some, None, Result, Ok, Err, take, IsSome, IfOk, IfErr, OnOk, OnErr};
 ghost use Rattle.ring_names.specs.declared.reason.Reason.{Reason};
-ghost use Rattle.ring_world.specs.World.{AreOpeningNames, place_of as the_place};
-ghost use Rattle.ring_world.specs.Refusal.{refusal, answer_of};
-ghost use Rattle.ring_world.specs.Effect.{effect};
-ghost use Rattle.ring_world.specs.Run.{opening};
-ghost use Rattle.ring_world.specs.Laws.{IsLawful, IsQuiet};
-ghost use Rattle.ring_world.specs.Shown.{heard_by, got_by, log_by, id_at, counts_at, state_at};
+ghost use Rattle.ring_world.specs.Refusal.{answer_of};
+ghost use Rattle.group_view.specs.Change.{AreOpeningNames};
+ghost use Rattle.ring_world.specs.Deaths.Step.{opening as the_opening};
+ghost use Rattle.ring_world.specs.Deaths.Machine.{view_at, newest};
+ghost use Rattle.ring_world.specs.Deaths.Walk.{NeverRises};
+ghost use Rattle.ring_world.specs.Deaths.OpenLinks.{walk_named};
+ghost use Rattle.ring_world.specs.Deaths.Asked.{id_at, heard_at, got_at, log_at, state_at, counts_at};
+ghost use Rattle.ring_world.specs.Deaths.Quiet.{IsQuiet};
+ghost use Rattle.ring_world.specs.Deaths.Laws.{IsLawful};
+ghost use Rattle.ring_world.specs.Deaths.Event.{refusal, effect, id_of};
 
 use crate::event::Event;
-use crate::opening::{opening_seats, opening_wires};
-use crate::place::place_of;
-use crate::quiet::is_quiet;
-use crate::seat::Seat;
+use crate::neighbours::newest_view;
+use crate::places::place_in;
 use crate::shown::{Counts, MemberState};
-use crate::wire::Wire;
-use crate::{shown, step};
+use crate::state::Ring;
+use crate::walk::walk_of_name;
+use crate::{asked, dispatch, quiet, starting};
+use group_view::View;
 use ring_names::{CreditSpec, MemberId, Message, Name, OutOfMemory, Reason};
 use std::alloc::Global;
 use std::marker::Model;
@@ -32,21 +36,20 @@ pub enum Refused {
     OutOfMemory,
 }
 
-/// A ring: its members in ring order and the links between them.
+/// A ring: its members, the links between them, and its views.
 #[derive(Drop)]
 pub struct World {
     alloc: Global,
-    seats: Vec<Seat>,
-    wires: Vec<Wire>,
+    ring: Ring,
     applied: u64,
 }
 
 impl Model for World {
-    ghost use Rattle.ring_world.specs.World.{World as State};
+    ghost use Rattle.ring_world.specs.Deaths.Machine.{World as State};
 
     ghost Value = { State };
 
-    ghost use Rattle.ring_world.specs.Reached.{state_of, IsRunning};
+    ghost use Rattle.ring_world.specs.Deaths.Reached.{state_of, IsRunning};
 
     ghost view = { state_of };
 
@@ -54,32 +57,102 @@ impl Model for World {
 }
 
 impl World {
-    /// The opening of a ring of these members, in ring order: nobody has published, and each link is
-    /// empty and has its whole credit.
+    /// The opening of a ring of these members, in ring order: all are up, nobody has published, and each
+    /// has an empty link to its right neighbour, with its whole credit.
     pub fn opening(
         alloc: Global,
         members: &[Name],
         credit: CreditSpec,
     ) -> Result<World, OutOfMemory>
         requires { AreOpeningNames members.now }
-        ensures { IfOk result (λ w. w ≡ opening credit members.now) }
+        ensures { IfOk result (λ w. w ≡ the_opening credit members.now) }
     {
-        let seats = opening_seats(alloc, members)?;
-        let wires = opening_wires(alloc, members, credit)?;
+        let ring = starting::opening(alloc, members, credit)?;
         Ok(World {
             alloc,
-            seats,
-            wires,
+            ring,
             applied: 0,
         })
     }
 
+    /// The newest view.
+    #[tactic(auto, using(crate::proofs::Deaths::Running::running_placed))]
+    pub fn view(&self) -> &View
+        ensures { result.now ≡ view_at self.now (newest self.now) }
+    {
+        newest_view(&self.ring)
+    }
+
+    /// The walk of an origin round the ring, from its owner on: what the early packets to the owner, the owner,
+    /// and each further running member with the packets open to it say that they got, and the late packets; the
+    /// same of what was forgotten; and how much the owner has retired. It is empty where every member has stopped, and for a name
+    /// that nobody has.
+    #[tactic(auto, using(crate::proofs::Deaths::Running::running_placed, crate::proofs::Deaths::HeldLaws::named_falls))]
+    pub fn walk(&self, of: &Name) -> Result<Vec<u64>, OutOfMemory>
+        ensures walk { IfOk result (λ walk. walk.items ≡ walk_named self.now (id_of self.now of.now)) }
+        ensures falls { IfOk result (λ walk. NeverRises walk.items) }
+    {
+        walk_of_name(self.alloc, &self.ring, of)
+    }
+
+    /// The messages of one member that another has heard, in order: each once, from the first on, without a gap.
+    pub fn heard(&self, by: &Name, of: &Name) -> Result<Vec<Message>, OutOfMemory>
+        requires by { IsSome (id_of self.now by.now) }
+        requires of { IsSome (id_of self.now of.now) }
+        ensures heard { IfOk result (λ v. v.items ≡ heard_at self.now (id_of self.now by.now) (id_of self.now of.now)) }
+        ensures in_order { IfOk result (λ v. v.items
+            ≡ take (got_at self.now (id_of self.now by.now) (id_of self.now of.now))
+            (log_at self.now (id_of self.now of.now))) }
+    {
+        let all = asked::heard_named(self.alloc, &self.ring, by, of)?;
+        Ok(all)
+    }
+
+    /// The id of the member of a name. It wants no memory.
+    pub fn member(&self, name: &Name) -> Option<MemberId>
+        ensures { result ≡ id_at (id_of self.now name.now) }
+    {
+        asked::member_named(&self.ring, name)
+    }
+
+    /// Where a member stands. It wants no memory.
+    pub fn state(&self, of: &Name) -> MemberState
+        requires { IsSome (id_of self.now of.now) }
+        ensures { result ≡ state_at self.now (id_of self.now of.now) }
+    {
+        match place_in(&self.ring, of) {
+            Some(place) => asked::state_at(&self.ring, place),
+            None => unreachable!(),
+        }
+    }
+
+    /// What a member has published, and how much of it every member is known to have. It wants no
+    /// memory.
+    pub fn counts(&self, by: &Name) -> Counts
+        requires { IsSome (id_of self.now by.now) }
+        ensures { result ≡ counts_at self.now (id_of self.now by.now) }
+    {
+        match place_in(&self.ring, by) {
+            Some(place) => asked::counts_at(&self.ring, place),
+            None => unreachable!(),
+        }
+    }
+
+    /// Whether the ring is quiet: no member runs; or every running one is up, has the newest view and nothing to
+    /// take, and all that it published has come round, no entry is dead, and nobody who lives has stopped. It
+    /// wants no memory.
+    pub fn quiet(&self) -> bool
+        ensures { IsTrue result ↔ IsQuiet self.now }
+    {
+        quiet::is_quiet(&self.ring)
+    }
+
     /// The first condition of the event that fails, if one fails. It wants no memory.
-    #[tactic(auto, using(crate::proofs::Running::running_links))]
+    #[tactic(auto, using(crate::proofs::Deaths::Running::running_placed))]
     pub fn enabled(&self, event: &Event) -> Result<(), Reason>
         ensures { result ≡ answer_of (refusal self.now event.now) }
     {
-        step::enabled(&self.seats, &self.wires, event)
+        dispatch::enabled(&self.ring, event)
     }
 
     /// The event happens, where it is enabled. Want of memory leaves the ring as it was; after
@@ -87,7 +160,7 @@ impl World {
     pub fn apply(&mut self, event: &Event) -> Result<(), Refused>
         ensures enabled { OnOk result (refusal self.old event.now ≡ None) }
         ensures ok { OnOk result (self.new ≡ effect self.old event.now) }
-        ensures lawful { OnOk result (IsLawful self.new) }
+        ensures lawful { OnOk result (IsLawful (self.new).initial self.new) }
         ensures refused { (reason : Reason) → refusal self.old event.now ≡ Some reason
             → result ≡ Err (Refused.NotEnabled reason) }
         ensures reason { IfErr result (λ e. (reason : Reason) → e ≡ Refused.NotEnabled reason
@@ -102,68 +175,10 @@ impl World {
         if self.applied >= MOST_EVENTS {
             return Err(Refused::OutOfMemory);
         }
-        if step::step(self.alloc, &mut self.seats, &mut self.wires, event).is_err() {
+        if dispatch::step(self.alloc, &mut self.ring, event).is_err() {
             return Err(Refused::OutOfMemory);
         }
         self.applied += 1;
         Ok(())
-    }
-
-    /// What one member has heard of another, or of itself, in the order in which it heard it.
-    pub fn heard(&self, by: &Name, of: &Name) -> Result<Vec<Message>, OutOfMemory>
-        requires by { IsSome (the_place (self.now).members by.now) }
-        requires of { IsSome (the_place (self.now).members of.now) }
-        ensures heard { IfOk result (λ v. v.items ≡ heard_by self.now by.now of.now) }
-        ensures in_order { IfOk result (λ v. v.items
-            ≡ take (got_by self.now by.now of.now) (log_by self.now of.now)) }
-    {
-        let Some(place) = place_of(&self.seats, by) else {
-            unreachable!()
-        };
-        let Some(origin) = place_of(&self.seats, of) else {
-            unreachable!()
-        };
-        let all = shown::heard_at(self.alloc, &self.seats, place, origin)?;
-        Ok(all)
-    }
-
-    /// The id of the member of that name. It wants no memory.
-    #[tactic(auto, using(crate::proofs::Running::running_few))]
-    pub fn member(&self, name: &Name) -> Option<MemberId>
-        ensures { result ≡ id_at (the_place (self.now).members name.now) }
-    {
-        let place = place_of(&self.seats, name)?;
-        Some(MemberId(place as u32 + 1))
-    }
-
-    /// Where a member stands: as the members of this ring stay, each is up from the opening on, and
-    /// its mirror lacks nothing.
-    pub fn state(&self, of: &Name) -> MemberState
-        requires { IsSome (the_place (self.now).members of.now) }
-        ensures { IfSome (the_place (self.now).members of.now)
-            (λ place. result ≡ state_at self.now place) }
-    {
-        MemberState::Up { missing: Some(0) }
-    }
-
-    /// Whether the ring is quiet: no packet is under way, and every message has come round to its
-    /// publisher, and its acknowledgement too. It wants no memory.
-    #[tactic(auto, using(crate::proofs::Running::running_links))]
-    pub fn quiet(&self) -> bool
-        ensures { IsTrue result ↔ IsQuiet self.now }
-    {
-        is_quiet(&self.seats, &self.wires)
-    }
-
-    /// What a member has published, and how much of it every member is known to have. It wants no
-    /// memory.
-    pub fn counts(&self, by: &Name) -> Counts
-        requires { IsSome (the_place (self.now).members by.now) }
-        ensures { result ≡ counts_at self.now (the_place (self.now).members by.now) }
-    {
-        match place_of(&self.seats, by) {
-            Some(place) => shown::counts_at(&self.seats, place),
-            None => unreachable!(),
-        }
     }
 }

@@ -6,7 +6,7 @@ use Rattle.ring_script.specs.declared.command.Command.TheVariants.{Settle}
 use Rattle.ring_script.specs.declared.script.Script.{Script}
 use Rattle.ring_script.specs.Words.{lines_of}
 use Rattle.ring_script.specs.Reading.{IsScriptOf, IsFirstFault}
-use Rattle.ring_world.specs.declared.event.Event.{Event}
+use Rattle.ring_world.specs.declared.fixed.Event.{Event}
 use Rattle.ring_world.specs.World.{World}
 use Rattle.ring_world.specs.Run.{IsRun, opening, last}
 use Rattle.ring_world.specs.Laws.{IsLawful, NeverFalls, IsQuiet, HasHeardAll}

@@ -13,7 +13,7 @@ use ring_cluster::Cluster;
 use ring_io::{Gate, ReadEnd, Sink, Source, read_all, write_all};
 use ring_names::{Items, OutOfMemory};
 use ring_script::{Script, ScriptFault, line_count, read_script};
-use ring_world::Event;
+use ring_world::fixed::Event;
 use std::alloc::Global;
 use std::thread::Threads;
 

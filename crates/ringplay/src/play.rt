@@ -9,7 +9,7 @@ use ring_cluster::Cluster;
 use ring_io::Gate;
 use ring_names::OutOfMemory;
 use ring_script::{Command, Script};
-use ring_world::Event;
+use ring_world::fixed::Event;
 use std::alloc::Global;
 use std::thread::Threads;
 

@@ -11,8 +11,8 @@ use Rattle.ring_names.specs.declared.reason.Reason.{Reason}
 use Rattle.ring_names.specs.declared.reason.Reason.TheVariants as reason
 use Rattle.credit_flow.specs.Credit.{is_blocked}
 use Rattle.ring_world.specs.declared.numbers.Numbers.{Numbers}
-use Rattle.ring_world.specs.declared.event.Event.{Event as FixedEvent}
-use Rattle.ring_world.specs.declared.event.Event.TheVariants as fixed_event
+use Rattle.ring_world.specs.declared.fixed.Event.{Event as FixedEvent}
+use Rattle.ring_world.specs.declared.fixed.Event.TheVariants as fixed_event
 use Rattle.ring_world.specs.World.{Row, no_row, no_numbers}
 use Rattle.ring_world.specs.World as fixed
 use Rattle.ring_world.specs.Member.{next_numbers, is_sent}
@@ -25,7 +25,7 @@ use Rattle.ring_world.proofs.Writes as fixed_writes
 use Rattle.ring_world.proofs.Run as ring_runs
 use Rattle.ring_world.proofs.Good as fixed_good
 use Rattle.ring_world.proofs.Sized as fixed_sized
-use Rattle.ring_world.proofs.Views.{position_map}
+use Rattle.ring_world.proofs.Maps.{position_map}
 use Rattle.ring_world.proofs.Round.{left_of-lt}
 use Rattle.group_view.specs.Ring.{is_in, before, after, others, AreDistinct, last_or}
 use Rattle.group_view.specs.View.{Group}

@@ -13,18 +13,8 @@ use Rattle.ring_world.specs.Deaths.View.{is_live, left_of, right_of}
 use Rattle.ring_world.specs.Deaths.Machine.{Phase, Waiting, Up, Stopped, Member, Sending, Moved, Halted, Link, World, row_at, numbers_at, member_at, link_at, view_at, newest, is_waiting}
 use Rattle.ring_world.specs.Deaths.Walk.{oldest}
 use Rattle.ring_world.specs.Deaths.Step.{size, publish_at, put_on, gain_on, take_from, begin_from, current_is, leave_link, stop_at, end_out, with_view, look_at, open_to, with_link, ended}
-
--- An event of the member of a name.
-pub data Event : Type 0 where
-  Cast : (by body : List ℕ) → Event
-  Put : (by : List ℕ) → Event
-  Take : (by : List ℕ) → Event
-  TakeEnd : (by : List ℕ) → Event
-  Gain : (by : List ℕ) → Event
-  Stop : (by : List ℕ) → Event
-  Mark : (by dead : List ℕ) → Event
-  Refresh : (by : List ℕ) (version : ℕ) → Event
-  Pick : (by : List ℕ) → Event
+pub use Rattle.ring_world.specs.declared.event.Event.{Event}
+pub use Rattle.ring_world.specs.declared.event.Event.TheVariants.{Cast, Put, Take, TakeEnd, Gain, Stop, Mark, Refresh, Pick}
 
 -- ---- conditions
 
@@ -37,6 +27,7 @@ abbrev pub of_member : Option ℕ → (ℕ → Option Reason) → Option Reason
 of_member None later = Some reason.UnknownMember
 of_member (Some x) later = later x
 
+-- whether a member has stopped
 abbrev pub is_stopped : Phase → Bool
 is_stopped Waiting = false
 is_stopped Up = false
@@ -59,6 +50,7 @@ on_link (Some s) missing later = later s
 abbrev pub has_nothing_new : ℕ → Member → Sending → Bool
 has_nothing_new n y s = list_all (λ p. is_sent (row_at y p) (numbers_at s.sent p)) (range_with_len 0 n)
 
+-- x puts a packet on its out link o only where that has credit, and where there is something new
 abbrev pub put_refusal : World → ℕ → ℕ → Option Reason
 put_refusal w x o =
     or_else (refuse_if (is_blocked (link_at w o).flow.sender) reason.NoCredit)
@@ -72,17 +64,20 @@ holds_nothing l = is_empty l.packets && not (is_some l.ending)
 abbrev pub version_refusal : ℕ → ℕ → Option Reason
 version_refusal need have = refuse_if (nat_lt have need) (reason.ViewTooOld need have)
 
+-- y takes a packet from its current link s only where an item stands there, the next one is a packet, and its version is one that y has
 abbrev pub take_refusal : World → ℕ → ℕ → Option Reason
 take_refusal w y s =
     or_else (refuse_if (holds_nothing (link_at w s)) reason.NothingToTake)
     (or_else (refuse_if (is_empty (link_at w s).packets) reason.EndNext)
     (version_refusal (oldest (link_at w s)).version (member_at w y).version))
 
+-- and the end only where it is the next item
 abbrev pub end_refusal : World → ℕ → Option Reason
 end_refusal w s =
     or_else (refuse_if (holds_nothing (link_at w s)) reason.NothingToTake)
     (refuse_if (not (is_empty (link_at w s).packets)) reason.PacketNext)
 
+-- x gains credit on its out link o only where a grant is under way
 abbrev pub gain_refusal : World → ℕ → Option Reason
 gain_refusal w o = refuse_if (is_empty (link_at w o).flow.grants) reason.NoGrant
 
@@ -106,11 +101,13 @@ is_at_door w y l = nat_eq l.receiver y && (not l.over && (nat_eq l.sender (left_
 abbrev pub at_door : World → ℕ → Option ℕ
 at_door w y = position (is_at_door w y) w.links
 
+-- y picks the link that stands first at its door only where there is one, and where it was opened in a version that y has
 abbrev pub pick_refusal : World → ℕ → Option Reason
 pick_refusal w y = on_link (at_door w y) reason.NoLinkAtDoor (λ s. version_refusal (link_at w s).opened (member_at w y).version)
 
 -- ---- marking
 
+-- whether d is x's left or right neighbour in x's view
 abbrev pub is_neighbour : World → ℕ → ℕ → Bool
 is_neighbour w x d = nat_eq d (left_neighbour w x) || nat_eq d (right_of (view_at w (member_at w x).version) x)
 
@@ -118,6 +115,7 @@ is_neighbour w x d = nat_eq d (left_neighbour w x) || nat_eq d (right_of (view_a
 abbrev pub is_still_taken : World → ℕ → ℕ → Bool
 is_still_taken w x d = nat_eq d (left_neighbour w x) && (is_some (member_at w x).current || is_some (at_door w x))
 
+-- x has d marked dead only where d is a neighbour, is live in the newest view, and has stopped, and where x has taken to its end what came from d
 abbrev pub mark_refusal : World → ℕ → ℕ → Option Reason
 mark_refusal w x d =
     or_else (refuse_if (not (is_neighbour w x d)) reason.NotNeighbour)
@@ -127,6 +125,7 @@ mark_refusal w x d =
 
 -- ---- refreshing
 
+-- x reads the view of version v only where that isn't older than its own, and is there
 abbrev pub refresh_refusal : World → ℕ → ℕ → Option Reason
 refresh_refusal w x v =
     refuse_if (nat_lt v (member_at w x).version || nat_lt (newest w) v) (reason.ViewOutOfRange v (member_at w x).version (newest w))

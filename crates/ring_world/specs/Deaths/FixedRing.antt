@@ -1,8 +1,8 @@
 -- The ring in which nobody dies, whose members and links stand by places from 0, as a ring of this machine.
 use Rattle.std.specs.Prelude.{◌≡◌, ℕ, ◌+◌, ◌-◌, Bool, true, false, List, [], ◌∷◌, map, Some, None}
 use Rattle.ring_names.specs.declared.numbers.CreditSpec.{CreditSpec}
-use Rattle.ring_world.specs.declared.event.Event.{Event as FixedEvent}
-use Rattle.ring_world.specs.declared.event.Event.TheVariants as fixed_event
+use Rattle.ring_world.specs.declared.fixed.Event.{Event as FixedEvent}
+use Rattle.ring_world.specs.declared.fixed.Event.TheVariants as fixed_event
 use Rattle.ring_world.specs.World.{no_row, no_numbers}
 use Rattle.ring_world.specs.World as fixed
 use Rattle.group_view.specs.Since.{no_group}
@@ -34,6 +34,7 @@ abbrev pub embedded_sent : Bool → fixed.Packet → Sending
 embedded_sent true k = no_sending
 embedded_sent false k = record { fresh = false; sent = embedded_packet k }
 
+-- the sending side of a link
 abbrev pub embedded_sending : fixed.Sending → Sending
 embedded_sending s = embedded_sent s.fresh s.sent
 

@@ -61,7 +61,7 @@ EachKeepsCredit w = KeepsCredit w.initial w
 
 -- ---- confirmed means everywhere
 
--- a message that has come round to its publisher is at every member that is up
+-- a message that has come round to a publisher that runs is at every member that is up
 abbrev pub ConfirmedEverywhere : World → Type 0
 ConfirmedEverywhere w = (q p : ℕ) → 1 ≤ p → runs w p ≡ true → (member_at w q).phase ≡ Up → (row_of w p p).forgot ≤ (row_of w q p).got
 

@@ -8,9 +8,9 @@ use Rattle.ring_world.specs.Deaths.NoGap.{NoGapAtTake}
 use Rattle.ring_world.specs.Deaths.Lawful.{HasOwnLog, StaysWithinLogs, KeepsCredit, ConfirmedEverywhere, HearsInOrder, NeverFalls, HearsWhatFollows}
 
 -- The laws of a state, in a ring whose links open with this credit: the walk of each origin never rises; no take leaves a
--- gap; each member has heard of each publisher its log up to the number that it got; no number is above the length of the
--- log, and a running publisher has its own log whole; what has come round to its publisher is at every member that is up;
--- and each link keeps its credit.
+-- gap at a member that is up, but for origins that it answers for against the sender; each member has heard of each publisher
+-- its log up to the number that it got; no number is above the length of the log, and a running publisher has its own log
+-- whole; what has come round to a running publisher is at every member that is up; and each link keeps its credit.
 pub record IsLawful (initial : ℕ) (w : World) : Type 0 where
   pub walks : (origin : ℕ) → 1 ≤ origin → origin < size w → NeverRises (the_walk w origin)
   pub no_gap : NoGapAtTake w

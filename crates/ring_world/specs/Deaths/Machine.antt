@@ -7,12 +7,10 @@ use Rattle.ring_world.specs.World.{Row, Flow, no_row, no_numbers, full_flow}
 use Rattle.group_view.specs.View.{Group}
 use Rattle.group_view.specs.Since.{no_group}
 use Rattle.ring_world.specs.Deaths.View.{ids, left_at, right_at}
-
--- A member waits for its first packet, or is up, or has stopped.
-pub data Phase : Type 0 where
-  Waiting : Phase
-  Up : Phase
-  Stopped : Phase
+pub use Rattle.ring_world.specs.declared.phase.Phase.{Phase}
+pub use Rattle.ring_world.specs.declared.phase.Phase.TheVariants.{Waiting, Up, Stopped}
+pub use Rattle.ring_world.specs.declared.phase.Ending.{Ending}
+pub use Rattle.ring_world.specs.declared.phase.Ending.TheVariants.{Moved, Halted}
 
 -- A packet has the version of its sender's view, and numbers for each origin.
 pub record Packet : Type 0 where
@@ -35,11 +33,6 @@ pub record Sending : Type 0 where
   pub fresh : Bool
   pub sent : Packet
 
--- Why a link ends: its sender sends on another, or has stopped.
-pub data Ending : Type 0 where
-  Moved : Ending
-  Halted : Ending
-
 -- A link: who sends on it to whom, the version at which it was opened, its packets on the way, the oldest first, how it
 -- ends behind them and whether its receiver has taken that end, its sending side, and its credit.
 pub record Link : Type 0 where
@@ -61,15 +54,19 @@ pub record World : Type 0 where
   pub initial : ℕ
   pub more : ℕ
 
+-- a packet that says nothing
 abbrev pub no_packet : Packet
 no_packet = record { version = 0; numbers = [] }
 
+-- nobody: who stands at id 0, and beyond the ring
 abbrev pub no_member : Member
 no_member = record { name = []; phase = Stopped; version = 0; log = []; rows = []; out = None; current = None }
 
+-- the sending side of a link on which nothing was put
 abbrev pub no_sending : Sending
 no_sending = record { fresh = true; sent = no_packet }
 
+-- what stands beyond the links
 abbrev pub no_link : Link
 no_link = record { sender = 0; receiver = 0; opened = 0; packets = []; ending = None; over = false; sending = no_sending; flow = full_flow 0 0 }
 
@@ -77,18 +74,23 @@ no_link = record { sender = 0; receiver = 0; opened = 0; packets = []; ending = 
 abbrev pub row_at : Member → ℕ → Row
 row_at y p = slice_index_or y.rows p no_row
 
+-- what a packet says of an origin: 0 in all numbers where it says nothing
 abbrev pub numbers_at : Packet → ℕ → Numbers
 numbers_at k p = slice_index_or k.numbers p no_numbers
 
+-- the member of an id
 abbrev pub member_at : World → ℕ → Member
 member_at w q = slice_index_or w.members q no_member
 
+-- the link at a place
 abbrev pub link_at : World → ℕ → Link
 link_at w s = slice_index_or w.links s no_link
 
+-- the view of a version
 abbrev pub view_at : World → ℕ → Group
 view_at w v = slice_index_or w.views v no_group
 
+-- the version of the newest view
 abbrev pub newest : World → ℕ
 newest w = length w.views - 1
 
@@ -96,9 +98,11 @@ newest w = length w.views - 1
 abbrev pub ring : World → List ℕ
 ring w = ids (view_at w (newest w))
 
+-- the left neighbour of y in the view of version v
 abbrev pub left : World → ℕ → ℕ → ℕ
 left w v y = left_at w.views v y
 
+-- the right one
 abbrev pub right : World → ℕ → ℕ → ℕ
 right w v y = right_at w.views v y
 
@@ -108,11 +112,13 @@ runs_phase Waiting = true
 runs_phase Up = true
 runs_phase Stopped = false
 
+-- whether a member waits for its first packet
 abbrev pub is_waiting : Phase → Bool
 is_waiting Waiting = true
 is_waiting Up = false
 is_waiting Stopped = false
 
+-- whether the member of an id runs
 abbrev pub runs : World → ℕ → Bool
 runs w q = runs_phase (member_at w q).phase
 
@@ -120,5 +126,6 @@ runs w q = runs_phase (member_at w q).phase
 unfoldable pub is_kept_of : List Group → ℕ → ℕ → ℕ → ℕ → Bool
 is_kept_of vs to sender opened v = list_all (λ u. nat_eq (left_at vs u to) sender) (range_with_len opened (v + 1 - opened))
 
+-- the same of a link
 abbrev pub is_kept : World → Link → ℕ → Bool
 is_kept w l v = is_kept_of w.views l.receiver l.sender l.opened v

@@ -110,3 +110,8 @@ walk_of w p (Some y) =
 -- the walk of an origin
 abbrev pub the_walk : World → ℕ → List ℕ
 the_walk w p = walk_of w p (owner w p)
+
+-- of the origin that somebody is, and nothing for nobody
+abbrev pub walk_named : World → Option ℕ → List ℕ
+walk_named w None = []
+walk_named w (Some p) = the_walk w p

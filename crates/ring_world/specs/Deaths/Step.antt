@@ -14,9 +14,11 @@ use Rattle.ring_world.specs.Deaths.Machine.{Up, Stopped, Packet, Member, Sending
 use Rattle.ring_world.specs.Deaths.View.{between, left_of, right_of}
 use Rattle.ring_world.specs.Deaths.Walk.{oldest}
 
+-- the member of id i is another
 abbrev pub with_member : World → ℕ → Member → World
 with_member w i y = record w { members = slice_set w.members i y }
 
+-- the link at place s is another
 abbrev pub with_link : World → ℕ → Link → World
 with_link w s l = record w { links = slice_set w.links s l }
 
@@ -62,6 +64,7 @@ gain_on w o = with_link w o (record (link_at w o) { flow = regained (link_at w o
 abbrev pub published : ℕ → Message → Member → Member
 published x m y = record y { log = y.log ++ m ∷ []; rows = slice_set y.rows x (published_row (row_at y x) m) }
 
+-- x publishes a message
 abbrev pub publish_at : World → ℕ → Message → World
 publish_at w x m = with_member w x (published x m (member_at w x))
 
@@ -79,6 +82,7 @@ abbrev pub taken_with : Bool → Row → Numbers → List Message → Row
 taken_with true r k news = record r { forgot = k.got; retired = k.forgot }
 taken_with false r k news = record r { got = k.got; forgot = k.forgot; heard = r.heard ++ news }
 
+-- what the numbers of a packet do to a row, with the messages that they bring
 abbrev pub taken_row : Bool → List Message → Row → Numbers → Row
 taken_row own log r k = taken_with own r k (brought own log r k)
 
@@ -86,12 +90,15 @@ taken_row own log r k = taken_with own r k (brought own log r k)
 abbrev pub is_owned : Group → ℕ → ℕ → ℕ → Bool
 is_owned v y s p = cond (nat_eq p y) true (is_in p (between v s y))
 
+-- a taker knows of each origin what its row and the packet give together; own tells for whom it answers
 abbrev pub taken : ℕ → (ℕ → Bool) → (ℕ → List Message) → Member → Packet → Member
 taken n own logs y k = record y { rows = map (λ p. taken_row (own p) (logs p) (row_at y p) (numbers_at k p)) (range_with_len 0 n) }
 
+-- what y is after it has taken the oldest packet of link s
 abbrev pub taker : World → ℕ → ℕ → Member
 taker w y s = taken (size w) (is_owned (view_at w (member_at w y).version) y (link_at w s).sender) (log_of w) (member_at w y) (oldest (link_at w s))
 
+-- that packet is gone from the link
 abbrev pub take_from : World → ℕ → ℕ → World
 take_from w y s = with_link (with_member w y (taker w y s)) s (popped (link_at w s))
 
@@ -99,14 +106,17 @@ take_from w y s = with_link (with_member w y (taker w y s)) s (popped (link_at w
 abbrev pub begun_row : Row → Numbers → Row
 begun_row r k = record r { got = k.got; forgot = k.forgot }
 
+-- its rows are those of the packet
 abbrev pub begun : ℕ → Member → Packet → Member
 begun n y k = record y { phase = Up; rows = map (λ p. begun_row (row_at y p) (numbers_at k p)) (range_with_len 0 n) }
 
+-- and the packet is gone from the link
 abbrev pub begin_from : World → ℕ → ℕ → World
 begin_from w y s = with_link (with_member w y (begun (size w) (member_at w y) (oldest (link_at w s)))) s (popped (link_at w s))
 
 -- ---- where the member takes from
 
+-- a member takes from another link, or from none
 abbrev pub with_current : Option ℕ → Member → Member
 with_current s y = record y { current = s }
 
@@ -129,6 +139,7 @@ abbrev pub ended_so : Ending → Option Ending → Option Ending
 ended_so why None = Some why
 ended_so why (Some first) = Some first
 
+-- a link ends so
 abbrev pub ended : Ending → Link → Link
 ended why l = record l { ending = ended_so why l.ending }
 
@@ -137,14 +148,17 @@ abbrev pub end_out : Ending → World → Option ℕ → World
 end_out why w None = w
 end_out why w (Some o) = with_link w o (ended why (link_at w o))
 
+-- a member has stopped
 abbrev pub stopped : Member → Member
 stopped y = record y { phase = Stopped }
 
+-- x stops
 abbrev pub stop_at : World → ℕ → World
 stop_at w x = with_member w x (stopped (member_at w x))
 
 -- ---- a new view
 
+-- a view follows the others
 abbrev pub with_view : World → Group → World
 with_view w v = record w { views = w.views ++ v ∷ [] }
 
@@ -155,6 +169,7 @@ abbrev pub kept_current : (ℕ → Bool) → Option ℕ → Option ℕ
 kept_current kept None = None
 kept_current kept (Some s) = cond (kept s) (Some s) None
 
+-- x with the view of version v, and its current link where that is kept up to it
 abbrev pub moved_to : World → ℕ → ℕ → Member
 moved_to w x v = record (member_at w x) { version = v; current = kept_current (λ s. is_kept w (link_at w s) v) (member_at w x).current }
 
@@ -172,6 +187,7 @@ abbrev pub opened_link : World → ℕ → ℕ → Link
 opened_link w x z =
     pushed (fresh_link w x z (member_at w x).version) (next_packet (member_at w x) no_sending)
 
+-- a link to z opens behind the others, and x sends on it
 abbrev pub open_to : World → ℕ → ℕ → World
 open_to w x z = with_member (record w { links = w.links ++ opened_link w x z ∷ [] }) x (record (member_at w x) { out = Some (length w.links) })
 
@@ -190,6 +206,7 @@ opening_link credit names i = record {
   flow = full_flow credit.initial credit.more;
 }
 
+-- the member of id i at the opening; it sends on the link at its own place, and takes from that of its left neighbour
 abbrev pub opening_member : List (List ℕ) → ℕ → Member
 opening_member names i = record {
   name = slice_index_or ([] ∷ names) i [];

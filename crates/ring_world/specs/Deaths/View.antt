@@ -9,12 +9,15 @@ use Rattle.group_view.specs.Since.{no_group}
 abbrev pub ids : Group → List ℕ
 ids v = ids_of_entries v.entries
 
+-- whether an entry is live
 abbrev pub is_live_entry : Entry → Bool
 is_live_entry e = is_live_mark e.mark
 
+-- whether the entry of an id is
 abbrev pub is_live : Group → ℕ → Bool
 is_live v p = is_live_entry_of v.entries p
 
+-- those strictly between s and p, going right from s
 abbrev pub between : Group → ℕ → ℕ → List ℕ
 between v s p = before p (others s (ids v))
 
@@ -22,6 +25,7 @@ between v s p = before p (others s (ids v))
 abbrev pub left_of : Group → ℕ → ℕ
 left_of v p = left_in (is_live v) p (ids v)
 
+-- going right
 abbrev pub right_of : Group → ℕ → ℕ
 right_of v p = right_in (is_live v) p (ids v)
 
@@ -29,5 +33,6 @@ right_of v p = right_in (is_live v) p (ids v)
 unfoldable pub left_at : List Group → ℕ → ℕ → ℕ
 left_at vs v y = left_of (slice_index_or vs v no_group) y
 
+-- going right
 unfoldable pub right_at : List Group → ℕ → ℕ → ℕ
 right_at vs v y = right_of (slice_index_or vs v no_group) y

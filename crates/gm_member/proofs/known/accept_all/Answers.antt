@@ -4,7 +4,7 @@ use Rattle.std.proofs.lemmas.List.FromFn.{fill_by_all}
 use Rattle.ring_world.specs.World.{no_row}
 use Rattle.gm_member.specs.View.{row_of, carried_of}
 use Rattle.gm_member.specs.Held.{no_carried, accepted_row}
-use Rattle.ring_world.proofs.Views.{at_mapped_set, mapped_read}
+use Rattle.ring_world.proofs.Maps.{at_mapped_set, mapped_read}
 use Rattle.gm_member.proofs.known.accept_all.Goals as goal
 
 pub loop-k-preserved : goal.loop-k-preserved

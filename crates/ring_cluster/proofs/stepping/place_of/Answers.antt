@@ -1,6 +1,6 @@
 use Rattle.std.proofs.Common.{bytes_eq, sym, ◌∙◌}
 use Rattle.ring_cluster.specs.Nodes.{held_of}
-use Rattle.ring_world.proofs.Views.{position_map}
+use Rattle.ring_world.proofs.Maps.{position_map}
 use Rattle.ring_cluster.proofs.stepping.place_of.Goals as goal
 
 pub returns-clause-place : goal.returns-clause-place

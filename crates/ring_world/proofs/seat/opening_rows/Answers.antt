@@ -6,7 +6,7 @@ use Rattle.std.proofs.lemmas.List.{map-append}
 use Rattle.ring_world.specs.World.{no_row}
 use Rattle.ring_world.proofs.seat.opening_rows.Goals as goal
 
-pub loop-place-preserved : goal.loop-place-preserved
-loop-place-preserved c =
-    let e : map (λ (_ : ℕ). no_row) (range_with_len 0 (c.loop-place._place + 1)) ≡ map (λ (_ : ℕ). no_row) (range_with_len 0 c.loop-place._place) ++ no_row ∷ [] = map-range_with_len_more (λ (_ : ℕ). no_row) 0 c.loop-place._place c.loop-place._place (omega arith) in
+pub loop-id-preserved : goal.loop-id-preserved
+loop-id-preserved c =
+    let e : map (λ (_ : ℕ). no_row) (range_with_len 0 (c.loop-id._id + 1)) ≡ map (λ (_ : ℕ). no_row) (range_with_len 0 c.loop-id._id) ++ no_row ∷ [] = map-range_with_len_more (λ (_ : ℕ). no_row) 0 c.loop-id._id c.loop-id._id (omega arith) in
     grind (arith, common_steps, map-append)

@@ -1,8 +1,8 @@
 use Rattle.std.proofs.Common.{◌≡◌, ℕ, map}
 use Rattle.std.specs.List.{range_with_len}
-use Rattle.ring_world.specs.View.{row_of}
+use Rattle.ring_world.specs.Deaths.Shows.{row_of}
 use Rattle.ring_world.specs.World.{no_row}
 use Rattle.ring_world.proofs.seat.opening_rows.Given as goal
 
-abbrev pub invariant-loop-place : goal.invariant-loop-place
-invariant-loop-place l = map row_of l.rows.items ≡ map (λ (_ : ℕ). no_row) (range_with_len 0 l._place)
+abbrev pub invariant-loop-id : goal.invariant-loop-id
+invariant-loop-id l = map row_of l.rows.items ≡ map (λ (_ : ℕ). no_row) (range_with_len 0 l._id)

@@ -1,11 +1,15 @@
 use Rattle.std.proofs.Common.{refl, arith}
 use Rattle.std.proofs.lemmas.Grind.{common_steps}
-use Rattle.ring_world.specs.Reached.{state_of}
-use Rattle.ring_world.proofs.Running.{running_more, running_shape, lawful_more}
+use Rattle.ring_world.specs.Deaths.Reached.{state_of}
+use Rattle.ring_world.proofs.Deaths.Running.{running_placed, running_marked, running_more}
+use Rattle.ring_world.proofs.Deaths.HeldLaws.{lawful_more}
 use Rattle.ring_world.proofs.world.World.apply.Goals as goal
 
-pub step-requires-clause-shape : goal.step-requires-clause-shape
-step-requires-clause-shape c = rw (c.deref_mut.ensures.value, c.deref_mut-2.ensures.value) (running_shape c.self.inside c.self.invariant)
+pub step-requires-clause-placed : goal.step-requires-clause-placed
+step-requires-clause-placed c = running_placed c.self.inside c.self.invariant
+
+pub step-requires-clause-after : goal.step-requires-clause-after
+step-requires-clause-after c = running_marked c.self.inside c.self.invariant
 
 pub invariant_of-self-2 : goal.invariant_of-self-2
 invariant_of-self-2 c = running_more (state_of c.self.inside) c.self.inside.applied _ c.args.event.now c.self.invariant.reached (grind (arith, common_steps)) (grind (arith, common_steps)) refl (omega arith)

@@ -1,11 +1,15 @@
-use Rattle.std.proofs.Common.{arith}
-use Rattle.std.proofs.lemmas.Grind.{common_steps}
-use Rattle.ring_world.specs.Reached.{state_of}
-use Rattle.ring_world.proofs.Running.{running_shape, running_lawful, heard_in_order}
+use Rattle.std.proofs.Common.{◌≡◌, take, subst, ◌∙◌}
+use Rattle.ring_world.specs.Deaths.Asked.{got_at, log_at}
+use Rattle.ring_world.specs.Deaths.Event.{id_of}
+use Rattle.ring_world.specs.Deaths.Reached.{state_of}
+use Rattle.ring_world.proofs.Deaths.Running.{running_placed}
+use Rattle.ring_world.proofs.Deaths.HeldLaws.{heard_in_order}
 use Rattle.ring_world.proofs.world.World.heard.Goals as goal
 
-pub heard_at-requires-clause-origin : goal.heard_at-requires-clause-origin
-heard_at-requires-clause-origin c = grind (arith, common_steps, (running_shape c.self.inside c.self.invariant).rows c.in-Some.place)
+pub heard_named-requires-clause-placed : goal.heard_named-requires-clause-placed
+heard_named-requires-clause-placed c = running_placed c.self.inside c.self.invariant
 
 pub returns-clause-in_order : goal.returns-clause-in_order
-returns-clause-in_order c = grind (arith, common_steps, heard_in_order (state_of c.self.inside) c.args.by.now c.args.of.now (running_lawful c.self.inside c.self.invariant))
+returns-clause-in_order c =
+    subst (λ w. c.in_ok-all.all.items ≡ take (got_at w (id_of w c.args.by.now) (id_of w c.args.of.now)) (log_at w (id_of w c.args.of.now))) c.self.view_is
+    (c.in_ok-all.ensures ∙ heard_in_order c.self.inside (id_of (state_of c.self.inside) c.args.by.now) (id_of (state_of c.self.inside) c.args.of.now) c.self.invariant)

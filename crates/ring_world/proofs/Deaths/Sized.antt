@@ -1,0 +1,150 @@
+-- Members stay as many as they are, each has a row for each, and its own row has got all that it published.
+use Rattle.std.proofs.Common.{◌≡◌, ℕ, zero, suc, ◌<◌, ◌≤◌, ◌+◌, Bool, true, false, bytes_eq, nat_eq, List, [], ◌∷◌, ◌++◌, length, drop, map, get_or, set, Option, Some, None, refl, sym, ap, ◌∙◌, arith, if◌then◌else◌}
+use Rattle.std.specs.Prelude.{position, option_map}
+use Rattle.std.specs.List.{range_with_len}
+use Rattle.std.proofs.lemmas.List.{length-set, length_push, length-drop, get_or-set_same}
+use Rattle.std.proofs.lemmas.List.FromFn.{length-map-range_with_len, get_or-map-range_with_len}
+use Rattle.std.proofs.lemmas.List.Quantifiers.{position-Some}
+use Rattle.ring_names.specs.declared.message.Message.{Message}
+use Rattle.ring_names.specs.declared.message.Message.TheVariants as message
+use Rattle.ring_names.specs.declared.numbers.CreditSpec.{CreditSpec}
+use Rattle.ring_world.specs.World.{no_row, Row}
+use Rattle.group_view.specs.View.{Group}
+use Rattle.group_view.specs.Change.{AreOpeningNames, marked}
+use Rattle.ring_world.specs.Deaths.View.{right_of}
+use Rattle.ring_world.specs.Deaths.Machine.{Phase, Waiting, Up, Stopped, Member, Link, World, Moved, Halted, is_waiting, no_member, member_at, link_at, view_at, newest, row_at, numbers_at}
+use Rattle.ring_world.specs.Deaths.Walk.{oldest}
+use Rattle.ring_world.specs.Deaths.Step.{size, publish_at, published, take_from, taker, taken_row, is_owned, log_of, current_is, with_current, leave_link, stop_at, stopped, end_out, with_view, with_link, look_at, moved_to, open_to, ended, opening, opening_member}
+use Rattle.ring_world.specs.Deaths.Event.{Event, Cast, Put, Take, TakeEnd, Gain, Stop, Mark, Refresh, Pick, id_of, at_found, at_door, taken_by, send_to, refreshed, effect}
+use Rattle.ring_world.proofs.Deaths.Lists.{at_set}
+use Rattle.ring_world.proofs.Deaths.Rounds.{nat_eq-same}
+
+pub record IsSized (w : World) : Type 0 where
+  pub few : size w ≤ 65
+  pub rows : (x : ℕ) → 1 ≤ x → x < size w → length (member_at w x).rows ≡ size w
+  pub own : (x : ℕ) → 1 ≤ x → x < size w → (row_at (member_at w x) x).got ≡ length (log_of w x)
+
+-- links and views count for nothing
+pub other_sized : (w : World) (ls : List Link) (vs : List Group) → IsSized w → IsSized (record w { links = ls; views = vs })
+other_sized w ls vs h = record { few = h.few; rows = h.rows; own = h.own }
+
+-- one member changes
+pub changed_sized : (w : World) (x : ℕ) (y : Member) (ls : List Link) (vs : List Group) → x < size w → (1 ≤ x → length y.rows ≡ size w) → (1 ≤ x → (row_at y x).got ≡ length y.log) → IsSized w → IsSized (record w { members = set w.members x y; links = ls; views = vs })
+changed_sized w x y ls vs lt r o h =
+    let many : length (set w.members x y) ≡ length w.members = length-set w.members x y in
+    record {
+      few = omega (arith, h.few);
+      rows = λ q some l. at_set (λ k z. 1 ≤ k → length z.rows ≡ length (set w.members x y)) w.members x q y no_member lt (λ s. r s ∙ sym many) (λ _ s. h.rows q s (omega (arith, many)) ∙ sym many) some;
+      own = λ q some l. at_set (λ k z. 1 ≤ k → (row_at z k).got ≡ length z.log) w.members x q y no_member lt o (λ _ s. h.own q s (omega (arith, many))) some;
+    }
+
+-- or keeps its rows and its log
+pub same_sized : (w : World) (x : ℕ) (y : Member) (ls : List Link) (vs : List Group) → x < size w → y.rows ≡ (member_at w x).rows → y.log ≡ (member_at w x).log → IsSized w → IsSized (record w { members = set w.members x y; links = ls; views = vs })
+same_sized w x y ls vs lt r o h =
+    changed_sized w x y ls vs lt (λ s. ap length r ∙ h.rows x s lt) (λ s. ap (λ rs. (get_or rs x no_row).got) r ∙ h.own x s lt ∙ ap length (sym o)) h
+
+publish_sized : (w : World) (x : ℕ) (m : Message) → x < size w → IsSized w → IsSized (publish_at w x m)
+publish_sized w x m lt h =
+    let y = member_at w x in
+    let r : Row = record (row_at y x) { got = (row_at y x).got + 1; heard = (row_at y x).heard ++ m ∷ [] } in
+    changed_sized w x (published x m y) w.links w.views lt (λ s. length-set y.rows x r ∙ h.rows x s lt)
+    (λ s. ap (λ (k : Row). k.got) (get_or-set_same y.rows x r no_row (omega (arith, h.rows x s lt))) ∙ ap (λ n. n + 1) (h.own x s lt) ∙ sym (length_push y.log m)) h
+
+take_sized : (w : World) (y s : ℕ) → y < size w → IsSized w → IsSized (take_from w y s)
+take_sized w y s lt h =
+    let v = view_at w (member_at w y).version in
+    let l = link_at w s in
+    let f : ℕ → Row = λ p. taken_row (is_owned v y l.sender p) (log_of w p) (row_at (member_at w y) p) (numbers_at (oldest l) p) in
+    let own : is_owned v y l.sender y ≡ true = rw (nat_eq-same y) refl in
+    changed_sized w y (taker w y s) (take_from w y s).links w.views lt (λ _. length-map-range_with_len f 0 (size w))
+    (λ some. ap (λ (k : Row). k.got) (get_or-map-range_with_len f 0 (size w) y y no_row lt (omega arith))
+    ∙ ap (λ b. (taken_row b (log_of w y) (row_at (member_at w y) y) (numbers_at (oldest l) y)).got) own
+    ∙ h.own y some lt) h
+
+taken_by_sized : (w : World) (y s : ℕ) (f : Phase) → is_waiting f ≡ false → y < size w → IsSized w → IsSized (taken_by f w y s)
+taken_by_sized w y s Waiting n lt h = cc
+taken_by_sized w y s Up n lt h = take_sized w y s lt h
+taken_by_sized w y s Stopped n lt h = h
+
+current_sized : (w : World) (y : ℕ) (c : Option ℕ) (ls : List Link) → y < size w → IsSized w → IsSized (record (current_is w y c) { links = ls })
+current_sized w y c ls lt h = same_sized w y (with_current c (member_at w y)) ls w.views lt refl refl h
+
+stop_sized : (w : World) (x : ℕ) (o : Option ℕ) → x < size w → IsSized w → IsSized (end_out Halted (stop_at w x) o)
+stop_sized w x None lt h = same_sized w x (stopped (member_at w x)) w.links w.views lt refl refl h
+stop_sized w x (Some o) lt h = same_sized w x (stopped (member_at w x)) (end_out Halted (stop_at w x) (Some o)).links w.views lt refl refl h
+
+open_sized : (w : World) (x z : ℕ) → x < size w → IsSized w → IsSized (open_to w x z)
+open_sized w x z lt h = same_sized w x (record (member_at w x) { out = Some (length w.links) }) (open_to w x z).links w.views lt refl refl h
+
+refresh_sized : (w : World) (x v : ℕ) → x < size w → IsSized w → IsSized (refreshed w x v)
+refresh_sized w x v lt h = by_out (member_at w x).out
+  where
+    z : ℕ
+    z = right_of (view_at w v) x
+
+    w1 : World
+    w1 = look_at w x v
+
+    there : x < size w1
+    there = omega (arith, lt, length-set w.members x (moved_to w x v))
+
+    now : IsSized w1
+    now = same_sized w x (moved_to w x v) w.links w.views lt refl refl h
+
+    by_test : (o : ℕ) (b : Bool) → IsSized (if b then w1 else open_to (with_link w1 o (ended Moved (link_at w1 o))) x z)
+    by_test o true = now
+    by_test o false = open_sized (with_link w1 o (ended Moved (link_at w1 o))) x z there (other_sized w1 (with_link w1 o (ended Moved (link_at w1 o))).links w1.views now)
+
+    by_out : (o : Option ℕ) → IsSized (send_to w1 x z o)
+    by_out None = open_sized w1 x z there now
+    by_out (Some o) = by_test o (nat_eq (link_at w1 o).receiver z)
+
+id_by : (w : World) (name : List ℕ) (o : Option ℕ) (x : ℕ) → position (λ y. bytes_eq y.name name) (drop 1 w.members) ≡ o → option_map (λ i. i + 1) o ≡ Some x → (1 ≤ x) × (x < size w)
+id_by w name None x e h = cc
+id_by w name (Some i) x e h =
+    let is : i + 1 ≡ x = cc in
+    let within = (position-Some (λ y. bytes_eq y.name name) (drop 1 w.members) i no_member e).0 in
+    (omega arith, omega (arith, within, length-drop 1 w.members))
+
+found_sized : (w : World) (name : List ℕ) (f : ℕ → World) (o : Option ℕ) → id_of w name ≡ o → IsSized w → ((x : ℕ) → x < size w → IsSized (f x)) → IsSized (at_found o w f)
+found_sized w name f None e h k = h
+found_sized w name f (Some x) e h k = k x (id_by w name _ x refl e).1
+
+link_sized : (w : World) (f : ℕ → World) (o : Option ℕ) → IsSized w → ((s : ℕ) → IsSized (f s)) → IsSized (at_found o w f)
+link_sized w f None h k = h
+link_sized w f (Some s) h k = k s
+
+-- one event more
+pub event_sized : (w : World) (e : Event) → ((q : ℕ) → is_waiting (member_at w q).phase ≡ false) → IsSized w → IsSized (effect w e)
+event_sized w (Cast by body) n h = found_sized w by (λ x. publish_at w x (message.Cast body)) (id_of w by) refl h (λ x lt. publish_sized w x (message.Cast body) lt h)
+event_sized w (Put by) n h = found_sized w by _ (id_of w by) refl h (λ x lt. link_sized w _ (member_at w x).out h (λ o. other_sized w _ w.views h))
+event_sized w (Take by) n h = found_sized w by _ (id_of w by) refl h (λ x lt. link_sized w _ (member_at w x).current h (λ s. taken_by_sized w x s (member_at w x).phase (n x) lt h))
+event_sized w (TakeEnd by) n h = found_sized w by _ (id_of w by) refl h (λ x lt. link_sized w _ (member_at w x).current h (λ s. current_sized w x None (leave_link w x s).links lt h))
+event_sized w (Gain by) n h = found_sized w by _ (id_of w by) refl h (λ x lt. link_sized w _ (member_at w x).out h (λ o. other_sized w _ w.views h))
+event_sized w (Stop by) n h = found_sized w by _ (id_of w by) refl h (λ x lt. stop_sized w x (member_at w x).out lt h)
+event_sized w (Mark by dead) n h = found_sized w by _ (id_of w by) refl h (λ x lt. found_sized w dead _ (id_of w dead) refl h (λ d dlt. refresh_sized (with_view w (marked (view_at w (newest w)) d)) x (newest w + 1) lt (other_sized w w.links (with_view w (marked (view_at w (newest w)) d)).views h)))
+event_sized w (Refresh by version) n h = found_sized w by _ (id_of w by) refl h (λ x lt. refresh_sized w x version lt h)
+event_sized w (Pick by) n h = found_sized w by _ (id_of w by) refl h (λ x lt. link_sized w _ (at_door w x) h (λ s. current_sized w x (Some s) w.links lt h))
+
+-- the opening
+pub opening_sized : (credit : CreditSpec) (names : List (List ℕ)) → AreOpeningNames names → IsSized (opening credit names)
+opening_sized credit names are = record { few = omega (arith, many, are.few); rows = λ x some lt. at_opening x some lt; own = λ x some lt. own_at x some lt }
+  where
+    n : ℕ
+    n = length names
+
+    many : length (map (opening_member names) (range_with_len 1 n)) ≡ n
+    many = length-map-range_with_len (opening_member names) 1 n
+
+    member : (x : ℕ) → 1 ≤ x → x < size (opening credit names) → member_at (opening credit names) x ≡ opening_member names x
+    member zero some lt = absurd (omega arith)
+    member (suc k) some lt = get_or-map-range_with_len (opening_member names) 1 n k (suc k) no_member (omega (arith, many)) (omega arith)
+
+    at_opening : (x : ℕ) → 1 ≤ x → x < size (opening credit names) → length (member_at (opening credit names) x).rows ≡ size (opening credit names)
+    at_opening x some lt = ap (λ m. length m.rows) (member x some lt) ∙ length-map-range_with_len (λ _. no_row) 0 (n + 1) ∙ (let same : n + 1 ≡ suc (length (map (opening_member names) (range_with_len 1 n))) = omega (arith, many) in same)
+
+    own_at : (x : ℕ) → 1 ≤ x → x < size (opening credit names) → (row_at (member_at (opening credit names) x) x).got ≡ length (log_of (opening credit names) x)
+    own_at x some lt =
+        ap (λ m. (row_at m x).got) (member x some lt)
+        ∙ ap (λ (r : Row). r.got) (get_or-map-range_with_len (λ _. no_row) 0 (n + 1) x x no_row (omega (arith, many)) (omega arith))
+        ∙ ap (λ m. length m.log) (sym (member x some lt))

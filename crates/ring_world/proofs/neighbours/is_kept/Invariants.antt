@@ -1,0 +1,7 @@
+use Rattle.std.proofs.Common.{◌≡◌, ◌≤◌, ◌<◌, ℕ, ◌∷◌}
+use Rattle.group_view.specs.Since.{no_group}
+use Rattle.ring_world.specs.Deaths.View.{left_at}
+use Rattle.ring_world.proofs.neighbours.is_kept.Given as goal
+
+abbrev pub invariant-loop-u : goal.invariant-loop-u
+invariant-loop-u l = (j : ℕ) → l.opened ≤ j → j < l.u → left_at (no_group ∷ l.views) j l.receiver ≡ l.sender

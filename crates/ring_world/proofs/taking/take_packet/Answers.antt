@@ -1,0 +1,33 @@
+use Rattle.std.proofs.Common.{◌≡◌, suc, ◌+◌, length, map, get_or, set, ap, sym, ◌∙◌, arith}
+use Rattle.std.specs.List.{range_with_len}
+use Rattle.std.proofs.lemmas.List.{length-map, get_or-map, get_or_default}
+use Rattle.ring_world.specs.Deaths.Machine.{no_member}
+use Rattle.ring_world.specs.Deaths.Step.{taken, is_owned}
+use Rattle.ring_world.specs.Deaths.Walk.{oldest}
+use Rattle.ring_world.specs.Deaths.Shows.{news_of, news_at, member_of, row_of, link_of, packet_of, member_in}
+use Rattle.ring_world.proofs.Deaths.Taken.{taken_seats, news_count, all_of, logs_of}
+use Rattle.ring_world.proofs.taking.take_packet.Goals as goal
+
+pub take-requires : goal.take-requires
+take-requires c =
+    let seats = c.args.seats.now in
+    let en : map news_of c.deref_mut.result.now ≡ map (news_at c.args.view.now (all_of seats) (suc c.args.place) c.reserve_grant.new.self.sender (packet_of c.oldest-packet.result.now)) (range_with_len 0 (length seats + 1)) = rw c.deref_mut.ensures.value c.in_ok-news.ensures in
+    let count = news_count seats c.args.view.now (suc c.args.place) c.reserve_grant.new.self.sender (packet_of c.oldest-packet.result.now) (length seats + 1) c.deref_mut.result.now en in
+    let rows = sym (length-map _ row_of) ∙ ap (λ y. length y.rows) (sym (get_or-map member_of seats c.args.place c.index-seats-place.result no_member c.requires.within)) ∙ c.requires.rows in
+    rows ∙ (let more : suc (length seats) ≡ length seats + 1 = omega arith in more) ∙ sym count
+
+pub returns-clause-seats : goal.returns-clause-seats
+returns-clause-seats c =
+    let seats = c.args.seats.now in
+    let place = c.args.place in
+    let v = c.args.view.now in
+    let old = get_or seats place c.index-seats-place.result in
+    let same_sender : c.reserve_grant.new.self.sender ≡ c.args.wire.now.sender = ap (λ l. l.sender) c.reserve_grant.ensures.same in
+    let first : packet_of c.oldest-packet.result.now ≡ oldest (link_of c.args.wire.now) = c.oldest-packet.ensures ∙ ap oldest c.reserve_grant.ensures.same in
+    let more : length seats + 1 ≡ suc (length seats) = omega arith in
+    let en1 : map news_of c.deref_mut.result.now ≡ map (news_at v (all_of seats) (suc place) c.reserve_grant.new.self.sender (packet_of c.oldest-packet.result.now)) (range_with_len 0 (length seats + 1)) = rw c.deref_mut.ensures.value c.in_ok-news.ensures in
+    let en2 : map news_of c.deref_mut.result.now ≡ map (news_at v (all_of seats) (suc place) c.args.wire.now.sender (packet_of c.oldest-packet.result.now)) (range_with_len 0 (suc (length seats))) = en1 ∙ ap (λ s. map (news_at v (all_of seats) (suc place) s (packet_of c.oldest-packet.result.now)) (range_with_len 0 (length seats + 1))) same_sender ∙ ap (λ n. map (news_at v (all_of seats) (suc place) c.args.wire.now.sender (packet_of c.oldest-packet.result.now)) (range_with_len 0 n)) more in
+    taken_seats seats place c.args.wire.now.sender _ (suc (length seats)) v old c.take.new.self (packet_of c.oldest-packet.result.now) c.deref_mut.result.now c.requires.within
+    (get_or_default seats place c.index-seats-place.result old c.requires.within)
+    en2 (news_count seats v (suc place) c.args.wire.now.sender (packet_of c.oldest-packet.result.now) (suc (length seats)) c.deref_mut.result.now en2) c.in_ok-take.ensures.ok
+    ∙ ap (λ k. set (map member_of seats) place (taken (suc (length seats)) (is_owned v (suc place) c.args.wire.now.sender) (logs_of seats) (member_in seats place) k)) first

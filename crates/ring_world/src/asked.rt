@@ -1,0 +1,113 @@
+//! What is asked of a state.
+ghost use Rattle.std.specs.Prelude.{◌≡◌, ◌<◌, suc, length, Option, Some, IsSome, IfOk};
+ghost use Rattle.ring_world.specs.Deaths.Machine.{row_at, member_at};
+ghost use Rattle.ring_world.specs.Deaths.Asked.{heard_at as the_heard, id_at as the_id_at, state_of as the_state, counts_of as the_counts};
+ghost use Rattle.ring_world.specs.Deaths.Event.{id_of as the_id};
+ghost use Rattle.ring_world.specs.Deaths.Placed.{IsPlaced};
+ghost use Rattle.ring_world.specs.Deaths.Shows.{world_of, member_of, member_in};
+
+use crate::log::copied;
+use crate::neighbours::id_at;
+use crate::phase::Phase;
+use crate::places::place_in;
+use crate::seat::Seat;
+use crate::shown::{Counts, MemberState, counts_in};
+use crate::state::Ring;
+use ring_names::{MemberId, Message, Name, OutOfMemory};
+use std::alloc::Global;
+
+/// What a member has heard of an origin.
+#[tactic(auto, using(crate::proofs::Deaths::Shown::read_row))]
+fn heard_from(alloc: Global, seat: &Seat, origin: usize) -> Result<Vec<Message>, OutOfMemory>
+    requires { origin < length seat.now.rows.items }
+    ensures { IfOk result (λ v. v.items ≡ (row_at (member_of seat.now) origin).heard) }
+{
+    let all = copied(alloc, &seat.rows[origin].heard)?;
+    Ok(all)
+}
+
+/// What the member at a place has heard of that at another.
+#[tactic(auto, using(crate::proofs::Deaths::Shown::read_member, crate::proofs::Deaths::Found::row_there))]
+pub(crate) fn heard_at(
+    alloc: Global,
+    ring: &Ring,
+    place: usize,
+    origin: usize,
+) -> Result<Vec<Message>, OutOfMemory>
+    requires placed { IsPlaced (world_of ring.now) }
+    requires place { place < length ring.now.seats.items }
+    requires origin { origin < length ring.now.seats.items }
+    ensures { IfOk result (λ v. v.items ≡ (row_at (member_at (world_of ring.now) (suc place)) (suc origin)).heard) }
+{
+    let all = heard_from(alloc, &ring.seats[place], id_at(origin) as usize)?;
+    Ok(all)
+}
+
+fn state_of(phase: Phase) -> MemberState
+    ensures { result ≡ the_state phase }
+{
+    match phase {
+        Phase::Waiting => MemberState::Waiting,
+        Phase::Up => MemberState::Up { missing: Some(0) },
+        Phase::Stopped => MemberState::Stopped,
+    }
+}
+
+/// Where the member at a place stands.
+#[tactic(auto, using(crate::proofs::Deaths::Shown::read_member))]
+pub(crate) fn state_at(ring: &Ring, place: usize) -> MemberState
+    requires { place < length ring.now.seats.items }
+    ensures { result ≡ the_state (member_at (world_of ring.now) (suc place)).phase }
+{
+    state_of(ring.seats[place].phase)
+}
+
+/// What the member of one name has heard of that of another.
+pub(crate) fn heard_named(
+    alloc: Global,
+    ring: &Ring,
+    by: &Name,
+    of: &Name,
+) -> Result<Vec<Message>, OutOfMemory>
+    requires placed { IsPlaced (world_of ring.now) }
+    requires by { IsSome (the_id (world_of ring.now) by.now) }
+    requires of { IsSome (the_id (world_of ring.now) of.now) }
+    ensures { IfOk result (λ v. v.items ≡ the_heard (world_of ring.now) (the_id (world_of ring.now) by.now) (the_id (world_of ring.now) of.now)) }
+{
+    let Some(place) = place_in(ring, by) else {
+        unreachable!()
+    };
+    let Some(origin) = place_in(ring, of) else {
+        unreachable!()
+    };
+    let all = heard_at(alloc, ring, place, origin)?;
+    Ok(all)
+}
+
+/// The id of the member of a name.
+#[tactic(auto, using(crate::proofs::Deaths::Found::few_seats))]
+pub(crate) fn member_named(ring: &Ring, name: &Name) -> Option<MemberId>
+    requires { IsPlaced (world_of ring.now) }
+    ensures { result ≡ the_id_at (the_id (world_of ring.now) name.now) }
+{
+    let place = place_in(ring, name)?;
+    Some(MemberId(id_at(place)))
+}
+
+/// What a member has published, whose id is given, and how much of it has come round.
+fn counts_of(seat: &Seat, id: usize) -> Counts
+    ensures { result ≡ the_counts id (member_of seat.now) }
+{
+    let (_, forgot) = seat.got_and_forgot(id);
+    counts_in(&seat.log, forgot)
+}
+
+/// The same of the member at a place.
+#[tactic(auto, using(crate::proofs::Deaths::Shown::read_member, crate::proofs::Deaths::Found::few_seats))]
+pub(crate) fn counts_at(ring: &Ring, place: usize) -> Counts
+    requires placed { IsPlaced (world_of ring.now) }
+    requires place { place < length ring.now.seats.items }
+    ensures { result ≡ the_counts (suc place) (member_at (world_of ring.now) (suc place)) }
+{
+    counts_of(&ring.seats[place], id_at(place) as usize)
+}

@@ -1,0 +1,79 @@
+//! A member has a neighbour marked dead that has stopped.
+ghost use Rattle.std.specs.Prelude.{◌≡◌, ◌<◌, ◌+◌, suc, true, ◌-◌, take, length, IfOk, OnOk, OnErr};
+ghost use Rattle.group_view.specs.Change.{marked};
+ghost use Rattle.ring_world.specs.declared.phase.Phase.TheVariants as phase;
+ghost use Rattle.ring_world.specs.Deaths.View.{is_live};
+ghost use Rattle.ring_world.specs.Deaths.Machine.{member_at, view_at, newest as the_newest};
+ghost use Rattle.ring_world.specs.Deaths.Step.{with_view};
+ghost use Rattle.ring_world.specs.Deaths.Event.{refreshed};
+ghost use Rattle.ring_world.specs.Deaths.Placed.{IsPlaced};
+ghost use Rattle.ring_world.specs.Deaths.Shows.{world_of};
+
+use crate::neighbours::{id_at, newest, view_of};
+use crate::refreshing::refresh;
+use crate::state::Ring;
+use group_view::View;
+use ring_names::{MemberId, OutOfMemory};
+use std::alloc::Global;
+
+/// The view without an entry that lives in it.
+#[tactic(auto, using(crate::proofs::Deaths::Looks::nobody_refuses))]
+fn without(view: &View, dead: u32) -> Result<View, OutOfMemory>
+    requires { is_live view.now dead ≡ true }
+    ensures { IfOk result (λ next. next ≡ marked view.now dead) }
+{
+    let mut next = view.copy()?;
+    if next.mark_dead(MemberId(dead)).is_err() {
+        unreachable!()
+    }
+    Ok(next)
+}
+
+/// A view follows the others.
+fn push_view(ring: &mut Ring, view: View) -> Result<(), OutOfMemory>
+    ensures ok { OnOk result (world_of ring.new ≡ with_view (world_of ring.old) view) }
+    ensures seats { length ring.new.seats.items ≡ length ring.old.seats.items }
+    ensures err { OnErr result (world_of ring.new ≡ world_of ring.old) }
+{
+    if ring.views.push(view).is_err() {
+        return Err(OutOfMemory);
+    }
+    Ok(())
+}
+
+/// The last view is gone.
+fn pop_view(views: &mut Vec<View>)
+    ensures { views.new.items ≡ take (length views.old.items - 1) views.old.items }
+{
+    views.pop();
+}
+
+/// The member at a place has the member at another marked dead, and reads the view that follows.
+pub(crate) fn mark(
+    alloc: Global,
+    ring: &mut Ring,
+    place: usize,
+    dead: usize,
+) -> Result<(), OutOfMemory>
+    requires placed { IsPlaced (world_of ring.old) }
+    requires place { place < length ring.old.seats.items }
+    requires dead { dead < length ring.old.seats.items }
+    requires up { (member_at (world_of ring.old) (suc place)).phase ≡ phase.Up }
+    requires lives { is_live (view_at (world_of ring.old) (the_newest (world_of ring.old)))
+        (suc dead) ≡ true }
+    requires after { IsPlaced (with_view (world_of ring.old)
+        (marked (view_at (world_of ring.old) (the_newest (world_of ring.old))) (suc dead))) }
+    ensures ok { OnOk result (world_of ring.new ≡ refreshed (with_view (world_of ring.old)
+        (marked (view_at (world_of ring.old) (the_newest (world_of ring.old))) (suc dead)))
+        (suc place) (the_newest (world_of ring.old) + 1)) }
+    ensures err { OnErr result (world_of ring.new ≡ world_of ring.old) }
+{
+    let version = newest(ring) + 1;
+    let next = without(view_of(&ring.views, newest(ring)), id_at(dead))?;
+    push_view(ring, next)?;
+    if refresh(alloc, ring, place, version).is_err() {
+        pop_view(&mut ring.views);
+        return Err(OutOfMemory);
+    }
+    Ok(())
+}

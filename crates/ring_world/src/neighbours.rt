@@ -1,0 +1,189 @@
+//! What a member's view says, and what stands at its door.
+ghost use Rattle.std.specs.Prelude.{ℕ, ◌≡◌, ◌<◌, ◌≤◌, ◌&&◌, suc, ◌∷◌, true, not, nat_eq, nat_le, length, position, IfSome, slice_index_or};
+ghost use Rattle.ring_world.specs.declared.phase.Phase.TheVariants as phase;
+ghost use Rattle.group_view.specs.View.{entry_in};
+ghost use Rattle.group_view.specs.Ring.{is_in};
+ghost use Rattle.group_view.specs.Since.{no_group};
+ghost use Rattle.ring_world.specs.Deaths.View.{ids, is_live as lives_in, left_of as the_left, right_of as the_right};
+ghost use Rattle.ring_world.specs.Deaths.Machine.{member_at, view_at, is_kept_of, newest as the_newest, runs as runs_at};
+ghost use Rattle.ring_world.specs.Deaths.Event.{left_neighbour as the_left_neighbour, since as the_since, is_neighbour as neighbours, at_door as the_door};
+ghost use Rattle.ring_world.specs.Deaths.Placed.{IsPlaced};
+ghost use Rattle.ring_world.specs.Deaths.Shows.{world_of, link_of, stands_at_door};
+
+use crate::state::Ring;
+use crate::wire::Wire;
+use group_view::{Entry, Mark, View};
+use ring_names::MemberId;
+
+/// The id of the member at a place.
+pub(crate) fn id_at(place: usize) -> u32
+    requires { place < 65 }
+    ensures { result ≡ suc place }
+{
+    place as u32 + 1
+}
+
+/// Since when the left neighbour of an entry has been it; 0 without the entry.
+pub(crate) fn since_in(entries: &[Entry], id: u32) -> u32
+    ensures { result ≡ (entry_in entries.now id).since }
+{
+    for entry in entries {
+        if entry.id.0 == id {
+            return entry.since;
+        }
+    }
+    0
+}
+
+/// The mark of an entry; erased without the entry.
+fn mark_in(entries: &[Entry], id: u32) -> Mark
+    ensures { result ≡ (entry_in entries.now id).mark }
+{
+    for entry in entries {
+        if entry.id.0 == id {
+            return entry.mark;
+        }
+    }
+    Mark::Erased
+}
+
+/// Whether the view has the entry as live.
+pub(crate) fn is_live(view: &View, id: u32) -> bool
+    ensures { result ≡ lives_in view.now id }
+{
+    matches!(mark_in(view.entries.as_slice(), id), Mark::Live)
+}
+
+/// The left neighbour of an entry.
+pub(crate) fn left_in(view: &View, id: u32) -> u32
+    requires { is_in id (ids view.now) ≡ true }
+    ensures { result ≡ the_left view.now id }
+{
+    view.left_of(MemberId(id)).0
+}
+
+/// The right neighbour of an entry.
+pub(crate) fn right_in(view: &View, id: u32) -> u32
+    requires { is_in id (ids view.now) ≡ true }
+    ensures { result ≡ the_right view.now id }
+{
+    view.right_of(MemberId(id)).0
+}
+
+/// The view of a version.
+#[tactic(auto, using(crate::proofs::Deaths::Shown::view_read))]
+pub(crate) fn view_of(views: &[View], version: u32) -> &View
+    requires some { 1 ≤ version }
+    requires within { version ≤ length views.now }
+    ensures { result.now ≡ slice_index_or (no_group ∷ views.now) version no_group }
+{
+    &views[version as usize - 1]
+}
+
+/// The newest version.
+pub(crate) fn newest(ring: &Ring) -> u32
+    requires { IsPlaced (world_of ring.now) }
+    ensures { result ≡ the_newest (world_of ring.now) }
+{
+    ring.views.len() as u32
+}
+
+/// The newest view.
+pub(crate) fn newest_view(ring: &Ring) -> &View
+    requires { IsPlaced (world_of ring.now) }
+    ensures { result.now ≡ view_at (world_of ring.now) (the_newest (world_of ring.now)) }
+{
+    view_of(&ring.views, newest(ring))
+}
+
+/// The view that the member at a place has.
+pub(crate) fn view_at_place(ring: &Ring, place: usize) -> &View
+    requires placed { IsPlaced (world_of ring.now) }
+    requires place { place < length ring.now.seats.items }
+    requires up { (member_at (world_of ring.now) (suc place)).phase ≡ phase.Up }
+    ensures view { result.now ≡ view_at (world_of ring.now)
+        (member_at (world_of ring.now) (suc place)).version }
+    ensures stands { is_in (suc place) (ids result.now) ≡ true }
+{
+    view_of(&ring.views, ring.seats[place].version)
+}
+
+/// The left neighbour of the member at a place, in its view.
+pub(crate) fn left_neighbour(ring: &Ring, place: usize) -> u32
+    requires placed { IsPlaced (world_of ring.now) }
+    requires place { place < length ring.now.seats.items }
+    requires up { (member_at (world_of ring.now) (suc place)).phase ≡ phase.Up }
+    ensures { result ≡ the_left_neighbour (world_of ring.now) (suc place) }
+{
+    let view = view_at_place(ring, place);
+    left_in(view, id_at(place))
+}
+
+/// Whether an id is a neighbour's.
+pub(crate) fn is_neighbour(ring: &Ring, place: usize, id: u32) -> bool
+    requires placed { IsPlaced (world_of ring.now) }
+    requires place { place < length ring.now.seats.items }
+    requires up { (member_at (world_of ring.now) (suc place)).phase ≡ phase.Up }
+    ensures { result ≡ neighbours (world_of ring.now) (suc place) id }
+{
+    let view = view_at_place(ring, place);
+    let own = id_at(place);
+    id == left_in(view, own) || id == right_in(view, own)
+}
+
+/// Since when the left neighbour of the member at a place has been it.
+pub(crate) fn since(ring: &Ring, place: usize) -> u32
+    requires placed { IsPlaced (world_of ring.now) }
+    requires place { place < length ring.now.seats.items }
+    requires up { (member_at (world_of ring.now) (suc place)).phase ≡ phase.Up }
+    ensures { result ≡ the_since (world_of ring.now) (suc place) }
+{
+    let view = view_at_place(ring, place);
+    since_in(view.entries.as_slice(), id_at(place))
+}
+
+/// Whether a link stands at the door of a member with this left neighbour since then.
+fn is_at_door(wire: &Wire, id: u32, left: u32, since: u32) -> bool
+    ensures { result ≡ stands_at_door id left since (link_of wire.now) }
+{
+    wire.receiver == id && !wire.over && wire.sender == left && since <= wire.opened
+}
+
+fn first_at_door(wires: &[Wire], id: u32, left: u32, since: u32) -> Option<usize>
+    ensures { result ≡ position (λ wire. stands_at_door id left since (link_of wire)) wires.now }
+{
+    wires
+        .iter()
+        .position(|wire| is_at_door(wire, id, left, since))
+}
+
+/// The oldest link at the door of the member at a place.
+pub(crate) fn at_door(ring: &Ring, place: usize) -> Option<usize>
+    requires placed { IsPlaced (world_of ring.now) }
+    requires place { place < length ring.now.seats.items }
+    requires up { (member_at (world_of ring.now) (suc place)).phase ≡ phase.Up }
+    ensures door { result ≡ the_door (world_of ring.now) (suc place) }
+    ensures within { IfSome result (λ s. s < length ring.now.wires.items) }
+{
+    let left = left_neighbour(ring, place);
+    let since = since(ring, place);
+    first_at_door(&ring.wires, id_at(place), left, since)
+}
+
+/// Whether the receiver has had the sender at its left in each view from `opened` up to a version.
+#[tactic(auto, using(crate::proofs::Deaths::Looks::kept_yes, crate::proofs::Deaths::Looks::kept_no))]
+pub(crate) fn is_kept(views: &[View], receiver: u32, sender: u32, opened: u32, version: u32) -> bool
+    requires some { 1 ≤ opened }
+    requires within { version ≤ length views.now }
+    requires few { version ≤ 256 }
+    requires stands { (u : ℕ) → opened ≤ u → u ≤ version
+        → is_in receiver (ids (slice_index_or (no_group ∷ views.now) u no_group)) ≡ true }
+    ensures { result ≡ is_kept_of (no_group ∷ views.now) receiver sender opened version }
+{
+    for u in opened..version + 1 {
+        if left_in(view_of(views, u), receiver) != sender {
+            return false;
+        }
+    }
+    true
+}

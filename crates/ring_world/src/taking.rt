@@ -1,0 +1,173 @@
+//! A member takes the oldest packet from the link that it takes from.
+ghost use Rattle.std.specs.Prelude.{◌≡◌, ◌<◌, ◌≤◌, ◌+◌, ◌∷◌, suc, false, length, map, slice_set, slice_index_or, IfOk, OnOk, OnErr};
+ghost use Rattle.std.specs.List.{range_with_len};
+ghost use Rattle.ring_world.specs.Refusal.{is_empty};
+ghost use Rattle.ring_world.specs.declared.phase.Phase.TheVariants as phase;
+ghost use Rattle.ring_world.specs.Deaths.Machine.{member_at, link_at, no_member, row_at, numbers_at as the_numbers};
+ghost use Rattle.ring_world.specs.Deaths.Walk.{oldest};
+ghost use Rattle.ring_world.specs.Deaths.Step.{is_owned as owned_is, brought, taken, popped, take_from};
+ghost use Rattle.ring_world.specs.Deaths.Placed.{IsPlaced};
+ghost use Rattle.ring_world.specs.Deaths.Shows.{world_of, member_of, member_in, link_of, packet_of, news_of as the_news, news_at};
+
+use crate::log::messages_between;
+use crate::neighbours::{id_at, view_of};
+use crate::numbers::{Numbers, numbers_at};
+use crate::seat::{Brought, Seat};
+use crate::state::Ring;
+use crate::wire::{Parcel, Wire};
+use group_view::View;
+use ring_names::{MemberId, Message, OutOfMemory};
+use std::alloc::Global;
+
+/// Whether a member answers for an origin against a sender: it is the member, or stands between the two.
+fn is_owned(view: &View, id: u32, sender: u32, origin: u32) -> bool
+    ensures { result ≡ owned_is view.now id sender origin }
+{
+    origin == id || view.is_between(MemberId(sender), MemberId(origin), MemberId(id))
+}
+
+/// What a packet brings of an origin of this log, beside how much of it the taker has got.
+fn messages_for(
+    alloc: Global,
+    own: bool,
+    log: &[Message],
+    seat: &Seat,
+    origin: usize,
+    numbers: Numbers,
+) -> Result<Vec<Message>, OutOfMemory>
+    ensures { IfOk result (λ v. v.items
+        ≡ brought own log.now (row_at (member_of seat.now) origin) numbers) }
+{
+    if own {
+        return Ok(Vec::new(alloc));
+    }
+    let (got, _) = seat.got_and_forgot(origin);
+    let news = messages_between(alloc, log, numbers.lo.max(got), numbers.got)?;
+    Ok(news)
+}
+
+/// What it brings of the origin of an id; nobody has id 0, and a log without messages.
+#[tactic(auto, using(crate::proofs::Deaths::Shown::read_member, crate::proofs::Deaths::Taken::nobody_brings))]
+fn messages_of(
+    alloc: Global,
+    own: bool,
+    seats: &[Seat],
+    place: usize,
+    origin: usize,
+    numbers: Numbers,
+) -> Result<Vec<Message>, OutOfMemory>
+    requires place { place < length seats.now }
+    requires origin { origin ≤ length seats.now }
+    ensures { IfOk result (λ v. v.items
+        ≡ brought own (slice_index_or (no_member ∷ map member_of seats.now) origin no_member).log
+        (row_at (member_in seats.now place) origin) numbers) }
+{
+    if origin == 0 {
+        return Ok(Vec::new(alloc));
+    }
+    let seat = &seats[place];
+    let log = &seats[origin - 1].log;
+    messages_for(alloc, own, log, seat, origin, numbers)
+}
+
+/// What it brings, and whether the taker answers for the origin.
+fn news_of(
+    alloc: Global,
+    seats: &[Seat],
+    place: usize,
+    view: &View,
+    sender: u32,
+    packet: &Parcel,
+    origin: usize,
+) -> Result<Brought, OutOfMemory>
+    requires place { place < length seats.now }
+    requires origin { origin ≤ length seats.now }
+    requires few { length seats.now < 65 }
+    ensures { IfOk result (λ b. the_news b
+        ≡ news_at view.now (no_member ∷ map member_of seats.now) (suc place) sender
+        (packet_of packet.now) origin) }
+{
+    let own = is_owned(view, id_at(place), sender, origin as u32);
+    let numbers = numbers_at(&packet.numbers, origin);
+    let messages = messages_of(alloc, own, seats, place, origin, numbers)?;
+    Ok(Brought { own, messages })
+}
+
+/// What it brings of each origin, by id.
+fn all_news(
+    alloc: Global,
+    seats: &[Seat],
+    place: usize,
+    view: &View,
+    sender: u32,
+    packet: &Parcel,
+) -> Result<Vec<Brought>, OutOfMemory>
+    requires place { place < length seats.now }
+    requires few { length seats.now < 65 }
+    ensures { IfOk result (λ v. map the_news v.items
+        ≡ map (news_at view.now (no_member ∷ map member_of seats.now) (suc place) sender
+        (packet_of packet.now)) (range_with_len 0 (length seats.now + 1))) }
+{
+    let mut all = Vec::new(alloc);
+    for origin in 0..seats.len() + 1 {
+        let news = news_of(alloc, seats, place, view, sender, packet, origin)?;
+        if all.push(news).is_err() {
+            return Err(OutOfMemory);
+        }
+    }
+    Ok(all)
+}
+
+/// All that wants memory comes first, so that without it nothing has changed.
+#[tactic(auto, using(crate::proofs::Deaths::Shown::rewrite_seat))]
+fn take_packet(
+    alloc: Global,
+    seats: &mut [Seat],
+    place: usize,
+    view: &View,
+    wire: &mut Wire,
+) -> Result<(), OutOfMemory>
+    requires within { place < length seats.old }
+    requires few { length seats.old < 65 }
+    requires rows { length (member_in seats.old place).rows ≡ suc (length seats.old) }
+    requires some { is_empty (link_of wire.old).packets ≡ false }
+    ensures seats { OnOk result (map member_of seats.new ≡ slice_set (map member_of seats.old) place
+        (taken (suc (length seats.old)) (owned_is view.now (suc place) (link_of wire.old).sender)
+        (λ p. (slice_index_or (no_member ∷ map member_of seats.old) p no_member).log)
+        (member_in seats.old place) (oldest (link_of wire.old)))) }
+    ensures wire { OnOk result (link_of wire.new ≡ popped (link_of wire.old)) }
+    ensures err_seats { OnErr result (map member_of seats.new ≡ map member_of seats.old) }
+    ensures err_wire { OnErr result (link_of wire.new ≡ link_of wire.old) }
+{
+    wire.reserve_grant()?;
+    let sender = wire.sender;
+    let packet = wire.oldest();
+    let mut news = all_news(alloc, seats, place, view, sender, packet)?;
+    seats[place].take(packet, &mut news)?;
+    wire.pop();
+    Ok(())
+}
+
+/// The member at a place takes the oldest packet from its link.
+#[tactic(auto, using(crate::proofs::Deaths::Found::few_seats))]
+pub(crate) fn take(
+    alloc: Global,
+    ring: &mut Ring,
+    place: usize,
+    current: usize,
+) -> Result<(), OutOfMemory>
+    requires placed { IsPlaced (world_of ring.old) }
+    requires place { place < length ring.old.seats.items }
+    requires current { current < length ring.old.wires.items }
+    requires up { (member_at (world_of ring.old) (suc place)).phase ≡ phase.Up }
+    requires some { is_empty (link_at (world_of ring.old) current).packets ≡ false }
+    ensures ok { OnOk result (world_of ring.new
+        ≡ take_from (world_of ring.old) (suc place) current) }
+    ensures err { OnErr result (world_of ring.new ≡ world_of ring.old) }
+{
+    let version = ring.seats[place].version;
+    let view = view_of(&ring.views, version);
+    let wire = &mut ring.wires[current];
+    take_packet(alloc, &mut ring.seats, place, view, wire)?;
+    Ok(())
+}
