@@ -1,5 +1,5 @@
 -- The names of the members stay, and different names find their members.
-use Rattle.std.proofs.Common.{◌≡◌, ℕ, ◌<◌, ◌≤◌, nat_lt, not, cond, Bool, true, false, Some, None, List, [], ◌∷◌, length, map, get_or, bytes_eq, refl, sym, ap, subst, ◌∙◌, ⊎_elim, arith}
+use Rattle.std.proofs.Common.{◌≡◌, ℕ, ◌<◌, ◌≤◌, nat_lt, not, cond, Bool, true, false, Some, None, List, [], ◌∷◌, length, map, get_or, bytes_eq, refl, sym, ap, ◌∙◌, ⊎_elim, arith}
 use Rattle.std.specs.List.{position, prefix_len}
 use Rattle.std.proofs.Math.Seq.{map-set_same}
 use Rattle.std.proofs.lemmas.Bool.{cases_lt, false≢true}
@@ -11,7 +11,7 @@ use Rattle.ring_names.specs.declared.message.Message.TheVariants as message
 use Rattle.ring_names.specs.declared.numbers.CreditSpec.{CreditSpec}
 use Rattle.ring_world.specs.declared.fixed.Event.{Event}
 use Rattle.ring_world.specs.declared.fixed.Event.TheVariants.{Cast, Put, Take, Gain}
-use Rattle.ring_world.specs.World.{World, AreDifferent, no_member, member_at, size, place_of, most_members}
+use Rattle.ring_world.specs.World.{World, AreDifferent, no_member, member_at, size, place_of}
 use Rattle.ring_world.specs.Refusal.{refusal}
 use Rattle.ring_world.specs.Effect.{effect, publish_at, put_at, take_at, gain_at}
 use Rattle.ring_world.specs.Run.{IsRun, last, opening, opening_member}

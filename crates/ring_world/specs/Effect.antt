@@ -1,11 +1,11 @@
 -- What an event does to the ring.
-use Rattle.std.specs.Prelude.{ℕ, List, Option, Some, None, slice_set, slice_index_or, nat_eq}
+use Rattle.std.specs.Prelude.{ℕ, Option, Some, None, slice_set}
 use Rattle.ring_names.specs.declared.message.Message.{Message}
 use Rattle.ring_names.specs.declared.message.Message.TheVariants as message
 use Rattle.ring_world.specs.declared.fixed.Event.{Event}
 use Rattle.ring_world.specs.declared.fixed.Event.TheVariants.{Cast, Put, Take, Gain}
-use Rattle.ring_world.specs.World.{Member, Packet, Link, World, no_member, row_at, numbers_at, member_at, link_at, log_of, size, place_of, left_of}
-use Rattle.ring_world.specs.Member.{published, next_packet, pushed, popped, oldest, brought, taken, granted}
+use Rattle.ring_world.specs.World.{Member, Link, World, member_at, link_at, log_of, size, place_of, left_of}
+use Rattle.ring_world.specs.Member.{published, next_packet, pushed, popped, oldest, taken, granted}
 
 -- member i is another
 abbrev pub with_member : World → ℕ → Member → World

@@ -1,7 +1,5 @@
 -- The structs and what they show.
-use Rattle.std.proofs.Common.{◌≡◌, ◌≢◌, subst, ℕ, zero, suc, ◌≤◌, arith, ◌+◌, ◌-◌, List, [], ◌∷◌, length, map, Bool, true, false, cond, not, get_or, set, ◌<◌, refl, sym, ap, ◌∙◌}
-use Rattle.std.specs.List.{position, prefix_len}
-use Rattle.std.proofs.lemmas.List.{length-map, get_or-map, map-set, set-get_or}
+use Rattle.std.proofs.Common.{◌≡◌, ℕ, zero, suc, ◌≤◌, arith, ◌-◌, List, ◌∷◌, length, map, get_or, set, ◌<◌, sym, ap}
 use Rattle.ring_names.specs.declared.message.Message.{Message}
 use Rattle.ring_world.specs.World.{no_row}
 use Rattle.ring_world.specs.Member.{published_row}

@@ -1,8 +1,6 @@
-use Rattle.std.proofs.Common.{suc, true, ap, sym, ◌∙◌, arith}
+use Rattle.std.proofs.Common.{suc, arith}
 use Rattle.std.proofs.lemmas.Bool.{false≢true}
 use Rattle.std.proofs.lemmas.Grind.{common_steps}
-use Rattle.ring_world.specs.Deaths.Machine.{runs_phase}
-use Rattle.ring_world.proofs.Deaths.Shown.{read_member}
 use Rattle.ring_world.proofs.quiet.all_rest.Goals as goal
 
 pub returns-then-not-is_resting : goal.returns-then-not-is_resting
