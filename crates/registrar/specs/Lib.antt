@@ -1,0 +1,4 @@
+pub mod Registry
+pub mod Asked
+pub mod Handled
+pub mod Kept
