@@ -2,3 +2,4 @@ pub mod Registry
 pub mod Asked
 pub mod Handled
 pub mod Kept
+pub mod Stands

@@ -1,5 +1,5 @@
 -- What the registrar keeps.
-use Rattle.std.specs.Prelude.{◌≡◌, ℕ, Bool, not, nat_eq, is_some, IsSome, List, [], ◌∷◌, length, slice_get, slice_set, option_map, Option, Some, None}
+use Rattle.std.specs.Prelude.{◌≢◌, ℕ, ◌<◌, Bool, not, nat_eq, is_some, IsSome, List, [], ◌∷◌, length, slice_get, slice_set, slice_index_or, option_map, Option, Some, None}
 use Rattle.std.specs.List.{filter, All}
 use Rattle.group_view.specs.declared.link.LinkName.{LinkName}
 use Rattle.group_view.specs.Ring.{is_in}
@@ -35,6 +35,10 @@ module _ {I : Type 0} where
   -- no link is lent
   abbrev pub AreHere : List (Standing I) → Type 0
   AreHere links = All (λ s. IsSome s.link) links
+
+  -- no other link is lent than the one at this place
+  abbrev pub AreHereBut : ℕ → List (Standing I) → Type 0
+  AreHereBut place links = (k : ℕ) (d : Standing I) → k < length links → k ≢ place → IsSome (slice_index_or links k d).link
 
   -- the name of the link at a place
   abbrev pub name_in : Registry I → ℕ → Option LinkName

@@ -3,9 +3,11 @@ ghost use Rattle.std.specs.Prelude.{◌≡◌, IfOk, OnOk, IfErr, OnErr, IsSome,
 ghost use Rattle.ring_names.specs.declared.reason.Reason.{Reason};
 ghost use Rattle.group_view.specs.Change.{AreOpeningNames, marked, mark_refusal as group_refusal};
 ghost use Rattle.group_view.specs.Ring.{is_in};
-ghost use Rattle.registrar.specs.Registry.{AreHere, newest as the_newest, founded, is_known, name_in, end_in, end_is};
+ghost use Rattle.registrar.specs.Registry.{AreHere, AreHereBut, newest as the_newest, founded, is_known, name_in, end_in, end_is};
 ghost use Rattle.registrar.specs.Asked.{mark_refusal as the_mark_refusal, unknown_refusal, stop_refusal as the_stop_refusal, request_refusal};
 ghost use Rattle.registrar.specs.Handled.{with_view, with_stopped, with_link, without_links, links_for, handled, answered};
+ghost use Rattle.registrar.specs.Stands.{StandsIn, WhereAsked};
+ghost use Rattle.ring_world.specs.Deaths.Event.{refusal, effect};
 
 use crate::giving::{count_for, give_all};
 use crate::judging::{has_entry, has_more, is_among, is_beside, is_live, newest, view_of};
@@ -66,6 +68,9 @@ impl<I: Drop> Registrar<I> {
     pub fn lend_in(&mut self, place: u32) -> Option<I>
         ensures lent { result ≡ end_in self.old place }
         ensures stands { self.new ≡ end_is self.old place None }
+        ensures found { IsSome result → IsSome (name_in self.new place) }
+        ensures away { end_in self.new place ≡ None }
+        ensures others { AreHere self.old.links → AreHereBut place self.new.links }
     {
         match self.links.get_mut(place as usize) {
             Some(standing) => standing.link.take(),
@@ -77,7 +82,8 @@ impl<I: Drop> Registrar<I> {
     pub fn give_in(&mut self, place: u32, link: I)
         requires stands { IsSome (name_in self.old place) }
         requires lent { end_in self.old place ≡ None }
-        ensures { self.new ≡ end_is self.old place (Some link) }
+        ensures stands { self.new ≡ end_is self.old place (Some link) }
+        ensures here { AreHereBut place self.old.links → AreHere self.new.links }
     {
         let standing = &mut self.links[place as usize];
         standing.link = Some(link);
@@ -113,6 +119,13 @@ impl<I: Drop> Registrar<I> {
         ensures err { OnErr result (self.new ≡ self.old) }
         ensures back { IfErr result (λ e. e.0 ≡ request) }
         ensures memory { OnErr result (request_refusal self.old request ≡ None) }
+        ensures here { AreHere self.new.links }
+
+        // Wherever the registrar stands, what a member of the ring asks for is the ring's event.
+        ensures steps { WhereAsked self.old request (λ w e. refusal w e ≡ None
+            → OnOk result (StandsIn (effect w e) self.new)) }
+        ensures not_enabled { WhereAsked self.old request (λ w e. (r : Reason) → refusal w e ≡ Some r
+            → result ≡ Ok (Answer.No r)) }
     {
         match self.refusal(&request) {
             Some(reason) => Ok(Answer::No(reason)),
