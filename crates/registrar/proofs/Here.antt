@@ -1,10 +1,9 @@
 -- Links that are lent, and come back.
-use Rattle.std.proofs.Common.{◌≡◌, ◌≢◌, ℕ, ◌<◌, List, [], ◌∷◌, ◌++◌, Option, Some, None, Result, Ok, Err, not, refl, sym, subst}
+use Rattle.std.proofs.Common.{◌≡◌, Result, Ok, Err, not, refl, sym, subst}
 use Rattle.std.specs.Prelude.{IsSome, OnOk, OnErr}
 use Rattle.std.proofs.lemmas.List.Elements.{All-push, All-filter}
 use Rattle.group_view.specs.declared.request.Request.{Request}
 use Rattle.group_view.specs.declared.request.Request.TheVariants.{Mark, Refresh, Stopped, Deposit, Collect}
-use Rattle.registrar.specs.declared.standing.Standing.{Standing}
 use Rattle.registrar.specs.Registry.{Registry, AreHere, is_for}
 use Rattle.registrar.specs.Handled.{handled, waiting}
 

@@ -1,5 +1,5 @@
 -- What a member of the ring asks for is judged as the event is.
-use Rattle.std.proofs.Common.{◌≡◌, ℕ, ◌<◌, ◌≤◌, Bool, true, false, not, nat_eq, nat_lt, cond, List, ◌∷◌, length, get_or, Option, Some, None, is_some, refl, sym, ap, ◌∙◌, arith}
+use Rattle.std.proofs.Common.{◌≡◌, ℕ, ◌<◌, ◌≤◌, Bool, true, false, not, nat_eq, nat_lt, cond, List, length, get_or, Option, Some, None, refl, sym, ap, ◌∙◌, arith}
 use Rattle.std.specs.Prelude.{◌&&◌, ◌||◌}
 use Rattle.std.proofs.lemmas.Bool.{le-ltb}
 use Rattle.ring_names.specs.declared.reason.Reason.{Reason}
@@ -20,8 +20,8 @@ use Rattle.ring_world.proofs.Deaths.Happens.{IsGood}
 use Rattle.ring_world.proofs.Deaths.Refusals.{id_within}
 use Rattle.registrar.specs.Registry.{Registry, is_known}
 use Rattle.registrar.specs.Registry as registry
-use Rattle.registrar.specs.Asked.{is_left, is_beside, has_more, waits_from, since_in, mark_refusal, stop_refusal, unknown_refusal}
-use Rattle.registrar.specs.Stands.{IsAsker, StandsIn, TellsTrue, AsksMark, AsksStop, AsksRefresh}
+use Rattle.registrar.specs.Asked.{is_left, is_beside, has_more, mark_refusal, stop_refusal, unknown_refusal}
+use Rattle.registrar.specs.Stands.{IsAsker, StandsIn, TellsTrue}
 
 -- ---- the registrar's views are those of the state
 
@@ -105,10 +105,10 @@ module _ {I : Type 0} where
       ∙ ap (λ b. refusals (is_neighbour w x d) b t m) (ap (λ (g : Group). is_live g.entries d) (newest_same w r s))
       ∙ ap (λ b. refusals (is_neighbour w x d) (ring.is_live (machine.view_at w (newest w)) d) b m) (s.stopped d to.0 to.1)
       ∙ ap (refusals (is_neighbour w x d) (ring.is_live (machine.view_at w (newest w)) d) (is_stopped (member_at w d).phase))
-          (and_same (is_left (view_at r.views v) x d) (nat_eq d (left_neighbour w x)) _ _ (left_asked w r name x v d h s a) tells)
+      (and_same (is_left (view_at r.views v) x d) (nat_eq d (left_neighbour w x)) _ _ (left_asked w r name x v d h s a) tells)
       ∙ sym (ap (λ o. of_member o (λ y. up_refusal w y (of_member (id_of w dead_name) (event.mark_refusal w y)))) a.named
-          ∙ up_is w x (of_member (id_of w dead_name) (event.mark_refusal w x)) a.up
-          ∙ ap (λ o. of_member o (event.mark_refusal w x)) named)
+      ∙ up_is w x (of_member (id_of w dead_name) (event.mark_refusal w x)) a.up
+      ∙ ap (λ o. of_member o (event.mark_refusal w x)) named)
     where
       from : (1 ≤ x) × (x < size w)
       from = id_within w name x a.named
@@ -146,9 +146,9 @@ module _ {I : Type 0} where
   refresh_judged w r x v name h s a =
       ap (λ b. refuse_if (not b) reason.UnknownMember) (knows w r x h s from.0 from.1)
       ∙ sym (ap (λ o. of_member o (λ y. up_refusal w y (event.refresh_refusal w y (newest w)))) a.named
-          ∙ up_is w x (event.refresh_refusal w x (newest w)) a.up
-          ∙ ap (λ b. refuse_if (b || nat_lt (newest w) (newest w)) out) (le-ltb (newest w) (member_at w x).version (h.inv.is_ring.held x))
-          ∙ ap (λ b. refuse_if b out) (le-ltb (newest w) (newest w) (omega arith)))
+      ∙ up_is w x (event.refresh_refusal w x (newest w)) a.up
+      ∙ ap (λ b. refuse_if (b || nat_lt (newest w) (newest w)) out) (le-ltb (newest w) (member_at w x).version (h.inv.is_ring.held x))
+      ∙ ap (λ b. refuse_if b out) (le-ltb (newest w) (newest w) (omega arith)))
     where
       from : (1 ≤ x) × (x < size w)
       from = id_within w name x a.named

@@ -1,12 +1,11 @@
 -- Where nothing refuses it, what is done for a request is the event.
-use Rattle.std.proofs.Common.{◌≡◌, ◌≢◌, ℕ, ◌+◌, ◌<◌, ◌≤◌, Bool, true, false, nat_eq, cond, List, ◌∷◌, [], ◌++◌, Option, Some, None, refl, sym, ap, subst, ◌∙◌, arith}
+use Rattle.std.proofs.Common.{◌≡◌, ℕ, ◌+◌, ◌<◌, ◌≤◌, Bool, true, false, cond, List, ◌∷◌, [], ◌++◌, Some, refl, sym, ap, subst, ◌∙◌, arith}
 use Rattle.group_view.specs.Ring.{is_in}
 use Rattle.group_view.specs.View.{Group}
 use Rattle.group_view.specs.Change.{marked}
 use Rattle.group_view.specs.Since.{no_group}
 use Rattle.group_view.proofs.Rings.{is_in-append, nat_eq-same, nat_eq-not}
 use Rattle.ring_world.specs.Deaths.Machine as machine
-use Rattle.ring_world.specs.declared.phase.Phase.TheVariants.{Stopped}
 use Rattle.ring_world.specs.declared.phase.Ending.TheVariants.{Halted}
 use Rattle.ring_world.specs.declared.event.Event.TheVariants.{Mark, Stop, Refresh}
 use Rattle.ring_world.specs.Deaths.Machine.{World, member_at, newest}

@@ -1,5 +1,5 @@
 -- What a Registrar shows, and what it keeps.
-use Rattle.std.specs.Prelude.{◌≡◌, ℕ, ◌<◌, length, map}
+use Rattle.std.specs.Prelude.{◌≡◌, ◌<◌, length, map}
 use Rattle.group_view.specs.View.{number}
 use Rattle.registrar.specs.Registry.{Registry, newest}
 use Rattle.registrar.specs.declared.registrar.Registrar.TheInside.{Inside}

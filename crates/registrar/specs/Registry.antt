@@ -1,5 +1,5 @@
 -- What the registrar keeps.
-use Rattle.std.specs.Prelude.{◌≢◌, ℕ, ◌<◌, Bool, not, nat_eq, is_some, IsSome, List, [], ◌∷◌, length, slice_get, slice_set, slice_index_or, option_map, Option, Some, None}
+use Rattle.std.specs.Prelude.{◌≢◌, ℕ, ◌<◌, Bool, not, nat_eq, IsSome, List, [], ◌∷◌, length, slice_get, slice_set, slice_index_or, option_map, Option, Some, None}
 use Rattle.std.specs.List.{filter, All}
 use Rattle.group_view.specs.declared.link.LinkName.{LinkName}
 use Rattle.group_view.specs.Ring.{is_in}

@@ -7,6 +7,8 @@ mod giving;
 mod judging;
 mod registrar;
 mod standing;
+#[cfg(test)]
+mod tests;
 
 pub use registrar::Registrar;
 pub use standing::Standing;

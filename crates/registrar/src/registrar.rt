@@ -1,5 +1,5 @@
 //! The registrar.
-ghost use Rattle.std.specs.Prelude.{◌≡◌, IfOk, OnOk, IfErr, OnErr, IsSome, Some, None};
+ghost use Rattle.std.specs.Prelude.{◌≡◌, IfOk, OnOk, IfErr, OnErr, IsSome, Some, None, length};
 ghost use Rattle.ring_names.specs.declared.reason.Reason.{Reason};
 ghost use Rattle.group_view.specs.Change.{AreOpeningNames, marked, mark_refusal as group_refusal};
 ghost use Rattle.group_view.specs.Ring.{is_in};
@@ -55,9 +55,10 @@ impl<I: Drop> Registrar<I> {
         })
     }
 
-    /// The newest view. It wants no memory.
+    /// The newest view, whose version is the number of all views. It wants no memory.
     pub fn view(&self) -> &View
-        ensures { result.now ≡ the_newest self.now }
+        ensures newest { result.now ≡ the_newest self.now }
+        ensures numbered { result.now.version ≡ length self.now.views }
     {
         newest(&self.views)
     }
@@ -105,10 +106,7 @@ impl<I: Drop> Registrar<I> {
     /// its own word, or since such a link waits here for it. `Stopped` is refused where the notice was given
     /// before. Only a request that nothing refuses wants memory, and without it everything stands as it
     /// stood, and the request comes back.
-    pub fn handle(
-        &mut self,
-        request: Request<I>,
-    ) -> Result<Answer<I>, (Request<I>, OutOfMemory)>
+    pub fn handle(&mut self, request: Request<I>) -> Result<Answer<I>, (Request<I>, OutOfMemory)>
         requires { AreHere self.old.links }
         ensures refused { (r : Reason) → request_refusal self.old request ≡ Some r
             → (result ≡ Ok (Answer.No r)) × (self.new ≡ self.old) }
