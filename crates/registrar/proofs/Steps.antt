@@ -8,10 +8,12 @@ use Rattle.group_view.proofs.Rings.{is_in-append, nat_eq-same, nat_eq-not}
 use Rattle.ring_world.specs.Deaths.Machine as machine
 use Rattle.ring_world.specs.declared.phase.Ending.TheVariants.{Halted}
 use Rattle.ring_world.specs.declared.event.Event.TheVariants.{Mark, Stop, Refresh}
-use Rattle.ring_world.specs.Deaths.Machine.{World, member_at, newest}
-use Rattle.ring_world.specs.Deaths.Step.{size, with_view, stop_at, end_out}
+use Rattle.ring_world.specs.Deaths.Machine.{Member, World, member_at, newest}
+use Rattle.ring_world.specs.Deaths.Step.{size, opening, with_view, stop_at, end_out}
 use Rattle.ring_world.specs.Deaths.Event.{id_of, is_stopped, at_found, refreshed, effect}
 use Rattle.ring_world.proofs.Deaths.Refusals.{id_within}
+use Rattle.ring_names.specs.declared.numbers.CreditSpec.{CreditSpec}
+use Rattle.ring_world.proofs.Deaths.First.{first_at, first_size}
 use Rattle.registrar.specs.Registry.{Registry}
 use Rattle.registrar.specs.Registry as registry
 use Rattle.registrar.specs.Handled.{with_stopped}
@@ -74,3 +76,10 @@ module _ {I : Type 0} where
       rest : (t : Bool) → cond t true false ≡ t
       rest true = refl
       rest false = refl
+
+-- at the opening nobody has stopped
+pub opening_stands : {I : Type 0} (credit : CreditSpec) (names : List (List ℕ)) → StandsIn {I = I} (opening credit names) (registry.founded names)
+opening_stands credit names = record {
+  views = refl;
+  stopped = λ q a b. sym (ap (λ (m : Member). is_stopped m.phase) (first_at credit names q a (omega (arith, b, first_size credit names))));
+}

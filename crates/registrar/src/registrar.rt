@@ -7,7 +7,9 @@ ghost use Rattle.registrar.specs.Registry.{AreHere, AreHereBut, newest as the_ne
 ghost use Rattle.registrar.specs.Asked.{mark_refusal as the_mark_refusal, unknown_refusal, stop_refusal as the_stop_refusal, request_refusal};
 ghost use Rattle.registrar.specs.Handled.{with_view, with_stopped, with_link, without_links, links_for, handled, answered};
 ghost use Rattle.registrar.specs.Stands.{StandsIn, WhereAsked};
+ghost use Rattle.ring_names.specs.declared.numbers.CreditSpec.{CreditSpec};
 ghost use Rattle.ring_world.specs.Deaths.Event.{refusal, effect};
+ghost use Rattle.ring_world.specs.Deaths.Step.{opening};
 
 use crate::giving::{count_for, give_all};
 use crate::judging::{has_entry, has_more, is_among, is_beside, is_live, newest, view_of};
@@ -43,7 +45,8 @@ impl<I: Drop> Registrar<I> {
     /// The registrar of a group that opens with these members: none has stopped, and no link waits.
     pub fn opening(alloc: Global, names: &[Name]) -> Result<Registrar<I>, OutOfMemory>
         requires { AreOpeningNames names.now }
-        ensures { IfOk result (λ r. r ≡ founded names.now) }
+        ensures founded { IfOk result (λ r. r ≡ founded names.now) }
+        ensures stands { IfOk result (λ r. (credit : CreditSpec) → StandsIn (opening credit names.now) r) }
     {
         let view = View::opening(alloc, names)?;
         let mut views = Vec::new(alloc);
