@@ -7,6 +7,7 @@ use Rattle.group_view.specs.Since.{no_group}
 use Rattle.group_view.proofs.Rings.{is_in-append, nat_eq-same, nat_eq-not}
 use Rattle.ring_world.specs.Deaths.Machine as machine
 use Rattle.ring_world.specs.declared.phase.Ending.TheVariants.{Halted}
+use Rattle.ring_world.specs.declared.event.Event.{Event}
 use Rattle.ring_world.specs.declared.event.Event.TheVariants.{Mark, Stop, Refresh}
 use Rattle.ring_world.specs.Deaths.Machine.{Member, World, member_at, newest}
 use Rattle.ring_world.specs.Deaths.Step.{size, opening, with_view, stop_at, end_out}
@@ -18,17 +19,21 @@ use Rattle.registrar.specs.Registry.{Registry}
 use Rattle.registrar.specs.Registry as registry
 use Rattle.registrar.specs.Handled.{with_stopped}
 use Rattle.registrar.specs.Handled as handled
-use Rattle.registrar.specs.Stands.{StandsIn}
-use Rattle.registrar.proofs.Members.{IsSame, same_refreshed, stop_views, stop_many, stop_phase}
+use Rattle.registrar.specs.Stands.{StandsIn, IsOwn}
+use Rattle.registrar.proofs.Members.{IsSame, same_effect, same_refreshed, stop_views, stop_many, stop_phase}
 use Rattle.registrar.proofs.Judged.{newest_same}
 
 module _ {I : Type 0} where
-  -- with the views and phases of another state
+  -- with the views of another state, in which just those have stopped that have here
   stands_same : (w w' : World) (r : Registry I) → IsSame w w' → StandsIn w r → StandsIn w' r
   stands_same w w' r k s = record {
     views = k.views ∙ s.views;
-    stopped = λ q a b. s.stopped q a (omega (arith, b, k.many)) ∙ sym (ap is_stopped (k.phase q));
+    stopped = λ q a b. s.stopped q a (omega (arith, b, k.many)) ∙ sym (k.stopped q);
   }
+
+  -- what else members do leaves the registrar where it stands
+  pub own_stands : (w : World) (r : Registry I) (e : Event) → IsOwn e → StandsIn w r → StandsIn (effect w e) r
+  own_stands w r e h s = stands_same w (effect w e) r (same_effect w e h) s
 
   -- with a view more
   stands_view : (w : World) (r : Registry I) (g g' : Group) → g ≡ g' → StandsIn w r → StandsIn (with_view w g) (handled.with_view r g')

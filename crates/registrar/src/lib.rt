@@ -5,10 +5,12 @@
 
 mod giving;
 mod judging;
+mod laws;
 mod registrar;
 mod standing;
 #[cfg(test)]
 mod tests;
 
+pub use laws::other_events_leave_the_registrar;
 pub use registrar::Registrar;
 pub use standing::Standing;
