@@ -1,0 +1,157 @@
+-- What a member of the ring asks for is judged as the event is.
+use Rattle.std.proofs.Common.{◌≡◌, ℕ, ◌<◌, ◌≤◌, Bool, true, false, not, nat_eq, nat_lt, cond, List, length, get_or, Option, Some, None, refl, sym, ap, ◌∙◌, arith}
+use Rattle.std.specs.Prelude.{◌&&◌, ◌||◌}
+use Rattle.std.proofs.lemmas.Bool.{le-ltb}
+use Rattle.ring_names.specs.declared.reason.Reason.{Reason}
+use Rattle.ring_names.specs.declared.reason.Reason.TheVariants as reason
+use Rattle.group_view.specs.Ring.{is_in, left_in, right_in}
+use Rattle.group_view.specs.View.{Group, ids, is_live, left_of, right_of}
+use Rattle.group_view.specs.Since.{no_group, view_at}
+use Rattle.ring_world.specs.Refusal.{refuse_if, or_else}
+use Rattle.ring_world.specs.Deaths.View as ring
+use Rattle.ring_world.specs.Deaths.Machine as machine
+use Rattle.ring_world.specs.declared.phase.Phase.TheVariants.{Up}
+use Rattle.ring_world.specs.declared.event.Event.TheVariants.{Mark, Stop, Refresh}
+use Rattle.ring_world.specs.Deaths.Machine.{World, member_at, newest, runs, runs_phase}
+use Rattle.ring_world.specs.Deaths.Step.{size}
+use Rattle.ring_world.specs.Deaths.Event.{id_of, of_member, is_stopped, up_refusal, running_refusal, is_neighbour, is_still_taken, left_neighbour, at_door, refusal}
+use Rattle.ring_world.specs.Deaths.Event as event
+use Rattle.ring_world.proofs.Deaths.Happens.{IsGood}
+use Rattle.ring_world.proofs.Deaths.Refusals.{id_within}
+use Rattle.registrar.specs.Registry.{Registry, is_known}
+use Rattle.registrar.specs.Registry as registry
+use Rattle.registrar.specs.Asked.{is_left, is_beside, has_more, mark_refusal, stop_refusal, unknown_refusal}
+use Rattle.registrar.specs.Stands.{IsAsker, StandsIn, TellsTrue}
+
+-- ---- the registrar's views are those of the state
+
+module _ {I : Type 0} where
+  pub view_same : (w : World) (r : Registry I) (v : ℕ) → StandsIn w r → view_at r.views v ≡ machine.view_at w v
+  view_same w r v s = ap (λ vs. get_or vs v no_group) (sym s.views)
+
+  pub many_views : (w : World) (r : Registry I) → StandsIn w r → length r.views ≡ newest w
+  many_views w r s = let many = ap length s.views in omega (arith, many)
+
+  pub newest_same : (w : World) (r : Registry I) → StandsIn w r → registry.newest r ≡ machine.view_at w (newest w)
+  newest_same w r s = ap (view_at r.views) (many_views w r s) ∙ view_same w r (newest w) s
+
+  -- each member has an entry
+  pub knows : (w : World) (r : Registry I) (p : ℕ) → IsGood w → StandsIn w r → 1 ≤ p → p < size w → is_known r p ≡ true
+  knows w r p h s a b = ap (λ (g : Group). is_in p (ids g.entries)) (newest_same w r s) ∙ h.inv.origins p a b
+
+-- ---- the asker
+
+-- neighbours of who has an entry
+left_same : (g : Group) (x : ℕ) → is_in x (ids g.entries) ≡ true → left_of g.entries x ≡ ring.left_of g x
+left_same g x i = ap (λ b. cond b (left_in (is_live g.entries) x (ids g.entries)) x) i
+
+right_same : (g : Group) (x : ℕ) → is_in x (ids g.entries) ≡ true → right_of g.entries x ≡ ring.right_of g x
+right_same g x i = ap (λ b. cond b (right_in (is_live g.entries) x (ids g.entries)) x) i
+
+-- the asker is live in its view
+asker_stands : (w : World) (name : List ℕ) (x v : ℕ) → IsGood w → IsAsker w name x v → is_in x (ids (machine.view_at w v).entries) ≡ true
+asker_stands w name x v h a = h.inv.is_ring.stands x v (ap runs_phase a.up) (omega (arith, a.holds)) (omega (arith, a.holds, h.inv.is_ring.held x))
+
+asker_lives : (w : World) (name : List ℕ) (x v : ℕ) → IsGood w → IsAsker w name x v → is_live (machine.view_at w v).entries x ≡ true
+asker_lives w name x v h a = h.inv.is_ring.lives x v (ap runs_phase a.up) (omega (arith, a.holds)) (omega (arith, a.holds, h.inv.is_ring.held x))
+
+-- its left neighbour
+is_left_same : (w : World) (name : List ℕ) (x v d : ℕ) → IsGood w → IsAsker w name x v → is_left (machine.view_at w v) x d ≡ nat_eq d (left_neighbour w x)
+is_left_same w name x v d h a =
+    ap (nat_eq d) (left_same (machine.view_at w v) x (asker_stands w name x v h a))
+    ∙ sym (ap (λ n. nat_eq d (ring.left_of (machine.view_at w n) x)) a.holds)
+
+is_right_same : (w : World) (name : List ℕ) (x v d : ℕ) → IsGood w → IsAsker w name x v → nat_eq d (right_of (machine.view_at w v).entries x) ≡ nat_eq d (ring.right_of (machine.view_at w (member_at w x).version) x)
+is_right_same w name x v d h a =
+    ap (nat_eq d) (right_same (machine.view_at w v) x (asker_stands w name x v h a))
+    ∙ sym (ap (λ n. nat_eq d (ring.right_of (machine.view_at w n) x)) a.holds)
+
+-- and its neighbours
+beside_same : (w : World) (name : List ℕ) (x v d : ℕ) → IsGood w → IsAsker w name x v → is_beside (machine.view_at w v) x d ≡ is_neighbour w x d
+beside_same w name x v d h a =
+    ap (λ b. b && (is_left (machine.view_at w v) x d || nat_eq d (right_of (machine.view_at w v).entries x))) (asker_lives w name x v h a)
+    ∙ ap (λ b. b || nat_eq d (right_of (machine.view_at w v).entries x)) (is_left_same w name x v d h a)
+    ∙ ap (λ b. nat_eq d (left_neighbour w x) || b) (is_right_same w name x v d h a)
+
+-- where the first are one, and the second are so where the first hold
+and_same : (a a' b b' : Bool) → a ≡ a' → (a ≡ true → b ≡ b') → (a && b) ≡ (a' && b')
+and_same a a' b b' e k = by_case a k ∙ ap (λ c. c && b') e
+  where
+    by_case : (c : Bool) → (c ≡ true → b ≡ b') → (c && b) ≡ (c && b')
+    by_case true k = k refl
+    by_case false k = refl
+
+-- a member that is up is judged by what comes later
+up_is : (w : World) (x : ℕ) (later : Option Reason) → (member_at w x).phase ≡ Up → up_refusal w x later ≡ later
+up_is w x later e = ap (λ f. or_else (refuse_if (is_stopped f) reason.Stopped) (or_else (refuse_if (machine.is_waiting f) reason.Waiting) later)) e
+
+-- the conditions of a mark but for the names
+abbrev pub refusals : Bool → Bool → Bool → Bool → Option Reason
+refusals n l t m = or_else (refuse_if (not n) reason.NotNeighbour) (or_else (refuse_if (not l) reason.AlreadyDead) (or_else (refuse_if (not t) reason.NotStopped) (refuse_if m reason.LinkNotEnded)))
+
+-- ---- requests
+
+module _ {I : Type 0} where
+  left_asked : (w : World) (r : Registry I) (name : List ℕ) (x v d : ℕ) → IsGood w → StandsIn w r → IsAsker w name x v → is_left (view_at r.views v) x d ≡ nat_eq d (left_neighbour w x)
+  left_asked w r name x v d h s a = ap (λ g. is_left g x d) (view_same w r v s) ∙ is_left_same w name x v d h a
+
+  pub mark_judged : (w : World) (r : Registry I) (x d v : ℕ) (has_current : Bool) (name dead_name : List ℕ) → IsGood w → StandsIn w r
+      → IsAsker w name x v → id_of w dead_name ≡ Some d → TellsTrue w r x d v has_current
+      → mark_refusal r x d v has_current ≡ refusal w (Mark name dead_name)
+  mark_judged w r x d v has_current name dead_name h s a named tells =
+      ap (λ b. or_else (refuse_if (not b) reason.UnknownMember) (or_else (refuse_if (not (is_known r d)) reason.UnknownMember) (refusals n l t m))) (knows w r x h s from.0 from.1)
+      ∙ ap (λ b. or_else (refuse_if (not b) reason.UnknownMember) (refusals n l t m)) (knows w r d h s to.0 to.1)
+      ∙ ap (λ b. refusals b l t m) (ap (λ g. is_beside g x d) (view_same w r v s) ∙ beside_same w name x v d h a)
+      ∙ ap (λ b. refusals (is_neighbour w x d) b t m) (ap (λ (g : Group). is_live g.entries d) (newest_same w r s))
+      ∙ ap (λ b. refusals (is_neighbour w x d) (ring.is_live (machine.view_at w (newest w)) d) b m) (s.stopped d to.0 to.1)
+      ∙ ap (refusals (is_neighbour w x d) (ring.is_live (machine.view_at w (newest w)) d) (is_stopped (member_at w d).phase))
+      (and_same (is_left (view_at r.views v) x d) (nat_eq d (left_neighbour w x)) _ _ (left_asked w r name x v d h s a) tells)
+      ∙ sym (ap (λ o. of_member o (λ y. up_refusal w y (of_member (id_of w dead_name) (event.mark_refusal w y)))) a.named
+      ∙ up_is w x (of_member (id_of w dead_name) (event.mark_refusal w x)) a.up
+      ∙ ap (λ o. of_member o (event.mark_refusal w x)) named)
+    where
+      from : (1 ≤ x) × (x < size w)
+      from = id_within w name x a.named
+
+      to : (1 ≤ d) × (d < size w)
+      to = id_within w dead_name d named
+
+      n : Bool
+      n = is_beside (view_at r.views v) x d
+
+      l : Bool
+      l = is_live (registry.newest r).entries d
+
+      t : Bool
+      t = is_in d r.stopped
+
+      m : Bool
+      m = has_more r.links (view_at r.views v) x d has_current
+
+  pub stop_judged : (w : World) (r : Registry I) (x : ℕ) (name : List ℕ) → IsGood w → StandsIn w r → id_of w name ≡ Some x → stop_refusal r x ≡ refusal w (Stop name)
+  stop_judged w r x name h s named =
+      ap (λ b. or_else (refuse_if (not b) reason.UnknownMember) (refuse_if (is_in x r.stopped) reason.Stopped)) (knows w r x h s from.0 from.1)
+      ∙ ap (λ b. refuse_if b reason.Stopped) (s.stopped x from.0 from.1)
+      ∙ alone (is_stopped (member_at w x).phase)
+      ∙ sym (ap (λ o. of_member o (λ y. running_refusal w y None)) named)
+    where
+      from : (1 ≤ x) × (x < size w)
+      from = id_within w name x named
+
+      alone : (b : Bool) → refuse_if b reason.Stopped ≡ or_else (refuse_if b reason.Stopped) None
+      alone true = refl
+      alone false = refl
+
+  pub refresh_judged : (w : World) (r : Registry I) (x v : ℕ) (name : List ℕ) → IsGood w → StandsIn w r → IsAsker w name x v → unknown_refusal r x ≡ refusal w (Refresh name (newest w))
+  refresh_judged w r x v name h s a =
+      ap (λ b. refuse_if (not b) reason.UnknownMember) (knows w r x h s from.0 from.1)
+      ∙ sym (ap (λ o. of_member o (λ y. up_refusal w y (event.refresh_refusal w y (newest w)))) a.named
+      ∙ up_is w x (event.refresh_refusal w x (newest w)) a.up
+      ∙ ap (λ b. refuse_if (b || nat_lt (newest w) (newest w)) out) (le-ltb (newest w) (member_at w x).version (h.inv.is_ring.held x))
+      ∙ ap (λ b. refuse_if b out) (le-ltb (newest w) (newest w) (omega arith)))
+    where
+      from : (1 ≤ x) × (x < size w)
+      from = id_within w name x a.named
+
+      out : Reason
+      out = reason.ViewOutOfRange (newest w) (member_at w x).version (newest w)

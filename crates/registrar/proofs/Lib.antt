@@ -1,0 +1,6 @@
+pub mod Entries
+pub mod Members
+pub mod Judged
+pub mod Steps
+pub mod Lifts
+pub mod Here

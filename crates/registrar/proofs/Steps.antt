@@ -1,0 +1,90 @@
+-- Where nothing refuses it, what is done for a request is the event.
+use Rattle.std.proofs.Common.{◌≡◌, ℕ, ◌+◌, ◌<◌, ◌≤◌, Bool, true, false, cond, List, ◌∷◌, [], ◌++◌, Some, refl, sym, ap, subst, ◌∙◌, arith}
+use Rattle.group_view.specs.Ring.{is_in}
+use Rattle.group_view.specs.View.{Group}
+use Rattle.group_view.specs.Change.{marked}
+use Rattle.group_view.specs.Since.{no_group}
+use Rattle.group_view.proofs.Rings.{is_in-append, nat_eq-same, nat_eq-not}
+use Rattle.ring_world.specs.Deaths.Machine as machine
+use Rattle.ring_world.specs.declared.phase.Ending.TheVariants.{Halted}
+use Rattle.ring_world.specs.declared.event.Event.{Event}
+use Rattle.ring_world.specs.declared.event.Event.TheVariants.{Mark, Stop, Refresh}
+use Rattle.ring_world.specs.Deaths.Machine.{Member, World, member_at, newest}
+use Rattle.ring_world.specs.Deaths.Step.{size, opening, with_view, stop_at, end_out}
+use Rattle.ring_world.specs.Deaths.Event.{id_of, is_stopped, at_found, refreshed, effect}
+use Rattle.ring_world.proofs.Deaths.Refusals.{id_within}
+use Rattle.ring_names.specs.declared.numbers.CreditSpec.{CreditSpec}
+use Rattle.ring_world.proofs.Deaths.First.{first_at, first_size}
+use Rattle.registrar.specs.Registry.{Registry}
+use Rattle.registrar.specs.Registry as registry
+use Rattle.registrar.specs.Handled.{with_stopped}
+use Rattle.registrar.specs.Handled as handled
+use Rattle.registrar.specs.Stands.{StandsIn, IsOwn}
+use Rattle.registrar.proofs.Members.{IsSame, same_effect, same_refreshed, stop_views, stop_many, stop_phase}
+use Rattle.registrar.proofs.Judged.{newest_same}
+
+module _ {I : Type 0} where
+  -- with the views of another state, in which just those have stopped that have here
+  stands_same : (w w' : World) (r : Registry I) → IsSame w w' → StandsIn w r → StandsIn w' r
+  stands_same w w' r k s = record {
+    views = k.views ∙ s.views;
+    stopped = λ q a b. s.stopped q a (omega (arith, b, k.many)) ∙ sym (k.stopped q);
+  }
+
+  -- what else members do leaves the registrar where it stands
+  pub own_stands : (w : World) (r : Registry I) (e : Event) → IsOwn e → StandsIn w r → StandsIn (effect w e) r
+  own_stands w r e h s = stands_same w (effect w e) r (same_effect w e h) s
+
+  -- with a view more
+  stands_view : (w : World) (r : Registry I) (g g' : Group) → g ≡ g' → StandsIn w r → StandsIn (with_view w g) (handled.with_view r g')
+  stands_view w r g g' e s = record {
+    views = ap (λ vs. vs ++ g ∷ []) s.views ∙ ap (λ k. no_group ∷ (r.views ++ k ∷ [])) e;
+    stopped = s.stopped;
+  }
+
+  pub mark_stands : (w : World) (r : Registry I) (x d : ℕ) (name dead_name : List ℕ) → StandsIn w r → id_of w name ≡ Some x → id_of w dead_name ≡ Some d
+      → StandsIn (effect w (Mark name dead_name)) (handled.with_view r (marked (registry.newest r) d))
+  mark_stands w r x d name dead_name s from to =
+      subst (λ k. StandsIn k (handled.with_view r (marked (registry.newest r) d))) (sym is)
+      (stands_same next (refreshed next x (newest w + 1)) _ (same_refreshed next x (newest w + 1))
+      (stands_view w r (marked (machine.view_at w (newest w)) d) (marked (registry.newest r) d) (ap (λ g. marked g d) (sym (newest_same w r s))) s))
+    where
+      next : World
+      next = with_view w (marked (machine.view_at w (newest w)) d)
+
+      is : effect w (Mark name dead_name) ≡ refreshed next x (newest w + 1)
+      is =
+          ap (λ o. at_found o w (λ y. at_found (id_of w dead_name) w (λ e. refreshed (with_view w (marked (machine.view_at w (newest w)) e)) y (newest w + 1)))) from
+          ∙ ap (λ o. at_found o w (λ e. refreshed (with_view w (marked (machine.view_at w (newest w)) e)) x (newest w + 1))) to
+
+  pub refresh_stands : (w : World) (r : Registry I) (x v : ℕ) (name : List ℕ) → StandsIn w r → id_of w name ≡ Some x → StandsIn (effect w (Refresh name v)) r
+  refresh_stands w r x v name s from =
+      subst (λ k. StandsIn k r) (sym (ap (λ o. at_found o w (λ y. refreshed w y v)) from)) (stands_same w (refreshed w x v) r (same_refreshed w x v) s)
+
+  pub stop_stands : (w : World) (r : Registry I) (x : ℕ) (name : List ℕ) → StandsIn w r → id_of w name ≡ Some x → StandsIn (effect w (Stop name)) (with_stopped r x)
+  stop_stands w r x name s from =
+      subst (λ k. StandsIn k (with_stopped r x)) (sym (ap (λ o. at_found o w (λ y. end_out Halted (stop_at w y) (member_at w y).out)) from)) (record {
+        views = stop_views w x (member_at w x).out ∙ s.views;
+        stopped = λ q a b. stop_phase (λ k f. 1 ≤ k → k < size w → is_in k (r.stopped ++ x ∷ []) ≡ is_stopped f) w x q (member_at w x).out there
+            (λ c e. is_in-append x r.stopped (x ∷ []) ∙ last (is_in x r.stopped) ∙ refl)
+            (λ ne c e. is_in-append q r.stopped (x ∷ []) ∙ ap (λ t. cond (is_in q r.stopped) true (cond t true false)) (nat_eq-not q x ne) ∙ rest (is_in q r.stopped) ∙ s.stopped q c e)
+            a (omega (arith, b, stop_many w x (member_at w x).out));
+      })
+    where
+      there : x < size w
+      there = (id_within w name x from).1
+
+      last : (t : Bool) → cond t true (is_in x (x ∷ [])) ≡ true
+      last true = refl
+      last false = ap (λ t. cond t true false) (nat_eq-same x)
+
+      rest : (t : Bool) → cond t true false ≡ t
+      rest true = refl
+      rest false = refl
+
+-- at the opening nobody has stopped
+pub opening_stands : {I : Type 0} (credit : CreditSpec) (names : List (List ℕ)) → StandsIn {I = I} (opening credit names) (registry.founded names)
+opening_stands credit names = record {
+  views = refl;
+  stopped = λ q a b. sym (ap (λ (m : Member). is_stopped m.phase) (first_at credit names q a (omega (arith, b, first_size credit names))));
+}

@@ -1,0 +1,5 @@
+pub mod Registry
+pub mod Asked
+pub mod Handled
+pub mod Kept
+pub mod Stands

@@ -1,0 +1,60 @@
+//! Giving links to their receivers.
+ghost use Rattle.std.specs.Prelude.{◌≡◌, ◌+◌, ◌≤◌, ◌++◌, length};
+ghost use Rattle.std.specs.Vec.{vec_len, vec_capacity};
+ghost use Rattle.registrar.specs.Registry.{beside};
+ghost use Rattle.registrar.specs.Handled.{deposited, links_for};
+
+use crate::standing::Standing;
+use group_view::Deposited;
+use ring_names::MemberId;
+
+/// How many links wait for a member.
+pub(crate) fn count_for<I>(links: &[Standing<I>], by: MemberId) -> usize
+    ensures { result ≡ length (links_for by.0 links.now) }
+{
+    let mut count = 0;
+    for standing in links {
+        if standing.is_for(by) && standing.link.is_some() {
+            count += 1;
+        }
+    }
+    count
+}
+
+/// Puts a link behind those that were given; one that is lent isn't there.
+fn give<I: Drop>(standing: Standing<I>, given: &mut Vec<Deposited<I>>)
+    requires { vec_len given.old + length (deposited standing.name standing.link) ≤ vec_capacity given.old }
+    ensures items { given.new.items ≡ given.old.items ++ deposited standing.name standing.link }
+    ensures len { vec_len given.new ≡ vec_len given.old + length (deposited standing.name standing.link) }
+    ensures capacity { vec_capacity given.new ≡ vec_capacity given.old }
+{
+    let name = standing.name;
+    if let Some(link) = standing.link {
+        given.push_reserved(Deposited {
+            from: name.from,
+            view: name.view,
+            kind: name.kind,
+            link,
+        });
+    }
+}
+
+/// Moves the links that wait for a member behind those that were given, for which there is room.
+pub(crate) fn give_all<I: Drop>(
+    links: &mut Vec<Standing<I>>,
+    by: MemberId,
+    given: &mut Vec<Deposited<I>>,
+)
+    requires { vec_len given.old + length (links_for by.0 links.old.items) ≤ vec_capacity given.old }
+    ensures others { links.new.items ≡ beside by.0 links.old.items }
+    ensures given { given.new.items ≡ given.old.items ++ links_for by.0 links.old.items }
+{
+    let mut place = 0;
+    while place < links.len() {
+        if links[place].is_for(by) {
+            give(links.remove(place), given);
+        } else {
+            place += 1;
+        }
+    }
+}

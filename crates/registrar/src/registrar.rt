@@ -1,0 +1,341 @@
+//! The registrar.
+ghost use Rattle.std.specs.Prelude.{◌≡◌, IfOk, OnOk, IfErr, OnErr, IsSome, Some, None, length};
+ghost use Rattle.ring_names.specs.declared.reason.Reason.{Reason};
+ghost use Rattle.group_view.specs.Change.{AreOpeningNames, marked, mark_refusal as group_refusal};
+ghost use Rattle.group_view.specs.Ring.{is_in};
+ghost use Rattle.registrar.specs.Registry.{AreHere, AreHereBut, newest as the_newest, founded, is_known, name_in, end_in, end_is};
+ghost use Rattle.registrar.specs.Asked.{mark_refusal as the_mark_refusal, unknown_refusal, stop_refusal as the_stop_refusal, request_refusal};
+ghost use Rattle.registrar.specs.Handled.{with_view, with_stopped, with_link, without_links, links_for, handled, answered};
+ghost use Rattle.registrar.specs.Stands.{StandsIn, WhereAsked};
+ghost use Rattle.ring_names.specs.declared.numbers.CreditSpec.{CreditSpec};
+ghost use Rattle.ring_world.specs.Deaths.Event.{refusal, effect};
+ghost use Rattle.ring_world.specs.Deaths.Step.{opening};
+
+use crate::giving::{count_for, give_all};
+use crate::judging::{has_entry, has_more, is_among, is_beside, is_live, newest, view_of};
+use crate::standing::Standing;
+use group_view::{Answer, Deposited, LinkName, Request, View};
+use ring_names::{Items, MemberId, Name, OutOfMemory, Reason};
+use std::alloc::Global;
+use std::marker::Model;
+
+/// The party that keeps the group, as `gm` keeps it in one registry: it is asked one request after another,
+/// so that all changes of membership have one order. It has every view that the group ever had, so that it
+/// can judge a member by the view that this one holds.
+#[derive(Drop)]
+pub struct Registrar<I> {
+    views: Vec<View>,
+    stopped: Vec<MemberId>,
+    links: Vec<Standing<I>>,
+}
+
+impl<I> Model for Registrar<I> {
+    ghost use Rattle.registrar.specs.Registry.{Registry};
+
+    ghost Value = { Registry I };
+
+    ghost use Rattle.registrar.specs.Kept.{registry_of, KeepsRegistry};
+
+    ghost view = { registry_of };
+
+    ghost invariant = { KeepsRegistry };
+}
+
+impl<I: Drop> Registrar<I> {
+    /// The registrar of a group that opens with these members: none has stopped, and no link waits.
+    pub fn opening(alloc: Global, names: &[Name]) -> Result<Registrar<I>, OutOfMemory>
+        requires { AreOpeningNames names.now }
+        ensures founded { IfOk result (λ r. r ≡ founded names.now) }
+        ensures stands { IfOk result (λ r. (credit : CreditSpec) → StandsIn (opening credit names.now) r) }
+    {
+        let view = View::opening(alloc, names)?;
+        let mut views = Vec::new(alloc);
+        views.push(view)?;
+        Ok(Registrar {
+            views,
+            stopped: Vec::new(alloc),
+            links: Vec::new(alloc),
+        })
+    }
+
+    /// The newest view, whose version is the number of all views. It wants no memory.
+    pub fn view(&self) -> &View
+        ensures newest { result.now ≡ the_newest self.now }
+        ensures numbered { result.now.version ≡ length self.now.views }
+    {
+        newest(&self.views)
+    }
+
+    /// Lends the end of the link at a place, counted from 0 among the links that wait, the oldest first:
+    /// none where no link stands there, and where it is lent. The caller gives it back to that place before
+    /// the next request. It wants no memory.
+    pub fn lend_in(&mut self, place: u32) -> Option<I>
+        ensures lent { result ≡ end_in self.old place }
+        ensures stands { self.new ≡ end_is self.old place None }
+        ensures found { IsSome result → IsSome (name_in self.new place) }
+        ensures away { end_in self.new place ≡ None }
+        ensures others { AreHere self.old.links → AreHereBut place self.new.links }
+    {
+        match self.links.get_mut(place as usize) {
+            Some(standing) => standing.link.take(),
+            None => None,
+        }
+    }
+
+    /// Gives an end back to the place that it was lent from. It wants no memory.
+    pub fn give_in(&mut self, place: u32, link: I)
+        requires stands { IsSome (name_in self.old place) }
+        requires lent { end_in self.old place ≡ None }
+        ensures stands { self.new ≡ end_is self.old place (Some link) }
+        ensures here { AreHereBut place self.old.links → AreHere self.new.links }
+    {
+        let standing = &mut self.links[place as usize];
+        standing.link = Some(link);
+    }
+
+    /// The name of the link at a place, lent or not: none where no link stands there. It wants no memory.
+    pub fn in_name(&self, place: u32) -> Option<LinkName>
+        ensures { result ≡ name_in self.now place }
+    {
+        self.links.get(place as usize).map(|standing| standing.name)
+    }
+
+    /// Does what a member asks, or answers `No` with the first condition that fails; then nothing has
+    /// changed, and a link that was to be deposited is dropped. `UnknownMember` comes of each request that
+    /// names an id without an entry in the newest view. `Mark` is judged by the view that the asker holds:
+    /// `NotNeighbour` where the asker isn't live there, as in a version that was never made, or the other
+    /// isn't its neighbour; then `AlreadyDead` by the newest view, `NotStopped` where the other gave no
+    /// notice, and `LinkNotEnded` where it is the left neighbour and the asker has more to take from it: by
+    /// its own word, or since such a link waits here for it. `Stopped` is refused where the notice was given
+    /// before. Only a request that nothing refuses wants memory, and without it everything stands as it
+    /// stood, and the request comes back.
+    pub fn handle(&mut self, request: Request<I>) -> Result<Answer<I>, (Request<I>, OutOfMemory)>
+        requires { AreHere self.old.links }
+        ensures refused { (r : Reason) → request_refusal self.old request ≡ Some r
+            → (result ≡ Ok (Answer.No r)) × (self.new ≡ self.old) }
+        ensures ok { request_refusal self.old request ≡ None
+            → OnOk result (self.new ≡ handled self.old request) }
+        ensures answer { request_refusal self.old request ≡ None
+            → IfOk result (λ a. a ≡ answered self.old request) }
+        ensures err { OnErr result (self.new ≡ self.old) }
+        ensures back { IfErr result (λ e. e.0 ≡ request) }
+        ensures memory { OnErr result (request_refusal self.old request ≡ None) }
+        ensures here { AreHere self.new.links }
+
+        // Wherever the registrar stands, what a member of the ring asks for is the ring's event.
+        ensures steps { WhereAsked self.old request (λ w e. refusal w e ≡ None
+            → OnOk result (StandsIn (effect w e) self.new)) }
+        ensures not_enabled { WhereAsked self.old request (λ w e. (r : Reason) → refusal w e ≡ Some r
+            → result ≡ Ok (Answer.No r)) }
+    {
+        match self.refusal(&request) {
+            Some(reason) => Ok(Answer::No(reason)),
+            None => self.fulfil(request),
+        }
+    }
+
+    fn knows(&self, id: MemberId) -> bool
+        ensures { result ≡ is_known self.now id.0 }
+    {
+        has_entry(self.view(), id)
+    }
+
+    fn has_noted(&self, id: MemberId) -> bool
+        ensures { result ≡ is_in id.0 self.now.stopped }
+    {
+        is_among(&self.stopped, id)
+    }
+
+    /// The first condition of a request that fails.
+    fn refusal(&self, request: &Request<I>) -> Option<Reason>
+        ensures { result ≡ request_refusal self.now request.now }
+    {
+        match request {
+            Request::Mark {
+                by,
+                dead,
+                view,
+                has_current,
+            } => self.mark_refusal(*by, *dead, *view, *has_current),
+            Request::Refresh { by } => self.unknown_refusal(*by),
+            Request::Stopped { by } => self.stop_refusal(*by),
+            Request::Deposit { by, to, .. } => {
+                self.unknown_refusal(*by).or(self.unknown_refusal(*to))
+            }
+            Request::Collect { by } => self.unknown_refusal(*by),
+        }
+    }
+
+    fn unknown_refusal(&self, by: MemberId) -> Option<Reason>
+        ensures { result ≡ unknown_refusal self.now by.0 }
+    {
+        if self.knows(by) {
+            None
+        } else {
+            Some(Reason::UnknownMember)
+        }
+    }
+
+    fn stop_refusal(&self, by: MemberId) -> Option<Reason>
+        ensures { result ≡ the_stop_refusal self.now by.0 }
+    {
+        if !self.knows(by) {
+            return Some(Reason::UnknownMember);
+        }
+        if self.has_noted(by) {
+            return Some(Reason::Stopped);
+        }
+        None
+    }
+
+    fn mark_refusal(
+        &self,
+        by: MemberId,
+        dead: MemberId,
+        version: u32,
+        has_current: bool,
+    ) -> Option<Reason>
+        ensures { result ≡ the_mark_refusal self.now by.0 dead.0 version has_current }
+    {
+        if !self.knows(by) || !self.knows(dead) {
+            return Some(Reason::UnknownMember);
+        }
+        let Some(held) = view_of(&self.views, version) else {
+            return Some(Reason::NotNeighbour);
+        };
+        if !is_beside(held, by, dead) {
+            return Some(Reason::NotNeighbour);
+        }
+        if !is_live(self.view(), dead) {
+            return Some(Reason::AlreadyDead);
+        }
+        if !self.has_noted(dead) {
+            return Some(Reason::NotStopped);
+        }
+        if has_more(&self.links, held, by, dead, has_current) {
+            return Some(Reason::LinkNotEnded);
+        }
+        None
+    }
+
+    /// Does what is asked, which nothing refuses.
+    fn fulfil(&mut self, request: Request<I>) -> Result<Answer<I>, (Request<I>, OutOfMemory)>
+        requires { request_refusal self.old request ≡ None }
+        ensures ok { OnOk result (self.new ≡ handled self.old request) }
+        ensures answer { IfOk result (λ a. a ≡ answered self.old request) }
+        ensures err { OnErr result (self.new ≡ self.old) }
+        ensures back { IfErr result (λ e. e.0 ≡ request) }
+    {
+        match request {
+            Request::Mark {
+                by,
+                dead,
+                view,
+                has_current,
+            } => match self.mark(dead) {
+                Ok(next) => Ok(Answer::Viewed(next)),
+                Err(fault) => Err((
+                    Request::Mark {
+                        by,
+                        dead,
+                        view,
+                        has_current,
+                    },
+                    fault,
+                )),
+            },
+            Request::Refresh { by } => match self.view().copy() {
+                Ok(view) => Ok(Answer::Viewed(view)),
+                Err(fault) => Err((Request::Refresh { by }, fault)),
+            },
+            Request::Stopped { by } => match self.note(by) {
+                Ok(()) => Ok(Answer::Noted),
+                Err(fault) => Err((Request::Stopped { by }, fault)),
+            },
+            Request::Deposit {
+                by,
+                to,
+                view,
+                kind,
+                link,
+            } => match self.deposit(
+                LinkName {
+                    from: by,
+                    to,
+                    view,
+                    kind,
+                },
+                link,
+            ) {
+                Ok(()) => Ok(Answer::Noted),
+                Err((link, fault)) => Err((
+                    Request::Deposit {
+                        by,
+                        to,
+                        view,
+                        kind,
+                        link,
+                    },
+                    fault,
+                )),
+            },
+            Request::Collect { by } => match self.collect(by) {
+                Ok(links) => Ok(Answer::Links(links)),
+                Err(fault) => Err((Request::Collect { by }, fault)),
+            },
+        }
+    }
+
+    /// A view follows in which a member is dead.
+    fn mark(&mut self, dead: MemberId) -> Result<View, OutOfMemory>
+        requires { group_refusal (the_newest self.old).entries dead.0 ≡ None }
+        ensures ok { OnOk result (self.new ≡ with_view self.old (marked (the_newest self.old) dead.0)) }
+        ensures answer { IfOk result (λ view. view ≡ marked (the_newest self.old) dead.0) }
+        ensures err { OnErr result (self.new ≡ self.old) }
+    {
+        let mut next = self.view().copy()?;
+        if next.mark_dead(dead).is_err() {
+            unreachable!()
+        }
+        let answer = next.copy()?;
+        self.views.push(next)?;
+        Ok(answer)
+    }
+
+    /// A member gave notice that it stopped.
+    fn note(&mut self, by: MemberId) -> Result<(), OutOfMemory>
+        ensures ok { OnOk result (self.new ≡ with_stopped self.old by.0) }
+        ensures err { OnErr result (self.new ≡ self.old) }
+    {
+        self.stopped.push(by)?;
+        Ok(())
+    }
+
+    /// A link waits behind the others.
+    fn deposit(&mut self, name: LinkName, link: I) -> Result<(), (I, OutOfMemory)>
+        ensures ok { OnOk result (self.new ≡ with_link self.old (record { name = name; link = Some link })) }
+        ensures err { OnErr result (self.new ≡ self.old) }
+        ensures back { IfErr result (λ e. e.0 ≡ link) }
+    {
+        if self.links.reserve(1).is_err() {
+            return Err((link, OutOfMemory));
+        }
+        self.links.push_reserved(Standing {
+            name,
+            link: Some(link),
+        });
+        Ok(())
+    }
+
+    /// The links that wait for a member go to it.
+    fn collect(&mut self, by: MemberId) -> Result<Items<Deposited<I>>, OutOfMemory>
+        ensures ok { OnOk result (self.new ≡ without_links self.old by.0) }
+        ensures answer { IfOk result (λ links. links ≡ links_for by.0 self.old.links) }
+        ensures err { OnErr result (self.new ≡ self.old) }
+    {
+        let alloc = *self.links.allocator();
+        let mut given = Vec::with_capacity(alloc, count_for(&self.links, by))?;
+        give_all(&mut self.links, by, &mut given);
+        Ok(Items::from_vec(given))
+    }
+}
