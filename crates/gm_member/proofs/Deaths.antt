@@ -1,0 +1,2 @@
+-- The tie of a member to the ring whose members may stop.
+pub mod Fit

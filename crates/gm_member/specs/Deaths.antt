@@ -1,0 +1,4 @@
+-- A member of the ring whose members may stop.
+pub mod Held
+pub mod News
+pub mod Stands
