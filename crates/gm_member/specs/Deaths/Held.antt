@@ -131,12 +131,13 @@ published_held h m = record h { rows = slice_set h.rows (h.id - 1) (published_ro
 abbrev pub has_nothing_new : List Row → Outgoing → Bool
 has_nothing_new rows o = list_all (λ p. is_sent (known_at rows p) (numbers_of o.sent p)) places
 
--- a member puts only on a link with credit, and only where some number differs from those last sent
+-- something is put only on a link with credit, and only where some number differs from those last sent
+abbrev pub out_refused : List Row → Outgoing → Option Reason
+out_refused rows o = or_else (refuse_if (is_blocked o.credit) reason.NoCredit) (refuse_if (has_nothing_new rows o) reason.NothingNew)
+
+-- a member puts on the link on which it sends
 abbrev pub put_refused : Held → Option Reason
-put_refused h =
-    up_refused h (on_some h.out reason.NoOutLink (λ o.
-    or_else (refuse_if (is_blocked o.credit) reason.NoCredit)
-    (refuse_if (has_nothing_new h.rows o) reason.NothingNew)))
+put_refused h = up_refused h (on_some h.out reason.NoOutLink (out_refused h.rows))
 
 -- the numbers of each origin in the next packet
 abbrev pub next_sent : List Row → Outgoing → List Numbers

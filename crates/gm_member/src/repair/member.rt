@@ -1,0 +1,295 @@
+//! A member of a ring whose members may stop.
+ghost use Rattle.std.specs.Prelude.{◌≡◌, ◌+◌, ◌≤◌, ◌<◌};
+ghost use Rattle.std.specs.Vec.{vec_len, vec_capacity};
+ghost use Rattle.std.specs.Prelude.{true};
+ghost use Rattle.group_view.specs.Ring.{is_in};
+ghost use Rattle.ring_world.specs.Deaths.View.{ids};
+ghost use Rattle.gm_member.specs.Deaths.View.{count_of};
+
+use crate::fault::MemberFault;
+use crate::known::{Known, nothing_known, nothing_sent, push_at};
+use crate::packet::{Load, Packet};
+use crate::repair::links::{InLink, OutLink};
+use crate::repair::rows::accept_all;
+use crate::repair::views::{left, right, since};
+use crate::taken::Taken;
+use credit_flow::{CreditIn, CreditOut};
+use group_view::{LinkName, View};
+use ordered_link::{EndReason, LinkIn, LinkPair};
+use ring_names::{CreditSpec, MemberId, Message, Name, OutOfMemory, Reason};
+use ring_world::Phase;
+use std::alloc::Global;
+
+/// How many members a ring ever admits.
+const MOST_MEMBERS: usize = 64;
+
+/// A member of the ring, as a process of `gm`. It has a view of the group, and the messages of every origin that it
+/// has heard of, its own among them. It sends on one link and takes from one, and further links may stand at its
+/// door.
+#[derive(Drop)]
+pub struct Member<O, I> {
+    alloc: Global,
+    name: Name,
+    id: MemberId,
+    phase: Phase,
+    view: View,
+    known: Vec<Known>,
+    credit: CreditSpec,
+    out: Option<OutLink<O>>,
+    current: Option<InLink<I>>,
+    door: Vec<InLink<I>>,
+    asked: bool,
+    old_outs: Vec<(LinkName, O)>,
+    old_ins: Vec<(LinkName, I)>,
+    ghost each_origin: { vec_len known ≡ 64 },
+    ghost own: { (1 ≤ id.0) × (id.0 ≤ 64) },
+    ghost stands: { is_in id.0 (ids view) ≡ true },
+    ghost room_in: { vec_len old_ins + vec_len door + count_of current ≤ vec_capacity old_ins },
+    ghost room_out: { vec_len old_outs + count_of out ≤ vec_capacity old_outs },
+}
+
+impl<O: LinkPair<Load, In = I>, I: LinkIn<Load> + Drop> Member<O, I> {
+    ghost use Rattle.std.specs.Prelude.{◌≡◌, ◌⊎◌, ◌+◌, ◌-◌, ◌≤◌, ◌∷◌, [], OnOk, OnErr, IfOk, IfErr, IfSome, IfNone, IsErrOf, IsSome, None, Some, Ok, Err, length, false, true, Option, replicate};
+    ghost use Rattle.ring_names.specs.declared.reason.Reason.{Reason};
+    ghost use Rattle.ring_world.specs.World.{most_members};
+    ghost use Rattle.ring_world.specs.Deaths.View.{ids};
+    ghost use Rattle.group_view.specs.Ring.{is_in};
+    ghost use Rattle.gm_member.specs.Held.{Parcel};
+    ghost use Rattle.gm_member.specs.Deaths.Ends.{IsPutFault};
+    ghost use Rattle.gm_member.specs.Deaths.Held.{founded, known_at, active_refused, up_refused, published_held, put_refused, put_held};
+    ghost use Rattle.gm_member.specs.Deaths.Shown.{Ends, held_of, ends_of, out_name_of, OutIsReady, PutsOn, LooksOut};
+
+    /// A member of the ring's opening, which has published and heard nothing. The caller gives its id in the ring, the
+    /// view in which the ring opens, the credit of the ring's links, the end of the link to its right neighbour and
+    /// the end of the link from its left neighbour. Without memory the ends are dropped.
+    pub fn founding(
+        alloc: Global,
+        name: Name,
+        id: MemberId,
+        view: View,
+        credit: CreditSpec,
+        out: O,
+        link: I,
+    ) -> Result<Member<O, I>, OutOfMemory>
+        requires from_one { 1 ≤ id.0 }
+        requires few { id.0 ≤ most_members }
+        requires stands { is_in id.0 (ids view) ≡ true }
+        ensures held { IfOk result (λ m. held_of m ≡ founded credit name id.0 view) }
+        ensures ends { IfOk result (λ m. ends_of m
+            ≡ record { out = Some out; kept = None; link = Some link; door = []; old_outs = []; old_ins = [] }) }
+    {
+        let known = nothing_known(alloc, MOST_MEMBERS)?;
+        let sent = nothing_sent(alloc, MOST_MEMBERS)?;
+        let old_outs = Vec::with_capacity(alloc, 1)?;
+        let old_ins = Vec::with_capacity(alloc, 1)?;
+        let to = right(&view, id);
+        let from = left(&view, id);
+        let opened = view.version;
+        Ok(Member {
+            alloc,
+            name,
+            id,
+            phase: Phase::Up,
+            view,
+            known,
+            credit,
+            out: Some(OutLink {
+                to,
+                opened,
+                fresh: true,
+                sent,
+                credit: CreditOut::new(credit),
+                kept: None,
+                end: Some(out),
+            }),
+            current: Some(InLink {
+                from,
+                opened,
+                counted: CreditIn::new(credit),
+                end: Some(link),
+            }),
+            door: Vec::new(alloc),
+            asked: false,
+            old_outs,
+            old_ins,
+        })
+    }
+
+    /// The member's name.
+    pub fn name(&self) -> &Name
+        ensures { result.now ≡ (held_of self.now).name }
+    {
+        &self.name
+    }
+
+    /// Its id in the ring.
+    pub fn id(&self) -> MemberId
+        ensures { result.0 ≡ (held_of self.now).id }
+    {
+        self.id
+    }
+
+    /// Where it stands: up, or stopped.
+    pub fn phase(&self) -> Phase
+        ensures { result ≡ (held_of self.now).phase }
+    {
+        self.phase
+    }
+
+    /// Its view of the group.
+    pub fn view(&self) -> &View
+        ensures { result.now ≡ (held_of self.now).view }
+    {
+        &self.view
+    }
+
+    /// The messages of an origin that the member has received, in order; of itself all that it has
+    /// published. None of an id that no member has.
+    pub fn heard(&self, of: MemberId) -> &[Message]
+        requires { 1 ≤ of.0 }
+        ensures { result.now ≡ (known_at (held_of self.now).rows (of.0 - 1)).heard }
+    {
+        match self.known.get(of.0 as usize - 1) {
+            Some(row) => &row.all,
+            None => &[],
+        }
+    }
+
+    /// Up to which number its own messages have come round, so that every member has them.
+    pub fn confirmed(&self) -> u64
+        ensures { result ≡ (known_at (held_of self.now).rows ((held_of self.now).id - 1)).forgot }
+    {
+        self.known[self.id.0 as usize - 1].forgot
+    }
+
+    /// Why the member may not act: it has stopped, or its question to the registrar is open.
+    fn activity(&self) -> Option<Reason>
+        ensures { result ≡ active_refused (held_of self.now) None }
+    {
+        if matches!(self.phase, Phase::Stopped) {
+            return Some(Reason::Stopped);
+        }
+        if self.asked {
+            return Some(Reason::AwaitingAnswer);
+        }
+        None
+    }
+
+    /// Why it may not act, of a member that must have its state.
+    fn up_refusal(&self) -> Option<Reason>
+        ensures { result ≡ up_refused (held_of self.now) None }
+    {
+        match self.phase {
+            Phase::Stopped => return Some(Reason::Stopped),
+            Phase::Waiting => return Some(Reason::Waiting),
+            Phase::Up => {}
+        }
+        if self.asked {
+            return Some(Reason::AwaitingAnswer);
+        }
+        None
+    }
+
+    /// A message joins the member's own log, and its number there, from 1, is answered. Refused with `Stopped`,
+    /// `Waiting`, and `AwaitingAnswer` while a question of the member's own is open.
+    pub fn publish(&mut self, message: Message) -> Result<u64, (Message, MemberFault)>
+        ensures enabled { OnOk result (up_refused (held_of self.old) None ≡ None) }
+        ensures ok { OnOk result (held_of self.new ≡ published_held (held_of self.old) message) }
+        ensures number { IfOk result (λ n.
+            n ≡ (known_at (held_of self.old).rows ((held_of self.old).id - 1)).got + 1) }
+        ensures refused { (r : Reason) → up_refused (held_of self.old) None ≡ Some r
+            → result ≡ Err (message, MemberFault.Refused r) }
+        ensures fault { IfErr result (λ e. (e.0 ≡ message) × ((e.1 ≡ MemberFault.OutOfMemory)
+            ⊎ (r : Reason) × (e.1 ≡ MemberFault.Refused r) × (up_refused (held_of self.old) None ≡ Some r))) }
+        ensures memory { IfErr result (λ e. e.1 ≡ MemberFault.OutOfMemory → up_refused (held_of self.old) None ≡ None) }
+        ensures err { OnErr result (held_of self.new ≡ held_of self.old) }
+        ensures ends { ends_of self.new ≡ ends_of self.old }
+    {
+        if let Some(reason) = self.up_refusal() {
+            return Err((message, MemberFault::Refused(reason)));
+        }
+        let place = self.id.0 as usize - 1;
+        match push_at(&mut self.known, place, message) {
+            Ok(number) => Ok(number),
+            Err(message) => Err((message, MemberFault::OutOfMemory)),
+        }
+    }
+
+    /// Lends the end of the link on which the member sends: none where it isn't there. The caller gives it back before
+    /// any other call.
+    pub fn lend_out(&mut self) -> Option<O>
+        ensures lent { result ≡ (ends_of self.old).out }
+        ensures ends { ends_of self.new ≡ record (ends_of self.old) { out = None } }
+        ensures held { held_of self.new ≡ held_of self.old }
+    {
+        match &mut self.out {
+            Some(link) => link.end.take(),
+            None => None,
+        }
+    }
+
+    /// Gives back the end of the link on which the member sends.
+    pub fn give_out(&mut self, out: O)
+        requires lent { (ends_of self.old).out ≡ None }
+        requires sends { IsSome (held_of self.old).out }
+        ensures ends { ends_of self.new ≡ record (ends_of self.old) { out = Some out } }
+        ensures held { held_of self.new ≡ held_of self.old }
+    {
+        match &mut self.out {
+            Some(link) => link.end = Some(out),
+            None => unreachable!(),
+        }
+    }
+
+    /// The name of the link on which the member sends: none exactly where it sends on none.
+    pub fn out_name(&self) -> Option<LinkName>
+        ensures { result ≡ out_name_of (held_of self.now) }
+    {
+        let link = self.out.as_ref()?;
+        Some(link.name(self.id))
+    }
+
+    /// Why the member may put no packet: `Stopped`, `Waiting`, `AwaitingAnswer`; `NoOutLink` where it sends on no link;
+    /// `NoCredit` where its link has no credit; `NothingNew` where all numbers equal those last sent. It wants no
+    /// memory.
+    pub fn put_refusal(&self) -> Option<Reason>
+        ensures { result ≡ put_refused (held_of self.now) }
+    {
+        if let Some(reason) = self.up_refusal() {
+            return Some(reason);
+        }
+        match &self.out {
+            None => Some(Reason::NoOutLink),
+            Some(link) => link.put_refusal(&self.known),
+        }
+    }
+
+    /// A packet with all that is known of each origin goes on the link on which the member sends, as `gm` broadcasts
+    /// its activity. Refused as `put_refusal` says, and then with `LinkFull` where the link handed the packet back.
+    pub fn put(&mut self) -> Result<(), MemberFault>
+        requires { OutIsReady O.ended self.old }
+        ensures enabled { OnOk result (put_refused (held_of self.old) ≡ None) }
+        ensures ok { OnOk result (held_of self.new ≡ put_held (held_of self.old)) }
+        ensures packet { OnOk result (PutsOn O.puts self.old self.new) }
+        ensures refused { (r : Reason) → put_refused (held_of self.old) ≡ Some r
+            → result ≡ Err (MemberFault.Refused r) }
+        ensures fault { IfErr result (λ fault.
+            ((r : Reason) × (fault ≡ MemberFault.Refused r) × (put_refused (held_of self.old) ≡ Some r))
+            ⊎ ((put_refused (held_of self.old) ≡ None) × IsPutFault O.free fault (ends_of self.new).out)) }
+        ensures err { OnErr result (held_of self.new ≡ held_of self.old) }
+        ensures looks { OnErr result (LooksOut O.looked self.old self.new) }
+        ensures ready { OutIsReady O.ended self.new }
+    {
+        if let Some(reason) = self.put_refusal() {
+            return Err(MemberFault::Refused(reason));
+        }
+        let version = self.view.version;
+        let Some(link) = &mut self.out else {
+            unreachable!()
+        };
+        match link.put(self.alloc, version, &self.known) {
+            Ok(()) => Ok(()),
+            Err(fault) => Err(fault),
+        }
+    }
+}
