@@ -1,11 +1,13 @@
 -- What a member of a ring whose members may stop shows, and what its calls do to its ends.
-use Rattle.std.specs.Prelude.{◌≡◌, ℕ, Bool, true, false, List, map, ⊤, Option, Some, None, option_map, IsSome, MatchOption}
+use Rattle.std.specs.Prelude.{◌≡◌, ◌⊎◌, ℕ, Bool, true, false, List, map, ⊤, Option, Some, None, option_map, IsSome, MatchOption}
 use Rattle.group_view.specs.declared.link.LinkName.{LinkName}
 use Rattle.group_view.specs.declared.link.LinkKind.TheVariants.{Ring}
 use Rattle.group_view.specs.View.{as_id}
 use Rattle.ordered_link.specs.declared.item.Item.{Item}
 use Rattle.ring_world.specs.Deaths.Machine.{runs_phase}
 use Rattle.gm_member.specs.declared.packet.Load.{Load}
+use Rattle.gm_member.specs.declared.repair.links.OutLink.{OutLink}
+use Rattle.gm_member.specs.declared.repair.links.InLink.{InLink}
 use Rattle.gm_member.specs.declared.repair.member.Member.{Member}
 use Rattle.gm_member.specs.View.{row_of}
 use Rattle.gm_member.specs.Deaths.Held.{Held, Outgoing, at_some, parcel_on}
@@ -71,23 +73,30 @@ module _ {O I : Type 0} where
   abbrev pub InIsReady : Member O I → Type 0
   InIsReady m = MatchOption m.current ⊤ (λ l. IsSome l.end)
 
-  -- of the ends only that of the link on which the member sends is another
-  abbrev pub OnlyOut : Member O I → Member O I → Type 0
-  OnlyOut m n = ends_of n ≡ record (ends_of m) { out = (ends_of n).out }
+  -- the links to the member are as they were, and so are the ends that it has replaced or left
+  abbrev pub SameIns : Member O I → Member O I → Type 0
+  SameIns m n = (n.current ≡ m.current) × (n.door ≡ m.door) × (n.old_outs ≡ m.old_outs) × (n.old_ins ≡ m.old_ins)
 
-  -- only that of the link from which it takes
-  abbrev pub OnlyIn : Member O I → Member O I → Type 0
-  OnlyIn m n = ends_of n ≡ record (ends_of m) { link = (ends_of n).link }
+  -- the link on which it sends is as it was, and so are those at its door and the ends that it has replaced or left
+  abbrev pub SameOut : Member O I → Member O I → Type 0
+  SameOut m n = (n.out ≡ m.out) × (n.door ≡ m.door) × (n.old_outs ≡ m.old_outs) × (n.old_ins ≡ m.old_ins)
 
   -- the next packet was put on the link on which it sends
   abbrev pub PutsOn : (O → Item Load → O → Type 0) → Member O I → Member O I → Type 0
   PutsOn puts m n =
-      (o : Outgoing) × ((held_of m).out ≡ Some o) × EndPuts puts (parcel_on (held_of m).view.version (held_of m).rows o) (ends_of m).out (ends_of n).out × OnlyOut m n
+      (l : OutLink O) × (l' : OutLink O) × (m.out ≡ Some l) × (n.out ≡ Some l')
+      × EndPuts puts (parcel_on m.view.version (map row_of m.known.items) (out_of l)) l.end l'.end × (l'.kept ≡ l.kept) × SameIns m n
 
   -- the end of the link on which it sends may know more
   abbrev pub LooksOut : (O → O → Type 0) → Member O I → Member O I → Type 0
-  LooksOut looked m n = EndLooks looked (ends_of m).out (ends_of n).out × OnlyOut m n
+  LooksOut looked m n =
+      SameIns m n
+      × ((n.out ≡ m.out)
+      ⊎ (l : OutLink O) × (l' : OutLink O) × (m.out ≡ Some l) × (n.out ≡ Some l') × EndLooks looked l.end l'.end × (l'.kept ≡ l.kept))
 
   -- that of the link from which it takes
   abbrev pub LooksIn : (I → I → Type 0) → Member O I → Member O I → Type 0
-  LooksIn looked m n = EndLooks looked (ends_of m).link (ends_of n).link × OnlyIn m n
+  LooksIn looked m n =
+      SameOut m n
+      × ((n.current ≡ m.current)
+      ⊎ (l : InLink I) × (l' : InLink I) × (m.current ≡ Some l) × (n.current ≡ Some l') × EndLooks looked l.end l'.end)

@@ -287,9 +287,6 @@ impl<O: LinkPair<Load, In = I>, I: LinkIn<Load> + Drop> Member<O, I> {
         let Some(link) = &mut self.out else {
             unreachable!()
         };
-        match link.put(self.alloc, version, &self.known) {
-            Ok(()) => Ok(()),
-            Err(fault) => Err(fault),
-        }
+        link.put(self.alloc, version, &self.known)
     }
 }
