@@ -1,2 +1,3 @@
 -- The tie of a member to the ring whose members may stop.
+pub mod OwnEnds
 pub mod Fit
