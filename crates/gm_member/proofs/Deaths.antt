@@ -1,3 +1,4 @@
 -- The tie of a member to the ring whose members may stop.
 pub mod OwnEnds
+pub mod Names
 pub mod Fit
