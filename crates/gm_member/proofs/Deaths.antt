@@ -2,3 +2,5 @@
 pub mod OwnEnds
 pub mod Names
 pub mod Fit
+pub mod Facts
+pub mod Parts
