@@ -4,3 +4,4 @@ pub mod Names
 pub mod Fit
 pub mod Facts
 pub mod Parts
+pub mod PutStands

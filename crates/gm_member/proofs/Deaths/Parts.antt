@@ -9,7 +9,7 @@ use Rattle.group_view.specs.View.{Group, entry_in}
 use Rattle.ring_world.specs.declared.phase.Phase.{Phase}
 use Rattle.ring_world.specs.World.{Row}
 use Rattle.ring_world.specs.Deaths.View.{left_at}
-use Rattle.ring_world.specs.Deaths.Machine.{World, Member, Link, no_link, row_at, member_at, link_at, view_at}
+use Rattle.ring_world.specs.Deaths.Machine.{World, Member, Link, no_link, row_at, numbers_at, member_at, link_at, view_at}
 use Rattle.ring_world.specs.Deaths.OpenLinks.{is_place, is_current, passes}
 use Rattle.ring_world.specs.Deaths.Step.{size, with_link}
 use Rattle.ring_world.proofs.Deaths.Lists.{at_set}
@@ -131,3 +131,37 @@ door_but w w' x s many not_there nor_then other = door_same w w' x many
 -- a written link shows the same
 pub seen_same : (w : World) (s j : ℕ) (l : Link) → s < length w.links → seen l ≡ seen (link_at w s) → seen (link_at (with_link w s l) j) ≡ seen (link_at w j)
 seen_same w s j l lt e = at_set (λ i a. seen a ≡ seen (link_at w i)) w.links s j l no_link lt e (λ _. refl)
+
+-- ---- where all links show the same
+
+-- what is there shows the same
+pub there_same : {A : Type 0} (f g : ℕ → A) (o : Option ℕ) → ((k : ℕ) → o ≡ Some k → f k ≡ g k) → option_map f o ≡ option_map g o
+there_same f g None h = refl
+there_same f g (Some k) h = ap (λ a. Some a) (h k refl)
+
+-- the link that is taken from
+pub current_same : (w w' : World) (c : Option ℕ) → ((j : ℕ) → seen (link_at w' j) ≡ seen (link_at w j)) → option_map (incoming_in w') c ≡ option_map (incoming_in w) c
+current_same w w' c e = there_same (incoming_in w') (incoming_in w) c (λ j _. ap incoming_seen (e j))
+
+-- whether a link waits, by what it shows
+pub waits_same : (w w' : World) (x j : ℕ) → w'.views ≡ w.views → (member_at w' x).current ≡ (member_at w x).current → (member_at w' x).version ≡ (member_at w x).version → seen (link_at w' j) ≡ seen (link_at w j) → waits_for w' x j ≡ waits_for w x j
+waits_same w w' x j vs c v e =
+    ap (λ us. waits_seen us (member_at w' x).current (member_at w' x).version x j (seen (link_at w' j))) vs
+    ∙ ap (λ k. waits_seen w.views k (member_at w' x).version x j (seen (link_at w' j))) c
+    ∙ ap (λ n. waits_seen w.views (member_at w x).current n x j (seen (link_at w' j))) v
+    ∙ ap (waits_seen w.views (member_at w x).current (member_at w x).version x j) e
+
+-- the door
+pub door_still : (w w' : World) (x : ℕ) → length w'.links ≡ length w.links → w'.views ≡ w.views → (member_at w' x).current ≡ (member_at w x).current → (member_at w' x).version ≡ (member_at w x).version → ((j : ℕ) → seen (link_at w' j) ≡ seen (link_at w j)) → door_in w' x ≡ door_in w x
+door_still w w' x many vs c v e = door_same w w' x many (λ j. waits_same w w' x j vs c v (e j)) (λ j _. ap incoming_seen (e j))
+
+-- ---- what a link shows its sender
+
+abbrev pub outgoing_of : Link → Outgoing
+outgoing_of l = record {
+  to = l.receiver;
+  opened = l.opened;
+  fresh = l.sending.fresh;
+  sent = map (λ p. numbers_at l.sending.sent (p + 1)) places;
+  credit = l.flow.sender;
+}
