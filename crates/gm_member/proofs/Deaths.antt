@@ -5,3 +5,4 @@ pub mod Fit
 pub mod Facts
 pub mod Parts
 pub mod PutStands
+pub mod TakeStands
