@@ -6,3 +6,7 @@ pub mod Facts
 pub mod Parts
 pub mod PutStands
 pub mod TakeStands
+pub mod PublishStands
+pub mod GainStands
+pub mod StopStands
+pub mod EndStands
