@@ -10,3 +10,4 @@ pub mod PublishStands
 pub mod GainStands
 pub mod StopStands
 pub mod EndStands
+pub mod Lifts
