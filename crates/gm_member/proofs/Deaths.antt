@@ -11,3 +11,4 @@ pub mod GainStands
 pub mod StopStands
 pub mod EndStands
 pub mod Lifts
+pub mod Others
