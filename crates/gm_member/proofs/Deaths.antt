@@ -12,3 +12,4 @@ pub mod StopStands
 pub mod EndStands
 pub mod Lifts
 pub mod Others
+pub mod Refusals

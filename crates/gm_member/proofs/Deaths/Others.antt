@@ -1,13 +1,17 @@
 -- Where one member steps, each other holds what it held, whether it runs or has stopped.
-use Rattle.std.proofs.Common.{◌≡◌, ◌≢◌, ℕ, ◌<◌, ◌≤◌, List, length, set, Option, Some, None, refl, sym, ap, ◌∙◌}
+use Rattle.std.proofs.Common.{◌≡◌, ◌≢◌, ℕ, ◌<◌, ◌≤◌, Bool, true, false, List, length, set, Option, Some, None, refl, sym, ap, ◌∙◌}
 use Rattle.std.specs.Prelude.{option_map}
 use Rattle.std.proofs.lemmas.List.{length-set, get_or-set_same, get_or-set_other}
 use Rattle.ring_names.specs.declared.message.Message.{Message}
+use Rattle.ring_names.specs.declared.message.Message.TheVariants.{Cast}
+use Rattle.ring_world.specs.declared.event.Event.TheVariants as event
+use Rattle.ring_world.specs.declared.phase.Phase.{Phase}
+use Rattle.ring_world.specs.declared.phase.Phase.TheVariants.{Waiting, Up, Stopped}
 use Rattle.ring_world.specs.declared.phase.Ending.TheVariants.{Halted}
-use Rattle.ring_world.specs.Deaths.Machine.{World, Member, Link, no_link, no_member, member_at, link_at}
+use Rattle.ring_world.specs.Deaths.Machine.{World, Member, Link, no_link, no_member, member_at, link_at, is_waiting}
 use Rattle.ring_world.specs.Deaths.Step.{size, publish_at, published, put_on as put_in, pushed, gain_on, take_from, taker, popped, leave_link, with_current, finished, stop_at, stopped, ended, end_out}
-use Rattle.gm_member.specs.Deaths.Held.{Outgoing, Incoming}
-use Rattle.gm_member.specs.Deaths.Stands.{held_in, outgoing_in, incoming_in, waits_for, door_in}
+use Rattle.ring_world.specs.Deaths.Event.{at_found, taken_by, effect}
+use Rattle.gm_member.specs.Deaths.Stands.{held_in, outgoing_in, incoming_in, publishing}
 use Rattle.gm_member.proofs.Deaths.Fit.{IsFit}
 use Rattle.gm_member.proofs.Deaths.Parts.{held_is, seen, incoming_seen, outgoing_of, there_same, current_same, waits_same, door_still, door_but, other_waits_not}
 use Rattle.gm_member.proofs.Deaths.PutStands.{leaving, put_seen}
@@ -111,3 +115,43 @@ stop_others w x y f ne = by_out (member_at w x).out refl
     by_out : (o : Option ℕ) → (member_at w x).out ≡ o → held_in w y ≡ held_in (end_out Halted (stop_at w x) o) y
     by_out None e = shows_others w x y w.links ne (all_show w)
     by_out (Some o) e = shows_others w x y (set w.links o (ended Halted (link_at w o))) ne (end_shows w o (f.own_ends.out x o e).0)
+
+-- ---- the same of the events of x, whether they are enabled or not
+
+pub publish_leaves : (w : World) (x y : ℕ) (m : Message) → IsFit w → 1 ≤ x → x < size w → y ≢ x → held_in w y ≡ held_in (effect w (publishing (member_at w x).name m)) y
+publish_leaves w x y (Cast body) f some lt ne = publish_others w x y (Cast body) ne ∙ ap (λ o. held_in (at_found o w (λ z. publish_at w z (Cast body))) y) (sym (f.named x some lt))
+
+pub put_leaves : (w : World) (x y : ℕ) → IsFit w → 1 ≤ x → x < size w → y ≢ x → held_in w y ≡ held_in (effect w (event.Put (member_at w x).name)) y
+put_leaves w x y f some lt ne = by_out (member_at w x).out refl ∙ ap (λ o. held_in (at_found o w (λ z. at_found (member_at w z).out w (put_in w z))) y) (sym (f.named x some lt))
+  where
+    by_out : (o : Option ℕ) → (member_at w x).out ≡ o → held_in w y ≡ held_in (at_found o w (put_in w x)) y
+    by_out None e = refl
+    by_out (Some o) e = put_others w x o y f e ne
+
+pub take_leaves : (w : World) (x y : ℕ) → IsFit w → 1 ≤ x → x < size w → y ≢ x → held_in w y ≡ held_in (effect w (event.Take (member_at w x).name)) y
+take_leaves w x y f some lt ne =
+    by_current (member_at w x).current (member_at w x).phase refl (f.good.none_waits x)
+    ∙ ap (λ o. held_in (at_found o w (λ z. at_found (member_at w z).current w (taken_by (member_at w z).phase w z))) y) (sym (f.named x some lt))
+  where
+    by_current : (c : Option ℕ) (g : Phase) → (member_at w x).current ≡ c → is_waiting g ≡ false → held_in w y ≡ held_in (at_found c w (taken_by g w x)) y
+    by_current None g e n = refl
+    by_current (Some s) Waiting e n = cc
+    by_current (Some s) Up e n = take_others w x s y f e ne
+    by_current (Some s) Stopped e n = refl
+
+pub gain_leaves : (w : World) (x y : ℕ) → IsFit w → 1 ≤ x → x < size w → y ≢ x → held_in w y ≡ held_in (effect w (event.Gain (member_at w x).name)) y
+gain_leaves w x y f some lt ne = by_out (member_at w x).out refl ∙ ap (λ o. held_in (at_found o w (λ z. at_found (member_at w z).out w (gain_on w))) y) (sym (f.named x some lt))
+  where
+    by_out : (o : Option ℕ) → (member_at w x).out ≡ o → held_in w y ≡ held_in (at_found o w (gain_on w)) y
+    by_out None e = refl
+    by_out (Some o) e = gain_others w x o y f e ne
+
+pub end_leaves : (w : World) (x y : ℕ) → IsFit w → 1 ≤ x → x < size w → y ≢ x → held_in w y ≡ held_in (effect w (event.TakeEnd (member_at w x).name)) y
+end_leaves w x y f some lt ne = by_current (member_at w x).current refl ∙ ap (λ o. held_in (at_found o w (λ z. at_found (member_at w z).current w (leave_link w z))) y) (sym (f.named x some lt))
+  where
+    by_current : (c : Option ℕ) → (member_at w x).current ≡ c → held_in w y ≡ held_in (at_found c w (leave_link w x)) y
+    by_current None e = refl
+    by_current (Some s) e = end_others w x s y f e ne
+
+pub stop_leaves : (w : World) (x y : ℕ) → IsFit w → 1 ≤ x → x < size w → y ≢ x → held_in w y ≡ held_in (effect w (event.Stop (member_at w x).name)) y
+stop_leaves w x y f some lt ne = stop_others w x y f ne ∙ ap (λ o. held_in (at_found o w (λ z. end_out Halted (stop_at w z) (member_at w z).out)) y) (sym (f.named x some lt))
