@@ -1,6 +1,6 @@
 -- A member that takes its link to its end stands where the ring leaves it.
-use Rattle.std.proofs.Common.{◌≡◌, ◌≢◌, ℕ, ◌<◌, ◌≤◌, Bool, true, false, not, nat_eq, nat_le, max, List, length, Option, Some, None, refl, sym, ap, ◌∙◌, arith}
-use Rattle.std.specs.Prelude.{◌&&◌, option_map, slice_index_or}
+use Rattle.std.proofs.Common.{◌≡◌, ◌≢◌, ℕ, ◌<◌, not, nat_eq, nat_le, max, List, length, Some, None, refl, sym, ap, ◌∙◌}
+use Rattle.std.specs.Prelude.{◌&&◌, slice_index_or}
 use Rattle.std.proofs.lemmas.List.{length-set, get_or-set_same, get_or-set_other}
 use Rattle.group_view.specs.Since.{no_group}
 use Rattle.group_view.specs.View.{Group, entry_in}
@@ -10,7 +10,7 @@ use Rattle.ring_world.specs.Deaths.Step.{size, with_current, finished, leave_lin
 use Rattle.ring_world.proofs.Deaths.Lists.{at_set}
 use Rattle.ring_world.proofs.Deaths.Rounds.{nat_eq-not}
 use Rattle.gm_member.specs.Deaths.Held.{Held, ended_held}
-use Rattle.gm_member.specs.Deaths.Stands.{held_in, outgoing_in, waits_for}
+use Rattle.gm_member.specs.Deaths.Stands.{held_in, outgoing_in}
 use Rattle.gm_member.proofs.Deaths.Fit.{IsFit}
 use Rattle.gm_member.proofs.Deaths.Parts.{held_is, seen, Seen, waits_seen, incoming_seen, outgoing_of, there_same, door_but, current_waits_not, over_waits_not}
 
@@ -42,8 +42,8 @@ end_stands w x s f lt is =
     (over_waits_not w' x s (ap (λ (l : Link). l.over) (get_or-set_same w.links s (finished (link_at w s)) no_link sl)))
     (λ j ne. (
       ap (λ (z : Member). waits_seen w.views z.current z.version x j (seen (link_at w' j))) now
-      ∙ ap (λ l. waits_seen w.views None y.version x j (seen l)) (end_other w x s j ne)
-      ∙ waits_without w.views y.version x s j (seen (link_at w j)) ne
-      ∙ ap (λ c. waits_seen w.views c y.version x j (seen (link_at w j))) (sym is),
+          ∙ ap (λ l. waits_seen w.views None y.version x j (seen l)) (end_other w x s j ne)
+          ∙ waits_without w.views y.version x s j (seen (link_at w j)) ne
+          ∙ ap (λ c. waits_seen w.views c y.version x j (seen (link_at w j))) (sym is),
       ap (λ l. incoming_seen (seen l)) (end_other w x s j ne),
     ))))

@@ -1,22 +1,17 @@
 -- What follows for single members, rows and packets.
-use Rattle.std.proofs.Common.{◌≡◌, ℕ, zero, suc, ◌+◌, ◌-◌, ◌<◌, ◌≤◌, List, [], ◌∷◌, ◌++◌, length, take, map, get_or, Some, None, false, true, Bool, refl, sym, ap, subst, ◌∙◌, arith}
+use Rattle.std.proofs.Common.{◌≡◌, ℕ, zero, suc, ◌+◌, ◌-◌, ◌<◌, ◌≤◌, List, [], ◌∷◌, length, get_or, false, Bool, refl, sym, ap, subst, ◌∙◌, arith}
 use Rattle.std.proofs.lemmas.Bool.{false≢true}
 use Rattle.std.proofs.lemmas.List.{get_or_past}
 use Rattle.group_view.specs.Since.{no_group}
-use Rattle.group_view.specs.Since as group
-use Rattle.group_view.specs.View.{Group}
-use Rattle.ring_names.specs.declared.reason.Reason.{Reason}
 use Rattle.ring_world.specs.declared.numbers.Numbers.{Numbers}
-use Rattle.ring_world.specs.declared.phase.Phase.TheVariants.{Up, Stopped}
 use Rattle.ring_world.specs.World.{Row, no_row, no_numbers}
-use Rattle.ring_world.specs.Member.{is_sent, next_numbers}
+use Rattle.ring_world.specs.Member.{next_numbers}
 use Rattle.ring_world.specs.Refusal.{is_empty}
-use Rattle.ring_world.specs.Deaths.Machine.{World, Packet, Member, Sending, no_packet, no_member, row_at, numbers_at, member_at, link_at, view_at, newest, runs, runs_phase}
+use Rattle.ring_world.specs.Deaths.Machine.{World, Packet, Member, Sending, no_packet, no_member, row_at, numbers_at, member_at, link_at, view_at, newest}
 use Rattle.ring_world.specs.Deaths.Walk.{oldest}
 use Rattle.ring_world.specs.Deaths.Step.{size, log_of, next_lines, next_packet}
-use Rattle.ring_world.specs.Deaths.Lawful.{row_of, RowIsWithin, NumbersAreWithin, PacketsAreWithin}
+use Rattle.ring_world.specs.Deaths.Lawful.{row_of, NumbersAreWithin, PacketsAreWithin}
 use Rattle.ring_world.proofs.Deaths.Happens.{HasViews}
-use Rattle.gm_member.specs.Held.{places}
 use Rattle.gm_member.specs.Deaths.Held.{known_at, numbers_of}
 use Rattle.gm_member.specs.Deaths.Stands.{held_in, outgoing_in}
 use Rattle.gm_member.proofs.Places.{tabled_at}

@@ -1,21 +1,13 @@
 -- What holds in every state of every run, as the tie of a member to the ring needs it.
-use Rattle.std.proofs.Common.{◌≡◌, ℕ, zero, suc, ◌+◌, ◌<◌, ◌≤◌, List, [], ◌∷◌, length, take, get_or, Some, None, refl, sym, ap, subst, ◌∙◌, ⊎_elim, ◌⊎◌, arith}
-use Rattle.std.proofs.lemmas.Bool.{cases_lt}
-use Rattle.std.proofs.lemmas.List.{get_or_past}
+use Rattle.std.proofs.Common.{◌≡◌, ℕ, ◌<◌, ◌≤◌, List, [], ◌∷◌, Some, None, sym, subst}
 use Rattle.ring_names.specs.declared.numbers.CreditSpec.{CreditSpec}
-use Rattle.group_view.specs.Since.{no_group}
-use Rattle.group_view.specs.Since as group
-use Rattle.group_view.specs.View.{Group}
 use Rattle.group_view.specs.Change.{AreOpeningNames}
 use Rattle.ring_world.specs.declared.event.Event.{Event}
-use Rattle.ring_world.specs.declared.numbers.Numbers.{Numbers}
-use Rattle.ring_world.specs.World.{Row, no_row}
-use Rattle.ring_world.specs.Deaths.Machine.{World, Packet, no_member, row_at, numbers_at, member_at, link_at, view_at, newest}
+use Rattle.ring_world.specs.Deaths.Machine.{World, member_at}
 use Rattle.ring_world.specs.Deaths.Step.{size, log_of, opening}
 use Rattle.ring_world.specs.Deaths.Event.{id_of, refusal, effect, IsRun, last}
 use Rattle.ring_world.specs.Deaths.Laws.{IsLawful, GoesOn}
-use Rattle.ring_world.specs.Deaths.Lawful.{row_of, RowIsWithin, NumbersAreWithin}
-use Rattle.ring_world.proofs.Deaths.Happens.{IsGood, HasViews, event_good, opening_good, reached_good}
+use Rattle.ring_world.proofs.Deaths.Happens.{IsGood, event_good, opening_good, reached_good}
 use Rattle.ring_world.proofs.Deaths.Ended.{EndsRight, ends_run, opening_ends}
 use Rattle.ring_world.proofs.Deaths.Laws.{every_state_lawful, every_run_goes_on}
 use Rattle.ring_world.proofs.Deaths.LinkCredit.{run_credited}

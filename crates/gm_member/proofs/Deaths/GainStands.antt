@@ -1,12 +1,12 @@
 -- A member that gains the oldest grant on its link stands where the ring's gain leaves it.
-use Rattle.std.proofs.Common.{◌≡◌, ◌≢◌, ℕ, ◌<◌, ◌≤◌, length, Some, None, refl, sym, ap, ◌∙◌, arith}
+use Rattle.std.proofs.Common.{◌≡◌, ℕ, ◌<◌, length, Some, None, refl, sym, ap, ◌∙◌}
 use Rattle.std.specs.Prelude.{option_map}
 use Rattle.std.proofs.lemmas.List.{length-set, get_or-set_same}
 use Rattle.ring_names.specs.declared.reason.Reason.TheVariants as reason
 use Rattle.credit_flow.specs.Link.{oldest as oldest_grant}
 use Rattle.ring_world.specs.Member.{regained}
-use Rattle.ring_world.specs.Deaths.Machine.{World, Member, Link, no_link, member_at, link_at}
-use Rattle.ring_world.specs.Deaths.Step.{size, gain_on}
+use Rattle.ring_world.specs.Deaths.Machine.{World, Link, no_link, member_at, link_at}
+use Rattle.ring_world.specs.Deaths.Step.{gain_on}
 use Rattle.ring_world.specs.Deaths.Event.{on_link, up_refusal}
 use Rattle.gm_member.specs.Deaths.Held.{Held, gain_refused, gained_on, gained_held}
 use Rattle.gm_member.specs.Deaths.Stands.{held_in, outgoing_in}

@@ -1,5 +1,5 @@
 -- From what a member holds to every state in which it stands.
-use Rattle.std.proofs.Common.{◌≡◌, ℕ, ◌+◌, ◌-◌, ◌<◌, ◌≤◌, Bool, true, false, List, [], length, Option, Some, None, refl, sym, ap, subst, ◌∙◌, arith}
+use Rattle.std.proofs.Common.{◌≡◌, ℕ, ◌+◌, ◌-◌, ◌<◌, ◌≤◌, false, List, [], length, Option, Some, None, refl, sym, ap, subst, ◌∙◌, arith}
 use Rattle.std.specs.Prelude.{option_map}
 use Rattle.ring_names.specs.declared.message.Message.{Message}
 use Rattle.ring_names.specs.declared.message.Message.TheVariants.{Cast}
@@ -15,13 +15,13 @@ use Rattle.ring_world.specs.Refusal.{refuse_if, or_else, is_empty}
 use Rattle.ring_world.specs.Deaths.Machine.{World, member_at, link_at, is_waiting}
 use Rattle.ring_world.specs.Deaths.Walk.{oldest}
 use Rattle.ring_world.specs.Deaths.Step.{size, log_of, publish_at, put_on as put_in, gain_on, leave_link, stop_at, end_out, opening}
-use Rattle.ring_world.specs.Deaths.Event.{of_member, is_stopped, on_link, running_refusal, up_refusal, put_refusal, end_refusal, gain_refusal, refusal, at_found, effect, last}
+use Rattle.ring_world.specs.Deaths.Event.{of_member, is_stopped, on_link, running_refusal, up_refusal, put_refusal, end_refusal, gain_refusal, refusal, at_found, last}
 use Rattle.ring_world.proofs.Deaths.Enabled.{up_phase, up_later, running_phase, running_later}
 use Rattle.gm_member.specs.declared.taken.Taken.{Taken}
 use Rattle.gm_member.specs.Held.{Parcel}
 use Rattle.gm_member.specs.Deaths.Held.{Held, Outgoing, known_at, active_refused, up_refused, published_held, put_refused, put_held, parcel_on, take_refused, took_held, gain_refused, gained_held, ended_held, stopped_held}
 use Rattle.gm_member.specs.Deaths.News.{news_of}
-use Rattle.gm_member.specs.Deaths.Stands.{held_in, outgoing_in, Stands, WhereItStands, StepsTo, publishing, StandsFor, IsPutPacket, IsNextPacket, IsNextGrant, IsNextEnd, taken_in}
+use Rattle.gm_member.specs.Deaths.Stands.{held_in, outgoing_in, WhereItStands, StepsTo, publishing, StandsFor, IsPutPacket, IsNextPacket, IsNextGrant, IsNextEnd, taken_in}
 use Rattle.gm_member.proofs.Deaths.Fit.{IsFit, reached_fit}
 use Rattle.gm_member.proofs.Deaths.Facts.{version_is}
 use Rattle.gm_member.proofs.Deaths.PublishStands.{publish_stands, publish_number}
@@ -54,7 +54,7 @@ pub put_steps : (w : World) (x : ℕ) → IsFit w → 1 ≤ x → x < size w →
 put_steps w x f some lt e = (
   sym (put_refusal_is w x f some lt) ∙ e,
   by_out (member_at w x).out refl (up_later w x (on_link (member_at w x).out reason.NoOutLink (put_refusal w x)) (sym (put_refuses w x f) ∙ e))
-  ∙ ap (λ o. held_in (at_found o w (λ y. at_found (member_at w y).out w (put_in w y))) x) (sym (f.named x some lt)),
+      ∙ ap (λ o. held_in (at_found o w (λ y. at_found (member_at w y).out w (put_in w y))) x) (sym (f.named x some lt)),
 )
   where
     by_out : (o : Option ℕ) → (member_at w x).out ≡ o → on_link o reason.NoOutLink (put_refusal w x) ≡ None → put_held (held_in w x) ≡ held_in (at_found o w (put_in w x)) x
@@ -97,10 +97,10 @@ take_steps w x k f some lt e l n = by_current (member_at w x).current refl (runn
 pub gain_steps : (w : World) (x amount : ℕ) → IsFit w → 1 ≤ x → x < size w → gain_refused (held_in w x) ≡ None → IsNextGrant w x amount → StepsTo w x (event.Gain (member_at w x).name) (gained_held (held_in w x) amount)
 gain_steps w x amount f some lt e n = (
   ap (λ o. of_member o (λ y. up_refusal w y (on_link (member_at w y).out reason.NoOutLink (gain_refusal w)))) (f.named x some lt)
-  ∙ up_is w x (on_link (member_at w x).out reason.NoOutLink (gain_refusal w)) up
-  ∙ refused (member_at w x).out n there,
+      ∙ up_is w x (on_link (member_at w x).out reason.NoOutLink (gain_refusal w)) up
+      ∙ refused (member_at w x).out n there,
   by_out (member_at w x).out refl there
-  ∙ ap (λ o. held_in (at_found o w (λ y. at_found (member_at w y).out w (gain_on w))) x) (sym (f.named x some lt)),
+      ∙ ap (λ o. held_in (at_found o w (λ y. at_found (member_at w y).out w (gain_on w))) x) (sym (f.named x some lt)),
 )
   where
     acts : up_refusal w x (on_link (member_at w x).out reason.NoOutLink (λ _. None)) ≡ None
@@ -123,10 +123,10 @@ gain_steps w x amount f some lt e n = (
 pub end_steps : (w : World) (x : ℕ) → IsFit w → 1 ≤ x → x < size w → take_refused (held_in w x) None ≡ None → IsNextEnd w x → StepsTo w x (event.TakeEnd (member_at w x).name) (ended_held (held_in w x))
 end_steps w x f some lt e n = (
   ap (λ o. of_member o (λ y. running_refusal w y (on_link (member_at w y).current reason.NoCurrentLink (end_refusal w)))) (f.named x some lt)
-  ∙ running_is w x (on_link (member_at w x).current reason.NoCurrentLink (end_refusal w)) up
-  ∙ refused (member_at w x).current n there,
+      ∙ running_is w x (on_link (member_at w x).current reason.NoCurrentLink (end_refusal w)) up
+      ∙ refused (member_at w x).current n there,
   by_current (member_at w x).current refl there
-  ∙ ap (λ o. held_in (at_found o w (λ y. at_found (member_at w y).current w (leave_link w y))) x) (sym (f.named x some lt)),
+      ∙ ap (λ o. held_in (at_found o w (λ y. at_found (member_at w y).current w (leave_link w y))) x) (sym (f.named x some lt)),
 )
   where
     acts : running_refusal w x (on_link (member_at w x).current reason.NoCurrentLink (λ _. None)) ≡ None

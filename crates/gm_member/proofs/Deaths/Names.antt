@@ -1,24 +1,22 @@
 -- The names of the members stay, and different names find their members; nobody stands at id 0.
-use Rattle.std.proofs.Common.{◌≡◌, ◌≢◌, ℕ, zero, suc, ◌+◌, ◌-◌, ◌<◌, ◌≤◌, Bool, true, false, bytes_eq, nat_eq, List, [], ◌∷◌, ◌++◌, length, map, drop, get_or, set, Option, Some, None, if◌then◌else◌, refl, sym, ap, subst, ◌∙◌, arith}
+use Rattle.std.proofs.Common.{◌≡◌, ℕ, zero, suc, ◌+◌, ◌<◌, ◌≤◌, Bool, true, false, bytes_eq, nat_eq, List, [], ◌∷◌, length, map, drop, get_or, set, Option, Some, None, if◌then◌else◌, refl, sym, ap, ◌∙◌, arith}
 use Rattle.std.specs.Prelude.{position, option_map}
 use Rattle.std.specs.List.{range_with_len}
 use Rattle.std.proofs.Math.Seq.{map-set_same}
-use Rattle.std.proofs.lemmas.List.{length-map, length-set, get_or-map, get_or-set_other}
-use Rattle.ring_names.specs.declared.message.Message.{Message}
+use Rattle.std.proofs.lemmas.List.{length-map, get_or-map, get_or-set_other}
 use Rattle.ring_names.specs.declared.numbers.CreditSpec.{CreditSpec}
 use Rattle.group_view.specs.Change.{AreDifferent, AreOpeningNames, marked}
 use Rattle.ring_world.specs.declared.event.Event.{Event}
 use Rattle.ring_world.specs.declared.phase.Ending.{Ending}
 use Rattle.ring_world.specs.declared.phase.Ending.TheVariants.{Moved, Halted}
 use Rattle.ring_world.specs.Deaths.View.{right_of}
-use Rattle.ring_world.specs.Deaths.Machine.{Member, Link, World, no_member, member_at, link_at, view_at, newest}
-use Rattle.ring_world.specs.Deaths.Step.{size, log_of, publish_at, published, put_on, gain_on, take_from, taker, current_is, with_current, leave_link, ended, stop_at, stopped, end_out, with_member, with_link, with_view, look_at, moved_to, open_to, opening, opening_member}
+use Rattle.ring_world.specs.Deaths.Machine.{Member, World, no_member, member_at, link_at, view_at, newest}
+use Rattle.ring_world.specs.Deaths.Step.{size, log_of, published, taker, with_current, ended, stop_at, stopped, end_out, with_member, with_link, with_view, look_at, moved_to, open_to, opening, opening_member}
 use Rattle.ring_world.specs.Deaths.Event.{id_of, send_to, refreshed, refusal, effect, IsRun, last}
 use Rattle.ring_world.proofs.Names.{same_bytes, own_bytes, found_at}
 use Rattle.ring_world.proofs.Deaths.Lists.{at_set}
-use Rattle.ring_world.proofs.Deaths.Conditions.{MayTake, MayLook}
 use Rattle.ring_world.proofs.Deaths.Cases.{Cases, each_event}
-use Rattle.ring_world.proofs.Deaths.Parts.{IsStill, Part, cast_part, put_part, take_part, gain_part, stop_part, open_part, still_part, run_keeps}
+use Rattle.ring_world.proofs.Deaths.Parts.{Part, cast_part, put_part, take_part, gain_part, stop_part, open_part, still_part, run_keeps}
 use Rattle.ring_world.proofs.Deaths.Happens.{IsGood, event_good, opening_good}
 
 -- ---- the names stay

@@ -1,6 +1,5 @@
 -- The link on which a member sends has it as its sender, and the one from which it takes has it as its receiver, also where it has stopped.
-use Rattle.std.proofs.Common.{◌≡◌, ℕ, zero, suc, ◌+◌, ◌<◌, ◌≤◌, Bool, true, false, cond, nat_eq, nat_le, not, List, [], ◌∷◌, ◌++◌, length, map, get_or, Option, Some, None, if◌then◌else◌, refl, sym, ap, subst, ◌∙◌, ⊎_elim, arith}
-use Rattle.std.specs.Prelude.{◌&&◌}
+use Rattle.std.proofs.Common.{◌≡◌, ℕ, zero, suc, ◌+◌, ◌<◌, ◌≤◌, Bool, true, false, cond, nat_eq, List, [], ◌∷◌, ◌++◌, length, map, Option, Some, None, if◌then◌else◌, refl, sym, ap, subst, ◌∙◌, ⊎_elim, arith}
 use Rattle.std.specs.List.{range_with_len}
 use Rattle.std.proofs.lemmas.Bool.{cases_lt, and_parts}
 use Rattle.std.proofs.lemmas.List.{length-set, length_push, get_or_append_left, get_or_push}
@@ -13,12 +12,10 @@ use Rattle.ring_world.specs.Deaths.View.{right_of}
 use Rattle.ring_world.specs.declared.phase.Ending.{Ending}
 use Rattle.ring_world.specs.declared.phase.Ending.TheVariants.{Moved, Halted}
 use Rattle.ring_world.specs.Deaths.Machine.{Member, Link, World, no_link, no_member, member_at, link_at, view_at, newest, runs, runs_phase, is_kept}
-use Rattle.ring_world.specs.Deaths.Step.{size, publish_at, published, put_on, gain_on, take_from, taker, popped, pushed, next_packet, current_is, with_current, leave_link, finished, ended, stop_at, stopped, end_out, with_member, with_link, with_view, look_at, moved_to, kept_current, open_to, opened_link, opening, opening_member}
+use Rattle.ring_world.specs.Deaths.Step.{size, published, taker, popped, pushed, next_packet, current_is, with_current, finished, ended, stop_at, stopped, end_out, with_member, with_link, with_view, look_at, moved_to, kept_current, open_to, opened_link, opening, opening_member}
 use Rattle.ring_world.specs.Deaths.Event.{at_door, is_at_door, send_to, refreshed, refusal, effect, IsRun, last}
-use Rattle.ring_world.specs.Deaths.Event as event
 use Rattle.ring_world.proofs.Deaths.Lists.{at_set, get_or_beyond}
 use Rattle.ring_world.proofs.Deaths.Rounds.{nat_eq-is}
-use Rattle.ring_world.proofs.Deaths.Conditions.{MayTake, MayLook}
 use Rattle.ring_world.proofs.Deaths.Cases.{Cases, each_event}
 use Rattle.ring_world.proofs.Deaths.Opening.{opening_inv}
 use Rattle.ring_world.proofs.Deaths.Happens.{IsGood, event_good, opening_good}

@@ -1,5 +1,5 @@
 -- The parts of a state that make up what a member holds.
-use Rattle.std.proofs.Common.{◌≡◌, ◌≢◌, ℕ, ◌+◌, ◌<◌, Bool, true, false, cond, not, nat_eq, nat_le, max, List, [], ◌∷◌, length, map, Option, Some, None, refl, sym, ap, subst, ◌∙◌, ⊎_elim, arith}
+use Rattle.std.proofs.Common.{◌≡◌, ◌≢◌, ℕ, ◌+◌, ◌<◌, Bool, true, false, cond, not, nat_eq, nat_le, max, List, [], ◌∷◌, length, map, Option, Some, None, refl, sym, ap, ◌∙◌, ⊎_elim}
 use Rattle.std.specs.Prelude.{◌&&◌, option_map, slice_index_or}
 use Rattle.std.specs.List.{filter, range_with_len}
 use Rattle.std.proofs.lemmas.Bool.{cases_eq, false≢true}
@@ -11,12 +11,12 @@ use Rattle.ring_world.specs.World.{Row}
 use Rattle.ring_world.specs.Deaths.View.{left_at}
 use Rattle.ring_world.specs.Deaths.Machine.{World, Member, Link, no_link, row_at, numbers_at, member_at, link_at, view_at}
 use Rattle.ring_world.specs.Deaths.OpenLinks.{is_place, is_current, passes}
-use Rattle.ring_world.specs.Deaths.Step.{size, with_link}
+use Rattle.ring_world.specs.Deaths.Step.{with_link}
 use Rattle.ring_world.proofs.Deaths.Lists.{at_set}
 use Rattle.ring_world.proofs.Deaths.Rounds.{nat_eq-is, nat_eq-same}
 use Rattle.gm_member.specs.Held.{places}
 use Rattle.gm_member.specs.Deaths.Held.{Held, Outgoing, Incoming}
-use Rattle.gm_member.specs.Deaths.Stands.{held_in, outgoing_in, incoming_in, waits_for, door_links, door_in}
+use Rattle.gm_member.specs.Deaths.Stands.{held_in, outgoing_in, incoming_in, waits_for, door_in}
 
 -- ---- what a member holds
 

@@ -1,5 +1,5 @@
 -- A member that puts stands where the ring's put leaves it, and its packet stands for the one that was put.
-use Rattle.std.proofs.Common.{◌≡◌, ◌≢◌, ℕ, zero, suc, ◌+◌, ◌<◌, ◌≤◌, Bool, true, false, nat_eq, List, [], length, take, map, Option, Some, None, refl, sym, ap, ◌∙◌, ⊎_elim, arith}
+use Rattle.std.proofs.Common.{◌≡◌, ℕ, zero, suc, ◌+◌, ◌<◌, ◌≤◌, Bool, true, false, nat_eq, [], length, map, Option, Some, None, refl, sym, ap, ◌∙◌, ⊎_elim, arith}
 use Rattle.std.specs.Prelude.{◌&&◌, option_map}
 use Rattle.std.specs.List.{list_all, range_with_len}
 use Rattle.std.proofs.lemmas.Bool.{cases_lt}
@@ -7,23 +7,22 @@ use Rattle.std.proofs.lemmas.List.{length-set, get_or-set_same}
 use Rattle.ring_names.specs.declared.reason.Reason.{Reason}
 use Rattle.ring_names.specs.declared.reason.Reason.TheVariants as reason
 use Rattle.credit_flow.specs.Credit.{is_blocked, sent}
-use Rattle.ring_world.specs.declared.numbers.Numbers.{Numbers}
-use Rattle.ring_world.specs.World.{Row, no_row, no_numbers}
+use Rattle.ring_world.specs.World.{Row, no_numbers}
 use Rattle.ring_world.specs.Member.{is_sent, next_numbers}
 use Rattle.ring_world.specs.Refusal.{refuse_if, or_else}
-use Rattle.ring_world.specs.Deaths.Machine.{World, Packet, Member, Link, no_link, row_at, numbers_at, member_at, link_at}
+use Rattle.ring_world.specs.Deaths.Machine.{World, Packet, Member, no_link, numbers_at, member_at, link_at}
 use Rattle.ring_world.specs.Deaths.Step.{size, log_of, next_packet, pushed, put_on as put_in}
 use Rattle.ring_world.specs.Deaths.Event.{on_link, up_refusal, put_refusal, has_nothing_new as nothing_new_in}
 use Rattle.ring_world.specs.Deaths.Lawful.{row_of}
 use Rattle.gm_member.specs.Held.{places, carried_now}
 use Rattle.gm_member.specs.Stands.{carried_in}
-use Rattle.gm_member.specs.Deaths.Held.{Held, Outgoing, known_at, numbers_of, on_some, up_refused, put_refused, has_nothing_new, next_sent, put_on, put_held, lines_on, parcel_on}
-use Rattle.gm_member.specs.Deaths.Stands.{held_in, outgoing_in, incoming_in, lines_in, StandsFor}
+use Rattle.gm_member.specs.Deaths.Held.{known_at, numbers_of, on_some, up_refused, put_refused, has_nothing_new, next_sent, put_on, put_held, lines_on, parcel_on}
+use Rattle.gm_member.specs.Deaths.Stands.{held_in, outgoing_in, lines_in, StandsFor}
 use Rattle.gm_member.proofs.Places.{map-range_same, all-range_same_from, all-range_longer}
 use Rattle.gm_member.proofs.PutStands.{next_numbers-nothing, carried_same}
 use Rattle.gm_member.proofs.Deaths.Fit.{IsFit}
 use Rattle.gm_member.proofs.Deaths.Facts.{log_past, row_past, got_zero, forgot_zero, sent_nothing, held_row, held_sent, version_is, next_at, next_past}
-use Rattle.gm_member.proofs.Deaths.Parts.{held_is, held_from, rows_of, seen, seen_same, current_same, door_still, outgoing_of}
+use Rattle.gm_member.proofs.Deaths.Parts.{held_is, seen, seen_same, current_same, door_still, outgoing_of}
 
 -- the packet that x puts next on link o
 abbrev pub leaving : World → ℕ → ℕ → Packet

@@ -5,11 +5,11 @@ use Rattle.ring_names.specs.declared.message.Message.TheVariants.{Cast}
 use Rattle.ring_names.specs.declared.reason.Reason.{Reason}
 use Rattle.ring_names.specs.declared.reason.Reason.TheVariants as reason
 use Rattle.ring_world.specs.declared.event.Event.TheVariants as event
-use Rattle.ring_world.specs.Deaths.Machine.{World, member_at, link_at}
+use Rattle.ring_world.specs.Deaths.Machine.{World, member_at}
 use Rattle.ring_world.specs.Deaths.Step.{size}
 use Rattle.ring_world.specs.Deaths.Event.{of_member, on_link, running_refusal, up_refusal, take_refusal, end_refusal, gain_refusal, refusal}
-use Rattle.gm_member.specs.Deaths.Held.{Held, active_refused, up_refused, take_refused, gain_refused, on_some}
-use Rattle.gm_member.specs.Deaths.Stands.{held_in, outgoing_in, incoming_in, WhereItStands, publishing}
+use Rattle.gm_member.specs.Deaths.Held.{Held, active_refused, up_refused, take_refused, on_some}
+use Rattle.gm_member.specs.Deaths.Stands.{held_in, outgoing_in, WhereItStands, publishing}
 use Rattle.gm_member.proofs.Deaths.Fit.{IsFit}
 use Rattle.gm_member.proofs.Deaths.TakeStands.{take_refuses}
 use Rattle.gm_member.proofs.Deaths.PutStands.{on_some_link}

@@ -1,6 +1,5 @@
 -- A member that stops stands where the ring's stop leaves it.
-use Rattle.std.proofs.Common.{◌≡◌, ◌≢◌, ℕ, ◌<◌, ◌≤◌, List, length, get_or, set, Option, Some, None, refl, sym, ap, ◌∙◌, arith}
-use Rattle.std.specs.Prelude.{option_map}
+use Rattle.std.proofs.Common.{◌≡◌, ℕ, ◌<◌, List, length, get_or, set, Option, Some, None, refl, sym, ap}
 use Rattle.std.proofs.lemmas.List.{length-set, get_or-set_same}
 use Rattle.ring_names.specs.declared.reason.Reason.{Reason}
 use Rattle.ring_world.specs.declared.phase.Ending.TheVariants.{Halted}

@@ -1,7 +1,6 @@
 -- A member that takes the oldest packet of its link stands where the ring's take leaves it.
-use Rattle.std.proofs.Common.{◌≡◌, ◌≢◌, ℕ, zero, suc, ◌+◌, ◌<◌, ◌≤◌, Bool, true, false, not, nat_lt, List, [], ◌∷◌, ◌++◌, length, take, map, max, Option, Some, None, is_some, refl, sym, ap, subst, ◌∙◌, ⊎_elim, arith}
+use Rattle.std.proofs.Common.{◌≡◌, ◌≢◌, ℕ, zero, suc, ◌+◌, ◌<◌, ◌≤◌, Bool, true, false, not, nat_lt, List, [], ◌++◌, length, take, Option, Some, None, is_some, refl, sym, ap, subst, ◌∙◌, ⊎_elim, arith}
 use Rattle.std.specs.Prelude.{◌&&◌, option_map}
-use Rattle.std.specs.List.{range_with_len}
 use Rattle.std.proofs.lemmas.Bool.{cases_lt}
 use Rattle.std.proofs.lemmas.Bool.Decides.{nat_tests}
 use Rattle.std.proofs.lemmas.List.{length-set, get_or_past, get_or-set_same, get_or-set_other}
@@ -9,27 +8,25 @@ use Rattle.std.proofs.lemmas.List.FromFn.{length-map-range_with_len}
 use Rattle.ring_names.specs.declared.message.Message.{Message}
 use Rattle.ring_names.specs.declared.reason.Reason.{Reason}
 use Rattle.ring_names.specs.declared.reason.Reason.TheVariants as reason
-use Rattle.ring_world.specs.declared.event.Event.{Event}
 use Rattle.ring_world.specs.declared.event.Event.TheVariants as event
 use Rattle.ring_world.specs.declared.numbers.Numbers.{Numbers}
 use Rattle.ring_world.specs.declared.phase.Phase.{Phase}
-use Rattle.ring_world.specs.declared.phase.Phase.TheVariants.{Up, Stopped}
+use Rattle.ring_world.specs.declared.phase.Phase.TheVariants.{Up}
 use Rattle.ring_world.specs.World.{Row, no_row, no_numbers}
 use Rattle.ring_world.specs.Refusal.{refuse_if, or_else, is_empty}
-use Rattle.ring_world.specs.Deaths.Machine.{World, Packet, Member, Link, no_link, no_member, row_at, numbers_at, member_at, link_at, view_at}
+use Rattle.ring_world.specs.Deaths.Machine.{World, Packet, Member, no_link, no_member, row_at, numbers_at, member_at, link_at, view_at}
 use Rattle.ring_world.specs.Deaths.Walk.{oldest}
 use Rattle.ring_world.specs.Deaths.Step.{size, log_of, is_owned, taken_row, taker, popped, take_from}
-use Rattle.ring_world.specs.Deaths.Event.{id_of, of_member, on_link, is_stopped, running_refusal, take_refusal, end_refusal, holds_nothing, version_refusal, refusal, at_found, taken_by, effect}
+use Rattle.ring_world.specs.Deaths.Event.{of_member, on_link, is_stopped, running_refusal, take_refusal, end_refusal, version_refusal, refusal, at_found, taken_by, effect}
 use Rattle.ring_world.specs.Deaths.Lawful.{row_of}
 use Rattle.ring_world.proofs.Deaths.Take.{row_at-taker, take_row}
 use Rattle.ring_world.proofs.Deaths.Enabled.{take_effect}
-use Rattle.gm_member.specs.declared.taken.Taken.{Taken}
-use Rattle.gm_member.specs.Held.{Carried, Parcel, places, no_carried, carried_at, accepted_row}
+use Rattle.gm_member.specs.Held.{Carried, Parcel, no_carried, carried_at, accepted_row}
 use Rattle.gm_member.specs.News.{line_news}
-use Rattle.gm_member.specs.Stands.{carried_in, taken_of}
-use Rattle.gm_member.specs.Deaths.Held.{Held, Incoming, known_at, at_some, on_some, active_refused, take_refused, owns, accepted_rows, counted_in, took_from, took_held}
+use Rattle.gm_member.specs.Stands.{carried_in}
+use Rattle.gm_member.specs.Deaths.Held.{Held, Incoming, known_at, at_some, take_refused, owns, accepted_rows, counted_in, took_from, took_held}
 use Rattle.gm_member.specs.Deaths.News.{news_below, news_of}
-use Rattle.gm_member.specs.Deaths.Stands.{held_in, outgoing_in, incoming_in, waits_for, lines_in, StandsFor, IsNextPacket, taken_below, taken_in}
+use Rattle.gm_member.specs.Deaths.Stands.{held_in, outgoing_in, incoming_in, lines_in, StandsFor, IsNextPacket, taken_below, taken_in}
 use Rattle.gm_member.proofs.Places.{map-range_same, tabled_at}
 use Rattle.gm_member.proofs.TakeStands.{accepted_row-own, accepted_row-other, line_news_is}
 use Rattle.gm_member.proofs.Deaths.Fit.{IsFit}
