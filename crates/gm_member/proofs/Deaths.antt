@@ -1,2 +1,4 @@
 -- The tie of a member to the ring whose members may stop.
 pub mod Fit
+pub mod DoorLists
+pub mod Doors
