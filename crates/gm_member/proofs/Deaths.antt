@@ -2,3 +2,5 @@
 pub mod Fit
 pub mod DoorLists
 pub mod Doors
+pub mod DoorParts
+pub mod PickStands
