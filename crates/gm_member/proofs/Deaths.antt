@@ -4,3 +4,4 @@ pub mod DoorLists
 pub mod Doors
 pub mod DoorParts
 pub mod PickStands
+pub mod OpenDoors
