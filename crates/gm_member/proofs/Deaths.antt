@@ -5,3 +5,4 @@ pub mod Doors
 pub mod DoorParts
 pub mod PickStands
 pub mod OpenDoors
+pub mod RefreshStands
