@@ -6,3 +6,5 @@ pub mod DoorParts
 pub mod PickStands
 pub mod OpenDoors
 pub mod RefreshStands
+pub mod MarkStands
+pub mod OthersStand
