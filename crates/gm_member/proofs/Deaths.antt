@@ -8,3 +8,4 @@ pub mod OpenDoors
 pub mod RefreshStands
 pub mod MarkStands
 pub mod OthersStand
+pub mod DoorLifts
