@@ -7,5 +7,6 @@ pub mod PickStands
 pub mod OpenDoors
 pub mod RefreshStands
 pub mod MarkStands
+pub mod WithinLinks
 pub mod OthersStand
 pub mod DoorLifts

@@ -28,7 +28,8 @@ use Rattle.gm_member.proofs.Deaths.PickStands.{door_link, Picks, picks_some, pic
 use Rattle.gm_member.proofs.Deaths.OpenDoors.{arriving}
 use Rattle.gm_member.proofs.Deaths.RefreshStands.{refresh_refuses_too, refresh_stands}
 use Rattle.gm_member.proofs.Deaths.MarkStands.{MayMark, may_mark, mark_view, mark_world, mark_newest, mark_stands}
-use Rattle.gm_member.proofs.Deaths.OthersStand.{IsWithin, pick_others, refresh_others, mark_others}
+use Rattle.gm_member.proofs.Deaths.WithinLinks.{IsWithin}
+use Rattle.gm_member.proofs.Deaths.OthersStand.{pick_others, refresh_others, mark_others}
 
 -- every state of every run is fit
 abbrev pub AllFit : Type 0

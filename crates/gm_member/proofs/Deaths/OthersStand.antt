@@ -16,6 +16,7 @@ use Rattle.gm_member.specs.Deaths.Stands.{incoming_in, outgoing_in, waits_for, d
 use Rattle.gm_member.proofs.Deaths.DoorParts.{held_from, held_same, waits_by, member_other}
 use Rattle.gm_member.proofs.Deaths.OpenDoors.{sends_right, arriving, sending_member, opened_world, old_links, refresh_looks, refresh_opens, incoming_old, outgoing_old, door_after}
 use Rattle.gm_member.proofs.Deaths.RefreshStands.{current_lt, nothing_opens}
+use Rattle.gm_member.proofs.Deaths.WithinLinks.{IsWithin}
 use Rattle.gm_member.proofs.Deaths.MarkStands.{MayMark, mark_view, mark_world, mark_good, mark_look, view_held}
 
 -- ---- what is written of another member
@@ -29,15 +30,6 @@ pub pick_others : (w : World) (x y : ℕ) (c : Option ℕ) → y ≢ x → held_
 pick_others w x y c ne = member_others w x y (with_current c (member_at w x)) ne
 
 -- ---- a refresh
-
--- the links that a member has are there
-pub record IsWithin (w : World) (y : ℕ) : Type 0 where
-  pub out : (o : ℕ) → (member_at w y).out ≡ Some o → o < length w.links
-  pub current : (s : ℕ) → (member_at w y).current ≡ Some s → s < length w.links
-
--- those of a running one are
-pub runs_within : (w : World) (y : ℕ) → IsGood w → runs w y ≡ true → IsWithin w y
-runs_within w y h ry = record { out = λ o e. h.inv.linked.out_lt y o ry e; current = λ s e. h.inv.current.lt y s ry e }
 
 -- where a link opens
 opens_others : (w : World) (x v y : ℕ) → MayLook w x v → IsGood w → IsWithin w y → y ≢ x → held_in (opened_world w x v (old_links w x)) y ≡ record (held_in w y) { door = door_in w y ++ cond (nat_eq (right_of (view_at w v) x) y) (fresh_in w.initial w.more x v ∷ []) [] }
