@@ -1,5 +1,5 @@
 -- From what a member holds that picks or refreshes to every state in which it stands.
-use Rattle.std.proofs.Common.{◌≡◌, ◌≢◌, ℕ, ◌+◌, ◌-◌, ◌<◌, ◌≤◌, Bool, true, false, cond, nat_eq, nat_lt, List, [], ◌∷◌, ◌++◌, length, Option, Some, None, is_some, refl, sym, ap, subst, ◌∙◌, arith}
+use Rattle.std.proofs.Common.{◌≡◌, ◌≢◌, ℕ, ◌+◌, ◌<◌, ◌≤◌, Bool, true, false, cond, nat_eq, List, [], ◌∷◌, ◌++◌, Option, Some, None, is_some, refl, sym, ap, subst, ◌∙◌, arith}
 use Rattle.std.proofs.lemmas.List.{append-nil}
 use Rattle.ring_names.specs.declared.numbers.CreditSpec.{CreditSpec}
 use Rattle.ring_names.specs.declared.reason.Reason.TheVariants as reason
@@ -7,10 +7,9 @@ use Rattle.group_view.specs.View.{Group}
 use Rattle.group_view.specs.Change.{AreOpeningNames}
 use Rattle.ring_world.specs.declared.event.Event.{Event}
 use Rattle.ring_world.specs.declared.event.Event.TheVariants as event
-use Rattle.ring_world.specs.declared.phase.Phase.TheVariants.{Up}
 use Rattle.ring_world.specs.Refusal.{refuse_if, or_else}
 use Rattle.ring_world.specs.Deaths.View.{right_of}
-use Rattle.ring_world.specs.Deaths.Machine.{World, member_at, link_at, view_at, newest}
+use Rattle.ring_world.specs.Deaths.Machine.{World, member_at, view_at, newest}
 use Rattle.ring_world.specs.Deaths.OpenLinks.{version_of}
 use Rattle.ring_world.specs.Deaths.Step.{size, opening, current_is}
 use Rattle.ring_world.specs.Deaths.Event.{id_of, of_member, up_refusal, at_door, pick_refusal, refresh_refusal, mark_refusal, refreshed, at_found, refusal, effect, IsRun, last}
@@ -19,12 +18,12 @@ use Rattle.ring_world.proofs.Deaths.Rounds.{nat_eq-is}
 use Rattle.ring_world.proofs.Deaths.Refusals.{not_less}
 use Rattle.ring_world.proofs.Deaths.Happens.{IsGood}
 use Rattle.ring_world.proofs.Deaths.Enabled.{up_phase, up_later}
-use Rattle.gm_member.specs.Deaths.Held.{Held, Incoming, fresh_in, sends_to, pick_refused, picked_held, refresh_refused, refreshed_held, kept_door, first_at_door}
+use Rattle.gm_member.specs.Deaths.Held.{Held, Incoming, fresh_in, sends_to, pick_refused, picked_held, refresh_refused, refreshed_held, kept_door}
 use Rattle.gm_member.specs.Deaths.Stands.{held_in, door_in, Stands, WhereItStands, StepsTo}
 use Rattle.gm_member.proofs.Deaths.Fit.{IsFit}
 use Rattle.gm_member.proofs.Deaths.Doors.{view_version}
 use Rattle.gm_member.proofs.Deaths.DoorParts.{up_refused_none}
-use Rattle.gm_member.proofs.Deaths.PickStands.{door_link, Picks, picks_some, pick_refuses, pick_stands, MayPick, may_pick}
+use Rattle.gm_member.proofs.Deaths.PickStands.{Picks, picks_some, pick_refuses, pick_stands, MayPick, may_pick}
 use Rattle.gm_member.proofs.Deaths.OpenDoors.{arriving}
 use Rattle.gm_member.proofs.Deaths.RefreshStands.{refresh_refuses_too, refresh_stands}
 use Rattle.gm_member.proofs.Deaths.MarkStands.{MayMark, may_mark, mark_view, mark_world, mark_newest, mark_stands}
@@ -75,8 +74,8 @@ pick_steps w x h e some l f s =
     let k : Picks w x p.place = picks_some w x p.place f.good p.none p.first in (
       sym (pick_refusal_is w x h some l f s) ∙ e,
       ap picked_held s ∙ pick_stands w x p.place l f.good p.none p.first
-      ∙ sym (ap (λ o. held_in (at_found o w (λ t. current_is w x (Some t))) x) k.found)
-      ∙ sym (ap (λ o. held_in (at_found o w (λ y. at_found (at_door w y) w (λ t. current_is w y (Some t)))) x) (found_by_name w x h some l f s)),
+          ∙ sym (ap (λ o. held_in (at_found o w (λ t. current_is w x (Some t))) x) k.found)
+          ∙ sym (ap (λ o. held_in (at_found o w (λ y. at_found (at_door w y) w (λ t. current_is w y (Some t)))) x) (found_by_name w x h some l f s)),
     )
 
 -- another holds what it held
@@ -114,9 +113,9 @@ refresh_steps w x h v e upto is some l f s =
     let n : ℕ = v.version in (
       refresh_enabled w x h v.version e upto some l f s,
       ap (λ k. refreshed_alone k v) s
-      ∙ ap (λ (g : Group). record (refreshed_held (held_in w x) g) { door = kept_door g x (door_in w x) ++ cond (sends_to (held_in w x).out (right_of g x)) [] (cond (nat_eq (right_of g x) x) (fresh_in w.initial w.more x n ∷ []) []) }) is
-      ∙ refresh_stands w x v.version m f.good
-      ∙ sym (ap (λ o. held_in (at_found o w (λ y. refreshed w y n)) x) (found_by_name w x h some l f s)),
+          ∙ ap (λ (g : Group). record (refreshed_held (held_in w x) g) { door = kept_door g x (door_in w x) ++ cond (sends_to (held_in w x).out (right_of g x)) [] (cond (nat_eq (right_of g x) x) (fresh_in w.initial w.more x n ∷ []) []) }) is
+          ∙ refresh_stands w x v.version m f.good
+          ∙ sym (ap (λ o. held_in (at_found o w (λ y. refreshed w y n)) x) (found_by_name w x h some l f s)),
     )
 
 -- another has the link that opens to it
@@ -147,10 +146,10 @@ mark_steps w x d h dead there r some l f s =
     let g : Group = view_at (mark_world w d) (newest w + 1) in (
       r,
       ap (λ k. refreshed_alone k (mark_view w d)) s
-      ∙ ap (λ n. record (refreshed_held (held_in w x) (mark_view w d)) { door = kept_door (mark_view w d) x (door_in w x) ++ cond (sends_to (held_in w x).out (right_of (mark_view w d) x)) [] (cond (nat_eq (right_of (mark_view w d) x) x) (fresh_in w.initial w.more x n ∷ []) []) }) numbered
-      ∙ ap (λ a. record (refreshed_held (held_in w x) (mark_view w d)) { door = kept_door (mark_view w d) x (door_in w x) ++ cond (sends_to (held_in w x).out (right_of a x)) [] (cond (nat_eq (right_of a x) x) (fresh_in w.initial w.more x (newest w + 1) ∷ []) []) }) (sym (mark_newest w d f.good))
-      ∙ mark_stands w x d (marks w x d h.name dead l found there r) f.good
-      ∙ sym (ap (λ u. held_in u x) (marks_to w x d h.name dead found there)),
+          ∙ ap (λ n. record (refreshed_held (held_in w x) (mark_view w d)) { door = kept_door (mark_view w d) x (door_in w x) ++ cond (sends_to (held_in w x).out (right_of (mark_view w d) x)) [] (cond (nat_eq (right_of (mark_view w d) x) x) (fresh_in w.initial w.more x n ∷ []) []) }) numbered
+          ∙ ap (λ a. record (refreshed_held (held_in w x) (mark_view w d)) { door = kept_door (mark_view w d) x (door_in w x) ++ cond (sends_to (held_in w x).out (right_of a x)) [] (cond (nat_eq (right_of a x) x) (fresh_in w.initial w.more x (newest w + 1) ∷ []) []) }) (sym (mark_newest w d f.good))
+          ∙ mark_stands w x d (marks w x d h.name dead l found there r) f.good
+          ∙ sym (ap (λ u. held_in u x) (marks_to w x d h.name dead found there)),
     )
 
 pub mark_reaches : (w : World) (x d y : ℕ) (h k : Held) (dead : List ℕ) → id_of w dead ≡ Some d → refusal w (event.Mark h.name dead) ≡ None → 1 ≤ x → x < size w → IsFit w → IsWithin w y → y ≢ x → Stands w x h → Stands w y k → Stands (effect w (event.Mark h.name dead)) y (record k { door = k.door ++ arriving (mark_world w d) x (newest w + 1) y })

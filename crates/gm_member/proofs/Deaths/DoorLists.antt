@@ -1,13 +1,13 @@
 -- Places that pass a test, in their order, and the first of them that passes another.
-use Rattle.std.proofs.Common.{◌≡◌, ◌≢◌, ℕ, zero, suc, ◌+◌, ◌<◌, ◌≤◌, Bool, true, false, cond, not, nat_eq, nat_lt, List, [], ◌∷◌, ◌++◌, length, get_or, map, take, drop, Option, Some, None, refl, sym, ap, ⊎_elim, ◌∙◌, arith}
+use Rattle.std.proofs.Common.{◌≡◌, ◌≢◌, ℕ, zero, suc, ◌+◌, ◌<◌, ◌≤◌, Bool, true, false, cond, not, nat_eq, nat_lt, List, [], ◌∷◌, ◌++◌, length, get_or, map, Option, Some, None, refl, sym, ap, subst, ⊎_elim, ◌∙◌, arith}
 use Rattle.std.specs.Prelude.{◌&&◌, position, option_map}
 use Rattle.std.specs.List.{filter, find, range_with_len, position_or_len}
-use Rattle.std.proofs.lemmas.Bool.{cases_lt, lt-ltb, le-ltb}
-use Rattle.std.proofs.lemmas.List.{length-map}
+use Rattle.std.proofs.lemmas.Bool.{cases_eq, cases_lt, lt-ltb, le-ltb}
 use Rattle.std.proofs.lemmas.List.Quantifiers.{position-Some}
 use Rattle.std.proofs.lemmas.List.FromFn.{fill_by_all, get_or-range_with_len, length-range_with_len}
+use Rattle.group_view.specs.Ring.{is_in}
 use Rattle.ring_world.proofs.Maps.{position_map}
-use Rattle.ring_world.proofs.Deaths.Rounds.{nat_eq-is, nat_eq-same, nat_eq-not}
+use Rattle.ring_world.proofs.Deaths.Rounds.{nat_eq-same, nat_eq-not}
 use Rattle.gm_member.specs.Deaths.Held.{without}
 
 -- ---- tests
@@ -51,6 +51,31 @@ filter_more t a (suc n) k e =
     by_case : filter t (range_with_len (a + 1) (n + 1)) ≡ filter t (range_with_len (a + 1) n) ++ cond (t k) (k ∷ []) [] → (b : Bool) → cond b (a ∷ filter t (range_with_len (a + 1) (n + 1))) (filter t (range_with_len (a + 1) (n + 1))) ≡ cond b (a ∷ filter t (range_with_len (a + 1) n)) (filter t (range_with_len (a + 1) n)) ++ cond (t k) (k ∷ []) []
     by_case ih true = ap (λ xs. a ∷ xs) ih
     by_case ih false = ih
+
+-- one before all of them isn't there
+before_all : (t : ℕ → Bool) (a n s : ℕ) → s < a → is_in s (filter t (range_with_len a n)) ≡ false
+before_all t a zero s l = refl
+before_all t a (suc n) s l = by_case (before_all t (a + 1) n s (omega arith)) (t a)
+  where
+    by_case : is_in s (filter t (range_with_len (a + 1) n)) ≡ false → (b : Bool) → is_in s (cond b (a ∷ filter t (range_with_len (a + 1) n)) (filter t (range_with_len (a + 1) n))) ≡ false
+    by_case ih true = ap (λ c. cond c true (is_in s (filter t (range_with_len (a + 1) n)))) (nat_eq-not s a (λ (same : s ≡ a). omega arith)) ∙ ih
+    by_case ih false = ih
+
+-- a place is there exactly where it passes
+pub in_places : (t : ℕ → Bool) (a n s : ℕ) → a ≤ s → s < a + n → is_in s (filter t (range_with_len a n)) ≡ t s
+in_places t a zero s l m = absurd (omega arith)
+in_places t a (suc n) s l m = ⊎_elim
+    (λ (same : a ≡ s). subst (λ k. is_in k (filter t (range_with_len a (suc n))) ≡ t k) same (first (before_all t (a + 1) n a (omega arith)) (t a)))
+    (λ (ne : a ≢ s). later (nat_eq-not s a (λ (same : s ≡ a). ne (sym same))) (in_places t (a + 1) n s (omega arith) (omega arith)) (t a))
+    (cases_eq a s)
+  where
+    first : is_in a (filter t (range_with_len (a + 1) n)) ≡ false → (b : Bool) → is_in a (cond b (a ∷ filter t (range_with_len (a + 1) n)) (filter t (range_with_len (a + 1) n))) ≡ b
+    first ih true = ap (λ c. cond c true (is_in a (filter t (range_with_len (a + 1) n)))) (nat_eq-same a)
+    first ih false = ih
+
+    later : nat_eq s a ≡ false → is_in s (filter t (range_with_len (a + 1) n)) ≡ t s → (b : Bool) → is_in s (cond b (a ∷ filter t (range_with_len (a + 1) n)) (filter t (range_with_len (a + 1) n))) ≡ t s
+    later ne ih true = ap (λ c. cond c true (is_in s (filter t (range_with_len (a + 1) n)))) ne ∙ ih
+    later ne ih false = ih
 
 -- ---- the first that passes
 

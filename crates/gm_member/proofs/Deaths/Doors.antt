@@ -1,6 +1,7 @@
 -- What stands at a member's door: the test by the member's view, and the ring's.
-use Rattle.std.proofs.Common.{◌≡◌, ℕ, zero, suc, ◌+◌, ◌<◌, ◌≤◌, Bool, true, false, cond, not, nat_eq, nat_lt, nat_le, List, [], ◌∷◌, length, get_or, max, Option, Some, None, refl, sym, ap, subst, ◌∙◌, ⊎_elim, arith}
+use Rattle.std.proofs.Common.{◌≡◌, ℕ, zero, suc, ◌<◌, ◌≤◌, Bool, true, false, not, nat_eq, nat_lt, nat_le, List, length, get_or, map, max, refl, sym, ap, subst, ◌∙◌, ⊎_elim, arith}
 use Rattle.std.specs.Prelude.{◌&&◌, ◌||◌}
+use Rattle.std.specs.List.{filter, range_with_len}
 use Rattle.std.proofs.lemmas.Bool.{and_parts, false≢true, leb-true, le-leb, lt-ltb, le-ltb, cases_lt}
 use Rattle.group_view.specs.Ring.{is_in}
 use Rattle.group_view.specs.View.{Group, entry_in}
@@ -8,16 +9,16 @@ use Rattle.group_view.specs.Since as group
 use Rattle.group_view.specs.Since.{no_group, IsSince, KeepsLeft, since_at}
 use Rattle.group_view.proofs.KeptLeft.{keeps_since, since_keeps}
 use Rattle.ring_world.specs.Deaths.View.{ids, left_of, left_at}
-use Rattle.ring_world.specs.Deaths.Machine.{Link, World, member_at, link_at, view_at, newest, left, is_kept}
+use Rattle.ring_world.specs.Deaths.Machine.{Link, World, link_at, view_at, newest, left, is_kept}
 use Rattle.ring_world.specs.Deaths.OpenLinks.{version_of, since_in, comes_from_left, passes, is_current, is_door_link}
 use Rattle.ring_world.specs.Deaths.Event.{is_at_door}
 use Rattle.ring_world.proofs.Deaths.Rounds.{nat_eq-is, nat_eq-same}
 use Rattle.ring_world.proofs.Deaths.Good.{Kept, kept_true, true_kept}
 use Rattle.ring_world.proofs.Deaths.Refresh.{kept_less}
-use Rattle.ring_world.proofs.Deaths.Views.{left_is}
 use Rattle.ring_world.proofs.Deaths.Happens.{IsGood}
-use Rattle.gm_member.specs.Deaths.Held.{Incoming, since_of, is_for, stays}
-use Rattle.gm_member.specs.Deaths.Stands.{incoming_in, waits_for}
+use Rattle.gm_member.specs.Deaths.Held.{Incoming, is_for, stays}
+use Rattle.gm_member.specs.Deaths.Stands.{incoming_in, waits_for, door_links, door_in}
+use Rattle.gm_member.proofs.Deaths.DoorLists.{filter_agree, in_places}
 
 -- ---- views and tests
 
@@ -188,3 +189,26 @@ door_test w x s h there none =
     tests true false false true f e = refl
     tests true false false false true e = refl
     tests true false false false false e = refl
+
+-- one that waits and comes from the left in x's view is one that x may pick
+pub door_is_pickable : (w : World) (x s : ℕ) → IsGood w → s < length w.links → waits_for w x s ≡ true → is_for (view_at w (version_of w x)) x (incoming_in w s) ≡ true → is_at_door w x (link_at w s) ≡ true
+door_is_pickable w x s h there waits left_one = door_test w x s h there (not_current (nat_eq (link_at w s).receiver x) (is_current w x s) (link_at w s).over (passes w x (link_at w s)) waits) ∙ rw (waits, left_one) refl
+  where
+    not_current : (r c o p : Bool) → ((r && (not c && not o)) && p) ≡ true → c ≡ false
+    not_current r false o p e = refl
+    not_current true true o p e = absurd (false≢true e)
+    not_current false true o p e = absurd (false≢true e)
+
+-- one that x may pick and doesn't take from waits, and comes from the left in x's view
+pub pickable_is_door : (w : World) (x s : ℕ) → IsGood w → s < length w.links → is_current w x s ≡ false → is_at_door w x (link_at w s) ≡ true → (waits_for w x s ≡ true) × (is_for (view_at w (version_of w x)) x (incoming_in w s) ≡ true)
+pickable_is_door w x s h there none e =
+    let a = and_parts (waits_for w x s) (is_for (view_at w (version_of w x)) x (incoming_in w s)) (sym (door_test w x s h there none) ∙ e) in
+    (a.0, a.1)
+
+-- a link is at the door exactly where it waits
+pub in_door : (w : World) (x s : ℕ) → s < length w.links → is_in s (door_links w x) ≡ waits_for w x s
+in_door w x s there = in_places (waits_for w x) 0 (length w.links) s (omega arith) (omega arith)
+
+-- the whole door, by what the member holds
+pub door_in_is : (w : World) (x : ℕ) → IsGood w → door_in w x ≡ map (incoming_in w) (filter (λ s. is_door_link w x s && stays (view_at w (version_of w x)) x (incoming_in w s)) (range_with_len 0 (length w.links)))
+door_in_is w x h = ap (map (incoming_in w)) (filter_agree (waits_for w x) (λ s. is_door_link w x s && stays (view_at w (version_of w x)) x (incoming_in w s)) 0 (length w.links) (λ s a b. waits_is w x s h (omega arith)))

@@ -1,5 +1,5 @@
 -- A member that has another marked dead stands where the ring's mark leaves it.
-use Rattle.std.proofs.Common.{◌≡◌, ℕ, ◌+◌, ◌-◌, ◌<◌, ◌≤◌, Bool, true, not, nat_eq, nat_le, [], ◌∷◌, ◌++◌, length, map, max, None, refl, sym, ap, subst, ◌∙◌, arith}
+use Rattle.std.proofs.Common.{◌≡◌, ℕ, ◌+◌, ◌<◌, true, nat_eq, nat_le, [], ◌∷◌, ◌++◌, length, map, max, None, refl, sym, ap, subst, ◌∙◌, arith}
 use Rattle.std.specs.Prelude.{◌&&◌}
 use Rattle.std.proofs.lemmas.List.{length_push}
 use Rattle.group_view.specs.View.{Group, entry_in}

@@ -1,25 +1,24 @@
 -- A refresh as it looks from the doors: which link opens, to whom, and what the others are after it.
-use Rattle.std.proofs.Common.{◌≡◌, ◌≢◌, ℕ, ◌+◌, ◌<◌, ◌≤◌, Bool, true, false, cond, not, nat_eq, List, [], ◌∷◌, ◌++◌, length, get_or, set, map, max, Option, Some, None, if◌then◌else◌, refl, sym, ap, subst, ◌∙◌, ⊎_elim, arith}
+use Rattle.std.proofs.Common.{◌≡◌, ℕ, ◌+◌, ◌<◌, ◌≤◌, Bool, true, false, cond, not, nat_eq, List, [], ◌∷◌, ◌++◌, length, get_or, set, map, max, Option, Some, None, refl, sym, ap, subst, ◌∙◌, ⊎_elim, arith}
 use Rattle.std.specs.Prelude.{◌&&◌, option_map}
 use Rattle.std.specs.List.{filter, range_with_len}
-use Rattle.std.proofs.lemmas.Bool.{cases_eq, cases_lt, false≢true}
+use Rattle.std.proofs.lemmas.Bool.{cases_lt, false≢true}
 use Rattle.std.proofs.lemmas.List.{length-set, length_push, get_or_append_left, get_or_push, set-set, map-append}
-use Rattle.group_view.specs.Ring.{is_in}
 use Rattle.group_view.proofs.Passing.{right_inside}
 use Rattle.ring_world.specs.Deaths.View.{ids, is_live, right_of}
 use Rattle.ring_world.specs.declared.phase.Ending.TheVariants.{Moved}
-use Rattle.ring_world.specs.Deaths.Machine.{Member, Link, World, no_link, no_sending, member_at, link_at, view_at, newest, left, right, runs, runs_phase}
-use Rattle.ring_world.specs.Deaths.OpenLinks.{version_of, comes_from_left, passes, is_place, is_current}
-use Rattle.ring_world.specs.Deaths.Step.{size, with_member, with_link, ended, end_out, pushed, next_packet, fresh_link, moved_to, look_at, open_to}
+use Rattle.ring_world.specs.Deaths.Machine.{Member, Link, World, no_link, no_sending, member_at, link_at, view_at, newest, left, runs, runs_phase}
+use Rattle.ring_world.specs.Deaths.OpenLinks.{comes_from_left, is_place}
+use Rattle.ring_world.specs.Deaths.Step.{size, ended, end_out, pushed, next_packet, fresh_link, moved_to, look_at, open_to}
 use Rattle.ring_world.specs.Deaths.Event.{send_to, refreshed}
 use Rattle.ring_world.proofs.Deaths.Conditions.{MayLook}
 use Rattle.ring_world.proofs.Deaths.Lists.{at_set, set_nothing}
-use Rattle.ring_world.proofs.Deaths.Rounds.{nat_eq-is, nat_eq-same, nat_eq-not}
+use Rattle.ring_world.proofs.Deaths.Rounds.{nat_eq-is}
 use Rattle.ring_world.proofs.Deaths.Good.{kept_true}
-use Rattle.ring_world.proofs.Deaths.Views.{left_is, right_is}
+use Rattle.ring_world.proofs.Deaths.Views.{right_is}
 use Rattle.ring_world.proofs.Deaths.Happens.{IsGood}
 use Rattle.gm_member.specs.Deaths.Held.{Incoming, fresh_in, sends_to}
-use Rattle.gm_member.specs.Deaths.Stands.{incoming_in, outgoing_in, waits_for, door_links, door_in, held_in}
+use Rattle.gm_member.specs.Deaths.Stands.{incoming_in, outgoing_in, held_in}
 use Rattle.gm_member.proofs.Deaths.DoorLists.{filter_agree, made_agree, filter_more}
 use Rattle.gm_member.proofs.Deaths.Doors.{OpenedRight, comes_is}
 use Rattle.gm_member.proofs.Deaths.DoorParts.{waits_by, member_same}

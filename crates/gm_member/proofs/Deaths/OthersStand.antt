@@ -1,22 +1,23 @@
 -- What the other members hold after one has picked, refreshed or marked: as before, but for a link that opens to one of them.
-use Rattle.std.proofs.Common.{◌≡◌, ◌≢◌, ℕ, ◌+◌, ◌<◌, ◌≤◌, Bool, true, false, cond, nat_eq, List, [], ◌∷◌, ◌++◌, length, map, Option, Some, None, refl, sym, ap, ◌∙◌, arith}
+use Rattle.std.proofs.Common.{◌≡◌, ◌≢◌, ℕ, ◌+◌, ◌<◌, ◌≤◌, Bool, true, false, cond, nat_eq, List, [], ◌∷◌, ◌++◌, length, map, Option, Some, None, refl, sym, ap, subst, ◌∙◌}
 use Rattle.std.specs.Prelude.{option_map}
 use Rattle.std.specs.List.{filter, range_with_len}
 use Rattle.std.proofs.lemmas.List.{append-nil}
 use Rattle.ring_world.specs.Deaths.View.{right_of}
-use Rattle.ring_world.specs.Deaths.Machine.{World, Member, member_at, link_at, view_at, newest, runs}
-use Rattle.ring_world.specs.Deaths.OpenLinks.{version_of, is_place}
-use Rattle.ring_world.specs.Deaths.Step.{size, with_member, with_current, current_is, moved_to, look_at}
+use Rattle.ring_world.specs.Deaths.Machine.{World, Member, member_at, view_at, newest}
+use Rattle.ring_world.specs.Deaths.OpenLinks.{version_of}
+use Rattle.ring_world.specs.Deaths.Step.{with_member, with_current, current_is, moved_to}
 use Rattle.ring_world.specs.Deaths.Event.{refreshed}
 use Rattle.ring_world.proofs.Deaths.Conditions.{MayLook}
-use Rattle.ring_world.proofs.Deaths.Rounds.{nat_eq-not}
+use Rattle.ring_world.proofs.Deaths.Rounds.{nat_eq-is}
 use Rattle.ring_world.proofs.Deaths.Happens.{IsGood}
-use Rattle.gm_member.specs.Deaths.Held.{Held, Incoming, fresh_in}
+use Rattle.gm_member.specs.Deaths.Held.{Held, Incoming, fresh_in, stays, kept_door, refreshed_held, collected_held}
 use Rattle.gm_member.specs.Deaths.Stands.{incoming_in, outgoing_in, waits_for, door_in, held_in}
 use Rattle.gm_member.proofs.Deaths.DoorParts.{held_from, held_same, waits_by, member_other}
-use Rattle.gm_member.proofs.Deaths.OpenDoors.{sends_right, arriving, sending_member, opened_world, old_links, refresh_looks, refresh_opens, incoming_old, outgoing_old, door_after}
-use Rattle.gm_member.proofs.Deaths.RefreshStands.{current_lt, nothing_opens}
+use Rattle.gm_member.proofs.Deaths.OpenDoors.{sends_right, arriving, new_link, new_right, new_comes, sending_member, opened_world, old_links, refresh_looks, refresh_opens, incoming_old, outgoing_old, door_after}
+use Rattle.gm_member.proofs.Deaths.RefreshStands.{current_lt, nothing_opens, refresh_stands}
 use Rattle.gm_member.proofs.Deaths.WithinLinks.{IsWithin}
+use Rattle.gm_member.proofs.Deaths.Doors.{OpenedRight, comes_is, stays_is}
 use Rattle.gm_member.proofs.Deaths.MarkStands.{MayMark, mark_view, mark_world, mark_good, mark_look, view_held}
 
 -- ---- what is written of another member
@@ -73,3 +74,38 @@ pub mark_others : (w : World) (x d y : ℕ) → MayMark w x d → IsGood w → I
 mark_others w x d y m h i ne =
     refresh_others (mark_world w d) x (newest w + 1) y (mark_look w x d m h) (mark_good w x d m h) (record { out = i.out; current = i.current }) ne
     ∙ ap (λ (k : Held). record k { door = k.door ++ arriving (mark_world w d) x (newest w + 1) y }) (sym (view_held w (mark_view w d) y h))
+
+-- ---- the link comes to its receiver
+
+-- the receiver keeps it, whatever its view
+pub new_stays : (w : World) (x v u : ℕ) → MayLook w x v → IsGood w → u ≤ newest w → stays (view_at w u) (right_of (view_at w v) x) (fresh_in w.initial w.more x v) ≡ true
+new_stays w x v u m h upto =
+    let o : OpenedRight w (new_link w x v) = new_right w x v m h in
+    stays_is w (new_link w x v) u h o upto ∙ sym (comes_is w (new_link w x v) u h o upto) ∙ new_comes w x v u m h upto
+
+-- so all that arrives stays
+pub arriving_stays : (w : World) (x v u y : ℕ) → MayLook w x v → IsGood w → u ≤ newest w → filter (stays (view_at w u) y) (arriving w x v y) ≡ arriving w x v y
+arriving_stays w x v u y m h upto = by_out (sends_right w x v)
+  where
+    by_test : (b : Bool) → b ≡ true → cond b (fresh_in w.initial w.more x v ∷ []) [] ≡ fresh_in w.initial w.more x v ∷ []
+    by_test b e = rw e refl
+
+    by_receiver : (b : Bool) → nat_eq (right_of (view_at w v) x) y ≡ b → filter (stays (view_at w u) y) (cond b (fresh_in w.initial w.more x v ∷ []) []) ≡ cond b (fresh_in w.initial w.more x v ∷ []) []
+    by_receiver true e = by_test (stays (view_at w u) y (fresh_in w.initial w.more x v)) (subst (λ q. stays (view_at w u) q (fresh_in w.initial w.more x v) ≡ true) (nat_eq-is (right_of (view_at w v) x) y e) (new_stays w x v u m h upto))
+    by_receiver false e = refl
+
+    by_out : (b : Bool) → filter (stays (view_at w u) y) (cond b [] (cond (nat_eq (right_of (view_at w v) x) y) (fresh_in w.initial w.more x v ∷ []) [])) ≡ cond b [] (cond (nat_eq (right_of (view_at w v) x) y) (fresh_in w.initial w.more x v ∷ []) [])
+    by_out true = refl
+    by_out false = by_receiver (nat_eq (right_of (view_at w v) x) y) refl
+
+-- another member that collects it stands where the refresh leaves it
+pub refresh_collects : (w : World) (x v y : ℕ) → MayLook w x v → IsGood w → IsWithin w y → y ≢ x → collected_held (held_in w y) (arriving w x v y) ≡ held_in (refreshed w x v) y
+refresh_collects w x v y m h i ne =
+    ap (λ ls. record (held_in w y) { door = door_in w y ++ ls }) (arriving_stays w x v (version_of w y) y m h (h.inv.is_ring.held y))
+    ∙ sym (refresh_others w x v y m h i ne)
+
+-- and so does the one that refreshed, which collects what it opened to itself
+pub refresh_collects_own : (w : World) (x v : ℕ) → MayLook w x v → IsGood w → collected_held (refreshed_held (held_in w x) (view_at w v)) (arriving w x v x) ≡ held_in (refreshed w x v) x
+refresh_collects_own w x v m h =
+    ap (λ ls. record (refreshed_held (held_in w x) (view_at w v)) { door = kept_door (view_at w v) x (door_in w x) ++ ls }) (arriving_stays w x v v x m h m.upto)
+    ∙ refresh_stands w x v m h

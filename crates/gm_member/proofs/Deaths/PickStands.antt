@@ -1,7 +1,7 @@
 -- A member that picks takes from the link that the ring picks, and stands where that leaves it.
-use Rattle.std.proofs.Common.{◌≡◌, ℕ, ◌+◌, ◌<◌, Bool, true, false, not, nat_eq, List, length, get_or, map, Option, Some, None, is_some, refl, sym, ap, ◌∙◌, arith}
-use Rattle.std.specs.Prelude.{◌&&◌, position, option_map}
-use Rattle.std.specs.List.{filter, find, range_with_len}
+use Rattle.std.proofs.Common.{◌≡◌, ℕ, ◌<◌, Bool, true, false, not, nat_eq, length, get_or, map, Option, Some, None, is_some, refl, sym, ap, ◌∙◌, arith}
+use Rattle.std.specs.Prelude.{◌&&◌, option_map}
+use Rattle.std.specs.List.{range_with_len}
 use Rattle.std.proofs.lemmas.List.{length-map, get_or-map}
 use Rattle.std.proofs.lemmas.List.Quantifiers.{position-Some}
 use Rattle.ring_names.specs.declared.reason.Reason.{Reason}
@@ -14,7 +14,7 @@ use Rattle.ring_world.specs.Deaths.Event.{is_at_door, at_door, pick_refusal, up_
 use Rattle.ring_world.proofs.Maps.{position_map}
 use Rattle.ring_world.proofs.Deaths.Happens.{IsGood}
 use Rattle.ring_world.proofs.Deaths.Refusals.{none_of}
-use Rattle.gm_member.specs.Deaths.Held.{Held, Incoming, no_incoming, door_at, is_for, on_some, at_some, first_at_door, pick_refused, picked_held, picked_at, without}
+use Rattle.gm_member.specs.Deaths.Held.{Incoming, no_incoming, door_at, is_for, on_some, at_some, first_at_door, pick_refused, picked_held, picked_at, without}
 use Rattle.gm_member.specs.Deaths.Stands.{incoming_in, outgoing_in, waits_for, door_links, door_in, held_in}
 use Rattle.gm_member.proofs.Deaths.DoorLists.{filter_agree, find_both, find_agree, find_position, position_finds, filter_without}
 use Rattle.gm_member.proofs.Deaths.Doors.{view_version, door_test}

@@ -1,27 +1,26 @@
 -- A member that refreshes stands where the ring's refresh leaves it.
-use Rattle.std.proofs.Common.{◌≡◌, ◌≢◌, ℕ, zero, suc, ◌+◌, ◌<◌, ◌≤◌, Bool, true, false, cond, not, nat_eq, nat_lt, List, [], ◌∷◌, ◌++◌, length, get_or, map, max, Option, Some, None, is_some, refl, sym, ap, subst, ◌∙◌, arith}
+use Rattle.std.proofs.Common.{◌≡◌, ◌≢◌, ℕ, zero, suc, ◌+◌, ◌<◌, ◌≤◌, Bool, true, false, cond, not, nat_eq, nat_lt, List, [], ◌∷◌, ◌++◌, length, get_or, map, max, Option, Some, None, is_some, refl, sym, ap, ◌∙◌, arith}
 use Rattle.std.specs.Prelude.{◌&&◌, ◌||◌, option_map}
 use Rattle.std.specs.List.{filter, range_with_len}
-use Rattle.std.proofs.lemmas.Bool.{le-ltb, false≢true}
-use Rattle.std.proofs.lemmas.List.{append-nil, length-set}
+use Rattle.std.proofs.lemmas.Bool.{le-ltb}
+use Rattle.std.proofs.lemmas.List.{append-nil}
 use Rattle.ring_names.specs.declared.reason.Reason.{Reason}
 use Rattle.ring_names.specs.declared.reason.Reason.TheVariants as reason
-use Rattle.group_view.specs.View.{Group}
 use Rattle.ring_world.specs.World.{Row, no_row, no_numbers}
 use Rattle.ring_world.specs.Member.{next_numbers}
 use Rattle.ring_world.specs.Refusal.{refuse_if, or_else}
 use Rattle.ring_world.specs.Deaths.View.{right_of}
 use Rattle.ring_world.specs.Deaths.Machine.{Member, World, no_sending, row_at, numbers_at, member_at, link_at, view_at, newest, runs, runs_phase, is_kept, is_waiting}
 use Rattle.ring_world.specs.Deaths.OpenLinks.{version_of, comes_from_left, passes, is_place, is_current}
-use Rattle.ring_world.specs.Deaths.Step.{size, next_lines, next_packet, moved_to, look_at, kept_current}
+use Rattle.ring_world.specs.Deaths.Step.{next_lines, next_packet, moved_to, look_at, kept_current}
 use Rattle.ring_world.specs.Deaths.Event.{refreshed, up_refusal, refresh_refusal, is_stopped}
 use Rattle.ring_world.proofs.Maps.{map-range_same}
 use Rattle.ring_world.proofs.Deaths.Conditions.{MayLook}
 use Rattle.ring_world.proofs.Deaths.Rounds.{nat_eq-is, nat_eq-not}
 use Rattle.ring_world.proofs.Deaths.Happens.{IsGood}
 use Rattle.gm_member.specs.Held.{places}
-use Rattle.gm_member.specs.Deaths.Held.{Held, Outgoing, Incoming, known_at, numbers_of, nothing_sent, next_sent, put_on, fresh_in, fresh_out, first_out, out_to, looked_held, refreshed_held, refresh_refused, up_refused, kept_in, kept_door, is_for, stays}
-use Rattle.gm_member.specs.Deaths.Stands.{incoming_in, outgoing_in, waits_for, door_links, door_in, held_in}
+use Rattle.gm_member.specs.Deaths.Held.{known_at, numbers_of, nothing_sent, put_on, fresh_in, fresh_out, first_out, out_to, looked_held, refreshed_held, refresh_refused, up_refused, kept_in, kept_door, stays}
+use Rattle.gm_member.specs.Deaths.Stands.{incoming_in, outgoing_in, waits_for, door_in, held_in}
 use Rattle.gm_member.proofs.Places.{tabled_at}
 use Rattle.gm_member.proofs.Deaths.DoorLists.{filter_agree, filter_made}
 use Rattle.gm_member.proofs.Deaths.Doors.{view_version, comes_stays, passes_stays, stays_kept, stays_less, stays_for}

@@ -1,5 +1,5 @@
 -- The links that a member has, running or stopped, are there in every state of every run.
-use Rattle.std.proofs.Common.{◌≡◌, ℕ, zero, suc, ◌+◌, ◌-◌, ◌<◌, ◌≤◌, Bool, true, false, nat_eq, List, [], ◌∷◌, ◌++◌, length, get_or, map, Option, Some, None, if◌then◌else◌, refl, sym, ap, subst, ◌∙◌, ⊎_elim, arith}
+use Rattle.std.proofs.Common.{◌≡◌, ℕ, zero, suc, ◌+◌, ◌<◌, ◌≤◌, Bool, true, false, nat_eq, List, [], ◌∷◌, ◌++◌, length, get_or, map, Option, Some, None, if◌then◌else◌, refl, sym, ap, subst, ◌∙◌, ⊎_elim, arith}
 use Rattle.std.specs.List.{range_with_len}
 use Rattle.std.proofs.lemmas.Bool.{cases_lt}
 use Rattle.std.proofs.lemmas.List.{length-set, length_push}
@@ -18,7 +18,7 @@ use Rattle.ring_world.specs.declared.phase.Ending.TheVariants.{Moved, Halted}
 use Rattle.ring_world.specs.Deaths.View.{right_of}
 use Rattle.ring_world.specs.Deaths.Machine.{Member, Link, World, no_link, no_member, member_at, link_at, view_at, newest, runs, runs_phase, is_kept}
 use Rattle.ring_world.specs.Deaths.Walk.{oldest}
-use Rattle.ring_world.specs.Deaths.Step.{size, published, with_member, with_link, with_view, current_is, with_current, ended, end_out, stop_at, stopped, taker, begun, take_from, begin_from, leave_link, moved_to, look_at, open_to, opened_link, put_on, gain_on, opening, opening_member}
+use Rattle.ring_world.specs.Deaths.Step.{size, published, with_member, with_link, with_view, current_is, with_current, ended, end_out, stop_at, stopped, taker, begun, leave_link, moved_to, look_at, open_to, opened_link, put_on, gain_on, opening, opening_member}
 use Rattle.ring_world.specs.Deaths.Event.{id_of, of_member, at_found, at_door, is_at_door, taken_by, send_to, refreshed, refusal, effect, IsRun, last}
 use Rattle.ring_world.proofs.Deaths.Lists.{at_set, set_nothing, get_or_beyond}
 use Rattle.ring_world.proofs.Deaths.KeptLook.{kept_current-Some}
