@@ -18,7 +18,7 @@ use Rattle.ring_world.proofs.Deaths.Rounds.{nat_eq-is}
 use Rattle.ring_world.proofs.Deaths.Refusals.{not_less}
 use Rattle.ring_world.proofs.Deaths.Happens.{IsGood}
 use Rattle.ring_world.proofs.Deaths.Enabled.{up_phase, up_later}
-use Rattle.gm_member.specs.Deaths.Held.{Held, Incoming, fresh_in, sends_to, pick_refused, picked_held, refresh_refused, refreshed_held, kept_door}
+use Rattle.gm_member.specs.Deaths.Held.{Held, Incoming, fresh_in, sends_to, pick_refused, picked_held, refresh_refused, refreshed_held, collected_held, kept_door}
 use Rattle.gm_member.specs.Deaths.Stands.{held_in, door_in, Stands, WhereItStands, StepsTo}
 use Rattle.gm_member.proofs.Deaths.Fit.{IsFit}
 use Rattle.gm_member.proofs.Deaths.Doors.{view_version}
@@ -27,16 +27,20 @@ use Rattle.gm_member.proofs.Deaths.PickStands.{Picks, picks_some, pick_refuses, 
 use Rattle.gm_member.proofs.Deaths.OpenDoors.{arriving}
 use Rattle.gm_member.proofs.Deaths.RefreshStands.{refresh_refuses_too, refresh_stands}
 use Rattle.gm_member.proofs.Deaths.MarkStands.{MayMark, may_mark, mark_view, mark_world, mark_newest, mark_stands}
-use Rattle.gm_member.proofs.Deaths.WithinLinks.{IsWithin}
-use Rattle.gm_member.proofs.Deaths.OthersStand.{pick_others, refresh_others, mark_others}
+use Rattle.gm_member.proofs.Deaths.WithinLinks.{IsWithin, reached_within}
+use Rattle.gm_member.proofs.Deaths.OthersStand.{pick_others, refresh_others, mark_others, refresh_collects, mark_collects}
 
 -- every state of every run is fit
 abbrev pub AllFit : Type 0
 AllFit = (credit : CreditSpec) (names : List (List ℕ)) (events : List Event) → AreOpeningNames names → IsRun (opening credit names) events → IsFit (last (opening credit names) events)
 
--- the link that a member opens to itself by a refresh: one where it is alone and doesn't send to itself yet, else none
+-- the link that a member opens by a refresh, where it goes to y: none where the member sends to its right neighbour already
+abbrev pub arriving_from : Held → Group → ℕ → List Incoming
+arriving_from h v y = cond (sends_to h.out (right_of v h.id)) [] (cond (nat_eq (right_of v h.id) y) (fresh_in h.initial h.more h.id v.version ∷ []) [])
+
+-- the one that it opens to itself: only where it is alone and doesn't send to itself yet
 abbrev pub own_arriving : Held → Group → List Incoming
-own_arriving h v = cond (sends_to h.out (right_of v h.id)) [] (cond (nat_eq (right_of v h.id) h.id) (fresh_in h.initial h.more h.id v.version ∷ []) [])
+own_arriving h v = arriving_from h v h.id
 
 -- the member after a refresh, with it
 abbrev pub refreshed_alone : Held → Group → Held
@@ -88,6 +92,13 @@ pick_leaves w x y h k some l f ne s sk =
     by_door None = refl
     by_door (Some t) = sym (pick_others w x y (Some t) ne)
 
+-- the link that opens is the ring's
+pub arriving_is : (w : World) (x y : ℕ) (h : Held) (v : Group) → Stands w x h → v ≡ view_at w v.version → arriving_from h v y ≡ arriving w x v.version y
+arriving_is w x y h v s is =
+    let n : ℕ = v.version in
+    ap (λ (k : Held). arriving_from k v y) s
+    ∙ ap (λ (g : Group). cond (sends_to (held_in w x).out (right_of g x)) [] (cond (nat_eq (right_of g x) y) (fresh_in w.initial w.more x n ∷ []) [])) is
+
 -- a refresh that the member doesn't refuse, of a view that is there
 pub may_look : (w : World) (x v : ℕ) → x < size w → IsGood w → v ≤ newest w → refresh_refused (held_in w x) v ≡ None → MayLook w x v
 may_look w x v l h upto e =
@@ -125,6 +136,14 @@ refresh_reaches w x y v h k e upto some l f i ne s sk =
     ∙ sym (refresh_others w x v y (may_look w x v l f.good upto (sym (ap (λ a. refresh_refused a v) s) ∙ e)) f.good i ne)
     ∙ sym (ap (λ o. held_in (at_found o w (λ q. refreshed w q v)) y) (found_by_name w x h some l f s))
 
+-- which it collects
+pub refresh_comes : (w : World) (x y : ℕ) (h k : Held) (v : Group) → refresh_refused h v.version ≡ None → v.version ≤ newest w → v ≡ view_at w v.version → 1 ≤ x → x < size w → IsFit w → IsWithin w y → y ≢ x → Stands w x h → Stands w y k → Stands (effect w (event.Refresh h.name v.version)) y (collected_held k (arriving_from h v k.id))
+refresh_comes w x y h k v e upto is some l f i ne s sk =
+    ap (λ (a : Held). collected_held a (arriving_from h v a.id)) sk
+    ∙ ap (collected_held (held_in w y)) (arriving_is w x y h v s is)
+    ∙ refresh_collects w x v.version y (may_look w x v.version l f.good upto (sym (ap (λ a. refresh_refused a v.version) s) ∙ e)) f.good i ne
+    ∙ sym (ap (λ o. held_in (at_found o w (λ q. refreshed w q v.version)) y) (found_by_name w x h some l f s))
+
 -- ---- a mark that the ring doesn't refuse
 
 -- who was found may mark
@@ -159,6 +178,21 @@ mark_reaches w x d y h k dead there r some l f i ne s sk =
     ∙ sym (mark_others w x d y (marks w x d h.name dead l found there r) f.good i ne)
     ∙ sym (ap (λ u. held_in u y) (marks_to w x d h.name dead found there))
 
+-- the link that opens by a mark
+pub mark_arriving : (w : World) (x d y : ℕ) (h : Held) → IsGood w → Stands w x h → arriving_from h (mark_view w d) y ≡ arriving (mark_world w d) x (newest w + 1) y
+mark_arriving w x d y h g s =
+    ap (λ (k : Held). arriving_from k (mark_view w d) y) s
+    ∙ ap (λ n. cond (sends_to (held_in w x).out (right_of (mark_view w d) x)) [] (cond (nat_eq (right_of (mark_view w d) x) y) (fresh_in w.initial w.more x n ∷ []) [])) (ap (λ n. n + 1) (view_version w (newest w) g (omega arith)))
+    ∙ ap (λ a. cond (sends_to (held_in w x).out (right_of a x)) [] (cond (nat_eq (right_of a x) y) (fresh_in w.initial w.more x (newest w + 1) ∷ []) [])) (sym (mark_newest w d g))
+
+pub mark_comes : (w : World) (x d y : ℕ) (h k : Held) (dead : List ℕ) → id_of w dead ≡ Some d → refusal w (event.Mark h.name dead) ≡ None → 1 ≤ x → x < size w → IsFit w → IsWithin w y → y ≢ x → Stands w x h → Stands w y k → Stands (effect w (event.Mark h.name dead)) y (collected_held k (arriving_from h (mark_view w d) k.id))
+mark_comes w x d y h k dead there r some l f i ne s sk =
+    let found : id_of w h.name ≡ Some x = found_by_name w x h some l f s in
+    ap (λ (a : Held). collected_held a (arriving_from h (mark_view w d) a.id)) sk
+    ∙ ap (collected_held (held_in w y)) (mark_arriving w x d y h f.good s)
+    ∙ mark_collects w x d y (marks w x d h.name dead l found there r) f.good i ne
+    ∙ sym (ap (λ u. held_in u y) (marks_to w x d h.name dead found there))
+
 -- ---- in every state of every run
 
 pub pick_lifts : AllFit → (h h' : Held) → pick_refused h ≡ None → h' ≡ picked_held h → WhereItStands h (λ w x. StepsTo w x (event.Pick h.name) h')
@@ -181,3 +215,26 @@ refresh_lifts fit h h' v en e credit names events x are r some l s upto is sends
     let own : x ≡ h.id = sym (ap (λ (k : Held). k.id) s) in
     let mine : right_of v h.id ≡ h.id → sends_to h.out h.id ≡ true = subst (λ y. right_of v y ≡ y → sends_to h.out y ≡ true) own sends in
     refresh_lifts_alone fit h h' v en (e ∙ sym (refreshed_same h v mine)) credit names events x are r some l s upto is
+
+-- what another collects of it
+pub refresh_lifts_others : AllFit → (h k k' : Held) (v : Group) → refresh_refused h v.version ≡ None → k' ≡ collected_held k (arriving_from h v k.id)
+    → WhereItStands k (λ w y. v.version ≤ newest w → v ≡ view_at w v.version → (x : ℕ) → 1 ≤ x → x < size w → y ≢ x → Stands w x h → Stands (effect w (event.Refresh h.name v.version)) y k')
+refresh_lifts_others fit h k k' v en e credit names events y are r some l sk upto is x from within ne s =
+    e ∙ refresh_comes (last (opening credit names) events) x y h k v en upto is from within (fit credit names events are r) (reached_within credit names events are r y) ne s sk
+
+-- a pick is nothing to the others
+pub pick_lifts_others : AllFit → (h k : Held) → WhereItStands k (λ w y. (x : ℕ) → 1 ≤ x → x < size w → y ≢ x → Stands w x h → Stands (effect w (event.Pick h.name)) y k)
+pick_lifts_others fit h k credit names events y are r some l sk x from within ne s = pick_leaves (last (opening credit names) events) x y h k from within (fit credit names events are r) ne s sk
+
+-- a mark, with the view that it makes
+pub mark_lifts : AllFit → (h h' : Held) (v : Group) (dead : List ℕ) → h' ≡ refreshed_alone h v → WhereItStands h (λ w x. (d : ℕ) → id_of w dead ≡ Some d → refusal w (event.Mark h.name dead) ≡ None → v ≡ mark_view w d → StepsTo w x (event.Mark h.name dead) h')
+mark_lifts fit h h' v dead e credit names events x are r some l s d there allowed is =
+    let t : StepsTo (last (opening credit names) events) x (event.Mark h.name dead) (refreshed_alone h (mark_view (last (opening credit names) events) d)) = mark_steps (last (opening credit names) events) x d h dead there allowed some l (fit credit names events are r) s in
+    (t.0, e ∙ ap (refreshed_alone h) is ∙ t.1)
+
+-- and what another collects of it
+pub mark_lifts_others : AllFit → (h k k' : Held) (v : Group) (dead : List ℕ) → k' ≡ collected_held k (arriving_from h v k.id)
+    → WhereItStands k (λ w y. (x d : ℕ) → id_of w dead ≡ Some d → refusal w (event.Mark h.name dead) ≡ None → v ≡ mark_view w d → 1 ≤ x → x < size w → y ≢ x → Stands w x h → Stands (effect w (event.Mark h.name dead)) y k')
+mark_lifts_others fit h k k' v dead e credit names events y are r some l sk x d there allowed is from within ne s =
+    e ∙ ap (λ (g : Group). collected_held k (arriving_from h g k.id)) is
+    ∙ mark_comes (last (opening credit names) events) x d y h k dead there allowed from within (fit credit names events are r) (reached_within credit names events are r y) ne s sk

@@ -1,5 +1,5 @@
 -- What the other members hold after one has picked, refreshed or marked: as before, but for a link that opens to one of them.
-use Rattle.std.proofs.Common.{◌≡◌, ◌≢◌, ℕ, ◌+◌, ◌<◌, ◌≤◌, Bool, true, false, cond, nat_eq, List, [], ◌∷◌, ◌++◌, length, map, Option, Some, None, refl, sym, ap, subst, ◌∙◌}
+use Rattle.std.proofs.Common.{◌≡◌, ◌≢◌, ℕ, ◌+◌, ◌<◌, ◌≤◌, Bool, true, false, cond, nat_eq, [], ◌∷◌, ◌++◌, length, map, Option, Some, None, refl, sym, ap, subst, ◌∙◌}
 use Rattle.std.specs.Prelude.{option_map}
 use Rattle.std.specs.List.{filter, range_with_len}
 use Rattle.std.proofs.lemmas.List.{append-nil}
@@ -11,7 +11,7 @@ use Rattle.ring_world.specs.Deaths.Event.{refreshed}
 use Rattle.ring_world.proofs.Deaths.Conditions.{MayLook}
 use Rattle.ring_world.proofs.Deaths.Rounds.{nat_eq-is}
 use Rattle.ring_world.proofs.Deaths.Happens.{IsGood}
-use Rattle.gm_member.specs.Deaths.Held.{Held, Incoming, fresh_in, stays, kept_door, refreshed_held, collected_held}
+use Rattle.gm_member.specs.Deaths.Held.{Held, fresh_in, stays, kept_door, refreshed_held, collected_held}
 use Rattle.gm_member.specs.Deaths.Stands.{incoming_in, outgoing_in, waits_for, door_in, held_in}
 use Rattle.gm_member.proofs.Deaths.DoorParts.{held_from, held_same, waits_by, member_other}
 use Rattle.gm_member.proofs.Deaths.OpenDoors.{sends_right, arriving, new_link, new_right, new_comes, sending_member, opened_world, old_links, refresh_looks, refresh_opens, incoming_old, outgoing_old, door_after}
@@ -109,3 +109,9 @@ pub refresh_collects_own : (w : World) (x v : ℕ) → MayLook w x v → IsGood 
 refresh_collects_own w x v m h =
     ap (λ ls. record (refreshed_held (held_in w x) (view_at w v)) { door = kept_door (view_at w v) x (door_in w x) ++ ls }) (arriving_stays w x v v x m h m.upto)
     ∙ refresh_stands w x v m h
+
+-- the same of a mark
+pub mark_collects : (w : World) (x d y : ℕ) → MayMark w x d → IsGood w → IsWithin w y → y ≢ x → collected_held (held_in w y) (arriving (mark_world w d) x (newest w + 1) y) ≡ held_in (refreshed (mark_world w d) x (newest w + 1)) y
+mark_collects w x d y m h i ne =
+    ap (λ k. collected_held k (arriving (mark_world w d) x (newest w + 1) y)) (view_held w (mark_view w d) y h)
+    ∙ refresh_collects (mark_world w d) x (newest w + 1) y (mark_look w x d m h) (mark_good w x d m h) (record { out = i.out; current = i.current }) ne
