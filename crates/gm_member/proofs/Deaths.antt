@@ -14,3 +14,13 @@ pub mod EndStands
 pub mod Lifts
 pub mod Others
 pub mod Refusals
+pub mod DoorLists
+pub mod Doors
+pub mod DoorParts
+pub mod PickStands
+pub mod OpenDoors
+pub mod RefreshStands
+pub mod MarkStands
+pub mod WithinLinks
+pub mod OthersStand
+pub mod DoorLifts
