@@ -11,7 +11,7 @@ use crate::known::{Known, nothing_known, nothing_sent, push_at};
 use crate::packet::{Load, Packet};
 use crate::repair::links::{InLink, OutLink};
 use crate::repair::rows::accept_all;
-use crate::repair::views::{left, right, since};
+use crate::repair::views::{left, right, version};
 use crate::taken::Taken;
 use credit_flow::{CreditIn, CreditOut};
 use group_view::{LinkName, View};
@@ -283,7 +283,7 @@ impl<O: LinkPair<Load, In = I>, I: LinkIn<Load> + Drop> Member<O, I> {
         if let Some(reason) = self.put_refusal() {
             return Err(MemberFault::Refused(reason));
         }
-        let version = self.view.version;
+        let version = version(&self.view);
         let Some(link) = &mut self.out else {
             unreachable!()
         };

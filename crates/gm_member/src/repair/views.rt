@@ -20,6 +20,13 @@ fn since_in(entries: &[Entry], id: MemberId) -> u32
     0
 }
 
+/// The version of a view.
+pub(crate) fn version(view: &View) -> u32
+    ensures { result ≡ view.now.version }
+{
+    view.version
+}
+
 /// Since when the left neighbour that the view gives to an entry has been it.
 pub(crate) fn since(view: &View, id: MemberId) -> u32
     ensures { result ≡ (entry_in view.now.entries id.0).since }
