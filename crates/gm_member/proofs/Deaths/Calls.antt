@@ -1,7 +1,7 @@
 -- What the calls of a member need of what it holds.
-use Rattle.std.proofs.Common.{◌≡◌, ◌<◌, Bool, true, false, List, Option, Some, None, refl, subst, arith}
+use Rattle.std.proofs.Common.{◌≡◌, ◌<◌, Bool, true, false, List, Option, Some, None, refl, sym, subst, arith}
 use Rattle.std.proofs.lemmas.Bool.Decides.{nat_tests}
-use Rattle.std.specs.Prelude.{Result, Ok, Err, OnOk, OnErr}
+use Rattle.std.specs.Prelude.{Result, Ok, Err, OnOk, OnErr, IfSome, IfNone, MatchOption}
 use Rattle.ring_names.specs.declared.reason.Reason.{Reason}
 use Rattle.ring_names.specs.declared.reason.Reason.TheVariants.{Stopped, Waiting, AwaitingAnswer, NoOutLink, NoCredit, NothingNew}
 use Rattle.credit_flow.specs.Credit.{is_blocked}
@@ -46,3 +46,26 @@ some_later o missing later a is e = subst (λ p. on_some p missing later ≡ Non
 -- what may be put may be put on the link
 pub put_out_enabled : (h : Held) (o : Outgoing) → h.out ≡ Some o → put_refused h ≡ None → out_refused h.rows o ≡ None
 put_out_enabled h o is e = some_later h.out NoOutLink (out_refused h.rows) o is (up_later h _ e)
+
+-- what the first conditions refuse is refused
+first_of : (b : Bool) (q : Reason) (later later' : Option Reason) (r r' : Reason) → ((later ≡ Some r) → later' ≡ Some r' → r ≡ r') → or_else (refuse_if b q) later ≡ Some r → or_else (refuse_if b q) later' ≡ Some r' → r ≡ r'
+first_of true q later later' r r' f e e' = cc
+first_of false q later later' r r' f e e' = f e e'
+
+none_is_some : (r : Reason) (T : Type 0) → None ≡ Some r → T
+none_is_some r T e = cc
+
+pub first_refusal : (h : Held) (later : Option Reason) (r r' : Reason) → up_refused h None ≡ Some r → up_refused h later ≡ Some r' → r ≡ r'
+first_refusal h later r r' =
+    first_of (is_stopped h.phase) Stopped _ _ r r' (first_of (is_waiting h.phase) Waiting _ _ r r' (first_of h.asks AwaitingAnswer None later r r' (λ e _. none_is_some r (r ≡ r') e)))
+
+pub if_some_map : {A : Type 0} {P Q : A → Type 0} (o : Option A) → ((a : A) → P a → Q a) → IfSome o P → IfSome o Q
+if_some_map None f p = tt
+if_some_map (Some a) f p = f a p
+
+pub if_none_map : {A : Type 0} {P Q : Type 0} (o : Option A) → (P → Q) → IfNone o P → IfNone o Q
+if_none_map None f p = f p
+if_none_map (Some a) f p = tt
+
+pub match_some : {A : Type 0} {P : Type 0} {Q : A → Type 0} (o : Option A) (a : A) → o ≡ Some a → Q a → MatchOption o P Q
+match_some {P = P} {Q = Q} o a e q = subst (λ p. MatchOption p P Q) (sym e) q

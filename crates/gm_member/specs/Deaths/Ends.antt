@@ -21,6 +21,10 @@ module _ {O : Type 0} where
   abbrev pub EndLooks : (O → O → Type 0) → Option O → Option O → Type 0
   EndLooks looked a b = (b ≡ a) ⊎ (o : O) × (p : O) × (a ≡ Some o) × (b ≡ Some p) × looked o p
 
+  -- the end of the link was put on it
+  abbrev pub EndGets : (O → Item Load → O → Type 0) → EndReason → Option O → Option O → Type 0
+  EndGets puts reason a b = (o : O) × (p : O) × (a ≡ Some o) × (b ≡ Some p) × puts o (item.End reason) p
+
   -- why an enabled put failed: memory was wanted, or the end had no room for a load
   abbrev pub IsPutFault : (O → ℕ) → MemberFault → Option O → Type 0
   IsPutFault free fault b = (fault ≡ faults.OutOfMemory) ⊎ ((fault ≡ faults.Refused LinkFull) × MatchOption b ⊥ (λ o. free o ≤ 1))

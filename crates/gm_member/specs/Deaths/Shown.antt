@@ -1,5 +1,7 @@
 -- What a member of a ring whose members may stop shows, and what its calls do to its ends.
-use Rattle.std.specs.Prelude.{◌≡◌, ◌⊎◌, ℕ, Bool, true, false, List, map, ⊤, Option, Some, None, option_map, IsSome, MatchOption}
+use Rattle.std.specs.Prelude.{◌≡◌, ◌⊎◌, ◌<◌, ◌++◌, ◌∷◌, [], ℕ, Bool, true, false, List, length, map, ⊤, Option, Some, None, option_map, slice_index_or, IsSome, MatchOption}
+use Rattle.credit_flow.specs.Credit.{grant_due}
+use Rattle.ordered_link.specs.declared.item.EndReason.{EndReason}
 use Rattle.group_view.specs.declared.link.LinkName.{LinkName}
 use Rattle.group_view.specs.declared.link.LinkKind.TheVariants.{Ring}
 use Rattle.group_view.specs.View.{as_id}
@@ -10,9 +12,10 @@ use Rattle.gm_member.specs.declared.repair.links.OutLink.{OutLink}
 use Rattle.gm_member.specs.declared.repair.links.InLink.{InLink}
 use Rattle.gm_member.specs.declared.repair.member.Member.{Member}
 use Rattle.gm_member.specs.View.{row_of}
-use Rattle.gm_member.specs.Deaths.Held.{Held, Outgoing, at_some, parcel_on}
+use Rattle.gm_member.specs.Held.{Parcel}
+use Rattle.gm_member.specs.Deaths.Held.{Held, at_some, parcel_on, without}
 use Rattle.gm_member.specs.Deaths.View.{out_of, in_of, end_of}
-use Rattle.gm_member.specs.Deaths.Ends.{EndPuts, EndLooks}
+use Rattle.gm_member.specs.Deaths.Ends.{EndPuts, EndGets, EndLooks, EndTook, EndEnds}
 
 -- The ends that a member has: of the link on which it sends, with the grant that it keeps of it; of the one from which it takes; of
 -- those at its door; and those that it has replaced or left, the oldest first. An end that is lent isn't there.
@@ -59,6 +62,11 @@ ring_link from to opened = record { from = as_id from; to = as_id to; view = ope
 abbrev pub out_name_of : Held → Option LinkName
 out_name_of h = option_map (λ o. ring_link h.id o.to o.opened) h.out
 
+-- an end that was left, where it was there
+abbrev pub left_end : {A : Type 0} → LinkName → Option A → List (LinkName × A)
+left_end name None = []
+left_end name (Some a) = (name, a) ∷ []
+
 -- P where a test passes, and nothing where it doesn't
 abbrev pub When : Bool → Type 0 → Type 0
 When true P = P
@@ -100,3 +108,42 @@ module _ {O I : Type 0} where
       SameOut m n
       × ((n.current ≡ m.current)
       ⊎ (l : InLink I) × (l' : InLink I) × (m.current ≡ Some l) × (n.current ≡ Some l') × EndLooks looked l.end l'.end)
+
+  -- a packet was taken from the link from which it takes, and a grant given where one is due
+  abbrev pub TookOn : (I → Option ℕ) → (I → Item Load → I → Type 0) → (I → I → Type 0) → (I → ℕ → I → Type 0) → Parcel → Member O I → Member O I → Type 0
+  TookOn waiting takes looked sends k m n =
+      (l : InLink I) × (l' : InLink I) × (m.current ≡ Some l) × (n.current ≡ Some l')
+      × EndTook waiting takes looked sends (grant_due l.counted) k l.end l'.end × SameOut m n
+
+  -- the end of that link was taken, and the end that the member has of it is the last of those that it has left
+  abbrev pub LeavesOn : (I → Item Load → I → Type 0) → (I → I → Type 0) → EndReason → Member O I → Member O I → Type 0
+  LeavesOn takes looked reason m n =
+      (l : InLink I) × (i : I) × (m.current ≡ Some l) × EndEnds takes looked reason l.end (Some i) × (n.current ≡ None)
+      × (n.old_ins.items ≡ m.old_ins.items ++ (ring_link l.from.0 m.id.0 l.opened, i) ∷ [])
+      × (n.out ≡ m.out) × (n.door ≡ m.door) × (n.old_outs ≡ m.old_outs)
+
+  -- the link on which it sends ends
+  abbrev pub EndsOn : (O → Item Load → O → Type 0) → EndReason → Member O I → Member O I → Type 0
+  EndsOn puts reason m n =
+      SameIns m n × MatchOption m.out (n.out ≡ None) (λ l. (l' : OutLink O) × (n.out ≡ Some l') × EndGets puts reason l.end l'.end × (l'.kept ≡ l.kept))
+
+  -- the link at a place of its door is the one from which it takes
+  abbrev pub PicksOn : ℕ → Member O I → Member O I → Type 0
+  PicksOn i m n =
+      (i < length m.door.items) × MatchOption n.current ⊥ (λ l. l ≡ slice_index_or m.door.items i l) × (n.door.items ≡ without i m.door.items)
+      × (n.out ≡ m.out) × (n.old_outs ≡ m.old_outs) × (n.old_ins ≡ m.old_ins)
+
+  -- a grant of the link on which it sends is kept: it was, or it has been taken from the end now
+  abbrev pub KeepsGrant : (O → ℕ → O → Type 0) → ℕ → Member O I → Member O I → Type 0
+  KeepsGrant gains amount m n =
+      SameIns m n × (l : OutLink O) × (l' : OutLink O) × (m.out ≡ Some l) × (n.out ≡ Some l') × (l'.kept ≡ Some amount)
+      × (((l.kept ≡ Some amount) × (l'.end ≡ l.end))
+      ⊎ (l.kept ≡ None) × (o : O) × (p : O) × (l.end ≡ Some o) × (l'.end ≡ Some p) × gains o amount p)
+
+  -- no grant has come back on it
+  abbrev pub NoGrantBack : (O → List ℕ) → Member O I → Type 0
+  NoGrantBack grants m = MatchOption m.out ⊤ (λ l. (l.kept ≡ None) × MatchOption l.end ⊤ (λ o. grants o ≡ []))
+
+  -- one is kept, or has come back
+  abbrev pub GrantIsBack : (O → List ℕ) → Member O I → Type 0
+  GrantIsBack grants m = MatchOption m.out ⊥ (λ l. IsSome l.kept ⊎ MatchOption l.end ⊥ (λ o. 0 < length (grants o)))

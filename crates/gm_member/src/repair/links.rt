@@ -138,6 +138,65 @@ impl<O: LinkOut<Load>> OutLink<O> {
     }
 }
 
+impl<O: LinkOut<Load>> OutLink<O> {
+    ghost use Rattle.std.specs.Prelude.{◌≡◌, ◌↔◌, ◌⊎◌, ◌<◌, [], false, true, length, IsTrue, IfSome, IfNone, IsSome, None, Some, MatchOption, ⊤, ℕ};
+    ghost use Rattle.gm_member.specs.Deaths.View.{out_of};
+    ghost use Rattle.gm_member.specs.Deaths.Ends.{EndGets, EndLooks};
+
+    /// The link ends.
+    pub(crate) fn finish(&mut self, reason: EndReason)
+        requires { MatchOption self.old.end ⊥ (λ o. O.ended o ≡ false) }
+        ensures same { out_of self.new ≡ out_of self.old }
+        ensures ends { EndGets O.puts reason self.old.end self.new.end }
+        ensures kept { self.new.kept ≡ self.old.kept }
+    {
+        let Some(end) = &mut self.end else {
+            unreachable!()
+        };
+        end.end(reason);
+    }
+
+    /// Whether a grant is kept, or has come back.
+    pub(crate) fn has_grant(&mut self) -> bool
+        requires { MatchOption self.old.end ⊥ (λ o. O.ended o ≡ false) }
+        ensures same { out_of self.new ≡ out_of self.old }
+        ensures kept { self.new.kept ≡ self.old.kept }
+        ensures looks { EndLooks O.looked self.old.end self.new.end }
+        ensures some { result ≡ true → IsSome self.new.kept ⊎ MatchOption self.new.end ⊥ (λ o. 0 < length (O.grants o)) }
+        ensures none { result ≡ false → (self.new.kept ≡ None) × MatchOption self.new.end ⊤ (λ o. O.grants o ≡ []) }
+        ensures open { MatchOption self.new.end ⊥ (λ o. O.ended o ≡ false) }
+    {
+        if self.kept.is_some() {
+            return true;
+        }
+        let Some(end) = &mut self.end else {
+            unreachable!()
+        };
+        end.has_grant()
+    }
+
+    /// The grant that is kept, or the oldest that has come back, which is kept from now on.
+    pub(crate) fn granted(&mut self) -> Option<u32>
+        requires { MatchOption self.old.end ⊥ (λ o. O.ended o ≡ false) }
+        ensures same { out_of self.new ≡ out_of self.old }
+        ensures some { IfSome result (λ amount. (self.new.kept ≡ Some amount)
+            × (((self.old.kept ≡ Some amount) × (self.new.end ≡ self.old.end))
+            ⊎ (self.old.kept ≡ None) × (o : O) × (p : O) × (self.old.end ≡ Some o) × (self.new.end ≡ Some p) × O.gains o amount p)) }
+        ensures none { IfNone result ((self.old.kept ≡ None) × (self.new.kept ≡ None)
+            × EndLooks O.looked self.old.end self.new.end × MatchOption self.new.end ⊤ (λ o. O.grants o ≡ [])) }
+        ensures open { MatchOption self.new.end ⊥ (λ o. O.ended o ≡ false) }
+    {
+        if self.kept.is_some() {
+            return self.kept;
+        }
+        let Some(end) = &mut self.end else {
+            unreachable!()
+        };
+        self.kept = end.granted();
+        self.kept
+    }
+}
+
 impl<I> InLink<I> {
     ghost use Rattle.std.specs.Prelude.{◌≡◌};
 

@@ -10,7 +10,7 @@ use crate::fault::MemberFault;
 use crate::known::{Known, nothing_known, nothing_sent, push_at};
 use crate::packet::{Load, Packet};
 use crate::repair::links::{InLink, OutLink};
-use crate::repair::rows::accept_all;
+use crate::repair::rows::accept;
 use crate::repair::views::{left, right, version};
 use crate::taken::Taken;
 use credit_flow::{CreditIn, CreditOut};
@@ -49,15 +49,16 @@ pub struct Member<O, I> {
 }
 
 impl<O: LinkPair<Load, In = I>, I: LinkIn<Load> + Drop> Member<O, I> {
-    ghost use Rattle.std.specs.Prelude.{◌≡◌, ◌⊎◌, ◌+◌, ◌-◌, ◌≤◌, ◌∷◌, [], OnOk, OnErr, IfOk, IfErr, IfSome, IfNone, IsErrOf, IsSome, None, Some, Ok, Err, length, false, true, Option, replicate};
+    ghost use Rattle.std.specs.Prelude.{◌≡◌, ◌⊎◌, ◌+◌, ◌-◌, ◌≤◌, ◌∷◌, [], OnOk, OnErr, IfOk, IfErr, IfSome, IfNone, IsErrOf, IsSome, None, Some, Ok, Err, length, false, true, Option, MatchOption, ⊤, ◌++◌};
     ghost use Rattle.ring_names.specs.declared.reason.Reason.{Reason};
     ghost use Rattle.ring_world.specs.World.{most_members};
     ghost use Rattle.ring_world.specs.Deaths.View.{ids};
     ghost use Rattle.group_view.specs.Ring.{is_in};
     ghost use Rattle.gm_member.specs.Held.{Parcel};
-    ghost use Rattle.gm_member.specs.Deaths.Ends.{IsPutFault};
-    ghost use Rattle.gm_member.specs.Deaths.Held.{founded, known_at, active_refused, up_refused, published_held, put_refused, put_held};
-    ghost use Rattle.gm_member.specs.Deaths.Shown.{Ends, held_of, ends_of, out_name_of, OutIsReady, PutsOn, LooksOut};
+    ghost use Rattle.gm_member.specs.Deaths.Ends.{IsPutFault, IsTakeFault, IsEndRefusal};
+    ghost use Rattle.gm_member.specs.Deaths.Held.{founded, known_at, active_refused, up_refused, published_held, put_refused, put_held, take_refused, took_held, ended_held, stopped_held, gain_refused, gained_held};
+    ghost use Rattle.gm_member.specs.Deaths.News.{news_of};
+    ghost use Rattle.gm_member.specs.Deaths.Shown.{Ends, held_of, ends_of, ring_link, out_name_of, left_end, OutIsReady, InIsReady, PutsOn, LooksOut, LooksIn, TookOn, LeavesOn, EndsOn, KeepsGrant, NoGrantBack, GrantIsBack};
 
     /// A member of the ring's opening, which has published and heard nothing. The caller gives its id in the ring, the
     /// view in which the ring opens, the credit of the ring's links, the end of the link to its right neighbour and
@@ -288,5 +289,206 @@ impl<O: LinkPair<Load, In = I>, I: LinkIn<Load> + Drop> Member<O, I> {
             unreachable!()
         };
         link.put(self.alloc, version, &self.known)
+    }
+
+    /// Why the member may take nothing, before its link is looked at: `Stopped`, `AwaitingAnswer`; `NoCurrentLink`
+    /// where it takes from no link.
+    fn no_link(&self) -> Option<Reason>
+        ensures { result ≡ take_refused (held_of self.now) None }
+    {
+        if let Some(reason) = self.activity() {
+            return Some(reason);
+        }
+        if self.current.is_none() {
+            return Some(Reason::NoCurrentLink);
+        }
+        None
+    }
+
+    /// Takes the oldest packet of the link from which the member takes, and grants credit where that is due. The answer
+    /// is what the packet brings, in order of origin and number. Refused with `Stopped`, `AwaitingAnswer`,
+    /// `NoCurrentLink`; then with `NothingToTake` where the end of the link gives no item in this call, `EndNext` where
+    /// the next item is the end of the link, and `ViewTooOld` where it is a packet of a newer version than the member's.
+    pub fn take(&mut self) -> Result<Vec<Taken>, MemberFault>
+        requires { InIsReady self.old }
+        ensures enabled { OnOk result (take_refused (held_of self.old) None ≡ None) }
+        ensures ok { IfOk result (λ taken. (k : Parcel)
+            × (k.view ≤ (held_of self.old).view.version)
+            × (held_of self.new ≡ took_held (held_of self.old) k)
+            × (taken.items ≡ news_of (held_of self.old) k)
+            × TookOn I.waiting I.takes I.looked I.sends k self.old self.new) }
+        ensures refused { (r : Reason) → take_refused (held_of self.old) None ≡ Some r
+            → result ≡ Err (MemberFault.Refused r) }
+        ensures fault { IfErr result (λ fault.
+            ((r : Reason) × (fault ≡ MemberFault.Refused r) × (take_refused (held_of self.old) None ≡ Some r))
+            ⊎ ((take_refused (held_of self.old) None ≡ None)
+            × MatchOption self.new.current ⊥ (λ l. IsTakeFault I.known I.waiting (held_of self.old).view.version fault l.end))) }
+        ensures err { OnErr result (held_of self.new ≡ held_of self.old) }
+        ensures looks { OnErr result (LooksIn I.looked self.old self.new) }
+    {
+        if let Some(reason) = self.no_link() {
+            return Err(MemberFault::Refused(reason));
+        }
+        let Some(link) = &mut self.current else {
+            unreachable!()
+        };
+        let from = link.from;
+        let (news, packet) = match link.take(self.alloc, &self.known, &self.view, self.id) {
+            Ok(taken) => taken,
+            Err(fault) => return Err(fault),
+        };
+        accept(&mut self.known, &self.view, self.id, from, packet);
+        Ok(news)
+    }
+
+    /// Takes the end of the link from which the member takes, and leaves it. Refused with `Stopped`, `AwaitingAnswer`,
+    /// `NoCurrentLink`; then with `NothingToTake` where the end of the link gives no item in this call, and `PacketNext`
+    /// where the next item is a packet. It wants no memory.
+    pub fn take_end(&mut self) -> Result<EndReason, MemberFault>
+        requires { InIsReady self.old }
+        ensures enabled { OnOk result (take_refused (held_of self.old) None ≡ None) }
+        ensures ok { OnOk result (held_of self.new ≡ ended_held (held_of self.old)) }
+        ensures leaves { IfOk result (λ reason. LeavesOn I.takes I.looked reason self.old self.new) }
+        ensures refused { (r : Reason) → take_refused (held_of self.old) None ≡ Some r
+            → result ≡ Err (MemberFault.Refused r) }
+        ensures fault { IfErr result (λ fault. (r : Reason) × (fault ≡ MemberFault.Refused r)
+            × ((take_refused (held_of self.old) None ≡ Some r)
+            ⊎ ((take_refused (held_of self.old) None ≡ None)
+            × MatchOption self.new.current ⊥ (λ l. IsEndRefusal I.known I.waiting r l.end)))) }
+        ensures err { OnErr result (held_of self.new ≡ held_of self.old) }
+        ensures looks { OnErr result (LooksIn I.looked self.old self.new) }
+    {
+        if let Some(reason) = self.no_link() {
+            return Err(MemberFault::Refused(reason));
+        }
+        let Some(link) = &mut self.current else {
+            unreachable!()
+        };
+        let reason = match link.take_end() {
+            Ok(reason) => reason,
+            Err(reason) => return Err(MemberFault::Refused(reason)),
+        };
+        self.leave_current();
+        Ok(reason)
+    }
+
+    /// The member takes from no link, and the end of the one from which it took is the last of those that it has left.
+    fn leave_current(&mut self)
+        ensures held { held_of self.new ≡ ended_held (held_of self.old) }
+        ensures left { MatchOption self.old.current (self.new.old_ins.items ≡ self.old.old_ins.items) (λ l.
+            self.new.old_ins.items ≡ self.old.old_ins.items ++ left_end (ring_link l.from.0 self.old.id.0 l.opened) l.end) }
+        ensures current { self.new.current ≡ None }
+        ensures others { (self.new.out ≡ self.old.out) × (self.new.door ≡ self.old.door) × (self.new.old_outs ≡ self.old.old_outs) }
+    {
+        let Some(link) = self.current.take() else {
+            return;
+        };
+        let name = link.name(self.id);
+        if let Some(end) = link.end {
+            if self.old_ins.push((name, end)).is_err() {
+                unreachable!()
+            }
+        }
+    }
+
+    /// The member stops, and the link on which it sends ends. Refused with `Stopped`, and with `AwaitingAnswer` while a
+    /// question of the member's own is open. It wants no memory.
+    pub fn stop(&mut self) -> Result<(), MemberFault>
+        requires { OutIsReady O.ended self.old }
+        ensures enabled { OnOk result (active_refused (held_of self.old) None ≡ None) }
+        ensures ok { OnOk result (held_of self.new ≡ stopped_held (held_of self.old)) }
+        ensures ends { OnOk result (EndsOn O.puts EndReason.Stopped self.old self.new) }
+        ensures refused { (r : Reason) → active_refused (held_of self.old) None ≡ Some r
+            → result ≡ Err (MemberFault.Refused r) }
+        ensures fault { IfErr result (λ fault.
+            (r : Reason) × (fault ≡ MemberFault.Refused r) × (active_refused (held_of self.old) None ≡ Some r)) }
+        ensures err { OnErr result (self.new ≡ self.old) }
+    {
+        if let Some(reason) = self.activity() {
+            return Err(MemberFault::Refused(reason));
+        }
+        self.end_out(EndReason::Stopped);
+        self.phase = Phase::Stopped;
+        Ok(())
+    }
+
+    /// The link on which the member sends ends.
+    fn end_out(&mut self, reason: EndReason)
+        requires { MatchOption self.old.out ⊤ (λ l. MatchOption l.end ⊥ (λ o. O.ended o ≡ false)) }
+        ensures held { held_of self.new ≡ held_of self.old }
+        ensures ends { EndsOn O.puts reason self.old self.new }
+    {
+        let Some(link) = &mut self.out else {
+            return;
+        };
+        link.finish(reason);
+    }
+
+    /// Why the member may gain no credit: `Stopped`, `Waiting`, `AwaitingAnswer`; `NoOutLink` where it sends on no link;
+    /// `NoGrant` where none has come back that the end of its link knows. It wants no memory.
+    pub fn gain_refusal(&mut self) -> Option<Reason>
+        requires { OutIsReady O.ended self.old }
+        ensures held { held_of self.new ≡ held_of self.old }
+        ensures looks { LooksOut O.looked self.old self.new }
+        ensures none { IfNone result ((gain_refused (held_of self.old) ≡ None) × GrantIsBack O.grants self.new) }
+        ensures some { IfSome result (λ r. (gain_refused (held_of self.old) ≡ Some r)
+            ⊎ ((r ≡ Reason.NoGrant) × (gain_refused (held_of self.old) ≡ None) × NoGrantBack O.grants self.new)) }
+        ensures ready { OutIsReady O.ended self.new }
+    {
+        if let Some(reason) = self.up_refusal() {
+            return Some(reason);
+        }
+        match &mut self.out {
+            None => Some(Reason::NoOutLink),
+            Some(link) => {
+                if link.has_grant() {
+                    None
+                } else {
+                    Some(Reason::NoGrant)
+                }
+            }
+        }
+    }
+
+    /// The oldest grant that came back on the link on which a running member sends, for `gain`: none only where the end
+    /// of the link knew none. It stays with the member until `gain`, and is answered again till then. It wants no memory.
+    pub fn granted(&mut self) -> Option<u32>
+        requires runs { self.old.phase ≡ Phase.Up }
+        requires ready { OutIsReady O.ended self.old }
+        ensures held { held_of self.new ≡ held_of self.old }
+        ensures some { IfSome result (λ amount. KeepsGrant O.gains amount self.old self.new) }
+        ensures none { IfNone result (LooksOut O.looked self.old self.new × NoGrantBack O.grants self.new) }
+        ensures ready { OutIsReady O.ended self.new }
+    {
+        match &mut self.out {
+            None => None,
+            Some(link) => link.granted(),
+        }
+    }
+
+    /// A grant becomes credit of the link on which the member sends: the caller gives what `granted` answered. Refused
+    /// with `Stopped`, `Waiting`, `AwaitingAnswer`, and with `NoOutLink` where the member sends on no link. It wants no
+    /// memory.
+    pub fn gain(&mut self, amount: u32) -> Result<(), MemberFault>
+        ensures enabled { OnOk result (gain_refused (held_of self.old) ≡ None) }
+        ensures ok { OnOk result (held_of self.new ≡ gained_held (held_of self.old) amount) }
+        ensures ends { OnOk result (ends_of self.new ≡ record (ends_of self.old) { kept = None }) }
+        ensures refused { (r : Reason) → gain_refused (held_of self.old) ≡ Some r
+            → result ≡ Err (MemberFault.Refused r) }
+        ensures fault { IfErr result (λ fault.
+            (r : Reason) × (fault ≡ MemberFault.Refused r) × (gain_refused (held_of self.old) ≡ Some r)) }
+        ensures err { OnErr result (self.new ≡ self.old) }
+    {
+        if let Some(reason) = self.up_refusal() {
+            return Err(MemberFault::Refused(reason));
+        }
+        match &mut self.out {
+            None => Err(MemberFault::Refused(Reason::NoOutLink)),
+            Some(link) => {
+                link.credit.gain(amount);
+                link.kept = None;
+                Ok(())
+            }
+        }
     }
 }

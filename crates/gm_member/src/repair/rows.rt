@@ -4,11 +4,12 @@ ghost use Rattle.std.specs.List.{range_with_len};
 ghost use Rattle.ring_world.specs.Deaths.Step.{is_owned};
 ghost use Rattle.gm_member.specs.Held.{accepted_row, carried_at};
 ghost use Rattle.gm_member.specs.View.{row_of, known_at, carried_of};
+ghost use Rattle.gm_member.specs.Deaths.Held.{accepted_rows};
 ghost use Rattle.gm_member.specs.Deaths.News.{news_below};
 
 use crate::known::{Known, accept_line};
 use crate::news::push_line;
-use crate::packet::Line;
+use crate::packet::{Line, Packet};
 use crate::repair::views::owns;
 use crate::taken::Taken;
 use group_view::View;
@@ -52,4 +53,24 @@ pub(crate) fn all_news(
         push_line(&mut out, owns(view, id, from, p), p, &known[p], &lines[p])?;
     }
     Ok(out)
+}
+
+/// Each row takes in its line of a packet from a sender.
+pub(crate) fn accept(
+    known: &mut [Known],
+    view: &View,
+    id: MemberId,
+    from: MemberId,
+    packet: Packet,
+)
+    requires { length known.old ≡ 64 }
+    ensures { map row_of known.new
+        ≡ accepted_rows (λ p. is_owned view.now id.0 from.0 (p + 1)) (map row_of known.old) packet.lines }
+{
+    let Packet {
+        view: _,
+        first: _,
+        mut lines,
+    } = packet;
+    accept_all(known, view, id, from, &mut lines);
 }
