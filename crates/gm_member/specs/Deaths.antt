@@ -2,6 +2,7 @@
 pub mod Held
 pub mod News
 pub mod View
+pub mod Spares
 pub mod Ends
 pub mod Shown
 pub mod Stands

@@ -65,6 +65,17 @@ impl Packet {
         Ok(news)
     }
 
+    /// The same of this version.
+    pub(crate) fn with_view(self, version: u32) -> Packet
+        ensures { result ≡ record self { view = version } }
+    {
+        Packet {
+            view: version,
+            first: self.first,
+            lines: self.lines,
+        }
+    }
+
     /// Why a member whose view is of this version may not take it: it is of a newer one.
     pub(crate) fn view_refusal(&self, version: u32) -> Option<Reason>
         ensures { result ≡ version_refusal (self.now).view version }

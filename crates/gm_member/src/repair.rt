@@ -4,6 +4,7 @@
 
 mod links;
 mod member;
+mod spare;
 pub(crate) mod rows;
 mod views;
 

@@ -67,5 +67,5 @@ pub if_none_map : {A : Type 0} {P Q : Type 0} (o : Option A) → (P → Q) → I
 if_none_map None f p = f p
 if_none_map (Some a) f p = tt
 
-pub match_some : {A : Type 0} {P : Type 0} {Q : A → Type 0} (o : Option A) (a : A) → o ≡ Some a → Q a → MatchOption o P Q
-match_some {P = P} {Q = Q} o a e q = subst (λ p. MatchOption p P Q) (sym e) q
+pub match_some : {A : Type 0} (P : Type 0) (Q : A → Type 0) (o : Option A) (a : A) → o ≡ Some a → Q a → MatchOption o P Q
+match_some P Q o a e q = subst (λ p. MatchOption p P Q) (sym e) q
