@@ -3,6 +3,7 @@ pub mod OwnEnds
 pub mod Names
 pub mod Fit
 pub mod Calls
+pub mod Pruned
 pub mod Facts
 pub mod Parts
 pub mod PutStands

@@ -2,6 +2,7 @@
 //! and takes from its left one, and asks the registrar to mark a neighbour that has stopped. `Member` of this
 //! module takes the place of the crate's own once a cluster drives it.
 
+mod door;
 mod links;
 mod member;
 mod spare;

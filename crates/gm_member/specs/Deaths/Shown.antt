@@ -3,8 +3,6 @@ use Rattle.std.specs.Prelude.{◌≡◌, ◌⊎◌, ◌<◌, ◌++◌, ◌∷◌
 use Rattle.credit_flow.specs.Credit.{grant_due}
 use Rattle.ordered_link.specs.declared.item.EndReason.{EndReason}
 use Rattle.group_view.specs.declared.link.LinkName.{LinkName}
-use Rattle.group_view.specs.declared.link.LinkKind.TheVariants.{Ring}
-use Rattle.group_view.specs.View.{as_id}
 use Rattle.ordered_link.specs.declared.item.Item.{Item}
 use Rattle.ring_world.specs.Deaths.Machine.{runs_phase}
 use Rattle.gm_member.specs.declared.packet.Load.{Load}
@@ -14,7 +12,7 @@ use Rattle.gm_member.specs.declared.repair.member.Member.{Member}
 use Rattle.gm_member.specs.View.{row_of}
 use Rattle.gm_member.specs.Held.{Parcel}
 use Rattle.gm_member.specs.Deaths.Held.{Held, at_some, parcel_on, without}
-use Rattle.gm_member.specs.Deaths.View.{out_of, in_of, end_of}
+use Rattle.gm_member.specs.Deaths.View.{out_of, in_of, end_of, ring_link}
 use Rattle.gm_member.specs.Deaths.Ends.{EndPuts, EndGets, EndLooks, EndTook, EndEnds}
 
 -- The ends that a member has: of the link on which it sends, with the grant that it keeps of it; of the one from which it takes; of
@@ -55,17 +53,9 @@ module _ {O I : Type 0} where
     old_ins = m.old_ins.items;
   }
 
--- the name of a link between members, and of the one on which a member sends
-abbrev pub ring_link : ℕ → ℕ → ℕ → LinkName
-ring_link from to opened = record { from = as_id from; to = as_id to; view = opened; kind = Ring }
-
+-- the name of the link on which a member sends
 abbrev pub out_name_of : Held → Option LinkName
 out_name_of h = option_map (λ o. ring_link h.id o.to o.opened) h.out
-
--- an end that was left, where it was there
-abbrev pub left_end : {A : Type 0} → LinkName → Option A → List (LinkName × A)
-left_end name None = []
-left_end name (Some a) = (name, a) ∷ []
 
 -- P where a test passes, and nothing where it doesn't
 abbrev pub When : Bool → Type 0 → Type 0

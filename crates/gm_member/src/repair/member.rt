@@ -55,10 +55,11 @@ impl<O: LinkPair<Load, In = I>, I: LinkIn<Load> + Drop> Member<O, I> {
     ghost use Rattle.ring_world.specs.Deaths.View.{ids};
     ghost use Rattle.group_view.specs.Ring.{is_in};
     ghost use Rattle.gm_member.specs.Held.{Parcel};
+    ghost use Rattle.gm_member.specs.Deaths.View.{ring_link, left_end};
     ghost use Rattle.gm_member.specs.Deaths.Ends.{IsPutFault, IsTakeFault, IsEndRefusal};
     ghost use Rattle.gm_member.specs.Deaths.Held.{founded, known_at, active_refused, up_refused, published_held, put_refused, put_held, take_refused, took_held, ended_held, stopped_held, gain_refused, gained_held};
     ghost use Rattle.gm_member.specs.Deaths.News.{news_of};
-    ghost use Rattle.gm_member.specs.Deaths.Shown.{Ends, held_of, ends_of, ring_link, out_name_of, left_end, OutIsReady, InIsReady, PutsOn, LooksOut, LooksIn, TookOn, LeavesOn, EndsOn, KeepsGrant, NoGrantBack, GrantIsBack};
+    ghost use Rattle.gm_member.specs.Deaths.Shown.{Ends, held_of, ends_of, out_name_of, OutIsReady, InIsReady, PutsOn, LooksOut, LooksIn, TookOn, LeavesOn, EndsOn, KeepsGrant, NoGrantBack, GrantIsBack};
 
     /// A member of the ring's opening, which has published and heard nothing. The caller gives its id in the ring, the
     /// view in which the ring opens, the credit of the ring's links, the end of the link to its right neighbour and
