@@ -1,5 +1,5 @@
 -- A door that is gone through link by link.
-use Rattle.std.proofs.Common.{◌≡◌, ℕ, zero, suc, ◌+◌, ◌<◌, List, [], ◌∷◌, ◌++◌, take, drop, length, refl, sym, ap, ◌∙◌, append_assoc, arith}
+use Rattle.std.proofs.Common.{◌≡◌, ℕ, zero, suc, ◌+◌, ◌<◌, true, false, cond, List, [], ◌∷◌, ◌++◌, map, take, drop, length, refl, sym, ap, ◌∙◌, append_assoc, arith}
 use Rattle.std.specs.List.{filter, flat_map}
 use Rattle.std.proofs.lemmas.List.{append-nil}
 use Rattle.std.proofs.lemmas.List.Elements.{filter-append}
@@ -7,7 +7,8 @@ use Rattle.std.proofs.lemmas.Grind.{flat_map-append}
 use Rattle.group_view.specs.View.{Group}
 use Rattle.group_view.specs.declared.link.LinkName.{LinkName}
 use Rattle.gm_member.specs.declared.repair.links.InLink.{InLink}
-use Rattle.gm_member.specs.Deaths.View.{stays_at, kept_one, left_one, kept_links, left_links}
+use Rattle.gm_member.specs.Deaths.Held.{stays, kept_door}
+use Rattle.gm_member.specs.Deaths.View.{in_of, stays_at, kept_one, left_one, kept_links, left_links}
 
 -- the element at a place, with those before it and those behind it
 record CutAt {A : Type 0} (xs : List A) (i : ℕ) : Type 0 where
@@ -48,3 +49,10 @@ module _ {I : Type 0} where
             (ap (λ zs. left_links v y (take i old) ++ zs) (sym (append-nil (left_one v y k.it)))
             ∙ sym (flat_map-append (left_one v y) (take i old) (k.it ∷ [])) ∙ ap (left_links v y) (sym before));
       }
+
+  -- what is shown of the links that stay
+  pub door_seen : (v : Group) (y : ℕ) (links : List (InLink I)) → map in_of (kept_links v y links) ≡ kept_door v y (map in_of links)
+  door_seen v y [] = refl
+  door_seen v y (l ∷ ls) =
+      elim (stays v y (in_of l)) as (λ b. map in_of (cond b (l ∷ kept_links v y ls) (kept_links v y ls)) ≡ cond b (in_of l ∷ kept_door v y (map in_of ls)) (kept_door v y (map in_of ls)))
+      [ true ↦ ap (λ zs. in_of l ∷ zs) (door_seen v y ls) | false ↦ door_seen v y ls ]

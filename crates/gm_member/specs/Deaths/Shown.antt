@@ -1,18 +1,24 @@
 -- What a member of a ring whose members may stop shows, and what its calls do to its ends.
-use Rattle.std.specs.Prelude.{◌≡◌, ◌⊎◌, ◌<◌, ◌++◌, ◌∷◌, [], ℕ, Bool, true, false, List, length, map, ⊤, Option, Some, None, option_map, slice_index_or, IsSome, MatchOption}
+use Rattle.std.specs.Prelude.{◌≡◌, ◌⊎◌, ◌+◌, ◌<◌, ◌≤◌, vec_len, vec_capacity, ◌++◌, ◌∷◌, [], ℕ, Bool, true, false, List, length, map, ⊤, Option, Some, None, option_map, slice_index_or, IsSome, MatchOption}
 use Rattle.credit_flow.specs.Credit.{grant_due}
 use Rattle.ordered_link.specs.declared.item.EndReason.{EndReason}
+use Rattle.ordered_link.specs.declared.item.EndReason.TheVariants.{Moved}
+use Rattle.group_view.specs.View.{Group}
 use Rattle.group_view.specs.declared.link.LinkName.{LinkName}
 use Rattle.ordered_link.specs.declared.item.Item.{Item}
 use Rattle.ring_world.specs.Deaths.Machine.{runs_phase}
 use Rattle.gm_member.specs.declared.packet.Load.{Load}
 use Rattle.gm_member.specs.declared.repair.links.OutLink.{OutLink}
 use Rattle.gm_member.specs.declared.repair.links.InLink.{InLink}
+use Rattle.gm_member.specs.declared.repair.spare.Spare.{Spare}
 use Rattle.gm_member.specs.declared.repair.member.Member.{Member}
+use Rattle.ring_names.specs.declared.numbers.MemberId.{MemberId}
+use Rattle.group_view.specs.declared.request.Request.{Request}
+use Rattle.gm_member.specs.Deaths.Spares.{IsSpareFor, OpensOn}
 use Rattle.gm_member.specs.View.{row_of}
 use Rattle.gm_member.specs.Held.{Parcel}
 use Rattle.gm_member.specs.Deaths.Held.{Held, at_some, parcel_on, without}
-use Rattle.gm_member.specs.Deaths.View.{out_of, in_of, end_of, ring_link}
+use Rattle.gm_member.specs.Deaths.View.{out_of, in_of, end_of, ring_link, kept_link, kept_links, left_current, left_links}
 use Rattle.gm_member.specs.Deaths.Ends.{EndPuts, EndGets, EndLooks, EndTook, EndEnds}
 
 -- The ends that a member has: of the link on which it sends, with the grant that it keeps of it; of the one from which it takes; of
@@ -137,3 +143,36 @@ module _ {O I : Type 0} where
   -- one is kept, or has come back
   abbrev pub GrantIsBack : (O → List ℕ) → Member O I → Type 0
   GrantIsBack grants m = MatchOption m.out ⊥ (λ l. IsSome l.kept ⊎ MatchOption l.end ⊥ (λ o. 0 < length (grants o)))
+
+  -- of the links to it those stay that another view keeps, and of the others the ends join those that it has left
+  pub record LooksBy (v : Group) (m n : Member O I) : Type 0 where
+    pub current : n.current ≡ kept_link v m.id.0 m.current
+    pub door : n.door.items ≡ kept_links v m.id.0 m.door.items
+    pub old_ins : n.old_ins.items ≡ (m.old_ins.items ++ left_current v m.id.0 m.current) ++ left_links v m.id.0 m.door.items
+
+  -- it sends on no link: the one on which it sent has ended, as its sender has moved on, and the end joins those that it has replaced
+  pub record MovesOn (puts : O → Item Load → O → Type 0) (m n : Member O I) : Type 0 where
+    pub out : n.out ≡ None
+    pub old_outs : MatchOption m.out (n.old_outs.items ≡ m.old_outs.items) (λ l. (o : O) × EndGets puts Moved l.end (Some o)
+        × (n.old_outs.items ≡ m.old_outs.items ++ (ring_link m.id.0 l.to.0 l.opened, o) ∷ []))
+
+  -- The link that a member has ready, where it has one, with room for the end of the one that it replaces.
+  pub record IsReadyToMove (are_fresh : ℕ → O → I → Type 0) (free : O → ℕ) (ended : O → Bool) (m : Member O I) (s : Spare O I) : Type 0 where
+    pub spare : IsSpareFor are_fresh free ended m.credit.initial (map row_of m.known.items) s
+    pub room : vec_len m.old_outs + 2 ≤ vec_capacity m.old_outs
+
+  -- the member sends on a new link to its right neighbour, whose receiving end stands in the request
+  pub record SendsOn (are_fresh : ℕ → O → I → Type 0) (free : O → ℕ) (ended : O → Bool) (puts : O → Item Load → O → Type 0) (to : MemberId) (m n : Member O I) (requests : List (Request I)) : Type 0 where
+    pub spare : Spare O I
+    pub ready : IsSpareFor are_fresh free ended m.credit.initial (map row_of m.known.items) spare
+    pub link : OutLink O
+    pub out : n.out ≡ Some link
+    pub opens : OpensOn puts m.credit (map row_of m.known.items) m.id to m.view.version spare link requests
+    pub old_outs : MatchOption m.out (n.old_outs.items ≡ m.old_outs.items) (λ l. (o : O) × EndGets puts Moved l.end (Some o)
+        × (n.old_outs.items ≡ m.old_outs.items ++ (ring_link m.id.0 l.to.0 l.opened, o) ∷ []))
+
+  -- or on the one on which it did
+  pub record StaysOn (m n : Member O I) (requests : List (Request I)) : Type 0 where
+    pub out : n.out ≡ m.out
+    pub old_outs : n.old_outs ≡ m.old_outs
+    pub requests_none : requests ≡ []

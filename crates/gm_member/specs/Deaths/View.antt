@@ -6,7 +6,7 @@ use Rattle.group_view.specs.declared.link.LinkKind.TheVariants.{Ring}
 use Rattle.group_view.specs.View.{Group, as_id}
 use Rattle.gm_member.specs.declared.repair.links.OutLink.{OutLink}
 use Rattle.gm_member.specs.declared.repair.links.InLink.{InLink}
-use Rattle.gm_member.specs.Deaths.Held.{Outgoing, Incoming, stays}
+use Rattle.gm_member.specs.Deaths.Held.{Outgoing, Incoming, is_for, stays}
 
 module _ {O : Type 0} where
   -- the link on which a member sends
@@ -58,3 +58,12 @@ module _ {I : Type 0} where
 
   abbrev pub left_links : Group → ℕ → List (InLink I) → List (LinkName × I)
   left_links v y links = flat_map (left_one v y) links
+
+  -- what stays of the link from which such a member takes, and what is left of it
+  abbrev pub kept_link : Group → ℕ → Option (InLink I) → Option (InLink I)
+  kept_link v y None = None
+  kept_link v y (Some l) = cond (is_for v y (in_of l)) (Some l) None
+
+  abbrev pub left_current : Group → ℕ → Option (InLink I) → List (LinkName × I)
+  left_current v y None = []
+  left_current v y (Some l) = cond (is_for v y (in_of l)) [] (left_link y l)

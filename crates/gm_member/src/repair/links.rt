@@ -138,7 +138,7 @@ impl<O: LinkOut<Load>> OutLink<O> {
     }
 }
 
-impl<O: LinkOut<Load>> OutLink<O> {
+impl<O: LinkOut<Load> + Drop> OutLink<O> {
     ghost use Rattle.std.specs.Prelude.{◌≡◌, ◌↔◌, ◌⊎◌, ◌<◌, [], false, true, length, IsTrue, IfSome, IfNone, IsSome, None, Some, MatchOption, ⊤, ℕ};
     ghost use Rattle.gm_member.specs.Deaths.View.{out_of};
     ghost use Rattle.gm_member.specs.Deaths.Ends.{EndGets, EndLooks};
@@ -154,6 +154,19 @@ impl<O: LinkOut<Load>> OutLink<O> {
             unreachable!()
         };
         end.end(reason);
+    }
+
+    /// The end of the link, on which its end was put.
+    pub(crate) fn into_ended(self, reason: EndReason) -> O
+        requires { MatchOption self.end ⊥ (λ o. O.ended o ≡ false) }
+        ensures { EndGets O.puts reason self.end (Some result) }
+    {
+        let mut link = self;
+        let Some(mut end) = link.end.take() else {
+            unreachable!()
+        };
+        end.end(reason);
+        end
     }
 
     /// Whether a grant is kept, or has come back.

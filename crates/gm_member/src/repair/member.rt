@@ -1,5 +1,5 @@
 //! A member of a ring whose members may stop.
-ghost use Rattle.std.specs.Prelude.{◌≡◌, ◌+◌, ◌≤◌, ◌<◌};
+ghost use Rattle.std.specs.Prelude.{◌≡◌, ◌+◌, ◌≤◌, ◌<◌, ◌∷◌, ◌++◌, []};
 ghost use Rattle.std.specs.Vec.{vec_len, vec_capacity};
 ghost use Rattle.std.specs.Prelude.{true};
 ghost use Rattle.group_view.specs.Ring.{is_in};
@@ -9,12 +9,14 @@ ghost use Rattle.gm_member.specs.Deaths.View.{count_of};
 use crate::fault::MemberFault;
 use crate::known::{Known, nothing_known, nothing_sent, push_at};
 use crate::packet::{Load, Packet};
+use crate::repair::door::{is_for, prune};
 use crate::repair::links::{InLink, OutLink};
 use crate::repair::rows::accept;
+use crate::repair::spare::Spare;
 use crate::repair::views::{left, right, version};
 use crate::taken::Taken;
 use credit_flow::{CreditIn, CreditOut};
-use group_view::{LinkName, View};
+use group_view::{LinkName, Request, View};
 use ordered_link::{EndReason, LinkIn, LinkPair};
 use ring_names::{CreditSpec, MemberId, Message, Name, OutOfMemory, Reason};
 use ring_world::Phase;
@@ -55,11 +57,11 @@ impl<O: LinkPair<Load, In = I>, I: LinkIn<Load> + Drop> Member<O, I> {
     ghost use Rattle.ring_world.specs.Deaths.View.{ids};
     ghost use Rattle.group_view.specs.Ring.{is_in};
     ghost use Rattle.gm_member.specs.Held.{Parcel};
-    ghost use Rattle.gm_member.specs.Deaths.View.{ring_link, left_end};
+    ghost use Rattle.gm_member.specs.Deaths.View.{ring_link, left_end, kept_link, left_current};
     ghost use Rattle.gm_member.specs.Deaths.Ends.{IsPutFault, IsTakeFault, IsEndRefusal};
-    ghost use Rattle.gm_member.specs.Deaths.Held.{founded, known_at, active_refused, up_refused, published_held, put_refused, put_held, take_refused, took_held, ended_held, stopped_held, gain_refused, gained_held};
+    ghost use Rattle.gm_member.specs.Deaths.Held.{founded, known_at, active_refused, up_refused, published_held, put_refused, put_held, take_refused, took_held, ended_held, stopped_held, gain_refused, gained_held, kept_in, looked_held, sends_to as sends_to_it, first_out};
     ghost use Rattle.gm_member.specs.Deaths.News.{news_of};
-    ghost use Rattle.gm_member.specs.Deaths.Shown.{Ends, held_of, ends_of, out_name_of, OutIsReady, InIsReady, PutsOn, LooksOut, LooksIn, TookOn, LeavesOn, EndsOn, KeepsGrant, NoGrantBack, GrantIsBack};
+    ghost use Rattle.gm_member.specs.Deaths.Shown.{Ends, held_of, ends_of, out_name_of, OutIsReady, InIsReady, PutsOn, LooksOut, LooksIn, TookOn, LeavesOn, EndsOn, KeepsGrant, NoGrantBack, GrantIsBack, LooksBy, MovesOn, IsReadyToMove, SendsOn};
 
     /// A member of the ring's opening, which has published and heard nothing. The caller gives its id in the ring, the
     /// view in which the ring opens, the credit of the ring's links, the end of the link to its right neighbour and
@@ -491,5 +493,103 @@ impl<O: LinkPair<Load, In = I>, I: LinkIn<Load> + Drop> Member<O, I> {
                 Ok(())
             }
         }
+    }
+
+    /// What stays of the link from which the member takes, with another view.
+    fn keep_current(&mut self, view: &View)
+        requires { is_in self.old.id.0 (ids view.now) ≡ true }
+        ensures held { held_of self.new ≡ record (held_of self.old) { current = kept_in view.now self.old.id.0 (held_of self.old).current } }
+        ensures current { self.new.current ≡ kept_link view.now self.old.id.0 self.old.current }
+        ensures left { self.new.old_ins.items ≡ self.old.old_ins.items ++ left_current view.now self.old.id.0 self.old.current }
+        ensures others { (self.new.out ≡ self.old.out) × (self.new.door ≡ self.old.door) × (self.new.old_outs ≡ self.old.old_outs) }
+    {
+        let Some(link) = &self.current else {
+            return;
+        };
+        if is_for(view, self.id, link) {
+            return;
+        }
+        self.leave_current();
+    }
+
+    /// The member has another view.
+    fn look(&mut self, view: View)
+        requires { is_in self.old.id.0 (ids view) ≡ true }
+        ensures held { held_of self.new ≡ looked_held (held_of self.old) view }
+        ensures links { LooksBy view self.old self.new }
+        ensures others { (self.new.out ≡ self.old.out) × (self.new.old_outs ≡ self.old.old_outs) }
+    {
+        self.keep_current(&view);
+        prune(&view, self.id, &mut self.door, &mut self.old_ins);
+        self.view = view;
+    }
+
+    /// The link on which the member sends ends, and the end joins those that it has replaced.
+    fn move_on(&mut self)
+        requires { MatchOption self.old.out ⊤ (λ l. MatchOption l.end ⊥ (λ o. O.ended o ≡ false)) }
+        ensures held { held_of self.new ≡ record (held_of self.old) { out = None } }
+        ensures moves { MovesOn O.puts self.old self.new }
+        ensures same { (self.new.id ≡ self.old.id) × (self.new.view ≡ self.old.view) × (self.new.credit ≡ self.old.credit) }
+        ensures others { (self.new.current ≡ self.old.current) × (self.new.door ≡ self.old.door) × (self.new.old_ins ≡ self.old.old_ins) }
+        ensures room { vec_capacity self.old.old_outs ≤ vec_capacity self.new.old_outs }
+        ensures len { vec_len self.new.old_outs ≤ vec_len self.old.old_outs + 1 }
+    {
+        let Some(link) = self.out.take() else {
+            return;
+        };
+        let name = link.name(self.id);
+        let end = link.into_ended(EndReason::Moved);
+        push_old(&mut self.old_outs, name, end);
+    }
+
+    /// Whether the member sends to another already.
+    fn sends_to(&self, to: MemberId) -> bool
+        ensures { result ≡ sends_to_it (held_of self.now).out to.0 }
+    {
+        match &self.out {
+            None => false,
+            Some(link) => link.to.0 == to.0,
+        }
+    }
+
+    /// A link that is ready to open, with room for the end of the one that it replaces.
+    fn prepare(&mut self) -> Result<Spare<O, I>, OutOfMemory>
+        ensures held { held_of self.new ≡ held_of self.old }
+        ensures ends { (self.new.out ≡ self.old.out) × (self.new.current ≡ self.old.current) × (self.new.door ≡ self.old.door)
+            × (self.new.old_outs.items ≡ self.old.old_outs.items) × (self.new.old_ins ≡ self.old.old_ins) }
+        ensures ready { IfOk result (λ spare. IsReadyToMove O.are_fresh O.free O.ended self.new spare) }
+    {
+        if self.old_outs.reserve(2).is_err() {
+            return Err(OutOfMemory);
+        }
+        let spare = Spare::make(self.alloc, self.credit, &self.known)?;
+        Ok(spare)
+    }
+
+    /// The member sends on a link that was ready, to another, and what it sent on before ends.
+    fn send_to(&mut self, spare: Spare<O, I>, to: MemberId) -> Vec<Request<I>>
+        requires ready { IsReadyToMove O.are_fresh O.free O.ended self.old spare }
+        requires out { MatchOption self.old.out ⊤ (λ l. MatchOption l.end ⊥ (λ o. O.ended o ≡ false)) }
+        ensures held { held_of self.new ≡ record (held_of self.old) { out = Some (first_out (held_of self.old) to.0) } }
+        ensures sends { SendsOn O.are_fresh O.free O.ended O.puts to self.old self.new result.items }
+        ensures others { (self.new.current ≡ self.old.current) × (self.new.door ≡ self.old.door) × (self.new.old_ins ≡ self.old.old_ins) }
+    {
+        self.move_on();
+        let (link, requests) = spare.open(self.id, to, version(&self.view), self.credit);
+        self.out = Some(link);
+        requests
+    }
+}
+
+/// An end that was replaced joins those before it, for which there is room.
+fn push_old<A: Drop>(old: &mut Vec<(LinkName, A)>, name: LinkName, end: A)
+    requires { vec_len old.old < vec_capacity old.old }
+    ensures items { old.new.items ≡ old.old.items ++ (name, end) ∷ [] }
+    ensures len { vec_len old.new ≡ vec_len old.old + 1 }
+    ensures room { vec_capacity old.old ≤ vec_capacity old.new }
+{
+    match old.push((name, end)) {
+        Ok(()) => {}
+        Err(_full) => unreachable!(),
     }
 }
