@@ -4,6 +4,7 @@ pub mod Names
 pub mod Fit
 pub mod Calls
 pub mod Pruned
+pub mod Moving
 pub mod Facts
 pub mod Parts
 pub mod PutStands

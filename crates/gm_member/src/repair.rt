@@ -5,8 +5,8 @@
 mod door;
 mod links;
 mod member;
-mod spare;
 pub(crate) mod rows;
+mod spare;
 mod views;
 
 pub use links::{InLink, OutLink};

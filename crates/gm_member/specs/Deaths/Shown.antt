@@ -1,11 +1,12 @@
 -- What a member of a ring whose members may stop shows, and what its calls do to its ends.
-use Rattle.std.specs.Prelude.{◌≡◌, ◌⊎◌, ◌+◌, ◌<◌, ◌≤◌, vec_len, vec_capacity, ◌++◌, ◌∷◌, [], ℕ, Bool, true, false, List, length, map, ⊤, Option, Some, None, option_map, slice_index_or, IsSome, MatchOption}
+use Rattle.std.specs.Prelude.{◌≡◌, ◌⊎◌, ◌+◌, ◌<◌, ◌≤◌, vec_len, vec_capacity, ◌++◌, ◌∷◌, [], ℕ, Bool, true, false, not, List, length, map, ⊤, Option, Some, None, option_map, slice_index_or, IsSome, MatchOption}
 use Rattle.credit_flow.specs.Credit.{grant_due}
 use Rattle.ordered_link.specs.declared.item.EndReason.{EndReason}
 use Rattle.ordered_link.specs.declared.item.EndReason.TheVariants.{Moved}
 use Rattle.group_view.specs.View.{Group}
 use Rattle.group_view.specs.declared.link.LinkName.{LinkName}
 use Rattle.ordered_link.specs.declared.item.Item.{Item}
+use Rattle.ring_world.specs.Deaths.View.{right_of}
 use Rattle.ring_world.specs.Deaths.Machine.{runs_phase}
 use Rattle.gm_member.specs.declared.packet.Load.{Load}
 use Rattle.gm_member.specs.declared.repair.links.OutLink.{OutLink}
@@ -17,7 +18,7 @@ use Rattle.group_view.specs.declared.request.Request.{Request}
 use Rattle.gm_member.specs.Deaths.Spares.{IsSpareFor, OpensOn}
 use Rattle.gm_member.specs.View.{row_of}
 use Rattle.gm_member.specs.Held.{Parcel}
-use Rattle.gm_member.specs.Deaths.Held.{Held, at_some, parcel_on, without}
+use Rattle.gm_member.specs.Deaths.Held.{Held, at_some, parcel_on, without, sends_to}
 use Rattle.gm_member.specs.Deaths.View.{out_of, in_of, end_of, ring_link, kept_link, kept_links, left_current, left_links}
 use Rattle.gm_member.specs.Deaths.Ends.{EndPuts, EndGets, EndLooks, EndTook, EndEnds}
 
@@ -161,13 +162,13 @@ module _ {O I : Type 0} where
     pub spare : IsSpareFor are_fresh free ended m.credit.initial (map row_of m.known.items) s
     pub room : vec_len m.old_outs + 2 ≤ vec_capacity m.old_outs
 
-  -- the member sends on a new link to its right neighbour, whose receiving end stands in the request
-  pub record SendsOn (are_fresh : ℕ → O → I → Type 0) (free : O → ℕ) (ended : O → Bool) (puts : O → Item Load → O → Type 0) (to : MemberId) (m n : Member O I) (requests : List (Request I)) : Type 0 where
+  -- the member, whose view is of this version, sends on a new link to another, whose receiving end stands in the request
+  pub record SendsOn (are_fresh : ℕ → O → I → Type 0) (free : O → ℕ) (ended : O → Bool) (puts : O → Item Load → O → Type 0) (version : ℕ) (to : MemberId) (m n : Member O I) (requests : List (Request I)) : Type 0 where
     pub spare : Spare O I
     pub ready : IsSpareFor are_fresh free ended m.credit.initial (map row_of m.known.items) spare
     pub link : OutLink O
     pub out : n.out ≡ Some link
-    pub opens : OpensOn puts m.credit (map row_of m.known.items) m.id to m.view.version spare link requests
+    pub opens : OpensOn puts m.credit (map row_of m.known.items) m.id to version spare link requests
     pub old_outs : MatchOption m.out (n.old_outs.items ≡ m.old_outs.items) (λ l. (o : O) × EndGets puts Moved l.end (Some o)
         × (n.old_outs.items ≡ m.old_outs.items ++ (ring_link m.id.0 l.to.0 l.opened, o) ∷ []))
 
@@ -176,3 +177,9 @@ module _ {O I : Type 0} where
     pub out : n.out ≡ m.out
     pub old_outs : n.old_outs ≡ m.old_outs
     pub requests_none : requests ≡ []
+
+  -- with another view a member sends on as it did, where that goes to its right neighbour, else on a new link to it
+  abbrev pub MovesTo : (ℕ → O → I → Type 0) → (O → ℕ) → (O → Bool) → (O → Item Load → O → Type 0) → Group → Member O I → Member O I → List (Request I) → Type 0
+  MovesTo are_fresh free ended puts v m n requests =
+      When (sends_to (held_of m).out (right_of v m.id.0)) (StaysOn m n requests)
+      × When (not (sends_to (held_of m).out (right_of v m.id.0))) ((to : MemberId) × (to.0 ≡ right_of v m.id.0) × SendsOn are_fresh free ended puts v.version to m n requests)

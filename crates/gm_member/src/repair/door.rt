@@ -45,7 +45,12 @@ pub(crate) fn leave<I: Drop>(left: &mut Vec<(LinkName, I)>, id: MemberId, link: 
 }
 
 /// The first link of a door goes to the door's end where it stays there, else its end joins those that were left.
-fn judge<I: Drop>(view: &View, id: MemberId, door: &mut Vec<InLink<I>>, left: &mut Vec<(LinkName, I)>)
+fn judge<I: Drop>(
+    view: &View,
+    id: MemberId,
+    door: &mut Vec<InLink<I>>,
+    left: &mut Vec<(LinkName, I)>,
+)
     requires stands { is_in id.0 (ids view.now) ≡ true }
     requires some { 0 < vec_len door.old }
     requires room { vec_len left.old < vec_capacity left.old }
@@ -83,4 +88,23 @@ pub(crate) fn prune<I: Drop>(
     for _link in 0..count {
         judge(view, id, door, left);
     }
+}
+
+/// The place of the first link of a door that comes from the left neighbour.
+pub(crate) fn first_for<I>(view: &View, id: MemberId, door: &[InLink<I>]) -> Option<usize>
+    requires { is_in id.0 (ids view.now) ≡ true }
+    ensures place { result ≡ position (is_the_neighbours view.now id.0) (map in_of door.now) }
+    ensures within { IfSome result (λ i. i < length door.now) }
+{
+    let from = left(view, id);
+    let start = since(view, id);
+    position_of(door, from, start)
+}
+
+fn position_of<I>(door: &[InLink<I>], from: MemberId, start: u32) -> Option<usize>
+    ensures place { result ≡ position (λ link. nat_eq link.from.0 from.0 && nat_le start link.opened) door.now }
+    ensures within { IfSome result (λ i. i < length door.now) }
+{
+    door.iter()
+        .position(|link| link.from.0 == from.0 && start <= link.opened)
 }

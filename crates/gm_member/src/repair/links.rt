@@ -71,7 +71,12 @@ impl<O> OutLink<O> {
     }
 
     /// The next packet of these rows.
-    pub(crate) fn packet(&self, alloc: Global, version: u32, known: &[Known]) -> Result<Packet, OutOfMemory>
+    pub(crate) fn packet(
+        &self,
+        alloc: Global,
+        version: u32,
+        known: &[Known],
+    ) -> Result<Packet, OutOfMemory>
         requires { length known.now ≡ 64 }
         ensures { IfOk result (λ packet. packet ≡ parcel_on version (map row_of known.now) (out_of self.now)) }
     {
@@ -84,7 +89,11 @@ impl<O> OutLink<O> {
     }
 
     /// The numbers that it says.
-    pub(crate) fn numbers(&self, alloc: Global, known: &[Known]) -> Result<Vec<Numbers>, OutOfMemory>
+    pub(crate) fn numbers(
+        &self,
+        alloc: Global,
+        known: &[Known],
+    ) -> Result<Vec<Numbers>, OutOfMemory>
         requires { length known.now ≡ 64 }
         ensures { IfOk result (λ v. v.items ≡ next_sent (map row_of known.now) (out_of self.now)) }
     {

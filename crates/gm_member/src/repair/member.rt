@@ -9,7 +9,7 @@ ghost use Rattle.gm_member.specs.Deaths.View.{count_of};
 use crate::fault::MemberFault;
 use crate::known::{Known, nothing_known, nothing_sent, push_at};
 use crate::packet::{Load, Packet};
-use crate::repair::door::{is_for, prune};
+use crate::repair::door::{first_for, is_for, prune};
 use crate::repair::links::{InLink, OutLink};
 use crate::repair::rows::accept;
 use crate::repair::spare::Spare;
@@ -51,7 +51,7 @@ pub struct Member<O, I> {
 }
 
 impl<O: LinkPair<Load, In = I>, I: LinkIn<Load> + Drop> Member<O, I> {
-    ghost use Rattle.std.specs.Prelude.{◌≡◌, ◌⊎◌, ◌+◌, ◌-◌, ◌≤◌, ◌∷◌, [], OnOk, OnErr, IfOk, IfErr, IfSome, IfNone, IsErrOf, IsSome, None, Some, Ok, Err, length, false, true, Option, MatchOption, ⊤, ◌++◌};
+    ghost use Rattle.std.specs.Prelude.{◌≡◌, ◌⊎◌, ◌+◌, ◌-◌, ◌<◌, ◌≤◌, ℕ, ◌∷◌, [], OnOk, OnErr, IfOk, IfErr, IfSome, IfNone, IsErrOf, IsSome, None, Some, Ok, Err, length, false, true, Option, MatchOption, ⊤, ◌++◌};
     ghost use Rattle.ring_names.specs.declared.reason.Reason.{Reason};
     ghost use Rattle.ring_world.specs.World.{most_members};
     ghost use Rattle.ring_world.specs.Deaths.View.{ids};
@@ -59,9 +59,9 @@ impl<O: LinkPair<Load, In = I>, I: LinkIn<Load> + Drop> Member<O, I> {
     ghost use Rattle.gm_member.specs.Held.{Parcel};
     ghost use Rattle.gm_member.specs.Deaths.View.{ring_link, left_end, kept_link, left_current};
     ghost use Rattle.gm_member.specs.Deaths.Ends.{IsPutFault, IsTakeFault, IsEndRefusal};
-    ghost use Rattle.gm_member.specs.Deaths.Held.{founded, known_at, active_refused, up_refused, published_held, put_refused, put_held, take_refused, took_held, ended_held, stopped_held, gain_refused, gained_held, kept_in, looked_held, sends_to as sends_to_it, first_out};
+    ghost use Rattle.gm_member.specs.Deaths.Held.{founded, known_at, active_refused, up_refused, published_held, put_refused, put_held, take_refused, took_held, ended_held, stopped_held, gain_refused, gained_held, kept_in, looked_held, sends_to as sends_to_it, first_out, refresh_refused, refreshed_held, first_at_door as the_first_at_door, pick_refused, picked_held, picked_at};
     ghost use Rattle.gm_member.specs.Deaths.News.{news_of};
-    ghost use Rattle.gm_member.specs.Deaths.Shown.{Ends, held_of, ends_of, out_name_of, OutIsReady, InIsReady, PutsOn, LooksOut, LooksIn, TookOn, LeavesOn, EndsOn, KeepsGrant, NoGrantBack, GrantIsBack, LooksBy, MovesOn, IsReadyToMove, SendsOn};
+    ghost use Rattle.gm_member.specs.Deaths.Shown.{Ends, held_of, ends_of, out_name_of, OutIsReady, InIsReady, PutsOn, LooksOut, LooksIn, TookOn, LeavesOn, EndsOn, KeepsGrant, NoGrantBack, GrantIsBack, LooksBy, MovesOn, IsReadyToMove, SendsOn, MovesTo, PicksOn};
 
     /// A member of the ring's opening, which has published and heard nothing. The caller gives its id in the ring, the
     /// view in which the ring opens, the credit of the ring's links, the end of the link to its right neighbour and
@@ -381,6 +381,7 @@ impl<O: LinkPair<Load, In = I>, I: LinkIn<Load> + Drop> Member<O, I> {
         ensures left { MatchOption self.old.current (self.new.old_ins.items ≡ self.old.old_ins.items) (λ l.
             self.new.old_ins.items ≡ self.old.old_ins.items ++ left_end (ring_link l.from.0 self.old.id.0 l.opened) l.end) }
         ensures current { self.new.current ≡ None }
+        ensures same { (self.new.id ≡ self.old.id) × (self.new.credit ≡ self.old.credit) × (self.new.known ≡ self.old.known) }
         ensures others { (self.new.out ≡ self.old.out) × (self.new.door ≡ self.old.door) × (self.new.old_outs ≡ self.old.old_outs) }
     {
         let Some(link) = self.current.take() else {
@@ -501,6 +502,7 @@ impl<O: LinkPair<Load, In = I>, I: LinkIn<Load> + Drop> Member<O, I> {
         ensures held { held_of self.new ≡ record (held_of self.old) { current = kept_in view.now self.old.id.0 (held_of self.old).current } }
         ensures current { self.new.current ≡ kept_link view.now self.old.id.0 self.old.current }
         ensures left { self.new.old_ins.items ≡ self.old.old_ins.items ++ left_current view.now self.old.id.0 self.old.current }
+        ensures same { (self.new.id ≡ self.old.id) × (self.new.credit ≡ self.old.credit) × (self.new.known ≡ self.old.known) }
         ensures others { (self.new.out ≡ self.old.out) × (self.new.door ≡ self.old.door) × (self.new.old_outs ≡ self.old.old_outs) }
     {
         let Some(link) = &self.current else {
@@ -518,6 +520,7 @@ impl<O: LinkPair<Load, In = I>, I: LinkIn<Load> + Drop> Member<O, I> {
         ensures held { held_of self.new ≡ looked_held (held_of self.old) view }
         ensures links { LooksBy view self.old self.new }
         ensures others { (self.new.out ≡ self.old.out) × (self.new.old_outs ≡ self.old.old_outs) }
+        ensures same { (self.new.id ≡ self.old.id) × (self.new.credit ≡ self.old.credit) × (self.new.known ≡ self.old.known) × (self.new.view ≡ view) }
     {
         self.keep_current(&view);
         prune(&view, self.id, &mut self.door, &mut self.old_ins);
@@ -557,6 +560,7 @@ impl<O: LinkPair<Load, In = I>, I: LinkIn<Load> + Drop> Member<O, I> {
         ensures held { held_of self.new ≡ held_of self.old }
         ensures ends { (self.new.out ≡ self.old.out) × (self.new.current ≡ self.old.current) × (self.new.door ≡ self.old.door)
             × (self.new.old_outs.items ≡ self.old.old_outs.items) × (self.new.old_ins ≡ self.old.old_ins) }
+        ensures same { (self.new.id ≡ self.old.id) × (self.new.credit ≡ self.old.credit) × (self.new.known ≡ self.old.known) }
         ensures ready { IfOk result (λ spare. IsReadyToMove O.are_fresh O.free O.ended self.new spare) }
     {
         if self.old_outs.reserve(2).is_err() {
@@ -571,13 +575,143 @@ impl<O: LinkPair<Load, In = I>, I: LinkIn<Load> + Drop> Member<O, I> {
         requires ready { IsReadyToMove O.are_fresh O.free O.ended self.old spare }
         requires out { MatchOption self.old.out ⊤ (λ l. MatchOption l.end ⊥ (λ o. O.ended o ≡ false)) }
         ensures held { held_of self.new ≡ record (held_of self.old) { out = Some (first_out (held_of self.old) to.0) } }
-        ensures sends { SendsOn O.are_fresh O.free O.ended O.puts to self.old self.new result.items }
+        ensures sends { SendsOn O.are_fresh O.free O.ended O.puts self.old.view.version to self.old self.new result.items }
         ensures others { (self.new.current ≡ self.old.current) × (self.new.door ≡ self.old.door) × (self.new.old_ins ≡ self.old.old_ins) }
     {
         self.move_on();
         let (link, requests) = spare.open(self.id, to, version(&self.view), self.credit);
         self.out = Some(link);
         requests
+    }
+
+    /// Why the member may not read a view of this version: `Stopped`, `Waiting`, `AwaitingAnswer`; `ViewOutOfRange`
+    /// where it is older than its own. The newest that the refusal names is the member's own.
+    pub fn refresh_refusal(&self, asked: u32) -> Option<Reason>
+        ensures { result ≡ refresh_refused (held_of self.now) asked }
+    {
+        if let Some(reason) = self.up_refusal() {
+            return Some(reason);
+        }
+        let held = version(&self.view);
+        if asked < held {
+            return Some(Reason::ViewOutOfRange {
+                asked,
+                held,
+                newest: held,
+            });
+        }
+        None
+    }
+
+    /// The member reads a view, and sends to its right neighbour in it on a link that was ready.
+    fn read(&mut self, view: View, to: MemberId, spare: Spare<O, I>) -> Vec<Request<I>>
+        requires stands { is_in self.old.id.0 (ids view) ≡ true }
+        requires ready { IsReadyToMove O.are_fresh O.free O.ended self.old spare }
+        requires out { MatchOption self.old.out ⊤ (λ l. MatchOption l.end ⊥ (λ o. O.ended o ≡ false)) }
+        ensures held { held_of self.new ≡ record (looked_held (held_of self.old) view) { out = Some (first_out (looked_held (held_of self.old) view) to.0) } }
+        ensures links { LooksBy view self.old self.new }
+        ensures sends { SendsOn O.are_fresh O.free O.ended O.puts view.version to self.old self.new result.items }
+    {
+        self.look(view);
+        self.send_to(spare, to)
+    }
+
+    /// The member reads a view of the ring in which it stands, as `gm` on a change of the group: it goes on taking from its
+    /// left neighbour where that is the same, and sends to its right one, on a new link where that is another. Refused
+    /// as `refresh_refusal` says. The answer is what is to be asked of the registrar then: that it hands on the receiving
+    /// end of a link that has opened.
+    pub fn refresh(&mut self, view: View) -> Result<Vec<Request<I>>, (View, MemberFault)>
+        requires stands { is_in self.old.id.0 (ids view) ≡ true }
+        requires ready { OutIsReady O.ended self.old }
+        ensures enabled { OnOk result (refresh_refused (held_of self.old) view.version ≡ None) }
+        ensures ok { OnOk result (held_of self.new ≡ refreshed_held (held_of self.old) view) }
+        ensures links { OnOk result (LooksBy view self.old self.new) }
+        ensures moves { IfOk result (λ requests. MovesTo O.are_fresh O.free O.ended O.puts view self.old self.new requests.items) }
+        ensures refused { (r : Reason) → refresh_refused (held_of self.old) view.version ≡ Some r
+            → result ≡ Err (view, MemberFault.Refused r) }
+        ensures fault { IfErr result (λ e. (e.0 ≡ view) × (((e.1 ≡ MemberFault.OutOfMemory) × (refresh_refused (held_of self.old) view.version ≡ None))
+            ⊎ (r : Reason) × (e.1 ≡ MemberFault.Refused r) × (refresh_refused (held_of self.old) view.version ≡ Some r))) }
+        ensures err { OnErr result (held_of self.new ≡ held_of self.old) }
+    {
+        if let Some(reason) = self.refresh_refusal(version(&view)) {
+            return Err((view, MemberFault::Refused(reason)));
+        }
+        let to = right(&view, self.id);
+        if self.sends_to(to) {
+            self.look(view);
+            return Ok(Vec::new(self.alloc));
+        }
+        let Ok(spare) = self.prepare() else {
+            return Err((view, MemberFault::OutOfMemory));
+        };
+        let requests = self.read(view, to, spare);
+        Ok(requests)
+    }
+
+    /// The place of the first link at the door that comes from the left neighbour.
+    fn first_at_door(&self) -> Option<usize>
+        ensures place { result ≡ the_first_at_door (held_of self.now) }
+        ensures within { IfSome result (λ i. i < length self.now.door.items) }
+    {
+        first_for(&self.view, self.id, &self.door)
+    }
+
+    /// Why the member may pick no link: `Stopped`, `Waiting`, `AwaitingAnswer`; `HasCurrentLink` where it takes from a
+    /// link; `NoLinkAtDoor` where no link that has come to its door is from its left neighbour; `ViewTooOld` where the
+    /// first such link is newer than its view. It wants no memory.
+    pub fn pick_refusal(&self) -> Option<Reason>
+        ensures { result ≡ pick_refused (held_of self.now) }
+    {
+        if let Some(reason) = self.up_refusal() {
+            return Some(reason);
+        }
+        if self.current.is_some() {
+            return Some(Reason::HasCurrentLink);
+        }
+        match self.first_at_door() {
+            None => Some(Reason::NoLinkAtDoor),
+            Some(place) => {
+                let need = self.door[place].opened;
+                let have = version(&self.view);
+                if need > have {
+                    Some(Reason::ViewTooOld { need, have })
+                } else {
+                    None
+                }
+            }
+        }
+    }
+
+    /// The member takes from now on from the first link at its door that comes from its left neighbour. Refused as
+    /// `pick_refusal` says. It wants no memory.
+    pub fn pick(&mut self) -> Result<(), MemberFault>
+        ensures enabled { OnOk result (pick_refused (held_of self.old) ≡ None) }
+        ensures ok { OnOk result (held_of self.new ≡ picked_held (held_of self.old)) }
+        ensures picks { OnOk result ((i : ℕ) × (the_first_at_door (held_of self.old) ≡ Some i) × PicksOn i self.old self.new) }
+        ensures refused { (r : Reason) → pick_refused (held_of self.old) ≡ Some r
+            → result ≡ Err (MemberFault.Refused r) }
+        ensures fault { IfErr result (λ fault.
+            (r : Reason) × (fault ≡ MemberFault.Refused r) × (pick_refused (held_of self.old) ≡ Some r)) }
+        ensures err { OnErr result (self.new ≡ self.old) }
+    {
+        if let Some(reason) = self.pick_refusal() {
+            return Err(MemberFault::Refused(reason));
+        }
+        match self.first_at_door() {
+            None => unreachable!(),
+            Some(place) => self.pick_at(place),
+        }
+        Ok(())
+    }
+
+    /// It takes from the link at a place of its door.
+    fn pick_at(&mut self, place: usize)
+        requires within { place < length self.old.door.items }
+        requires none { self.old.current ≡ None }
+        ensures held { held_of self.new ≡ picked_at (held_of self.old) place }
+        ensures picks { PicksOn place self.old self.new }
+    {
+        self.current = Some(self.door.remove(place));
     }
 }
 

@@ -56,13 +56,7 @@ pub(crate) fn all_news(
 }
 
 /// Each row takes in its line of a packet from a sender.
-pub(crate) fn accept(
-    known: &mut [Known],
-    view: &View,
-    id: MemberId,
-    from: MemberId,
-    packet: Packet,
-)
+pub(crate) fn accept(known: &mut [Known], view: &View, id: MemberId, from: MemberId, packet: Packet)
     requires { length known.old ≡ 64 }
     ensures { map row_of known.new
         ≡ accepted_rows (λ p. is_owned view.now id.0 from.0 (p + 1)) (map row_of known.old) packet.lines }

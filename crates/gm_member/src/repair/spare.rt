@@ -34,7 +34,11 @@ impl<O: LinkPair<Load, In = I>, I: Drop> Spare<O, I> {
     ghost use Rattle.gm_member.specs.View.{row_of};
 
     /// A spare link with this credit, and the first packet of these rows.
-    pub(crate) fn make(alloc: Global, credit: CreditSpec, known: &[Known]) -> Result<Spare<O, I>, OutOfMemory>
+    pub(crate) fn make(
+        alloc: Global,
+        credit: CreditSpec,
+        known: &[Known],
+    ) -> Result<Spare<O, I>, OutOfMemory>
         requires { length known.now ≡ 64 }
         ensures { IfOk result (λ spare. IsSpareFor O.are_fresh O.free O.ended credit.initial (map row_of known.now) spare) }
     {

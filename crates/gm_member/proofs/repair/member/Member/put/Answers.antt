@@ -14,11 +14,17 @@ put-requires-clause-enabled g c =
 
 pub returns-clause-packet : goal.returns-clause-packet
 returns-clause-packet g c = on_ok_map c.put.result
-    (λ p. (c.in-Some-out.link, c.put.new.self, c.in-Some-out.is, refl,
-    subst (λ k. EndPuts g.O.LinkOut.puts k c.in-Some-out.link.end c.put.new.self.end)
-    (ap (λ v. parcel_on v (map row_of c.deref.result.now) (out_of c.in-Some-out.link)) c.version-version.ensures
-    ∙ ap (λ ks. parcel_on c.args.self.now.view.version (map row_of ks) (out_of c.in-Some-out.link)) c.deref.ensures.value) p,
-    c.put.ensures.kept, (refl, refl, refl, refl)))
+    (λ p. (
+      c.in-Some-out.link,
+      c.put.new.self,
+      c.in-Some-out.is,
+      refl,
+      subst (λ k. EndPuts g.O.LinkOut.puts k c.in-Some-out.link.end c.put.new.self.end)
+          (ap (λ v. parcel_on v (map row_of c.deref.result.now) (out_of c.in-Some-out.link)) c.version-version.ensures
+          ∙ ap (λ ks. parcel_on c.args.self.now.view.version (map row_of ks) (out_of c.in-Some-out.link)) c.deref.ensures.value) p,
+      c.put.ensures.kept,
+      (refl, refl, refl, refl),
+    ))
     c.put.ensures.packet
 
 pub returns-clause-looks : goal.returns-clause-looks
