@@ -9,3 +9,4 @@ pub mod TakeStands
 pub mod GainStands
 pub mod Lifts
 pub mod Pairs
+pub mod Deaths

@@ -3,3 +3,4 @@ pub mod View
 pub mod Steps
 pub mod News
 pub mod Stands
+pub mod Deaths

@@ -196,7 +196,7 @@ pub(crate) fn next_lines(
 }
 
 /// A row takes in a line.
-fn accept_line(row: &mut Known, own: bool, line: &mut Line)
+pub(crate) fn accept_line(row: &mut Known, own: bool, line: &mut Line)
     ensures { row_of row.new ≡ accepted_row own (row_of row.old) (carried_of line.old) }
 {
     if own {

@@ -9,6 +9,7 @@ mod known;
 mod member;
 mod news;
 mod packet;
+pub mod repair;
 mod taken;
 #[cfg(test)]
 mod tests;

@@ -45,7 +45,7 @@ fn push_between(
     Ok(())
 }
 
-fn push_line(
+pub(crate) fn push_line(
     out: &mut Vec<Taken>,
     own: bool,
     p: usize,

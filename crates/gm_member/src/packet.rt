@@ -1,8 +1,10 @@
 //! What goes from a member to its right neighbour.
 use crate::known::Known;
 use crate::news::all_news;
+use crate::repair::rows;
 use crate::taken::Taken;
-use ring_names::{MemberId, Message, OutOfMemory};
+use group_view::View;
+use ring_names::{MemberId, Message, OutOfMemory, Reason};
 use std::alloc::Global;
 use std::marker::Model;
 
@@ -40,8 +42,11 @@ impl Model for Packet {
 }
 
 impl Packet {
-    ghost use Rattle.std.specs.Prelude.{◌≡◌, IfOk, length, map};
+    ghost use Rattle.std.specs.Prelude.{◌≡◌, ◌+◌, IfOk, length, map};
     ghost use Rattle.ring_world.specs.World.{most_members};
+    ghost use Rattle.ring_world.specs.Deaths.Step.{is_owned};
+    ghost use Rattle.ring_world.specs.Deaths.Event.{version_refusal};
+    ghost use Rattle.gm_member.specs.Deaths.News.{news_below};
     ghost use Rattle.gm_member.specs.News.{rows_news};
     ghost use Rattle.gm_member.specs.View.{row_of};
 
@@ -59,6 +64,47 @@ impl Packet {
         let news = all_news(alloc, known, place, &self.lines)?;
         Ok(news)
     }
+
+    /// The same of this version.
+    pub(crate) fn with_view(self, version: u32) -> Packet
+        ensures { result ≡ record self { view = version } }
+    {
+        Packet {
+            view: version,
+            first: self.first,
+            lines: self.lines,
+        }
+    }
+
+    /// Why a member whose view is of this version may not take it: it is of a newer one.
+    pub(crate) fn view_refusal(&self, version: u32) -> Option<Reason>
+        ensures { result ≡ version_refusal (self.now).view version }
+    {
+        if self.view > version {
+            return Some(Reason::ViewTooOld {
+                need: self.view,
+                have: version,
+            });
+        }
+        None
+    }
+
+    /// The messages that it brings from a sender to a member with this view, with copies of their own.
+    pub(crate) fn news_from(
+        &self,
+        alloc: Global,
+        known: &[Known],
+        view: &View,
+        id: MemberId,
+        from: MemberId,
+    ) -> Result<Vec<Taken>, OutOfMemory>
+        requires { length known.now ≡ most_members }
+        ensures { IfOk result (λ v. v.items
+            ≡ news_below most_members (λ p. is_owned view.now id.0 from.0 (p + 1)) (map row_of known.now) (self.now).lines) }
+    {
+        let news = rows::all_news(alloc, known, view, id, from, &self.lines)?;
+        Ok(news)
+    }
 }
 
 /// What stands on a link.
@@ -68,8 +114,11 @@ pub enum Load {
 }
 
 impl Load {
-    ghost use Rattle.std.specs.Prelude.{◌≡◌, IfOk, length, map};
+    ghost use Rattle.std.specs.Prelude.{◌≡◌, ◌+◌, IfOk, length, map};
     ghost use Rattle.ring_world.specs.World.{most_members};
+    ghost use Rattle.ring_world.specs.Deaths.Step.{is_owned};
+    ghost use Rattle.ring_world.specs.Deaths.Event.{version_refusal};
+    ghost use Rattle.gm_member.specs.Deaths.News.{news_below};
     ghost use Rattle.gm_member.specs.News.{rows_news};
     ghost use Rattle.gm_member.specs.Steps.{parcel_in};
     ghost use Rattle.gm_member.specs.View.{row_of};
@@ -88,6 +137,33 @@ impl Load {
     {
         match self {
             Load::Packet(packet) => packet.news(alloc, known, place),
+        }
+    }
+
+    /// Why a member whose view is of this version may not take it: it is of a newer one.
+    pub(crate) fn view_refusal(&self, version: u32) -> Option<Reason>
+        ensures { result ≡ version_refusal (parcel_in self.now).view version }
+    {
+        match self {
+            Load::Packet(packet) => packet.view_refusal(version),
+        }
+    }
+
+    /// The messages that it brings from a sender to a member with this view, with copies of their own.
+    pub(crate) fn news_from(
+        &self,
+        alloc: Global,
+        known: &[Known],
+        view: &View,
+        id: MemberId,
+        from: MemberId,
+    ) -> Result<Vec<Taken>, OutOfMemory>
+        requires { length known.now ≡ most_members }
+        ensures { IfOk result (λ v. v.items
+            ≡ news_below most_members (λ p. is_owned view.now id.0 from.0 (p + 1)) (map row_of known.now) (parcel_in self.now).lines) }
+    {
+        match self {
+            Load::Packet(packet) => packet.news_from(alloc, known, view, id, from),
         }
     }
 

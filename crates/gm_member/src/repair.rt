@@ -1,0 +1,13 @@
+//! A member of a ring whose members may stop: it has a view of the group, sends to its right neighbour in it
+//! and takes from its left one, and asks the registrar to mark a neighbour that has stopped. `Member` of this
+//! module takes the place of the crate's own once a cluster drives it.
+
+mod door;
+mod links;
+mod member;
+pub(crate) mod rows;
+mod spare;
+mod views;
+
+pub use links::{InLink, OutLink};
+pub use member::Member;

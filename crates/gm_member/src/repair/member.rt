@@ -1,0 +1,729 @@
+//! A member of a ring whose members may stop.
+ghost use Rattle.std.specs.Prelude.{◌≡◌, ◌+◌, ◌≤◌, ◌<◌, ◌∷◌, ◌++◌, []};
+ghost use Rattle.std.specs.Vec.{vec_len, vec_capacity};
+ghost use Rattle.std.specs.Prelude.{true};
+ghost use Rattle.group_view.specs.Ring.{is_in};
+ghost use Rattle.ring_world.specs.Deaths.View.{ids};
+ghost use Rattle.gm_member.specs.Deaths.View.{count_of};
+
+use crate::fault::MemberFault;
+use crate::known::{Known, nothing_known, nothing_sent, push_at};
+use crate::packet::{Load, Packet};
+use crate::repair::door::{first_for, is_for, prune};
+use crate::repair::links::{InLink, OutLink};
+use crate::repair::rows::accept;
+use crate::repair::spare::Spare;
+use crate::repair::views::{left, right, version};
+use crate::taken::Taken;
+use credit_flow::{CreditIn, CreditOut};
+use group_view::{LinkName, Request, View};
+use ordered_link::{EndReason, LinkIn, LinkPair};
+use ring_names::{CreditSpec, MemberId, Message, Name, OutOfMemory, Reason};
+use ring_world::Phase;
+use std::alloc::Global;
+
+/// How many members a ring ever admits.
+const MOST_MEMBERS: usize = 64;
+
+/// A member of the ring, as a process of `gm`. It has a view of the group, and the messages of every origin that it
+/// has heard of, its own among them. It sends on one link and takes from one, and further links may stand at its
+/// door.
+#[derive(Drop)]
+pub struct Member<O, I> {
+    alloc: Global,
+    name: Name,
+    id: MemberId,
+    phase: Phase,
+    view: View,
+    known: Vec<Known>,
+    credit: CreditSpec,
+    out: Option<OutLink<O>>,
+    current: Option<InLink<I>>,
+    door: Vec<InLink<I>>,
+    asked: bool,
+    old_outs: Vec<(LinkName, O)>,
+    old_ins: Vec<(LinkName, I)>,
+    ghost each_origin: { vec_len known ≡ 64 },
+    ghost own: { (1 ≤ id.0) × (id.0 ≤ 64) },
+    ghost stands: { is_in id.0 (ids view) ≡ true },
+    ghost room_in: { vec_len old_ins + vec_len door + count_of current ≤ vec_capacity old_ins },
+    ghost room_out: { vec_len old_outs + count_of out ≤ vec_capacity old_outs },
+}
+
+impl<O: LinkPair<Load, In = I>, I: LinkIn<Load> + Drop> Member<O, I> {
+    ghost use Rattle.std.specs.Prelude.{◌≡◌, ◌⊎◌, ◌+◌, ◌-◌, ◌<◌, ◌≤◌, ℕ, ◌∷◌, [], OnOk, OnErr, IfOk, IfErr, IfSome, IfNone, IsErrOf, IsSome, None, Some, Ok, Err, length, false, true, Option, MatchOption, ⊤, ◌++◌};
+    ghost use Rattle.ring_names.specs.declared.reason.Reason.{Reason};
+    ghost use Rattle.ring_world.specs.World.{most_members};
+    ghost use Rattle.ring_world.specs.Deaths.View.{ids};
+    ghost use Rattle.group_view.specs.Ring.{is_in};
+    ghost use Rattle.gm_member.specs.Held.{Parcel};
+    ghost use Rattle.gm_member.specs.Deaths.View.{ring_link, left_end, kept_link, left_current};
+    ghost use Rattle.gm_member.specs.Deaths.Ends.{IsPutFault, IsTakeFault, IsEndRefusal};
+    ghost use Rattle.gm_member.specs.Deaths.Held.{founded, known_at, active_refused, up_refused, published_held, put_refused, put_held, take_refused, took_held, ended_held, stopped_held, gain_refused, gained_held, kept_in, looked_held, sends_to as sends_to_it, first_out, refresh_refused, refreshed_held, first_at_door as the_first_at_door, pick_refused, picked_held, picked_at};
+    ghost use Rattle.gm_member.specs.Deaths.News.{news_of};
+    ghost use Rattle.gm_member.specs.Deaths.Shown.{Ends, held_of, ends_of, out_name_of, OutIsReady, InIsReady, PutsOn, LooksOut, LooksIn, TookOn, LeavesOn, EndsOn, KeepsGrant, NoGrantBack, GrantIsBack, LooksBy, MovesOn, IsReadyToMove, SendsOn, MovesTo, PicksOn};
+
+    /// A member of the ring's opening, which has published and heard nothing. The caller gives its id in the ring, the
+    /// view in which the ring opens, the credit of the ring's links, the end of the link to its right neighbour and
+    /// the end of the link from its left neighbour. Without memory the ends are dropped.
+    pub fn founding(
+        alloc: Global,
+        name: Name,
+        id: MemberId,
+        view: View,
+        credit: CreditSpec,
+        out: O,
+        link: I,
+    ) -> Result<Member<O, I>, OutOfMemory>
+        requires from_one { 1 ≤ id.0 }
+        requires few { id.0 ≤ most_members }
+        requires stands { is_in id.0 (ids view) ≡ true }
+        ensures held { IfOk result (λ m. held_of m ≡ founded credit name id.0 view) }
+        ensures ends { IfOk result (λ m. ends_of m
+            ≡ record { out = Some out; kept = None; link = Some link; door = []; old_outs = []; old_ins = [] }) }
+    {
+        let known = nothing_known(alloc, MOST_MEMBERS)?;
+        let sent = nothing_sent(alloc, MOST_MEMBERS)?;
+        let old_outs = Vec::with_capacity(alloc, 1)?;
+        let old_ins = Vec::with_capacity(alloc, 1)?;
+        let to = right(&view, id);
+        let from = left(&view, id);
+        let opened = view.version;
+        Ok(Member {
+            alloc,
+            name,
+            id,
+            phase: Phase::Up,
+            view,
+            known,
+            credit,
+            out: Some(OutLink {
+                to,
+                opened,
+                fresh: true,
+                sent,
+                credit: CreditOut::new(credit),
+                kept: None,
+                end: Some(out),
+            }),
+            current: Some(InLink {
+                from,
+                opened,
+                counted: CreditIn::new(credit),
+                end: Some(link),
+            }),
+            door: Vec::new(alloc),
+            asked: false,
+            old_outs,
+            old_ins,
+        })
+    }
+
+    /// The member's name.
+    pub fn name(&self) -> &Name
+        ensures { result.now ≡ (held_of self.now).name }
+    {
+        &self.name
+    }
+
+    /// Its id in the ring.
+    pub fn id(&self) -> MemberId
+        ensures { result.0 ≡ (held_of self.now).id }
+    {
+        self.id
+    }
+
+    /// Where it stands: up, or stopped.
+    pub fn phase(&self) -> Phase
+        ensures { result ≡ (held_of self.now).phase }
+    {
+        self.phase
+    }
+
+    /// Its view of the group.
+    pub fn view(&self) -> &View
+        ensures { result.now ≡ (held_of self.now).view }
+    {
+        &self.view
+    }
+
+    /// The messages of an origin that the member has received, in order; of itself all that it has
+    /// published. None of an id that no member has.
+    pub fn heard(&self, of: MemberId) -> &[Message]
+        requires { 1 ≤ of.0 }
+        ensures { result.now ≡ (known_at (held_of self.now).rows (of.0 - 1)).heard }
+    {
+        match self.known.get(of.0 as usize - 1) {
+            Some(row) => &row.all,
+            None => &[],
+        }
+    }
+
+    /// Up to which number its own messages have come round, so that every member has them.
+    pub fn confirmed(&self) -> u64
+        ensures { result ≡ (known_at (held_of self.now).rows ((held_of self.now).id - 1)).forgot }
+    {
+        self.known[self.id.0 as usize - 1].forgot
+    }
+
+    /// Why the member may not act: it has stopped, or its question to the registrar is open.
+    fn activity(&self) -> Option<Reason>
+        ensures { result ≡ active_refused (held_of self.now) None }
+    {
+        if matches!(self.phase, Phase::Stopped) {
+            return Some(Reason::Stopped);
+        }
+        if self.asked {
+            return Some(Reason::AwaitingAnswer);
+        }
+        None
+    }
+
+    /// Why it may not act, of a member that must have its state.
+    fn up_refusal(&self) -> Option<Reason>
+        ensures { result ≡ up_refused (held_of self.now) None }
+    {
+        match self.phase {
+            Phase::Stopped => return Some(Reason::Stopped),
+            Phase::Waiting => return Some(Reason::Waiting),
+            Phase::Up => {}
+        }
+        if self.asked {
+            return Some(Reason::AwaitingAnswer);
+        }
+        None
+    }
+
+    /// A message joins the member's own log, and its number there, from 1, is answered. Refused with `Stopped`,
+    /// `Waiting`, and `AwaitingAnswer` while a question of the member's own is open.
+    pub fn publish(&mut self, message: Message) -> Result<u64, (Message, MemberFault)>
+        ensures enabled { OnOk result (up_refused (held_of self.old) None ≡ None) }
+        ensures ok { OnOk result (held_of self.new ≡ published_held (held_of self.old) message) }
+        ensures number { IfOk result (λ n.
+            n ≡ (known_at (held_of self.old).rows ((held_of self.old).id - 1)).got + 1) }
+        ensures refused { (r : Reason) → up_refused (held_of self.old) None ≡ Some r
+            → result ≡ Err (message, MemberFault.Refused r) }
+        ensures fault { IfErr result (λ e. (e.0 ≡ message) × ((e.1 ≡ MemberFault.OutOfMemory)
+            ⊎ (r : Reason) × (e.1 ≡ MemberFault.Refused r) × (up_refused (held_of self.old) None ≡ Some r))) }
+        ensures memory { IfErr result (λ e. e.1 ≡ MemberFault.OutOfMemory → up_refused (held_of self.old) None ≡ None) }
+        ensures err { OnErr result (held_of self.new ≡ held_of self.old) }
+        ensures ends { ends_of self.new ≡ ends_of self.old }
+    {
+        if let Some(reason) = self.up_refusal() {
+            return Err((message, MemberFault::Refused(reason)));
+        }
+        let place = self.id.0 as usize - 1;
+        match push_at(&mut self.known, place, message) {
+            Ok(number) => Ok(number),
+            Err(message) => Err((message, MemberFault::OutOfMemory)),
+        }
+    }
+
+    /// Lends the end of the link on which the member sends: none where it isn't there. The caller gives it back before
+    /// any other call.
+    pub fn lend_out(&mut self) -> Option<O>
+        ensures lent { result ≡ (ends_of self.old).out }
+        ensures ends { ends_of self.new ≡ record (ends_of self.old) { out = None } }
+        ensures held { held_of self.new ≡ held_of self.old }
+    {
+        match &mut self.out {
+            Some(link) => link.end.take(),
+            None => None,
+        }
+    }
+
+    /// Gives back the end of the link on which the member sends.
+    pub fn give_out(&mut self, out: O)
+        requires lent { (ends_of self.old).out ≡ None }
+        requires sends { IsSome (held_of self.old).out }
+        ensures ends { ends_of self.new ≡ record (ends_of self.old) { out = Some out } }
+        ensures held { held_of self.new ≡ held_of self.old }
+    {
+        match &mut self.out {
+            Some(link) => link.end = Some(out),
+            None => unreachable!(),
+        }
+    }
+
+    /// The name of the link on which the member sends: none exactly where it sends on none.
+    pub fn out_name(&self) -> Option<LinkName>
+        ensures { result ≡ out_name_of (held_of self.now) }
+    {
+        let link = self.out.as_ref()?;
+        Some(link.name(self.id))
+    }
+
+    /// Why the member may put no packet: `Stopped`, `Waiting`, `AwaitingAnswer`; `NoOutLink` where it sends on no link;
+    /// `NoCredit` where its link has no credit; `NothingNew` where all numbers equal those last sent. It wants no
+    /// memory.
+    pub fn put_refusal(&self) -> Option<Reason>
+        ensures { result ≡ put_refused (held_of self.now) }
+    {
+        if let Some(reason) = self.up_refusal() {
+            return Some(reason);
+        }
+        match &self.out {
+            None => Some(Reason::NoOutLink),
+            Some(link) => link.put_refusal(&self.known),
+        }
+    }
+
+    /// A packet with all that is known of each origin goes on the link on which the member sends, as `gm` broadcasts
+    /// its activity. Refused as `put_refusal` says, and then with `LinkFull` where the link handed the packet back.
+    pub fn put(&mut self) -> Result<(), MemberFault>
+        requires { OutIsReady O.ended self.old }
+        ensures enabled { OnOk result (put_refused (held_of self.old) ≡ None) }
+        ensures ok { OnOk result (held_of self.new ≡ put_held (held_of self.old)) }
+        ensures packet { OnOk result (PutsOn O.puts self.old self.new) }
+        ensures refused { (r : Reason) → put_refused (held_of self.old) ≡ Some r
+            → result ≡ Err (MemberFault.Refused r) }
+        ensures fault { IfErr result (λ fault.
+            ((r : Reason) × (fault ≡ MemberFault.Refused r) × (put_refused (held_of self.old) ≡ Some r))
+            ⊎ ((put_refused (held_of self.old) ≡ None) × IsPutFault O.free fault (ends_of self.new).out)) }
+        ensures err { OnErr result (held_of self.new ≡ held_of self.old) }
+        ensures looks { OnErr result (LooksOut O.looked self.old self.new) }
+        ensures ready { OutIsReady O.ended self.new }
+    {
+        if let Some(reason) = self.put_refusal() {
+            return Err(MemberFault::Refused(reason));
+        }
+        let version = version(&self.view);
+        let Some(link) = &mut self.out else {
+            unreachable!()
+        };
+        link.put(self.alloc, version, &self.known)
+    }
+
+    /// Why the member may take nothing, before its link is looked at: `Stopped`, `AwaitingAnswer`; `NoCurrentLink`
+    /// where it takes from no link.
+    fn no_link(&self) -> Option<Reason>
+        ensures { result ≡ take_refused (held_of self.now) None }
+    {
+        if let Some(reason) = self.activity() {
+            return Some(reason);
+        }
+        if self.current.is_none() {
+            return Some(Reason::NoCurrentLink);
+        }
+        None
+    }
+
+    /// Takes the oldest packet of the link from which the member takes, and grants credit where that is due. The answer
+    /// is what the packet brings, in order of origin and number. Refused with `Stopped`, `AwaitingAnswer`,
+    /// `NoCurrentLink`; then with `NothingToTake` where the end of the link gives no item in this call, `EndNext` where
+    /// the next item is the end of the link, and `ViewTooOld` where it is a packet of a newer version than the member's.
+    pub fn take(&mut self) -> Result<Vec<Taken>, MemberFault>
+        requires { InIsReady self.old }
+        ensures enabled { OnOk result (take_refused (held_of self.old) None ≡ None) }
+        ensures ok { IfOk result (λ taken. (k : Parcel)
+            × (k.view ≤ (held_of self.old).view.version)
+            × (held_of self.new ≡ took_held (held_of self.old) k)
+            × (taken.items ≡ news_of (held_of self.old) k)
+            × TookOn I.waiting I.takes I.looked I.sends k self.old self.new) }
+        ensures refused { (r : Reason) → take_refused (held_of self.old) None ≡ Some r
+            → result ≡ Err (MemberFault.Refused r) }
+        ensures fault { IfErr result (λ fault.
+            ((r : Reason) × (fault ≡ MemberFault.Refused r) × (take_refused (held_of self.old) None ≡ Some r))
+            ⊎ ((take_refused (held_of self.old) None ≡ None)
+            × MatchOption self.new.current ⊥ (λ l. IsTakeFault I.known I.waiting (held_of self.old).view.version fault l.end))) }
+        ensures err { OnErr result (held_of self.new ≡ held_of self.old) }
+        ensures looks { OnErr result (LooksIn I.looked self.old self.new) }
+    {
+        if let Some(reason) = self.no_link() {
+            return Err(MemberFault::Refused(reason));
+        }
+        let Some(link) = &mut self.current else {
+            unreachable!()
+        };
+        let from = link.from;
+        let (news, packet) = match link.take(self.alloc, &self.known, &self.view, self.id) {
+            Ok(taken) => taken,
+            Err(fault) => return Err(fault),
+        };
+        accept(&mut self.known, &self.view, self.id, from, packet);
+        Ok(news)
+    }
+
+    /// Takes the end of the link from which the member takes, and leaves it. Refused with `Stopped`, `AwaitingAnswer`,
+    /// `NoCurrentLink`; then with `NothingToTake` where the end of the link gives no item in this call, and `PacketNext`
+    /// where the next item is a packet. It wants no memory.
+    pub fn take_end(&mut self) -> Result<EndReason, MemberFault>
+        requires { InIsReady self.old }
+        ensures enabled { OnOk result (take_refused (held_of self.old) None ≡ None) }
+        ensures ok { OnOk result (held_of self.new ≡ ended_held (held_of self.old)) }
+        ensures leaves { IfOk result (λ reason. LeavesOn I.takes I.looked reason self.old self.new) }
+        ensures refused { (r : Reason) → take_refused (held_of self.old) None ≡ Some r
+            → result ≡ Err (MemberFault.Refused r) }
+        ensures fault { IfErr result (λ fault. (r : Reason) × (fault ≡ MemberFault.Refused r)
+            × ((take_refused (held_of self.old) None ≡ Some r)
+            ⊎ ((take_refused (held_of self.old) None ≡ None)
+            × MatchOption self.new.current ⊥ (λ l. IsEndRefusal I.known I.waiting r l.end)))) }
+        ensures err { OnErr result (held_of self.new ≡ held_of self.old) }
+        ensures looks { OnErr result (LooksIn I.looked self.old self.new) }
+    {
+        if let Some(reason) = self.no_link() {
+            return Err(MemberFault::Refused(reason));
+        }
+        let Some(link) = &mut self.current else {
+            unreachable!()
+        };
+        let reason = match link.take_end() {
+            Ok(reason) => reason,
+            Err(reason) => return Err(MemberFault::Refused(reason)),
+        };
+        self.leave_current();
+        Ok(reason)
+    }
+
+    /// The member takes from no link, and the end of the one from which it took is the last of those that it has left.
+    fn leave_current(&mut self)
+        ensures held { held_of self.new ≡ ended_held (held_of self.old) }
+        ensures left { MatchOption self.old.current (self.new.old_ins.items ≡ self.old.old_ins.items) (λ l.
+            self.new.old_ins.items ≡ self.old.old_ins.items ++ left_end (ring_link l.from.0 self.old.id.0 l.opened) l.end) }
+        ensures current { self.new.current ≡ None }
+        ensures same { (self.new.id ≡ self.old.id) × (self.new.credit ≡ self.old.credit) × (self.new.known ≡ self.old.known) }
+        ensures others { (self.new.out ≡ self.old.out) × (self.new.door ≡ self.old.door) × (self.new.old_outs ≡ self.old.old_outs) }
+    {
+        let Some(link) = self.current.take() else {
+            return;
+        };
+        let name = link.name(self.id);
+        if let Some(end) = link.end {
+            if self.old_ins.push((name, end)).is_err() {
+                unreachable!()
+            }
+        }
+    }
+
+    /// The member stops, and the link on which it sends ends. Refused with `Stopped`, and with `AwaitingAnswer` while a
+    /// question of the member's own is open. It wants no memory.
+    pub fn stop(&mut self) -> Result<(), MemberFault>
+        requires { OutIsReady O.ended self.old }
+        ensures enabled { OnOk result (active_refused (held_of self.old) None ≡ None) }
+        ensures ok { OnOk result (held_of self.new ≡ stopped_held (held_of self.old)) }
+        ensures ends { OnOk result (EndsOn O.puts EndReason.Stopped self.old self.new) }
+        ensures refused { (r : Reason) → active_refused (held_of self.old) None ≡ Some r
+            → result ≡ Err (MemberFault.Refused r) }
+        ensures fault { IfErr result (λ fault.
+            (r : Reason) × (fault ≡ MemberFault.Refused r) × (active_refused (held_of self.old) None ≡ Some r)) }
+        ensures err { OnErr result (self.new ≡ self.old) }
+    {
+        if let Some(reason) = self.activity() {
+            return Err(MemberFault::Refused(reason));
+        }
+        self.end_out(EndReason::Stopped);
+        self.phase = Phase::Stopped;
+        Ok(())
+    }
+
+    /// The link on which the member sends ends.
+    fn end_out(&mut self, reason: EndReason)
+        requires { MatchOption self.old.out ⊤ (λ l. MatchOption l.end ⊥ (λ o. O.ended o ≡ false)) }
+        ensures held { held_of self.new ≡ held_of self.old }
+        ensures ends { EndsOn O.puts reason self.old self.new }
+    {
+        let Some(link) = &mut self.out else {
+            return;
+        };
+        link.finish(reason);
+    }
+
+    /// Why the member may gain no credit: `Stopped`, `Waiting`, `AwaitingAnswer`; `NoOutLink` where it sends on no link;
+    /// `NoGrant` where none has come back that the end of its link knows. It wants no memory.
+    pub fn gain_refusal(&mut self) -> Option<Reason>
+        requires { OutIsReady O.ended self.old }
+        ensures held { held_of self.new ≡ held_of self.old }
+        ensures looks { LooksOut O.looked self.old self.new }
+        ensures none { IfNone result ((gain_refused (held_of self.old) ≡ None) × GrantIsBack O.grants self.new) }
+        ensures some { IfSome result (λ r. (gain_refused (held_of self.old) ≡ Some r)
+            ⊎ ((r ≡ Reason.NoGrant) × (gain_refused (held_of self.old) ≡ None) × NoGrantBack O.grants self.new)) }
+        ensures ready { OutIsReady O.ended self.new }
+    {
+        if let Some(reason) = self.up_refusal() {
+            return Some(reason);
+        }
+        match &mut self.out {
+            None => Some(Reason::NoOutLink),
+            Some(link) => {
+                if link.has_grant() {
+                    None
+                } else {
+                    Some(Reason::NoGrant)
+                }
+            }
+        }
+    }
+
+    /// The oldest grant that came back on the link on which a running member sends, for `gain`: none only where the end
+    /// of the link knew none. It stays with the member until `gain`, and is answered again till then. It wants no memory.
+    pub fn granted(&mut self) -> Option<u32>
+        requires runs { self.old.phase ≡ Phase.Up }
+        requires ready { OutIsReady O.ended self.old }
+        ensures held { held_of self.new ≡ held_of self.old }
+        ensures some { IfSome result (λ amount. KeepsGrant O.gains amount self.old self.new) }
+        ensures none { IfNone result (LooksOut O.looked self.old self.new × NoGrantBack O.grants self.new) }
+        ensures ready { OutIsReady O.ended self.new }
+    {
+        match &mut self.out {
+            None => None,
+            Some(link) => link.granted(),
+        }
+    }
+
+    /// A grant becomes credit of the link on which the member sends: the caller gives what `granted` answered. Refused
+    /// with `Stopped`, `Waiting`, `AwaitingAnswer`, and with `NoOutLink` where the member sends on no link. It wants no
+    /// memory.
+    pub fn gain(&mut self, amount: u32) -> Result<(), MemberFault>
+        ensures enabled { OnOk result (gain_refused (held_of self.old) ≡ None) }
+        ensures ok { OnOk result (held_of self.new ≡ gained_held (held_of self.old) amount) }
+        ensures ends { OnOk result (ends_of self.new ≡ record (ends_of self.old) { kept = None }) }
+        ensures refused { (r : Reason) → gain_refused (held_of self.old) ≡ Some r
+            → result ≡ Err (MemberFault.Refused r) }
+        ensures fault { IfErr result (λ fault.
+            (r : Reason) × (fault ≡ MemberFault.Refused r) × (gain_refused (held_of self.old) ≡ Some r)) }
+        ensures err { OnErr result (self.new ≡ self.old) }
+    {
+        if let Some(reason) = self.up_refusal() {
+            return Err(MemberFault::Refused(reason));
+        }
+        match &mut self.out {
+            None => Err(MemberFault::Refused(Reason::NoOutLink)),
+            Some(link) => {
+                link.credit.gain(amount);
+                link.kept = None;
+                Ok(())
+            }
+        }
+    }
+
+    /// What stays of the link from which the member takes, with another view.
+    fn keep_current(&mut self, view: &View)
+        requires { is_in self.old.id.0 (ids view.now) ≡ true }
+        ensures held { held_of self.new ≡ record (held_of self.old) { current = kept_in view.now self.old.id.0 (held_of self.old).current } }
+        ensures current { self.new.current ≡ kept_link view.now self.old.id.0 self.old.current }
+        ensures left { self.new.old_ins.items ≡ self.old.old_ins.items ++ left_current view.now self.old.id.0 self.old.current }
+        ensures same { (self.new.id ≡ self.old.id) × (self.new.credit ≡ self.old.credit) × (self.new.known ≡ self.old.known) }
+        ensures others { (self.new.out ≡ self.old.out) × (self.new.door ≡ self.old.door) × (self.new.old_outs ≡ self.old.old_outs) }
+    {
+        let Some(link) = &self.current else {
+            return;
+        };
+        if is_for(view, self.id, link) {
+            return;
+        }
+        self.leave_current();
+    }
+
+    /// The member has another view.
+    fn look(&mut self, view: View)
+        requires { is_in self.old.id.0 (ids view) ≡ true }
+        ensures held { held_of self.new ≡ looked_held (held_of self.old) view }
+        ensures links { LooksBy view self.old self.new }
+        ensures others { (self.new.out ≡ self.old.out) × (self.new.old_outs ≡ self.old.old_outs) }
+        ensures same { (self.new.id ≡ self.old.id) × (self.new.credit ≡ self.old.credit) × (self.new.known ≡ self.old.known) × (self.new.view ≡ view) }
+    {
+        self.keep_current(&view);
+        prune(&view, self.id, &mut self.door, &mut self.old_ins);
+        self.view = view;
+    }
+
+    /// The link on which the member sends ends, and the end joins those that it has replaced.
+    fn move_on(&mut self)
+        requires { MatchOption self.old.out ⊤ (λ l. MatchOption l.end ⊥ (λ o. O.ended o ≡ false)) }
+        ensures held { held_of self.new ≡ record (held_of self.old) { out = None } }
+        ensures moves { MovesOn O.puts self.old self.new }
+        ensures same { (self.new.id ≡ self.old.id) × (self.new.view ≡ self.old.view) × (self.new.credit ≡ self.old.credit) }
+        ensures others { (self.new.current ≡ self.old.current) × (self.new.door ≡ self.old.door) × (self.new.old_ins ≡ self.old.old_ins) }
+        ensures room { vec_capacity self.old.old_outs ≤ vec_capacity self.new.old_outs }
+        ensures len { vec_len self.new.old_outs ≤ vec_len self.old.old_outs + 1 }
+    {
+        let Some(link) = self.out.take() else {
+            return;
+        };
+        let name = link.name(self.id);
+        let end = link.into_ended(EndReason::Moved);
+        push_old(&mut self.old_outs, name, end);
+    }
+
+    /// Whether the member sends to another already.
+    fn sends_to(&self, to: MemberId) -> bool
+        ensures { result ≡ sends_to_it (held_of self.now).out to.0 }
+    {
+        match &self.out {
+            None => false,
+            Some(link) => link.to.0 == to.0,
+        }
+    }
+
+    /// A link that is ready to open, with room for the end of the one that it replaces.
+    fn prepare(&mut self) -> Result<Spare<O, I>, OutOfMemory>
+        ensures held { held_of self.new ≡ held_of self.old }
+        ensures ends { (self.new.out ≡ self.old.out) × (self.new.current ≡ self.old.current) × (self.new.door ≡ self.old.door)
+            × (self.new.old_outs.items ≡ self.old.old_outs.items) × (self.new.old_ins ≡ self.old.old_ins) }
+        ensures same { (self.new.id ≡ self.old.id) × (self.new.credit ≡ self.old.credit) × (self.new.known ≡ self.old.known) }
+        ensures ready { IfOk result (λ spare. IsReadyToMove O.are_fresh O.free O.ended self.new spare) }
+    {
+        if self.old_outs.reserve(2).is_err() {
+            return Err(OutOfMemory);
+        }
+        let spare = Spare::make(self.alloc, self.credit, &self.known)?;
+        Ok(spare)
+    }
+
+    /// The member sends on a link that was ready, to another, and what it sent on before ends.
+    fn send_to(&mut self, spare: Spare<O, I>, to: MemberId) -> Vec<Request<I>>
+        requires ready { IsReadyToMove O.are_fresh O.free O.ended self.old spare }
+        requires out { MatchOption self.old.out ⊤ (λ l. MatchOption l.end ⊥ (λ o. O.ended o ≡ false)) }
+        ensures held { held_of self.new ≡ record (held_of self.old) { out = Some (first_out (held_of self.old) to.0) } }
+        ensures sends { SendsOn O.are_fresh O.free O.ended O.puts self.old.view.version to self.old self.new result.items }
+        ensures others { (self.new.current ≡ self.old.current) × (self.new.door ≡ self.old.door) × (self.new.old_ins ≡ self.old.old_ins) }
+    {
+        self.move_on();
+        let (link, requests) = spare.open(self.id, to, version(&self.view), self.credit);
+        self.out = Some(link);
+        requests
+    }
+
+    /// Why the member may not read a view of this version: `Stopped`, `Waiting`, `AwaitingAnswer`; `ViewOutOfRange`
+    /// where it is older than its own. The newest that the refusal names is the member's own.
+    pub fn refresh_refusal(&self, asked: u32) -> Option<Reason>
+        ensures { result ≡ refresh_refused (held_of self.now) asked }
+    {
+        if let Some(reason) = self.up_refusal() {
+            return Some(reason);
+        }
+        let held = version(&self.view);
+        if asked < held {
+            return Some(Reason::ViewOutOfRange {
+                asked,
+                held,
+                newest: held,
+            });
+        }
+        None
+    }
+
+    /// The member reads a view, and sends to its right neighbour in it on a link that was ready.
+    fn read(&mut self, view: View, to: MemberId, spare: Spare<O, I>) -> Vec<Request<I>>
+        requires stands { is_in self.old.id.0 (ids view) ≡ true }
+        requires ready { IsReadyToMove O.are_fresh O.free O.ended self.old spare }
+        requires out { MatchOption self.old.out ⊤ (λ l. MatchOption l.end ⊥ (λ o. O.ended o ≡ false)) }
+        ensures held { held_of self.new ≡ record (looked_held (held_of self.old) view) { out = Some (first_out (looked_held (held_of self.old) view) to.0) } }
+        ensures links { LooksBy view self.old self.new }
+        ensures sends { SendsOn O.are_fresh O.free O.ended O.puts view.version to self.old self.new result.items }
+    {
+        self.look(view);
+        self.send_to(spare, to)
+    }
+
+    /// The member reads a view of the ring in which it stands, as `gm` on a change of the group: it goes on taking from its
+    /// left neighbour where that is the same, and sends to its right one, on a new link where that is another. Refused
+    /// as `refresh_refusal` says. The answer is what is to be asked of the registrar then: that it hands on the receiving
+    /// end of a link that has opened.
+    pub fn refresh(&mut self, view: View) -> Result<Vec<Request<I>>, (View, MemberFault)>
+        requires stands { is_in self.old.id.0 (ids view) ≡ true }
+        requires ready { OutIsReady O.ended self.old }
+        ensures enabled { OnOk result (refresh_refused (held_of self.old) view.version ≡ None) }
+        ensures ok { OnOk result (held_of self.new ≡ refreshed_held (held_of self.old) view) }
+        ensures links { OnOk result (LooksBy view self.old self.new) }
+        ensures moves { IfOk result (λ requests. MovesTo O.are_fresh O.free O.ended O.puts view self.old self.new requests.items) }
+        ensures refused { (r : Reason) → refresh_refused (held_of self.old) view.version ≡ Some r
+            → result ≡ Err (view, MemberFault.Refused r) }
+        ensures fault { IfErr result (λ e. (e.0 ≡ view) × (((e.1 ≡ MemberFault.OutOfMemory) × (refresh_refused (held_of self.old) view.version ≡ None))
+            ⊎ (r : Reason) × (e.1 ≡ MemberFault.Refused r) × (refresh_refused (held_of self.old) view.version ≡ Some r))) }
+        ensures err { OnErr result (held_of self.new ≡ held_of self.old) }
+    {
+        if let Some(reason) = self.refresh_refusal(version(&view)) {
+            return Err((view, MemberFault::Refused(reason)));
+        }
+        let to = right(&view, self.id);
+        if self.sends_to(to) {
+            self.look(view);
+            return Ok(Vec::new(self.alloc));
+        }
+        let Ok(spare) = self.prepare() else {
+            return Err((view, MemberFault::OutOfMemory));
+        };
+        let requests = self.read(view, to, spare);
+        Ok(requests)
+    }
+
+    /// The place of the first link at the door that comes from the left neighbour.
+    fn first_at_door(&self) -> Option<usize>
+        ensures place { result ≡ the_first_at_door (held_of self.now) }
+        ensures within { IfSome result (λ i. i < length self.now.door.items) }
+    {
+        first_for(&self.view, self.id, &self.door)
+    }
+
+    /// Why the member may pick no link: `Stopped`, `Waiting`, `AwaitingAnswer`; `HasCurrentLink` where it takes from a
+    /// link; `NoLinkAtDoor` where no link that has come to its door is from its left neighbour; `ViewTooOld` where the
+    /// first such link is newer than its view. It wants no memory.
+    pub fn pick_refusal(&self) -> Option<Reason>
+        ensures { result ≡ pick_refused (held_of self.now) }
+    {
+        if let Some(reason) = self.up_refusal() {
+            return Some(reason);
+        }
+        if self.current.is_some() {
+            return Some(Reason::HasCurrentLink);
+        }
+        match self.first_at_door() {
+            None => Some(Reason::NoLinkAtDoor),
+            Some(place) => {
+                let need = self.door[place].opened;
+                let have = version(&self.view);
+                if need > have {
+                    Some(Reason::ViewTooOld { need, have })
+                } else {
+                    None
+                }
+            }
+        }
+    }
+
+    /// The member takes from now on from the first link at its door that comes from its left neighbour. Refused as
+    /// `pick_refusal` says. It wants no memory.
+    pub fn pick(&mut self) -> Result<(), MemberFault>
+        ensures enabled { OnOk result (pick_refused (held_of self.old) ≡ None) }
+        ensures ok { OnOk result (held_of self.new ≡ picked_held (held_of self.old)) }
+        ensures picks { OnOk result ((i : ℕ) × (the_first_at_door (held_of self.old) ≡ Some i) × PicksOn i self.old self.new) }
+        ensures refused { (r : Reason) → pick_refused (held_of self.old) ≡ Some r
+            → result ≡ Err (MemberFault.Refused r) }
+        ensures fault { IfErr result (λ fault.
+            (r : Reason) × (fault ≡ MemberFault.Refused r) × (pick_refused (held_of self.old) ≡ Some r)) }
+        ensures err { OnErr result (self.new ≡ self.old) }
+    {
+        if let Some(reason) = self.pick_refusal() {
+            return Err(MemberFault::Refused(reason));
+        }
+        match self.first_at_door() {
+            None => unreachable!(),
+            Some(place) => self.pick_at(place),
+        }
+        Ok(())
+    }
+
+    /// It takes from the link at a place of its door.
+    fn pick_at(&mut self, place: usize)
+        requires within { place < length self.old.door.items }
+        requires none { self.old.current ≡ None }
+        ensures held { held_of self.new ≡ picked_at (held_of self.old) place }
+        ensures picks { PicksOn place self.old self.new }
+    {
+        self.current = Some(self.door.remove(place));
+    }
+}
+
+/// An end that was replaced joins those before it, for which there is room.
+fn push_old<A: Drop>(old: &mut Vec<(LinkName, A)>, name: LinkName, end: A)
+    requires { vec_len old.old < vec_capacity old.old }
+    ensures items { old.new.items ≡ old.old.items ++ (name, end) ∷ [] }
+    ensures len { vec_len old.new ≡ vec_len old.old + 1 }
+    ensures room { vec_capacity old.old ≤ vec_capacity old.new }
+{
+    match old.push((name, end)) {
+        Ok(()) => {}
+        Err(_full) => unreachable!(),
+    }
+}
