@@ -1,0 +1,4 @@
+-- The cluster of a ring whose members may stop.
+pub mod Sums
+pub mod Parts
+pub mod Falls
