@@ -2,3 +2,5 @@
 pub mod Sums
 pub mod Parts
 pub mod Falls
+pub mod Moves
+pub mod TakeFalls

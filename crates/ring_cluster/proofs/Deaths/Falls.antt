@@ -4,6 +4,8 @@ use Rattle.std.specs.Prelude.{◌&&◌}
 use Rattle.std.proofs.lemmas.List.{length-set, length_push, get_or-set_same, get_or-set_other}
 use Rattle.ring_names.specs.declared.reason.Reason.{Reason}
 use Rattle.ring_names.specs.declared.reason.Reason.TheVariants as reason
+use Rattle.credit_flow.specs.Credit.{is_blocked}
+use Rattle.ring_world.specs.Refusal.{refuse_if}
 use Rattle.ring_world.specs.Member.{is_sent, regained}
 use Rattle.ring_world.specs.declared.event.Event.TheVariants as event
 use Rattle.ring_world.specs.Deaths.Machine.{Packet, Member, Sending, Link, World, no_link, row_at, numbers_at, member_at, link_at}
@@ -20,7 +22,7 @@ use Rattle.ring_cluster.specs.Deaths.Work.{items, dirty_on, dirty_at, dirty, lag
 use Rattle.ring_cluster.proofs.Sums.{all_pass}
 use Rattle.ring_cluster.proofs.Falls.{length-rest}
 use Rattle.ring_cluster.proofs.Deaths.Sums.{sum_le, sum_at}
-use Rattle.ring_cluster.proofs.Deaths.Parts.{place_in, weight_in, work_less, members_weigh, links_at}
+use Rattle.ring_cluster.proofs.Deaths.Parts.{place_in, weight_in, work_less, members_weigh, links_at, sending_same}
 
 -- ---- links alone
 
@@ -38,11 +40,6 @@ write_links w s a b l lt here =
     links_at w (record w { links = set w.links s l }) s a b (length-set w.links s l) lt
     (λ t tl ne. let same : weight_at (record w { links = set w.links s l }) t ≡ weight_at w t = link_weighs w s t l ne in omega (arith, same))
     (let now : weight_at (record w { links = set w.links s l }) s ≡ weight_in w s l = link_written w s l lt in subst (λ n. n + a ≤ weight_at w s + b) (sym now) here)
-
--- what a member has to send stays where the sending side of its link does
-pub sending_same : (n : ℕ) (w w' : World) (y : Member) (o : Option ℕ) → ((k : ℕ) → o ≡ Some k → (link_at w' k).sending ≡ (link_at w k).sending) → dirty_on n w' y o ≡ dirty_on n w y o
-sending_same n w w' y None h = refl
-sending_same n w w' y (Some k) h = ap (λ s. if has_nothing_new n y s then 0 else 1) (h k refl)
 
 -- ---- conditions
 
@@ -123,7 +120,7 @@ put_dirty w x o f lt e r =
     sum_at n n (dirty_at n w) (dirty_at n w') x 1 0 refl lt
     (λ k kl ne. let same : dirty_at n w' k ≡ dirty_at n w k = sending_same n w w' (member_at w k) (member_at w k).out
     (λ j q. ap (λ (a : Link). a.sending) (get_or-set_other w.links o j new no_link (other_out w x k o j f e q ne))) in omega (arith, same))
-    (let before : dirty_at n w x ≡ 1 = ap (dirty_on n w (member_at w x)) e ∙ ap (λ b. if b then 0 else 1) (refuse_none _ reason.NothingNew (first_none _ reason.NoCredit _ r)) in
+    (let before : dirty_at n w x ≡ 1 = ap (dirty_on n w (member_at w x)) e ∙ ap (λ b. if b then 0 else 1) (refuse_none (has_nothing_new n (member_at w x) (link_at w o).sending) reason.NothingNew (first_none (is_blocked (link_at w o).flow.sender) reason.NoCredit (refuse_if (has_nothing_new n (member_at w x) (link_at w o).sending) reason.NothingNew) r)) in
     let after : dirty_at n w' x ≡ 0 = ap (dirty_on n w' (member_at w x)) e
     ∙ ap (λ (a : Link). if has_nothing_new n (member_at w x) a.sending then 0 else 1) (get_or-set_same w.links o new no_link (f.own_ends.out x o e).0)
     ∙ ap (λ b. if b then 0 else 1) (next_is_sent n (member_at w x) (link_at w o).sending) in
