@@ -4,3 +4,5 @@ pub mod Parts
 pub mod Falls
 pub mod Moves
 pub mod TakeFalls
+pub mod Places
+pub mod RefreshFalls
