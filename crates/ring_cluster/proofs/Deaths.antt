@@ -6,3 +6,4 @@ pub mod Moves
 pub mod TakeFalls
 pub mod Places
 pub mod RefreshFalls
+pub mod MarkFalls

@@ -189,7 +189,7 @@ module _ (w : World) (vs : List Group) (x v : ℕ) (f : IsFit w) (lt : x < size 
           sum i p g a b c = omega arith
 
   -- so a refresh is one of the two
-  refreshed_parts : IsGood (refreshed (record w { views = vs }) x v) → IsLater w (refreshed (record w { views = vs }) x v) → HasLooked w (refreshed (record w { views = vs }) x v) vs x
+  pub refreshed_parts : IsGood (refreshed (record w { views = vs }) x v) → IsLater w (refreshed (record w { views = vs }) x v) → HasLooked w (refreshed (record w { views = vs }) x v) vs x
   refreshed_parts good later = by_test (sends_right u x v) refl
     where
       u : World

@@ -192,7 +192,7 @@ module _ (w : World) (y s : ℕ) (f : IsFit w) (lt : y < size w) (is : (member_a
       sized k = ap (λ m. dirty_at m w' k) take_size
 
   -- a take leaves less to do
-  take_falls : work (take_from w y s) < work w
+  pub take_falls : work (take_from w y s) < work w
   take_falls =
       work_less w w' (omega arith) stales
       (⊎_elim
