@@ -9,8 +9,8 @@ use Rattle.ring_world.specs.Deaths.OpenLinks.{version_of, comes_from_left, passe
 use Rattle.ring_world.specs.Deaths.Step.{size, log_of}
 use Rattle.ring_world.specs.Deaths.Event.{has_nothing_new}
 use Rattle.ring_world.specs.Deaths.Lawful.{row_of}
-use Rattle.ring_cluster.specs.Work.{sum_below}
-use Rattle.ring_cluster.specs.Deaths.Work.{items, place_by, weight_at, on_links, marks_left, stale_by, stale_at, stale, dirty_on, dirty_at, dirty, lag_at, lag, work}
+use Rattle.ring_world.proofs.Deaths.Rounds.{nat_eq-not}
+use Rattle.ring_cluster.specs.Deaths.Work.{items, place_by, weight_at, on_links, marks_left, is_stale, stale_by, stale_at, stale, dirty_on, dirty_at, dirty, lag_at, lag_by, lag, work}
 use Rattle.ring_cluster.proofs.Deaths.Sums.{sum_le, sum_at}
 
 -- ---- the number
@@ -57,6 +57,18 @@ links_at w w' s a b many l h here = sum_at (length w.links) (length w'.links) (w
 
 -- ---- members
 
+-- a member whose view isn't of that version is stale
+pub stale_view : (v : ℕ) (y : Member) → y.version ≢ v → is_stale v y ≡ true
+stale_view v y ne = ap (λ b. not (b && is_some y.out)) (nat_eq-not y.version v ne)
+
+-- and one that sends on no link
+pub stale_out : (v : ℕ) (y : Member) → y.out ≡ None → is_stale v y ≡ true
+stale_out v y e = ap (λ o. not (nat_eq y.version v && is_some o)) e ∙ nothing (nat_eq y.version v)
+  where
+    nothing : (b : Bool) → not (b && false) ≡ true
+    nothing true = refl
+    nothing false = refl
+
 -- whether a member is stale goes by the version of its view and its out link
 stale_same : (v : ℕ) (y y' : Member) → y'.version ≡ y.version → y'.out ≡ y.out → stale_by v y' ≡ stale_by v y
 stale_same v y y' e o = ap (λ u. if not (nat_eq u v && is_some y'.out) then 1 else 0) e ∙ ap (λ k. if not (nat_eq y.version v && is_some k) then 1 else 0) o
@@ -99,7 +111,7 @@ same_dirty w w' many rows out sending =
 -- nobody is more behind where rows and logs stay
 pub same_lag : (w w' : World) → size w' ≡ size w → ((q : ℕ) → (member_at w' q).rows ≡ (member_at w q).rows) → ((q : ℕ) → (member_at w' q).log ≡ log_of w q) → lag w' ≤ lag w
 same_lag w w' many rows logs =
-    sum_le (size w) (size w') (λ q. sum_below (size w) (lag_at w q)) (λ q. sum_below (size w') (lag_at w' q)) many
-    (λ q _. sum_le (size w) (size w') (lag_at w q) (lag_at w' q) many
-    (λ p _. let same : lag_at w' q p ≡ lag_at w q p =
-    ap (λ l. lag_row (length l) (row_of w' q p)) (logs p) ∙ ap (λ rs. lag_row (length (log_of w p)) (get_or rs p no_row)) (rows q) in omega (arith, same)))
+    sum_le (size w - 1) (size w' - 1) (λ i. lag_by w (i + 1)) (λ i. lag_by w' (i + 1)) (ap (λ n. n - 1) many)
+    (λ i _. sum_le (size w) (size w') (lag_at w (i + 1)) (lag_at w' (i + 1)) many
+    (λ p _. let same : lag_at w' (i + 1) p ≡ lag_at w (i + 1) p =
+    ap (λ l. lag_row (length l) (row_of w' (i + 1) p)) (logs p) ∙ ap (λ rs. lag_row (length (log_of w p)) (get_or rs p no_row)) (rows (i + 1)) in omega (arith, same)))

@@ -25,8 +25,7 @@ use Rattle.ring_world.proofs.Deaths.OwnLogs.{take_log, taken_within}
 use Rattle.ring_world.proofs.Deaths.Enabled.{running_phase, running_later, link_later, take_some, take_effect}
 use Rattle.gm_member.proofs.Deaths.Fit.{IsFit}
 use Rattle.gm_member.proofs.Deaths.Facts.{oldest_within}
-use Rattle.ring_cluster.specs.Work.{sum_below}
-use Rattle.ring_cluster.specs.Deaths.Work.{items, dirty_on, dirty_at, dirty, lag_at, lag, weight_at, on_links, stale, work}
+use Rattle.ring_cluster.specs.Deaths.Work.{items, dirty_on, dirty_at, dirty, lag_at, lag_by, lag, weight_at, on_links, stale, work}
 use Rattle.ring_cluster.proofs.Sums.{each_passes, one_fails}
 use Rattle.ring_cluster.proofs.Falls.{length-rest}
 use Rattle.ring_cluster.proofs.TakeFalls.{with_grant-most, risen}
@@ -55,7 +54,7 @@ row_falls n r r' a b c ga fo rise =
 
 -- ---- a take
 
-module _ (w : World) (y s : ℕ) (f : IsFit w) (lt : y < size w) (is : (member_at w y).current ≡ Some s) (some : is_empty (link_at w s).packets ≡ false) (goes : GoesOn w (take_from w y s)) where
+module _ (w : World) (y s : ℕ) (f : IsFit w) (one : 1 ≤ y) (lt : y < size w) (is : (member_at w y).current ≡ Some s) (some : is_empty (link_at w s).packets ≡ false) (goes : GoesOn w (take_from w y s)) where
   -- what stays
   take_size : size (take_from w y s) ≡ size w
   take_size = length-set w.members y (taker w y s)
@@ -110,11 +109,11 @@ module _ (w : World) (y s : ℕ) (f : IsFit w) (lt : y < size w) (is : (member_a
       subst (λ n. lag_row n (row_of (take_from w y s) q p) ≤ lag_at w q p) (sym (ap length (take_log w y s p lt)))
       (row_less (length (log_of w p)) (row_of w q p) (row_of (take_from w y s) q p) (goes.never_falls.got q p) (goes.never_falls.forgot q p) (goes.never_falls.retired q p))
 
-  take_lag_row : (q : ℕ) → sum_below (size (take_from w y s)) (lag_at (take_from w y s) q) ≤ sum_below (size w) (lag_at w q)
+  take_lag_row : (q : ℕ) → lag_by (take_from w y s) q ≤ lag_by w q
   take_lag_row q = sum_le (size w) (size (take_from w y s)) (lag_at w q) (lag_at (take_from w y s) q) take_size (λ p _. take_lag_at q p)
 
   take_lag : lag (take_from w y s) ≤ lag w
-  take_lag = sum_le (size w) (size (take_from w y s)) (λ q. sum_below (size w) (lag_at w q)) (λ q. sum_below (size (take_from w y s)) (lag_at (take_from w y s) q)) take_size (λ q _. take_lag_row q)
+  take_lag = sum_le (size w - 1) (size (take_from w y s) - 1) (λ i. lag_by w (i + 1)) (λ i. lag_by (take_from w y s) (i + 1)) (ap (λ n. n - 1) take_size) (λ i _. take_lag_row (i + 1))
 
   -- no number of the taker's is above the length of the log
   take_within : (p : ℕ) → p < size w → RowIsWithin (length (log_of w p)) (row_of (take_from w y s) y p)
@@ -126,10 +125,11 @@ module _ (w : World) (y s : ℕ) (f : IsFit w) (lt : y < size w) (is : (member_a
   -- so where the taker has numbers to send that had been sent before, it came less behind
   take_lag_falls : (p : ℕ) (last : Numbers) → p < size w → is_sent (row_of w y p) last ≡ true → is_sent (row_of (take_from w y s) y p) last ≡ false → lag (take_from w y s) + 1 ≤ lag w + 0
   take_lag_falls p last pl before after =
-      sum_at (size w) (size (take_from w y s)) (λ q. sum_below (size w) (lag_at w q)) (λ q. sum_below (size (take_from w y s)) (lag_at (take_from w y s) q)) y 1 0 take_size lt (λ q _ _. take_lag_row q)
+      sum_at (size w - 1) (size (take_from w y s) - 1) (λ i. lag_by w (i + 1)) (λ i. lag_by (take_from w y s) (i + 1)) (y - 1) 1 0 (ap (λ n. n - 1) take_size) (omega arith) (λ i _ _. take_lag_row (i + 1))
+      (subst (λ q. lag_by (take_from w y s) q + 1 ≤ lag_by w q + 0) (let back : y ≡ y - 1 + 1 = omega arith in back)
       (sum_at (size w) (size (take_from w y s)) (lag_at w y) (lag_at (take_from w y s) y) p 1 0 take_size pl (λ k _ _. take_lag_at y k)
       (subst (λ n. lag_row n r' + 1 ≤ lag_at w y p + 0) (sym (ap length (take_log w y s p lt)))
-      (row_falls (length (log_of w p)) r r' got forgot (goes.never_falls.retired y p) (take_within p pl).got (take_within p pl).forgot (risen r r' last before after got forgot))))
+      (row_falls (length (log_of w p)) r r' got forgot (goes.never_falls.retired y p) (take_within p pl).got (take_within p pl).forgot (risen r r' last before after got forgot)))))
     where
       r : Row
       r = row_of w y p
@@ -229,4 +229,4 @@ take_lowers w x f some lt r = by_current (member_at w x).current refl (running_l
     by_current None e h = cc
     by_current (Some s) e h =
         let does : effect w (event.Take (member_at w x).name) ≡ take_from w x s = done ∙ take_effect w x s (member_at w x).current (member_at w x).phase e up in
-        subst (λ u. work u < work w) (sym does) (take_falls w x s f lt e (take_some w x s h) (subst (GoesOn w) does (f.goes (event.Take (member_at w x).name) r)))
+        subst (λ u. work u < work w) (sym does) (take_falls w x s f some lt e (take_some w x s h) (subst (GoesOn w) does (f.goes (event.Take (member_at w x).name) r)))

@@ -50,29 +50,25 @@ abbrev pub dirty_on : ℕ → World → Member → Option ℕ → ℕ
 dirty_on n w y None = 0
 dirty_on n w y (Some o) = if has_nothing_new n y (link_at w o).sending then 0 else 1
 
--- the same of the member of an id
+-- the same of the member of an id, of n
 abbrev pub dirty_at : ℕ → World → ℕ → ℕ
 dirty_at n w i = dirty_on n w (member_at w i) (member_at w i).out
 
--- how many members have such numbers, of n
-abbrev pub dirty_of : ℕ → World → ℕ
-dirty_of n w = sum_below n (dirty_at n w)
-
--- of all
+-- how many members have such numbers
 abbrev pub dirty : World → ℕ
-dirty w = dirty_of (size w) w
+dirty w = sum_below (size w) (dirty_at (size w) w)
 
 -- how many messages of origin p member q still has to get, to forget, and to retire
 abbrev pub lag_at : World → ℕ → ℕ → ℕ
 lag_at w q p = (length (log_of w p) - (row_of w q p).got) + (length (log_of w p) - (row_of w q p).forgot) + (length (log_of w p) - (row_of w q p).retired)
 
--- the same over all members and origins, of n
-abbrev pub lag_of : ℕ → World → ℕ
-lag_of n w = sum_below n (λ q. sum_below n (lag_at w q))
+-- of all origins
+abbrev pub lag_by : World → ℕ → ℕ
+lag_by w q = sum_below (size w) (lag_at w q)
 
--- over all
+-- all members together
 abbrev pub lag : World → ℕ
-lag w = lag_of (size w) w
+lag w = sum_below (size w - 1) (λ i. lag_by w (i + 1))
 
 -- ---- links
 
@@ -92,13 +88,9 @@ place_at w s = place_by (link_at w s).over (is_current w (link_at w s).receiver 
 abbrev pub weight_at : World → ℕ → ℕ
 weight_at w s = 2 * items (link_at w s) + place_at w s + length (link_at w s).flow.grants
 
--- of the first n links
-abbrev pub links_left_of : ℕ → World → ℕ
-links_left_of n w = sum_below n (weight_at w)
-
--- of all
+-- all links together
 abbrev pub on_links : World → ℕ
-on_links w = links_left_of (length w.links) w
+on_links w = sum_below (length w.links) (weight_at w)
 
 -- ---- all of it
 
