@@ -1,5 +1,5 @@
 -- A gain and a put leave less to do.
-use Rattle.std.proofs.Common.{◌≡◌, ◌≢◌, ℕ, ◌+◌, ◌*◌, ◌<◌, ◌≤◌, Bool, true, false, not, nat_eq, List, [], ◌∷◌, ◌++◌, drop, length, set, Option, Some, None, is_some, if◌then◌else◌, refl, sym, ap, subst, ◌∙◌, arith}
+use Rattle.std.proofs.Common.{◌≡◌, ◌≢◌, ℕ, ◌+◌, ◌*◌, ◌<◌, ◌≤◌, true, false, not, nat_eq, [], ◌∷◌, ◌++◌, drop, length, set, Option, Some, None, is_some, if◌then◌else◌, refl, sym, ap, subst, ◌∙◌, arith}
 use Rattle.std.specs.Prelude.{◌&&◌}
 use Rattle.std.proofs.lemmas.List.{length-set, length_push, get_or-set_same, get_or-set_other}
 use Rattle.ring_names.specs.declared.reason.Reason.{Reason}
@@ -53,6 +53,7 @@ done_at w x g f some lt = ap (λ o. at_found o w g) (f.named x some lt)
 
 -- ---- gain
 
+-- one grant fewer is under way
 pub gain_links : (w : World) (o : ℕ) → o < length w.links → gain_refusal w o ≡ None → on_links (gain_on w o) + 1 ≤ on_links w + 0
 gain_links w o ol e =
     let l : Link = link_at w o in
@@ -63,6 +64,7 @@ gain_links w o ol e =
     one_less : (a b c : ℕ) → b + 1 ≡ c → (a + b) + 1 ≤ (a + c) + 0
     one_less a b c h = omega arith
 
+-- nobody has more to send
 pub gain_dirty : (w : World) (o : ℕ) → o < length w.links → dirty (gain_on w o) ≤ dirty w
 gain_dirty w o ol =
     sum_le (size w) (size w) (dirty_at (size w) w) (dirty_at (size w) (gain_on w o)) refl
@@ -104,6 +106,7 @@ next_is_sent n y s =
     ∙ ap (λ b. b && nat_eq (row_at y p).forgot (row_at y p).forgot) (nat_eq-same (row_at y p).got)
     ∙ nat_eq-same (row_at y p).forgot)
 
+-- one packet more is on its way
 pub put_links : (w : World) (x o : ℕ) → o < length w.links → on_links (put_on w x o) + 0 ≤ on_links w + 2
 put_links w x o ol =
     let l : Link = link_at w o in
@@ -115,6 +118,7 @@ put_links w x o ol =
     two_more : (p p' e c g : ℕ) → p ≡ p' + 1 → (2 * (p + e) + c + g) + 0 ≤ (2 * (p' + e) + c + g) + 2
     two_more p p' e c g h = omega arith
 
+-- x has sent all that it has
 pub put_dirty : (w : World) (x o : ℕ) → IsFit w → x < size w → (member_at w x).out ≡ Some o → put_refusal w x o ≡ None → dirty (put_on w x o) + 1 ≤ dirty w + 0
 put_dirty w x o f lt e r =
     sum_at n n (dirty_at n w) (dirty_at n w') x 1 0 refl lt

@@ -3,7 +3,6 @@ use Rattle.std.proofs.Common.{◌≡◌, ℕ, suc, ◌+◌, ◌-◌, ◌*◌, �
 use Rattle.std.specs.List.{sum_by}
 use Rattle.std.proofs.lemmas.List.{length_push, length-map}
 use Rattle.std.proofs.lemmas.List.Sums.{sum_by-cons}
-use Rattle.ring_names.specs.declared.reason.Reason.{Reason}
 use Rattle.group_view.specs.declared.entry.Entry.{Entry}
 use Rattle.group_view.specs.declared.entry.Mark.{Mark}
 use Rattle.group_view.specs.declared.entry.Mark.TheVariants.{Live, Dead, Erased}
@@ -15,7 +14,7 @@ use Rattle.group_view.specs.Kept.{changes_of, changes_of_mark}
 use Rattle.group_view.proofs.Marks.{changes-dated, dated_changes, changes-marked}
 use Rattle.group_view.proofs.Passing.{live_in}
 use Rattle.ring_world.specs.declared.event.Event.TheVariants as event
-use Rattle.ring_world.specs.Deaths.Machine.{Member, World, member_at, view_at, newest}
+use Rattle.ring_world.specs.Deaths.Machine.{World, member_at, view_at, newest}
 use Rattle.ring_world.specs.Deaths.Step.{size, with_view}
 use Rattle.ring_world.specs.Deaths.Event.{id_of, of_member, up_refusal, mark_refusal, refreshed, at_found, refusal, effect}
 use Rattle.ring_world.proofs.Deaths.Views.{view_new}

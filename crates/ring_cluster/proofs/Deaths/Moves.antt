@@ -1,26 +1,25 @@
 -- A taken end and a pick leave less to do.
-use Rattle.std.proofs.Common.{◌≡◌, ◌≢◌, ℕ, ◌+◌, ◌*◌, ◌<◌, ◌≤◌, Bool, true, false, not, nat_eq, nat_le, max, List, length, set, get_or, Option, Some, None, is_some, if◌then◌else◌, refl, sym, ap, subst, ◌∙◌, arith}
+use Rattle.std.proofs.Common.{◌≡◌, ℕ, ◌+◌, ◌*◌, ◌<◌, ◌≤◌, Bool, true, false, not, nat_eq, nat_le, max, List, length, set, get_or, Option, Some, None, is_some, if◌then◌else◌, refl, sym, ap, subst, ◌∙◌, arith}
 use Rattle.std.specs.Prelude.{◌&&◌}
 use Rattle.std.proofs.lemmas.Bool.{and_parts}
 use Rattle.std.proofs.lemmas.List.{length-set, get_or-set_same, get_or-set_other}
 use Rattle.std.proofs.lemmas.List.Quantifiers.{position-Some}
-use Rattle.ring_names.specs.declared.reason.Reason.{Reason}
 use Rattle.ring_names.specs.declared.reason.Reason.TheVariants as reason
 use Rattle.ring_world.specs.Refusal.{refuse_if, or_else}
 use Rattle.ring_world.specs.declared.event.Event.TheVariants as event
 use Rattle.ring_world.specs.declared.phase.Phase.TheVariants.{Up}
-use Rattle.ring_world.specs.Deaths.Machine.{Member, Link, World, no_link, no_member, member_at, link_at, view_at, left, runs, runs_phase}
+use Rattle.ring_world.specs.Deaths.Machine.{Member, Link, World, no_link, no_member, member_at, link_at, view_at, left, runs_phase}
 use Rattle.ring_world.specs.Deaths.OpenLinks.{version_of, since_in, passes, is_place, is_current}
 use Rattle.ring_world.specs.Deaths.Step.{size, with_current, current_is, leave_link, finished}
 use Rattle.ring_world.specs.Deaths.Event.{on_link, running_refusal, up_refusal, end_refusal, version_refusal, left_neighbour, since, is_at_door, at_door, pick_refusal, at_found, refusal, effect}
 use Rattle.ring_world.proofs.Deaths.Lists.{at_set}
 use Rattle.ring_world.proofs.Deaths.Rounds.{nat_eq-is, nat_eq-same, nat_eq-not}
 use Rattle.ring_world.proofs.Deaths.Views.{left_is}
-use Rattle.ring_world.proofs.Deaths.Refusals.{none_of, not_less, not_false}
+use Rattle.ring_world.proofs.Deaths.Refusals.{none_of, not_less}
 use Rattle.ring_world.proofs.Deaths.Enabled.{running_phase, running_later, up_later}
 use Rattle.gm_member.proofs.Deaths.Fit.{IsFit}
-use Rattle.ring_cluster.specs.Deaths.Work.{items, place_by, weight_at, dirty, lag, on_links, stale, work}
-use Rattle.ring_cluster.proofs.Deaths.Parts.{place_in, weight_in, work_less, members_weigh, links_at, same_stale, same_dirty, same_lag}
+use Rattle.ring_cluster.specs.Deaths.Work.{items, place_by, weight_at, dirty, lag, on_links, work}
+use Rattle.ring_cluster.proofs.Deaths.Parts.{weight_in, work_less, members_weigh, links_at, same_stale, same_dirty, same_lag}
 use Rattle.ring_cluster.proofs.Deaths.Falls.{asked_of, done_at}
 
 -- ---- what x takes from changes, and one link with it
@@ -65,6 +64,7 @@ moved_falls w x c ls lt sending less =
 
 -- ---- the end of a link is taken
 
+-- a link is over that was taken from
 pub end_links : (w : World) (x s : ℕ) → IsFit w → x < size w → (member_at w x).phase ≡ Up → (member_at w x).current ≡ Some s → on_links (leave_link w x s) + 1 ≤ on_links w + 0
 end_links w x s f lt up e =
     links_at w w' s 1 0 (length-set w.links s (finished l)) there
@@ -128,6 +128,7 @@ none_there : (c : Option ℕ) (t : ℕ) → is_some c ≡ false → is_place c t
 none_there None t e = refl
 none_there (Some s) t e = cc
 
+-- a link is taken from that stood at the door
 pub pick_links : (w : World) (x s : ℕ) → x < size w → is_some (member_at w x).current ≡ false → at_door w x ≡ Some s → (link_at w s).opened ≤ (member_at w x).version → on_links (current_is w x (Some s)) + 1 ≤ on_links w + 0
 pick_links w x s lt none at upto =
     links_at w w' s 1 0 refl found.0

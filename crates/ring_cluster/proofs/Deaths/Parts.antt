@@ -19,6 +19,7 @@ use Rattle.ring_cluster.proofs.Deaths.Sums.{sum_le, sum_at}
 pub less_of : (m m' s s' d d' g g' k k' : ℕ) → m' ≤ m → s' ≤ s → 3 * d' + 3 * g' + k' < 3 * d + 3 * g + k → 585 * m' + 9 * s' + (3 * d' + 3 * g' + k') < 585 * m + 9 * s + (3 * d + 3 * g + k)
 less_of m m' s s' d d' g g' k k' a b c = omega arith
 
+-- the same of two states
 pub work_less : (w w' : World) → marks_left w' ≤ marks_left w → stale w' ≤ stale w → 3 * dirty w' + 3 * lag w' + on_links w' < 3 * dirty w + 3 * lag w + on_links w → work w' < work w
 work_less w w' a b c = less_of (marks_left w) (marks_left w') (stale w) (stale w') (dirty w) (dirty w') (lag w) (lag w') (on_links w) (on_links w') a b c
 

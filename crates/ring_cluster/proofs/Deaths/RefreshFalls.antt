@@ -1,5 +1,5 @@
 -- A refresh of a stale member leaves less to do.
-use Rattle.std.proofs.Common.{◌≡◌, ◌≢◌, ℕ, ◌+◌, ◌-◌, ◌*◌, ◌<◌, ◌≤◌, Bool, true, false, not, nat_eq, List, [], ◌∷◌, ◌++◌, length, set, get_or, Option, Some, None, is_some, if◌then◌else◌, refl, sym, ap, subst, ◌∙◌, ⊎_elim, arith}
+use Rattle.std.proofs.Common.{◌≡◌, ◌≢◌, ℕ, ◌+◌, ◌-◌, ◌*◌, ◌<◌, ◌≤◌, Bool, true, false, not, nat_eq, List, [], ◌∷◌, length, get_or, Option, Some, None, is_some, if◌then◌else◌, refl, sym, ap, subst, ◌∙◌, ⊎_elim, arith}
 use Rattle.std.specs.Prelude.{◌&&◌, option_map}
 use Rattle.std.specs.List.{sum_by}
 use Rattle.std.proofs.lemmas.Bool.{false≢true, cases_eq}
@@ -7,12 +7,11 @@ use Rattle.std.proofs.lemmas.List.{length-set, get_or_append_left, get_or-set_sa
 use Rattle.group_view.specs.View.{Group}
 use Rattle.group_view.specs.Since.{no_group}
 use Rattle.ring_world.specs.declared.event.Event.TheVariants as event
-use Rattle.ring_world.specs.declared.phase.Ending.{Ending}
 use Rattle.ring_world.specs.declared.phase.Ending.TheVariants.{Moved}
 use Rattle.ring_world.specs.Deaths.Machine.{Member, Link, World, no_link, no_member, no_sending, member_at, link_at, view_at, newest}
 use Rattle.ring_world.specs.Deaths.View.{right_of}
 use Rattle.ring_world.specs.Deaths.Step.{size, ended, ended_so, end_out, moved_to, look_at}
-use Rattle.ring_world.specs.Deaths.Event.{up_refusal, refresh_refusal, refreshed, has_nothing_new, refusal, effect}
+use Rattle.ring_world.specs.Deaths.Event.{refreshed, has_nothing_new, refusal, effect}
 use Rattle.ring_world.proofs.Deaths.Lists.{at_set}
 use Rattle.ring_world.proofs.Deaths.Rounds.{nat_eq-same}
 use Rattle.ring_world.proofs.Deaths.Happens.{IsGood, event_good}
@@ -25,7 +24,7 @@ use Rattle.ring_cluster.specs.Work.{sum_below}
 use Rattle.ring_cluster.specs.Deaths.Work.{entry_left, marks_left, is_stale, stale_by, stale_at, stale, dirty_on, dirty_at, dirty, lag, items, place_at, weight_at, on_links, work}
 use Rattle.ring_cluster.proofs.Deaths.Sums.{sum_le, sum_at, sum_more}
 use Rattle.ring_cluster.proofs.Deaths.Parts.{place_most, same_dirty, dirty_same, same_lag}
-use Rattle.ring_cluster.proofs.Deaths.Places.{looking, looking_places}
+use Rattle.ring_cluster.proofs.Deaths.Places.{looking_places}
 use Rattle.ring_cluster.proofs.Deaths.Falls.{next_is_sent, done_at}
 
 -- ---- what a refresh does to the parts
@@ -65,7 +64,6 @@ weighs_by w w' t b l same few grants place =
     sum i' i j p p' g g' b h k m n = omega arith
 
 module _ (w : World) (vs : List Group) (x v : ℕ) (f : IsFit w) (lt : x < size w) (top : v ≡ length vs - 1) where
-
   -- where it sends there already
   looks_parts : sends_right (record w { views = vs }) x v ≡ true → IsGood (look_at (record w { views = vs }) x v) → IsLater w (look_at (record w { views = vs }) x v) → HasLooked w (look_at (record w { views = vs }) x v) vs x
   looks_parts sends good later = record {

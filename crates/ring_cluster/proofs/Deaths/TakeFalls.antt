@@ -1,11 +1,9 @@
 -- A take leaves less to do.
 use Rattle.std.proofs.Common.{◌≡◌, ◌≢◌, ℕ, ◌+◌, ◌-◌, ◌*◌, ◌<◌, ◌≤◌, Bool, true, false, not, List, drop, length, set, Option, Some, None, is_some, if◌then◌else◌, refl, sym, ap, subst, ◌∙◌, ◌⊎◌, ⊎_elim, inl, inr, arith}
 use Rattle.std.specs.Prelude.{◌&&◌}
-use Rattle.std.proofs.lemmas.Bool.{cases_eq}
 use Rattle.std.proofs.lemmas.List.{length-set, get_or-set_same, get_or-set_other}
 use Rattle.ring_names.specs.declared.reason.Reason.TheVariants as reason
 use Rattle.credit_flow.specs.Credit.{grant_due}
-use Rattle.credit_flow.specs.Link.{with_grant}
 use Rattle.ring_world.specs.declared.numbers.Numbers.{Numbers}
 use Rattle.ring_world.specs.declared.event.Event.TheVariants as event
 use Rattle.ring_world.specs.declared.phase.Phase.TheVariants.{Up}
@@ -15,17 +13,17 @@ use Rattle.ring_world.specs.Refusal.{is_empty}
 use Rattle.ring_world.specs.Deaths.Machine.{Member, Sending, Link, World, no_link, no_member, row_at, numbers_at, member_at, link_at, view_at}
 use Rattle.ring_world.specs.Deaths.OpenLinks.{version_of, is_place, is_current}
 use Rattle.ring_world.specs.Deaths.Walk.{oldest}
-use Rattle.ring_world.specs.Deaths.Step.{size, log_of, taken_row, is_owned, taker, take_from, popped}
+use Rattle.ring_world.specs.Deaths.Step.{size, log_of, is_owned, taker, take_from, popped}
 use Rattle.ring_world.specs.Deaths.Lawful.{row_of, RowIsWithin}
 use Rattle.ring_world.specs.Deaths.Laws.{GoesOn}
 use Rattle.ring_world.specs.Deaths.Event.{on_link, running_refusal, take_refusal, has_nothing_new, at_found, taken_by, refusal, effect}
 use Rattle.ring_world.proofs.Deaths.Lists.{at_set}
 use Rattle.ring_world.proofs.Deaths.Take.{take_row}
 use Rattle.ring_world.proofs.Deaths.OwnLogs.{take_log, taken_within}
-use Rattle.ring_world.proofs.Deaths.Enabled.{running_phase, running_later, link_later, take_some, take_effect}
+use Rattle.ring_world.proofs.Deaths.Enabled.{running_phase, running_later, take_some, take_effect}
 use Rattle.gm_member.proofs.Deaths.Fit.{IsFit}
 use Rattle.gm_member.proofs.Deaths.Facts.{oldest_within}
-use Rattle.ring_cluster.specs.Deaths.Work.{items, dirty_on, dirty_at, dirty, lag_at, lag_by, lag, weight_at, on_links, stale, work}
+use Rattle.ring_cluster.specs.Deaths.Work.{dirty_on, dirty_at, dirty, lag_at, lag_by, lag, weight_at, on_links, stale, work}
 use Rattle.ring_cluster.proofs.Sums.{each_passes, one_fails}
 use Rattle.ring_cluster.proofs.Falls.{length-rest}
 use Rattle.ring_cluster.proofs.TakeFalls.{with_grant-most, risen}
@@ -35,6 +33,7 @@ use Rattle.ring_cluster.proofs.Deaths.Falls.{asked_of, done_at}
 
 -- ---- a row that comes less behind
 
+-- what is left up to n falls as a number rises
 less_left : (n g g' : ℕ) → g ≤ g' → n - g' ≤ n - g
 less_left n g g' h = omega arith
 
@@ -55,19 +54,23 @@ row_falls n r r' a b c ga fo rise =
 -- ---- a take
 
 module _ (w : World) (y s : ℕ) (f : IsFit w) (one : 1 ≤ y) (lt : y < size w) (is : (member_at w y).current ≡ Some s) (some : is_empty (link_at w s).packets ≡ false) (goes : GoesOn w (take_from w y s)) where
-  -- what stays
+  -- the members stay as many
   take_size : size (take_from w y s) ≡ size w
   take_size = length-set w.members y (taker w y s)
 
+  -- the link is there
   take_there : s < length w.links
   take_there = (f.own_ends.current y s is).0
 
+  -- what holds of the taker, and of each member before, holds of each member
   take_each : (P : ℕ → Member → Type 0) → P y (taker w y s) → ((q : ℕ) → P q (member_at w q)) → (q : ℕ) → P q (member_at (take_from w y s) q)
   take_each P here other q = at_set P w.members y q (taker w y s) no_member lt here (λ _. other q)
 
+  -- the others stay
   take_other : (q : ℕ) → q ≢ y → member_at (take_from w y s) q ≡ member_at w q
   take_other q ne = get_or-set_other w.members y q (taker w y s) no_member ne
 
+  -- and what was last sent on each link
   take_sending : (j : ℕ) → (link_at (take_from w y s) j).sending ≡ (link_at w j).sending
   take_sending j = at_set (λ i l. l.sending ≡ (link_at w i).sending) w.links s j (popped (link_at w s)) no_link take_there refl (λ _. refl)
 
@@ -103,15 +106,17 @@ module _ (w : World) (y s : ℕ) (f : IsFit w) (one : 1 ≤ y) (lt : y < size w)
       less : (p p' e c c' g g' a : ℕ) → a ≡ 2 * (p' + e) + c' + g' → c' ≡ c → p' + 1 ≡ p → g' ≤ g + 1 → a + 1 ≤ (2 * (p + e) + c + g) + 0
       less p p' e c c' g g' a h i j k = omega arith
 
-  -- nobody comes more behind
+  -- nobody comes more behind with an origin
   take_lag_at : (q p : ℕ) → lag_at (take_from w y s) q p ≤ lag_at w q p
   take_lag_at q p =
       subst (λ n. lag_row n (row_of (take_from w y s) q p) ≤ lag_at w q p) (sym (ap length (take_log w y s p lt)))
       (row_less (length (log_of w p)) (row_of w q p) (row_of (take_from w y s) q p) (goes.never_falls.got q p) (goes.never_falls.forgot q p) (goes.never_falls.retired q p))
 
+  -- nor with all of them
   take_lag_row : (q : ℕ) → lag_by (take_from w y s) q ≤ lag_by w q
   take_lag_row q = sum_le (size w) (size (take_from w y s)) (lag_at w q) (lag_at (take_from w y s) q) take_size (λ p _. take_lag_at q p)
 
+  -- nor do all together
   take_lag : lag (take_from w y s) ≤ lag w
   take_lag = sum_le (size w - 1) (size (take_from w y s) - 1) (λ i. lag_by w (i + 1)) (λ i. lag_by (take_from w y s) (i + 1)) (ap (λ n. n - 1) take_size) (λ i _. take_lag_row (i + 1))
 

@@ -1,5 +1,5 @@
 -- How much a ring whose members may stop still has to do, as one number, which each step of repair makes less.
-use Rattle.std.specs.Prelude.{ℕ, ◌+◌, ◌-◌, ◌*◌, Bool, true, false, if◌then◌else◌, ◌&&◌, not, nat_eq, length, is_some, Option, Some, None}
+use Rattle.std.specs.Prelude.{ℕ, ◌+◌, ◌-◌, ◌*◌, Bool, if◌then◌else◌, ◌&&◌, not, nat_eq, length, is_some, Option, Some, None}
 use Rattle.std.specs.List.{sum_by}
 use Rattle.group_view.specs.declared.entry.Entry.{Entry}
 use Rattle.group_view.specs.declared.entry.Mark.{Mark}
@@ -45,12 +45,12 @@ stale_at w i = stale_by (newest w) (member_at w (i + 1))
 abbrev pub stale : World → ℕ
 stale w = sum_below (size w - 1) (stale_at w)
 
--- 1 where a member has numbers that it has not sent on the link on which it sends, else 0
+-- 1 where a member sends on a link and has numbers, of n origins, that it has not sent there, else 0
 abbrev pub dirty_on : ℕ → World → Member → Option ℕ → ℕ
 dirty_on n w y None = 0
 dirty_on n w y (Some o) = if has_nothing_new n y (link_at w o).sending then 0 else 1
 
--- the same of the member of an id, of n
+-- the same of the member of an id, with n origins
 abbrev pub dirty_at : ℕ → World → ℕ → ℕ
 dirty_at n w i = dirty_on n w (member_at w i) (member_at w i).out
 
@@ -84,7 +84,7 @@ place_by over current door = if over then 0 else (if current then 1 else (if doo
 abbrev pub place_at : World → ℕ → ℕ
 place_at w s = place_by (link_at w s).over (is_current w (link_at w s).receiver s) (passes w (link_at w s).receiver (link_at w s))
 
--- what is left of a link: its items, of which each may make a grant, its place, and its grants
+-- what is left of a link: its items, each of which may make a grant, its place, and its grants
 abbrev pub weight_at : World → ℕ → ℕ
 weight_at w s = 2 * items (link_at w s) + place_at w s + length (link_at w s).flow.grants
 
