@@ -7,3 +7,4 @@ pub mod TakeFalls
 pub mod Places
 pub mod RefreshFalls
 pub mod MarkFalls
+pub mod Examples
