@@ -1,0 +1,2 @@
+-- The cluster of a ring whose members may stop.
+pub mod Work
