@@ -1,0 +1,5 @@
+-- The ring whose members may stop.
+pub mod Sent
+pub mod Round
+pub mod Asked
+pub mod Reached

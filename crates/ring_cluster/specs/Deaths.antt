@@ -1,0 +1,2 @@
+-- The ring whose members may stop.
+pub mod Idle
