@@ -3,3 +3,4 @@ pub mod Sent
 pub mod Round
 pub mod Asked
 pub mod Reached
+pub mod Links
