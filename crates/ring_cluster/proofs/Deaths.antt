@@ -4,3 +4,4 @@ pub mod Round
 pub mod Asked
 pub mod Reached
 pub mod Links
+pub mod Rest
