@@ -1,5 +1,6 @@
 -- The ring whose members may stop.
 pub mod Sent
+pub mod Going
 pub mod Round
 pub mod Asked
 pub mod Reached

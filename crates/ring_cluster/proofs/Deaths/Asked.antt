@@ -7,11 +7,9 @@ use Rattle.ring_names.specs.declared.reason.Reason.{Reason}
 use Rattle.ring_names.specs.declared.reason.Reason.TheVariants as reason
 use Rattle.ring_world.specs.Refusal.{refuse_if, or_else, is_empty}
 use Rattle.ring_world.specs.declared.phase.Phase.TheVariants.{Up}
-use Rattle.ring_world.specs.declared.event.Event.TheVariants.{Pick, Take, TakeEnd, Gain, Put}
-use Rattle.ring_world.specs.Deaths.Machine.{World, Packet, Link, no_packet, no_link, member_at, link_at, newest, runs}
+use Rattle.ring_world.specs.Deaths.Machine.{World, Packet, Link, no_packet, no_link, member_at, link_at, newest}
 use Rattle.ring_world.specs.Deaths.Walk.{oldest}
-use Rattle.ring_world.specs.Deaths.Step.{size}
-use Rattle.ring_world.specs.Deaths.Event.{id_of, of_member, on_link, is_stopped, running_refusal, up_refusal, holds_nothing, is_at_door, at_door, pick_refusal, put_refusal, take_refusal, end_refusal, gain_refusal, version_refusal, refusal}
+use Rattle.ring_world.specs.Deaths.Event.{id_of, of_member, on_link, is_stopped, running_refusal, up_refusal, holds_nothing, is_at_door, at_door, pick_refusal, put_refusal, take_refusal, end_refusal, gain_refusal, version_refusal}
 use Rattle.ring_world.proofs.Deaths.OwnerStops.{AllPackets, IsPacket}
 use Rattle.ring_world.proofs.Deaths.Happens.{IsGood}
 use Rattle.ring_cluster.specs.Deaths.Idle.{HasNothingToDo}
@@ -36,6 +34,7 @@ found_refused o x later e h = subst (λ k. of_member k later ≢ None) e h
 running_refused : (w : World) (x : ℕ) (later : Option Reason) → (member_at w x).phase ≡ Up → running_refusal w x later ≢ None → later ≢ None
 running_refused w x later up h = later_refused (is_stopped (member_at w x).phase) reason.Stopped later (ap is_stopped up) h
 
+-- where it must not wait either
 up_refused : (w : World) (x : ℕ) (later : Option Reason) → IsGood w → (member_at w x).phase ≡ Up → up_refusal w x later ≢ None → later ≢ None
 up_refused w x later g up h = later_refused _ reason.Waiting later (g.none_waits x) (running_refused w x _ up h)
 
@@ -51,6 +50,7 @@ pub record IsRefused (w : World) (y : ℕ) : Type 0 where
   pub gain : (o : ℕ) → (member_at w y).out ≡ Some o → gain_refusal w o ≢ None
   pub put : (o : ℕ) → (member_at w y).out ≡ Some o → put_refusal w y o ≢ None
 
+-- that is what it is refused by its name
 pub refused_by_id : (w : World) (y : ℕ) → IsGood w → id_of w (member_at w y).name ≡ Some y → (member_at w y).phase ≡ Up → HasNothingToDo w y → IsRefused w y
 refused_by_id w y g named up h =
     let id : Option ℕ = id_of w (member_at w y).name in
@@ -75,6 +75,7 @@ oldest_upto : (w : World) (l : Link) (ks : List Packet) → AllPackets (IsPacket
 oldest_upto w l [] a = omega arith
 oldest_upto w l (k ∷ ks) a = a.0.upto
 
+-- no version stands in the way of what isn't newer
 no_version : (need have : ℕ) → need ≤ have → version_refusal need have ≡ None
 no_version need have le = ap (λ b. refuse_if b (reason.ViewTooOld need have)) (le-ltb have need le)
 
@@ -89,6 +90,7 @@ pub none_left : {A : Type 0} (xs : List A) → is_empty xs ≡ true → xs ≡ [
 none_left [] e = refl
 none_left (x ∷ xs) e = absurd (false≢true e)
 
+-- by its test
 pub nothing_held : (l : Link) → holds_nothing l ≡ true → l.packets ≡ []
 nothing_held l h = none_left l.packets (and_parts (is_empty l.packets) (not (is_some l.ending)) h).0
 

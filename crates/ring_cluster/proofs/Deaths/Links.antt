@@ -1,5 +1,5 @@
 -- The links of an idle ring: which of them are open, that they hold nothing, and that neighbours agree.
-use Rattle.std.proofs.Common.{◌≡◌, ◌≢◌, ℕ, zero, suc, ◌<◌, ◌≤◌, Bool, true, false, not, nat_eq, nat_le, max, List, [], length, sum, Option, Some, None, is_some, refl, sym, ap, subst, ◌∙◌, arith}
+use Rattle.std.proofs.Common.{◌≡◌, ◌≢◌, ℕ, zero, suc, ◌<◌, ◌≤◌, Bool, true, false, not, nat_eq, nat_le, max, [], length, sum, Option, Some, None, is_some, refl, sym, ap, subst, ◌∙◌, arith}
 use Rattle.std.specs.Prelude.{◌&&◌, ◌||◌}
 use Rattle.std.proofs.lemmas.Bool.{false≢true, and_parts}
 use Rattle.std.proofs.lemmas.Bool.Decides.{nat_tests}
@@ -8,12 +8,11 @@ use Rattle.ring_names.specs.declared.reason.Reason.TheVariants as reason
 use Rattle.credit_flow.specs.Credit.{is_blocked}
 use Rattle.group_view.specs.Ring.{is_in}
 use Rattle.group_view.proofs.Neighbours.{right_of_left}
-use Rattle.ring_world.specs.Refusal.{is_empty}
 use Rattle.ring_world.specs.Member.{is_sent}
 use Rattle.ring_world.specs.declared.numbers.Numbers.{Numbers}
 use Rattle.ring_world.specs.declared.phase.Phase.TheVariants.{Up}
 use Rattle.ring_world.specs.Deaths.View.{ids, is_live}
-use Rattle.ring_world.specs.Deaths.Machine.{World, Link, row_at, numbers_at, member_at, link_at, view_at, newest, ring, left, right, runs, is_kept}
+use Rattle.ring_world.specs.Deaths.Machine.{World, Link, numbers_at, member_at, link_at, view_at, newest, ring, left, right, runs, is_kept}
 use Rattle.ring_world.specs.Deaths.Step.{size, is_owned}
 use Rattle.ring_world.specs.Deaths.OpenLinks.{version_of, comes_from_left, passes, is_current, is_open}
 use Rattle.ring_world.specs.Deaths.Lawful.{row_of}
@@ -31,7 +30,7 @@ use Rattle.ring_cluster.specs.Deaths.Idle.{IsIdle}
 use Rattle.ring_cluster.proofs.Sums.{each_passes}
 use Rattle.ring_cluster.proofs.Quieting.{sent_got, sent_forgot}
 use Rattle.ring_cluster.proofs.Deaths.Sent.{Has}
-use Rattle.ring_cluster.proofs.Deaths.Asked.{IsRefused, refused_by_id, is_refused, later_refused, takes_nothing, none_left, nothing_held, door_is_empty, none_passes}
+use Rattle.ring_cluster.proofs.Deaths.Asked.{IsRefused, refused_by_id, is_refused, later_refused, takes_nothing, none_left, nothing_held, not_ended, door_is_empty, none_passes}
 use Rattle.ring_cluster.proofs.Deaths.Reached.{IsReached}
 
 -- ---- small steps
@@ -41,22 +40,31 @@ some_of : {A : Type 0} (o : Option A) → o ≢ None → (a : A) × (o ≡ Some 
 some_of None h = absurd (h refl)
 some_of (Some a) h = (a, refl)
 
+-- a test that isn't passed fails
 not_true : (b : Bool) → b ≢ true → b ≡ false
 not_true true h = absurd (h refl)
 not_true false h = refl
 
+-- what negates to true is false
 opposite : (b : Bool) → not b ≡ true → b ≡ false
 opposite true k = absurd (false≢true k)
 opposite false k = refl
 
+-- what isn't some is none
+none_is : {A : Type 0} (o : Option A) → is_some o ≡ false → o ≡ None
+none_is None e = refl
+none_is (Some a) e = absurd (false≢true (sym e))
+
+-- two tests that pass
 both : (a b : Bool) → a ≡ true → b ≡ true → (a && b) ≡ true
 both a b e k = rw e k
 
+-- where the first of two fails, the second passes
 or_second : (a b : Bool) → a ≡ false → (a || b) ≡ true → b ≡ true
 or_second true b e h = absurd (false≢true (sym e))
 or_second false b e h = h
 
--- a link that is kept, has credit where it has neither packets nor grants
+-- a link that keeps its credit has some where it has neither packets nor grants
 pub kept_is_free : (credit : CreditSpec) (l : Link) → LinkIsKept credit.initial credit.more l → l.packets ≡ [] → l.flow.grants ≡ [] → is_blocked l.flow.sender ≡ false
 kept_is_free credit l h packets grants =
     let some : 0 < l.flow.sender.credit = omega (arith, h.kept.kept, h.kept.below, h.kept.none h.prompt, credit.covered, ap length packets, ap sum grants) in
@@ -75,25 +83,36 @@ pub record IsTie (w : World) (y o : ℕ) : Type 0 where
   pub sender : (link_at w o).sender ≡ left w (newest w) y
   pub receiver : (link_at w o).receiver ≡ y
 
+-- the link s goes to y, which hasn't taken its end, and is kept up to the newest view
+pub record IsKeptTo (w : World) (y s : ℕ) : Type 0 where
+  pub receiver : (link_at w s).receiver ≡ y
+  pub goes_on : (link_at w s).over ≡ false
+  pub kept : is_kept w (link_at w s) (newest w) ≡ true
+
 -- ---- in a state in which no running member has anything to do
 module _ (w : World) (h : IsReached w) (idle : IsIdle w) where
+  -- what holds of members, links and views
   good : IsGood w
   good = h.fit.good
 
-  -- who runs is up, has an id, and stands live in the newest view
+  -- who runs is up
   pub up_there : (y : ℕ) → runs w y ≡ true → (member_at w y).phase ≡ Up
   up_there y r = up_of w y good.none_waits r
 
+  -- ids count from 1
   pub some_id : (y : ℕ) → runs w y ≡ true → 1 ≤ y
   some_id zero r = absurd (false≢true (sym h.rests ∙ r))
   some_id (suc y) r = omega arith
 
+  -- who runs stands in the newest ring
   pub stands_there : (y : ℕ) → runs w y ≡ true → is_in y (ring w) ≡ true
   stands_there y r = good.inv.is_ring.stands y (newest w) r (good.inv.is_ring.held y) (omega arith)
 
+  -- and is live there
   pub lives_there : (y : ℕ) → runs w y ≡ true → is_live (view_at w (newest w)) y ≡ true
   lives_there y r = good.inv.is_ring.lives y (newest w) r (good.inv.is_ring.held y) (omega arith)
 
+  -- what it is refused, by its id
   refused : (y : ℕ) → runs w y ≡ true → IsRefused w y
   refused y r = refused_by_id w y good (h.fit.named y (some_id y r) (runs_lt w y r)) (up_there y r) (idle y r)
 
@@ -181,27 +200,64 @@ module _ (w : World) (h : IsReached w) (idle : IsIdle w) where
           let out : (member_at w x).out ≡ Some c = kept_is_out y c ry rx (good.inv.current.lt y c ry k) (good.inv.current.receiver y c ry k) (current_is_kept y c ry k) in
           k ∙ sym out ∙ e
 
-  -- a link that is open to y is kept up to the newest view, or is y's current link
-  pub open_is_kept : (y s : ℕ) → runs w y ≡ true → s < length w.links → is_open w y s ≡ true → ((link_at w s).receiver ≡ y) × (is_kept w (link_at w s) (newest w) ≡ true)
+  -- a link that is open to y goes to y, isn't over, and is kept up to the newest view
+  pub open_is_kept : (y s : ℕ) → runs w y ≡ true → s < length w.links → is_open w y s ≡ true → IsKeptTo w y s
   open_is_kept y s ry sl opens = by_current (is_current w y s) refl
     where
       l : Link
       l = link_at w s
 
-      by_current : (b : Bool) → is_current w y s ≡ b → (l.receiver ≡ y) × (is_kept w l (newest w) ≡ true)
-      by_current true e = let c = place_is (member_at w y).current s e in (good.inv.current.receiver y s ry c, current_is_kept y s ry c)
+      by_current : (b : Bool) → is_current w y s ≡ b → IsKeptTo w y s
+      by_current true e =
+          let c = place_is (member_at w y).current s e in
+          record { receiver = good.inv.current.receiver y s ry c; goes_on = (h.fit.ends.takes y s ry c).goes_on; kept = current_is_kept y s ry c }
       by_current false e =
           let door : ((nat_eq l.receiver y && (not (is_current w y s) && not l.over)) && passes w y l) ≡ true = or_second (is_current w y s) ((nat_eq l.receiver y && (not (is_current w y s) && not l.over)) && passes w y l) e opens in
           let a = and_parts (nat_eq l.receiver y && (not (is_current w y s) && not l.over)) (passes w y l) door in
-          let to : l.receiver ≡ y = nat_eq-is l.receiver y (and_parts (nat_eq l.receiver y) (not (is_current w y s) && not l.over) a.0).0 in
-          (to, ap (is_kept w l) (sym (idle y ry).newest) ∙ sym (passes_is w y s good sl to) ∙ a.1)
+          let b = and_parts (nat_eq l.receiver y) (not (is_current w y s) && not l.over) a.0 in
+          let to : l.receiver ≡ y = nat_eq-is l.receiver y b.0 in
+          record {
+            receiver = to;
+            goes_on = opposite l.over (and_parts (not (is_current w y s)) (not l.over) b.1).1;
+            kept = ap (is_kept w l) (sym (idle y ry).newest) ∙ sym (passes_is w y s good sl to) ∙ a.1;
+          }
 
   -- so where the left neighbour runs, no other link is open to y
   pub open_is_current : (y s : ℕ) → runs w y ≡ true → runs w (left w (newest w) y) ≡ true → s < length w.links → is_open w y s ≡ true → (member_at w y).current ≡ Some s
   open_is_current y s ry rx sl opens =
-      let k = open_is_kept y s ry sl opens in
+      let k : IsKeptTo w y s = open_is_kept y s ry sl opens in
       let tie = current_is_out y ry rx in
-      tie.1.current ∙ sym tie.1.out ∙ kept_is_out y s ry rx sl k.0 k.1
+      tie.1.current ∙ sym tie.1.out ∙ kept_is_out y s ry rx sl k.receiver k.kept
+
+  -- where the left neighbour has stopped, y takes from no link
+  pub no_current : (y : ℕ) → runs w y ≡ true → runs w (left w (newest w) y) ≡ false → (member_at w y).current ≡ None
+  no_current y ry rests = by_current (member_at w y).current refl
+    where
+      by_current : (c : Option ℕ) → (member_at w y).current ≡ c → c ≡ None
+      by_current None e = refl
+      by_current (Some s) e =
+          let sl : s < length w.links = good.inv.current.lt y s ry e in
+          let from : left w (newest w) y ≡ (link_at w s).sender = kept_from_left y s sl (good.inv.current.receiver y s ry e) (current_is_kept y s ry e) in
+          let goes : (link_at w s).ending ≡ None = none_is (link_at w s).ending (not_ended (link_at w s) (current_holds_nothing y s ry e)) in
+          absurd (false≢true (sym rests ∙ ap (runs w) from ∙ (h.goes s sl goes).0))
+
+  -- and can pick none
+  pub no_door : (y : ℕ) → runs w y ≡ true → runs w (left w (newest w) y) ≡ false → at_door w y ≡ None
+  no_door y ry rests = nothing_at_door y ry (no_current y ry rests)
+
+  -- so no link is open to y
+  pub none_is_open : (y s : ℕ) → runs w y ≡ true → runs w (left w (newest w) y) ≡ false → s < length w.links → is_open w y s ≡ false
+  none_is_open y s ry rests sl = not_true (is_open w y s) (λ opens.
+      let k : IsKeptTo w y s = open_is_kept y s ry sl opens in
+      false≢true (sym (none_passes w y s sl (no_door y ry rests)) ∙ kept_at_door y s ry sl k.receiver k.goes_on k.kept))
+
+  -- no link that is open to a running member holds anything
+  pub open_holds_nothing : (y s : ℕ) → runs w y ≡ true → s < length w.links → is_open w y s ≡ true → holds_nothing (link_at w s) ≡ true
+  open_holds_nothing y s ry sl opens = by_left (runs w (left w (newest w) y)) refl
+    where
+      by_left : (b : Bool) → runs w (left w (newest w) y) ≡ b → holds_nothing (link_at w s) ≡ true
+      by_left true e = current_holds_nothing y s ry (open_is_current y s ry e sl opens)
+      by_left false e = absurd (false≢true (sym (none_is_open y s ry e sl) ∙ opens))
 
   -- ---- between two that run
 

@@ -1,5 +1,5 @@
 -- What holds in every state of every run, as the idle ring needs it.
-use Rattle.std.proofs.Common.{◌≡◌, ℕ, suc, zero, ◌+◌, ◌-◌, ◌<◌, ◌≤◌, Bool, true, false, cond, nat_eq, List, [], ◌∷◌, length, map, set, Option, Some, None, if◌then◌else◌, refl, sym, ap, subst, ◌∙◌, arith}
+use Rattle.std.proofs.Common.{◌≡◌, ℕ, suc, zero, ◌+◌, ◌-◌, ◌<◌, ◌≤◌, Bool, true, false, cond, nat_eq, List, [], ◌∷◌, length, Option, Some, None, if◌then◌else◌, refl, sym, ap, ◌∙◌, arith}
 use Rattle.std.specs.List.{range_with_len}
 use Rattle.std.proofs.lemmas.Bool.{false≢true}
 use Rattle.std.proofs.lemmas.List.{length-set, length_push}
@@ -14,7 +14,7 @@ use Rattle.ring_world.specs.declared.phase.Ending.{Ending}
 use Rattle.ring_world.specs.declared.phase.Ending.TheVariants.{Moved, Halted}
 use Rattle.ring_world.specs.Deaths.View.{right_of}
 use Rattle.ring_world.specs.Deaths.Machine.{Member, World, no_member, member_at, link_at, view_at, newest, ring, runs, runs_phase}
-use Rattle.ring_world.specs.Deaths.Step.{size, published, taker, stopped, ended, stop_at, end_out, with_current, with_member, with_link, with_view, look_at, moved_to, open_to, opened_link, opening, opening_member}
+use Rattle.ring_world.specs.Deaths.Step.{size, published, taker, stopped, ended, stop_at, end_out, with_current, with_member, with_link, with_view, look_at, moved_to, open_to, opening, opening_member}
 use Rattle.ring_world.specs.Deaths.Event.{send_to, refreshed, refusal, effect, IsRun, last}
 use Rattle.ring_world.proofs.Deaths.Lists.{at_set}
 use Rattle.ring_world.proofs.Deaths.Views.{view_new, ids-marked}
@@ -24,9 +24,11 @@ use Rattle.ring_world.proofs.Deaths.Happens.{IsGood, event_good, opening_good}
 use Rattle.ring_world.proofs.Deaths.LinkCredit.{IsCredited, run_credited}
 use Rattle.gm_member.proofs.Deaths.Fit.{IsFit, reached_fit}
 use Rattle.ring_cluster.proofs.Deaths.Sent.{HasSent, reached_has}
+use Rattle.ring_cluster.proofs.Deaths.Going.{GoOn, reached_goes}
 
 -- ---- nobody runs at id 0
 
+-- no part of an event lets it run
 part_rests : (w w' : World) → Part IsGood w w' → runs w 0 ≡ false → runs w' 0 ≡ false
 part_rests w w' (cast_part x m some lt e) h = ap (λ a. runs a 0) e ∙ at_set (λ k a. runs_phase a.phase ≡ runs w k) w.members x 0 (published x m (member_at w x)) no_member lt refl (λ _. refl) ∙ h
 part_rests w w' (put_part x o lt free e) h = ap (λ a. runs a 0) e ∙ h
@@ -40,6 +42,7 @@ part_rests w w' (still_part k) h = ap runs_phase (k.phase 0) ∙ h
 
 -- ---- the ring has just the ids of its members
 
+-- from 1 on, in their order
 abbrev pub HasEachId : World → Type 0
 HasEachId w = ring w ≡ range_with_len 1 (size w - 1)
 
@@ -47,10 +50,12 @@ HasEachId w = ring w ≡ range_with_len 1 (size w - 1)
 set_ids : (w : World) (x : ℕ) (y : Member) → HasEachId w → HasEachId (with_member w x y)
 set_ids w x y h = h ∙ ap (λ n. range_with_len 1 (n - 1)) (sym (length-set w.members x y))
 
+-- a link ends, or none
 end_ids : (why : Ending) (w : World) (o : Option ℕ) → HasEachId w → HasEachId (end_out why w o)
 end_ids why w None h = h
 end_ids why w (Some o) h = h
 
+-- a link opens where it must
 send_ids : (w : World) (x z : ℕ) (o : Option ℕ) → HasEachId w → HasEachId (send_to w x z o)
 send_ids w x z None h = set_ids w x (record (member_at w x) { out = Some (length w.links) }) h
 send_ids w x z (Some o) h = by_test (nat_eq (link_at w o).receiver z)
@@ -62,6 +67,7 @@ send_ids w x z (Some o) h = by_test (nat_eq (link_at w o).receiver z)
     by_test true = h
     by_test false = set_ids w1 x (record (member_at w x) { out = Some (length w1.links) }) h
 
+-- a refresh
 refreshed_ids : (w : World) (x v : ℕ) → HasEachId w → HasEachId (refreshed w x v)
 refreshed_ids w x v h = send_ids (look_at w x v) x (right_of (view_at w v) x) (member_at w x).out (set_ids w x (moved_to w x v) h)
 
@@ -72,6 +78,7 @@ mark_ids w d g h =
     let more : length w.views ≡ newest (with_view w v) = omega (arith, length_push w.views v) in
     ap (λ a. ids_of a.entries) (view_new w v (newest (with_view w v)) more) ∙ ids-marked (view_at w (newest w)) d ∙ h
 
+-- one event more
 event_ids : (w : World) (e : Event) → IsGood w → HasEachId w → refusal w e ≡ None → HasEachId (effect w e)
 event_ids w e g h r = each_event HasEachId w e g.none_waits (record {
   casts = λ x m lt up. set_ids w x (published x m (member_at w x)) h;
@@ -85,6 +92,7 @@ event_ids w e g h r = each_event HasEachId w e g.none_waits (record {
   picks = λ y s lt up none at upto. set_ids w y (with_current (Some s) (member_at w y)) h;
 }) r
 
+-- every event of a run
 run_ids : (w : World) (es : List Event) → IsGood w → HasEachId w → IsRun w es → HasEachId (last w es)
 run_ids w [] g h r = h
 run_ids w (e ∷ es) g h r = run_ids (effect w e) es (event_good w e g r.0) (event_ids w e g h r.0) r.1
@@ -94,6 +102,7 @@ first_ids : (n : ℕ) (names : List (List ℕ)) → ids_of (opening_entries n na
 first_ids n [] = refl
 first_ids n (name ∷ names) = ap (λ us. n ∷ us) (first_ids (n + 1) names)
 
+-- which are those of its members
 opening_ids : (credit : CreditSpec) (names : List (List ℕ)) → HasEachId (opening credit names)
 opening_ids credit names =
     let many : length names ≡ size (opening credit names) - 1 = omega (arith, length-map-range_with_len (opening_member names) 1 (length names)) in
@@ -117,6 +126,8 @@ pub record IsReached (w : World) : Type 0 where
   -- each link keeps the credit with which it opened
   pub credit : CreditSpec
   pub credited : IsCredited credit.initial credit.more w
+  -- a link that hasn't ended is the one on which its running sender sends
+  pub goes : GoOn w
   pub rests : runs w 0 ≡ false
   pub each_id : HasEachId w
 
@@ -127,6 +138,7 @@ reached credit names es are r = record {
   sent = reached_has credit names es are r;
   credit = credit;
   credited = run_credited credit names es are r;
+  goes = reached_goes credit names es are r;
   rests = run_keeps (λ w. runs w 0 ≡ false) part_rests (opening credit names) es (opening_good credit names are) r refl;
   each_id = run_ids (opening credit names) es (opening_good credit names are) (opening_ids credit names) r;
 }

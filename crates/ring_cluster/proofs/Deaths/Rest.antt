@@ -1,7 +1,7 @@
 -- An idle ring rests where each live entry of the newest view runs and none is dead; and where nobody has stopped, it is quiet.
-use Rattle.std.proofs.Common.{◌≡◌, ◌≢◌, ◌⊎◌, inl, inr, ℕ, zero, suc, ◌+◌, ◌-◌, ◌<◌, ◌≤◌, Bool, true, false, cond, nat_eq, List, [], ◌∷◌, length, get_or, refl, sym, ap, subst, ◌∙◌, arith}
+use Rattle.std.proofs.Common.{◌≡◌, ◌≢◌, inr, ℕ, zero, suc, ◌+◌, ◌-◌, ◌<◌, ◌≤◌, Bool, true, false, cond, nat_eq, List, [], ◌∷◌, length, get_or, refl, sym, ap, subst, ◌∙◌, arith}
 use Rattle.std.specs.Prelude.{All}
-use Rattle.std.specs.List.{filter, range_with_len}
+use Rattle.std.specs.List.{filter}
 use Rattle.std.proofs.lemmas.Bool.{false≢true}
 use Rattle.ring_names.specs.declared.numbers.CreditSpec.{CreditSpec}
 use Rattle.group_view.specs.declared.entry.Entry.{Entry}
@@ -13,23 +13,23 @@ use Rattle.group_view.specs.Change.{AreOpeningNames}
 use Rattle.group_view.proofs.Rings.{nat_eq-is, nat_eq-same, nat_eq-not, sym_test, not_equal_in, distinct_others}
 use Rattle.group_view.proofs.Neighbours.{filter_empty_at, left_gap, IsLeft, itself, other, left_is_left}
 use Rattle.ring_world.specs.declared.event.Event.{Event}
-use Rattle.ring_world.specs.declared.phase.Phase.TheVariants.{Up}
-use Rattle.ring_world.specs.Deaths.View.{ids, is_live, between}
-use Rattle.ring_world.specs.Deaths.Machine.{World, row_at, member_at, link_at, view_at, newest, ring, left, runs, runs_phase}
+use Rattle.ring_world.specs.Deaths.View.{is_live}
+use Rattle.ring_world.specs.Deaths.Machine.{World, view_at, newest, ring, left, runs, runs_phase}
 use Rattle.ring_world.specs.Deaths.Step.{size, log_of, is_owned, opening}
 use Rattle.ring_world.specs.Deaths.Event.{IsRun, last}
 use Rattle.ring_world.specs.Deaths.Lawful.{row_of}
-use Rattle.ring_world.specs.Deaths.Quiet.{IsResting, IsSettled, IsAtRest, IsQuiet}
+use Rattle.ring_world.specs.Deaths.Quiet.{IsSettled, IsAtRest, IsQuiet}
 use Rattle.ring_world.proofs.Good.{low, low_forgot}
 use Rattle.ring_world.proofs.Deaths.Views.{left_is}
 use Rattle.ring_world.proofs.Deaths.Ended.{runs_lt}
 use Rattle.ring_cluster.specs.Deaths.Idle.{IsIdle, NobodyStopped}
 use Rattle.ring_cluster.proofs.Deaths.Round.{round_left}
 use Rattle.ring_cluster.proofs.Deaths.Reached.{IsReached, reached, in_range}
-use Rattle.ring_cluster.proofs.Deaths.Links.{IsEven, up_there, some_id, stands_there, lives_there, current_holds_nothing, open_is_current, neighbours_agree}
+use Rattle.ring_cluster.proofs.Deaths.Links.{IsEven, up_there, some_id, stands_there, lives_there, open_holds_nothing, neighbours_agree}
 
 -- ---- entries
 
+-- the test of a mark
 live_is : (m : Mark) → is_live_mark m ≡ true → m ≡ Live
 live_is Live h = refl
 live_is Dead h = absurd (false≢true h)
@@ -89,6 +89,7 @@ all_settled w h up k d lt = record { not_dead = λ dead. let bad : Live ≡ Dead
 
 -- ---- an idle ring whose entries are settled
 module _ (w : World) (h : IsReached w) (idle : IsIdle w) (settled : All (IsSettled w) (view_at w (newest w)).entries) where
+  -- no id stands twice
   distinct : AreDistinct (ring w)
   distinct = h.fit.good.inv.is_ring.distinct (newest w) (omega arith)
 
@@ -108,6 +109,7 @@ module _ (w : World) (h : IsReached w) (idle : IsIdle w) (settled : All (IsSettl
       by_left (itself e) = (ap (λ q. is_in q (ring w)) e ∙ stands_there w h idle y ry, ap (is_live (view_at w (newest w))) e ∙ lives_there w h idle y ry)
       by_left (other l i) = (i, l)
 
+  -- it runs
   pub left_runs : (y : ℕ) → runs w y ≡ true → runs w (left w (newest w) y) ≡ true
   left_runs y ry = runs_there (left w (newest w) y) (left_lives y ry).1
 
@@ -128,13 +130,14 @@ module _ (w : World) (h : IsReached w) (idle : IsIdle w) (settled : All (IsSettl
       by_test true e = absurd (false≢true (sym (filter_empty_at (is_live (view_at w (newest w))) p (before y (others x (ring w))) gap e) ∙ lp))
       by_test false e = refl
 
-  -- what neighbours have of another
+  -- of another, a member has got what its left neighbour has
   same_got : (p : ℕ) → runs w p ≡ true → (y : ℕ) → is_in y (ring w) ≡ true → is_live (view_at w (newest w)) y ≡ true → y ≢ p → (row_of w y p).got ≡ (row_of w (left_in (is_live (view_at w (newest w))) y (ring w)) p).got
   same_got p rp y iy ly ne =
       let ry : runs w y ≡ true = runs_there y ly in
       let even : IsEven w y p = neighbours_agree w h idle y p ry (left_runs y ry) (runs_lt w p rp) in
       subst (λ b. low b (row_of w y p) ≡ (row_of w (left w (newest w) y) p).got) (not_answered y p ry (lives_there w h idle p rp) ne) even.got ∙ ap (λ q. (row_of w q p).got) (left_in_is y)
 
+  -- and of what was forgotten
   same_forgot : (p : ℕ) → runs w p ≡ true → (y : ℕ) → is_in y (ring w) ≡ true → is_live (view_at w (newest w)) y ≡ true → y ≢ p → (row_of w y p).forgot ≡ (row_of w (left_in (is_live (view_at w (newest w))) y (ring w)) p).forgot
   same_forgot p rp y iy ly ne =
       let ry : runs w y ≡ true = runs_there y ly in
@@ -164,7 +167,7 @@ module _ (w : World) (h : IsReached w) (idle : IsIdle w) (settled : All (IsSettl
       up = up_there w h idle y ry;
       newest = (idle y ry).newest;
       come_round = all_come_round y ry;
-      empty = λ s sl opens. current_holds_nothing w h idle y s ry (open_is_current w h idle y s ry (left_runs y ry) sl opens);
+      empty = λ s sl opens. open_holds_nothing w h idle y s ry sl opens;
     };
     entries = settled;
   }

@@ -1,10 +1,10 @@
 -- What each live member of a ring has as its left neighbour has it, all have as the one where it begins.
-use Rattle.std.proofs.Common.{◌≡◌, ◌≢◌, ℕ, zero, suc, ◌+◌, ◌<◌, ◌≤◌, Bool, true, false, cond, nat_eq, List, [], ◌∷◌, ◌++◌, length, refl, sym, ap, subst, ◌∙◌, ⊎_elim, arith}
+use Rattle.std.proofs.Common.{◌≡◌, ◌≢◌, ℕ, zero, suc, ◌<◌, Bool, true, false, cond, nat_eq, List, [], ◌∷◌, ◌++◌, length, refl, sym, ap, subst, ◌∙◌, ⊎_elim, arith}
 use Rattle.std.specs.List.{filter}
 use Rattle.std.proofs.lemmas.Bool.{false≢true, cases_eq}
 use Rattle.std.proofs.lemmas.List.Elements.{filter-append}
-use Rattle.group_view.specs.Ring.{is_in, AreDistinct, before, after, others, rotated, last_or, left_in}
-use Rattle.group_view.proofs.Rings.{nat_eq-is, nat_eq-not, sym_test, split_at, before_in, in_before, others-rotated, is_in-rotated, rotated_is, distinct_first, distinct_others}
+use Rattle.group_view.specs.Ring.{is_in, AreDistinct, before, after, others, last_or, left_in}
+use Rattle.group_view.proofs.Rings.{nat_eq-not, sym_test, split_at, before_in, in_before, others-rotated, is_in-rotated, rotated_is, distinct_first, distinct_others}
 use Rattle.group_view.proofs.Neighbours.{IsLast, none, one, is_last, last_or-append}
 
 -- fewer stand before an element than in the list

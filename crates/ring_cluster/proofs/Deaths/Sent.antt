@@ -1,7 +1,7 @@
 -- What was last sent over a current link that holds no packet, its receiver has.
-use Rattle.std.proofs.Common.{◌≡◌, ◌≢◌, ℕ, ◌+◌, ◌<◌, ◌≤◌, Bool, true, false, cond, not, nat_eq, List, [], ◌∷◌, ◌++◌, length, drop, get_or, set, Option, Some, None, is_some, refl, sym, ap, subst, ◌∙◌, ⊎_elim, if◌then◌else◌, arith}
+use Rattle.std.proofs.Common.{◌≡◌, ◌≢◌, ℕ, ◌+◌, ◌<◌, ◌≤◌, Bool, true, false, not, nat_eq, List, [], ◌∷◌, ◌++◌, length, drop, get_or, set, Option, Some, None, is_some, refl, sym, ap, subst, ◌∙◌, ⊎_elim, if◌then◌else◌, arith}
 use Rattle.std.proofs.lemmas.Bool.{and_parts, false≢true, cases_eq}
-use Rattle.std.proofs.lemmas.List.{length-set, length_push, get_or-set_other}
+use Rattle.std.proofs.lemmas.List.{length-set, get_or-set_other}
 use Rattle.std.proofs.lemmas.List.Quantifiers.{position-Some}
 use Rattle.ring_names.specs.declared.message.Message.{Message}
 use Rattle.ring_names.specs.declared.numbers.CreditSpec.{CreditSpec}
@@ -50,6 +50,7 @@ HasSent w = (y s p : ℕ) → runs w y ≡ true → (member_at w y).current ≡ 
 abbrev pub StillHas : World → World → Type 0
 StillHas w w' = (y z p : ℕ) (k : Numbers) → Has (is_owned (view_at w (member_at w y).version) y z p) (row_at (member_at w y) p) k → Has (is_owned (view_at w (member_at w y).version) y z p) (row_at (member_at w' y) p) k
 
+-- such a step keeps it
 still_has : (w w' : World) → Still w w' → StillHas w w' → HasSent w → HasSent w'
 still_has w w' k rows h y s p r e l empty =
     let old : Has (is_owned (view_at w (member_at w y).version) y (link_at w s).sender p) (row_at (member_at w y) p) (numbers_at (link_at w s).sending.sent p) =
@@ -94,6 +95,7 @@ not_nothing : (ks : List Packet) (k : Packet) → ks ++ k ∷ [] ≢ []
 not_nothing [] k e = cc
 not_nothing (j ∷ ks) k e = cc
 
+-- a put
 put_has : (w : World) (x o : ℕ) → o < length w.links → HasSent w → HasSent (put_on w x o)
 put_has w x o lt h y s p r e l empty =
     let new : Link = pushed (link_at w o) (next_packet (member_at w x) (link_at w o).sending) in
@@ -111,6 +113,7 @@ taken_has : (own : Bool) (log : List Message) (r : Row) (k : Numbers) → Has ow
 taken_has true log r k = record { got = refl; forgot = refl }
 taken_has false log r k = record { got = refl; forgot = refl }
 
+-- a take
 take_has : (w : World) (y s : ℕ) → MayTake w y s → Inv w → LinesRight w → HasSent w → HasSent (take_from w y s)
 take_has w y s m inv lines h z t p r e l empty =
     let pl : p < size w = omega (arith, length-set w.members y (taker w y s)) in
@@ -221,6 +224,7 @@ open_has w x z lt within h = still_has w1 (open_to w x z) (out_still w x z lt) (
         at_push (λ i a. i < length w.links → a.packets ≡ [] → Has (is_owned (view_at w (member_at w y).version) y a.sender p) (row_at (member_at w y) p) (numbers_at a.sending.sent p)) w.links s new no_link (omega arith)
         (λ bad _. absurd (omega arith)) (λ _ _ none. h y s p r e l none) sl
 
+-- a whole refresh
 refresh_has : (w : World) (x v : ℕ) → x < size w → runs w x ≡ true → (member_at w x).version ≤ v → ids (view_at w v) ≡ ids (view_at w (member_at w x).version) → Inv w → HasSent w → HasSent (refreshed w x v)
 refresh_has w x v lt rx later same inv h = by_out (member_at w x).out refl
   where
@@ -280,6 +284,7 @@ event_has w e g lines h r = each_event HasSent w e g.none_waits (record {
   picks = λ y s lt up none door upto. pick_has w y s lt (ap runs_phase up) none door ((door_pickable w y s lt up door upto g).kept_yet s refl) lines h;
 }) r
 
+-- every event of a run
 run_has : (w : World) (es : List Event) → IsGood w → LinesRight w → HasSent w → IsRun w es → HasSent (last w es)
 run_has w [] g lines h r = h
 run_has w (e ∷ es) g lines h r = run_has (effect w e) es (event_good w e g r.0) (event_lines w e g lines r.0) (event_has w e g lines h r.0) r.1
