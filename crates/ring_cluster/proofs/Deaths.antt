@@ -6,3 +6,4 @@ pub mod Asked
 pub mod Reached
 pub mod Links
 pub mod Rest
+pub mod Examples

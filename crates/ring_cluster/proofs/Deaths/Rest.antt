@@ -23,7 +23,7 @@ use Rattle.ring_world.proofs.Good.{low, low_forgot}
 use Rattle.ring_world.proofs.Deaths.Views.{left_is}
 use Rattle.ring_world.proofs.Deaths.Ended.{runs_lt}
 use Rattle.ring_cluster.specs.Deaths.Idle.{IsIdle, NobodyStopped}
-use Rattle.ring_cluster.proofs.Deaths.Round.{round_left}
+use Rattle.ring_cluster.proofs.Deaths.Round.{round_same}
 use Rattle.ring_cluster.proofs.Deaths.Reached.{IsReached, reached, in_range}
 use Rattle.ring_cluster.proofs.Deaths.Links.{IsEven, up_there, some_id, stands_there, lives_there, open_holds_nothing, neighbours_agree}
 
@@ -152,8 +152,8 @@ module _ (w : World) (h : IsReached w) (idle : IsIdle w) (settled : All (IsSettl
       let ip : is_in p (ring w) ≡ true = stands_there w h idle p rp in
       let lp : is_live v p ≡ true = lives_there w h idle p rp in
       let there = left_lives p rp in
-      let got : (row_of w x p).got ≡ (row_of w p p).got = round_left (is_live v) p (ring w) distinct ip lp (λ k. (row_of w k p).got) (same_got p rp) x there.0 there.1 in
-      let forgot : (row_of w x p).forgot ≡ (row_of w p p).forgot = round_left (is_live v) p (ring w) distinct ip lp (λ k. (row_of w k p).forgot) (same_forgot p rp) x there.0 there.1 in
+      let got : (row_of w x p).got ≡ (row_of w p p).got = round_same (is_live v) p (ring w) (λ k. (row_of w k p).got) distinct ip lp (same_got p rp) x there.0 there.1 in
+      let forgot : (row_of w x p).forgot ≡ (row_of w p p).forgot = round_same (is_live v) p (ring w) (λ k. (row_of w k p).forgot) distinct ip lp (same_forgot p rp) x there.0 there.1 in
       let even : IsEven w p p = neighbours_agree w h idle p p rp (left_runs p rp) (runs_lt w p rp) in
       let own : is_owned v p x p ≡ true = rw (nat_eq-same p) refl in
       let once : (row_of w p p).forgot ≡ (row_of w x p).got = subst (λ b. low b (row_of w p p) ≡ (row_of w x p).got) own even.got in

@@ -1,4 +1,4 @@
--- What each live member of a ring has as its left neighbour has it, all have as the one where it begins.
+-- What each live member of a ring has where its left neighbour has it, all live ones have once one has it.
 use Rattle.std.proofs.Common.{◌≡◌, ◌≢◌, ℕ, zero, suc, ◌<◌, Bool, true, false, cond, nat_eq, List, [], ◌∷◌, ◌++◌, length, refl, sym, ap, subst, ◌∙◌, ⊎_elim, arith}
 use Rattle.std.specs.List.{filter}
 use Rattle.std.proofs.lemmas.Bool.{false≢true, cases_eq}
@@ -26,7 +26,7 @@ left_before live p y xs d ip lp iy ne =
     ∙ ap (last_or y) (filter-append live (after y t) (p ∷ before y t))
     ∙ rw lp (last_or-append y (filter live (after y t)) (p ∷ filter live (before y t)))
 
-module _ (live : ℕ → Bool) (p : ℕ) (xs : List ℕ) (d : AreDistinct xs) (ip : is_in p xs ≡ true) (lp : live p ≡ true) (f : ℕ → ℕ) (same : (y : ℕ) → is_in y xs ≡ true → live y ≡ true → y ≢ p → f y ≡ f (left_in live y xs)) where
+module _ (live : ℕ → Bool) (p : ℕ) (xs : List ℕ) (d : AreDistinct xs) (ip : is_in p xs ≡ true) (lp : live p ≡ true) (P : ℕ → Type 0) (begins : P p) (goes_on : (y : ℕ) → is_in y xs ≡ true → live y ≡ true → y ≢ p → P (left_in live y xs) → P y) where
   -- who stands among the others, and is another
   among : (y : ℕ) → is_in y xs ≡ true → y ≢ p → is_in y (others p xs) ≡ true
   among y iy ne =
@@ -34,12 +34,12 @@ module _ (live : ℕ → Bool) (p : ℕ) (xs : List ℕ) (d : AreDistinct xs) (i
       sym (rw differs refl) ∙ ap (is_in y) (sym (rotated_is p xs ip)) ∙ is_in-rotated y p xs ∙ iy
 
   -- one step to the left, with what is known of all that stand nearer
-  step : (n y : ℕ) → length (before y (others p xs)) < suc n → is_in y xs ≡ true → live y ≡ true → y ≢ p → ((x : ℕ) → length (before x (others p xs)) < n → is_in x xs ≡ true → live x ≡ true → f x ≡ f p) → f y ≡ f p
+  step : (n y : ℕ) → length (before y (others p xs)) < suc n → is_in y xs ≡ true → live y ≡ true → y ≢ p → ((x : ℕ) → length (before x (others p xs)) < n → is_in x xs ≡ true → live x ≡ true → P x) → P y
   step n y few iy ly ne ih =
       let it : is_in y t ≡ true = among y iy ne in
       let split : t ≡ before y t ++ y ∷ after y t = split_at y t it in
       let dt : AreDistinct (before y t) = distinct_first (before y t) (y ∷ after y t) (subst AreDistinct split (distinct_others p xs d ip)) in
-      same y iy ly ne ∙ by_last split (is_last live p x (before y t) dt (sym (left_before live p y xs d ip lp iy ne)))
+      goes_on y iy ly ne (by_last split (is_last live p x (before y t) dt (sym (left_before live p y xs d ip lp iy ne))))
     where
       t : List ℕ
       t = others p xs
@@ -51,8 +51,8 @@ module _ (live : ℕ → Bool) (p : ℕ) (xs : List ℕ) (d : AreDistinct xs) (i
       later true k = refl
       later false k = k
 
-      by_last : t ≡ before y t ++ y ∷ after y t → IsLast live p x (before y t) → f x ≡ f p
-      by_last split (none n2 is) = ap f is
+      by_last : t ≡ before y t ++ y ∷ after y t → IsLast live p x (before y t) → P x
+      by_last split (none n2 is) = subst P (sym is) begins
       by_last split (one i lx n2) =
           let ix : is_in x t ≡ true = in_before x y t i in
           let inside : is_in x xs ≡ true = sym (is_in-rotated x p xs) ∙ ap (is_in x) (rotated_is p xs ip) ∙ later (nat_eq x p) ix in
@@ -61,10 +61,14 @@ module _ (live : ℕ → Bool) (p : ℕ) (xs : List ℕ) (d : AreDistinct xs) (i
           ih x (omega (arith, ap length part)) inside lx
 
   -- by how many stand before it
-  go : (n y : ℕ) → length (before y (others p xs)) < n → is_in y xs ≡ true → live y ≡ true → f y ≡ f p
+  go : (n y : ℕ) → length (before y (others p xs)) < n → is_in y xs ≡ true → live y ≡ true → P y
   go zero y few iy ly = absurd (omega arith)
-  go (suc n) y few iy ly = ⊎_elim (λ (e : y ≡ p). ap f e) (λ (ne : y ≢ p). step n y few iy ly ne (λ x l ix lx. go n x l ix lx)) (cases_eq y p)
+  go (suc n) y few iy ly = ⊎_elim (λ (e : y ≡ p). subst P (sym e) begins) (λ (ne : y ≢ p). step n y few iy ly ne (λ x l ix lx. go n x l ix lx)) (cases_eq y p)
 
-  -- so all have it
-  pub round_left : (y : ℕ) → is_in y xs ≡ true → live y ≡ true → f y ≡ f p
-  round_left y iy ly = go (suc (length (before y (others p xs)))) y (omega arith) iy ly
+  -- so each live one has it
+  pub round : (y : ℕ) → is_in y xs ≡ true → live y ≡ true → P y
+  round y iy ly = go (suc (length (before y (others p xs)))) y (omega arith) iy ly
+
+-- so what is the same at each live one and its left neighbour, but at p, is the same at all
+pub round_same : (live : ℕ → Bool) (p : ℕ) (xs : List ℕ) (f : ℕ → ℕ) → AreDistinct xs → is_in p xs ≡ true → live p ≡ true → ((y : ℕ) → is_in y xs ≡ true → live y ≡ true → y ≢ p → f y ≡ f (left_in live y xs)) → (y : ℕ) → is_in y xs ≡ true → live y ≡ true → f y ≡ f p
+round_same live p xs f d ip lp same y iy ly = round live p xs d ip lp (λ k. f k ≡ f p) refl (λ k ik lk ne e. same k ik lk ne ∙ e) y iy ly
