@@ -7,3 +7,4 @@ pub mod Reached
 pub mod Links
 pub mod Rest
 pub mod Examples
+pub mod Marks

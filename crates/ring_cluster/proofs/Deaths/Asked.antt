@@ -27,7 +27,7 @@ later_refused true r later e h = absurd (false≢true (sym e))
 later_refused false r later e h = h
 
 -- of a member that is found
-found_refused : (o : Option ℕ) (x : ℕ) (later : ℕ → Option Reason) → o ≡ Some x → of_member o later ≢ None → later x ≢ None
+pub found_refused : (o : Option ℕ) (x : ℕ) (later : ℕ → Option Reason) → o ≡ Some x → of_member o later ≢ None → later x ≢ None
 found_refused o x later e h = subst (λ k. of_member k later ≢ None) e h
 
 -- of one that is up
@@ -35,7 +35,7 @@ running_refused : (w : World) (x : ℕ) (later : Option Reason) → (member_at w
 running_refused w x later up h = later_refused (is_stopped (member_at w x).phase) reason.Stopped later (ap is_stopped up) h
 
 -- where it must not wait either
-up_refused : (w : World) (x : ℕ) (later : Option Reason) → IsGood w → (member_at w x).phase ≡ Up → up_refusal w x later ≢ None → later ≢ None
+pub up_refused : (w : World) (x : ℕ) (later : Option Reason) → IsGood w → (member_at w x).phase ≡ Up → up_refusal w x later ≢ None → later ≢ None
 up_refused w x later g up h = later_refused _ reason.Waiting later (g.none_waits x) (running_refused w x _ up h)
 
 -- of a link that is there

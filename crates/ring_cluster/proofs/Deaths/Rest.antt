@@ -48,7 +48,7 @@ settled_runs w (e ∷ es) z h l = by_test (nat_eq e.id.0 z) refl l (λ k. settle
     by_test false t k ih = ih k
 
 -- an entry's id is among the ids
-id_in : (es : List Entry) (k : ℕ) (d : Entry) → k < length es → is_in (get_or es k d).id.0 (ids_of es) ≡ true
+pub id_in : (es : List Entry) (k : ℕ) (d : Entry) → k < length es → is_in (get_or es k d).id.0 (ids_of es) ≡ true
 id_in [] k d l = absurd (omega arith)
 id_in (e ∷ es) zero d l = rw (nat_eq-same e.id.0) refl
 id_in (e ∷ es) (suc k) d l = later (nat_eq (get_or es k d).id.0 e.id.0) (id_in es k d (omega arith))
@@ -58,7 +58,7 @@ id_in (e ∷ es) (suc k) d l = later (nat_eq (get_or es k d).id.0 e.id.0) (id_in
     later false j = j
 
 -- and the entry of that id
-entry_at : (es : List Entry) (k : ℕ) (d : Entry) → AreDistinct (ids_of es) → k < length es → entry_in es (get_or es k d).id.0 ≡ get_or es k d
+pub entry_at : (es : List Entry) (k : ℕ) (d : Entry) → AreDistinct (ids_of es) → k < length es → entry_in es (get_or es k d).id.0 ≡ get_or es k d
 entry_at [] k d dx l = absurd (omega arith)
 entry_at (e ∷ es) zero d dx l = rw (nat_eq-same e.id.0) refl
 entry_at (e ∷ es) (suc k) d dx l =

@@ -1,8 +1,8 @@
 -- When the members of a ring whose members may stop have nothing to do.
 use Rattle.std.specs.Prelude.{◌≡◌, ◌≢◌, ℕ, ◌<◌, ◌≤◌, true, None}
 use Rattle.ring_world.specs.declared.phase.Phase.TheVariants.{Up}
-use Rattle.ring_world.specs.declared.event.Event.TheVariants.{Pick, Take, TakeEnd, Gain, Put}
-use Rattle.ring_world.specs.Deaths.Machine.{World, member_at, newest as the_newest, runs}
+use Rattle.ring_world.specs.declared.event.Event.TheVariants.{Pick, Take, TakeEnd, Gain, Put, Mark}
+use Rattle.ring_world.specs.Deaths.Machine.{World, member_at, newest as the_newest, right, runs}
 use Rattle.ring_world.specs.Deaths.Step.{size}
 use Rattle.ring_world.specs.Deaths.Event.{refusal}
 
@@ -24,3 +24,7 @@ IsIdle w = (y : ℕ) → runs w y ≡ true → HasNothingToDo w y
 -- every member is up
 abbrev pub NobodyStopped : World → Type 0
 NobodyStopped w = (x : ℕ) → 1 ≤ x → x < size w → (member_at w x).phase ≡ Up
+
+-- no running member can have its right neighbour marked dead
+abbrev pub MarksNobody : World → Type 0
+MarksNobody w = (x : ℕ) → runs w x ≡ true → refusal w (Mark (member_at w x).name (member_at w (right w (the_newest w) x)).name) ≢ None
