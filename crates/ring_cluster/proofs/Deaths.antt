@@ -1,4 +1,4 @@
--- The cluster of a ring whose members may stop.
+-- The ring whose members may stop.
 pub mod Sums
 pub mod Parts
 pub mod Falls
@@ -8,3 +8,12 @@ pub mod Places
 pub mod RefreshFalls
 pub mod MarkFalls
 pub mod Examples
+pub mod Sent
+pub mod Going
+pub mod Round
+pub mod Asked
+pub mod Reached
+pub mod Links
+pub mod Rest
+pub mod Marks
+pub mod IdleExamples

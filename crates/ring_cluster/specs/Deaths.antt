@@ -1,2 +1,3 @@
--- The cluster of a ring whose members may stop.
+-- The ring whose members may stop.
 pub mod Work
+pub mod Idle
