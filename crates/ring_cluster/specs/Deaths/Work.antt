@@ -1,14 +1,16 @@
 -- How much a ring whose members may stop still has to do, as one number, which each step of repair makes less.
-use Rattle.std.specs.Prelude.{ℕ, ◌+◌, ◌-◌, ◌*◌, Bool, if◌then◌else◌, ◌&&◌, not, nat_eq, length, is_some, Option, Some, None}
+use Rattle.std.specs.Prelude.{ℕ, ◌+◌, ◌-◌, ◌*◌, ◌≡◌, ◌<◌, ◌≤◌, Bool, true, if◌then◌else◌, ◌&&◌, not, nat_eq, length, List, is_some, Option, Some, None}
 use Rattle.std.specs.List.{sum_by}
 use Rattle.group_view.specs.declared.entry.Entry.{Entry}
 use Rattle.group_view.specs.declared.entry.Mark.{Mark}
 use Rattle.group_view.specs.declared.entry.Mark.TheVariants.{Live, Dead, Erased}
+use Rattle.ring_world.specs.declared.event.Event.{Event}
+use Rattle.ring_world.specs.declared.event.Event.TheVariants.{Refresh}
 use Rattle.ring_world.specs.Deaths.Machine.{Member, Link, World, member_at, link_at, view_at, newest}
 use Rattle.ring_world.specs.Deaths.OpenLinks.{passes, is_current}
 use Rattle.ring_world.specs.Deaths.Step.{size, log_of}
 use Rattle.ring_world.specs.Deaths.Lawful.{row_of}
-use Rattle.ring_world.specs.Deaths.Event.{has_nothing_new}
+use Rattle.ring_world.specs.Deaths.Event.{has_nothing_new, refusal, effect}
 use Rattle.ring_cluster.specs.Work.{sum_below}
 
 -- ---- the entries of the newest view
@@ -100,3 +102,17 @@ on_links w = sum_below (length w.links) (weight_at w)
 -- most 64 members.
 abbrev pub work : World → ℕ
 work w = 585 * marks_left w + 9 * stale w + (3 * dirty w + 3 * lag w + on_links w)
+
+-- ---- what leaves less of it
+
+-- an event leaves less to do, where it is enabled
+abbrev pub LeavesLess : World → Event → Type 0
+LeavesLess w e = refusal w e ≡ None → work (effect w e) < work w
+
+-- so does the event of each member
+abbrev pub EachLeavesLess : World → (List ℕ → Event) → Type 0
+EachLeavesLess w e = (x : ℕ) → 1 ≤ x → x < size w → LeavesLess w (e (member_at w x).name)
+
+-- so does the refresh of each stale member to the newest view
+abbrev pub EachRefreshLeavesLess : World → Type 0
+EachRefreshLeavesLess w = (x : ℕ) → 1 ≤ x → x < size w → is_stale (newest w) (member_at w x) ≡ true → LeavesLess w (Refresh (member_at w x).name (newest w))
