@@ -15,3 +15,4 @@ pub mod Playing
 pub mod Going
 pub mod Turning
 pub mod Holding
+pub mod Deaths

@@ -9,3 +9,4 @@ pub mod Plays
 pub mod Kept
 pub mod Holds
 pub mod Turns
+pub mod Deaths

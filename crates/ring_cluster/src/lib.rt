@@ -1,7 +1,7 @@
 //! The cluster: the members of a ring over plain pairs, the journal of what has happened among them, and a
 //! driver that gives each member its turns until nothing is left to do.
 //! Begin at `Cluster`, at specs/Seen.antt for what is seen of one, and at specs/Work.antt for how much a ring
-//! still has to do.
+//! still has to do, with deaths at specs/Deaths/Work.antt.
 #![tactic(auto)]
 
 mod acting;
@@ -18,5 +18,8 @@ mod tests;
 
 pub use agenda::{Agenda, Task};
 pub use cluster::Cluster;
-pub use laws::an_idle_ring_is_quiet;
+pub use laws::{
+    an_idle_ring_is_quiet, an_idle_ring_with_deaths_is_at_rest,
+    each_step_of_repair_leaves_less_to_do,
+};
 pub use node::Node;

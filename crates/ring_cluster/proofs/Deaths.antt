@@ -1,0 +1,19 @@
+-- The ring whose members may stop.
+pub mod Sums
+pub mod Parts
+pub mod Falls
+pub mod Moves
+pub mod TakeFalls
+pub mod Places
+pub mod RefreshFalls
+pub mod MarkFalls
+pub mod Examples
+pub mod Sent
+pub mod Going
+pub mod Round
+pub mod Asked
+pub mod Reached
+pub mod Links
+pub mod Rest
+pub mod Marks
+pub mod IdleExamples

@@ -1,0 +1,3 @@
+-- The ring whose members may stop.
+pub mod Work
+pub mod Idle
