@@ -3,6 +3,7 @@
 //! module takes the place of the crate's own once a cluster drives it.
 
 mod door;
+mod ends;
 mod links;
 mod member;
 pub(crate) mod rows;

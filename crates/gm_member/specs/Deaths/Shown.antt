@@ -1,5 +1,6 @@
 -- What a member of a ring whose members may stop shows, and what its calls do to its ends.
-use Rattle.std.specs.Prelude.{◌≡◌, ◌⊎◌, ◌+◌, ◌<◌, ◌≤◌, vec_len, vec_capacity, ◌++◌, ◌∷◌, [], ℕ, Bool, true, false, not, List, length, map, ⊤, Option, Some, None, option_map, slice_index_or, IsSome, MatchOption}
+use Rattle.std.specs.List.{slice_get}
+use Rattle.std.specs.Prelude.{◌≡◌, ◌-◌, nat_eq, if◌then◌else◌, ◌⊎◌, ◌+◌, ◌<◌, ◌≤◌, vec_len, vec_capacity, ◌++◌, ◌∷◌, [], ℕ, Bool, true, false, not, List, length, map, ⊤, Option, Some, None, option_map, slice_index_or, slice_set, is_some, nat_lt, IsSome, MatchOption}
 use Rattle.credit_flow.specs.Credit.{grant_due}
 use Rattle.ordered_link.specs.declared.item.EndReason.{EndReason}
 use Rattle.ordered_link.specs.declared.item.EndReason.TheVariants.{Moved}
@@ -63,6 +64,23 @@ module _ {O I : Type 0} where
 -- the name of the link on which a member sends
 abbrev pub out_name_of : Held → Option LinkName
 out_name_of h = option_map (λ o. ring_link h.id o.to o.opened) h.out
+
+-- the name of a link to it, at the place of the one from which it takes, or of one at its door
+abbrev pub in_name_of : Held → ℕ → Option LinkName
+in_name_of h place = option_map (λ l. ring_link l.from h.id l.opened) (if nat_eq place 0 then h.current else slice_get h.door (place - 1))
+
+-- whether such a link is there
+abbrev pub has_in : Held → ℕ → Bool
+has_in h place = if nat_eq place 0 then is_some h.current else nat_lt (place - 1) (length h.door)
+
+module _ {O I : Type 0} where
+  -- the end of a link at such a place
+  abbrev pub in_end : Ends O I → ℕ → Option I
+  in_end e place = if nat_eq place 0 then e.link else slice_index_or e.door (place - 1) None
+
+  -- the ends with another one there
+  abbrev pub with_in : Ends O I → ℕ → Option I → Ends O I
+  with_in e place end = if nat_eq place 0 then record e { link = end } else record e { door = slice_set e.door (place - 1) end }
 
 -- P where a test passes, and nothing where it doesn't
 abbrev pub When : Bool → Type 0 → Type 0
