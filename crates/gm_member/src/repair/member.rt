@@ -54,12 +54,19 @@ impl<O: LinkPair<Load, In = I>, I: LinkIn<Load> + Drop> Member<O, I> {
     ghost use Rattle.std.specs.Prelude.{◌≡◌, ◌⊎◌, ◌+◌, ◌-◌, ◌<◌, ◌≤◌, ℕ, ◌∷◌, [], OnOk, OnErr, IfOk, IfErr, IfSome, IfNone, IsErrOf, IsSome, None, Some, Ok, Err, length, false, true, Option, MatchOption, ⊤, ◌++◌};
     ghost use Rattle.ring_names.specs.declared.reason.Reason.{Reason};
     ghost use Rattle.ring_world.specs.World.{most_members};
+    ghost use Rattle.ring_world.specs.declared.event.Event.TheVariants.{Put, Take, TakeEnd, Gain, Stop, Pick, Refresh};
+    ghost use Rattle.ring_world.specs.Deaths.Machine.{member_at, view_at, newest};
+    ghost use Rattle.ring_world.specs.Deaths.Step.{log_of};
+    ghost use Rattle.ring_world.specs.Deaths.Event.{refusal};
+    ghost use Rattle.ring_world.specs.Deaths.View.{right_of};
     ghost use Rattle.ring_world.specs.Deaths.View.{ids};
     ghost use Rattle.group_view.specs.Ring.{is_in};
     ghost use Rattle.gm_member.specs.Held.{Parcel};
     ghost use Rattle.gm_member.specs.Deaths.View.{ring_link, left_end, kept_link, left_current};
     ghost use Rattle.gm_member.specs.Deaths.Ends.{IsPutFault, IsTakeFault, IsEndRefusal};
     ghost use Rattle.gm_member.specs.Deaths.Held.{founded, known_at, active_refused, up_refused, published_held, put_refused, put_held, take_refused, took_held, ended_held, stopped_held, gain_refused, gained_held, kept_in, looked_held, sends_to as sends_to_it, first_out, refresh_refused, refreshed_held, first_at_door as the_first_at_door, pick_refused, picked_held, picked_at};
+    ghost use Rattle.gm_member.specs.Deaths.Held.{Outgoing, parcel_on};
+    ghost use Rattle.gm_member.specs.Deaths.Stands.{WhereItStands, StepsTo, publishing, IsPutPacket, IsNextPacket, IsNextGrant, IsNextEnd, taken_in};
     ghost use Rattle.gm_member.specs.Deaths.News.{news_of};
     ghost use Rattle.gm_member.specs.Deaths.Shown.{Ends, held_of, ends_of, out_name_of, OutIsReady, InIsReady, PutsOn, LooksOut, LooksIn, TookOn, LeavesOn, EndsOn, KeepsGrant, NoGrantBack, GrantIsBack, LooksBy, MovesOn, IsReadyToMove, SendsOn, MovesTo, PicksOn};
 
@@ -208,6 +215,35 @@ impl<O: LinkPair<Load, In = I>, I: LinkIn<Load> + Drop> Member<O, I> {
         ensures memory { IfErr result (λ e. e.1 ≡ MemberFault.OutOfMemory → up_refused (held_of self.old) None ≡ None) }
         ensures err { OnErr result (held_of self.new ≡ held_of self.old) }
         ensures ends { ends_of self.new ≡ ends_of self.old }
+
+        // Wherever the member stands in a state of a run, this is the ring's event.
+        ensures steps { OnOk result (WhereItStands (held_of self.old) (λ w x.
+            StepsTo w x (publishing (held_of self.old).name message) (held_of self.new))) }
+        ensures logged { IfOk result (λ n.
+            WhereItStands (held_of self.old) (λ w x. n ≡ length (log_of w x) + 1)) }
+        ensures not_enabled { WhereItStands (held_of self.old) (λ w x. (r : Reason)
+            → refusal w (publishing (held_of self.old).name message) ≡ Some r
+            → result ≡ Err (message, MemberFault.Refused r)) }
+    {
+        match self.log(message) {
+            Ok(number) => Ok(number),
+            Err(fault) => Err(fault),
+        }
+    }
+
+    /// The member's own part of `publish`.
+    fn log(&mut self, message: Message) -> Result<u64, (Message, MemberFault)>
+        ensures enabled { OnOk result (up_refused (held_of self.old) None ≡ None) }
+        ensures ok { OnOk result (held_of self.new ≡ published_held (held_of self.old) message) }
+        ensures number { IfOk result (λ n.
+            n ≡ (known_at (held_of self.old).rows ((held_of self.old).id - 1)).got + 1) }
+        ensures refused { (r : Reason) → up_refused (held_of self.old) None ≡ Some r
+            → result ≡ Err (message, MemberFault.Refused r) }
+        ensures fault { IfErr result (λ e. (e.0 ≡ message) × ((e.1 ≡ MemberFault.OutOfMemory)
+            ⊎ (r : Reason) × (e.1 ≡ MemberFault.Refused r) × (up_refused (held_of self.old) None ≡ Some r))) }
+        ensures memory { IfErr result (λ e. e.1 ≡ MemberFault.OutOfMemory → up_refused (held_of self.old) None ≡ None) }
+        ensures err { OnErr result (held_of self.new ≡ held_of self.old) }
+        ensures ends { ends_of self.new ≡ ends_of self.old }
     {
         if let Some(reason) = self.up_refusal() {
             return Err((message, MemberFault::Refused(reason)));
@@ -245,6 +281,32 @@ impl<O: LinkPair<Load, In = I>, I: LinkIn<Load> + Drop> Member<O, I> {
         }
     }
 
+    /// Lends the end of the link from which the member takes: none where it isn't there. The caller gives it back before
+    /// any other call.
+    pub fn lend_in(&mut self) -> Option<I>
+        ensures lent { result ≡ (ends_of self.old).link }
+        ensures ends { ends_of self.new ≡ record (ends_of self.old) { link = None } }
+        ensures held { held_of self.new ≡ held_of self.old }
+    {
+        match &mut self.current {
+            Some(link) => link.end.take(),
+            None => None,
+        }
+    }
+
+    /// Gives back the end of the link from which the member takes.
+    pub fn give_in(&mut self, link: I)
+        requires lent { (ends_of self.old).link ≡ None }
+        requires takes { IsSome (held_of self.old).current }
+        ensures ends { ends_of self.new ≡ record (ends_of self.old) { link = Some link } }
+        ensures held { held_of self.new ≡ held_of self.old }
+    {
+        match &mut self.current {
+            Some(current) => current.end = Some(link),
+            None => unreachable!(),
+        }
+    }
+
     /// The name of the link on which the member sends: none exactly where it sends on none.
     pub fn out_name(&self) -> Option<LinkName>
         ensures { result ≡ out_name_of (held_of self.now) }
@@ -271,6 +333,35 @@ impl<O: LinkPair<Load, In = I>, I: LinkIn<Load> + Drop> Member<O, I> {
     /// A packet with all that is known of each origin goes on the link on which the member sends, as `gm` broadcasts
     /// its activity. Refused as `put_refusal` says, and then with `LinkFull` where the link handed the packet back.
     pub fn put(&mut self) -> Result<(), MemberFault>
+        requires { OutIsReady O.ended self.old }
+        ensures enabled { OnOk result (put_refused (held_of self.old) ≡ None) }
+        ensures ok { OnOk result (held_of self.new ≡ put_held (held_of self.old)) }
+        ensures packet { OnOk result (PutsOn O.puts self.old self.new) }
+        ensures refused { (r : Reason) → put_refused (held_of self.old) ≡ Some r
+            → result ≡ Err (MemberFault.Refused r) }
+        ensures fault { IfErr result (λ fault.
+            ((r : Reason) × (fault ≡ MemberFault.Refused r) × (put_refused (held_of self.old) ≡ Some r))
+            ⊎ ((put_refused (held_of self.old) ≡ None) × IsPutFault O.free fault (ends_of self.new).out)) }
+        ensures err { OnErr result (held_of self.new ≡ held_of self.old) }
+        ensures looks { OnErr result (LooksOut O.looked self.old self.new) }
+        ensures ready { OutIsReady O.ended self.new }
+
+        // Wherever the member stands in a state of a run, this is the ring's event, and the packet is the one that it puts.
+        ensures steps { OnOk result (WhereItStands (held_of self.old) (λ w x.
+            StepsTo w x (Put (held_of self.old).name) (held_of self.new))) }
+        ensures put { OnOk result ((o : Outgoing) × ((held_of self.old).out ≡ Some o)
+            × WhereItStands (held_of self.old) (λ w x. IsPutPacket w x (parcel_on (held_of self.old).view.version (held_of self.old).rows o))) }
+        ensures not_enabled { WhereItStands (held_of self.old) (λ w x. (r : Reason)
+            → refusal w (Put (held_of self.old).name) ≡ Some r → result ≡ Err (MemberFault.Refused r)) }
+    {
+        match self.put_next() {
+            Ok(()) => Ok(()),
+            Err(fault) => Err(fault),
+        }
+    }
+
+    /// The member's own part of `put`.
+    fn put_next(&mut self) -> Result<(), MemberFault>
         requires { OutIsReady O.ended self.old }
         ensures enabled { OnOk result (put_refused (held_of self.old) ≡ None) }
         ensures ok { OnOk result (held_of self.new ≡ put_held (held_of self.old)) }
@@ -328,6 +419,38 @@ impl<O: LinkPair<Load, In = I>, I: LinkIn<Load> + Drop> Member<O, I> {
             × MatchOption self.new.current ⊥ (λ l. IsTakeFault I.known I.waiting (held_of self.old).view.version fault l.end))) }
         ensures err { OnErr result (held_of self.new ≡ held_of self.old) }
         ensures looks { OnErr result (LooksIn I.looked self.old self.new) }
+
+        // Wherever the member stands in a state of a run and the packet is the oldest on its link, this is the ring's event, and
+        // the messages are those of the logs.
+        ensures steps { IfOk result (λ taken. (k : Parcel)
+            × TookOn I.waiting I.takes I.looked I.sends k self.old self.new
+            × WhereItStands (held_of self.old) (λ w x. IsNextPacket w x k
+            → StepsTo w x (Take (held_of self.old).name) (held_of self.new)
+            × (taken.items ≡ taken_in w (member_at w x).current x))) }
+    {
+        match self.take_next() {
+            Ok(taken) => Ok(taken),
+            Err(fault) => Err(fault),
+        }
+    }
+
+    /// The member's own part of `take`.
+    fn take_next(&mut self) -> Result<Vec<Taken>, MemberFault>
+        requires { InIsReady self.old }
+        ensures enabled { OnOk result (take_refused (held_of self.old) None ≡ None) }
+        ensures ok { IfOk result (λ taken. (k : Parcel)
+            × (k.view ≤ (held_of self.old).view.version)
+            × (held_of self.new ≡ took_held (held_of self.old) k)
+            × (taken.items ≡ news_of (held_of self.old) k)
+            × TookOn I.waiting I.takes I.looked I.sends k self.old self.new) }
+        ensures refused { (r : Reason) → take_refused (held_of self.old) None ≡ Some r
+            → result ≡ Err (MemberFault.Refused r) }
+        ensures fault { IfErr result (λ fault.
+            ((r : Reason) × (fault ≡ MemberFault.Refused r) × (take_refused (held_of self.old) None ≡ Some r))
+            ⊎ ((take_refused (held_of self.old) None ≡ None)
+            × MatchOption self.new.current ⊥ (λ l. IsTakeFault I.known I.waiting (held_of self.old).view.version fault l.end))) }
+        ensures err { OnErr result (held_of self.new ≡ held_of self.old) }
+        ensures looks { OnErr result (LooksIn I.looked self.old self.new) }
     {
         if let Some(reason) = self.no_link() {
             return Err(MemberFault::Refused(reason));
@@ -348,6 +471,31 @@ impl<O: LinkPair<Load, In = I>, I: LinkIn<Load> + Drop> Member<O, I> {
     /// `NoCurrentLink`; then with `NothingToTake` where the end of the link gives no item in this call, and `PacketNext`
     /// where the next item is a packet. It wants no memory.
     pub fn take_end(&mut self) -> Result<EndReason, MemberFault>
+        requires { InIsReady self.old }
+        ensures enabled { OnOk result (take_refused (held_of self.old) None ≡ None) }
+        ensures ok { OnOk result (held_of self.new ≡ ended_held (held_of self.old)) }
+        ensures leaves { IfOk result (λ reason. LeavesOn I.takes I.looked reason self.old self.new) }
+        ensures refused { (r : Reason) → take_refused (held_of self.old) None ≡ Some r
+            → result ≡ Err (MemberFault.Refused r) }
+        ensures fault { IfErr result (λ fault. (r : Reason) × (fault ≡ MemberFault.Refused r)
+            × ((take_refused (held_of self.old) None ≡ Some r)
+            ⊎ ((take_refused (held_of self.old) None ≡ None)
+            × MatchOption self.new.current ⊥ (λ l. IsEndRefusal I.known I.waiting r l.end)))) }
+        ensures err { OnErr result (held_of self.new ≡ held_of self.old) }
+        ensures looks { OnErr result (LooksIn I.looked self.old self.new) }
+
+        // Wherever the member stands in a state of a run and the end is next on its link, this is the ring's event.
+        ensures steps { OnOk result (WhereItStands (held_of self.old) (λ w x. IsNextEnd w x
+            → StepsTo w x (TakeEnd (held_of self.old).name) (held_of self.new))) }
+    {
+        match self.take_end_next() {
+            Ok(reason) => Ok(reason),
+            Err(fault) => Err(fault),
+        }
+    }
+
+    /// The member's own part of `take_end`.
+    fn take_end_next(&mut self) -> Result<EndReason, MemberFault>
         requires { InIsReady self.old }
         ensures enabled { OnOk result (take_refused (held_of self.old) None ≡ None) }
         ensures ok { OnOk result (held_of self.new ≡ ended_held (held_of self.old)) }
@@ -398,6 +546,30 @@ impl<O: LinkPair<Load, In = I>, I: LinkIn<Load> + Drop> Member<O, I> {
     /// The member stops, and the link on which it sends ends. Refused with `Stopped`, and with `AwaitingAnswer` while a
     /// question of the member's own is open. It wants no memory.
     pub fn stop(&mut self) -> Result<(), MemberFault>
+        requires { OutIsReady O.ended self.old }
+        ensures enabled { OnOk result (active_refused (held_of self.old) None ≡ None) }
+        ensures ok { OnOk result (held_of self.new ≡ stopped_held (held_of self.old)) }
+        ensures ends { OnOk result (EndsOn O.puts EndReason.Stopped self.old self.new) }
+        ensures refused { (r : Reason) → active_refused (held_of self.old) None ≡ Some r
+            → result ≡ Err (MemberFault.Refused r) }
+        ensures fault { IfErr result (λ fault.
+            (r : Reason) × (fault ≡ MemberFault.Refused r) × (active_refused (held_of self.old) None ≡ Some r)) }
+        ensures err { OnErr result (self.new ≡ self.old) }
+
+        // Wherever the member stands in a state of a run, this is the ring's event.
+        ensures steps { OnOk result (WhereItStands (held_of self.old) (λ w x.
+            StepsTo w x (Stop (held_of self.old).name) (held_of self.new))) }
+        ensures not_enabled { WhereItStands (held_of self.old) (λ w x. (r : Reason)
+            → refusal w (Stop (held_of self.old).name) ≡ Some r → result ≡ Err (MemberFault.Refused r)) }
+    {
+        match self.stop_next() {
+            Ok(()) => Ok(()),
+            Err(fault) => Err(fault),
+        }
+    }
+
+    /// The member's own part of `stop`.
+    fn stop_next(&mut self) -> Result<(), MemberFault>
         requires { OutIsReady O.ended self.old }
         ensures enabled { OnOk result (active_refused (held_of self.old) None ≡ None) }
         ensures ok { OnOk result (held_of self.new ≡ stopped_held (held_of self.old)) }
@@ -474,6 +646,27 @@ impl<O: LinkPair<Load, In = I>, I: LinkIn<Load> + Drop> Member<O, I> {
     /// with `Stopped`, `Waiting`, `AwaitingAnswer`, and with `NoOutLink` where the member sends on no link. It wants no
     /// memory.
     pub fn gain(&mut self, amount: u32) -> Result<(), MemberFault>
+        ensures enabled { OnOk result (gain_refused (held_of self.old) ≡ None) }
+        ensures ok { OnOk result (held_of self.new ≡ gained_held (held_of self.old) amount) }
+        ensures ends { OnOk result (ends_of self.new ≡ record (ends_of self.old) { kept = None }) }
+        ensures refused { (r : Reason) → gain_refused (held_of self.old) ≡ Some r
+            → result ≡ Err (MemberFault.Refused r) }
+        ensures fault { IfErr result (λ fault.
+            (r : Reason) × (fault ≡ MemberFault.Refused r) × (gain_refused (held_of self.old) ≡ Some r)) }
+        ensures err { OnErr result (self.new ≡ self.old) }
+
+        // Wherever the member stands in a state of a run and the grant is the oldest on its way back, this is the ring's event.
+        ensures steps { OnOk result (WhereItStands (held_of self.old) (λ w x. IsNextGrant w x amount
+            → StepsTo w x (Gain (held_of self.old).name) (held_of self.new))) }
+    {
+        match self.regain(amount) {
+            Ok(()) => Ok(()),
+            Err(fault) => Err(fault),
+        }
+    }
+
+    /// The member's own part of `gain`.
+    fn regain(&mut self, amount: u32) -> Result<(), MemberFault>
         ensures enabled { OnOk result (gain_refused (held_of self.old) ≡ None) }
         ensures ok { OnOk result (held_of self.new ≡ gained_held (held_of self.old) amount) }
         ensures ends { OnOk result (ends_of self.new ≡ record (ends_of self.old) { kept = None }) }
@@ -632,6 +825,33 @@ impl<O: LinkPair<Load, In = I>, I: LinkIn<Load> + Drop> Member<O, I> {
         ensures fault { IfErr result (λ e. (e.0 ≡ view) × (((e.1 ≡ MemberFault.OutOfMemory) × (refresh_refused (held_of self.old) view.version ≡ None))
             ⊎ (r : Reason) × (e.1 ≡ MemberFault.Refused r) × (refresh_refused (held_of self.old) view.version ≡ Some r))) }
         ensures err { OnErr result (held_of self.new ≡ held_of self.old) }
+
+        // Wherever the member stands in a state of a run, and the view is one of the ring's, this is the ring's event: of a
+        // member that isn't its own neighbour in the view, or sends to itself already.
+        ensures steps { OnOk result (WhereItStands (held_of self.old) (λ w x. view.version ≤ newest w
+            → view ≡ view_at w view.version
+            → (right_of view x ≡ x → sends_to_it (held_of self.old).out x ≡ true)
+            → StepsTo w x (Refresh (held_of self.old).name view.version) (held_of self.new))) }
+    {
+        match self.refresh_next(view) {
+            Ok(requests) => Ok(requests),
+            Err(fault) => Err(fault),
+        }
+    }
+
+    /// The member's own part of `refresh`.
+    fn refresh_next(&mut self, view: View) -> Result<Vec<Request<I>>, (View, MemberFault)>
+        requires stands { is_in self.old.id.0 (ids view) ≡ true }
+        requires ready { OutIsReady O.ended self.old }
+        ensures enabled { OnOk result (refresh_refused (held_of self.old) view.version ≡ None) }
+        ensures ok { OnOk result (held_of self.new ≡ refreshed_held (held_of self.old) view) }
+        ensures links { OnOk result (LooksBy view self.old self.new) }
+        ensures moves { IfOk result (λ requests. MovesTo O.are_fresh O.free O.ended O.puts view self.old self.new requests.items) }
+        ensures refused { (r : Reason) → refresh_refused (held_of self.old) view.version ≡ Some r
+            → result ≡ Err (view, MemberFault.Refused r) }
+        ensures fault { IfErr result (λ e. (e.0 ≡ view) × (((e.1 ≡ MemberFault.OutOfMemory) × (refresh_refused (held_of self.old) view.version ≡ None))
+            ⊎ (r : Reason) × (e.1 ≡ MemberFault.Refused r) × (refresh_refused (held_of self.old) view.version ≡ Some r))) }
+        ensures err { OnErr result (held_of self.new ≡ held_of self.old) }
     {
         if let Some(reason) = self.refresh_refusal(version(&view)) {
             return Err((view, MemberFault::Refused(reason)));
@@ -685,6 +905,29 @@ impl<O: LinkPair<Load, In = I>, I: LinkIn<Load> + Drop> Member<O, I> {
     /// The member takes from now on from the first link at its door that comes from its left neighbour. Refused as
     /// `pick_refusal` says. It wants no memory.
     pub fn pick(&mut self) -> Result<(), MemberFault>
+        ensures enabled { OnOk result (pick_refused (held_of self.old) ≡ None) }
+        ensures ok { OnOk result (held_of self.new ≡ picked_held (held_of self.old)) }
+        ensures picks { OnOk result ((i : ℕ) × (the_first_at_door (held_of self.old) ≡ Some i) × PicksOn i self.old self.new) }
+        ensures refused { (r : Reason) → pick_refused (held_of self.old) ≡ Some r
+            → result ≡ Err (MemberFault.Refused r) }
+        ensures fault { IfErr result (λ fault.
+            (r : Reason) × (fault ≡ MemberFault.Refused r) × (pick_refused (held_of self.old) ≡ Some r)) }
+        ensures err { OnErr result (self.new ≡ self.old) }
+
+        // Wherever the member stands in a state of a run, this is the ring's event.
+        ensures steps { OnOk result (WhereItStands (held_of self.old) (λ w x.
+            StepsTo w x (Pick (held_of self.old).name) (held_of self.new))) }
+        ensures not_enabled { WhereItStands (held_of self.old) (λ w x. (r : Reason)
+            → refusal w (Pick (held_of self.old).name) ≡ Some r → result ≡ Err (MemberFault.Refused r)) }
+    {
+        match self.pick_next() {
+            Ok(()) => Ok(()),
+            Err(fault) => Err(fault),
+        }
+    }
+
+    /// The member's own part of `pick`.
+    fn pick_next(&mut self) -> Result<(), MemberFault>
         ensures enabled { OnOk result (pick_refused (held_of self.old) ≡ None) }
         ensures ok { OnOk result (held_of self.new ≡ picked_held (held_of self.old)) }
         ensures picks { OnOk result ((i : ℕ) × (the_first_at_door (held_of self.old) ≡ Some i) × PicksOn i self.old self.new) }

@@ -1,9 +1,6 @@
-use Rattle.std.proofs.Common.{sym, ap, ◌∙◌}
-use Rattle.gm_member.specs.declared.fault.MemberFault.TheVariants as fault
-use Rattle.std.specs.Prelude.{Err}
 use Rattle.gm_member.specs.Deaths.Shown.{held_of}
-use Rattle.gm_member.proofs.Deaths.Calls.{first_refusal}
+use Rattle.gm_member.proofs.Deaths.Lifts.{gain_lifts}
 use Rattle.gm_member.proofs.repair.member.Member.gain.Goals as goal
 
-pub returns-in-Some-clause-refused : goal.returns-in-Some-clause-refused
-returns-in-Some-clause-refused g c = λ r e. ap (λ x. Err (fault.Refused x)) (first_refusal (held_of c.args.self.now) _ c.in-Some.reason r (sym c.up_refusal.ensures ∙ c.in-Some.is) e)
+pub returns-in-Ok-clause-steps : goal.returns-in-Ok-clause-steps
+returns-in-Ok-clause-steps g c = gain_lifts (held_of c.args.self.now) (held_of c.regain.new.self) c.args.amount c.in-Ok.ensures.enabled c.in-Ok.ensures.ok

@@ -1,31 +1,28 @@
-use Rattle.std.proofs.Common.{◌≡◌, map, option_map, None, refl, inr, ap, sym, subst, ◌∙◌}
-use Rattle.gm_member.specs.View.{row_of}
-use Rattle.gm_member.specs.Deaths.Held.{out_refused, parcel_on}
-use Rattle.gm_member.specs.Deaths.View.{out_of}
+use Rattle.std.proofs.Common.{◌≡◌, Option, Some, None, refl, sym, ◌∙◌}
+use Rattle.ring_names.specs.declared.reason.Reason.TheVariants.{NoOutLink}
+use Rattle.gm_member.specs.Deaths.Held.{Held, Outgoing, put_refused, on_some, out_refused, parcel_on}
+use Rattle.gm_member.specs.Deaths.Stands.{WhereItStands, IsPutPacket}
+use Rattle.gm_member.proofs.Deaths.Calls.{up_later}
 use Rattle.gm_member.specs.Deaths.Shown.{held_of}
-use Rattle.gm_member.specs.Deaths.Ends.{EndPuts}
-use Rattle.gm_member.proofs.Deaths.Calls.{on_ok_map, on_err_map, put_out_enabled}
+use Rattle.gm_member.proofs.Deaths.Lifts.{put_lifts, put_packet_lifts, put_refusal_lifts}
 use Rattle.gm_member.proofs.repair.member.Member.put.Goals as goal
 
-pub put-requires-clause-enabled : goal.put-requires-clause-enabled
-put-requires-clause-enabled g c =
-    subst (λ ks. out_refused (map row_of ks) (out_of c.in-Some-out.link) ≡ None) (sym c.deref.ensures.value)
-    (put_out_enabled (held_of c.args.self.now) (out_of c.in-Some-out.link) (ap (option_map out_of) c.in-Some-out.is) (sym c.put_refusal.ensures ∙ c.in_default.is))
+-- who may put sends on a link, and the packet is the ring's
+put_out_lifts : (h : Held) → put_refused h ≡ None → (o : Outgoing) × (h.out ≡ Some o) × WhereItStands h (λ w x. IsPutPacket w x (parcel_on h.view.version h.rows o))
+put_out_lifts h e = by_out h.out refl (up_later h (on_some h.out NoOutLink (out_refused h.rows)) e)
+  where
+    by_out : (a : Option Outgoing) → h.out ≡ a → on_some a NoOutLink (out_refused h.rows) ≡ None → (o : Outgoing) × (h.out ≡ Some o) × WhereItStands h (λ w x. IsPutPacket w x (parcel_on h.view.version h.rows o))
+    by_out None is k = cc
+    by_out (Some o) is k = (o, is, put_packet_lifts h o is)
 
-pub returns-clause-packet : goal.returns-clause-packet
-returns-clause-packet g c = on_ok_map c.put.result
-    (λ p. (
-      c.in-Some-out.link,
-      c.put.new.self,
-      c.in-Some-out.is,
-      refl,
-      subst (λ k. EndPuts g.O.LinkOut.puts k c.in-Some-out.link.end c.put.new.self.end)
-          (ap (λ v. parcel_on v (map row_of c.deref.result.now) (out_of c.in-Some-out.link)) c.version-version.ensures
-          ∙ ap (λ ks. parcel_on c.args.self.now.view.version (map row_of ks) (out_of c.in-Some-out.link)) c.deref.ensures.value) p,
-      c.put.ensures.kept,
-      (refl, refl, refl, refl),
-    ))
-    c.put.ensures.packet
+pub returns-in-Ok-clause-steps : goal.returns-in-Ok-clause-steps
+returns-in-Ok-clause-steps g c = put_lifts (held_of c.args.self.now) (held_of c.put_next.new.self) c.in-Ok.ensures.enabled c.in-Ok.ensures.ok
 
-pub returns-clause-looks : goal.returns-clause-looks
-returns-clause-looks g c = on_err_map c.put.result (λ p. ((refl, refl, refl, refl), inr (c.in-Some-out.link, c.put.new.self, c.in-Some-out.is, refl, p, c.put.ensures.kept))) c.put.ensures.looks
+pub returns-in-Ok-clause-put : goal.returns-in-Ok-clause-put
+returns-in-Ok-clause-put g c = put_out_lifts (held_of c.args.self.now) c.in-Ok.ensures.enabled
+
+pub returns-in-Ok-clause-not_enabled : goal.returns-in-Ok-clause-not_enabled
+returns-in-Ok-clause-not_enabled g c = λ credit names events x are r l n s q e. cc (sym e ∙ sym (put_refusal_lifts (held_of c.args.self.now) credit names events x are r l n s) ∙ c.in-Ok.ensures.enabled)
+
+pub returns-in-Err-clause-not_enabled : goal.returns-in-Err-clause-not_enabled
+returns-in-Err-clause-not_enabled g c = λ credit names events x are r l n s q e. c.in-Err.ensures.refused q (put_refusal_lifts (held_of c.args.self.now) credit names events x are r l n s ∙ e)

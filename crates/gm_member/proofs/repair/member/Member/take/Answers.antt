@@ -1,0 +1,13 @@
+use Rattle.gm_member.specs.Deaths.Shown.{held_of}
+use Rattle.gm_member.proofs.Deaths.Lifts.{take_lifts, news_lift}
+use Rattle.gm_member.proofs.repair.member.Member.take.Goals as goal
+
+pub returns-in-Ok-clause-steps : goal.returns-in-Ok-clause-steps
+returns-in-Ok-clause-steps g c = (
+  c.in-Ok.ensures.ok.0,
+  c.in-Ok.ensures.ok.4,
+  λ credit names events x are r l n s next. (
+    take_lifts (held_of c.args.self.now) (held_of c.take_next.new.self) c.in-Ok.ensures.ok.0 c.in-Ok.ensures.enabled c.in-Ok.ensures.ok.1 c.in-Ok.ensures.ok.2 credit names events x are r l n s next,
+    news_lift (held_of c.args.self.now) c.in-Ok.ensures.ok.0 c.in-Ok.taken.items c.in-Ok.ensures.ok.3 credit names events x are r l n s next,
+  ),
+)
