@@ -281,32 +281,6 @@ impl<O: LinkPair<Load, In = I>, I: LinkIn<Load> + Drop> Member<O, I> {
         }
     }
 
-    /// Lends the end of the link from which the member takes: none where it isn't there. The caller gives it back before
-    /// any other call.
-    pub fn lend_in(&mut self) -> Option<I>
-        ensures lent { result ≡ (ends_of self.old).link }
-        ensures ends { ends_of self.new ≡ record (ends_of self.old) { link = None } }
-        ensures held { held_of self.new ≡ held_of self.old }
-    {
-        match &mut self.current {
-            Some(link) => link.end.take(),
-            None => None,
-        }
-    }
-
-    /// Gives back the end of the link from which the member takes.
-    pub fn give_in(&mut self, link: I)
-        requires lent { (ends_of self.old).link ≡ None }
-        requires takes { IsSome (held_of self.old).current }
-        ensures ends { ends_of self.new ≡ record (ends_of self.old) { link = Some link } }
-        ensures held { held_of self.new ≡ held_of self.old }
-    {
-        match &mut self.current {
-            Some(current) => current.end = Some(link),
-            None => unreachable!(),
-        }
-    }
-
     /// The name of the link on which the member sends: none exactly where it sends on none.
     pub fn out_name(&self) -> Option<LinkName>
         ensures { result ≡ out_name_of (held_of self.now) }
