@@ -198,7 +198,7 @@ fn reads_no_older_view(rt: HostRuntime) -> Result<(), Fail> {
 }
 
 #[test]
-fn puts_what_is_new(rt: HostRuntime) -> Result<(), Fail> {
+fn puts_nothing_that_is_known(rt: HostRuntime) -> Result<(), Fail> {
     let view = opening(&rt, rt.alloc(), 1)?;
     let mut a = founding(&rt, rt.alloc(), MemberId(1), view)?;
     expect_refused(&rt, a.put(), 16);
