@@ -26,3 +26,4 @@ pub mod MarkStands
 pub mod WithinLinks
 pub mod OthersStand
 pub mod DoorLifts
+pub mod Entries

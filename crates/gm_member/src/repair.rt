@@ -8,6 +8,8 @@ mod links;
 mod member;
 pub(crate) mod rows;
 mod spare;
+#[cfg(test)]
+mod tests;
 mod views;
 
 pub use links::{InLink, OutLink};

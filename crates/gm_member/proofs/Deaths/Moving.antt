@@ -1,6 +1,6 @@
 -- A member that reads a view, by its structs.
 use Rattle.std.specs.List.{remove}
-use Rattle.std.proofs.Common.{◌≡◌, ℕ, suc, arith, ◌+◌, ◌<◌, length, get_or, take, drop, Bool, true, false, not, cond, ◌∷◌, ◌++◌, [], List, Option, Some, map, refl, sym, ap, subst, ◌∙◌}
+use Rattle.std.proofs.Common.{◌≡◌, ℕ, suc, arith, ◌+◌, ◌<◌, length, get_or, take, drop, Bool, false, not, cond, ◌∷◌, ◌++◌, [], List, Some, map, sym, ap, subst, ◌∙◌}
 use Rattle.std.specs.Prelude.{MatchOption}
 use Rattle.std.proofs.lemmas.List.{take-map, drop-map, map-append, get_or-map}
 use Rattle.ring_names.specs.declared.numbers.MemberId.{MemberId}
@@ -17,7 +17,7 @@ use Rattle.gm_member.specs.Deaths.Held.{Held, no_incoming, door_at, without, loo
 use Rattle.gm_member.specs.Deaths.View.{in_of, ring_link}
 use Rattle.gm_member.specs.Deaths.Ends.{EndGets}
 use Rattle.gm_member.specs.Deaths.Spares.{IsSpareFor, OpensOn}
-use Rattle.gm_member.specs.Deaths.Shown.{held_of, When, SendsOn, StaysOn, MovesTo}
+use Rattle.gm_member.specs.Deaths.Shown.{When, SendsOn}
 
 -- a member that has to send to another does so after a refresh
 pub refreshed_moves : (h : Held) (v : Group) (to : ℕ) → sends_to h.out (right_of v h.id) ≡ false → to ≡ right_of v h.id → record (looked_held h v) { out = Some (first_out (looked_held h v) to) } ≡ refreshed_held h v

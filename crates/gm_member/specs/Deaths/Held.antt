@@ -1,5 +1,5 @@
 -- What a member of a ring whose members may stop holds, and what its steps do to it.
-use Rattle.std.specs.Prelude.{ℕ, ◌+◌, ◌-◌, ◌++◌, Bool, true, false, cond, ◌&&◌, ◌||◌, nat_eq, nat_le, nat_lt, List, [], length, map, take, drop, position, slice_set, slice_index_or, Option, Some, None, option_map, is_some}
+use Rattle.std.specs.Prelude.{ℕ, ◌+◌, ◌-◌, ◌++◌, Bool, true, false, cond, ◌&&◌, ◌||◌, nat_eq, nat_le, nat_lt, List, [], map, take, drop, position, slice_set, slice_index_or, Option, Some, None, option_map, is_some}
 use Rattle.std.specs.List.{filter, list_all}
 use Rattle.ring_names.specs.declared.message.Message.{Message}
 use Rattle.ring_names.specs.declared.numbers.CreditSpec.{CreditSpec}

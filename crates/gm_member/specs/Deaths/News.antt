@@ -1,5 +1,5 @@
 -- The messages that a packet brings a member of a ring whose members may stop.
-use Rattle.std.specs.Prelude.{ℕ, zero, suc, Bool, List, [], ◌++◌, Option, Some, None}
+use Rattle.std.specs.Prelude.{ℕ, zero, suc, Bool, List, [], ◌++◌}
 use Rattle.ring_world.specs.World.{Row, most_members}
 use Rattle.gm_member.specs.declared.taken.Taken.{Taken}
 use Rattle.gm_member.specs.Held.{Carried, Parcel, carried_at}

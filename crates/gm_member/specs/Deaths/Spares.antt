@@ -1,5 +1,5 @@
 -- What a spare link is, and what opening it does.
-use Rattle.std.specs.Prelude.{◌≡◌, ◌+◌, ℕ, Bool, true, false, List, [], ◌∷◌, Option, None, Some}
+use Rattle.std.specs.Prelude.{◌≡◌, ◌+◌, ℕ, Bool, true, false, List, [], ◌∷◌, None, Some}
 use Rattle.ring_names.specs.declared.numbers.CreditSpec.{CreditSpec}
 use Rattle.ring_names.specs.declared.numbers.MemberId.{MemberId}
 use Rattle.group_view.specs.declared.link.LinkKind.TheVariants.{Ring}

@@ -1,15 +1,13 @@
 -- When a member stands in a state of the ring whose members may stop.
-use Rattle.std.specs.Prelude.{◌≡◌, ℕ, zero, suc, ◌+◌, ◌<◌, ◌≤◌, ◌++◌, Bool, true, false, ◌&&◌, List, [], length, map, max, Option, Some, None, option_map}
+use Rattle.std.specs.Prelude.{◌≡◌, ℕ, zero, suc, ◌+◌, ◌<◌, ◌≤◌, ◌++◌, Bool, false, ◌&&◌, List, [], length, map, Option, Some, None, option_map}
 use Rattle.std.specs.List.{filter, range_with_len}
 use Rattle.ring_names.specs.declared.message.Message.{Message}
 use Rattle.ring_names.specs.declared.message.Message.TheVariants.{Cast}
 use Rattle.ring_names.specs.declared.numbers.CreditSpec.{CreditSpec}
 use Rattle.credit_flow.specs.Link.{oldest as oldest_grant}
 use Rattle.group_view.specs.Change.{AreOpeningNames}
-use Rattle.group_view.specs.View.{Group}
 use Rattle.ring_world.specs.declared.event.Event.{Event}
 use Rattle.ring_world.specs.declared.event.Event.TheVariants as event
-use Rattle.ring_world.specs.declared.numbers.Numbers.{Numbers}
 use Rattle.ring_world.specs.World.{most_members}
 use Rattle.ring_world.specs.Refusal.{is_empty}
 use Rattle.ring_world.specs.Deaths.Machine.{World, Packet, row_at, numbers_at, member_at, link_at, view_at}
@@ -19,7 +17,6 @@ use Rattle.ring_world.specs.Deaths.Step.{size, log_of, is_owned, next_packet, op
 use Rattle.ring_world.specs.Deaths.Event.{refusal, effect, IsRun, last}
 use Rattle.gm_member.specs.declared.taken.Taken.{Taken}
 use Rattle.gm_member.specs.Held.{Carried, Parcel, places}
-use Rattle.gm_member.specs.News.{taken_between}
 use Rattle.gm_member.specs.Stands.{carried_in, taken_of}
 use Rattle.gm_member.specs.Deaths.Held.{Held, Outgoing, Incoming}
 

@@ -1,5 +1,5 @@
 use Rattle.std.proofs.Common.{◌<◌, length, arith}
-use Rattle.gm_member.proofs.Deaths.Pruned.{Judged, judged_more}
+use Rattle.gm_member.proofs.Deaths.Pruned.{judged_more}
 use Rattle.gm_member.proofs.repair.door.prune.Goals as goal
 
 pub loop-link-preserved : goal.loop-link-preserved

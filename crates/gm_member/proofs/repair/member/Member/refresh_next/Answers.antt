@@ -1,4 +1,4 @@
-use Rattle.std.proofs.Common.{◌≡◌, ℕ, false, Some, sym, ap, ◌∙◌}
+use Rattle.std.proofs.Common.{◌≡◌, false, Some, sym, ap, ◌∙◌}
 use Rattle.ring_world.specs.Deaths.View.{right_of}
 use Rattle.gm_member.specs.Deaths.Held.{Held, looked_held, first_out, sends_to}
 use Rattle.gm_member.specs.Deaths.Shown.{held_of}

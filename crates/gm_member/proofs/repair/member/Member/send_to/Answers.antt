@@ -1,4 +1,4 @@
-use Rattle.std.proofs.Common.{◌≡◌, map, refl, sym, ap, subst, ◌∙◌}
+use Rattle.std.proofs.Common.{map, refl, sym, ap, subst, ◌∙◌}
 use Rattle.gm_member.specs.View.{row_of}
 use Rattle.gm_member.specs.Deaths.Spares.{IsSpareFor, OpensOn}
 use Rattle.gm_member.proofs.repair.member.Member.send_to.Goals as goal

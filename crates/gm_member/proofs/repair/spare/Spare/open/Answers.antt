@@ -1,11 +1,11 @@
-use Rattle.std.proofs.Common.{◌≡◌, ℕ, Bool, true, false, List, [], ◌∷◌, ◌++◌, map, refl, sym, ap, subst, ◌∙◌}
+use Rattle.std.proofs.Common.{ℕ, Bool, true, false, List, [], ◌∷◌, ◌++◌, refl, ap, subst, ◌∙◌}
 use Rattle.ring_world.specs.declared.numbers.Numbers.{Numbers}
 use Rattle.credit_flow.specs.Credit.{Credit, sent}
 use Rattle.group_view.specs.declared.link.LinkKind.TheVariants.{Ring}
 use Rattle.group_view.specs.declared.request.Request.TheVariants.{Deposit}
 use Rattle.gm_member.specs.Held.{Carried, Parcel}
 use Rattle.gm_member.specs.Steps.{on_link}
-use Rattle.gm_member.specs.Deaths.Held.{Outgoing, fresh_out, next_sent, lines_on, parcel_on}
+use Rattle.gm_member.specs.Deaths.Held.{Outgoing, fresh_out, next_sent}
 use Rattle.gm_member.proofs.repair.spare.Spare.open.Goals as goal
 
 -- what the spare link shows once it is open

@@ -1,0 +1,206 @@
+//! A member over the ends of plain pairs.
+ghost use Rattle.std.specs.Prelude.{◌≡◌, ◌≤◌, true, nat_eq, map, IfOk};
+ghost use Rattle.std.specs.List.{list_any};
+ghost use Rattle.group_view.specs.Ring.{is_in};
+ghost use Rattle.ring_world.specs.World.{most_members};
+ghost use Rattle.ring_world.specs.Deaths.View.{ids};
+ghost use Rattle.ordered_link.specs.declared.plain.PlainOut.{PlainOut as Out};
+ghost use Rattle.gm_member.specs.declared.packet.Load.{Load as Loaded};
+ghost use Rattle.gm_member.specs.Deaths.Shown.{held_of, OutIsReady, InIsReady};
+
+use crate::fault::MemberFault;
+use crate::packet::Load;
+use crate::repair::Member;
+use group_view::{Entry, LinkKind, Request, View, are_opening_names};
+use ordered_link::{PlainIn, PlainOut, plain_pair};
+use ring_names::{Body, CreditSpec, MemberId, Message, Name};
+use ring_world::Phase;
+use std::alloc::Global;
+use std::process::Abort;
+use std::test::Fail;
+
+type Node = Member<PlainOut<Load>, PlainIn<Load>>;
+
+fn cast(alloc: Global, body: &str) -> Result<Message, Fail> {
+    let body = Body::read(alloc, body.as_bytes())?;
+    Ok(Message::Cast(body))
+}
+
+/// That a call is refused with this number.
+fn expect_refused<T: Drop>(rt: &impl Abort, answer: Result<T, MemberFault>, code: u32) {
+    match answer {
+        Err(MemberFault::Refused(reason)) => assert_eq!(rt; reason.code(), code),
+        Err(MemberFault::OutOfMemory) => assert!(rt; false, "out of memory, for {code}"),
+        Ok(_) => assert!(rt; false, "done, for {code}"),
+    }
+}
+
+fn is_any(entries: &[Entry], id: MemberId) -> bool
+    ensures { result ≡ list_any (λ e. nat_eq id.0 e.id.0) entries.now }
+{
+    entries.iter().any(|entry| id.0 == entry.id.0)
+}
+
+fn has_entry(entries: &[Entry], id: MemberId) -> bool
+    ensures { result ≡ is_in id.0 (map (λ e. e.id.0) entries.now) }
+{
+    is_any(entries, id)
+}
+
+/// Whether an id has an entry in a view.
+fn stands(view: &View, id: MemberId) -> bool
+    ensures { result ≡ is_in id.0 (ids view.now) }
+{
+    has_entry(view.entries.as_slice(), id)
+}
+
+/// The view in which a ring of so many of `a`, `b` and `c` opens.
+fn opening(rt: &impl Abort, alloc: Global, count: usize) -> Result<View, Fail> {
+    let mut names = Vec::new(alloc);
+    for text in ["a", "b", "c"].iter().take(count) {
+        names.push(Name::read(text.as_bytes())?)?;
+    }
+    if !are_opening_names(&names) {
+        panic!(rt; "no opening");
+    }
+    Ok(View::opening(alloc, &names)?)
+}
+
+/// A member of the second id, or of the first where it is alone, over the ends of a pair of its own.
+fn founding(rt: &impl Abort, alloc: Global, id: MemberId, view: View) -> Result<Node, Fail>
+    requires { (1 ≤ id.0) × (id.0 ≤ most_members) }
+    ensures out { IfOk result (λ m. OutIsReady (λ (o : Out Loaded). o.ended) m) }
+    ensures link { IfOk result (λ m. InIsReady m) }
+    ensures id { IfOk result (λ m. (held_of m).id ≡ id.0) }
+{
+    let Some(credit) = CreditSpec::new(1, 1) else {
+        panic!(rt; "no credit")
+    };
+    if !stands(&view, id) {
+        panic!(rt; "nobody");
+    }
+    let (out, link) = plain_pair(alloc, credit)?;
+    let node = Member::founding(alloc, Name::read(b"me")?, id, view, credit, out, link)?;
+    Ok(node)
+}
+
+#[test]
+fn founds_a_member_that_knows_nothing(rt: HostRuntime) -> Result<(), Fail> {
+    let view = opening(&rt, rt.alloc(), 1)?;
+    let mut a = founding(&rt, rt.alloc(), MemberId(1), view)?;
+    assert_eq!(rt; a.name().bytes(), b"me".as_slice());
+    assert_eq!(rt; a.id(), MemberId(1));
+    assert!(rt; matches!(a.phase(), Phase::Up));
+    assert_eq!(rt; a.view().version, 1);
+    assert_eq!(rt; a.confirmed(), 0);
+    assert_eq!(rt; a.heard(MemberId(1)).len(), 0);
+    expect_refused(&rt, a.take(), 17);
+    Ok(())
+}
+
+#[test]
+fn refuses_what_it_may_not(rt: HostRuntime) -> Result<(), Fail> {
+    let view = opening(&rt, rt.alloc(), 1)?;
+    let mut a = founding(&rt, rt.alloc(), MemberId(1), view)?;
+    expect_refused(&rt, a.take_end(), 17);
+    match a.put_refusal() {
+        Some(reason) => assert_eq!(rt; reason.code(), 16),
+        None => assert!(rt; false, "something new"),
+    }
+    expect_refused(&rt, a.pick(), 43);
+    match a.publish(cast(rt.alloc(), "hi")?) {
+        Ok(number) => assert_eq!(rt; number, 1),
+        Err(_) => assert!(rt; false, "not published"),
+    }
+    assert!(rt; a.put_refusal().is_none());
+    assert_eq!(rt; a.heard(MemberId(1)).len(), 1);
+    assert_eq!(rt; a.confirmed(), 0);
+    a.gain(1)?;
+    Ok(())
+}
+
+#[test]
+fn is_refused_a_grant_that_is_not_there(rt: HostRuntime) -> Result<(), Fail> {
+    let view = opening(&rt, rt.alloc(), 1)?;
+    let mut a = founding(&rt, rt.alloc(), MemberId(1), view)?;
+    match a.gain_refusal() {
+        Some(reason) => assert_eq!(rt; reason.code(), 37),
+        None => assert!(rt; false, "a grant"),
+    }
+    Ok(())
+}
+
+#[test]
+fn stops_once(rt: HostRuntime) -> Result<(), Fail> {
+    let view = opening(&rt, rt.alloc(), 1)?;
+    let mut a = founding(&rt, rt.alloc(), MemberId(1), view)?;
+    a.stop()?;
+    assert!(rt; matches!(a.phase(), Phase::Stopped));
+    expect_refused(&rt, a.gain(1), 12);
+    expect_refused(&rt, a.pick(), 12);
+    match a.put_refusal() {
+        Some(reason) => assert_eq!(rt; reason.code(), 12),
+        None => assert!(rt; false, "may put"),
+    }
+    Ok(())
+}
+
+#[test]
+fn sends_to_another_in_a_newer_view(rt: HostRuntime) -> Result<(), Fail> {
+    let view = opening(&rt, rt.alloc(), 3)?;
+    let mut newer = view.copy()?;
+    newer.mark_dead(MemberId(3))?;
+    let mut b = founding(&rt, rt.alloc(), MemberId(2), view)?;
+    if !stands(&newer, MemberId(2)) {
+        panic!(rt; "nobody");
+    }
+    let requests = match b.refresh(newer) {
+        Ok(requests) => requests,
+        Err(_) => panic!(rt; "not read"),
+    };
+    assert_eq!(rt; requests.len(), 1);
+    for request in &requests {
+        match request {
+            Request::Deposit {
+                by,
+                to,
+                view,
+                kind,
+                link: _,
+            } => {
+                assert_eq!(rt; (by.0, to.0, *view), (2, 1, 2));
+                assert!(rt; matches!(kind, LinkKind::Ring));
+            }
+            _ => assert!(rt; false, "another request"),
+        }
+    }
+    assert_eq!(rt; b.view().version, 2);
+    match b.out_name() {
+        Some(name) => assert_eq!(rt; (name.from.0, name.to.0, name.view), (2, 1, 2)),
+        None => assert!(rt; false, "no link"),
+    }
+    assert!(rt; b.lend_in().is_some());
+    Ok(())
+}
+
+#[test]
+fn reads_no_older_view(rt: HostRuntime) -> Result<(), Fail> {
+    let older = opening(&rt, rt.alloc(), 3)?;
+    let mut view = older.copy()?;
+    view.mark_dead(MemberId(3))?;
+    let b = founding(&rt, rt.alloc(), MemberId(2), view)?;
+    match b.refresh_refusal(older.version) {
+        Some(reason) => assert_eq!(rt; reason.code(), 25),
+        None => assert!(rt; false, "may read"),
+    }
+    assert!(rt; b.refresh_refusal(2).is_none());
+    Ok(())
+}
+
+#[test]
+fn puts_nothing_that_is_known(rt: HostRuntime) -> Result<(), Fail> {
+    let view = opening(&rt, rt.alloc(), 1)?;
+    let mut a = founding(&rt, rt.alloc(), MemberId(1), view)?;
+    expect_refused(&rt, a.put(), 16);
+    Ok(())
+}
