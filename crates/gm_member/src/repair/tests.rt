@@ -179,7 +179,31 @@ fn sends_to_another_in_a_newer_view(rt: HostRuntime) -> Result<(), Fail> {
         Some(name) => assert_eq!(rt; (name.from.0, name.to.0, name.view), (2, 1, 2)),
         None => assert!(rt; false, "no link"),
     }
-    assert!(rt; b.lend_in().is_some());
+    match b.old_out() {
+        Some((name, _)) => assert_eq!(rt; (name.from.0, name.to.0, name.view), (2, 3, 1)),
+        None => assert!(rt; false, "nothing replaced"),
+    }
+    assert!(rt; b.old_out().is_none());
+    assert!(rt; b.old_in().is_none());
+    Ok(())
+}
+
+#[test]
+fn lends_an_end_to_each_place(rt: HostRuntime) -> Result<(), Fail> {
+    let view = opening(&rt, rt.alloc(), 3)?;
+    let mut b = founding(&rt, rt.alloc(), MemberId(2), view)?;
+    match b.in_name(0) {
+        Some(name) => assert_eq!(rt; (name.from.0, name.to.0, name.view), (1, 2, 1)),
+        None => panic!(rt; "no link"),
+    }
+    assert!(rt; b.in_name(1).is_none());
+    assert!(rt; b.lend_in(1).is_none());
+    match b.lend_in(0) {
+        Some(link) => b.give_in(0, link),
+        None => panic!(rt; "lent before"),
+    }
+    assert!(rt; b.lend_in(0).is_some());
+    assert!(rt; b.lend_in(0).is_none());
     Ok(())
 }
 
