@@ -27,3 +27,6 @@ pub mod WithinLinks
 pub mod OthersStand
 pub mod DoorLifts
 pub mod Entries
+pub mod Arrivals
+pub mod AnswerLifts
+pub mod SparesKept

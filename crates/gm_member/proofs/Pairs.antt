@@ -23,7 +23,7 @@ either_way (Err e) done left f g = g left
 module _ {T : Type 0} where
   -- the ends stay those of one pair where a load is put
   put_stays : (o p : PlainOut T) (x : Item T) (i : PlainIn T) → PlainPuts o x p → ArePlainEnds o i → ArePlainEnds p i
-  put_stays o p x i (items, free, back, initial) e = record { initial = cc; items = grind (arith, common_steps); grants = grind (arith, common_steps) }
+  put_stays o p x i (items, free, back, initial, ended) e = record { initial = cc; items = grind (arith, common_steps); grants = grind (arith, common_steps) }
 
   -- where the in end looks
   look_stays : (o : PlainOut T) (i j : PlainIn T) → PlainLooked i j → ArePlainEnds o i → ArePlainEnds o j

@@ -5,4 +5,6 @@ pub mod View
 pub mod Spares
 pub mod Ends
 pub mod Shown
+pub mod Arrivals
+pub mod Questions
 pub mod Stands

@@ -6,9 +6,9 @@ use Rattle.ordered_link.specs.declared.item.Item.{Item}
 use Rattle.ordered_link.specs.declared.item.Item.TheVariants.{Load, End}
 use Rattle.ordered_link.specs.declared.plain.PlainOut.{PlainOut}
 use Rattle.ordered_link.specs.declared.plain.PlainIn.{PlainIn}
-use Rattle.ordered_link.specs.Steps.{ArePlainEnds, IsFreshPair}
+use Rattle.ordered_link.specs.Steps.{is_end, ArePlainEnds, IsFreshPair}
 use Rattle.ordered_link.specs.Waiting.{Sends}
-use Rattle.ordered_link.specs.Runs.{Step, put, taken, gained, granted, looked, met, Does, AreSteps, put_by, taken_by, gained_by, granted_by, puts_of, takes_of, gains_of, grants_of, items_held, grants_held, list_of, is_end, AreLoads, AreLoadsThenEnd, KeepsOrder}
+use Rattle.ordered_link.specs.Runs.{Step, put, taken, gained, granted, looked, met, Does, AreSteps, put_by, taken_by, gained_by, granted_by, puts_of, takes_of, gains_of, grants_of, items_held, grants_held, list_of, AreLoads, AreLoadsThenEnd, KeepsOrder}
 
 -- a step, and then others
 joined : {A : Type 0} (t ts a b c p ps : List A) → t ++ b ≡ a ++ p → ts ++ c ≡ b ++ ps → t ++ ts ++ c ≡ a ++ (p ++ ps)
@@ -52,7 +52,7 @@ module _ {T : Type 0} where
 
   -- one step leaves ends of one pair
   pub step_ends : (s : Step T) (o o' : PlainOut T) (i i' : PlainIn T) → Does s o i o' i' → ArePlainEnds o i → ArePlainEnds o' i'
-  step_ends (put x) o o' i i' (open_out, puts, is, same) e = record { initial = cc; items = grind (arith, common_steps); grants = grind (arith, common_steps) }
+  step_ends (put x) o o' i i' (open_out, puts, same) e = record { initial = cc; items = grind (arith, common_steps); grants = grind (arith, common_steps) }
   step_ends (taken x) o o' i i' (out, (took, sent)) e = record { initial = cc; items = grind (arith, common_steps); grants = grind (arith, common_steps) }
   step_ends (gained x) o o' i i' (gains, same) e = record { initial = cc; items = grind (arith, common_steps); grants = grind (arith, common_steps) }
   step_ends (granted x) o o' i i' (out, late, sends) e = record { initial = cc; items = grind (arith, common_steps); grants = grind (arith, common_steps) }
@@ -82,7 +82,7 @@ module _ {T : Type 0} where
   kept_form xs e e' is h = rw is (rw (append-nil xs) h)
 
   pub step_form : (s : Step T) (xs : List (Item T)) (o o' : PlainOut T) (i i' : PlainIn T) → Does s o i o' i' → IsInForm o.ended xs → IsInForm o'.ended (xs ++ put_by s)
-  step_form (put x) xs o o' i i' h f = put_form x xs o.ended o'.ended h.0 h.2 f
+  step_form (put x) xs o o' i i' h f = put_form x xs o.ended o'.ended h.0 h.1.4 f
   step_form (taken x) xs o o' i i' h f = kept_form xs o.ended o'.ended (ap (λ e. e.ended) h.0) f
   step_form (gained x) xs o o' i i' (gains, same) f = kept_form xs o.ended o'.ended gains.3 f
   step_form (granted x) xs o o' i i' h f = kept_form xs o.ended o'.ended (ap (λ e. e.ended) h.0) f

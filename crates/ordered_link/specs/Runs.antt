@@ -1,5 +1,5 @@
 -- What is done with one plain pair, step by step.
-use Rattle.std.specs.Prelude.{◌≡◌, ℕ, ◌++◌, List, [], ◌∷◌, Option, Some, None, Bool, true, false, map}
+use Rattle.std.specs.Prelude.{◌≡◌, ℕ, ◌++◌, List, [], ◌∷◌, Option, Some, None, true, false, map}
 use Rattle.ordered_link.specs.declared.item.EndReason.{EndReason}
 use Rattle.ordered_link.specs.declared.item.Item.{Item}
 use Rattle.ordered_link.specs.declared.item.Item.TheVariants.{Load, End}
@@ -22,14 +22,9 @@ list_of None = []
 list_of (Some grant) = grant ∷ []
 
 module _ {T : Type 0} where
-  -- whether the item is End
-  abbrev pub is_end : Item T → Bool
-  is_end (Load x) = false
-  is_end (End r) = true
-
   -- the step leads from these two ends to those
   abbrev pub Does : Step T → PlainOut T → PlainIn T → PlainOut T → PlainIn T → Type 0
-  Does (put x) o i o' i' = (o.ended ≡ false) × PlainPuts o x o' × (o'.ended ≡ is_end x) × (i' ≡ i)
+  Does (put x) o i o' i' = (o.ended ≡ false) × PlainPuts o x o' × (i' ≡ i)
   Does (taken x) o i o' i' = (o' ≡ o) × PlainTakes i x i'
   Does (gained grant) o i o' i' = PlainGains o grant o' × (i' ≡ i)
   Does (granted grant) o i o' i' = (o' ≡ o) × (i.late ≡ None) × PlainSends i grant i'

@@ -1,16 +1,22 @@
 -- The steps of the ends of a plain pair.
-use Rattle.std.specs.Prelude.{◌≡◌, ℕ, ◌+◌, ◌<◌, ◌≤◌, ◌++◌, [], ◌∷◌, length, Some, None, false}
+use Rattle.std.specs.Prelude.{◌≡◌, ℕ, ◌+◌, ◌<◌, ◌≤◌, ◌++◌, [], ◌∷◌, length, Some, None, Bool, true, false}
 use Rattle.ordered_link.specs.declared.item.Item.{Item}
+use Rattle.ordered_link.specs.declared.item.Item.TheVariants.{Load, End}
 use Rattle.ordered_link.specs.declared.plain.PlainOut.{PlainOut}
 use Rattle.ordered_link.specs.declared.plain.PlainIn.{PlainIn}
 use Rattle.ordered_link.specs.Waiting.{Sends}
 
 module _ {T : Type 0} where
-  -- the item waits behind the others, and a slot fewer is free
+  -- whether the item is End
+  abbrev pub is_end : Item T → Bool
+  is_end (Load x) = false
+  is_end (End r) = true
+
+  -- the item waits behind the others, a slot fewer is free, and End is the last item
   abbrev pub PlainPuts : PlainOut T → Item T → PlainOut T → Type 0
   PlainPuts a x b =
       (b.waiting.items ≡ a.waiting.items ++ x ∷ []) × (a.free ≡ b.free + 1)
-      × (b.back ≡ a.back) × (b.initial ≡ a.initial)
+      × (b.back ≡ a.back) × (b.initial ≡ a.initial) × (b.ended ≡ is_end x)
 
   -- the oldest grant is gone, and all else as it was
   abbrev pub PlainGains : PlainOut T → ℕ → PlainOut T → Type 0

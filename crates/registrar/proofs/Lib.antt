@@ -4,3 +4,4 @@ pub mod Judged
 pub mod Steps
 pub mod Lifts
 pub mod Here
+pub mod Counts

@@ -1,14 +1,28 @@
 //! Giving links to their receivers.
 ghost use Rattle.std.specs.Prelude.{◌≡◌, ◌+◌, ◌≤◌, ◌++◌, length};
 ghost use Rattle.std.specs.Vec.{vec_len, vec_capacity};
-ghost use Rattle.registrar.specs.Registry.{beside};
+ghost use Rattle.std.specs.List.{filter};
+ghost use Rattle.registrar.specs.Registry.{beside, is_for};
 ghost use Rattle.registrar.specs.Handled.{deposited, links_for};
 
 use crate::standing::Standing;
 use group_view::Deposited;
 use ring_names::MemberId;
 
-/// How many links wait for a member.
+/// How many links have a member for their receiver, also those that are lent.
+pub(crate) fn count_named<I>(links: &[Standing<I>], by: MemberId) -> usize
+    ensures { result ≡ length (filter (is_for by.0) links.now) }
+{
+    let mut count = 0;
+    for standing in links {
+        if standing.is_for(by) {
+            count += 1;
+        }
+    }
+    count
+}
+
+/// How many links wait for a member, each of which is here.
 pub(crate) fn count_for<I>(links: &[Standing<I>], by: MemberId) -> usize
     ensures { result ≡ length (links_for by.0 links.now) }
 {

@@ -1,5 +1,5 @@
 //! What is read of views and of the links that wait.
-ghost use Rattle.std.specs.Prelude.{◌≡◌, ◌<◌, nat_eq, length, IfSome, IfNone};
+ghost use Rattle.std.specs.Prelude.{◌≡◌, ◌↔◌, ◌<◌, ◌≤◌, nat_eq, length, IsSome, IfSome, IfNone};
 ghost use Rattle.std.specs.List.{list_any};
 ghost use Rattle.group_view.specs.Parts.{mark_in};
 ghost use Rattle.group_view.specs.Ring.{is_in};
@@ -21,6 +21,7 @@ pub(crate) fn newest(views: &[View]) -> &View
 
 /// The view of a version, where there is one.
 pub(crate) fn view_of(views: &[View], version: u32) -> Option<&View>
+    ensures there { IsSome result ↔ (1 ≤ version) × (version ≤ length views.now) }
     ensures some { IfSome result (λ view. view.now ≡ view_at views.now version) }
     ensures none { IfNone result (view_at views.now version ≡ no_group) }
 {

@@ -1,9 +1,11 @@
 //! The registrar.
-ghost use Rattle.std.specs.Prelude.{◌≡◌, IfOk, OnOk, IfErr, OnErr, IsSome, Some, None, length};
+ghost use Rattle.std.specs.Prelude.{◌≡◌, ◌↔◌, ◌≤◌, IfOk, OnOk, IfErr, OnErr, IfSome, IsSome, Some, None, length};
+ghost use Rattle.std.specs.List.{filter};
 ghost use Rattle.ring_names.specs.declared.reason.Reason.{Reason};
 ghost use Rattle.group_view.specs.Change.{AreOpeningNames, marked, mark_refusal as group_refusal};
 ghost use Rattle.group_view.specs.Ring.{is_in};
-ghost use Rattle.registrar.specs.Registry.{AreHere, AreHereBut, newest as the_newest, founded, is_known, name_in, end_in, end_is};
+ghost use Rattle.group_view.specs.Since.{view_at};
+ghost use Rattle.registrar.specs.Registry.{AreHere, AreHereBut, newest as the_newest, founded, is_known, is_for, name_in, end_in, end_is};
 ghost use Rattle.registrar.specs.Asked.{mark_refusal as the_mark_refusal, unknown_refusal, stop_refusal as the_stop_refusal, request_refusal};
 ghost use Rattle.registrar.specs.Handled.{with_view, with_stopped, with_link, without_links, links_for, handled, answered};
 ghost use Rattle.registrar.specs.Stands.{StandsIn, WhereAsked};
@@ -11,7 +13,7 @@ ghost use Rattle.ring_names.specs.declared.numbers.CreditSpec.{CreditSpec};
 ghost use Rattle.ring_world.specs.Deaths.Event.{refusal, effect};
 ghost use Rattle.ring_world.specs.Deaths.Step.{opening};
 
-use crate::giving::{count_for, give_all};
+use crate::giving::{count_for, count_named, give_all};
 use crate::judging::{has_entry, has_more, is_among, is_beside, is_live, newest, view_of};
 use crate::standing::Standing;
 use group_view::{Answer, Deposited, LinkName, Request, View};
@@ -66,6 +68,23 @@ impl<I: Drop> Registrar<I> {
         newest(&self.views)
     }
 
+    /// The view of a version, from 1 to that of the newest: none of any other. It wants no memory.
+    pub fn published(&self, version: u32) -> Option<&View>
+        ensures there { IsSome result ↔ (1 ≤ version) × (version ≤ length self.now.views) }
+        ensures view { IfSome result (λ v. v.now ≡ view_at self.now.views version) }
+    {
+        view_of(&self.views, version)
+    }
+
+    /// How many links wait here for a member, also those whose ends are lent. So many at most come of its
+    /// `Collect`. It wants no memory.
+    pub fn waiting_for(&self, id: MemberId) -> usize
+        ensures count { result ≡ length (filter (is_for id.0) self.now.links) }
+        ensures covers { length (links_for id.0 self.now.links) ≤ result }
+    {
+        count_named(&self.links, id)
+    }
+
     /// Lends the end of the link at a place, counted from 0 among the links that wait, the oldest first:
     /// none where no link stands there, and where it is lent. The caller gives it back to that place before
     /// the next request. It wants no memory.
@@ -76,7 +95,18 @@ impl<I: Drop> Registrar<I> {
         ensures away { end_in self.new place ≡ None }
         ensures others { AreHere self.old.links → AreHereBut place self.new.links }
     {
-        match self.links.get_mut(place as usize) {
+        self.lend_at(place as usize)
+    }
+
+    /// `lend_in` at any place.
+    pub fn lend_at(&mut self, place: usize) -> Option<I>
+        ensures lent { result ≡ end_in self.old place }
+        ensures stands { self.new ≡ end_is self.old place None }
+        ensures found { IsSome result → IsSome (name_in self.new place) }
+        ensures away { end_in self.new place ≡ None }
+        ensures others { AreHere self.old.links → AreHereBut place self.new.links }
+    {
+        match self.links.get_mut(place) {
             Some(standing) => standing.link.take(),
             None => None,
         }
@@ -89,7 +119,17 @@ impl<I: Drop> Registrar<I> {
         ensures stands { self.new ≡ end_is self.old place (Some link) }
         ensures here { AreHereBut place self.old.links → AreHere self.new.links }
     {
-        let standing = &mut self.links[place as usize];
+        self.give_at(place as usize, link);
+    }
+
+    /// `give_in` at any place.
+    pub fn give_at(&mut self, place: usize, link: I)
+        requires stands { IsSome (name_in self.old place) }
+        requires lent { end_in self.old place ≡ None }
+        ensures stands { self.new ≡ end_is self.old place (Some link) }
+        ensures here { AreHereBut place self.old.links → AreHere self.new.links }
+    {
+        let standing = &mut self.links[place];
         standing.link = Some(link);
     }
 
@@ -97,7 +137,21 @@ impl<I: Drop> Registrar<I> {
     pub fn in_name(&self, place: u32) -> Option<LinkName>
         ensures { result ≡ name_in self.now place }
     {
-        self.links.get(place as usize).map(|standing| standing.name)
+        self.name_at(place as usize)
+    }
+
+    /// `in_name` at any place.
+    pub fn name_at(&self, place: usize) -> Option<LinkName>
+        ensures { result ≡ name_in self.now place }
+    {
+        self.links.get(place).map(|standing| standing.name)
+    }
+
+    /// How many links wait here, lent or not. It wants no memory.
+    pub fn waiting(&self) -> usize
+        ensures { result ≡ length self.now.links }
+    {
+        self.links.len()
     }
 
     /// Does what a member asks, or answers `No` with the first condition that fails; then nothing has
@@ -146,8 +200,9 @@ impl<I: Drop> Registrar<I> {
         is_among(&self.stopped, id)
     }
 
-    /// The first condition of a request that fails.
-    fn refusal(&self, request: &Request<I>) -> Option<Reason>
+    /// What `handle` would answer `No` with: the first condition of a request that fails, and none where it
+    /// would do what is asked. It wants no memory.
+    pub fn refusal(&self, request: &Request<I>) -> Option<Reason>
         ensures { result ≡ request_refusal self.now request.now }
     {
         match request {

@@ -84,7 +84,7 @@ refused_for m n r ready looks same refusal =
 -- ---- a take
 
 -- nothing waited, so the way back is as it was
-nothing_sent : (given given' : List ℕ) (late late' : Option ℕ) → late ≡ None → Sends given late given' late' → (given' ≡ given) × (late' ≡ None)
+pub nothing_sent : (given given' : List ℕ) (late late' : Option ℕ) → late ≡ None → Sends given late given' late' → (given' ≡ given) × (late' ≡ None)
 nothing_sent given given' late late' e s = ⊎_elim
     (λ (x : (given' ≡ given) × (late' ≡ late)). (x.0, x.1 ∙ e))
     (λ (x : (late' ≡ None) × (g : ℕ) × (late ≡ Some g) × (given' ≡ given ++ g ∷ [])). absurd (cc (sym e ∙ x.2)))
@@ -97,7 +97,7 @@ one_sent given given' late' g e s = ⊎_elim
     (λ (x : (late' ≡ None) × (d : ℕ) × (Some g ≡ Some d) × (given' ≡ given ++ d ∷ [])). let d : x.1 ≡ g = cc (x.2) in x.3 ∙ ap (λ k. given ++ k ∷ []) d)
     s
 
-granted : (due : Option ℕ) (a b : PlainIn Load) → 0 < a.free → a.late ≡ None → GrantsIf due PlainSends a b → (b.items ≡ a.items) × (b.given.items ≡ with_grant a.given.items due) × (b.late ≡ None) × (length b.given.items + b.free ≡ length a.given.items + a.free) × (b.initial ≡ a.initial)
+pub granted : (due : Option ℕ) (a b : PlainIn Load) → 0 < a.free → a.late ≡ None → GrantsIf due PlainSends a b → (b.items ≡ a.items) × (b.given.items ≡ with_grant a.given.items due) × (b.late ≡ None) × (length b.given.items + b.free ≡ length a.given.items + a.free) × (b.initial ≡ a.initial)
 granted None a b free late e = (ap (λ x. x.items) e, ap (λ x. x.given.items) e, ap (λ x. x.late) e ∙ late, ap (λ x. length x.given.items + x.free) e, ap (λ x. x.initial) e)
 granted (Some g) a b free late (items, sends, room, gone, initial) = (items, one_sent a.given.items b.given.items b.late g (gone free) sends, gone free, room, initial)
 

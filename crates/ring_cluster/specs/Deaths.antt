@@ -1,3 +1,21 @@
 -- The ring whose members may stop.
 pub mod Work
 pub mod Idle
+pub mod Ends
+pub mod Parties
+pub mod Behind
+pub mod Seen
+pub mod Standing
+pub mod Loose
+pub mod Acting
+pub mod Refused
+pub mod Alone
+pub mod Looking
+pub mod Opened
+pub mod Plays
+pub mod Holds
+pub mod Kept
+pub mod Heard
+pub mod Turns
+pub mod Meeting
+pub mod Collecting

@@ -15,6 +15,7 @@ ghost use Rattle.ring_world.specs.Deaths.Step.{opening as opening_of};
 ghost use Rattle.ring_world.specs.Deaths.Event.{IsRun as IsRingRun, last as last_of};
 ghost use Rattle.ring_world.specs.Deaths.Quiet.{IsSettled, IsAtRest, IsQuiet as IsQuietRing};
 ghost use Rattle.ring_cluster.specs.Deaths.Idle.{IsIdle, NobodyStopped, MarksNobody};
+ghost use Rattle.ring_cluster.specs.Deaths.Heard.{HasHeardAll};
 ghost use Rattle.ring_cluster.specs.Deaths.Work.{EachLeavesLess, EachRefreshLeavesLess};
 
 /// In every state that a ring reaches, where no member can put a packet, take one or gain credit, the ring
@@ -52,6 +53,14 @@ pub fn an_idle_ring_with_deaths_is_at_rest()
         → All (λ (e : Entry). e.mark ≢ Dead)
         (view_at (last_of (opening_of credit names) events) (the_newest (last_of (opening_of credit names) events))).entries
         → IsQuietRing (last_of (opening_of credit names) events) }
+{}
+
+/// Where a ring whose members may stop is quiet, in any state that it reaches, every message of the members that run is
+/// confirmed, and every member that is up has heard all of them.
+pub fn a_quiet_ring_with_deaths_has_heard_all()
+    ensures { (credit : CreditSpec) (names : List (List ℕ)) (events : List RingEvent)
+        → AreOpeningNames names → IsRingRun (opening_of credit names) events
+        → IsQuietRing (last_of (opening_of credit names) events) → HasHeardAll (last_of (opening_of credit names) events) }
 {}
 
 /// The steps by which members go on and gm repairs the ring after a death: a put, a take, the take of a link's end, a

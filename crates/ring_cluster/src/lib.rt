@@ -12,6 +12,7 @@ mod laws;
 mod meeting;
 mod node;
 mod opening;
+pub mod repair;
 mod stepping;
 #[cfg(test)]
 mod tests;
@@ -19,7 +20,7 @@ mod tests;
 pub use agenda::{Agenda, Task};
 pub use cluster::Cluster;
 pub use laws::{
-    an_idle_ring_is_quiet, an_idle_ring_with_deaths_is_at_rest,
-    each_step_of_repair_leaves_less_to_do,
+    a_quiet_ring_with_deaths_has_heard_all, an_idle_ring_is_quiet,
+    an_idle_ring_with_deaths_is_at_rest, each_step_of_repair_leaves_less_to_do,
 };
 pub use node::Node;

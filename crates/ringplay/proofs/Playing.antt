@@ -6,17 +6,22 @@ use Rattle.std.proofs.lemmas.Bool.Decides.{nat_tests}
 use Rattle.std.proofs.lemmas.List.{take-take, take-append-drop}
 use Rattle.ring_script.specs.declared.command.Command.{Command}
 use Rattle.ring_script.specs.declared.command.Command.TheVariants as command
-use Rattle.ring_world.specs.declared.fixed.Event.{Event}
-use Rattle.ring_world.specs.Run.{IsRun, opening, last}
-use Rattle.ring_world.specs.Laws.{IsLawful, NeverFalls, IsQuiet}
+use Rattle.group_view.specs.Change.{AreOpeningNames}
+use Rattle.ring_world.specs.declared.event.Event.{Event}
+use Rattle.ring_world.specs.Deaths.Machine.{World}
+use Rattle.ring_world.specs.Deaths.Step.{opening}
+use Rattle.ring_world.specs.Deaths.Event.{IsRun, effect, last}
+use Rattle.ring_world.specs.Deaths.Laws.{IsLawful, GoesOn}
+use Rattle.ring_world.specs.Deaths.Quiet.{IsQuiet}
 use Rattle.ring_world.proofs.Names.{own_bytes}
-use Rattle.ring_world.proofs.Run.{IsRun-take}
-use Rattle.ring_world.proofs.Lawful.{run_lawful}
-use Rattle.ring_world.proofs.Later.{run_rises}
-use Rattle.ring_world.proofs.HeardAll.{run_quiet_has_heard}
-use Rattle.ring_cluster.specs.Seen.{Seen, IsGoing, state_of, opening_seen}
-use Rattle.ring_cluster.specs.Plays.{Plays, PlaysSoFar, HasGoneOn, AgendasAreEmpty, place_among}
-use Rattle.ring_cluster.specs.Plays as cluster
+use Rattle.ring_world.proofs.Deaths.InOrder.{last_append}
+use Rattle.ring_world.proofs.Deaths.Laws.{every_state_lawful, every_run_goes_on}
+use Rattle.ring_cluster.specs.Deaths.Seen.{Seen, IsGoing, state_of, opening_seen}
+use Rattle.ring_cluster.specs.Deaths.Idle.{NobodyStopped}
+use Rattle.ring_cluster.specs.Deaths.Plays.{Plays, PlaysSoFar, HasGoneOn, AgendasAreEmpty, place_among}
+use Rattle.ring_cluster.specs.Deaths.Plays as cluster
+use Rattle.ring_cluster.proofs.Deaths.Alive.{nobody_stopped_before}
+use Rattle.ring_cluster.proofs.Deaths.Heard.{run_quiet_has_heard}
 use Rattle.ring_script.specs.declared.script.Script.{Script}
 use Rattle.ring_script.specs.Reading.{IsCommandTo}
 use Rattle.ringplay.specs.Report.{report_of}
@@ -48,38 +53,70 @@ known_command_of names (command.Cast by body) ng ns h = known_place names by h.0
 known_command_of names (command.Go turns) ng ns h = ng turns refl
 known_command_of names command.Settle ng ns h = ns refl
 
+-- ---- runs in two parts
+
+-- its first events are a run
+pub run_front : (w : World) (k : ℕ) (events : List Event) → IsRun w events → IsRun w (take k events)
+run_front w zero events r = tt
+run_front w (suc k) [] r = tt
+run_front w (suc k) (e ∷ es) r = (r.0, run_front (effect w e) k es r.1)
+
+-- and so are the others, from the state after these
+pub run_back : (w : World) (k : ℕ) (events : List Event) → IsRun w events → IsRun (last w (take k events)) (drop k events)
+run_back w zero events r = r
+run_back w (suc k) [] r = tt
+run_back w (suc k) (e ∷ es) r = run_back (effect w e) k es r.1
+
+-- after both stands the whole
+whole_run : (w : World) (k : ℕ) (events : List Event) → last (last w (take k events)) (drop k events) ≡ last w events
+whole_run w k events = sym (last_append w (take k events) (drop k events)) ∙ ap (last w) (take-append-drop k events)
+
 -- ---- the laws after each prefix
 
-pub lawful_after : (script : Script) (journal : List Event) → IsRun (opening script.credit script.members) journal → (k : ℕ) → IsLawful (state_after script journal k)
-lawful_after script journal run k = run_lawful script.credit script.members (take k journal) (IsRun-take (opening script.credit script.members) k journal run)
+module _ (script : Script) (journal : List Event) (are : AreOpeningNames script.members) (run : IsRun (opening script.credit script.members) journal) where
+  -- the ring as it opened
+  abbrev opened : World
+  opened = opening script.credit script.members
 
-pub split_at_front : (j k : ℕ) (journal : List Event) → j ≤ k → take j journal ++ drop j (take k journal) ≡ take k journal
-split_at_front j k journal l = ap (λ xs. xs ++ drop j (take k journal)) (sym (take-take j k journal l)) ∙ take-append-drop j (take k journal)
+  pub lawful_after : (k : ℕ) → IsLawful script.credit.initial (state_after script journal k)
+  lawful_after k = every_state_lawful script.credit script.members (take k journal) are (run_front opened k journal run)
 
-pub falls_never : (script : Script) (journal : List Event) → IsRun (opening script.credit script.members) journal → (j k : ℕ) → j ≤ k → NeverFalls (state_after script journal j) (state_after script journal k)
-falls_never script journal run j k l =
-    let whole : take j journal ++ drop j (take k journal) ≡ take k journal = split_at_front j k journal l in
-    subst (λ es. NeverFalls (state_after script journal j) (last (opening script.credit script.members) es)) whole
-    (run_rises script.credit script.members (take j journal) (drop j (take k journal)) (subst (IsRun (opening script.credit script.members)) (sym whole) (IsRun-take (opening script.credit script.members) k journal run)))
+  -- nobody had stopped before where nobody has at the end
+  pub alive_after : NobodyStopped (last opened journal) → (k : ℕ) → NobodyStopped (state_after script journal k)
+  alive_after up k =
+      nobody_stopped_before script.credit script.members (take k journal) (drop k journal) are (run_front opened k journal run) (run_back opened k journal run)
+      (subst NobodyStopped (sym (whole_run opened k journal)) up)
+
+  pub goes_on_after : (j k : ℕ) → j ≤ k → GoesOn (state_after script journal j) (state_after script journal k)
+  goes_on_after j k l =
+      let first : List Event = take k journal in
+      let r : IsRun opened first = run_front opened k journal run in
+      let same : take j first ≡ take j journal = take-take j k journal l in
+      subst (λ es. GoesOn (last opened es) (last opened first)) same
+      (subst (GoesOn (last opened (take j first))) (whole_run opened j first)
+      (every_run_goes_on script.credit script.members (take j first) (drop j first) are (run_front opened j first r) (run_back opened j first r)))
 
 -- ---- a played script
 
 -- a cluster that has performed a script and settled has played it
 pub played_by : (script : Script) (c : Seen) (journal : List Event) (text : List ℕ) → c.credit ≡ script.credit → c.names ≡ script.members → c.given ≡ given_of script
-    → IsGoing c → IsQuiet (state_of c) → AgendasAreEmpty c → Plays c.credit c.names c.events c.given → journal ≡ c.events → text ≡ report_of (state_of c)
+    → IsGoing c → NobodyStopped (state_of c) → IsQuiet (state_of c) → AgendasAreEmpty c → Plays c.credit c.names c.events c.given → journal ≡ c.events → text ≡ report_of (state_of c)
     → IsPlayedBy script journal text (Some c)
-played_by script c journal text ec en eg going quiet empty plays ej et =
+played_by script c journal text ec en eg going up quiet empty plays ej et =
+    let are : AreOpeningNames script.members = subst AreOpeningNames en going.are in
     let run : IsRun (opening script.credit script.members) journal = rw (sym ec, sym en, ej) going.run in
     let quiet' : IsQuiet (last (opening script.credit script.members) journal) = rw (sym ec, sym en, ej) quiet in
+    let up' : NobodyStopped (last (opening script.credit script.members) journal) = rw (sym ec, sym en, ej) up in
     record {
       played = record {
         run = run;
         few = rw ej going.few;
         plays = rw (sym ec, sym en, ej, sym eg) plays;
-        lawful = lawful_after script journal run;
-        never_falls = falls_never script journal run;
+        alive = alive_after script journal are run up';
+        lawful = lawful_after script journal are run;
+        goes_on = goes_on_after script journal are run;
         quiet = quiet';
-        heard_all = run_quiet_has_heard script.credit script.members journal run quiet';
+        heard_all = run_quiet_has_heard script.credit script.members journal are run quiet';
         report = rw (sym ec, sym en, ej) et;
       };
       by = record { seen = c; is = refl; names = en; credit = ec; events = sym ej; given = eg; empty = empty };
@@ -88,11 +125,11 @@ played_by script c journal text ec en eg going quiet empty plays ej et =
 -- a cluster that opened as a, performed the commands of a script to b and settled to c
 pub played_all : (script : Script) (a b c : Seen) (journal : List Event) (text : List ℕ) → a ≡ opening_seen script.credit script.members
     → SameRing a b → b.given ≡ a.given ++ commands_on script.lines → HasGoneOn b c → c.given ≡ b.given ++ command.Settle ∷ []
-    → IsGoing c → IsQuiet (state_of c) → AgendasAreEmpty c → Plays c.credit c.names c.events c.given → journal ≡ c.events → text ≡ report_of (state_of c)
+    → IsGoing c → NobodyStopped (state_of c) → IsQuiet (state_of c) → AgendasAreEmpty c → Plays c.credit c.names c.events c.given → journal ≡ c.events → text ≡ report_of (state_of c)
     → IsPlayedBy script journal text (Some c)
-played_all script a b c journal text ea ring given goes settled going quiet empty plays ej et =
+played_all script a b c journal text ea ring given goes settled going up quiet empty plays ej et =
     played_by script c journal text
     (goes.1.credit ∙ ring.1 ∙ ap (λ s. s.credit) ea)
     (goes.1.names ∙ ring.0 ∙ ap (λ s. s.names) ea)
     (settled ∙ ap (λ xs. xs ++ command.Settle ∷ []) (given ∙ ap (λ s. s.given ++ commands_on script.lines) ea))
-    going quiet empty plays ej et
+    going up quiet empty plays ej et

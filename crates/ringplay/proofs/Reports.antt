@@ -1,72 +1,67 @@
 -- What members that stand in a state show of it.
-use Rattle.std.proofs.lemmas.List.{flat_map_more}
-use Rattle.std.proofs.lemmas.List.FromFn.{get_or-map-range_with_len}
+use Rattle.std.proofs.lemmas.List.{flat_map_more, take_all}
 use Rattle.std.specs.List.{flat_map, range_with_len}
-use Rattle.std.proofs.Common.{◌≡◌, ℕ, zero, suc, ◌+◌, ◌<◌, List, [], ◌∷◌, ◌++◌, ap, sym, ◌∙◌, arith, append_assoc, add-zero, zero-add, add-one, take, refl, count_by}
-use Rattle.ring_world.specs.World.{World, row_at, member_at, log_of, no_row}
-use Rattle.ring_world.specs.Laws.{row_of}
-use Rattle.ring_world.specs.Shown.{counts_of, is_cast, is_publish}
-use Rattle.ring_names.specs.declared.message.Message.{Message}
-use Rattle.ring_world.specs.declared.shown.Counts.{Counts}
-use Rattle.gm_member.specs.Held.{Held}
-use Rattle.gm_member.specs.View.{known_at}
-use Rattle.gm_member.specs.Stands.{held_in}
-use Rattle.ringplay.specs.Report.{name_of, member_line, counts_lines, heard_line, heard_lines, lines_of_member}
+use Rattle.std.proofs.Common.{◌≡◌, ℕ, zero, suc, ◌+◌, ◌-◌, ◌<◌, ◌≤◌, List, [], ◌∷◌, ◌++◌, length, ap, sym, ◌∙◌, arith, append_assoc, add-zero, add-one}
+use Rattle.ring_world.specs.Shown.{counts_in}
+use Rattle.group_view.specs.View.{Group, entry_in}
+use Rattle.ring_world.specs.Deaths.Machine.{World, row_at, member_at}
+use Rattle.ring_world.specs.Deaths.Step.{size, log_of}
+use Rattle.ring_world.specs.Deaths.Asked.{counts_of}
+use Rattle.gm_member.specs.Deaths.Held.{Held, known_at}
+use Rattle.gm_member.proofs.Deaths.Fit.{IsFit}
+use Rattle.gm_member.proofs.Deaths.Facts.{held_row}
+use Rattle.ring_cluster.proofs.Deaths.Holding.{IsHeld}
+use Rattle.ringplay.specs.Report.{name_of, newest_view, member_line, counts_lines, heard_line, heard_from, heard_lines, while_up, lines_of_member}
 
 -- the numbers from a on, and the next one
 range_more : (a n k : ℕ) → a + n ≡ k → range_with_len a (n + 1) ≡ range_with_len a n ++ k ∷ []
 range_more a zero k e = ap (λ x. x ∷ []) (sym (add-zero a) ∙ e)
 range_more a (suc n) k e = ap (range_with_len a) (add-one (suc n)) ∙ ap (λ xs. a ∷ xs) (ap (range_with_len (a + 1)) (sym (add-one n)) ∙ range_more (a + 1) n k (omega arith))
 
--- the text of the places below n, and that of place n
-pub places_more : {A : Type 0} (f : ℕ → List A) (before : List A) (n : ℕ) → (before ++ flat_map f (range_with_len 0 n)) ++ f n ≡ before ++ flat_map f (range_with_len 0 (n + 1))
-places_more f before n = flat_map_more f before (range_with_len 0 n) n ∙ ap (λ ns. before ++ flat_map f ns) (sym (range_more 0 n n (zero-add n)))
+-- the text of the ids up to n, and that of the next one
+pub ids_more : {A : Type 0} (f : ℕ → List A) (before : List A) (n : ℕ) → (before ++ flat_map f (range_with_len 1 n)) ++ f (n + 1) ≡ before ++ flat_map f (range_with_len 1 (n + 1))
+ids_more f before n = flat_map_more f before (range_with_len 1 n) (n + 1) ∙ ap (λ ns. before ++ flat_map f ns) (sym (range_more 1 n (n + 1) (omega arith)))
 
 -- three pieces pushed one after another
 pub joined : {A : Type 0} (old a b c first second third : List A) → first ≡ old ++ a → second ≡ first ++ b → third ≡ second ++ c → third ≡ old ++ (a ++ b ++ c)
 joined old a b c first second third e f g = simp append_assoc (g ∙ ap (λ xs. xs ++ c) f ∙ ap (λ xs. (xs ++ b) ++ c) e ∙ simp append_assoc)
 
--- the counts of a log and of its confirmed part
-abbrev pub counts_in : List Message → List Message → Counts
-counts_in confirmed log = record {
-  casts = count_by is_cast log;
-  casts_confirmed = count_by is_cast confirmed;
-  publishes = count_by is_publish log;
-  publishes_confirmed = count_by is_publish confirmed;
-}
+-- what is held of an origin
+row_stands : (w : World) (x p : ℕ) (h : Held) → size w ≤ 65 → 1 ≤ p → p < size w → IsHeld w x h → known_at h.rows (p - 1) ≡ row_at (member_at w x) p
+row_stands w x p h few some lt e =
+    let back : p - 1 + 1 ≡ p = omega arith in
+    ap (λ k. known_at k.rows (p - 1)) e ∙ held_row w x (p - 1) (omega arith) ∙ ap (row_at (member_at w x)) back
 
--- what a member that stands at place q shows: its name, its rows and its counts
-pub name_stands : (w : World) (q : ℕ) (h : Held) → h ≡ held_in w q → h.member.name ≡ name_of w q
-name_stands w q h e = ap (λ g. g.member.name) e
+-- the counts of a member that stands at the id x are those that the ring has of it: it has all its own messages
+counts_stand : (w : World) (x : ℕ) (h : Held) → IsFit w → 1 ≤ x → x < size w → IsHeld w x h
+    → counts_in (known_at h.rows (h.id - 1)).forgot (known_at h.rows (h.id - 1)).heard ≡ counts_of x (member_at w x)
+counts_stand w x h f some lt e =
+    let row : known_at h.rows (h.id - 1) ≡ row_at (member_at w x) x = ap (λ g. known_at h.rows (g.id - 1)) e ∙ row_stands w x x h f.sized.few some lt e in
+    let whole : length (log_of w x) ≤ (row_at (member_at w x) x).got = omega (arith, f.sized.own x some lt) in
+    ap (λ r. counts_in r.forgot r.heard) row
+    ∙ ap (counts_in (row_at (member_at w x) x).forgot) (f.lawful.in_order x x ∙ take_all (row_at (member_at w x) x).got (log_of w x) whole)
 
-pub row_stands : (w : World) (q p : ℕ) (h : Held) → p < 64 → h ≡ held_in w q → known_at h.member.rows p ≡ row_of w q p
-row_stands w q p h l e = ap (λ g. known_at g.member.rows p) e ∙ get_or-map-range_with_len (row_at (member_at w q)) 0 64 p p no_row l (omega arith)
+-- what is pushed for a member that stands at the id x is what the report says of it
+pub lines_stand : (w : World) (x : ℕ) (h : Held) (g : Group) (old named counted heard : List ℕ) → IsFit w → 1 ≤ x → x < size w → IsHeld w x h → g ≡ newest_view w
+    → named ≡ old ++ member_line h.name h.phase (entry_in g.entries h.id)
+    → counted ≡ named ++ counts_lines (counts_in (known_at h.rows (h.id - 1)).forgot (known_at h.rows (h.id - 1)).heard)
+    → heard ≡ counted ++ while_up (member_at w x).phase (heard_lines w x)
+    → heard ≡ old ++ lines_of_member w x
+lines_stand w x h g old named counted heard f some lt e v a b c =
+    let line = member_line (name_of w x) (member_at w x).phase (entry_in (newest_view w).entries x) in
+    let a' : named ≡ old ++ line =
+    a ∙ ap (λ k. old ++ member_line k.name k.phase (entry_in g.entries k.id)) e ∙ ap (λ u. old ++ member_line (name_of w x) (member_at w x).phase (entry_in u.entries x)) v in
+    let b' : counted ≡ named ++ counts_lines (counts_of x (member_at w x)) = b ∙ ap (λ k. named ++ counts_lines k) (counts_stand w x h f some lt e) in
+    joined old line (counts_lines (counts_of x (member_at w x))) (while_up (member_at w x).phase (heard_lines w x)) named counted heard a' b' c
 
-pub counts_stand : (w : World) (q : ℕ) (h : Held) → q < 64 → h ≡ held_in w q → counts_of h.place h.member ≡ counts_of q (member_at w q)
-counts_stand w q h l e =
-    ap (λ g. counts_of g.place g.member) e
-    ∙ ap (λ r. counts_in (take r.forgot (log_of w q)) (log_of w q)) (row_stands w q q (held_in w q) l refl)
+-- what is pushed for members h and o that stand at the ids x and p is what the report says that x has heard of p
+heard_stands : (w : World) (x p : ℕ) (h o : Held) → size w ≤ 65 → 1 ≤ p → p < size w → IsHeld w x h → IsHeld w p o
+    → flat_map (heard_line o.name) (known_at h.rows (o.id - 1)).heard ≡ heard_from w x p
+heard_stands w x p h o few some lt e f =
+    ap (λ g. flat_map (heard_line g.name) (known_at h.rows (g.id - 1)).heard) f ∙ ap (λ r. flat_map (heard_line (name_of w p)) r.heard) (row_stands w x p h few some lt e)
 
--- what is pushed for a member that stands at place q is what the report says of it
-pub lines_stand : (w : World) (q : ℕ) (h : Held) (old named counted heard : List ℕ) → q < 64 → h ≡ held_in w q
-    → named ≡ old ++ member_line h.member.name → counted ≡ named ++ counts_lines (counts_of h.place h.member) → heard ≡ counted ++ heard_lines w q
-    → heard ≡ old ++ lines_of_member w q
-lines_stand w q h old named counted heard l e a b c =
-    let a' : named ≡ old ++ member_line (name_of w q) = a ∙ ap (λ n. old ++ member_line n) (name_stands w q h e) in
-    let b' : counted ≡ named ++ counts_lines (counts_of q (member_at w q)) = b ∙ ap (λ k. named ++ counts_lines k) (counts_stand w q h l e) in
-    joined old (member_line (name_of w q)) (counts_lines (counts_of q (member_at w q))) (heard_lines w q) named counted heard a' b' c
-
--- what the report says that a member at place q has heard of the one at place p
-abbrev pub heard_from : World → ℕ → ℕ → List ℕ
-heard_from w q p = flat_map (heard_line (name_of w p)) (row_of w q p).heard
-
--- what is pushed for members h and o that stand at places q and p is that
-pub heard_stands : (w : World) (q p : ℕ) (h o : Held) → p < 64 → h ≡ held_in w q → o ≡ held_in w p
-    → flat_map (heard_line o.member.name) (known_at h.member.rows o.place).heard ≡ heard_from w q p
-heard_stands w q p h o l e f = ap (λ x. flat_map (heard_line x.member.name) (known_at h.member.rows x.place).heard) f ∙ ap (λ r. flat_map (heard_line (name_of w p)) r.heard) (row_stands w q p h l e)
-
-pub heard_more : (w : World) (q p : ℕ) (h o : Held) (old before after : List ℕ) → p < 64 → h ≡ held_in w q → o ≡ held_in w p
-    → before ≡ old ++ flat_map (heard_from w q) (range_with_len 0 p) → after ≡ before ++ flat_map (heard_line o.member.name) (known_at h.member.rows o.place).heard
-    → after ≡ old ++ flat_map (heard_from w q) (range_with_len 0 (p + 1))
-heard_more w q p h o old before after l e f b a =
-    a ∙ ap (λ xs. before ++ xs) (heard_stands w q p h o l e f) ∙ ap (λ xs. xs ++ heard_from w q p) b ∙ places_more (heard_from w q) old p
+pub heard_more : (w : World) (x p : ℕ) (h o : Held) (old before after : List ℕ) → size w ≤ 65 → p + 1 < size w → IsHeld w x h → IsHeld w (p + 1) o
+    → before ≡ old ++ flat_map (heard_from w x) (range_with_len 1 p) → after ≡ before ++ flat_map (heard_line o.name) (known_at h.rows (o.id - 1)).heard
+    → after ≡ old ++ flat_map (heard_from w x) (range_with_len 1 (p + 1))
+heard_more w x p h o old before after few lt e f b a =
+    a ∙ ap (λ xs. before ++ xs) (heard_stands w x (p + 1) h o few (omega arith) lt e f) ∙ ap (λ xs. xs ++ heard_from w x (p + 1)) b ∙ ids_more (heard_from w x) old p

@@ -6,12 +6,16 @@ use Rattle.ring_script.specs.declared.command.Command.TheVariants.{Settle}
 use Rattle.ring_script.specs.declared.script.Script.{Script}
 use Rattle.ring_script.specs.Words.{lines_of}
 use Rattle.ring_script.specs.Reading.{IsScriptOf, IsFirstFault}
-use Rattle.ring_world.specs.declared.fixed.Event.{Event}
-use Rattle.ring_world.specs.World.{World}
-use Rattle.ring_world.specs.Run.{IsRun, opening, last}
-use Rattle.ring_world.specs.Laws.{IsLawful, NeverFalls, IsQuiet, HasHeardAll}
-use Rattle.ring_cluster.specs.Seen.{Seen}
-use Rattle.ring_cluster.specs.Plays.{Plays, AgendasAreEmpty}
+use Rattle.ring_world.specs.declared.event.Event.{Event}
+use Rattle.ring_world.specs.Deaths.Machine.{World}
+use Rattle.ring_world.specs.Deaths.Step.{opening}
+use Rattle.ring_world.specs.Deaths.Event.{IsRun, last}
+use Rattle.ring_world.specs.Deaths.Laws.{IsLawful, GoesOn}
+use Rattle.ring_world.specs.Deaths.Quiet.{IsQuiet}
+use Rattle.ring_cluster.specs.Deaths.Seen.{Seen}
+use Rattle.ring_cluster.specs.Deaths.Idle.{NobodyStopped}
+use Rattle.ring_cluster.specs.Deaths.Heard.{HasHeardAll}
+use Rattle.ring_cluster.specs.Deaths.Plays.{Plays, AgendasAreEmpty}
 use Rattle.ringplay.specs.declared.call.Cause.{Cause}
 use Rattle.ringplay.specs.declared.call.Cause.TheVariants as causes
 use Rattle.ringplay.specs.declared.call.Ended.{Ended}
@@ -37,15 +41,16 @@ abbrev pub given_of : Script → List Command
 given_of script = commands_on script.lines ++ Settle ∷ []
 
 -- The journal is a run of the ring from the script's members and credit. Each member's client events in it are
--- its commands, and at each settling all earlier commands were done and the ring was quiet. The laws hold after
--- each of its prefixes and from each prefix to the next. Its last state is quiet, each message is confirmed
--- there and every member has heard all, and the text is the report of it.
+-- its commands, and at each settling all earlier commands were done and the ring was quiet. After each of its
+-- prefixes every member is up and the laws hold, and from each prefix to the next nothing falls. Its last state is
+-- quiet, each message is confirmed there and every member has heard all, and the text is the report of it.
 pub record IsPlayed (script : Script) (journal : List Event) (text : List ℕ) : Type 0 where
   pub run : IsRun (opening script.credit script.members) journal
   pub few : length journal < 2 ^ 59
   pub plays : Plays script.credit script.members journal (given_of script)
-  pub lawful : (k : ℕ) → IsLawful (state_after script journal k)
-  pub never_falls : (j k : ℕ) → j ≤ k → NeverFalls (state_after script journal j) (state_after script journal k)
+  pub alive : (k : ℕ) → NobodyStopped (state_after script journal k)
+  pub lawful : (k : ℕ) → IsLawful script.credit.initial (state_after script journal k)
+  pub goes_on : (j k : ℕ) → j ≤ k → GoesOn (state_after script journal j) (state_after script journal k)
   pub quiet : IsQuiet (last (opening script.credit script.members) journal)
   pub heard_all : HasHeardAll (last (opening script.credit script.members) journal)
   pub report : text ≡ report_of (last (opening script.credit script.members) journal)

@@ -1,29 +1,62 @@
 -- The report of a state of the ring.
-use Rattle.std.specs.Prelude.{ℕ, List, [], ◌∷◌, ◌++◌, codes}
+use Rattle.std.specs.Prelude.{ℕ, ◌-◌, Bool, true, false, List, [], ◌∷◌, ◌++◌, codes, Option, Some, None}
 use Rattle.std.specs.List.{range_with_len, flat_map}
 use Rattle.std.specs.Fmt.{decimal}
 use Rattle.ring_names.specs.declared.message.Message.{Message}
 use Rattle.ring_names.specs.declared.message.Message.TheVariants.{Cast}
+use Rattle.ring_names.specs.declared.numbers.MemberId.{MemberId}
+use Rattle.group_view.specs.declared.entry.Entry.{Entry}
+use Rattle.group_view.specs.declared.entry.Mark.{Mark}
+use Rattle.group_view.specs.declared.entry.Mark.TheVariants.{Live, Dead, Erased}
+use Rattle.group_view.specs.View.{Group, entry_in}
+use Rattle.ring_world.specs.declared.phase.Phase.{Phase}
+use Rattle.ring_world.specs.declared.phase.Phase.TheVariants.{Waiting, Up, Stopped}
 use Rattle.ring_world.specs.declared.shown.Counts.{Counts}
-use Rattle.ring_world.specs.World.{World, member_at, size}
-use Rattle.ring_world.specs.Shown.{counts_of}
-use Rattle.ring_world.specs.Laws.{row_of}
+use Rattle.ring_world.specs.Deaths.Machine.{World, member_at, row_at, view_at, newest}
+use Rattle.ring_world.specs.Deaths.Step.{size}
+use Rattle.ring_world.specs.Deaths.Asked.{counts_of}
 
--- the name of the member at place i
+-- the name of the member of an id
 abbrev pub name_of : World → ℕ → List ℕ
-name_of w i = (member_at w i).name
+name_of w x = (member_at w x).name
+
+-- the view that the group has now
+abbrev pub newest_view : World → Group
+newest_view w = view_at w (newest w)
 
 -- the line feed that ends a line
 abbrev pub newline : List ℕ
 newline = 10 ∷ []
 
--- the view, the term and the master: a ring whose members stay keeps its first view, and its first member is master
-abbrev pub ring_line : List ℕ → List ℕ
-ring_line master = codes "ring view=1 term=1 master=" ++ master ++ newline
+-- the name of the master, where there is one
+abbrev pub master_name : List Entry → Option MemberId → List ℕ
+master_name entries None = codes "none"
+master_name entries (Some id) = (entry_in entries id.0).name
 
--- a member of such a ring is up, and registered as synchronised
-abbrev pub member_line : List ℕ → List ℕ
-member_line name = codes "member " ++ name ++ codes " up synced" ++ newline
+-- the view, the term and the master
+abbrev pub ring_line : Group → List ℕ
+ring_line g = codes "ring view=" ++ decimal g.version ++ codes " term=" ++ decimal g.term ++ codes " master=" ++ master_name g.entries g.master ++ newline
+
+-- of a member that is up, whether it is registered as synchronised
+abbrev pub up_text : Bool → List ℕ
+up_text true = codes " up synced"
+up_text false = codes " up missing=?"
+
+-- of one that has stopped, whether nothing of what it published is on its way any more
+abbrev pub stopped_text : Mark → List ℕ
+stopped_text Live = codes " stopped"
+stopped_text Dead = codes " stopped"
+stopped_text Erased = codes " erased"
+
+-- where a member stands that has this entry
+abbrev pub state_text : Phase → Entry → List ℕ
+state_text Waiting e = codes " waiting"
+state_text Up e = up_text e.synced
+state_text Stopped e = stopped_text e.mark
+
+-- the line of it
+abbrev pub member_line : List ℕ → Phase → Entry → List ℕ
+member_line name phase e = codes "member " ++ name ++ state_text phase e ++ newline
 
 -- how many messages of its own it has published, and how many of them are confirmed
 abbrev pub counts_lines : Counts → List ℕ
@@ -35,14 +68,26 @@ counts_lines c =
 abbrev pub heard_line : List ℕ → Message → List ℕ
 heard_line origin (Cast body) = codes "heard " ++ origin ++ codes " " ++ body ++ newline
 
--- each cast that a member has received, by origin in order of ids, and in order; its own are all its casts
+-- what the member x has received of the origin p, in order
+abbrev pub heard_from : World → ℕ → ℕ → List ℕ
+heard_from w x p = flat_map (heard_line (name_of w p)) (row_at (member_at w x) p).heard
+
+-- each cast that a member has received, by origin in order of ids; its own are all its casts
 abbrev pub heard_lines : World → ℕ → List ℕ
-heard_lines w q = flat_map (λ p. flat_map (heard_line (name_of w p)) (row_of w q p).heard) (range_with_len 0 (size w))
+heard_lines w x = flat_map (heard_from w x) (range_with_len 1 (size w - 1))
 
--- the lines of the member at place q
+-- which are told of a member that is up
+abbrev pub while_up : Phase → List ℕ → List ℕ
+while_up Waiting lines = []
+while_up Up lines = lines
+while_up Stopped lines = []
+
+-- the lines of the member x
 abbrev pub lines_of_member : World → ℕ → List ℕ
-lines_of_member w q = member_line (name_of w q) ++ counts_lines (counts_of q (member_at w q)) ++ heard_lines w q
+lines_of_member w x =
+    member_line (name_of w x) (member_at w x).phase (entry_in (newest_view w).entries x) ++ counts_lines (counts_of x (member_at w x))
+    ++ while_up (member_at w x).phase (heard_lines w x)
 
--- the ring, and then each member by its id
+-- the ring, and then each member that it has ever had, by its id
 abbrev pub report_of : World → List ℕ
-report_of w = ring_line (name_of w 0) ++ flat_map (lines_of_member w) (range_with_len 0 (size w))
+report_of w = ring_line (newest_view w) ++ flat_map (lines_of_member w) (range_with_len 1 (size w - 1))

@@ -1,15 +1,15 @@
 //! Playing a script.
 ghost use Rattle.std.specs.Prelude.{◌≡◌, ◌∷◌, ◌++◌, [], Some, All, IfOk, OnOk};
 ghost use Rattle.ring_script.specs.Reading.{IsPlayable, IsCommandTo};
-ghost use Rattle.ring_cluster.specs.Plays.{PlaysSoFar};
+ghost use Rattle.ring_cluster.specs.Deaths.Plays.{PlaysSoFar};
 ghost use Rattle.ringplay.specs.Call.{SameRing, IsPlayedBy, commands_on};
 
 use crate::report::report;
-use ring_cluster::Cluster;
+use ring_cluster::repair::Cluster;
 use ring_io::Gate;
 use ring_names::OutOfMemory;
 use ring_script::{Command, Script};
-use ring_world::fixed::Event;
+use ring_world::Event;
 use std::alloc::Global;
 use std::thread::Threads;
 
@@ -41,6 +41,7 @@ pub(crate) fn play<T: Threads, G: Gate>(
     let heard = lines.len();
     let mut cluster = Cluster::opening(alloc, &names, credit)?;
     perform(threads, &mut cluster, lines, gate)?;
+    cluster.is_going();
     cluster.settle(threads, gate)?;
     cluster.is_going();
     let journal = cluster.journal()?;

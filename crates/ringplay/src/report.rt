@@ -1,21 +1,25 @@
 //! The report: the ring, and of each member what it has published and what it has received.
-ghost use Rattle.std.specs.Prelude.{◌≡◌, ℕ, ◌<◌, ◌≤◌, ◌++◌, IfOk, OnOk, codes, count_by, length, take};
+ghost use Rattle.std.specs.Prelude.{◌≡◌, ℕ, ◌+◌, ◌-◌, ◌<◌, ◌≤◌, ◌++◌, IfOk, OnOk, MatchOption, codes, count_by, length, nat_eq, take};
 ghost use Rattle.std.specs.Fmt.{decimal};
 ghost use Rattle.std.specs.List.{flat_map};
-ghost use Rattle.ring_world.specs.World.{most_members, size};
-ghost use Rattle.ring_world.specs.Shown.{is_cast as is_cast_message, is_publish as is_publish_message, counts_of};
-ghost use Rattle.gm_member.specs.View.{known_at};
-ghost use Rattle.gm_member.specs.Stands.{held_in};
-ghost use Rattle.ring_cluster.specs.Nodes.{held_of};
-ghost use Rattle.ring_cluster.specs.Seen.{state_of};
-ghost use Rattle.ringplay.specs.Report.{report_of, newline, ring_line, member_line, counts_lines, heard_line, heard_lines, lines_of_member};
+ghost use Rattle.group_view.specs.View.{entry_in, no_entry};
+ghost use Rattle.ring_world.specs.World.{most_members};
+ghost use Rattle.ring_world.specs.Shown.{is_cast as is_cast_message, is_publish as is_publish_message, counts_in};
+ghost use Rattle.ring_world.specs.Deaths.Machine.{member_at as the_member};
+ghost use Rattle.ring_world.specs.Deaths.Step.{size};
+ghost use Rattle.gm_member.specs.Deaths.Held.{known_at};
+ghost use Rattle.gm_member.specs.Deaths.Shown.{held_of};
+ghost use Rattle.gm_member.specs.Deaths.Stands.{held_in};
+ghost use Rattle.ring_cluster.specs.Deaths.Seen.{state_of};
+ghost use Rattle.ringplay.specs.Report.{report_of, newline, ring_line, master_name, state_text as the_state_text, up_text as the_up_text, stopped_text as the_stopped_text, member_line, counts_lines, heard_line, heard_lines, while_up, lines_of_member};
 
 #[cfg(test)]
 mod tests;
 
-use ring_cluster::{Cluster, Node};
+use group_view::{Entry, Mark, View};
+use ring_cluster::repair::{Cluster, Node};
 use ring_names::{MemberId, Message, Name, OutOfMemory};
-use ring_world::Counts;
+use ring_world::{Counts, Phase};
 use std::alloc::Global;
 
 /// The bytes of the shortest line of a message that was received, its line feed with it.
@@ -36,19 +40,19 @@ pub(crate) fn report(
     let count = names.len();
     let room = count.saturating_mul(heard).saturating_mul(SHORTEST_HEARD);
     let mut text = Vec::with_capacity(alloc, room)?;
-    push_ring(&mut text, member_at(cluster, 0).name().bytes())?;
+    push_ring(alloc, &mut text, cluster.view())?;
     for place in 0..count {
         push_member(alloc, &mut text, cluster, count, place)?;
     }
     Ok(text)
 }
 
-/// The member at a place. The last state of the journal has as many as the ring opened with.
+/// The member at a place, whose id is one more. The last state of the journal has as many as the ring opened with.
 fn member_at(cluster: &Cluster, place: usize) -> &Node
     requires { place < length (cluster.now).names }
-    ensures stands { held_of result.now ≡ held_in (state_of cluster.now) place }
-    ensures few { place < most_members }
-    ensures size { size (state_of cluster.now) ≡ length (cluster.now).names }
+    ensures stands { held_of result.now
+        ≡ record (held_in (state_of cluster.now) (place + 1)) { door = (held_of result.now).door } }
+    ensures few { length (cluster.now).names ≤ most_members }
 {
     cluster.is_going();
     let Some(member) = cluster.member(MemberId(place as u32 + 1)) else {
@@ -57,24 +61,71 @@ fn member_at(cluster: &Cluster, place: usize) -> &Node
     member
 }
 
-fn push_around(
-    out: &mut Vec<u8>,
-    before: &[u8],
-    name: &[u8],
-    after: &[u8],
-) -> Result<(), OutOfMemory>
-    ensures { OnOk result (out.new.items ≡ out.old.items ++ (before.now ++ name.now ++ after.now)) }
+fn has_id(entry: &Entry, id: MemberId) -> bool
+    ensures { result ≡ nat_eq entry.now.id.0 id.0 }
 {
-    out.extend_from_slice(before)?;
-    out.extend_from_slice(name)?;
-    out.extend_from_slice(after)?;
-    Ok(())
+    entry.id.0 == id.0
 }
 
-fn push_ring(out: &mut Vec<u8>, master: &[u8]) -> Result<(), OutOfMemory>
-    ensures { OnOk result (out.new.items ≡ out.old.items ++ ring_line master.now) }
+/// The entry of an id.
+fn entry_of(entries: &[Entry], id: MemberId) -> Option<&Entry>
+    ensures { MatchOption result (entry_in entries.now id.0 ≡ no_entry) (λ entry. entry.now ≡ entry_in entries.now id.0) }
 {
-    push_around(out, b"ring view=1 term=1 master=", master, b"\n")
+    for entry in entries {
+        if has_id(entry, id) {
+            return Some(entry);
+        }
+    }
+    None
+}
+
+/// The name of the entry of an id.
+fn name_in(entries: &[Entry], id: MemberId) -> &[u8]
+    ensures { result.now ≡ (entry_in entries.now id.0).name }
+{
+    match entry_of(entries, id) {
+        Some(entry) => entry.name.bytes(),
+        None => b"",
+    }
+}
+
+/// Whether the entry of an id is registered as synchronised.
+fn is_synced(entries: &[Entry], id: MemberId) -> bool
+    ensures { result ≡ (entry_in entries.now id.0).synced }
+{
+    match entry_of(entries, id) {
+        Some(entry) => entry.synced,
+        None => false,
+    }
+}
+
+/// The mark of the entry of an id.
+fn mark_in(entries: &[Entry], id: MemberId) -> Mark
+    ensures { result ≡ (entry_in entries.now id.0).mark }
+{
+    match entry_of(entries, id) {
+        Some(entry) => entry.mark,
+        None => Mark::Erased,
+    }
+}
+
+fn master_of(view: &View) -> &[u8]
+    ensures { result.now ≡ master_name (view.now).entries (view.now).master }
+{
+    match view.master {
+        Some(id) => name_in(view.entries.as_slice(), id),
+        None => b"none",
+    }
+}
+
+fn push_ring(alloc: Global, out: &mut Vec<u8>, view: &View) -> Result<(), OutOfMemory>
+    ensures { OnOk result (out.new.items ≡ out.old.items ++ ring_line view.now) }
+{
+    let line = format!(in alloc; "ring view={} term={} master=", view.version, view.term)?;
+    out.extend_from_slice(line.as_bytes())?;
+    out.extend_from_slice(master_of(view))?;
+    out.extend_from_slice(b"\n")?;
+    Ok(())
 }
 
 /// What the report says of the member at a place of a ring of so many.
@@ -87,19 +138,56 @@ fn push_member(
 ) -> Result<(), OutOfMemory>
     requires count { count ≡ length (cluster.now).names }
     requires within { place < count }
-    ensures { OnOk result (out.new.items ≡ out.old.items ++ lines_of_member (state_of cluster.now) place) }
+    ensures { OnOk result (out.new.items ≡ out.old.items ++ lines_of_member (state_of cluster.now) (place + 1)) }
 {
+    cluster.is_going();
     let member = member_at(cluster, place);
-    push_up(out, member.name().bytes())?;
+    push_state(out, member, cluster.view())?;
     push_counts(alloc, out, &counts(member))?;
-    push_heard(out, cluster, count, place)?;
+    push_heard_while_up(out, cluster, count, place)?;
     Ok(())
 }
 
-fn push_up(out: &mut Vec<u8>, name: &[u8]) -> Result<(), OutOfMemory>
-    ensures { OnOk result (out.new.items ≡ out.old.items ++ member_line name.now) }
+fn push_state(out: &mut Vec<u8>, member: &Node, view: &View) -> Result<(), OutOfMemory>
+    ensures { OnOk result (out.new.items ≡ out.old.items
+        ++ member_line (held_of member.now).name (held_of member.now).phase (entry_in (view.now).entries (held_of member.now).id)) }
 {
-    push_around(out, b"member ", name, b" up synced\n")
+    out.extend_from_slice(b"member ")?;
+    out.extend_from_slice(member.name().bytes())?;
+    out.extend_from_slice(state_text(member.phase(), view, member.id()))?;
+    out.extend_from_slice(b"\n")?;
+    Ok(())
+}
+
+/// Where a member of this id stands.
+fn state_text(phase: Phase, view: &View, id: MemberId) -> &'static [u8]
+    ensures { result.now ≡ the_state_text phase (entry_in (view.now).entries id.0) }
+{
+    match phase {
+        Phase::Waiting => b" waiting",
+        Phase::Up => up_text(is_synced(view.entries.as_slice(), id)),
+        Phase::Stopped => stopped_text(mark_in(view.entries.as_slice(), id)),
+    }
+}
+
+/// Nobody joins yet, so each member is registered as synchronised.
+fn up_text(synced: bool) -> &'static [u8]
+    ensures { result.now ≡ the_up_text synced }
+{
+    if synced {
+        b" up synced"
+    } else {
+        b" up missing=?"
+    }
+}
+
+fn stopped_text(mark: Mark) -> &'static [u8]
+    ensures { result.now ≡ the_stopped_text mark }
+{
+    match mark {
+        Mark::Live | Mark::Dead => b" stopped",
+        Mark::Erased => b" erased",
+    }
 }
 
 fn is_cast(message: &Message) -> bool
@@ -145,7 +233,9 @@ fn first_of(messages: &[Message], many: u64) -> &[Message]
 
 /// What a member has published. Those of its messages that have come round to it are confirmed.
 fn counts(member: &Node) -> Counts
-    ensures { result ≡ counts_of (held_of member.now).place (held_of member.now).member }
+    requires { 1 ≤ (held_of member.now).id }
+    ensures { result ≡ counts_in (known_at (held_of member.now).rows ((held_of member.now).id - 1)).forgot
+        (known_at (held_of member.now).rows ((held_of member.now).id - 1)).heard }
 {
     let own = member.heard(member.id());
     let confirmed = first_of(own, member.confirmed());
@@ -185,6 +275,24 @@ fn push_count(
     Ok(())
 }
 
+/// What a member that is up has received.
+fn push_heard_while_up(
+    out: &mut Vec<u8>,
+    cluster: &Cluster,
+    count: usize,
+    place: usize,
+) -> Result<(), OutOfMemory>
+    requires count { count ≡ length (cluster.now).names }
+    requires within { place < count }
+    ensures { OnOk result (out.new.items ≡ out.old.items
+        ++ while_up (the_member (state_of cluster.now) (place + 1)).phase (heard_lines (state_of cluster.now) (place + 1))) }
+{
+    match member_at(cluster, place).phase() {
+        Phase::Up => push_heard(out, cluster, count, place),
+        Phase::Waiting | Phase::Stopped => Ok(()),
+    }
+}
+
 /// What a member has received of each, its own messages among them.
 fn push_heard(
     out: &mut Vec<u8>,
@@ -194,8 +302,9 @@ fn push_heard(
 ) -> Result<(), OutOfMemory>
     requires count { count ≡ length (cluster.now).names }
     requires within { place < count }
-    ensures { OnOk result (out.new.items ≡ out.old.items ++ heard_lines (state_of cluster.now) place) }
+    ensures { OnOk result (out.new.items ≡ out.old.items ++ heard_lines (state_of cluster.now) (place + 1)) }
 {
+    cluster.is_going();
     let member = member_at(cluster, place);
     for origin in 0..count {
         push_heard_of(out, member, member_at(cluster, origin))?;
@@ -204,9 +313,10 @@ fn push_heard(
 }
 
 fn push_heard_of(out: &mut Vec<u8>, member: &Node, origin: &Node) -> Result<(), OutOfMemory>
+    requires { 1 ≤ (held_of origin.now).id }
     ensures { OnOk result (out.new.items ≡ out.old.items
-        ++ flat_map (heard_line (held_of origin.now).member.name)
-        (known_at (held_of member.now).member.rows (held_of origin.now).place).heard) }
+        ++ flat_map (heard_line (held_of origin.now).name)
+        (known_at (held_of member.now).rows ((held_of origin.now).id - 1)).heard) }
 {
     push_messages(out, origin.name().bytes(), member.heard(origin.id()))
 }

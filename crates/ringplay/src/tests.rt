@@ -4,7 +4,7 @@ ghost use Rattle.std.specs.Prelude.{◌<◌};
 use crate::call::{Cause, ring_call};
 use crate::word::Word;
 use ring_io::{MemorySink, MemorySource, ShutGate, SureSink, SureSource};
-use ring_world::fixed::Event;
+use ring_world::Event;
 use std::process::Abort;
 use std::test::Fail;
 use std::thread::Threads;

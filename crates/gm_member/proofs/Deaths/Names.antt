@@ -84,6 +84,10 @@ run_names : (names : List (List ℕ)) (w : World) (es : List Event) → IsGood w
 run_names names w [] g r h = h
 run_names names w (e ∷ es) g r h = run_names names (effect w e) es (event_good w e g r.0) r.1 (event_names names w e g r.0 h)
 
+-- in every state of every run
+pub reached_names : (credit : CreditSpec) (names : List (List ℕ)) (events : List Event) → AreOpeningNames names → IsRun (opening credit names) events → NamesAre names (last (opening credit names) events)
+reached_names credit names events are r = run_names names (opening credit names) events (opening_good credit names are) r (opening_names credit names)
+
 -- ---- and find their members
 
 found_in : (names : List (List ℕ)) (ms : List Member) (x : ℕ) → AreDifferent names → map (λ (m : Member). m.name) ms ≡ [] ∷ names → 1 ≤ x → x < length ms
@@ -110,7 +114,7 @@ pub reached_named : (credit : CreditSpec) (names : List (List ℕ)) (events : Li
     → 1 ≤ x → x < size (last (opening credit names) events) → id_of (last (opening credit names) events) (member_at (last (opening credit names) events) x).name ≡ Some x
 reached_named credit names events x are r some lt =
     let w : World = last (opening credit names) events in
-    found_in names w.members x are.different (run_names names (opening credit names) events (opening_good credit names are) r (opening_names credit names)) some lt
+    found_in names w.members x are.different (reached_names credit names events are r) some lt
 
 -- ---- nobody publishes at id 0
 

@@ -20,7 +20,7 @@ use Rattle.gm_member.specs.Deaths.Spares.{IsSpareFor, OpensOn}
 use Rattle.gm_member.specs.View.{row_of}
 use Rattle.gm_member.specs.Held.{Parcel}
 use Rattle.gm_member.specs.Deaths.Held.{Held, at_some, parcel_on, without, sends_to}
-use Rattle.gm_member.specs.Deaths.View.{out_of, in_of, end_of, ring_link, kept_link, kept_links, left_current, left_links}
+use Rattle.gm_member.specs.Deaths.View.{out_of, in_of, end_of, count_of, ring_link, kept_link, kept_links, left_current, left_links}
 use Rattle.gm_member.specs.Deaths.Ends.{EndPuts, EndGets, EndLooks, EndTook, EndEnds}
 
 -- The ends that a member has: of the link on which it sends, with the grant that it keeps of it; of the one from which it takes; of
@@ -179,6 +179,23 @@ module _ {O I : Type 0} where
   pub record IsReadyToMove (are_fresh : ℕ → O → I → Type 0) (free : O → ℕ) (ended : O → Bool) (m : Member O I) (s : Spare O I) : Type 0 where
     pub spare : IsSpareFor are_fresh free ended m.credit.initial (map row_of m.known.items) s
     pub room : vec_len m.old_outs + 2 ≤ vec_capacity m.old_outs
+
+  -- the member keeps a link that is ready
+  abbrev pub SpareIsReady : (ℕ → O → I → Type 0) → (O → ℕ) → (O → Bool) → Member O I → Type 0
+  SpareIsReady are_fresh free ended m = MatchOption m.spare ⊥ (IsReadyToMove are_fresh free ended m)
+
+  -- or it keeps none
+  abbrev pub SpareIsSound : (ℕ → O → I → Type 0) → (O → ℕ) → (O → Bool) → Member O I → Type 0
+  SpareIsSound are_fresh free ended m = MatchOption m.spare ⊤ (IsReadyToMove are_fresh free ended m)
+
+  -- what makes a spare link ready stays as it was
+  abbrev pub KeepsSpare : Member O I → Member O I → Type 0
+  KeepsSpare m n = (n.spare ≡ m.spare) × (n.credit ≡ m.credit) × (n.known ≡ m.known) × (vec_len n.old_outs ≤ vec_len m.old_outs) × (vec_capacity n.old_outs ≡ vec_capacity m.old_outs)
+
+  -- there is room for so many further links at the door, and for their ends among those that are left, beside the ends of all links
+  -- to the member that are there
+  abbrev pub HasRoom : ℕ → Member O I → Type 0
+  HasRoom n m = (vec_len m.door + n ≤ vec_capacity m.door) × (vec_len m.old_ins + vec_len m.door + count_of m.current + n ≤ vec_capacity m.old_ins)
 
   -- the member, whose view is of this version, sends on a new link to another, whose receiving end stands in the request
   pub record SendsOn (are_fresh : ℕ → O → I → Type 0) (free : O → ℕ) (ended : O → Bool) (puts : O → Item Load → O → Type 0) (version : ℕ) (to : MemberId) (m n : Member O I) (requests : List (Request I)) : Type 0 where

@@ -1,9 +1,11 @@
 -- What the structs of a member of a ring whose members may stop show.
-use Rattle.std.specs.Prelude.{ℕ, Bool, cond, List, [], ◌∷◌, Option, Some, None}
+use Rattle.std.specs.Prelude.{ℕ, Bool, true, false, cond, List, [], ◌∷◌, Option, Some, None}
 use Rattle.std.specs.List.{filter, flat_map}
 use Rattle.group_view.specs.declared.link.LinkName.{LinkName}
 use Rattle.group_view.specs.declared.link.LinkKind.TheVariants.{Ring}
 use Rattle.group_view.specs.View.{Group, as_id}
+use Rattle.ring_world.specs.declared.phase.Phase.{Phase}
+use Rattle.ring_world.specs.declared.phase.Phase.TheVariants.{Waiting, Up, Stopped}
 use Rattle.gm_member.specs.declared.repair.links.OutLink.{OutLink}
 use Rattle.gm_member.specs.declared.repair.links.InLink.{InLink}
 use Rattle.gm_member.specs.Deaths.Held.{Outgoing, Incoming, is_for, stays}
@@ -26,6 +28,17 @@ module _ {I : Type 0} where
 abbrev pub count_of : {A : Type 0} → Option A → ℕ
 count_of None = 0
 count_of (Some a) = 1
+
+-- whether a member is up
+abbrev pub is_up : Phase → Bool
+is_up Waiting = false
+is_up Up = true
+is_up Stopped = false
+
+-- whether it is where it has a question open
+abbrev pub is_up_where : Bool → Phase → Bool
+is_up_where true phase = is_up phase
+is_up_where false phase = true
 
 -- an end that was left, where it was there, with the name of its link
 abbrev pub left_end : {A : Type 0} → LinkName → Option A → List (LinkName × A)

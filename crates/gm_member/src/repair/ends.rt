@@ -9,7 +9,7 @@ use ordered_link::{LinkIn, LinkPair};
 impl<O: LinkPair<Load, In = I>, I: LinkIn<Load> + Drop> Member<O, I> {
     ghost use Rattle.std.specs.Prelude.{◌≡◌, ◌<◌, ◌∷◌, ◌-◌, [], ℕ, suc, zero, List, length, drop, None, Some, IfSome, IfNone, IsSome, slice_set, slice_index_or, nat_lt, is_some, true};
     ghost use Rattle.group_view.specs.declared.link.LinkName.{LinkName};
-    ghost use Rattle.gm_member.specs.Deaths.Shown.{held_of, ends_of, in_name_of, in_end, with_in, has_in};
+    ghost use Rattle.gm_member.specs.Deaths.Shown.{held_of, ends_of, in_name_of, in_end, with_in, has_in, KeepsSpare};
 
     /// Lends the end of a link to the member: of the one from which it takes at place 0, of those at its door, the oldest
     /// first, from place 1 on. None where no such link is there, or its end is lent. The caller gives it back to the
@@ -18,6 +18,17 @@ impl<O: LinkPair<Load, In = I>, I: LinkIn<Load> + Drop> Member<O, I> {
         ensures lent { result ≡ in_end (ends_of self.old) place }
         ensures ends { ends_of self.new ≡ with_in (ends_of self.old) place None }
         ensures held { held_of self.new ≡ held_of self.old }
+        ensures kept { KeepsSpare self.old self.new }
+    {
+        self.lend_at(place as usize)
+    }
+
+    /// `lend_in` at any place.
+    pub fn lend_at(&mut self, place: usize) -> Option<I>
+        ensures lent { result ≡ in_end (ends_of self.old) place }
+        ensures ends { ends_of self.new ≡ with_in (ends_of self.old) place None }
+        ensures held { held_of self.new ≡ held_of self.old }
+        ensures kept { KeepsSpare self.old self.new }
     {
         if place == 0 {
             return self.lend_current();
@@ -31,6 +42,18 @@ impl<O: LinkPair<Load, In = I>, I: LinkIn<Load> + Drop> Member<O, I> {
         requires lent { in_end (ends_of self.old) place ≡ None }
         ensures ends { ends_of self.new ≡ with_in (ends_of self.old) place (Some link) }
         ensures held { held_of self.new ≡ held_of self.old }
+        ensures kept { KeepsSpare self.old self.new }
+    {
+        self.give_at(place as usize, link);
+    }
+
+    /// `give_in` at any place.
+    pub fn give_at(&mut self, place: usize, link: I)
+        requires there { has_in (held_of self.old) place ≡ true }
+        requires lent { in_end (ends_of self.old) place ≡ None }
+        ensures ends { ends_of self.new ≡ with_in (ends_of self.old) place (Some link) }
+        ensures held { held_of self.new ≡ held_of self.old }
+        ensures kept { KeepsSpare self.old self.new }
     {
         if place == 0 {
             return self.give_current(link);
@@ -43,6 +66,7 @@ impl<O: LinkPair<Load, In = I>, I: LinkIn<Load> + Drop> Member<O, I> {
         ensures lent { result ≡ (ends_of self.old).link }
         ensures ends { ends_of self.new ≡ record (ends_of self.old) { link = None } }
         ensures held { held_of self.new ≡ held_of self.old }
+        ensures kept { KeepsSpare self.old self.new }
     {
         match &mut self.current {
             Some(link) => link.end.take(),
@@ -56,6 +80,7 @@ impl<O: LinkPair<Load, In = I>, I: LinkIn<Load> + Drop> Member<O, I> {
         requires lent { (ends_of self.old).link ≡ None }
         ensures ends { ends_of self.new ≡ record (ends_of self.old) { link = Some link } }
         ensures held { held_of self.new ≡ held_of self.old }
+        ensures kept { KeepsSpare self.old self.new }
     {
         match &mut self.current {
             Some(current) => current.end = Some(link),
@@ -65,26 +90,28 @@ impl<O: LinkPair<Load, In = I>, I: LinkIn<Load> + Drop> Member<O, I> {
 
     /// Lends the end of the link at a place of the member's door, from 0: none where no link stands there, or its end is
     /// lent.
-    fn lend_at_door(&mut self, place: u32) -> Option<I>
+    fn lend_at_door(&mut self, place: usize) -> Option<I>
         ensures lent { result ≡ slice_index_or (ends_of self.old).door place None }
         ensures ends { ends_of self.new ≡ record (ends_of self.old) { door = slice_set (ends_of self.old).door place None } }
         ensures held { held_of self.new ≡ held_of self.old }
+        ensures kept { KeepsSpare self.old self.new }
     {
-        if place as usize >= self.door.len() {
+        if place >= self.door.len() {
             return None;
         }
-        let link = &mut self.door[place as usize];
+        let link = &mut self.door[place];
         link.end.take()
     }
 
     /// Gives it back.
-    fn give_at_door(&mut self, place: u32, link: I)
+    fn give_at_door(&mut self, place: usize, link: I)
         requires there { nat_lt place (length (held_of self.old).door) ≡ true }
         requires lent { slice_index_or (ends_of self.old).door place None ≡ None }
         ensures ends { ends_of self.new ≡ record (ends_of self.old) { door = slice_set (ends_of self.old).door place (Some link) } }
         ensures held { held_of self.new ≡ held_of self.old }
+        ensures kept { KeepsSpare self.old self.new }
     {
-        let waiting = &mut self.door[place as usize];
+        let waiting = &mut self.door[place];
         waiting.end = Some(link);
     }
 
@@ -94,13 +121,21 @@ impl<O: LinkPair<Load, In = I>, I: LinkIn<Load> + Drop> Member<O, I> {
         ensures named { result ≡ in_name_of (held_of self.now) place }
         ensures there { is_some result ≡ has_in (held_of self.now) place }
     {
+        self.name_at(place as usize)
+    }
+
+    /// `in_name` at any place.
+    pub fn name_at(&self, place: usize) -> Option<LinkName>
+        ensures named { result ≡ in_name_of (held_of self.now) place }
+        ensures there { is_some result ≡ has_in (held_of self.now) place }
+    {
         if place == 0 {
             return match &self.current {
                 Some(link) => Some(link.name(self.id)),
                 None => None,
             };
         }
-        match self.door.get(place as usize - 1) {
+        match self.door.get(place - 1) {
             Some(link) => Some(link.name(self.id)),
             None => None,
         }
@@ -111,8 +146,10 @@ impl<O: LinkPair<Load, In = I>, I: LinkIn<Load> + Drop> Member<O, I> {
     pub fn old_out(&mut self) -> Option<(LinkName, O)>
         ensures some { IfSome result (λ old. (ends_of self.old).old_outs ≡ old ∷ (ends_of self.new).old_outs) }
         ensures none { IfNone result ((ends_of self.old).old_outs ≡ []) }
+        ensures still { IfNone result (self.new ≡ self.old) }
         ensures ends { ends_of self.new ≡ record (ends_of self.old) { old_outs = (ends_of self.new).old_outs } }
         ensures held { held_of self.new ≡ held_of self.old }
+        ensures kept { KeepsSpare self.old self.new }
     {
         if self.old_outs.is_empty() {
             return None;
@@ -124,8 +161,10 @@ impl<O: LinkPair<Load, In = I>, I: LinkIn<Load> + Drop> Member<O, I> {
     pub fn old_in(&mut self) -> Option<(LinkName, I)>
         ensures some { IfSome result (λ old. (ends_of self.old).old_ins ≡ old ∷ (ends_of self.new).old_ins) }
         ensures none { IfNone result ((ends_of self.old).old_ins ≡ []) }
+        ensures still { IfNone result (self.new ≡ self.old) }
         ensures ends { ends_of self.new ≡ record (ends_of self.old) { old_ins = (ends_of self.new).old_ins } }
         ensures held { held_of self.new ≡ held_of self.old }
+        ensures kept { KeepsSpare self.old self.new }
     {
         if self.old_ins.is_empty() {
             return None;

@@ -4,7 +4,7 @@ ghost use Rattle.std.specs.Vec.{vec_len, vec_capacity};
 ghost use Rattle.std.specs.Prelude.{true};
 ghost use Rattle.group_view.specs.Ring.{is_in};
 ghost use Rattle.ring_world.specs.Deaths.View.{ids};
-ghost use Rattle.gm_member.specs.Deaths.View.{count_of};
+ghost use Rattle.gm_member.specs.Deaths.View.{count_of, is_up_where};
 
 use crate::fault::MemberFault;
 use crate::known::{Known, nothing_known, nothing_sent, push_at};
@@ -27,7 +27,7 @@ const MOST_MEMBERS: usize = 64;
 
 /// A member of the ring, as a process of `gm`. It has a view of the group, and the messages of every origin that it
 /// has heard of, its own among them. It sends on one link and takes from one, and further links may stand at its
-/// door.
+/// door. While its question for a view is open it has a link ready, with which the answer wants no memory.
 #[derive(Drop)]
 pub struct Member<O, I> {
     pub(crate) alloc: Global,
@@ -41,11 +41,13 @@ pub struct Member<O, I> {
     pub(crate) current: Option<InLink<I>>,
     pub(crate) door: Vec<InLink<I>>,
     pub(crate) asked: bool,
+    pub(crate) spare: Option<Spare<O, I>>,
     pub(crate) old_outs: Vec<(LinkName, O)>,
     pub(crate) old_ins: Vec<(LinkName, I)>,
     ghost each_origin: { vec_len known ≡ 64 },
     ghost own: { (1 ≤ id.0) × (id.0 ≤ 64) },
     ghost stands: { is_in id.0 (ids view) ≡ true },
+    ghost up: { is_up_where asked phase ≡ true },
     ghost room_in: { vec_len old_ins + vec_len door + count_of current ≤ vec_capacity old_ins },
     ghost room_out: { vec_len old_outs + count_of out ≤ vec_capacity old_outs },
 }
@@ -57,7 +59,7 @@ impl<O: LinkPair<Load, In = I>, I: LinkIn<Load> + Drop> Member<O, I> {
     ghost use Rattle.ring_world.specs.declared.event.Event.TheVariants.{Put, Take, TakeEnd, Gain, Stop, Pick, Refresh};
     ghost use Rattle.ring_world.specs.Deaths.Machine.{member_at, view_at, newest};
     ghost use Rattle.ring_world.specs.Deaths.Step.{log_of};
-    ghost use Rattle.ring_world.specs.Deaths.Event.{refusal};
+    ghost use Rattle.ring_world.specs.Deaths.Event.{refusal, take_refusal as the_take_refusal, end_refusal as the_end_refusal, gain_refusal as the_gain_refusal};
     ghost use Rattle.ring_world.specs.Deaths.View.{right_of};
     ghost use Rattle.ring_world.specs.Deaths.View.{ids};
     ghost use Rattle.group_view.specs.Ring.{is_in};
@@ -68,7 +70,7 @@ impl<O: LinkPair<Load, In = I>, I: LinkIn<Load> + Drop> Member<O, I> {
     ghost use Rattle.gm_member.specs.Deaths.Held.{Outgoing, parcel_on};
     ghost use Rattle.gm_member.specs.Deaths.Stands.{WhereItStands, StepsTo, publishing, IsPutPacket, IsNextPacket, IsNextGrant, IsNextEnd, taken_in};
     ghost use Rattle.gm_member.specs.Deaths.News.{news_of};
-    ghost use Rattle.gm_member.specs.Deaths.Shown.{Ends, held_of, ends_of, out_name_of, OutIsReady, InIsReady, PutsOn, LooksOut, LooksIn, TookOn, LeavesOn, EndsOn, KeepsGrant, NoGrantBack, GrantIsBack, LooksBy, MovesOn, IsReadyToMove, SendsOn, MovesTo, PicksOn};
+    ghost use Rattle.gm_member.specs.Deaths.Shown.{Ends, held_of, ends_of, out_name_of, OutIsReady, InIsReady, PutsOn, LooksOut, LooksIn, TookOn, LeavesOn, EndsOn, KeepsGrant, NoGrantBack, GrantIsBack, LooksBy, MovesOn, IsReadyToMove, SendsOn, MovesTo, PicksOn, KeepsSpare};
 
     /// A member of the ring's opening, which has published and heard nothing. The caller gives its id in the ring, the
     /// view in which the ring opens, the credit of the ring's links, the end of the link to its right neighbour and
@@ -121,6 +123,7 @@ impl<O: LinkPair<Load, In = I>, I: LinkIn<Load> + Drop> Member<O, I> {
             }),
             door: Vec::new(alloc),
             asked: false,
+            spare: None,
             old_outs,
             old_ins,
         })
@@ -187,7 +190,7 @@ impl<O: LinkPair<Load, In = I>, I: LinkIn<Load> + Drop> Member<O, I> {
     }
 
     /// Why it may not act, of a member that must have its state.
-    fn up_refusal(&self) -> Option<Reason>
+    pub(crate) fn up_refusal(&self) -> Option<Reason>
         ensures { result ≡ up_refused (held_of self.now) None }
     {
         match self.phase {
@@ -261,6 +264,7 @@ impl<O: LinkPair<Load, In = I>, I: LinkIn<Load> + Drop> Member<O, I> {
         ensures lent { result ≡ (ends_of self.old).out }
         ensures ends { ends_of self.new ≡ record (ends_of self.old) { out = None } }
         ensures held { held_of self.new ≡ held_of self.old }
+        ensures kept { KeepsSpare self.old self.new }
     {
         match &mut self.out {
             Some(link) => link.end.take(),
@@ -274,6 +278,7 @@ impl<O: LinkPair<Load, In = I>, I: LinkIn<Load> + Drop> Member<O, I> {
         requires sends { IsSome (held_of self.old).out }
         ensures ends { ends_of self.new ≡ record (ends_of self.old) { out = Some out } }
         ensures held { held_of self.new ≡ held_of self.old }
+        ensures kept { KeepsSpare self.old self.new }
     {
         match &mut self.out {
             Some(link) => link.end = Some(out),
@@ -401,6 +406,9 @@ impl<O: LinkPair<Load, In = I>, I: LinkIn<Load> + Drop> Member<O, I> {
             × WhereItStands (held_of self.old) (λ w x. IsNextPacket w x k
             → StepsTo w x (Take (held_of self.old).name) (held_of self.new)
             × (taken.items ≡ taken_in w (member_at w x).current x))) }
+        ensures not_enabled { WhereItStands (held_of self.old) (λ w x.
+            ((s : ℕ) → (member_at w x).current ≡ Some s → the_take_refusal w x s ≡ None)
+            → (r : Reason) → refusal w (Take (held_of self.old).name) ≡ Some r → result ≡ Err (MemberFault.Refused r)) }
     {
         match self.take_next() {
             Ok(taken) => Ok(taken),
@@ -461,6 +469,9 @@ impl<O: LinkPair<Load, In = I>, I: LinkIn<Load> + Drop> Member<O, I> {
         // Wherever the member stands in a state of a run and the end is next on its link, this is the ring's event.
         ensures steps { OnOk result (WhereItStands (held_of self.old) (λ w x. IsNextEnd w x
             → StepsTo w x (TakeEnd (held_of self.old).name) (held_of self.new))) }
+        ensures not_enabled { WhereItStands (held_of self.old) (λ w x.
+            ((s : ℕ) → (member_at w x).current ≡ Some s → the_end_refusal w s ≡ None)
+            → (r : Reason) → refusal w (TakeEnd (held_of self.old).name) ≡ Some r → result ≡ Err (MemberFault.Refused r)) }
     {
         match self.take_end_next() {
             Ok(reason) => Ok(reason),
@@ -505,6 +516,7 @@ impl<O: LinkPair<Load, In = I>, I: LinkIn<Load> + Drop> Member<O, I> {
         ensures current { self.new.current ≡ None }
         ensures same { (self.new.id ≡ self.old.id) × (self.new.credit ≡ self.old.credit) × (self.new.known ≡ self.old.known) }
         ensures others { (self.new.out ≡ self.old.out) × (self.new.door ≡ self.old.door) × (self.new.old_outs ≡ self.old.old_outs) }
+        ensures kept { self.new.spare ≡ self.old.spare }
     {
         let Some(link) = self.current.take() else {
             return;
@@ -632,6 +644,9 @@ impl<O: LinkPair<Load, In = I>, I: LinkIn<Load> + Drop> Member<O, I> {
         // Wherever the member stands in a state of a run and the grant is the oldest on its way back, this is the ring's event.
         ensures steps { OnOk result (WhereItStands (held_of self.old) (λ w x. IsNextGrant w x amount
             → StepsTo w x (Gain (held_of self.old).name) (held_of self.new))) }
+        ensures not_enabled { WhereItStands (held_of self.old) (λ w x.
+            ((o : ℕ) → (member_at w x).out ≡ Some o → the_gain_refusal w o ≡ None)
+            → (r : Reason) → refusal w (Gain (held_of self.old).name) ≡ Some r → result ≡ Err (MemberFault.Refused r)) }
     {
         match self.regain(amount) {
             Ok(()) => Ok(()),
@@ -671,6 +686,7 @@ impl<O: LinkPair<Load, In = I>, I: LinkIn<Load> + Drop> Member<O, I> {
         ensures left { self.new.old_ins.items ≡ self.old.old_ins.items ++ left_current view.now self.old.id.0 self.old.current }
         ensures same { (self.new.id ≡ self.old.id) × (self.new.credit ≡ self.old.credit) × (self.new.known ≡ self.old.known) }
         ensures others { (self.new.out ≡ self.old.out) × (self.new.door ≡ self.old.door) × (self.new.old_outs ≡ self.old.old_outs) }
+        ensures kept { self.new.spare ≡ self.old.spare }
     {
         let Some(link) = &self.current else {
             return;
@@ -682,12 +698,13 @@ impl<O: LinkPair<Load, In = I>, I: LinkIn<Load> + Drop> Member<O, I> {
     }
 
     /// The member has another view.
-    fn look(&mut self, view: View)
+    pub(crate) fn look(&mut self, view: View)
         requires { is_in self.old.id.0 (ids view) ≡ true }
         ensures held { held_of self.new ≡ looked_held (held_of self.old) view }
         ensures links { LooksBy view self.old self.new }
         ensures others { (self.new.out ≡ self.old.out) × (self.new.old_outs ≡ self.old.old_outs) }
         ensures same { (self.new.id ≡ self.old.id) × (self.new.credit ≡ self.old.credit) × (self.new.known ≡ self.old.known) × (self.new.view ≡ view) }
+        ensures kept { self.new.spare ≡ self.old.spare }
     {
         self.keep_current(&view);
         prune(&view, self.id, &mut self.door, &mut self.old_ins);
@@ -703,6 +720,7 @@ impl<O: LinkPair<Load, In = I>, I: LinkIn<Load> + Drop> Member<O, I> {
         ensures others { (self.new.current ≡ self.old.current) × (self.new.door ≡ self.old.door) × (self.new.old_ins ≡ self.old.old_ins) }
         ensures room { vec_capacity self.old.old_outs ≤ vec_capacity self.new.old_outs }
         ensures len { vec_len self.new.old_outs ≤ vec_len self.old.old_outs + 1 }
+        ensures kept { self.new.spare ≡ self.old.spare }
     {
         let Some(link) = self.out.take() else {
             return;
@@ -713,7 +731,7 @@ impl<O: LinkPair<Load, In = I>, I: LinkIn<Load> + Drop> Member<O, I> {
     }
 
     /// Whether the member sends to another already.
-    fn sends_to(&self, to: MemberId) -> bool
+    pub(crate) fn sends_to(&self, to: MemberId) -> bool
         ensures { result ≡ sends_to_it (held_of self.now).out to.0 }
     {
         match &self.out {
@@ -723,11 +741,12 @@ impl<O: LinkPair<Load, In = I>, I: LinkIn<Load> + Drop> Member<O, I> {
     }
 
     /// A link that is ready to open, with room for the end of the one that it replaces.
-    fn prepare(&mut self) -> Result<Spare<O, I>, OutOfMemory>
+    pub(crate) fn prepare(&mut self) -> Result<Spare<O, I>, OutOfMemory>
         ensures held { held_of self.new ≡ held_of self.old }
         ensures ends { (self.new.out ≡ self.old.out) × (self.new.current ≡ self.old.current) × (self.new.door ≡ self.old.door)
             × (self.new.old_outs.items ≡ self.old.old_outs.items) × (self.new.old_ins ≡ self.old.old_ins) }
         ensures same { (self.new.id ≡ self.old.id) × (self.new.credit ≡ self.old.credit) × (self.new.known ≡ self.old.known) }
+        ensures kept { self.new.spare ≡ self.old.spare }
         ensures ready { IfOk result (λ spare. IsReadyToMove O.are_fresh O.free O.ended self.new spare) }
     {
         if self.old_outs.reserve(2).is_err() {
@@ -744,6 +763,7 @@ impl<O: LinkPair<Load, In = I>, I: LinkIn<Load> + Drop> Member<O, I> {
         ensures held { held_of self.new ≡ record (held_of self.old) { out = Some (first_out (held_of self.old) to.0) } }
         ensures sends { SendsOn O.are_fresh O.free O.ended O.puts self.old.view.version to self.old self.new result.items }
         ensures others { (self.new.current ≡ self.old.current) × (self.new.door ≡ self.old.door) × (self.new.old_ins ≡ self.old.old_ins) }
+        ensures kept { self.new.spare ≡ self.old.spare }
     {
         self.move_on();
         let (link, requests) = spare.open(self.id, to, version(&self.view), self.credit);
@@ -771,13 +791,14 @@ impl<O: LinkPair<Load, In = I>, I: LinkIn<Load> + Drop> Member<O, I> {
     }
 
     /// The member reads a view, and sends to its right neighbour in it on a link that was ready.
-    fn read(&mut self, view: View, to: MemberId, spare: Spare<O, I>) -> Vec<Request<I>>
+    pub(crate) fn read(&mut self, view: View, to: MemberId, spare: Spare<O, I>) -> Vec<Request<I>>
         requires stands { is_in self.old.id.0 (ids view) ≡ true }
         requires ready { IsReadyToMove O.are_fresh O.free O.ended self.old spare }
         requires out { MatchOption self.old.out ⊤ (λ l. MatchOption l.end ⊥ (λ o. O.ended o ≡ false)) }
         ensures held { held_of self.new ≡ record (looked_held (held_of self.old) view) { out = Some (first_out (looked_held (held_of self.old) view) to.0) } }
         ensures links { LooksBy view self.old self.new }
         ensures sends { SendsOn O.are_fresh O.free O.ended O.puts view.version to self.old self.new result.items }
+        ensures kept { self.new.spare ≡ self.old.spare }
     {
         self.look(view);
         self.send_to(spare, to)
@@ -799,6 +820,7 @@ impl<O: LinkPair<Load, In = I>, I: LinkIn<Load> + Drop> Member<O, I> {
         ensures fault { IfErr result (λ e. (e.0 ≡ view) × (((e.1 ≡ MemberFault.OutOfMemory) × (refresh_refused (held_of self.old) view.version ≡ None))
             ⊎ (r : Reason) × (e.1 ≡ MemberFault.Refused r) × (refresh_refused (held_of self.old) view.version ≡ Some r))) }
         ensures err { OnErr result (held_of self.new ≡ held_of self.old) }
+        ensures err_ends { OnErr result (ends_of self.new ≡ ends_of self.old) }
 
         // Wherever the member stands in a state of a run, and the view is one of the ring's, this is the ring's event: of a
         // member that isn't its own neighbour in the view, or sends to itself already.
@@ -826,6 +848,7 @@ impl<O: LinkPair<Load, In = I>, I: LinkIn<Load> + Drop> Member<O, I> {
         ensures fault { IfErr result (λ e. (e.0 ≡ view) × (((e.1 ≡ MemberFault.OutOfMemory) × (refresh_refused (held_of self.old) view.version ≡ None))
             ⊎ (r : Reason) × (e.1 ≡ MemberFault.Refused r) × (refresh_refused (held_of self.old) view.version ≡ Some r))) }
         ensures err { OnErr result (held_of self.new ≡ held_of self.old) }
+        ensures err_ends { OnErr result (ends_of self.new ≡ ends_of self.old) }
     {
         if let Some(reason) = self.refresh_refusal(version(&view)) {
             return Err((view, MemberFault::Refused(reason)));
@@ -843,7 +866,7 @@ impl<O: LinkPair<Load, In = I>, I: LinkIn<Load> + Drop> Member<O, I> {
     }
 
     /// The place of the first link at the door that comes from the left neighbour.
-    fn first_at_door(&self) -> Option<usize>
+    pub(crate) fn first_at_door(&self) -> Option<usize>
         ensures place { result ≡ the_first_at_door (held_of self.now) }
         ensures within { IfSome result (λ i. i < length self.now.door.items) }
     {

@@ -7,13 +7,14 @@ ghost use Rattle.ring_world.specs.Deaths.View.{ids};
 ghost use Rattle.ordered_link.specs.declared.plain.PlainOut.{PlainOut as Out};
 ghost use Rattle.gm_member.specs.declared.packet.Load.{Load as Loaded};
 ghost use Rattle.gm_member.specs.Deaths.Shown.{held_of, OutIsReady, InIsReady};
+ghost use Rattle.gm_member.specs.Deaths.Questions.{OfView};
 
 use crate::fault::MemberFault;
 use crate::packet::Load;
-use crate::repair::Member;
-use group_view::{Entry, LinkKind, Request, View, are_opening_names};
-use ordered_link::{PlainIn, PlainOut, plain_pair};
-use ring_names::{Body, CreditSpec, MemberId, Message, Name};
+use crate::repair::{Ask, Member};
+use group_view::{Answer, Deposited, Entry, LinkKind, Request, View, are_opening_names};
+use ordered_link::{LinkIn, LinkPair, PlainIn, PlainOut, plain_pair};
+use ring_names::{Body, CreditSpec, Items, MemberId, Message, Name, Reason};
 use ring_world::Phase;
 use std::alloc::Global;
 use std::process::Abort;
@@ -218,6 +219,149 @@ fn reads_no_older_view(rt: HostRuntime) -> Result<(), Fail> {
         None => assert!(rt; false, "may read"),
     }
     assert!(rt; b.refresh_refusal(2).is_none());
+    Ok(())
+}
+
+/// A member asks, and gets this answer: how many requests follow.
+fn settle<O: LinkPair<Load, In = I>, I: LinkIn<Load> + Drop>(
+    node: &mut Member<O, I>,
+    what: Ask,
+    answer: Answer<I>,
+) -> Result<usize, Fail>
+    requires stands { OfView answer (λ v. is_in (held_of node.old).id (ids v) ≡ true) }
+    requires ready { OutIsReady O.ended node.old }
+{
+    node.ask(what)?;
+    match node.answer(answer) {
+        Ok(requests) => Ok(requests.len()),
+        Err((_, fault)) => Err(fault.into()),
+    }
+}
+
+#[test]
+fn asks_one_question_at_a_time(rt: HostRuntime) -> Result<(), Fail> {
+    let view = opening(&rt, rt.alloc(), 3)?;
+    let mut b = founding(&rt, rt.alloc(), MemberId(2), view)?;
+    match b.ask(Ask::Mark(MemberId(1)))? {
+        Request::Mark {
+            by,
+            dead,
+            view,
+            has_current,
+        } => {
+            assert_eq!(rt; (by.0, dead.0, view), (2, 1, 1));
+            assert!(rt; has_current);
+        }
+        _ => assert!(rt; false, "another request"),
+    }
+    expect_refused(&rt, b.ask(Ask::Refresh), 19);
+    expect_refused(&rt, b.ask(Ask::Collect), 19);
+    expect_refused(&rt, b.pick(), 19);
+    b.make_room(2)?;
+    Ok(())
+}
+
+#[test]
+fn is_answered_no(rt: HostRuntime) -> Result<(), Fail> {
+    let view = opening(&rt, rt.alloc(), 3)?;
+    let mut b = founding(&rt, rt.alloc(), MemberId(2), view)?;
+    assert_eq!(rt;
+        settle(&mut b, Ask::Refresh, Answer::No(Reason::UnknownMember))?,
+        0
+    );
+    match b.ask(Ask::Collect)? {
+        Request::Collect { by } => assert_eq!(rt; by.0, 2),
+        _ => assert!(rt; false, "another request"),
+    }
+    Ok(())
+}
+
+#[test]
+fn reads_the_view_that_is_answered(rt: HostRuntime) -> Result<(), Fail> {
+    let view = opening(&rt, rt.alloc(), 3)?;
+    let mut newer = view.copy()?;
+    newer.mark_dead(MemberId(3))?;
+    let mut b = founding(&rt, rt.alloc(), MemberId(2), view)?;
+    if !stands(&newer, MemberId(2)) {
+        panic!(rt; "nobody");
+    }
+    assert_eq!(rt;
+        settle(&mut b, Ask::Mark(MemberId(3)), Answer::Viewed(newer))?,
+        1
+    );
+    assert_eq!(rt; b.view().version, 2);
+    expect_refused(&rt, b.pick(), 43);
+    Ok(())
+}
+
+/// A member collects a link of the ring, from another in a version.
+fn collect_one(
+    rt: &impl Abort,
+    alloc: Global,
+    node: &mut Node,
+    from: MemberId,
+    view: u32,
+) -> Result<(), Fail> {
+    let Some(credit) = CreditSpec::new(1, 1) else {
+        panic!(rt; "no credit")
+    };
+    let (_, link) = plain_pair(alloc, credit)?;
+    let mut links = Vec::new(alloc);
+    links.push(Deposited {
+        from,
+        view,
+        kind: LinkKind::Ring,
+        link,
+    })?;
+    node.ask(Ask::Collect)?;
+    match node.answer(Answer::Links(Items::from_vec(links))) {
+        Ok(requests) => assert_eq!(rt; requests.len(), 0),
+        Err(_) => panic!(rt; "out of memory"),
+    }
+    Ok(())
+}
+
+#[test]
+fn collects_a_link(rt: HostRuntime) -> Result<(), Fail> {
+    let view = opening(&rt, rt.alloc(), 3)?;
+    let mut b = founding(&rt, rt.alloc(), MemberId(2), view)?;
+    collect_one(&rt, rt.alloc(), &mut b, MemberId(1), 1)?;
+    match b.in_name(1) {
+        Some(name) => assert_eq!(rt; (name.from.0, name.to.0, name.view), (1, 2, 1)),
+        None => assert!(rt; false, "no link at the door"),
+    }
+    assert!(rt; b.in_name(2).is_none());
+    collect_one(&rt, rt.alloc(), &mut b, MemberId(3), 1)?;
+    assert!(rt; b.in_name(2).is_none());
+    match b.old_in() {
+        Some((name, _)) => assert_eq!(rt; (name.from.0, name.to.0, name.view), (3, 2, 1)),
+        None => assert!(rt; false, "nothing left"),
+    }
+    Ok(())
+}
+
+#[test]
+fn picks_a_link_that_it_collected(rt: HostRuntime) -> Result<(), Fail> {
+    let view = opening(&rt, rt.alloc(), 3)?;
+    let mut newer = view.copy()?;
+    newer.mark_dead(MemberId(1))?;
+    let mut b = founding(&rt, rt.alloc(), MemberId(2), view)?;
+    if !stands(&newer, MemberId(2)) {
+        panic!(rt; "nobody");
+    }
+    assert_eq!(rt; settle(&mut b, Ask::Refresh, Answer::Viewed(newer))?, 0);
+    match b.old_in() {
+        Some((name, _)) => assert_eq!(rt; (name.from.0, name.to.0, name.view), (1, 2, 1)),
+        None => assert!(rt; false, "nothing left"),
+    }
+    collect_one(&rt, rt.alloc(), &mut b, MemberId(3), 2)?;
+    b.pick()?;
+    match b.in_name(0) {
+        Some(name) => assert_eq!(rt; (name.from.0, name.to.0, name.view), (3, 2, 2)),
+        None => assert!(rt; false, "no link"),
+    }
+    assert!(rt; b.in_name(1).is_none());
+    expect_refused(&rt, b.pick(), 43);
     Ok(())
 }
 

@@ -9,8 +9,7 @@ use Rattle.ring_world.specs.Deaths.OpenLinks.{version_of, comes_from_left, passe
 use Rattle.ring_world.specs.Deaths.Step.{size, log_of}
 use Rattle.ring_world.specs.Deaths.Event.{has_nothing_new}
 use Rattle.ring_world.specs.Deaths.Lawful.{row_of}
-use Rattle.ring_world.proofs.Deaths.Rounds.{nat_eq-not}
-use Rattle.ring_cluster.specs.Deaths.Work.{items, place_by, weight_at, on_links, marks_left, is_stale, stale_by, stale_at, stale, dirty_on, dirty_at, dirty, lag_at, lag_by, lag, work}
+use Rattle.ring_cluster.specs.Deaths.Work.{items, place_by, weight_at, on_links, marks_left, stale_by, stale_at, stale, dirty_on, dirty_at, dirty, lag_at, lag_by, lag, work}
 use Rattle.ring_cluster.proofs.Deaths.Sums.{sum_le, sum_at}
 
 -- ---- the number
@@ -57,18 +56,6 @@ pub links_at : (w w' : World) (s a b : ℕ) → length w'.links ≡ length w.lin
 links_at w w' s a b many l h here = sum_at (length w.links) (length w'.links) (weight_at w) (weight_at w') s a b many l h here
 
 -- ---- members
-
--- a member whose view isn't of that version is stale
-pub stale_view : (v : ℕ) (y : Member) → y.version ≢ v → is_stale v y ≡ true
-stale_view v y ne = ap (λ b. not (b && is_some y.out)) (nat_eq-not y.version v ne)
-
--- and one that sends on no link
-pub stale_out : (v : ℕ) (y : Member) → y.out ≡ None → is_stale v y ≡ true
-stale_out v y e = ap (λ o. not (nat_eq y.version v && is_some o)) e ∙ nothing (nat_eq y.version v)
-  where
-    nothing : (b : Bool) → not (b && false) ≡ true
-    nothing true = refl
-    nothing false = refl
 
 -- whether a member is stale goes by the version of its view and its out link
 stale_same : (v : ℕ) (y y' : Member) → y'.version ≡ y.version → y'.out ≡ y.out → stale_by v y' ≡ stale_by v y

@@ -13,32 +13,18 @@ use Rattle.ring_world.specs.declared.event.Event.{Event}
 use Rattle.ring_world.specs.declared.phase.Ending.{Ending}
 use Rattle.ring_world.specs.declared.phase.Ending.TheVariants.{Moved, Halted}
 use Rattle.ring_world.specs.Deaths.View.{right_of}
-use Rattle.ring_world.specs.Deaths.Machine.{Member, World, no_member, member_at, link_at, view_at, newest, ring, runs, runs_phase}
+use Rattle.ring_world.specs.Deaths.Machine.{Member, World, member_at, link_at, view_at, newest, ring, runs}
 use Rattle.ring_world.specs.Deaths.Step.{size, published, taker, stopped, ended, stop_at, end_out, with_current, with_member, with_link, with_view, look_at, moved_to, open_to, opening, opening_member}
 use Rattle.ring_world.specs.Deaths.Event.{send_to, refreshed, refusal, effect, IsRun, last}
-use Rattle.ring_world.proofs.Deaths.Lists.{at_set}
 use Rattle.ring_world.proofs.Deaths.Views.{view_new, ids-marked}
-use Rattle.ring_world.proofs.Deaths.Parts.{Part, cast_part, put_part, take_part, gain_part, stop_part, open_part, still_part, member_still, run_keeps}
+use Rattle.ring_world.proofs.Deaths.Parts.{run_keeps}
 use Rattle.ring_world.proofs.Deaths.Cases.{each_event}
 use Rattle.ring_world.proofs.Deaths.Happens.{IsGood, event_good, opening_good}
 use Rattle.ring_world.proofs.Deaths.LinkCredit.{IsCredited, run_credited}
 use Rattle.gm_member.proofs.Deaths.Fit.{IsFit, reached_fit}
+use Rattle.ring_cluster.proofs.Deaths.Alive.{part_rests}
 use Rattle.ring_cluster.proofs.Deaths.Sent.{HasSent, reached_has}
 use Rattle.ring_cluster.proofs.Deaths.Going.{GoOn, reached_goes}
-
--- ---- nobody runs at id 0
-
--- no part of an event lets it run
-part_rests : (w w' : World) → Part IsGood w w' → runs w 0 ≡ false → runs w' 0 ≡ false
-part_rests w w' (cast_part x m some lt e) h = ap (λ a. runs a 0) e ∙ at_set (λ k a. runs_phase a.phase ≡ runs w k) w.members x 0 (published x m (member_at w x)) no_member lt refl (λ _. refl) ∙ h
-part_rests w w' (put_part x o lt free e) h = ap (λ a. runs a 0) e ∙ h
-part_rests w w' (take_part y s some t lt g e) h = ap (λ a. runs a 0) e ∙ at_set (λ k a. runs_phase a.phase ≡ runs w k) w.members y 0 (taker w y s) no_member t.is_member refl (λ _. refl) ∙ h
-part_rests w w' (gain_part o lt some e) h = ap (λ a. runs a 0) e ∙ h
-part_rests w w' (stop_part x lt e) h = ap (λ a. runs a 0) e ∙ at_set (λ k a. runs w k ≡ false → runs_phase a.phase ≡ false) w.members x 0 (stopped (member_at w x)) no_member lt (λ _. refl) (λ _ k. k) h
-part_rests w w' (open_part x z e) h =
-    let w1 : World = record w { links = (open_to w x z).links } in
-    ap (λ a. runs a 0) e ∙ ap runs_phase ((member_still w1 x (record (member_at w x) { out = Some (length w.links) }) refl refl refl).phase 0) ∙ h
-part_rests w w' (still_part k) h = ap runs_phase (k.phase 0) ∙ h
 
 -- ---- the ring has just the ids of its members
 
@@ -139,6 +125,6 @@ reached credit names es are r = record {
   credit = credit;
   credited = run_credited credit names es are r;
   goes = reached_goes credit names es are r;
-  rests = run_keeps (λ w. runs w 0 ≡ false) part_rests (opening credit names) es (opening_good credit names are) r refl;
+  rests = run_keeps (λ w. runs w 0 ≡ false) (part_rests 0) (opening credit names) es (opening_good credit names are) r refl;
   each_id = run_ids (opening credit names) es (opening_good credit names are) (opening_ids credit names) r;
 }

@@ -1,11 +1,10 @@
-//! The text of a report, of rings of one member and of two.
+//! The text of a report, of rings of one member and of more.
 ghost use Rattle.std.specs.Prelude.{◌≡◌};
 
 use super::report;
-use ring_cluster::Cluster;
+use ring_cluster::repair::Cluster;
 use ring_names::{Body, CreditSpec, Name, Reason};
-use ring_world::fixed::Event;
-use ring_world::{Refused, are_opening_names};
+use ring_world::{Event, Refused, are_opening_names};
 use std::alloc::Global;
 use std::process::Abort;
 use std::test::Fail;
@@ -108,15 +107,15 @@ fn reports_what_has_not_come_round(rt: HostRuntime) -> Result<(), Fail> {
     )
 }
 
-/// The member's put is refused for want of credit.
-fn lacks_credit(rt: &impl Abort, cluster: &mut Cluster, by: Name)
+/// The event is refused, for this reason of this number.
+fn refuses(rt: &impl Abort, cluster: &mut Cluster, event: &Event, reason: Reason, code: u32)
     ensures { (cluster.new).names ≡ (cluster.old).names }
 {
-    match cluster.step(&Event::Put { by }) {
+    match cluster.step(event) {
         Ok(()) => panic!(rt; "not refused"),
-        Err(refused) => assert_eq!(rt; refused, Refused::NotEnabled(Reason::NoCredit)),
+        Err(refused) => assert_eq!(rt; refused, Refused::NotEnabled(reason)),
     }
-    assert_eq!(rt; Reason::NoCredit.code(), 15);
+    assert_eq!(rt; reason.code(), code);
 }
 
 // Credit for one packet: the second put is refused until the grant of the first was gained.
@@ -133,7 +132,13 @@ fn reports_a_link_that_had_no_credit(rt: HostRuntime) -> Result<(), Fail> {
         cast(rt.alloc(), a, b"y")?,
     ];
     happen(&rt, &mut cluster, &before);
-    lacks_credit(&rt, &mut cluster, a);
+    refuses(
+        &rt,
+        &mut cluster,
+        &Event::Put { by: a },
+        Reason::NoCredit,
+        15,
+    );
     let after = [
         Event::Take { by: b },
         Event::Gain { by: a },
@@ -146,5 +151,44 @@ fn reports_a_link_that_had_no_credit(rt: HostRuntime) -> Result<(), Fail> {
         &names,
         &cluster,
         "ring view=1 term=1 master=a\nmember a up synced\ncasts 2 confirmed 0\npublishes 0 confirmed 0\nheard a x\nheard a y\nmember b up synced\ncasts 0 confirmed 0\npublishes 0 confirmed 0\nheard a x\nheard a y\n",
+    )
+}
+
+// The first of three stops. The last has it marked dead, and the second leaves its link to the end, reads the view in
+// which it is dead and picks the link from its new left neighbour up.
+#[test]
+fn reports_a_member_that_has_stopped(rt: HostRuntime) -> Result<(), Fail> {
+    let a = Name::read(b"a")?;
+    let b = Name::read(b"b")?;
+    let c = Name::read(b"c")?;
+    let names = [a, b, c];
+    assert!(rt; are_opening_names(&names));
+    let mut cluster = Cluster::opening(rt.alloc(), &names, credit(&rt, 8, 4))?;
+    let dies = [Event::Stop { by: a }, Event::Mark { by: c, dead: a }];
+    happen(&rt, &mut cluster, &dies);
+    let pick = Event::Pick { by: b };
+    refuses(&rt, &mut cluster, &pick, Reason::HasCurrentLink, 43);
+    happen(&rt, &mut cluster, &[Event::TakeEnd { by: b }]);
+    refuses(&rt, &mut cluster, &pick, Reason::NoLinkAtDoor, 18);
+    let asked = Event::Refresh { by: b, view: 3 };
+    let range = Reason::ViewOutOfRange {
+        asked: 3,
+        held: 1,
+        newest: 2,
+    };
+    refuses(&rt, &mut cluster, &asked, range, 25);
+    let repairs = [
+        Event::Refresh { by: b, view: 2 },
+        Event::Pick { by: b },
+        Event::Take { by: b },
+    ];
+    happen(&rt, &mut cluster, &repairs);
+    let put = Event::Put { by: b };
+    refuses(&rt, &mut cluster, &put, Reason::NothingNew, 16);
+    reads(
+        &rt,
+        &names,
+        &cluster,
+        "ring view=2 term=1 master=a\nmember a stopped\ncasts 0 confirmed 0\npublishes 0 confirmed 0\nmember b up synced\ncasts 0 confirmed 0\npublishes 0 confirmed 0\nmember c up synced\ncasts 0 confirmed 0\npublishes 0 confirmed 0\n",
     )
 }

@@ -1,4 +1,4 @@
-use Rattle.std.proofs.Common.{◌≡◌, ◌<◌, length, map, Some, ap, refl, subst}
+use Rattle.std.proofs.Common.{◌<◌, length, Some, ap, refl, subst}
 use Rattle.std.proofs.lemmas.Bool.{ltb-true}
 use Rattle.std.proofs.lemmas.List.{length-map}
 use Rattle.gm_member.specs.Deaths.Shown.{held_of, ends_of}

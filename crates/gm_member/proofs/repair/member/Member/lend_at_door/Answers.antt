@@ -1,7 +1,6 @@
-use Rattle.std.proofs.Common.{rules, ◌≡◌, ◌<◌, ◌∷◌, ◌-◌, [], ℕ, suc, zero, List, length, drop, None, Some, IfSome, IfNone, IsSome, slice_set, slice_index_or, ◌+◌, ◌*◌, ◌≤◌, ◌/◌, ◌%◌, Bool, true, false, nat_eq, nat_lt, ◌++◌, bit_and, bit_or, Fits, w8, w32, w64, Bor, MutBor}
-use Rattle.std.proofs.Common.{ap, ◌∙◌, refl, arith}
-use Rattle.group_view.specs.declared.link.LinkName.{LinkName}
-use Rattle.gm_member.specs.Deaths.Shown.{held_of, ends_of, in_name_of}
+use Rattle.std.proofs.Common.{None}
+use Rattle.std.proofs.Common.{ap, refl, arith}
+use Rattle.gm_member.specs.Deaths.Shown.{held_of, ends_of}
 use Rattle.gm_member.specs.Deaths.View.{in_of, end_of}
 use Rattle.ring_world.proofs.Maps.{mapped_rewrite, mapped_write}
 use Rattle.gm_member.proofs.repair.member.Member.lend_at_door.Goals as goal

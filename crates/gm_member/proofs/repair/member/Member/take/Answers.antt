@@ -1,5 +1,7 @@
+use Rattle.std.proofs.Common.{None, sym, ◌∙◌}
 use Rattle.gm_member.specs.Deaths.Shown.{held_of}
 use Rattle.gm_member.proofs.Deaths.Lifts.{take_lifts, news_lift}
+use Rattle.gm_member.proofs.Deaths.Refusals.{take_refusal_lifts}
 use Rattle.gm_member.proofs.repair.member.Member.take.Goals as goal
 
 pub returns-in-Ok-clause-steps : goal.returns-in-Ok-clause-steps
@@ -11,3 +13,9 @@ returns-in-Ok-clause-steps g c = (
     news_lift (held_of c.args.self.now) c.in-Ok.ensures.ok.0 c.in-Ok.taken.items c.in-Ok.ensures.ok.3 credit names events x are r l n s next,
   ),
 )
+
+pub returns-in-Ok-clause-not_enabled : goal.returns-in-Ok-clause-not_enabled
+returns-in-Ok-clause-not_enabled g c = λ credit names events x are r l n s may q e. cc (sym e ∙ sym (take_refusal_lifts (held_of c.args.self.now) None credit names events x are r l n s may) ∙ c.in-Ok.ensures.enabled)
+
+pub returns-in-Err-clause-not_enabled : goal.returns-in-Err-clause-not_enabled
+returns-in-Err-clause-not_enabled g c = λ credit names events x are r l n s may q e. c.in-Err.ensures.refused q (take_refusal_lifts (held_of c.args.self.now) None credit names events x are r l n s may ∙ e)

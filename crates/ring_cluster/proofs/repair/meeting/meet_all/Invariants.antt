@@ -1,0 +1,15 @@
+use Rattle.std.proofs.Common.{ℕ, List}
+use Rattle.ring_names.specs.declared.numbers.CreditSpec.{CreditSpec}
+use Rattle.ring_world.specs.declared.event.Event.{Event}
+use Rattle.ring_cluster.specs.Deaths.Parties.{parties}
+use Rattle.ring_cluster.specs.Deaths.Behind.{behind}
+use Rattle.ring_cluster.specs.Deaths.Seen.{state}
+use Rattle.ring_cluster.specs.Deaths.Standing.{StandMet}
+use Rattle.ring_cluster.specs.Deaths.Meeting.{LooseAfter}
+use Rattle.ring_cluster.proofs.repair.meeting.meet_all.Given as goal
+
+abbrev pub invariant-loop-i : goal.invariant-loop-i
+invariant-loop-i l =
+    (credit : CreditSpec) (names : List (List ℕ)) (events : List Event)
+    → LooseAfter credit names events (parties l.initial.nodes l.initial.registrar (behind l.initial.late))
+    → StandMet l.i credit.initial (state credit names events) (parties l.nodes l.registrar (behind l.late))

@@ -1,0 +1,57 @@
+use Rattle.std.proofs.Common.{◌++◌, ◌∷◌, [], sym, ◌∙◌}
+use Rattle.ring_cluster.specs.Deaths.Parties.{parties}
+use Rattle.ring_cluster.specs.Deaths.Behind.{behind}
+use Rattle.ring_cluster.specs.Deaths.Looking.{loose_seen}
+use Rattle.ring_cluster.proofs.Deaths.Closing.{shown_inside, few_after, free_after, ready_after, here_after, unheard_after, stands_after, refused_is, acted}
+use Rattle.ring_cluster.proofs.repair.stepping.happen.Goals as goal
+
+pub act-requires-clause-few : goal.act-requires-clause-few
+act-requires-clause-few c = few_after c.args.credit c.args.names.now c.args.events.now c.args.nodes.now c.args.registrar.now [] c.requires.standing
+
+pub act-requires-clause-free : goal.act-requires-clause-free
+act-requires-clause-free c = free_after c.args.credit c.args.names.now c.args.events.now (parties c.args.nodes.now c.args.registrar.now []) c.args.i c.requires.standing (shown_inside c.args.credit c.args.names.now c.args.events.now c.args.nodes.now c.args.i c.requires.within)
+
+pub act-requires-clause-ready : goal.act-requires-clause-ready
+act-requires-clause-ready c = ready_after c.args.credit c.args.names.now c.args.events.now (parties c.args.nodes.now c.args.registrar.now []) c.args.i c.requires.standing (shown_inside c.args.credit c.args.names.now c.args.events.now c.args.nodes.now c.args.i c.requires.within)
+
+pub act-requires-clause-here : goal.act-requires-clause-here
+act-requires-clause-here c = here_after c.args.credit c.args.names.now c.args.events.now c.args.nodes.now c.args.registrar.now [] c.requires.standing
+
+pub act-requires-clause-unheard : goal.act-requires-clause-unheard
+act-requires-clause-unheard c = unheard_after c.args.credit c.args.names.now c.args.events.now c.args.nodes.now c.args.registrar.now c.args.i c.requires.standing c.requires.within
+
+pub act-requires-clause-stands : goal.act-requires-clause-stands
+act-requires-clause-stands c = λ version. stands_after c.args.credit c.args.names.now c.args.events.now c.args.nodes.now c.args.registrar.now c.args.i version c.requires.standing c.requires.within
+
+pub returns-in-Err-clause-reason : goal.returns-in-Err-clause-reason
+returns-in-Err-clause-reason c = λ r x.
+    sym (refused_is c.args.credit c.args.names.now c.args.events.now c.args.nodes.now c.args.registrar.now c.args.event.now c.args.i c.requires.standing c.requires.named c.requires.waits)
+    ∙ c.in-Err.ensures.reason r x
+
+pub meet_loose-requires : goal.meet_loose-requires
+meet_loose-requires c = (
+  c.args.credit,
+  c.args.names.now,
+  c.args.events.now ++ c.args.event.now ∷ [],
+  acted c.args.credit c.args.names.now c.args.events.now c.args.nodes.now c.act.new.nodes c.args.registrar.now c.act.new.registrar (behind c.in-Ok.looked.opened) c.args.event.now c.args.i (loose_seen c.in-Ok.looked.loose) c.requires.standing c.in-Ok.ensures.enabled c.requires.named c.requires.waits c.requires.few c.in-Ok.ensures.ok,
+)
+
+pub meet_all-requires : goal.meet_all-requires
+meet_all-requires c = (
+  c.args.credit,
+  c.args.names.now,
+  c.args.events.now ++ c.args.event.now ∷ [],
+  c.meet_loose.ensures c.args.credit c.args.names.now (c.args.events.now ++ c.args.event.now ∷ [])
+      (acted c.args.credit c.args.names.now c.args.events.now c.args.nodes.now c.act.new.nodes c.args.registrar.now c.act.new.registrar (behind c.in-Ok.looked.opened) c.args.event.now c.args.i (loose_seen c.in-Ok.looked.loose) c.requires.standing c.in-Ok.ensures.enabled c.requires.named c.requires.waits c.requires.few c.in-Ok.ensures.ok),
+)
+
+pub returns-clause-standing : goal.returns-clause-standing
+returns-clause-standing c =
+    c.meet_all.ensures c.args.credit c.args.names.now (c.args.events.now ++ c.args.event.now ∷ [])
+    (c.meet_loose.ensures c.args.credit c.args.names.now (c.args.events.now ++ c.args.event.now ∷ [])
+    (acted c.args.credit c.args.names.now c.args.events.now c.args.nodes.now c.act.new.nodes c.args.registrar.now c.act.new.registrar (behind c.in-Ok.looked.opened) c.args.event.now c.args.i (loose_seen c.in-Ok.looked.loose) c.requires.standing c.in-Ok.ensures.enabled c.requires.named c.requires.waits c.requires.few c.in-Ok.ensures.ok))
+
+pub returns-clause-enabled : goal.returns-clause-enabled
+returns-clause-enabled c =
+    sym (refused_is c.args.credit c.args.names.now c.args.events.now c.args.nodes.now c.args.registrar.now c.args.event.now c.args.i c.requires.standing c.requires.named c.requires.waits)
+    ∙ c.in-Ok.ensures.enabled

@@ -1,0 +1,95 @@
+-- What the ends of a link show, and what they hold of the ring's link between them.
+use Rattle.std.specs.Prelude.{◌≡◌, ℕ, ◌+◌, ◌≤◌, Bool, false, List, [], ◌∷◌, ◌++◌, length, map, Option, Some, None, is_some}
+use Rattle.gm_member.specs.Held.{Carried}
+use Rattle.gm_member.specs.Deaths.Stands.{lines_in}
+use Rattle.ring_world.specs.declared.phase.Ending.{Ending}
+use Rattle.ring_world.specs.Deaths.Machine.{World, Packet, Link}
+
+-- A packet as it stands on a link: the version of its sender's view, and its lines.
+pub record Sent : Type 0 where
+  pub view : ℕ
+  pub lines : List Carried
+
+-- What the out end of a link shows: the items that wait in it, an item without a packet being the end of the link; the grants that have
+-- come back; the credit of its link; the slots that it knows to be free; and whether it has ended.
+pub record OutSeen : Type 0 where
+  pub waiting : List (Option Sent)
+  pub back : List ℕ
+  pub initial : ℕ
+  pub free : ℕ
+  pub ended : Bool
+
+-- What the in end of a link shows: its items, the grants that were given and haven't gone, the grant that waits, the credit of its
+-- link, and the slots that it knows to be free on the way back.
+pub record InSeen : Type 0 where
+  pub items : List (Option Sent)
+  pub given : List ℕ
+  pub late : Option ℕ
+  pub initial : ℕ
+  pub free : ℕ
+
+-- a packet of the ring, as an item of a link
+abbrev pub packet_in : World → Packet → Option Sent
+packet_in w k = Some (record { view = k.version; lines = lines_in w k })
+
+-- the end of a link, as its last item
+abbrev pub end_items : Option Ending → List (Option Sent)
+end_items None = []
+end_items (Some why) = None ∷ []
+
+-- the items of a link of the ring: its packets, and its end behind them
+abbrev pub items_in : World → Link → List (Option Sent)
+items_in w l = map (packet_in w) l.packets ++ end_items l.ending
+
+-- The two ends hold between them what stands on the link, and each knows no more free slots than there are.
+pub record Carries (w : World) (initial : ℕ) (l : Link) (o : OutSeen) (n : InSeen) : Type 0 where
+  pub items : n.items ++ o.waiting ≡ items_in w l
+  pub grants : o.back ++ n.given ≡ l.flow.grants
+  pub late : n.late ≡ None
+  pub ended : o.ended ≡ is_some l.ending
+  pub out_initial : o.initial ≡ initial
+  pub in_initial : n.initial ≡ initial
+  pub slots : length o.waiting + length n.items + o.free ≤ initial + 1
+  pub room : length o.back + length n.given + n.free ≤ initial
+
+-- Nothing waits in either end, and each knows its free slots.
+pub record HaveMet (o : OutSeen) (n : InSeen) : Type 0 where
+  pub moved : o.waiting ≡ []
+  pub given : n.given ≡ []
+  pub free : o.free + length n.items ≡ o.initial + 1
+  pub room : n.free + length o.back ≡ n.initial
+
+-- Nothing waits in an out end that was dropped, and of its other end's grants none has come to it since: o is what it showed last.
+pub record HasRested (o : OutSeen) (n : InSeen) : Type 0 where
+  pub moved : o.waiting ≡ []
+  pub room : n.free + length o.back + length n.given ≡ n.initial
+
+-- the ends may meet
+pub record Fits (o : OutSeen) (n : InSeen) : Type 0 where
+  pub initial : n.initial ≡ o.initial
+  pub slots : length o.waiting + length n.items + o.free ≤ o.initial + 1
+  pub room : length o.back + length n.given + n.free ≤ o.initial
+
+-- What waited in either end has gone to the other.
+pub record Meets (o : OutSeen) (n : InSeen) (o' : OutSeen) (n' : InSeen) : Type 0 where
+  pub items : n'.items ≡ n.items ++ o.waiting
+  pub back : o'.back ≡ o.back ++ n.given
+  pub met : HaveMet o' n'
+  pub late : n'.late ≡ n.late
+  pub ended : o'.ended ≡ o.ended
+  pub out_initial : o'.initial ≡ o.initial
+  pub in_initial : n'.initial ≡ n.initial
+
+-- ---- a link that opens
+
+-- its out end, on which the first packet was put
+abbrev pub opened_out : ℕ → Sent → OutSeen
+opened_out initial k = record { waiting = Some k ∷ []; back = []; initial = initial; free = initial; ended = false }
+
+-- an out end on which nothing was put
+abbrev pub fresh_out : ℕ → OutSeen
+fresh_out initial = record { waiting = []; back = []; initial = initial; free = initial + 1; ended = false }
+
+-- an in end from which nothing was taken
+abbrev pub fresh_in : ℕ → InSeen
+fresh_in initial = record { items = []; given = []; late = None; initial = initial; free = initial }

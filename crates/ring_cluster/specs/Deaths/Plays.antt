@@ -1,0 +1,164 @@
+-- When a journal plays what a cluster was given.
+use Rattle.std.specs.Prelude.{◌≡◌, ℕ, ◌+◌, true, ◌<◌, ◌≤◌, List, [], ◌∷◌, ◌++◌, length, map, take, slice_get, slice_set, slice_index_or, IsSome, position, bytes_eq, Option, Some, None, if◌then◌else◌, Contains}
+use Rattle.std.specs.List.{flat_map}
+use Rattle.ring_names.specs.declared.numbers.CreditSpec.{CreditSpec}
+use Rattle.ring_script.specs.declared.command.Command.{Command}
+use Rattle.ring_script.specs.declared.command.Command.TheVariants as command
+use Rattle.ring_world.specs.declared.event.Event.{Event}
+use Rattle.ring_world.specs.declared.event.Event.TheVariants.{Cast, Put, Take, TakeEnd, Gain, Stop, Mark, Refresh, Pick}
+use Rattle.ring_world.specs.Deaths.Machine.{runs}
+use Rattle.ring_world.specs.Deaths.Quiet.{IsQuiet}
+use Rattle.ring_cluster.specs.declared.repair.agenda.Task.{Task}
+use Rattle.ring_cluster.specs.declared.repair.agenda.Task.TheVariants as task
+use Rattle.ring_cluster.specs.Deaths.Seen.{Seen, state, state_of}
+
+-- ---- what clients asked for
+
+-- an event that a client of this member asked for; the member's other steps are its own
+abbrev pub client_event : List ℕ → Event → List Event
+client_event name (Cast by body) = if bytes_eq by name then Cast by body ∷ [] else []
+client_event name (Put by) = []
+client_event name (Take by) = []
+client_event name (TakeEnd by) = []
+client_event name (Gain by) = []
+client_event name (Stop by) = if bytes_eq by name then Stop by ∷ [] else []
+client_event name (Mark by dead) = []
+client_event name (Refresh by version) = []
+client_event name (Pick by) = []
+
+-- the client events of a member, in the order of the journal
+abbrev pub client_events : List ℕ → List Event → List Event
+client_events name events = flat_map (client_event name) events
+
+-- what a command asks of this member
+abbrev pub asked_by : List ℕ → Command → List Event
+asked_by name (command.Cast by body) = if bytes_eq by name then Cast by body ∷ [] else []
+asked_by name (command.Go turns) = []
+asked_by name command.Settle = []
+
+-- what commands ask of it, in their order
+abbrev pub asked : List ℕ → List Command → List Event
+asked name commands = flat_map (asked_by name) commands
+
+-- ---- what a member has still to do
+
+-- the event of a task, by its member
+abbrev pub task_event : List ℕ → Task → Event
+task_event name (task.Cast body) = Cast name body
+
+-- the events of an agenda
+abbrev pub todo : List ℕ → List Task → List Event
+todo name tasks = map (task_event name) tasks
+
+-- the agenda at a place
+abbrev pub agenda_at : List (List Task) → ℕ → List Task
+agenda_at agendas i = slice_index_or agendas i []
+
+abbrev pub agenda_found : List (List Task) → Option ℕ → List Task
+agenda_found agendas None = []
+agenda_found agendas (Some i) = agenda_at agendas i
+
+-- the place of a name
+abbrev pub place_among : List (List ℕ) → List ℕ → Option ℕ
+place_among names name = position (λ n. bytes_eq n name) names
+
+-- the agenda of the member of that name
+abbrev pub agenda_of : Seen → List ℕ → List Task
+agenda_of c name = agenda_found c.agendas (place_among c.names name)
+
+-- ---- commands
+
+-- a task joins the agenda at a place
+abbrev pub with_task : List (List Task) → Option ℕ → Task → List (List Task)
+with_task agendas None t = agendas
+with_task agendas (Some i) t = slice_set agendas i (agenda_at agendas i ++ t ∷ [])
+
+-- a command that a member of these names is asked for
+abbrev pub IsCommandTo : List (List ℕ) → Command → Type 0
+IsCommandTo names (command.Cast by body) = IsSome (place_among names by)
+IsCommandTo names (command.Go turns) = ⊥
+IsCommandTo names command.Settle = ⊥
+
+-- the agendas after a command was taken
+abbrev pub tasked : List (List ℕ) → List (List Task) → Command → List (List Task)
+tasked names agendas (command.Cast by body) = with_task agendas (place_among names by) (task.Cast body)
+tasked names agendas (command.Go turns) = agendas
+tasked names agendas command.Settle = agendas
+
+-- the place and the task of a command
+abbrev pub IsTaskOf : List (List ℕ) → Command → ℕ → Task → Type 0
+IsTaskOf names (command.Cast by body) i t = (place_among names by ≡ Some i) × (t ≡ task.Cast body)
+IsTaskOf names (command.Go turns) i t = ⊥
+IsTaskOf names command.Settle i t = ⊥
+
+-- a command was given
+abbrev pub commanded : Seen → Command → Seen
+commanded c x = record c { agendas = tasked c.names c.agendas x; given = c.given ++ x ∷ [] }
+
+-- ---- playing
+
+-- these commands were done and the ring was quiet after some of the events
+pub record HasSettled (credit : CreditSpec) (names : List (List ℕ)) (events : List Event) (commands : List Command) : Type 0 where
+  pub count : ℕ
+  pub within : count ≤ length events
+  pub quiet : IsQuiet (state credit names (take count events))
+  pub done : (name : List ℕ) → client_events name (take count events) ≡ asked name commands
+
+-- at each settling all earlier commands were done and the ring was quiet
+abbrev pub HasSettledEach : CreditSpec → List (List ℕ) → List Event → List Command → Type 0
+HasSettledEach credit names events given = (k : ℕ) → slice_get given k ≡ Some command.Settle → HasSettled credit names events (take k given)
+
+-- The journal plays what was given: each member's client events are its commands in their order and nothing else,
+-- and at each settling all earlier commands were done and the ring was quiet.
+pub record Plays (credit : CreditSpec) (names : List (List ℕ)) (events : List Event) (given : List Command) : Type 0 where
+  pub done : (name : List ℕ) → client_events name events ≡ asked name given
+  pub settled : HasSettledEach credit names events given
+
+-- The journal of a cluster plays what it was given so far: what each member has done, followed by what it has still to
+-- do, is what it was asked. A cluster on which `step` was never called does so.
+pub record PlaysSoFar (c : Seen) : Type 0 where
+  pub asked : (name : List ℕ) → client_events name c.events ++ todo name (agenda_of c name) ≡ asked name c.given
+  pub settled : HasSettledEach c.credit c.names c.events c.given
+
+-- ---- going on
+
+-- The members have gone on: the journal has these events more, and what each member has done of its agenda in them,
+-- followed by what it has still to do, is what it had to do.
+pub record GoesOn (c d : Seen) (more : List Event) : Type 0 where
+  pub credit : d.credit ≡ c.credit
+  pub names : d.names ≡ c.names
+  pub count : length d.agendas ≡ length c.agendas
+  pub events : d.events ≡ c.events ++ more
+  pub asked : (name : List ℕ) → client_events name more ++ todo name (agenda_of d name) ≡ todo name (agenda_of c name)
+
+-- they have, by some events
+abbrev pub HasGoneOn : Seen → Seen → Type 0
+HasGoneOn c d = (more : List Event) × GoesOn c d more
+
+-- the member at place i has done the first of its tasks
+abbrev pub performed : Seen → ℕ → Task → List Task → Seen
+performed c i t ts = record c { events = c.events ++ task_event (slice_index_or c.names i []) t ∷ []; agendas = slice_set c.agendas i ts }
+
+-- what was given and how many rounds were given a number stay
+abbrev pub SameGiven : Seen → Seen → Type 0
+SameGiven c d = (d.given ≡ c.given) × (d.rounds ≡ c.rounds)
+
+-- the member at a place has begun with its agenda, where it runs and had one
+abbrev pub HasBegun : ℕ → Seen → Seen → Type 0
+HasBegun i c d = runs (state_of c) (i + 1) ≡ true → 0 < length (agenda_at c.agendas i) → length (agenda_at d.agendas i) < length (agenda_at c.agendas i)
+
+-- the agendas at other places stay
+abbrev pub SameElsewhere : ℕ → Seen → Seen → Type 0
+SameElsewhere i c d = (j : ℕ) → ¬ (j ≡ i) → agenda_at d.agendas j ≡ agenda_at c.agendas j
+
+-- the head of the agenda of each member that runs is among these events
+abbrev pub HeadsAre : Seen → List Event → Type 0
+HeadsAre c more = (name : List ℕ) (i : ℕ) (t : Task) (ts : List Task) → place_among c.names name ≡ Some i → runs (state_of c) (i + 1) ≡ true → agenda_at c.agendas i ≡ t ∷ ts → Contains more (task_event name t)
+
+-- no member that runs has anything to do
+abbrev pub AgendasAreDone : Seen → Type 0
+AgendasAreDone c = (i : ℕ) → i < length c.agendas → runs (state_of c) (i + 1) ≡ true → agenda_at c.agendas i ≡ []
+
+-- nobody has
+abbrev pub AgendasAreEmpty : Seen → Type 0
+AgendasAreEmpty c = (i : ℕ) → i < length c.agendas → agenda_at c.agendas i ≡ []

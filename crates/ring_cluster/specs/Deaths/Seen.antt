@@ -1,0 +1,49 @@
+-- What is seen of a cluster whose members may stop.
+use Rattle.std.specs.Prelude.{◌≡◌, ℕ, ◌+◌, ◌-◌, ◌<◌, ◌^◌, ◌++◌, ◌∷◌, List, [], length, min, replicate}
+use Rattle.ring_names.specs.declared.numbers.CreditSpec.{CreditSpec}
+use Rattle.ring_script.specs.declared.command.Command.{Command}
+use Rattle.group_view.specs.Change.{AreOpeningNames}
+use Rattle.ring_world.specs.declared.event.Event.{Event}
+use Rattle.ring_world.specs.Deaths.Machine.{World}
+use Rattle.ring_world.specs.Deaths.Step.{opening}
+use Rattle.ring_world.specs.Deaths.Event.{IsRun, last}
+use Rattle.ring_cluster.specs.declared.repair.agenda.Task.{Task}
+
+-- the state of the ring after these events from its opening
+abbrev pub state : CreditSpec → List (List ℕ) → List Event → World
+state credit names events = last (opening credit names) events
+
+-- A cluster is seen as the names and the credit with which its ring opened, its journal, what each member has
+-- still to do, by places, how many rounds were given a number, and what it was given: the commands that it took
+-- and its rounds and settlings, in their order.
+pub record Seen : Type 0 where
+  pub credit : CreditSpec
+  pub names : List (List ℕ)
+  pub events : List Event
+  pub agendas : List (List Task)
+  pub rounds : ℕ
+  pub given : List Command
+
+-- the last state of its journal
+abbrev pub state_of : Seen → World
+state_of c = state c.credit c.names c.events
+
+-- a cluster that has just opened: nothing has happened, and nobody has anything to do
+abbrev pub opening_seen : CreditSpec → List (List ℕ) → Seen
+opening_seen credit names = record { credit = credit; names = names; events = []; agendas = replicate (length names) []; rounds = 0; given = [] }
+
+-- what every cluster keeps of this: its journal is a run of the ring of fewer than 2^59 events, and each member has
+-- an agenda
+pub record IsGoing (c : Seen) : Type 0 where
+  pub are : AreOpeningNames c.names
+  pub run : IsRun (opening c.credit c.names) c.events
+  pub few : length c.events < 2 ^ 59
+  pub agendas : length c.agendas ≡ length c.names
+
+-- one event has happened
+abbrev pub with_event : Seen → Event → Seen
+with_event c e = record c { events = c.events ++ e ∷ [] }
+
+-- as a round of its own
+abbrev pub stepped : Seen → Event → Seen
+stepped c e = record c { events = c.events ++ e ∷ []; rounds = min (c.rounds + 1) (2 ^ 32 - 1) }

@@ -1,0 +1,84 @@
+//! What a member has still to do.
+ghost use Rattle.std.specs.Prelude.{◌≡◌, ◌∷◌, ◌++◌, [], List, drop, MatchOption, IfOk, IfErr, OnOk, OnErr};
+ghost use Rattle.ring_cluster.specs.Deaths.Plays.{task_event};
+ghost use Rattle.ring_cluster.specs.declared.repair.agenda.Task.{Task};
+
+use ring_names::{Body, Name, OutOfMemory};
+use ring_world::Event;
+use std::alloc::Global;
+use std::collections::VecDeque;
+use std::marker::Model;
+
+/// A command of a member, without the member.
+#[derive(Drop, Debug)]
+pub enum Task {
+    /// It multicasts a message.
+    Cast(Body),
+}
+
+/// The tasks of one member, the next one first.
+#[derive(Drop)]
+pub struct Agenda {
+    tasks: VecDeque<Task>,
+}
+
+impl Model for Agenda {
+    ghost use Rattle.std.specs.Prelude.{List};
+    ghost use Rattle.ring_cluster.specs.declared.repair.agenda.Task.{Task};
+
+    ghost Value = { List Task };
+
+    ghost view = { λ a. a.tasks.items };
+}
+
+impl Task {
+    /// The event by which this member does it.
+    pub(crate) fn event(&self, by: &Name) -> Result<Event, OutOfMemory>
+        ensures { IfOk result (λ event. event ≡ task_event by.now self.now) }
+    {
+        match self {
+            Task::Cast(body) => Ok(Event::Cast {
+                by: *by,
+                body: body.copy()?,
+            }),
+        }
+    }
+}
+
+impl Agenda {
+    /// An agenda with nothing on it.
+    pub(crate) fn new(alloc: Global) -> Agenda
+        ensures { result ≡ [] }
+    {
+        Agenda {
+            tasks: VecDeque::new(alloc),
+        }
+    }
+
+    /// A task joins the end of the agenda.
+    pub(crate) fn push(&mut self, task: Task) -> Result<(), Task>
+        ensures ok { OnOk result (self.new ≡ self.old ++ task ∷ []) }
+        ensures err { OnErr result (self.new ≡ self.old) }
+        ensures back { IfErr result (λ back. back ≡ task) }
+    {
+        match self.tasks.push_back(task) {
+            Ok(()) => Ok(()),
+            Err(failed) => Err(failed.value),
+        }
+    }
+
+    /// The next task.
+    pub(crate) fn head(&self) -> Option<&Task>
+        ensures { MatchOption result (self.now ≡ [])
+            (λ task. (rest : List Task) × (self.now ≡ task.now ∷ rest)) }
+    {
+        self.tasks.front()
+    }
+
+    /// The next task is done.
+    pub(crate) fn pop(&mut self)
+        ensures { self.new ≡ drop 1 self.old }
+    {
+        let _ = self.tasks.pop_front();
+    }
+}

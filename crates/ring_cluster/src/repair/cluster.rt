@@ -1,0 +1,546 @@
+//! The cluster.
+ghost use Rattle.std.specs.Prelude.{◌≡◌, ◌<◌, ◌∷◌, ◌++◌, [], ◌↔◌, ◌≤◌, ◌-◌, List, true, false, IsSome, MatchOption, drop, slice_set, IfOk, IfSome, OnOk, OnErr, bytes_eq, length, map, slice_index_or, replicate, vec_len, vec_capacity};
+ghost use Rattle.ring_cluster.specs.Deaths.Parties.{parties, shown_of, no_shown};
+ghost use Rattle.ring_cluster.specs.Deaths.Behind.{behind};
+ghost use Rattle.ring_cluster.specs.declared.repair.agenda.Task.{Task};
+ghost use Rattle.ring_cluster.specs.Deaths.Plays.{IsCommandTo, IsTaskOf, place_among as the_place, task_event, agenda_at};
+ghost use Rattle.ring_cluster.specs.Deaths.Standing.{StandAfter};
+
+use crate::opening::copied;
+use crate::repair::agenda::{Agenda, Task};
+use crate::repair::driver::{drain, round};
+use crate::repair::node::Node;
+use crate::repair::opening::{Opening, opening_parties};
+use crate::repair::stepping::{hand_over, step};
+use crate::repair::undelivered::Undelivered;
+use gm_member::Load;
+use group_view::View;
+use ordered_link::PlainIn;
+use registrar::Registrar;
+use ring_io::Gate;
+use ring_names::{CreditSpec, MemberId, Name, OutOfMemory};
+use ring_script::Command;
+use ring_world::{Event, Refused};
+use std::alloc::Global;
+use std::marker::Model;
+use std::thread::Threads;
+
+/// How many rounds a settling has at most before its drain.
+const MOST_ROUNDS: u32 = 64;
+
+/// How many turns each member has in a round of a settling.
+const TURNS: u32 = 16;
+
+/// The members of a ring over plain pairs, the journal of what has happened among them, and what each has
+/// still to do.
+#[derive(Drop)]
+pub struct Cluster {
+    alloc: Global,
+    credit: CreditSpec,
+    names: Vec<Name>,
+    nodes: Vec<Node>,
+    registrar: Registrar<PlainIn<Load>>,
+    late: Option<Undelivered>,
+    journal: Vec<Event>,
+    agendas: Vec<Agenda>,
+    rounds: u32,
+    given: Vec<Command>,
+}
+
+impl Model for Cluster {
+    ghost use Rattle.ring_cluster.specs.Deaths.Seen.{Seen};
+
+    ghost Value = { Seen };
+
+    ghost use Rattle.ring_cluster.specs.Deaths.Kept.{seen_of, IsStanding};
+
+    ghost view = { seen_of };
+
+    ghost invariant = { IsStanding };
+}
+
+impl Cluster {
+    ghost use Rattle.std.specs.Prelude.{◌≡◌, ◌↔◌, ◌≢◌, ◌⊎◌, ℕ, ◌+◌, ◌-◌, ◌<◌, ◌≤◌, ◌^◌, ◌∷◌, ◌++◌, [], List, true, false, Some, None, Err, IsTrue, IsSome, MatchOption, IfSome, IfOk, IfErr, OnOk, OnErr, length, map, replicate, min, drop, slice_set, slice_index_or};
+    ghost use Rattle.ring_names.specs.declared.reason.Reason.{Reason};
+    ghost use Rattle.ring_script.specs.declared.command.Command.{Command};
+    ghost use Rattle.ring_script.specs.declared.command.Command.TheVariants as command;
+    ghost use Rattle.group_view.specs.Change.{AreOpeningNames};
+    ghost use Rattle.ring_world.specs.declared.event.Event.{Event};
+    ghost use Rattle.ring_world.specs.Deaths.Machine.{view_at, newest, runs};
+    ghost use Rattle.ring_world.specs.Deaths.Quiet.{IsQuiet};
+    ghost use Rattle.ring_world.specs.Deaths.Event.{refusal};
+    ghost use Rattle.gm_member.specs.Deaths.Stands.{held_in};
+    ghost use Rattle.gm_member.specs.Deaths.Shown.{held_of};
+    ghost use Rattle.ring_cluster.specs.Deaths.Idle.{IsIdle, NobodyStopped, MarksNobody};
+    ghost use Rattle.ring_cluster.specs.Deaths.Holds.{HoldsOf};
+    ghost use Rattle.ring_cluster.specs.Deaths.Seen.{Seen, IsGoing, state_of, opening_seen, with_event, stepped};
+    ghost use Rattle.ring_cluster.specs.declared.repair.agenda.Task.{Task};
+    ghost use Rattle.ring_cluster.specs.Deaths.Plays.{PlaysSoFar, Plays, task_event, place_among, IsCommandTo, commanded, performed, agenda_at, GoesOn, HasGoneOn, HasBegun, HeadsAre, AgendasAreDone, AgendasAreEmpty};
+    ghost use Rattle.ring_cluster.specs.Deaths.Turns.{SamePhases, TakesRound};
+
+    /// The cluster of a ring that has just opened with these members, in ring order: nobody has anything
+    /// to do.
+    pub fn opening(
+        alloc: Global,
+        members: &[Name],
+        credit: CreditSpec,
+    ) -> Result<Cluster, OutOfMemory>
+        requires { AreOpeningNames members.now }
+        ensures opens { IfOk result (λ c. c ≡ opening_seen credit members.now) }
+        ensures plays { IfOk result PlaysSoFar }
+    {
+        let cluster = Cluster::founding(alloc, members, credit)?;
+        Ok(cluster)
+    }
+
+    fn founding(alloc: Global, members: &[Name], credit: CreditSpec) -> Result<Cluster, OutOfMemory>
+        requires { AreOpeningNames members.now }
+        ensures { IfOk result (λ c. c ≡ opening_seen credit members.now) }
+    {
+        let Opening { nodes, registrar } = opening_parties(alloc, members, credit)?;
+        let names = copied(alloc, members)?;
+        let agendas = opening_agendas(alloc, members.len())?;
+        Ok(Cluster {
+            alloc,
+            credit,
+            names,
+            nodes,
+            registrar,
+            late: None,
+            journal: Vec::new(alloc),
+            agendas,
+            rounds: 0,
+            given: Vec::new(alloc),
+        })
+    }
+
+    /// A law of every cluster: its journal is a run of the ring from its opening, and each member has an
+    /// agenda.
+    pub fn is_going(&self)
+        ensures { IsGoing self.now }
+    {
+        let _ = &self.rounds;
+    }
+
+    /// Whether the ring has a member of that name.
+    pub fn has_member(&self, name: &Name) -> bool
+        ensures { IsTrue result ↔ IsSome (place_among (self.now).names name.now) }
+    {
+        the_place_among(&self.names, name).is_some()
+    }
+
+    /// A command of a member joins the end of its agenda. Want of memory hands the command back. The
+    /// caller gives a command of a member of the ring.
+    pub fn command(&mut self, command: Command) -> Result<(), (Command, OutOfMemory)>
+        requires { IsCommandTo (self.old).names command }
+        ensures ok { OnOk result (self.new ≡ commanded self.old command) }
+        ensures plays { OnOk result (PlaysSoFar self.old → PlaysSoFar self.new) }
+        ensures err { OnErr result (self.new ≡ self.old) }
+        ensures back { IfErr result (λ e. e.0 ≡ command) }
+    {
+        self.is_going();
+        match self.take_command(command) {
+            Ok(()) => Ok(()),
+            Err(back) => Err(back),
+        }
+    }
+
+    fn take_command(&mut self, command: Command) -> Result<(), (Command, OutOfMemory)>
+        requires { IsCommandTo (self.old).names command }
+        ensures ok { OnOk result (self.new ≡ commanded self.old command) }
+        ensures err { OnErr result (self.new ≡ self.old) }
+        ensures back { IfErr result (λ e. e.0 ≡ command) }
+    {
+        let Ok((place, task)) = task_of(&self.names, &command) else {
+            return Err((command, OutOfMemory));
+        };
+        if self.given.reserve(1).is_err() {
+            return Err((command, OutOfMemory));
+        }
+        if self.agendas[place].push(task).is_err() {
+            return Err((command, OutOfMemory));
+        }
+        push_reserved(&mut self.given, command);
+        Ok(())
+    }
+
+    /// The one event, where it is enabled. Without memory all stands as it stood, or the event has happened and
+    /// the cluster keeps a link that has still to be handed to the registrar. What it keeps so, and the collecting
+    /// of the links that wait for the acting member, comes before the next event, and without memory for it no event
+    /// happens.
+    pub fn step(&mut self, event: &Event) -> Result<(), Refused>
+        ensures enabled { OnOk result (refusal (state_of self.old) event.now ≡ None) }
+        ensures ok { OnOk result (self.new ≡ stepped self.old event.now) }
+        ensures refused { (r : Reason) → refusal (state_of self.old) event.now ≡ Some r
+            → (result ≡ Err (Refused.NotEnabled r)) ⊎ (result ≡ Err Refused.OutOfMemory) }
+        ensures reason { IfErr result (λ e. (r : Reason) → e ≡ Refused.NotEnabled r
+            → refusal (state_of self.old) event.now ≡ Some r) }
+        ensures err { IfErr result (λ e. (self.new ≡ self.old)
+            ⊎ ((e ≡ Refused.OutOfMemory) × (refusal (state_of self.old) event.now ≡ None) × (self.new ≡ stepped self.old event.now))) }
+    {
+        self.happen(event)?;
+        self.number_round();
+        match self.deliver() {
+            Ok(()) => Ok(()),
+            Err(OutOfMemory) => Err(Refused::OutOfMemory),
+        }
+    }
+
+    /// The one event, as a part of a round.
+    pub(crate) fn happen(&mut self, event: &Event) -> Result<(), Refused>
+        ensures enabled { OnOk result (refusal (state_of self.old) event.now ≡ None) }
+        ensures ok { OnOk result (self.new ≡ with_event self.old event.now) }
+        ensures refused { (r : Reason) → refusal (state_of self.old) event.now ≡ Some r
+            → (result ≡ Err (Refused.NotEnabled r)) ⊎ (result ≡ Err Refused.OutOfMemory) }
+        ensures reason { IfErr result (λ e. (r : Reason) → e ≡ Refused.NotEnabled r
+            → refusal (state_of self.old) event.now ≡ Some r) }
+        ensures err { OnErr result (self.new ≡ self.old) }
+    {
+        step(
+            self.credit,
+            &self.names,
+            &mut self.nodes,
+            &mut self.registrar,
+            &mut self.late,
+            &mut self.journal,
+            event,
+        )
+    }
+
+    /// Hands to the registrar what waits for that.
+    pub(crate) fn deliver(&mut self) -> Result<(), OutOfMemory>
+        ensures { self.new ≡ self.old }
+    {
+        hand_over(
+            self.credit,
+            &self.names,
+            &self.nodes,
+            &mut self.registrar,
+            &mut self.late,
+            &self.journal,
+        )
+    }
+
+    /// The member at a place does the first of its tasks: whether it had one and hasn't stopped.
+    pub(crate) fn perform(&mut self, place: usize) -> Result<bool, OutOfMemory>
+        requires { place < length (self.old).names }
+        ensures done { IfOk result (λ b. b ≡ true → (t : Task) × (ts : List Task)
+            × (agenda_at (self.old).agendas place ≡ t ∷ ts)
+            × (refusal (state_of self.old) (task_event (slice_index_or (self.old).names place []) t) ≡ None)
+            × (self.new ≡ performed self.old place t ts)) }
+        ensures none { IfOk result (λ b. b ≡ false → (self.new ≡ self.old)
+            × ((agenda_at (self.old).agendas place ≡ []) ⊎ (runs (state_of self.old) (place + 1) ≡ false))) }
+        ensures err { OnErr result (self.new ≡ self.old) }
+    {
+        self.is_going();
+        let Some(event) = self.next_event(place)? else {
+            return Ok(false);
+        };
+        match self.happen(&event) {
+            Ok(()) => {
+                self.strike_off(place);
+                Ok(true)
+            }
+            Err(Refused::NotEnabled(_)) => Ok(false),
+            Err(Refused::OutOfMemory) => Err(OutOfMemory),
+        }
+    }
+
+    /// The event of the first task of the member at a place, where it has one.
+    fn next_event(&self, place: usize) -> Result<Option<Event>, OutOfMemory>
+        requires { place < length (self.now).names }
+        ensures { IfOk result (λ next. MatchOption next (agenda_at (self.now).agendas place ≡ [])
+            (λ event. (t : Task) × (ts : List Task) × (agenda_at (self.now).agendas place ≡ t ∷ ts)
+            × (event ≡ task_event (slice_index_or (self.now).names place []) t))) }
+    {
+        let Some(task) = head_at(&self.agendas, place) else {
+            return Ok(None);
+        };
+        let event = task.event(&self.names[place])?;
+        Ok(Some(event))
+    }
+
+    /// The first task of the member at a place is done.
+    fn strike_off(&mut self, place: usize)
+        requires { place < length (self.old).names }
+        ensures { self.new ≡ record self.old {
+          agendas = slice_set (self.old).agendas place
+              (drop 1 (agenda_at (self.old).agendas place));
+        } }
+    {
+        pop_at(&mut self.agendas, place);
+    }
+
+    /// The name of the member at a place.
+    pub(crate) fn name_at(&self, place: usize) -> Name
+        requires { place < length (self.now).names }
+        ensures { result ≡ slice_index_or (self.now).names place [] }
+    {
+        self.names[place]
+    }
+
+    /// How many members there are.
+    pub(crate) fn count(&self) -> usize
+        ensures { result ≡ length (self.now).names }
+    {
+        self.names.len()
+    }
+
+    /// How many events have happened.
+    pub(crate) fn happened(&self) -> usize
+        ensures { result ≡ length (self.now).events }
+    {
+        self.journal.len()
+    }
+
+    /// One round: each member takes at least one and at most so many turns, the first of which does the
+    /// head of its agenda, where it has one and hasn't stopped. Want of memory leaves what has happened.
+    pub fn go<T: Threads, G: Gate>(
+        &mut self,
+        threads: &T,
+        turns: u32,
+        gate: &G,
+    ) -> Result<(), OutOfMemory>
+        requires { (1 ≤ turns) × (turns ≤ 1000) }
+        ensures heads { OnOk result ((more : List Event)
+            × GoesOn self.old self.new more × HeadsAre self.old more) }
+        ensures goes { HasGoneOn self.old self.new }
+        ensures alive { NobodyStopped (state_of self.old) → NobodyStopped (state_of self.new) }
+        ensures given { OnOk result
+            ((self.new).given ≡ (self.old).given ++ command.Go turns ∷ []) }
+        ensures not_given { OnErr result ((self.new).given ≡ (self.old).given) }
+        ensures rounds { (self.new).rounds ≡ min ((self.old).rounds + 1) (2 ^ 32 - 1) }
+        ensures plays { PlaysSoFar self.old → PlaysSoFar self.new }
+    {
+        let _ = threads;
+        self.number_round();
+        self.note(Command::Go { turns })?;
+        match self.take_round(turns, gate) {
+            Ok(()) => Ok(()),
+            Err(OutOfMemory) => {
+                self.forget_note();
+                Err(OutOfMemory)
+            }
+        }
+    }
+
+    /// A round, after which nothing waits to be handed to the registrar.
+    fn take_round<G: Gate>(&mut self, turns: u32, gate: &G) -> Result<(), OutOfMemory>
+        requires { 1 ≤ turns }
+        ensures round { TakesRound self.old self.new }
+        ensures begun { OnOk result ((i : ℕ) → i < length (self.old).names → HasBegun i self.old self.new) }
+    {
+        round(self, turns, gate)?;
+        self.deliver()?;
+        Ok(())
+    }
+
+    /// Rounds of 16 turns until one does nothing, 64 at most, and then a drain: each member that runs does
+    /// all of its agenda, and the ring works and repairs itself until no member has anything left to do. Where nobody has
+    /// stopped it is quiet then. Want of memory leaves what has happened.
+    pub fn settle<T: Threads, G: Gate>(&mut self, threads: &T, gate: &G) -> Result<(), OutOfMemory>
+        ensures goes { HasGoneOn self.old self.new }
+        ensures alive { NobodyStopped (state_of self.old) → NobodyStopped (state_of self.new) }
+        ensures done { OnOk result (AgendasAreDone self.new) }
+        ensures idle { OnOk result (IsIdle (state_of self.new) × MarksNobody (state_of self.new)) }
+        ensures quiet { OnOk result (NobodyStopped (state_of self.old) → IsQuiet (state_of self.new) × AgendasAreEmpty self.new) }
+        ensures given { OnOk result ((self.new).given ≡ (self.old).given ++ command.Settle ∷ []) }
+        ensures not_given { OnErr result ((self.new).given ≡ (self.old).given) }
+        ensures rounds { (self.new).rounds ≤ (self.old).rounds + 129 }
+        ensures plays { PlaysSoFar self.old → PlaysSoFar self.new }
+        ensures played { OnOk result (PlaysSoFar self.old
+            → Plays (self.new).credit (self.new).names (self.new).events (self.new).given) }
+    {
+        let _ = threads;
+        self.is_going();
+        self.note(Command::Settle)?;
+        match self.work_out(gate) {
+            Ok(()) => Ok(()),
+            Err(OutOfMemory) => {
+                self.forget_note();
+                Err(OutOfMemory)
+            }
+        }
+    }
+
+    /// The rounds of a settling, and its drain.
+    fn work_out<G: Gate>(&mut self, gate: &G) -> Result<(), OutOfMemory>
+        ensures goes { HasGoneOn self.old self.new }
+        ensures phases { SamePhases (state_of self.old) (state_of self.new) }
+        ensures given { (self.new).given ≡ (self.old).given }
+        ensures done { OnOk result (AgendasAreDone self.new) }
+        ensures idle { OnOk result (IsIdle (state_of self.new)) }
+        ensures marks { OnOk result (MarksNobody (state_of self.new)) }
+        ensures quiet { OnOk result (NobodyStopped (state_of self.new) → IsQuiet (state_of self.new)) }
+        ensures empty { OnOk result (NobodyStopped (state_of self.new) → AgendasAreEmpty self.new) }
+        ensures rounds { (self.new).rounds ≤ (self.old).rounds + 129 }
+    {
+        for _round in 0..MOST_ROUNDS {
+            let before = self.happened();
+            self.number_round();
+            round(self, TURNS, gate)?;
+            if self.happened() == before {
+                break;
+            }
+        }
+        self.number_round();
+        drain(self)?;
+        self.deliver()?;
+        self.is_going();
+        Ok(())
+    }
+
+    /// Notes what was given.
+    fn note(&mut self, command: Command) -> Result<(), OutOfMemory>
+        ensures ok { OnOk result (self.new
+            ≡ record self.old { given = (self.old).given ++ command ∷ [] }) }
+        ensures err { OnErr result (self.new ≡ self.old) }
+    {
+        if self.given.push(command).is_err() {
+            return Err(OutOfMemory);
+        }
+        Ok(())
+    }
+
+    /// Takes the last note back.
+    fn forget_note(&mut self)
+        ensures { (given : List Command) (last : Command) → (self.old).given ≡ given ++ last ∷ []
+            → self.new ≡ record self.old { given = given } }
+    {
+        let _ = self.given.pop();
+    }
+
+    /// One more round is given a number.
+    fn number_round(&mut self)
+        ensures { self.new ≡ record self.old { rounds = min ((self.old).rounds + 1) (2 ^ 32 - 1) } }
+    {
+        self.rounds = self.rounds.saturating_add(1);
+    }
+
+    /// The member of that id: it stands in the last state of the journal, but for the links at its door that it
+    /// hasn't collected yet. None exactly where the ring has no such member.
+    pub fn member(&self, id: MemberId) -> Option<&Node>
+        ensures there { IsSome result ↔ ((1 ≤ id.0) × (id.0 ≤ length (self.now).names)) }
+        ensures stands { IfSome result (λ m. held_of m.now
+            ≡ record (held_in (state_of self.now) id.0) { door = (held_of m.now).door }) }
+        ensures holds { IfSome result (λ m. HoldsOf (state_of self.now) id.0 (held_of m.now)) }
+    {
+        node_at(&self.nodes, id)
+    }
+
+    /// The newest view of the group, as the registrar has it.
+    pub fn view(&self) -> &View
+        ensures { result.now ≡ view_at (state_of self.now) (newest (state_of self.now)) }
+    {
+        self.registrar.view()
+    }
+
+    /// A copy of the journal: all that has happened, in order.
+    pub fn journal(&self) -> Result<Vec<Event>, OutOfMemory>
+        ensures { IfOk result (λ events. events.items ≡ (self.now).events) }
+    {
+        let events = copied_events(self.alloc, &self.journal)?;
+        Ok(events)
+    }
+
+    /// How many rounds were given a number: a step counts as one, a settling as 129 at most.
+    pub fn rounds(&self) -> u32
+        ensures { result ≡ (self.now).rounds }
+    {
+        self.rounds
+    }
+}
+
+fn copied_events(alloc: Global, events: &[Event]) -> Result<Vec<Event>, OutOfMemory>
+    ensures { IfOk result (λ v. v.items ≡ events.now) }
+{
+    let mut all = Vec::new(alloc);
+    for event in events {
+        if all.push(event.copy()?).is_err() {
+            return Err(OutOfMemory);
+        }
+    }
+    Ok(all)
+}
+
+/// The member of that id, where the list has one.
+fn node_at(nodes: &[Node], id: MemberId) -> Option<&Node>
+    ensures there { IsSome result ↔ ((1 ≤ id.0) × (id.0 ≤ length nodes.now)) }
+    ensures held { IfSome result (λ m. shown_of m.now ≡ slice_index_or (map shown_of nodes.now) (id.0 - 1) no_shown) }
+{
+    if id.0 == 0 {
+        return None;
+    }
+    nodes.get(id.0 as usize - 1)
+}
+
+/// The next task of the member at a place.
+fn head_at(agendas: &[Agenda], place: usize) -> Option<&Task>
+    requires { place < length agendas.now }
+    ensures { MatchOption result (agenda_at agendas.now place ≡ [])
+        (λ task. (rest : List Task) × (agenda_at agendas.now place ≡ task.now ∷ rest)) }
+{
+    agendas[place].head()
+}
+
+/// The next task of the member at a place is done.
+fn pop_at(agendas: &mut [Agenda], place: usize)
+    requires { place < length agendas.old }
+    ensures { agendas.new ≡ slice_set agendas.old place (drop 1 (agenda_at agendas.old place)) }
+{
+    agendas[place].pop();
+}
+
+/// The place and the task of a command.
+fn task_of(names: &[Name], command: &Command) -> Result<(usize, Task), OutOfMemory>
+    requires { IsCommandTo names.now command.now }
+    ensures place { IfOk result (λ r. r.0 < length names.now) }
+    ensures task { IfOk result (λ r. IsTaskOf names.now command.now r.0 r.1) }
+{
+    match command {
+        Command::Cast { by, body } => {
+            let Some(place) = the_place_among(names, by) else {
+                unreachable!()
+            };
+            Ok((place, Task::Cast(body.copy()?)))
+        }
+        Command::Go { .. } | Command::Settle => unreachable!(),
+    }
+}
+
+/// The place of a name.
+fn the_place_among(names: &[Name], name: &Name) -> Option<usize>
+    ensures place { result ≡ the_place names.now name.now }
+    ensures within { IfSome result (λ place. place < length names.now) }
+{
+    names.iter().position(|other| is_same(other, name))
+}
+
+fn is_same(one: &Name, other: &Name) -> bool
+    ensures { result ≡ bytes_eq one.now other.now }
+{
+    one.bytes() == other.bytes()
+}
+
+/// A push for which there is room.
+fn push_reserved(given: &mut Vec<Command>, command: Command)
+    requires { vec_len given.old < vec_capacity given.old }
+    ensures { given.new.items ≡ given.old.items ++ command ∷ [] }
+{
+    if given.push(command).is_err() {
+        unreachable!()
+    }
+}
+
+/// An agenda for each member, with nothing on it.
+fn opening_agendas(alloc: Global, count: usize) -> Result<Vec<Agenda>, OutOfMemory>
+    ensures { IfOk result (λ v. v.items ≡ replicate count []) }
+{
+    let mut agendas = Vec::new(alloc);
+    for _place in 0..count {
+        if agendas.push(Agenda::new(alloc)).is_err() {
+            return Err(OutOfMemory);
+        }
+    }
+    Ok(agendas)
+}

@@ -1,0 +1,291 @@
+//! The ends of each link meet.
+ghost use Rattle.std.specs.Prelude.{◌≡◌, ◌-◌, ◌≤◌, ◌<◌, ℕ, true, false, map, length, IfSome, IfNone, IsSome, List, None, Some, option_map, slice_index_or, slice_set};
+ghost use Rattle.group_view.specs.declared.link.LinkName.{LinkName};
+ghost use Rattle.registrar.specs.Registry.{name_in, end_in};
+ghost use Rattle.gm_member.specs.Deaths.Shown.{in_name_of, out_name_of};
+ghost use Rattle.ring_cluster.specs.Deaths.Ends.{Fits, Meets, InSeen};
+ghost use Rattle.ring_cluster.specs.Deaths.Parties.{shown_of, out_seen, in_seen, in_end_at, with_in, with_out, posted, no_shown, parties};
+ghost use Rattle.ring_cluster.specs.Deaths.Behind.{behind};
+ghost use Rattle.ring_cluster.specs.Deaths.Meeting.{IsToMeet, MeetsEnd, HasNone, NodeMayMeet, NodeMeets, PostMayMeet, PostMeets, NoneIsPosted, MayMeet, MeetsIn, MayMeetOut, MeetsOut, LooseAfter, lent_out};
+ghost use Rattle.ring_cluster.specs.Deaths.Standing.{StandAfter};
+ghost use Rattle.ring_names.specs.declared.numbers.CreditSpec.{CreditSpec};
+ghost use Rattle.ring_world.specs.declared.event.Event.{Event};
+
+use crate::repair::node::Node;
+use crate::repair::undelivered::Undelivered;
+use gm_member::Load;
+use group_view::LinkName;
+use ordered_link::{PlainIn, PlainOut, meet};
+use registrar::Registrar;
+
+/// Lets two ends meet.
+fn meet_two(out: &mut PlainOut<Load>, link: &mut PlainIn<Load>)
+    requires { Fits (out_seen out.old) (in_seen link.old) }
+    ensures { Meets (out_seen out.old) (in_seen link.old) (out_seen out.new) (in_seen link.new) }
+{
+    meet(out, link);
+}
+
+/// Whether two names are one.
+fn is_same(one: &LinkName, other: &LinkName) -> bool
+    ensures same { result ≡ true → one.now ≡ other.now }
+    ensures differ { result ≡ false → one.now ≡ other.now → ⊥ }
+{
+    one == other
+}
+
+/// Whether the link to a member at a place has this name.
+fn is_named(node: &Node, place: usize, name: &LinkName) -> bool
+    ensures named { result ≡ true → in_name_of (shown_of node.now).held place ≡ Some name.now }
+    ensures other { result ≡ false → in_name_of (shown_of node.now).held place ≡ Some name.now → ⊥ }
+{
+    match node.name_at(place) {
+        Some(other) => is_same(&other, name),
+        None => false,
+    }
+}
+
+/// The place of the link of that name among those to a member, as `Node::name_at` counts them.
+#[tactic(auto, using(crate::proofs::Deaths::Meets::none_further))]
+fn place_of(node: &Node, name: &LinkName) -> Option<usize>
+    ensures some { IfSome result (λ place. in_name_of (shown_of node.now).held place ≡ Some name.now) }
+    ensures none { IfNone result (HasNone (shown_of node.now).held name.now) }
+{
+    if is_named(node, 0, name) {
+        return Some(0);
+    }
+    let mut place = 1;
+    while node.name_at(place).is_some() {
+        if is_named(node, place, name) {
+            return Some(place);
+        }
+        place += 1;
+    }
+    None
+}
+
+/// Lets an out end meet the end of the link to a member at a place.
+fn meet_at(node: &mut Node, place: usize, out: &mut PlainOut<Load>)
+    requires stands { IsSome (in_name_of (shown_of node.old).held place) }
+    requires may { IsToMeet (out_seen out.old) (in_end_at (shown_of node.old).ends place) }
+    ensures { (met : InSeen)
+        × MeetsEnd (out_seen out.old) (in_end_at (shown_of node.old).ends place) (out_seen out.new) met
+        × (shown_of node.new ≡ with_in (shown_of node.old) place met) }
+{
+    let Some(mut link) = node.lend_at(place) else {
+        unreachable!()
+    };
+    meet_two(out, &mut link);
+    node.give_at(place, link);
+}
+
+/// Lets an out end meet the end of the link of that name to a member: whether there is one.
+fn meet_node(node: &mut Node, out: &mut PlainOut<Load>, name: &LinkName) -> bool
+    requires { NodeMayMeet (shown_of node.old) name.now (out_seen out.old) }
+    ensures met { result ≡ true → NodeMeets (shown_of node.old) name.now (out_seen out.old)
+        (shown_of node.old) (shown_of node.new) (out_seen out.new) }
+    ensures none { result ≡ false → HasNone (shown_of node.old).held name.now }
+    ensures same { result ≡ false → shown_of node.new ≡ shown_of node.old }
+    ensures out { result ≡ false → out_seen out.new ≡ out_seen out.old }
+{
+    match place_of(node, name) {
+        Some(place) => {
+            meet_at(node, place, out);
+            true
+        }
+        None => false,
+    }
+}
+
+/// Whether the link that waits at a place has this name.
+fn is_posted(registrar: &Registrar<PlainIn<Load>>, place: usize, name: &LinkName) -> bool
+    ensures named { result ≡ true → name_in registrar.now place ≡ Some name.now }
+    ensures other { result ≡ false → name_in registrar.now place ≡ Some name.now → ⊥ }
+{
+    match registrar.name_at(place) {
+        Some(other) => is_same(&other, name),
+        None => false,
+    }
+}
+
+/// The place of the link of that name among those that wait at the registrar.
+#[tactic(auto, using(crate::proofs::Deaths::Meets::none_waits_further))]
+fn place_at(registrar: &Registrar<PlainIn<Load>>, name: &LinkName) -> Option<usize>
+    ensures some { IfSome result (λ place. name_in registrar.now place ≡ Some name.now) }
+    ensures none { IfNone result (NoneIsPosted (map posted registrar.now.links) name.now) }
+{
+    for place in 0..registrar.waiting() {
+        if is_posted(registrar, place, name) {
+            return Some(place);
+        }
+    }
+    None
+}
+
+/// Lets an out end meet the end of the link that waits at a place.
+fn meet_waiting(registrar: &mut Registrar<PlainIn<Load>>, place: usize, out: &mut PlainOut<Load>)
+    requires stands { IsSome (name_in registrar.old place) }
+    requires may { IsToMeet (out_seen out.old) (option_map in_seen (end_in registrar.old place)) }
+    ensures met { (name : LinkName) → name_in registrar.old place ≡ Some name
+        → PostMeets (map posted registrar.old.links) name (out_seen out.old)
+        (map posted registrar.new.links) (out_seen out.new) }
+    ensures same { (registrar.new.views ≡ registrar.old.views)
+        × (registrar.new.stopped ≡ registrar.old.stopped) }
+{
+    let Some(mut link) = registrar.lend_at(place) else {
+        unreachable!()
+    };
+    meet_two(out, &mut link);
+    registrar.give_at(place, link);
+}
+
+/// Lets an out end meet the end of the link of that name that waits at the registrar: whether there is one.
+#[tactic(auto, using(crate::proofs::Deaths::Meets::may_meet_waiting))]
+fn meet_posted(
+    registrar: &mut Registrar<PlainIn<Load>>,
+    out: &mut PlainOut<Load>,
+    name: &LinkName,
+) -> bool
+    requires { PostMayMeet (map posted registrar.old.links) name.now (out_seen out.old) }
+    ensures met { result ≡ true → PostMeets (map posted registrar.old.links) name.now
+        (out_seen out.old) (map posted registrar.new.links) (out_seen out.new) }
+    ensures none { result ≡ false → NoneIsPosted (map posted registrar.old.links) name.now }
+    ensures still { result ≡ false → registrar.new ≡ registrar.old }
+    ensures out { result ≡ false → out_seen out.new ≡ out_seen out.old }
+    ensures same { (registrar.new.views ≡ registrar.old.views)
+        × (registrar.new.stopped ≡ registrar.old.stopped) }
+{
+    match place_at(registrar, name) {
+        Some(place) => {
+            meet_waiting(registrar, place, out);
+            true
+        }
+        None => false,
+    }
+}
+
+/// Lets an out end meet the end of a link that hasn't reached the registrar, where it has that name: whether it has.
+fn meet_late(late: &mut Option<Undelivered>, out: &mut PlainOut<Load>, name: &LinkName) -> bool
+    requires { PostMayMeet (behind late.old) name.now (out_seen out.old) }
+    ensures met { result ≡ true → PostMeets (behind late.old) name.now
+        (out_seen out.old) (behind late.new) (out_seen out.new) }
+    ensures none { result ≡ false → NoneIsPosted (behind late.old) name.now }
+    ensures still { result ≡ false → behind late.new ≡ behind late.old }
+    ensures out { result ≡ false → out_seen out.new ≡ out_seen out.old }
+{
+    let Some(undelivered) = late else {
+        return false;
+    };
+    if !is_same(&undelivered.name, name) {
+        return false;
+    }
+    meet_two(out, &mut undelivered.link);
+    true
+}
+
+/// Lets an out end meet the end of the link of that name to the member that receives it: whether there is one.
+fn meet_member(nodes: &mut [Node], out: &mut PlainOut<Load>, name: &LinkName) -> bool
+    requires from_one { 1 ≤ name.now.to.0 }
+    requires may { NodeMayMeet (slice_index_or (map shown_of nodes.old) (name.now.to.0 - 1) no_shown)
+        name.now (out_seen out.old) }
+    ensures inside { result ≡ true → name.now.to.0 - 1 < length nodes.old }
+    ensures met { result ≡ true → NodeMeets
+        (slice_index_or (map shown_of nodes.old) (name.now.to.0 - 1) no_shown) name.now
+        (out_seen out.old)
+        (slice_index_or (map shown_of nodes.old) (name.now.to.0 - 1) no_shown)
+        (slice_index_or (map shown_of nodes.new) (name.now.to.0 - 1) no_shown)
+        (out_seen out.new) }
+    ensures others { result ≡ true → map shown_of nodes.new
+        ≡ slice_set (map shown_of nodes.old) (name.now.to.0 - 1)
+        (slice_index_or (map shown_of nodes.new) (name.now.to.0 - 1) no_shown) }
+    ensures none { result ≡ false → HasNone
+        (slice_index_or (map shown_of nodes.old) (name.now.to.0 - 1) no_shown).held name.now }
+    ensures still { result ≡ false → map shown_of nodes.new ≡ map shown_of nodes.old }
+    ensures out { result ≡ false → out_seen out.new ≡ out_seen out.old }
+{
+    let receiver = name.to.0 as usize - 1;
+    if receiver >= nodes.len() {
+        return false;
+    }
+    meet_node(&mut nodes[receiver], out, name)
+}
+
+/// Lets an out end meet the in end of the link of that name, wherever that stands. It takes no memory.
+pub(crate) fn meet_in(
+    nodes: &mut [Node],
+    registrar: &mut Registrar<PlainIn<Load>>,
+    late: &mut Option<Undelivered>,
+    out: &mut PlainOut<Load>,
+    name: &LinkName,
+)
+    requires { MayMeet (parties nodes.old registrar.old (behind late.old)) name.now (out_seen out.old) }
+    ensures { MeetsIn (parties nodes.old registrar.old (behind late.old)) name.now (out_seen out.old)
+        (parties nodes.old registrar.old (behind late.old))
+        (parties nodes.new registrar.new (behind late.new)) (out_seen out.new) }
+{
+    if meet_member(nodes, out, name) {
+        return;
+    }
+    if meet_posted(registrar, out, name) {
+        return;
+    }
+    meet_late(late, out, name);
+}
+
+/// The out end of a member, where it has one, with the name of its link.
+fn lend_out(node: &mut Node) -> Option<(LinkName, PlainOut<Load>)>
+    ensures none { IfNone result ((shown_of node.old).ends.out ≡ None) }
+    ensures still { IfNone result (shown_of node.new ≡ shown_of node.old) }
+    ensures named { IfSome result (λ lent. out_name_of (shown_of node.old).held ≡ Some lent.0) }
+    ensures there { IfSome result (λ lent. (shown_of node.old).ends.out ≡ Some (out_seen lent.1)) }
+    ensures lent { IfSome result (λ _. shown_of node.new ≡ lent_out (shown_of node.old)) }
+{
+    let name = node.out_name()?;
+    let out = node.lend_out()?;
+    Some((name, out))
+}
+
+/// Gives it back.
+fn give_out(node: &mut Node, out: PlainOut<Load>)
+    requires lent { (shown_of node.old).ends.out ≡ None }
+    requires sends { IsSome (shown_of node.old).held.out }
+    ensures { shown_of node.new ≡ with_out (shown_of node.old) (out_seen out) }
+{
+    node.give_out(out);
+}
+
+/// Lets the out end of the member at a place meet the in end of its link, where it has one. It takes no memory.
+pub(crate) fn meet_out(
+    nodes: &mut [Node],
+    registrar: &mut Registrar<PlainIn<Load>>,
+    late: &mut Option<Undelivered>,
+    i: usize,
+)
+    requires within { i < length nodes.old }
+    requires may { MayMeetOut (parties nodes.old registrar.old (behind late.old)) i }
+    ensures { MeetsOut i (parties nodes.old registrar.old (behind late.old))
+        (parties nodes.new registrar.new (behind late.new)) }
+{
+    let Some((name, mut out)) = lend_out(&mut nodes[i]) else {
+        return;
+    };
+    meet_in(nodes, registrar, late, &mut out, &name);
+    give_out(&mut nodes[i], out);
+}
+
+/// Lets the ends of each link meet, where the parties stand in a state of the ring in which they have to. It takes no memory.
+pub(crate) fn meet_all(
+    nodes: &mut [Node],
+    registrar: &mut Registrar<PlainIn<Load>>,
+    late: &mut Option<Undelivered>,
+)
+    requires { (credit : CreditSpec) × (names : List (List ℕ)) × (events : List Event)
+        × LooseAfter credit names events (parties nodes.old registrar.old (behind late.old)) }
+    ensures { (credit : CreditSpec) (names : List (List ℕ)) (events : List Event)
+        → LooseAfter credit names events (parties nodes.old registrar.old (behind late.old))
+        → StandAfter credit names events (parties nodes.new registrar.new (behind late.new)) }
+{
+    for i in 0..nodes.len() {
+        meet_out(nodes, registrar, late, i);
+    }
+}
