@@ -3,7 +3,7 @@ use crate::repair::Cluster;
 use ring_io::ShutGate;
 use ring_names::{Body, CreditSpec, MemberId, Message, Name, Reason};
 use ring_script::Command;
-use ring_world::{Event, Refused, are_opening_names};
+use ring_world::{Event, Refused, World, are_opening_names};
 use std::alloc::Global;
 use std::process::Abort;
 use std::test::Fail;
@@ -177,5 +177,112 @@ fn who_is_left_alone_hears_itself(rt: HostRuntime) -> Result<(), Fail> {
     expect_done(&rt, &mut cluster, Event::Stop { by: b });
     cluster.settle(&rt, &ShutGate)?;
     expect_version(&rt, &cluster, 2);
+    Ok(())
+}
+
+/// The machine and the cluster of one ring.
+#[derive(Drop)]
+struct Both {
+    world: World,
+    cluster: Cluster,
+}
+
+fn both_opening(rt: &impl Abort, alloc: Global, names: &[Name]) -> Result<Both, Fail> {
+    assert!(rt; are_opening_names(names));
+    match CreditSpec::new(2, 1) {
+        Some(credit) => Ok(Both {
+            world: World::opening(alloc, names, credit)?,
+            cluster: Cluster::opening(alloc, names, credit)?,
+        }),
+        None => panic!(rt; "no such credit"),
+    }
+}
+
+/// The event is given to both, which answer the same.
+fn give(rt: &impl Abort, both: &mut Both, event: Event) {
+    let wanted = both.world.apply(&event);
+    assert_eq!(rt; both.cluster.step(&event), wanted);
+}
+
+/// Each event that may repair the ring, of one member.
+fn repair(rt: &impl Abort, both: &mut Both, by: Name, names: &[Name]) {
+    let view = both.world.view().version;
+    give(rt, both, Event::Refresh { by, view });
+    give(rt, both, Event::Pick { by });
+    give(rt, both, Event::Take { by });
+    give(rt, both, Event::TakeEnd { by });
+    give(rt, both, Event::Gain { by });
+    give(rt, both, Event::Put { by });
+    for dead in names {
+        give(rt, both, Event::Mark { by, dead: *dead });
+    }
+}
+
+/// That the member of that name and id has heard of another what the machine says, and that so many messages of it have come round.
+fn expect_same(
+    rt: &impl Abort,
+    both: &Both,
+    by: Name,
+    id: u32,
+    from: Name,
+    of: u32,
+) -> Result<(), Fail> {
+    assert!(rt; of > 0);
+    assert!(rt; both.world.member(&by).is_some());
+    assert!(rt; both.world.member(&from).is_some());
+    let wanted = both.world.heard(&by, &from)?;
+    let Some(member) = both.cluster.member(MemberId(id)) else {
+        panic!(rt; "no such member");
+    };
+    let heard = member.heard(MemberId(of));
+    assert_eq!(rt; heard.len(), wanted.len());
+    for (message, other) in heard.iter().zip(wanted.as_slice()) {
+        match message {
+            Message::Cast(body) => match other {
+                Message::Cast(expected) => assert_eq!(rt; body.bytes(), expected.bytes()),
+            },
+        }
+    }
+    assert_eq!(rt; member.confirmed(), both.world.counts(&by).casts_confirmed);
+    Ok(())
+}
+
+#[test]
+fn two_neighbours_of_five_stop(rt: HostRuntime) -> Result<(), Fail> {
+    let a = Name::read(b"a")?;
+    let b = Name::read(b"b")?;
+    let c = Name::read(b"c")?;
+    let d = Name::read(b"d")?;
+    let e = Name::read(b"e")?;
+    let names = [a, b, c, d, e];
+    let mut both = both_opening(&rt, rt.alloc(), &names)?;
+    for by in names {
+        for text in ["one", "two", "three"] {
+            let body = Body::read(rt.alloc(), text.as_bytes())?;
+            give(&rt, &mut both, Event::Cast { by, body });
+        }
+        give(&rt, &mut both, Event::Put { by });
+        give(&rt, &mut both, Event::Put { by });
+        give(&rt, &mut both, Event::Put { by });
+    }
+    give(&rt, &mut both, Event::Take { by: c });
+    give(&rt, &mut both, Event::Take { by: d });
+    give(&rt, &mut both, Event::Stop { by: b });
+    give(&rt, &mut both, Event::Stop { by: c });
+    give(&rt, &mut both, Event::Stop { by: c });
+    for _pass in 0..60 {
+        for by in names {
+            repair(&rt, &mut both, by, &names);
+        }
+    }
+    assert_eq!(rt; both.cluster.view().version, 3);
+    for (by, id) in [(a, 1), (b, 2), (c, 3), (d, 4), (e, 5)] {
+        for (from, of) in [(a, 1), (b, 2), (c, 3), (d, 4), (e, 5)] {
+            expect_same(&rt, &both, by, id, from, of)?;
+        }
+    }
+    expect_heard(&rt, &both.cluster, 1, 4, &["one", "two", "three"]);
+    expect_heard(&rt, &both.cluster, 4, 1, &["one", "two", "three"]);
+    expect_confirmed(&rt, &both.cluster, 1, 3);
     Ok(())
 }
