@@ -1,42 +1,164 @@
 -- The parts of a state that make up what a member holds.
-use Rattle.std.proofs.Common.{◌≡◌, ℕ, ◌<◌, length, map, refl, ap, ◌∙◌}
-use Rattle.credit_flow.specs.Credit.{Credit, Counted}
-use Rattle.ring_world.specs.World.{World, Member, Sending, no_link, row_at, numbers_at, member_at, link_at, size, left_of}
-use Rattle.ring_world.specs.Effect.{put_at, take_at, gain_at}
-use Rattle.ring_world.proofs.Writes.{at_set}
-use Rattle.gm_member.specs.Held.{Held, places}
-use Rattle.gm_member.specs.Stands.{held_in}
+use Rattle.std.proofs.Common.{◌≡◌, ◌≢◌, ℕ, ◌+◌, ◌<◌, Bool, true, false, cond, not, nat_eq, nat_le, max, List, [], ◌∷◌, length, map, Option, Some, None, refl, sym, ap, ◌∙◌, ⊎_elim}
+use Rattle.std.specs.Prelude.{◌&&◌, option_map, slice_index_or}
+use Rattle.std.specs.List.{filter, range_with_len}
+use Rattle.std.proofs.lemmas.Bool.{cases_eq, false≢true}
+use Rattle.credit_flow.specs.Credit.{Counted}
+use Rattle.group_view.specs.Since.{no_group}
+use Rattle.group_view.specs.View.{Group, entry_in}
+use Rattle.ring_world.specs.declared.phase.Phase.{Phase}
+use Rattle.ring_world.specs.Rows.{Row}
+use Rattle.ring_world.specs.View.{left_at}
+use Rattle.ring_world.specs.Machine.{World, Member, Link, no_link, row_at, numbers_at, member_at, link_at, view_at}
+use Rattle.ring_world.specs.OpenLinks.{is_place, is_current, passes}
+use Rattle.ring_world.specs.Step.{with_link}
+use Rattle.ring_world.proofs.Lists.{at_set}
+use Rattle.ring_world.proofs.Rounds.{nat_eq-is, nat_eq-same}
+use Rattle.gm_member.specs.Parcels.{places}
+use Rattle.gm_member.specs.Held.{Held, Outgoing, Incoming}
+use Rattle.gm_member.specs.Stands.{held_in, outgoing_in, incoming_in, waits_for, door_in}
 
-abbrev pub held_from : ℕ → Member → Sending → Credit → Counted → Held
-held_from i y s c r = record {
-  place = i;
-  member = record y { rows = map (row_at y) places };
-  sending = record { fresh = s.fresh; sent = record { numbers = map (numbers_at s.sent) places } };
-  sender = c;
-  receiver = r;
+-- ---- what a member holds
+
+abbrev pub rows_of : Member → List Row
+rows_of y = map (λ p. row_at y (p + 1)) places
+
+abbrev pub held_from : ℕ → List ℕ → Phase → Group → List Row → Option Outgoing → Option Incoming → List Incoming → ℕ → ℕ → Held
+held_from x name phase view rows out current door initial more = record {
+  id = x;
+  name = name;
+  phase = phase;
+  view = view;
+  rows = rows;
+  out = out;
+  current = current;
+  door = door;
+  asks = false;
+  initial = initial;
+  more = more;
 }
 
-pub held_same : (i : ℕ) (y y' : Member) (s s' : Sending) (c c' : Credit) (r r' : Counted) → y ≡ y' → s ≡ s' → c ≡ c' → r ≡ r' → held_from i y s c r ≡ held_from i y' s' c' r'
-held_same i y y' s s' c c' r r' ey es ec er =
-    ap (λ z. held_from i z s c r) ey ∙ ap (λ z. held_from i y' z c r) es ∙ ap (λ z. held_from i y' s' z r) ec ∙ ap (λ z. held_from i y' s' c' z) er
+-- by what stands at its id, on its links and at its door
+pub held_is : (w : World) (x : ℕ) (y : Member) (out : Option Outgoing) (current : Option Incoming) (door : List Incoming) → member_at w x ≡ y → option_map (outgoing_in w) y.out ≡ out → option_map (incoming_in w) y.current ≡ current → door_in w x ≡ door
+    → held_in w x ≡ held_from x y.name y.phase (view_at w y.version) (rows_of y) out current door w.initial w.more
+held_is w x y out current door ey eo ec ed =
+    ap (λ (z : Member). held_from x z.name z.phase (view_at w z.version) (rows_of z) (option_map (outgoing_in w) z.out) (option_map (incoming_in w) z.current) (door_in w x) w.initial w.more) ey
+    ∙ ap (λ o. held_from x y.name y.phase (view_at w y.version) (rows_of y) o (option_map (incoming_in w) y.current) (door_in w x) w.initial w.more) eo
+    ∙ ap (λ c. held_from x y.name y.phase (view_at w y.version) (rows_of y) out c (door_in w x) w.initial w.more) ec
+    ∙ ap (λ d. held_from x y.name y.phase (view_at w y.version) (rows_of y) out current d w.initial w.more) ed
 
--- two states in which a member holds the same
-pub held_as : (w w' : World) (i : ℕ) → member_at w i ≡ member_at w' i → (link_at w i).sending ≡ (link_at w' i).sending → (link_at w i).flow.sender ≡ (link_at w' i).flow.sender → (link_at w (left_of (size w) i)).flow.receiver ≡ (link_at w' (left_of (size w') i)).flow.receiver → held_in w i ≡ held_in w' i
-held_as w w' i = held_same i (member_at w i) (member_at w' i) (link_at w i).sending (link_at w' i).sending (link_at w i).flow.sender (link_at w' i).flow.sender (link_at w (left_of (size w) i)).flow.receiver (link_at w' (left_of (size w') i)).flow.receiver
+-- ---- what a link shows its receiver
 
--- ---- what the steps leave of the links
+pub record Seen : Type 0 where
+  pub from : ℕ
+  pub to : ℕ
+  pub opened : ℕ
+  pub over : Bool
+  pub counted : Counted
 
-pub put_receiver : (w : World) (i s : ℕ) → i < length w.links → (link_at w s).flow.receiver ≡ (link_at (put_at w i) s).flow.receiver
-put_receiver w i s l = at_set (λ j k. (link_at w j).flow.receiver ≡ k.flow.receiver) w.links i s _ no_link l refl (λ _. refl)
+abbrev pub seen : Link → Seen
+seen l = record { from = l.sender; to = l.receiver; opened = l.opened; over = l.over; counted = l.flow.receiver }
 
-pub gain_receiver : (w : World) (i s : ℕ) → i < length w.links → (link_at w s).flow.receiver ≡ (link_at (gain_at w i) s).flow.receiver
-gain_receiver w i s l = at_set (λ j k. (link_at w j).flow.receiver ≡ k.flow.receiver) w.links i s _ no_link l refl (λ _. refl)
+abbrev pub incoming_seen : Seen → Incoming
+incoming_seen a = record { from = a.from; opened = a.opened; counted = a.counted }
 
-pub gain_sending : (w : World) (i s : ℕ) → i < length w.links → (link_at w s).sending ≡ (link_at (gain_at w i) s).sending
-gain_sending w i s l = at_set (λ j k. (link_at w j).sending ≡ k.sending) w.links i s _ no_link l refl (λ _. refl)
+-- whether it stands open to x at its door, where x takes from this link and has the view of this version
+abbrev pub waits_seen : List Group → Option ℕ → ℕ → ℕ → ℕ → Seen → Bool
+waits_seen vs current version x s a =
+    (nat_eq a.to x && (not (is_place current s) && not a.over))
+    && (nat_eq a.from (left_at vs (max version a.opened) x) && nat_le (entry_in (slice_index_or vs (max version a.opened) no_group).entries x).since a.opened)
 
-pub take_sender : (w : World) (i s : ℕ) → left_of (size w) i < length w.links → (link_at w s).flow.sender ≡ (link_at (take_at w i) s).flow.sender
-take_sender w i s l = at_set (λ j k. (link_at w j).flow.sender ≡ k.flow.sender) w.links (left_of (size w) i) s _ no_link l refl (λ _. refl)
+no_second : (a b c d : Bool) → b ≡ false → ((a && (b && c)) && d) ≡ false
+no_second true b c d e = rw e refl
+no_second false b c d e = refl
 
-pub take_sending : (w : World) (i s : ℕ) → left_of (size w) i < length w.links → (link_at w s).sending ≡ (link_at (take_at w i) s).sending
-take_sending w i s l = at_set (λ j k. (link_at w j).sending ≡ k.sending) w.links (left_of (size w) i) s _ no_link l refl (λ _. refl)
+no_third : (a b c d : Bool) → c ≡ false → ((a && (b && c)) && d) ≡ false
+no_third true true c d e = rw e refl
+no_third true false c d e = refl
+no_third false b c d e = refl
+
+no_first : (a b c d : Bool) → a ≡ false → ((a && (b && c)) && d) ≡ false
+no_first a b c d e = rw e refl
+
+-- the link that x takes from doesn't stand at its door
+pub current_waits_not : (w : World) (x s : ℕ) → (member_at w x).current ≡ Some s → waits_for w x s ≡ false
+current_waits_not w x s e = no_second _ _ _ _ (ap (λ c. not (is_place c s)) e ∙ ap not (nat_eq-same s))
+
+-- nor does one that was taken to its end
+pub over_waits_not : (w : World) (x s : ℕ) → (link_at w s).over ≡ true → waits_for w x s ≡ false
+over_waits_not w x s e = no_third _ _ _ _ (ap not e)
+
+-- nor one to somebody else
+pub other_waits_not : (w : World) (x s : ℕ) → (link_at w s).receiver ≢ x → waits_for w x s ≡ false
+other_waits_not w x s ne = no_first (nat_eq (link_at w s).receiver x) (not (is_current w x s)) (not (link_at w s).over) (passes w x (link_at w s)) (not_same (nat_eq (link_at w s).receiver x) refl)
+  where
+    not_same : (b : Bool) → nat_eq (link_at w s).receiver x ≡ b → b ≡ false
+    not_same true e = absurd (ne (nat_eq-is (link_at w s).receiver x e))
+    not_same false e = refl
+
+-- ---- the door
+
+map_filtered : {A : Type 0} (f g : ℕ → A) (p q : ℕ → Bool) (xs : List ℕ) → ((j : ℕ) → q j ≡ p j) → ((j : ℕ) → p j ≡ true → g j ≡ f j) → map g (filter q xs) ≡ map f (filter p xs)
+map_filtered f g p q [] hp hf = refl
+map_filtered f g p q (x ∷ xs) hp hf =
+    ap (λ b. map g (cond b (x ∷ filter q xs) (filter q xs))) (hp x) ∙ by_case (p x) refl (map_filtered f g p q xs hp hf)
+  where
+    by_case : (b : Bool) → p x ≡ b → map g (filter q xs) ≡ map f (filter p xs) → map g (cond b (x ∷ filter q xs) (filter q xs)) ≡ map f (cond b (x ∷ filter p xs) (filter p xs))
+    by_case true e ih = ap (λ y. y ∷ map g (filter q xs)) (hf x e) ∙ ap (λ ys. f x ∷ ys) ih
+    by_case false e ih = ih
+
+-- the same links stand there, and look the same
+pub door_same : (w w' : World) (x : ℕ) → length w'.links ≡ length w.links → ((j : ℕ) → waits_for w' x j ≡ waits_for w x j) → ((j : ℕ) → waits_for w x j ≡ true → incoming_in w' j ≡ incoming_in w j) → door_in w' x ≡ door_in w x
+door_same w w' x many waits looks =
+    ap (λ n. map (incoming_in w') (filter (waits_for w' x) (range_with_len 0 n))) many
+    ∙ map_filtered (incoming_in w) (incoming_in w') (waits_for w x) (waits_for w' x) (range_with_len 0 (length w.links)) waits looks
+
+-- where one that isn't there alone changes
+pub door_but : (w w' : World) (x s : ℕ) → length w'.links ≡ length w.links → waits_for w x s ≡ false → waits_for w' x s ≡ false → ((j : ℕ) → j ≢ s → (waits_for w' x j ≡ waits_for w x j) × (incoming_in w' j ≡ incoming_in w j)) → door_in w' x ≡ door_in w x
+door_but w w' x s many not_there nor_then other = door_same w w' x many
+    (λ j. ⊎_elim
+    (λ (is : j ≡ s). ap (waits_for w' x) is ∙ nor_then ∙ sym not_there ∙ sym (ap (waits_for w x) is))
+    (λ (ne : j ≢ s). (other j ne).0)
+    (cases_eq j s))
+    (λ j here. ⊎_elim
+    (λ (is : j ≡ s). absurd (false≢true (sym not_there ∙ sym (ap (waits_for w x) is) ∙ here)))
+    (λ (ne : j ≢ s). (other j ne).1)
+    (cases_eq j s))
+
+-- a written link shows the same
+pub seen_same : (w : World) (s j : ℕ) (l : Link) → s < length w.links → seen l ≡ seen (link_at w s) → seen (link_at (with_link w s l) j) ≡ seen (link_at w j)
+seen_same w s j l lt e = at_set (λ i a. seen a ≡ seen (link_at w i)) w.links s j l no_link lt e (λ _. refl)
+
+-- ---- where all links show the same
+
+-- what is there shows the same
+pub there_same : {A : Type 0} (f g : ℕ → A) (o : Option ℕ) → ((k : ℕ) → o ≡ Some k → f k ≡ g k) → option_map f o ≡ option_map g o
+there_same f g None h = refl
+there_same f g (Some k) h = ap (λ a. Some a) (h k refl)
+
+-- the link that is taken from
+pub current_same : (w w' : World) (c : Option ℕ) → ((j : ℕ) → seen (link_at w' j) ≡ seen (link_at w j)) → option_map (incoming_in w') c ≡ option_map (incoming_in w) c
+current_same w w' c e = there_same (incoming_in w') (incoming_in w) c (λ j _. ap incoming_seen (e j))
+
+-- whether a link waits, by what it shows
+pub waits_same : (w w' : World) (x j : ℕ) → w'.views ≡ w.views → (member_at w' x).current ≡ (member_at w x).current → (member_at w' x).version ≡ (member_at w x).version → seen (link_at w' j) ≡ seen (link_at w j) → waits_for w' x j ≡ waits_for w x j
+waits_same w w' x j vs c v e =
+    ap (λ us. waits_seen us (member_at w' x).current (member_at w' x).version x j (seen (link_at w' j))) vs
+    ∙ ap (λ k. waits_seen w.views k (member_at w' x).version x j (seen (link_at w' j))) c
+    ∙ ap (λ n. waits_seen w.views (member_at w x).current n x j (seen (link_at w' j))) v
+    ∙ ap (waits_seen w.views (member_at w x).current (member_at w x).version x j) e
+
+-- the door
+pub door_still : (w w' : World) (x : ℕ) → length w'.links ≡ length w.links → w'.views ≡ w.views → (member_at w' x).current ≡ (member_at w x).current → (member_at w' x).version ≡ (member_at w x).version → ((j : ℕ) → seen (link_at w' j) ≡ seen (link_at w j)) → door_in w' x ≡ door_in w x
+door_still w w' x many vs c v e = door_same w w' x many (λ j. waits_same w w' x j vs c v (e j)) (λ j _. ap incoming_seen (e j))
+
+-- ---- what a link shows its sender
+
+abbrev pub outgoing_of : Link → Outgoing
+outgoing_of l = record {
+  to = l.receiver;
+  opened = l.opened;
+  fresh = l.sending.fresh;
+  sent = map (λ p. numbers_at l.sending.sent (p + 1)) places;
+  credit = l.flow.sender;
+}

@@ -1,126 +1,297 @@
--- What a member holds, and what its steps do to it, by the ring's own functions on one member.
-use Rattle.std.specs.Prelude.{ℕ, Bool, true, false, List, [], length, map, slice_index_or, Option, nat_eq}
-use Rattle.std.specs.List.{range_with_len}
+-- What a member of a ring holds, and what its steps do to it.
+use Rattle.std.specs.Prelude.{ℕ, ◌+◌, ◌-◌, ◌++◌, Bool, true, false, cond, ◌&&◌, ◌||◌, nat_eq, nat_le, nat_lt, List, [], map, take, drop, position, slice_set, slice_index_or, Option, Some, None, option_map, is_some}
+use Rattle.std.specs.List.{filter, list_all}
 use Rattle.ring_names.specs.declared.message.Message.{Message}
 use Rattle.ring_names.specs.declared.numbers.CreditSpec.{CreditSpec}
-use Rattle.ring_names.specs.declared.numbers.MemberId.{MemberId}
 use Rattle.ring_names.specs.declared.reason.Reason.{Reason}
-use Rattle.ring_names.specs.declared.reason.Reason.TheVariants.{NoCredit, NothingNew}
+use Rattle.ring_names.specs.declared.reason.Reason.TheVariants as reason
 use Rattle.credit_flow.specs.Credit.{Credit, Counted, full_credit, none_taken, is_blocked, sent, gained, took}
+use Rattle.group_view.specs.View.{Group, entry_in}
 use Rattle.ring_world.specs.declared.numbers.Numbers.{Numbers}
-use Rattle.ring_world.specs.World.{Row, Member, Sending, no_row, no_numbers, row_at, numbers_at, most_members}
-use Rattle.ring_world.specs.Member.{published, has_nothing_new, lo_of, next_packet, after_put, taken_with, with_rows}
+use Rattle.ring_world.specs.Rows.{Row, no_row, no_numbers, published_row, is_sent, next_numbers}
 use Rattle.ring_world.specs.Refusal.{refuse_if, or_else}
-use Rattle.ring_world.specs.Shown.{id_of}
+use Rattle.ring_world.specs.View.{left_of, right_of}
+use Rattle.ring_world.specs.declared.phase.Phase.{Phase}
+use Rattle.ring_world.specs.declared.phase.Phase.TheVariants.{Up, Stopped}
+use Rattle.ring_world.specs.Machine.{is_waiting}
+use Rattle.ring_world.specs.Step.{is_owned}
+use Rattle.ring_world.specs.Event.{is_stopped, version_refusal}
+use Rattle.gm_member.specs.Parcels.{Carried, Parcel, places, carried_now, carried_at, accepted_row}
 
--- A line of a packet: of one origin its whole list of messages, the number after which they are new to the
--- receiver, and the number up to which the sender has forgotten them (an entry of gm's `activity`).
-pub record Carried : Type 0 where
-  pub origin : MemberId
-  pub lo : ℕ
-  pub all : List Message
-  pub forgot : ℕ
+-- The link on which a member sends: to whom it goes, the version at which it was opened, whether no packet was put on it yet,
+-- the numbers last sent of each origin that a ring may have, and its credit.
+pub record Outgoing : Type 0 where
+  pub to : ℕ
+  pub opened : ℕ
+  pub fresh : Bool
+  pub sent : List Numbers
+  pub credit : Credit
 
--- A packet as it goes from one member to the next (gm's `activity` message).
-pub record Parcel : Type 0 where
-  pub view : ℕ
-  pub first : Bool
-  pub lines : List Carried
+-- A link to a member: from whom it comes, the version at which it was opened, and the loads counted on it.
+pub record Incoming : Type 0 where
+  pub from : ℕ
+  pub opened : ℕ
+  pub counted : Counted
 
--- What a member holds: its place, what the ring keeps of it with a row for each origin that a ring may have, the
--- sending side of its out link with numbers for each, the credit of that link, and the loads that it has counted
--- on the link from its left neighbour.
+-- What a member holds: its id and name, where it stands, its view, a row for each origin that a ring may have, the link on which
+-- it sends, the one from which it takes, those at its door, the oldest first, whether a question of its own is open, and the
+-- credit with which links open.
 pub record Held : Type 0 where
-  pub place : ℕ
-  pub member : Member
-  pub sending : Sending
-  pub sender : Credit
-  pub receiver : Counted
+  pub id : ℕ
+  pub name : List ℕ
+  pub phase : Phase
+  pub view : Group
+  pub rows : List Row
+  pub out : Option Outgoing
+  pub current : Option Incoming
+  pub door : List Incoming
+  pub asks : Bool
+  pub initial : ℕ
+  pub more : ℕ
 
--- the places of all origins that a ring may have
-abbrev pub places : List ℕ
-places = range_with_len 0 most_members
+-- the row of the origin at a place, whose id is one more
+abbrev pub known_at : List Row → ℕ → Row
+known_at rows p = slice_index_or rows p no_row
+
+-- the numbers of the origin at a place
+abbrev pub numbers_of : List Numbers → ℕ → Numbers
+numbers_of sent p = slice_index_or sent p no_numbers
+
+-- a link beyond those at the door
+abbrev pub no_incoming : Incoming
+no_incoming = record { from = 0; opened = 0; counted = none_taken 0 0 }
+
+-- the link at a place of the door
+abbrev pub door_at : List Incoming → ℕ → Incoming
+door_at door i = slice_index_or door i no_incoming
+
+-- what is made of what is there; d where nothing is
+abbrev pub at_some : {A B : Type 0} → Option A → B → (A → B) → B
+at_some None d f = d
+at_some (Some a) d f = f a
 
 -- ---- founding
 
--- a member of a ring's opening, which has published, heard and sent nothing
-abbrev pub founded : CreditSpec → List ℕ → ℕ → Held
-founded credit name place = record {
-  place = place;
-  member = record { name = name; log = []; rows = map (λ (_ : ℕ). no_row) places };
-  sending = record { fresh = true; sent = record { numbers = map (λ (_ : ℕ). no_numbers) places } };
-  sender = full_credit credit.initial credit.more;
-  receiver = none_taken credit.initial credit.more;
+-- nothing was sent
+abbrev pub nothing_sent : List Numbers
+nothing_sent = map (λ (_ : ℕ). no_numbers) places
+
+-- a link of x to z opens in a version, on which nothing was put
+abbrev pub fresh_out : ℕ → ℕ → ℕ → ℕ → Outgoing
+fresh_out initial more z version = record { to = z; opened = version; fresh = true; sent = nothing_sent; credit = full_credit initial more }
+
+-- a link from s opens in a version, from which nothing was taken
+abbrev pub fresh_in : ℕ → ℕ → ℕ → ℕ → Incoming
+fresh_in initial more s version = record { from = s; opened = version; counted = none_taken initial more }
+
+-- a member of a ring's opening, which has published, heard and sent nothing: it sends to its right neighbour and takes from its left
+abbrev pub founded : CreditSpec → List ℕ → ℕ → Group → Held
+founded credit name id view = record {
+  id = id;
+  name = name;
+  phase = Up;
+  view = view;
+  rows = map (λ (_ : ℕ). no_row) places;
+  out = Some (fresh_out credit.initial credit.more (right_of view id) view.version);
+  current = Some (fresh_in credit.initial credit.more (left_of view id) view.version);
+  door = [];
+  asks = false;
+  initial = credit.initial;
+  more = credit.more;
 }
+
+-- ---- conditions
+
+-- a member acts that hasn't stopped and has no question open
+abbrev pub active_refused : Held → Option Reason → Option Reason
+active_refused h later = or_else (refuse_if (is_stopped h.phase) reason.Stopped) (or_else (refuse_if h.asks reason.AwaitingAnswer) later)
+
+-- and doesn't wait
+abbrev pub up_refused : Held → Option Reason → Option Reason
+up_refused h later =
+    or_else (refuse_if (is_stopped h.phase) reason.Stopped)
+    (or_else (refuse_if (is_waiting h.phase) reason.Waiting)
+    (or_else (refuse_if h.asks reason.AwaitingAnswer) later))
+
+-- the conditions on what is there, and their number where nothing is
+abbrev pub on_some : {A : Type 0} → Option A → Reason → (A → Option Reason) → Option Reason
+on_some None missing later = Some missing
+on_some (Some a) missing later = later a
 
 -- ---- publishing
 
 -- a message joins the member's own log (gm's `broadcast`)
 abbrev pub published_held : Held → Message → Held
-published_held h m = record h { member = published h.place h.member m }
+published_held h m = record h { rows = slice_set h.rows (h.id - 1) (published_row (known_at h.rows (h.id - 1)) m) }
 
 -- ---- putting
 
--- a member puts only on a link with credit, and only where some number differs from those last sent
+-- whether the numbers of each origin equal those last sent
+abbrev pub has_nothing_new : List Row → Outgoing → Bool
+has_nothing_new rows o = list_all (λ p. is_sent (known_at rows p) (numbers_of o.sent p)) places
+
+-- something is put only on a link with credit, and only where some number differs from those last sent
+abbrev pub out_refused : List Row → Outgoing → Option Reason
+out_refused rows o = or_else (refuse_if (is_blocked o.credit) reason.NoCredit) (refuse_if (has_nothing_new rows o) reason.NothingNew)
+
+-- a member puts on the link on which it sends
 abbrev pub put_refused : Held → Option Reason
-put_refused h =
-    or_else (refuse_if (is_blocked h.sender) NoCredit)
-    (refuse_if (has_nothing_new most_members h.member h.sending) NothingNew)
+put_refused h = up_refused h (on_some h.out reason.NoOutLink (out_refused h.rows))
 
--- the numbers that were put are the last sent, and one credit is spent
+-- the numbers of each origin in the next packet
+abbrev pub next_sent : List Row → Outgoing → List Numbers
+next_sent rows o = map (λ p. next_numbers o.fresh (known_at rows p) (numbers_of o.sent p)) places
+
+-- they are the last sent once it is put, and one credit is spent
+abbrev pub put_on : List Row → Outgoing → Outgoing
+put_on rows o = record o { fresh = false; sent = next_sent rows o; credit = sent o.credit }
+
+-- the member after it has put a packet
 abbrev pub put_held : Held → Held
-put_held h = record h { sending = after_put (next_packet most_members h.member h.sending); sender = sent h.sender }
+put_held h = record h { out = option_map (put_on h.rows) h.out }
 
--- the line of the origin at place p: all that was heard of it
-abbrev pub carried_now : Bool → ℕ → Row → Numbers → Carried
-carried_now fresh p r last = record { origin = id_of p; lo = lo_of fresh r.forgot last; all = r.heard; forgot = r.forgot }
+-- the lines of the next packet
+abbrev pub lines_on : List Row → Outgoing → List Carried
+lines_on rows o = map (λ p. carried_now o.fresh p (known_at rows p) (numbers_of o.sent p)) places
 
--- the lines of all origins
-abbrev pub lines_now : Member → Sending → List Carried
-lines_now y s = map (λ p. carried_now s.fresh p (row_at y p) (numbers_at s.sent p)) places
-
--- the packet that the member puts next
-abbrev pub parcel_of : Held → Parcel
-parcel_of h = record { view = 1; first = h.sending.fresh; lines = lines_now h.member h.sending }
+-- the next packet of a member whose view is of this version
+abbrev pub parcel_on : ℕ → List Row → Outgoing → Parcel
+parcel_on version rows o = record { view = version; first = o.fresh; lines = lines_on rows o }
 
 -- ---- taking
 
--- the numbers that a line carries
-abbrev pub numbers_in : Carried → Numbers
-numbers_in c = record { lo = c.lo; got = length c.all; forgot = c.forgot }
+-- a member takes only from a link
+abbrev pub take_refused : Held → Option Reason → Option Reason
+take_refused h later = active_refused h (on_some h.current reason.NoCurrentLink (λ _. later))
 
--- what a packet without a line for an origin carries of it
-abbrev pub no_carried : Carried
-no_carried = record { origin = id_of 0; lo = 0; all = []; forgot = 0 }
+-- whether the member answers for the origin at a place against a sender: it is the member, or stands between the two
+abbrev pub owns : Held → ℕ → ℕ → Bool
+owns h from p = is_owned h.view h.id from (p + 1)
 
--- the line of the origin at a place
-abbrev pub carried_at : List Carried → ℕ → Carried
-carried_at lines p = slice_index_or lines p no_carried
+-- what the lines of a packet from a sender do to the rows
+abbrev pub accepted_rows : (ℕ → Bool) → List Row → List Carried → List Row
+accepted_rows own rows lines = map (λ p. accepted_row (own p) (known_at rows p) (carried_at lines p)) places
 
--- what a line does to the row of its origin: of its own messages the publisher learns how far they and
--- their acknowledgement have come round; of another's the whole list replaces the one that was held
-abbrev pub accepted_row : Bool → Row → Carried → Row
-accepted_row true r c = taken_with true r (numbers_in c) []
-accepted_row false r c = record (taken_with false r (numbers_in c) []) { heard = c.all }
+-- a load is counted
+abbrev pub counted_in : Incoming → Incoming
+counted_in c = record c { counted = took c.counted }
 
--- what all lines of a packet do to a member at place i (gm's `handle_msg` of an activity)
-abbrev pub accepted : ℕ → Member → List Carried → Member
-accepted i y lines = with_rows y (map (λ p. accepted_row (nat_eq p i) (row_at y p) (carried_at lines p)) places)
+-- a packet is taken from a link
+abbrev pub took_from : Held → Parcel → Incoming → Held
+took_from h k c = record h { rows = accepted_rows (owns h c.from) h.rows k.lines; current = Some (counted_in c) }
 
--- the member takes in a packet
-abbrev pub accepted_held : Held → Parcel → Held
-accepted_held h k = record h { member = accepted h.place h.member k.lines }
-
--- it counts the load that it took
-abbrev pub counted_held : Held → Held
-counted_held h = record h { receiver = took h.receiver }
-
--- both, for a packet that it takes
+-- the member after it has taken a packet from the link that it takes from
 abbrev pub took_held : Held → Parcel → Held
-took_held h k = counted_held (accepted_held h k)
+took_held h k = at_some h.current h (took_from h k)
 
 -- ---- gaining
 
+-- a member gains credit only on a link on which it sends
+abbrev pub gain_refused : Held → Option Reason
+gain_refused h = up_refused h (on_some h.out reason.NoOutLink (λ _. None))
+
 -- a grant becomes credit (credit_flow's `handle_bump_msg`)
+abbrev pub gained_on : ℕ → Outgoing → Outgoing
+gained_on amount o = record o { credit = gained o.credit amount }
+
+-- of the link on which the member sends
 abbrev pub gained_held : Held → ℕ → Held
-gained_held h amount = record h { sender = gained h.sender amount }
+gained_held h amount = record h { out = option_map (gained_on amount) h.out }
+
+-- ---- the end of a link, and stopping
+
+-- the member has taken its link to its end
+abbrev pub ended_held : Held → Held
+ended_held h = record h { current = None }
+
+-- it has stopped
+abbrev pub stopped_held : Held → Held
+stopped_held h = record h { phase = Stopped }
+
+-- ---- views
+
+-- since when y's left neighbour in a view has been it
+abbrev pub since_of : Group → ℕ → ℕ
+since_of v y = (entry_in v.entries y).since
+
+-- a link comes from y's left neighbour in a view, which was that already when the link opened
+abbrev pub is_for : Group → ℕ → Incoming → Bool
+is_for v y l = nat_eq l.from (left_of v y) && nat_le (since_of v y) l.opened
+
+-- one at y's door stays there where it does, or is newer than the view
+abbrev pub stays : Group → ℕ → Incoming → Bool
+stays v y l = nat_lt v.version l.opened || is_for v y l
+
+-- what stays of the link that y takes from
+abbrev pub kept_in : Group → ℕ → Option Incoming → Option Incoming
+kept_in v y None = None
+kept_in v y (Some l) = cond (is_for v y l) (Some l) None
+
+-- what stays at the door
+abbrev pub kept_door : Group → ℕ → List Incoming → List Incoming
+kept_door v y door = filter (stays v y) door
+
+-- the member has another view
+abbrev pub looked_held : Held → Group → Held
+looked_held h v = record h { view = v; current = kept_in v h.id h.current; door = kept_door v h.id h.door }
+
+-- whether it sends to z
+abbrev pub sends_to : Option Outgoing → ℕ → Bool
+sends_to None z = false
+sends_to (Some o) z = nat_eq o.to z
+
+-- the link that it opens to z, with its first packet
+abbrev pub first_out : Held → ℕ → Outgoing
+first_out h z = put_on h.rows (fresh_out h.initial h.more z h.view.version)
+
+-- the link on which it sends, where it has to send to z
+abbrev pub out_to : Held → ℕ → Option Outgoing
+out_to h z = cond (sends_to h.out z) h.out (Some (first_out h z))
+
+-- and sends on to its right neighbour in it
+abbrev pub refreshed_held : Held → Group → Held
+refreshed_held h v = record (looked_held h v) { out = out_to (looked_held h v) (right_of v h.id) }
+
+-- a member reads no view older than its own
+abbrev pub refresh_refused : Held → ℕ → Option Reason
+refresh_refused h version = up_refused h (refuse_if (nat_lt version h.view.version) (reason.ViewOutOfRange version h.view.version h.view.version))
+
+-- the first link at the door that comes from the left neighbour
+abbrev pub first_at_door : Held → Option ℕ
+first_at_door h = position (is_for h.view h.id) h.door
+
+-- the member takes from a link at its door only where it takes from none, and where the link isn't newer than its view
+abbrev pub pick_refused : Held → Option Reason
+pick_refused h =
+    up_refused h (or_else (refuse_if (is_some h.current) reason.HasCurrentLink)
+    (on_some (first_at_door h) reason.NoLinkAtDoor (λ i. version_refusal (door_at h.door i).opened h.view.version)))
+
+-- all but the one at a place
+abbrev pub without : {A : Type 0} → ℕ → List A → List A
+without i xs = take i xs ++ drop (i + 1) xs
+
+-- the member takes from the link at a place of its door
+abbrev pub picked_at : Held → ℕ → Held
+picked_at h i = record h { current = Some (door_at h.door i); door = without i h.door }
+
+-- from the first that it may
+abbrev pub picked_held : Held → Held
+picked_held h = at_some (first_at_door h) h (picked_at h)
+
+-- ---- questions
+
+-- the member asks the registrar only where no question of its own is open
+abbrev pub ask_refused : Held → Option Reason
+ask_refused h = up_refused h None
+
+-- its question is open
+abbrev pub asking_held : Held → Held
+asking_held h = record h { asks = true }
+
+-- it is closed
+abbrev pub answered_held : Held → Held
+answered_held h = record h { asks = false }
+
+-- links come to its door: those that may yet be taken from
+abbrev pub collected_held : Held → List Incoming → Held
+collected_held h links = record h { door = h.door ++ filter (stays h.view h.id) links }

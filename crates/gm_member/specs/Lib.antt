@@ -1,6 +1,11 @@
+pub mod Arrivals
+pub mod Ends
 pub mod Held
-pub mod View
-pub mod Steps
+pub mod Loads
 pub mod News
+pub mod Parcels
+pub mod Questions
+pub mod Shown
+pub mod Spares
 pub mod Stands
-pub mod Deaths
+pub mod View

@@ -1,81 +1,129 @@
 -- When a member stands in a state of the ring.
-use Rattle.std.specs.Prelude.{◌≡◌, ℕ, zero, suc, ◌<◌, ◌++◌, Bool, true, false, List, [], map, take, max, nat_eq, None}
+use Rattle.std.specs.Prelude.{◌≡◌, ℕ, zero, suc, ◌+◌, ◌<◌, ◌≤◌, ◌∷◌, ◌++◌, Bool, false, ◌&&◌, cond, nat_eq, List, [], length, map, Option, Some, None, option_map}
+use Rattle.std.specs.List.{filter, range_with_len}
 use Rattle.ring_names.specs.declared.message.Message.{Message}
 use Rattle.ring_names.specs.declared.message.Message.TheVariants.{Cast}
 use Rattle.ring_names.specs.declared.numbers.CreditSpec.{CreditSpec}
 use Rattle.credit_flow.specs.Link.{oldest as oldest_grant}
-use Rattle.ring_world.specs.declared.fixed.Event.{Event}
-use Rattle.ring_world.specs.declared.fixed.Event.TheVariants as event
-use Rattle.ring_world.specs.declared.numbers.Numbers.{Numbers}
-use Rattle.ring_world.specs.World.{World, Packet, AreOpeningNames, most_members, row_at, numbers_at, member_at, link_at, log_of, size, left_of}
-use Rattle.ring_world.specs.Member.{next_packet, oldest}
-use Rattle.ring_world.specs.Refusal.{refusal, is_empty}
-use Rattle.ring_world.specs.Effect.{effect}
-use Rattle.ring_world.specs.Run.{IsRun, opening, last}
-use Rattle.ring_world.specs.Shown.{id_of}
+use Rattle.group_view.specs.View.{Group}
+use Rattle.group_view.specs.Change.{AreOpeningNames}
+use Rattle.ring_world.specs.declared.event.Event.{Event}
+use Rattle.ring_world.specs.declared.event.Event.TheVariants as event
+use Rattle.ring_world.specs.Rows.{most_members}
+use Rattle.ring_world.specs.Refusal.{is_empty}
+use Rattle.ring_world.specs.View.{right_of}
+use Rattle.ring_world.specs.Machine.{World, Packet, row_at, numbers_at, member_at, link_at, view_at}
+use Rattle.ring_world.specs.Walk.{oldest}
+use Rattle.ring_world.specs.OpenLinks.{is_door_link, passes}
+use Rattle.ring_world.specs.Step.{size, log_of, is_owned, next_packet, opening}
+use Rattle.ring_world.specs.Event.{refusal, effect, IsRun, last}
 use Rattle.gm_member.specs.declared.taken.Taken.{Taken}
-use Rattle.gm_member.specs.Held.{Held, Carried, Parcel, places}
-use Rattle.gm_member.specs.News.{taken_between}
+use Rattle.gm_member.specs.Parcels.{Carried, Parcel, places}
+use Rattle.gm_member.specs.News.{carried_in, taken_of}
+use Rattle.gm_member.specs.Held.{Held, Outgoing, Incoming, fresh_in, sends_to}
 
--- what a member at place i holds in a state
-abbrev pub held_in : World → ℕ → Held
-held_in w i = record {
-  place = i;
-  member = record (member_at w i) { rows = map (row_at (member_at w i)) places };
-  sending = record { fresh = (link_at w i).sending.fresh; sent = record { numbers = map (numbers_at (link_at w i).sending.sent) places } };
-  sender = (link_at w i).flow.sender;
-  receiver = (link_at w (left_of (size w) i)).flow.receiver;
+-- the link at place o, as its sender has it
+abbrev pub outgoing_in : World → ℕ → Outgoing
+outgoing_in w o = record {
+  to = (link_at w o).receiver;
+  opened = (link_at w o).opened;
+  fresh = (link_at w o).sending.fresh;
+  sent = map (λ p. numbers_at (link_at w o).sending.sent (p + 1)) places;
+  credit = (link_at w o).flow.sender;
 }
 
--- a member that holds h stands at place i
-abbrev pub Stands : World → ℕ → Held → Type 0
-Stands w i h = h ≡ held_in w i
+-- the link at place s, as its receiver has it
+abbrev pub incoming_in : World → ℕ → Incoming
+incoming_in w s = record { from = (link_at w s).sender; opened = (link_at w s).opened; counted = (link_at w s).flow.receiver }
 
--- the line that stands for the numbers of the origin at place p
-abbrev pub carried_in : List Message → ℕ → Numbers → Carried
-carried_in log p k = record { origin = id_of p; lo = k.lo; all = take k.got log; forgot = k.forgot }
+-- whether a link stands open to x at its door
+abbrev pub waits_for : World → ℕ → ℕ → Bool
+waits_for w x s = is_door_link w x s && passes w x (link_at w s)
+
+-- the links at x's door, in order of opening
+abbrev pub door_links : World → ℕ → List ℕ
+door_links w x = filter (waits_for w x) (range_with_len 0 (length w.links))
+
+-- as x has them
+abbrev pub door_in : World → ℕ → List Incoming
+door_in w x = map (incoming_in w) (door_links w x)
+
+-- what the member of an id holds in a state
+abbrev pub held_in : World → ℕ → Held
+held_in w x = record {
+  id = x;
+  name = (member_at w x).name;
+  phase = (member_at w x).phase;
+  view = view_at w (member_at w x).version;
+  rows = map (λ p. row_at (member_at w x) (p + 1)) places;
+  out = option_map (outgoing_in w) (member_at w x).out;
+  current = option_map (incoming_in w) (member_at w x).current;
+  door = door_in w x;
+  asks = false;
+  initial = w.initial;
+  more = w.more;
+}
+
+-- a member that holds h stands at the id x, and no link waits for it at the registrar
+abbrev pub Stands : World → ℕ → Held → Type 0
+Stands w x h = h ≡ held_in w x
 
 -- the lines that stand for a packet of the ring
 abbrev pub lines_in : World → Packet → List Carried
-lines_in w k = map (λ p. carried_in (log_of w p) p (numbers_at k p)) places
+lines_in w k = map (λ p. carried_in (log_of w (p + 1)) p (numbers_at k (p + 1))) places
 
--- P holds of every state of a run, and place there, at which a member that holds h stands
+-- P holds of every state of a run, and id there, at which a member that holds h stands
 abbrev pub WhereItStands : Held → (World → ℕ → Type 0) → Type 0
-WhereItStands h P = (credit : CreditSpec) (names : List (List ℕ)) (events : List Event) (i : ℕ)
+WhereItStands h P = (credit : CreditSpec) (names : List (List ℕ)) (events : List Event) (x : ℕ)
     → AreOpeningNames names → IsRun (opening credit names) events
-    → i < size (last (opening credit names) events) → Stands (last (opening credit names) events) i h
-    → P (last (opening credit names) events) i
+    → 1 ≤ x → x < size (last (opening credit names) events) → Stands (last (opening credit names) events) x h
+    → P (last (opening credit names) events) x
 
--- the event is enabled, and a member that holds h stands at place i after it
+-- the event is enabled, and a member that holds h stands at the id x after it
 abbrev pub StepsTo : World → ℕ → Event → Held → Type 0
-StepsTo w i e h = (refusal w e ≡ None) × Stands (effect w e) i h
+StepsTo w x e h = (refusal w e ≡ None) × Stands (effect w e) x h
 
 -- the event by which a message is published
 abbrev pub publishing : List ℕ → Message → Event
 publishing name (Cast body) = event.Cast name body
 
--- a packet that stands for the one that member i puts next
+-- a packet stands for one of the ring: its version and its lines
+pub record StandsFor (w : World) (k : Parcel) (packet : Packet) : Type 0 where
+  pub view : k.view ≡ packet.version
+  pub lines : k.lines ≡ lines_in w packet
+
+-- a packet stands for the one that x puts next on its out link
 abbrev pub IsPutPacket : World → ℕ → Parcel → Type 0
-IsPutPacket w i k = k.lines ≡ lines_in w (next_packet (size w) (member_at w i) (link_at w i).sending)
+IsPutPacket w x k = (o : ℕ) → (member_at w x).out ≡ Some o → StandsFor w k (next_packet (member_at w x) (link_at w o).sending)
 
--- a packet that stands for the oldest on the link to member i
+-- a packet stands for the oldest on the link that x takes from
 abbrev pub IsNextPacket : World → ℕ → Parcel → Type 0
-IsNextPacket w i k = (is_empty (link_at w (left_of (size w) i)).packets ≡ false) × (k.lines ≡ lines_in w (oldest (link_at w (left_of (size w) i))))
+IsNextPacket w x k = (s : ℕ) → (member_at w x).current ≡ Some s → (is_empty (link_at w s).packets ≡ false) × StandsFor w k (oldest (link_at w s))
 
--- a grant that is the oldest under way on the link of member i
+-- a grant is the oldest under way on the link on which x sends
 abbrev pub IsNextGrant : World → ℕ → ℕ → Type 0
-IsNextGrant w i amount = (is_empty (link_at w i).flow.grants ≡ false) × (oldest_grant (link_at w i).flow.grants ≡ amount)
+IsNextGrant w x amount = (o : ℕ) → (member_at w x).out ≡ Some o → (is_empty (link_at w o).flow.grants ≡ false) × (oldest_grant (link_at w o).flow.grants ≡ amount)
 
--- the messages of a log that numbers bring to one who has got so many
-abbrev pub taken_of : Bool → ℕ → List Message → ℕ → Numbers → List Taken
-taken_of true p log got k = []
-taken_of false p log got k = taken_between p log (max k.lo got) k.got
+-- the end is next on the link that x takes from
+abbrev pub IsNextEnd : World → ℕ → Type 0
+IsNextEnd w x = (s : ℕ) → (member_at w x).current ≡ Some s → ((link_at w s).packets ≡ []) × ((link_at w s).ending ≡ None → ⊥)
 
--- what a take at place i brings, from the logs themselves: of the origins at the places below n
-abbrev pub taken_below : ℕ → World → ℕ → List Taken
-taken_below zero w i = []
-taken_below (suc p) w i = taken_below p w i ++ taken_of (nat_eq p i) p (log_of w p) (row_at (member_at w i) p).got (numbers_at (oldest (link_at w (left_of (size w) i))) p)
+-- what a take at x from link s brings, from the logs themselves: of the origins at the places below n
+abbrev pub taken_below : ℕ → World → ℕ → ℕ → List Taken
+taken_below zero w x s = []
+taken_below (suc p) w x s =
+    taken_below p w x s
+    ++ taken_of (is_owned (view_at w (member_at w x).version) x (link_at w s).sender (p + 1)) p (log_of w (p + 1)) (row_at (member_at w x) (p + 1)).got (numbers_at (oldest (link_at w s)) (p + 1))
 
--- all that a take at place i brings
-abbrev pub taken_in : World → ℕ → List Taken
-taken_in w i = taken_below most_members w i
+-- all that a take at x brings
+abbrev pub taken_in : World → Option ℕ → ℕ → List Taken
+taken_in w None x = []
+taken_in w (Some s) x = taken_below most_members w x s
+
+-- the link that a member opens to itself by reading a view: where it is left alone there, and doesn't send to itself yet
+abbrev pub own_link : Held → Group → List Incoming
+own_link h v = cond (sends_to h.out (right_of v h.id)) [] (cond (nat_eq (right_of v h.id) h.id) (fresh_in h.initial h.more h.id v.version ∷ []) [])
+
+-- what it holds once that link has come to its door, where it holds h' before
+abbrev pub with_own_link : Held → Group → Held → Held
+with_own_link h v h' = record h' { door = h'.door ++ own_link h v }

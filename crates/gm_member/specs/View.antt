@@ -1,12 +1,19 @@
--- What the structs show.
-use Rattle.std.specs.Prelude.{ℕ, Bool, List, length, map, slice_index_or}
-use Rattle.credit_flow.specs.Credit.{Credit, Counted}
+-- What the structs of a member show.
+use Rattle.std.specs.Prelude.{ℕ, List, length, slice_index_or, Bool, true, false, cond, [], ◌∷◌, Option, Some, None}
 use Rattle.ring_world.specs.declared.numbers.Numbers.{Numbers}
-use Rattle.ring_world.specs.World.{Row, no_row, no_numbers}
+use Rattle.ring_world.specs.Rows.{Row, no_row, no_numbers}
 use Rattle.gm_member.specs.declared.known.Known.{Known}
 use Rattle.gm_member.specs.declared.packet.Line.{Line}
-use Rattle.gm_member.specs.declared.member.Member.{Member}
-use Rattle.gm_member.specs.Held.{Held, Carried}
+use Rattle.gm_member.specs.Parcels.{Carried}
+use Rattle.std.specs.List.{filter, flat_map}
+use Rattle.group_view.specs.declared.link.LinkName.{LinkName}
+use Rattle.group_view.specs.declared.link.LinkKind.TheVariants.{Ring}
+use Rattle.group_view.specs.View.{Group, as_id}
+use Rattle.ring_world.specs.declared.phase.Phase.{Phase}
+use Rattle.ring_world.specs.declared.phase.Phase.TheVariants.{Waiting, Up, Stopped}
+use Rattle.gm_member.specs.declared.links.OutLink.{OutLink}
+use Rattle.gm_member.specs.declared.links.InLink.{InLink}
+use Rattle.gm_member.specs.Held.{Outgoing, Incoming, is_for, stays}
 
 -- what a member knows of one origin
 abbrev pub row_of : Known → Row
@@ -24,17 +31,73 @@ known_at rows p = slice_index_or rows p no_row
 abbrev pub numbers_of : List Numbers → ℕ → Numbers
 numbers_of sent p = slice_index_or sent p no_numbers
 
--- what is shown of these parts: the log of a member is all that it heard of itself
-abbrev pub shown : ℕ → List ℕ → List Row → Bool → List Numbers → Credit → Counted → Held
-shown place name rows fresh sent sender receiver = record {
-  place = place;
-  member = record { name = name; log = (known_at rows place).heard; rows = rows };
-  sending = record { fresh = fresh; sent = record { numbers = sent } };
-  sender = sender;
-  receiver = receiver;
-}
+module _ {O : Type 0} where
+  -- the link on which a member sends
+  abbrev pub out_of : OutLink O → Outgoing
+  out_of l = record { to = l.to.0; opened = l.opened; fresh = l.fresh; sent = l.sent.items; credit = l.credit }
 
-module _ {O I : Type 0} where
-  -- what a member holds
-  abbrev pub held_of : Member O I → Held
-  held_of m = shown m.place m.name (map row_of m.known.items) m.fresh m.sent.items m.sender m.receiver
+module _ {I : Type 0} where
+  -- a link to a member
+  abbrev pub in_of : InLink I → Incoming
+  in_of l = record { from = l.from.0; opened = l.opened; counted = l.counted }
+
+  -- the end of such a link, where it isn't lent
+  abbrev pub end_of : InLink I → Option I
+  end_of l = l.end
+
+-- how many stand there: one or none
+abbrev pub count_of : {A : Type 0} → Option A → ℕ
+count_of None = 0
+count_of (Some a) = 1
+
+-- whether a member is up
+abbrev pub is_up : Phase → Bool
+is_up Waiting = false
+is_up Up = true
+is_up Stopped = false
+
+-- whether it is where it has a question open
+abbrev pub is_up_where : Bool → Phase → Bool
+is_up_where true phase = is_up phase
+is_up_where false phase = true
+
+-- an end that was left, where it was there, with the name of its link
+abbrev pub left_end : {A : Type 0} → LinkName → Option A → List (LinkName × A)
+left_end name None = []
+left_end name (Some a) = (name, a) ∷ []
+
+-- the name of a link between members
+abbrev pub ring_link : ℕ → ℕ → ℕ → LinkName
+ring_link from to opened = record { from = as_id from; to = as_id to; view = opened; kind = Ring }
+
+module _ {I : Type 0} where
+  -- whether a link stays at the door of the member of an id that has this view
+  abbrev pub stays_at : Group → ℕ → InLink I → Bool
+  stays_at v y l = stays v y (in_of l)
+
+  -- the end of a link that such a member leaves
+  abbrev pub left_link : ℕ → InLink I → List (LinkName × I)
+  left_link y l = left_end (ring_link l.from.0 y l.opened) l.end
+
+  -- what stays of one link, and what is left of it
+  abbrev pub kept_one : Group → ℕ → InLink I → List (InLink I)
+  kept_one v y l = cond (stays_at v y l) (l ∷ []) []
+
+  abbrev pub left_one : Group → ℕ → InLink I → List (LinkName × I)
+  left_one v y l = cond (stays_at v y l) [] (left_link y l)
+
+  -- of all of them
+  abbrev pub kept_links : Group → ℕ → List (InLink I) → List (InLink I)
+  kept_links v y links = filter (stays_at v y) links
+
+  abbrev pub left_links : Group → ℕ → List (InLink I) → List (LinkName × I)
+  left_links v y links = flat_map (left_one v y) links
+
+  -- what stays of the link from which such a member takes, and what is left of it
+  abbrev pub kept_link : Group → ℕ → Option (InLink I) → Option (InLink I)
+  kept_link v y None = None
+  kept_link v y (Some l) = cond (is_for v y (in_of l)) (Some l) None
+
+  abbrev pub left_current : Group → ℕ → Option (InLink I) → List (LinkName × I)
+  left_current v y None = []
+  left_current v y (Some l) = cond (is_for v y (in_of l)) [] (left_link y l)

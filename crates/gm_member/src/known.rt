@@ -1,9 +1,8 @@
 //! What a member keeps of each origin.
 ghost use Rattle.std.specs.Prelude.{◌≡◌, ℕ, ◌<◌, ◌≤◌, ◌+◌, ◌-◌, ◌^◌, IfOk, OnOk, OnErr, IfErr, length, map, nat_eq, slice_index_or, slice_set};
 ghost use Rattle.std.specs.List.{range_with_len, list_all};
-ghost use Rattle.ring_world.specs.World.{no_row, no_numbers, Packet};
-ghost use Rattle.ring_world.specs.Member.{published_row, is_sent as sent_is, lo_of, next_numbers};
-ghost use Rattle.gm_member.specs.Held.{carried_now, accepted_row, carried_at, no_carried};
+ghost use Rattle.ring_world.specs.Rows.{no_row, no_numbers, published_row, is_sent as sent_is, lo_of, next_numbers};
+ghost use Rattle.gm_member.specs.Parcels.{carried_now, accepted_row, carried_at, no_carried};
 ghost use Rattle.gm_member.specs.View.{row_of, known_at, numbers_of, carried_of};
 
 use crate::packet::Line;
@@ -73,7 +72,7 @@ pub(crate) fn nothing_sent(alloc: Global, n: usize) -> Result<Vec<Numbers>, OutO
 }
 
 /// A message joins the list at a place, and its number there is answered.
-#[tactic(auto, using(crate::proofs::Views::published_rows, crate::proofs::Views::rewrite_row, crate::proofs::Views::read_row))]
+#[tactic(auto, using(crate::proofs::RowViews::published_rows, crate::proofs::RowViews::rewrite_row, crate::proofs::RowViews::read_row))]
 pub(crate) fn push_at(known: &mut [Known], i: usize, message: Message) -> Result<u64, Message>
     requires { i < length known.old }
     ensures ok { OnOk result (map row_of known.new ≡ slice_set (map row_of known.old) i (published_row (known_at (map row_of known.old) i) message)) }
@@ -153,7 +152,7 @@ pub(crate) fn next_of_all(
     }
 }
 
-#[tactic(auto, using(crate::proofs::Views::read_row))]
+#[tactic(auto, using(crate::proofs::RowViews::read_row))]
 fn line_for(
     alloc: Global,
     fresh: bool,
@@ -206,14 +205,4 @@ pub(crate) fn accept_line(row: &mut Known, own: bool, line: &mut Line)
     }
     row.forgot = line.forgot;
     mem::swap(&mut row.all, &mut line.all);
-}
-
-/// Each row takes in its line.
-pub(crate) fn accept_all(known: &mut [Known], i: usize, lines: &mut [Line])
-    requires { length known.old ≡ length lines.old }
-    ensures { map row_of known.new ≡ map (λ p. accepted_row (nat_eq p i) (known_at (map row_of known.old) p) (carried_at (map carried_of lines.old) p)) (range_with_len 0 (length known.old)) }
-{
-    for k in 0..known.len() {
-        accept_line(&mut known[k], k == i, &mut lines[k]);
-    }
 }

@@ -1,21 +1,31 @@
-//! A member of the ring as `gm` runs one, over the ends of its two links: it publishes, puts what is new
-//! on the link to its right neighbour under credit, and takes what its left neighbour put. Packets carry
-//! each origin's whole list of messages.
+//! A member of the ring as `gm` runs one, over the ends of its links: it has a view of the group, publishes, puts what
+//! is new on the link to its right neighbour under credit, and takes what its left neighbour put. Where a neighbour
+//! stops, it has the registrar mark it, reads the newer view, opens a link to the next one, and picks one up that waits
+//! at its door. Packets carry each origin's whole list of messages.
 //! Begin at `Member`, and at specs/Held.antt for what a member holds and what its steps do to it.
 #![tactic(auto)]
 
+mod arrivals;
+mod door;
+mod ends;
 mod fault;
 mod known;
+mod links;
 mod member;
 mod news;
 mod packet;
-pub mod repair;
+mod questions;
+mod rows;
+mod spare;
 mod taken;
 #[cfg(test)]
 mod tests;
+mod views;
 
 pub use fault::MemberFault;
 pub use known::Known;
+pub use links::{InLink, OutLink};
 pub use member::Member;
 pub use packet::{Line, Load, Packet};
+pub use questions::Ask;
 pub use taken::Taken;

@@ -1,110 +1,165 @@
-//! A member.
-ghost use Rattle.std.specs.Prelude.{◌≡◌, ◌<◌};
-ghost use Rattle.std.specs.Vec.{vec_len};
+//! A member of the ring.
+ghost use Rattle.std.specs.Prelude.{◌≡◌, ◌+◌, ◌≤◌, ◌<◌, ◌∷◌, ◌++◌, [], true};
+ghost use Rattle.std.specs.Vec.{vec_len, vec_capacity};
+ghost use Rattle.group_view.specs.Ring.{is_in};
+ghost use Rattle.ring_world.specs.View.{ids};
+ghost use Rattle.gm_member.specs.View.{count_of, is_up_where};
 
+use crate::door::{first_for, is_for, prune};
 use crate::fault::MemberFault;
-use crate::known::{
-    Known, accept_all, has_nothing_new, next_lines, next_of_all, nothing_known, nothing_sent,
-    push_at,
-};
+use crate::known::{Known, nothing_known, nothing_sent, push_at};
+use crate::links::{InLink, OutLink};
 use crate::packet::{Load, Packet};
+use crate::rows::accept;
+use crate::spare::Spare;
 use crate::taken::Taken;
+use crate::views::{left, right, version};
 use credit_flow::{CreditIn, CreditOut};
-use ordered_link::{Item, LinkIn, LinkPair};
+use group_view::{LinkName, Request, View};
+use ordered_link::{EndReason, LinkIn, LinkPair};
 use ring_names::{CreditSpec, MemberId, Message, Name, OutOfMemory, Reason};
-use ring_world::Numbers;
+use ring_world::Phase;
 use std::alloc::Global;
 
 /// How many members a ring ever admits.
 const MOST_MEMBERS: usize = 64;
 
-/// A member of the ring, as a process of `gm`. It holds the messages of every origin that it has heard
-/// of, its own among them, the numbers that it last sent to its right neighbour, and the ends of its two
-/// links: the one on which it puts, and the one from which it takes.
+/// A member of the ring, as a process of `gm`. It has a view of the group, and the messages of every origin that it
+/// has heard of, its own among them. It sends on one link and takes from one, and further links may stand at its
+/// door. While its question for a view is open it has a link ready, with which the answer wants no memory.
 #[derive(Drop)]
 pub struct Member<O, I> {
-    alloc: Global,
-    name: Name,
-    place: usize,
-    known: Vec<Known>,
-    fresh: bool,
-    sent: Vec<Numbers>,
-    sender: CreditOut,
-    receiver: CreditIn,
-    kept: Option<u32>,
-    out: Option<O>,
-    link: Option<I>,
+    pub(crate) alloc: Global,
+    pub(crate) name: Name,
+    pub(crate) id: MemberId,
+    pub(crate) phase: Phase,
+    pub(crate) view: View,
+    pub(crate) known: Vec<Known>,
+    pub(crate) credit: CreditSpec,
+    pub(crate) out: Option<OutLink<O>>,
+    pub(crate) current: Option<InLink<I>>,
+    pub(crate) door: Vec<InLink<I>>,
+    pub(crate) asked: bool,
+    pub(crate) spare: Option<Spare<O, I>>,
+    pub(crate) old_outs: Vec<(LinkName, O)>,
+    pub(crate) old_ins: Vec<(LinkName, I)>,
     ghost each_origin: { vec_len known ≡ 64 },
-    ghost each_sent: { vec_len sent ≡ 64 },
-    ghost own: { place < 64 },
+    ghost own: { (1 ≤ id.0) × (id.0 ≤ 64) },
+    ghost stands: { is_in id.0 (ids view) ≡ true },
+    ghost up: { is_up_where asked phase ≡ true },
+    ghost room_in: { vec_len old_ins + vec_len door + count_of current ≤ vec_capacity old_ins },
+    ghost room_out: { vec_len old_outs + count_of out ≤ vec_capacity old_outs },
 }
 
 impl<O: LinkPair<Load, In = I>, I: LinkIn<Load> + Drop> Member<O, I> {
-    ghost use Rattle.std.specs.Prelude.{◌≡◌, ◌+◌, ◌-◌, ◌≤◌, OnOk, OnErr, IfOk, IfErr, IfSome, IfNone, IsErrOf, IsSome, None, Some, Err, length};
+    ghost use Rattle.std.specs.Prelude.{◌≡◌, ◌⊎◌, ◌+◌, ◌-◌, ◌<◌, ◌≤◌, ℕ, ◌∷◌, [], OnOk, OnErr, IfOk, IfErr, IfSome, IfNone, IsErrOf, IsSome, None, Some, Ok, Err, length, false, true, Option, MatchOption, ⊤, ◌++◌};
     ghost use Rattle.ring_names.specs.declared.reason.Reason.{Reason};
-    ghost use Rattle.ring_world.specs.World.{most_members, log_of};
-    ghost use Rattle.ring_world.specs.Refusal.{refusal};
-    ghost use Rattle.ring_world.specs.Shown.{id_of};
-    ghost use Rattle.ring_world.specs.declared.fixed.Event.TheVariants.{Put, Take, Gain};
-    ghost use Rattle.gm_member.specs.Held.{Parcel, founded, published_held, put_refused, put_held, parcel_of, accepted_held, counted_held, took_held, gained_held};
-    ghost use Rattle.gm_member.specs.View.{held_of, known_at};
-    ghost use Rattle.gm_member.specs.Steps.{parcel_in, OutIsOpen, SameEnds, LooksOut, LooksIn, PutsOn, TakesOn, IsReady, CountsOn, TookOn, KeepsGrant, LoadIsNext, IsTakeRefusal, IsTakeFault, IsPutRefusal, NoGrantBack, GrantIsBack, IsGainRefusal};
+    ghost use Rattle.ring_world.specs.Rows.{most_members};
+    ghost use Rattle.ring_world.specs.declared.event.Event.TheVariants.{Put, Take, TakeEnd, Gain, Stop, Pick, Refresh};
+    ghost use Rattle.ring_world.specs.Machine.{member_at, view_at, newest};
+    ghost use Rattle.ring_world.specs.Step.{log_of};
+    ghost use Rattle.ring_world.specs.Event.{refusal, take_refusal as the_take_refusal, end_refusal as the_end_refusal, gain_refusal as the_gain_refusal};
+    ghost use Rattle.ring_world.specs.View.{ids};
+    ghost use Rattle.group_view.specs.Ring.{is_in};
+    ghost use Rattle.gm_member.specs.Parcels.{Parcel};
+    ghost use Rattle.gm_member.specs.View.{ring_link, left_end, kept_link, left_current};
+    ghost use Rattle.gm_member.specs.Ends.{IsPutFault, IsTakeFault, IsEndRefusal};
+    ghost use Rattle.gm_member.specs.Held.{founded, known_at, active_refused, up_refused, published_held, put_refused, put_held, take_refused, took_held, ended_held, stopped_held, gain_refused, gained_held, kept_in, looked_held, sends_to as sends_to_it, first_out, refresh_refused, refreshed_held, first_at_door as the_first_at_door, pick_refused, picked_held, picked_at, Outgoing, parcel_on};
+    ghost use Rattle.gm_member.specs.Stands.{WhereItStands, StepsTo, with_own_link, publishing, IsPutPacket, IsNextPacket, IsNextGrant, IsNextEnd, taken_in};
     ghost use Rattle.gm_member.specs.News.{news_of};
-    ghost use Rattle.gm_member.specs.Stands.{WhereItStands, StepsTo, IsPutPacket, IsNextPacket, IsNextGrant, publishing, taken_in};
+    ghost use Rattle.gm_member.specs.Shown.{Ends, held_of, ends_of, out_name_of, OutIsReady, InIsReady, PutsOn, LooksOut, LooksIn, TookOn, LeavesOn, EndsOn, KeepsGrant, NoGrantBack, GrantIsBack, LooksBy, MovesOn, IsReadyToMove, SendsOn, MovesTo, PicksOn, KeepsSpare};
 
-    /// A member of the ring's opening, which has published and heard nothing. The caller gives its id
-    /// in the ring, 1 to 64, the credit of the ring's links, the end of the link to its right neighbour
-    /// and the end of the link from its left neighbour. Without memory the ends are dropped.
+    /// A member of the ring's opening, which has published and heard nothing. The caller gives its id in the ring, the
+    /// view in which the ring opens, the credit of the ring's links, the end of the link to its right neighbour and
+    /// the end of the link from its left neighbour. Without memory the ends are dropped. As `gm:start_link` of those with
+    /// whom a group opens.
     pub fn founding(
         alloc: Global,
         name: Name,
         id: MemberId,
+        view: View,
         credit: CreditSpec,
         out: O,
         link: I,
     ) -> Result<Member<O, I>, OutOfMemory>
         requires from_one { 1 ≤ id.0 }
         requires few { id.0 ≤ most_members }
-        ensures held { IfOk result (λ m. held_of m ≡ founded credit name (id.0 - 1)) }
-        ensures ends { IfOk result (λ m.
-            (m.out ≡ Some out) × (m.link ≡ Some link) × (m.kept ≡ None)) }
+        requires stands { is_in id.0 (ids view) ≡ true }
+        ensures held { IfOk result (λ m. held_of m ≡ founded credit name id.0 view) }
+        ensures ends { IfOk result (λ m. ends_of m
+            ≡ record { out = Some out; kept = None; link = Some link; door = []; old_outs = []; old_ins = [] }) }
     {
         let known = nothing_known(alloc, MOST_MEMBERS)?;
         let sent = nothing_sent(alloc, MOST_MEMBERS)?;
+        let old_outs = Vec::with_capacity(alloc, 1)?;
+        let old_ins = Vec::with_capacity(alloc, 1)?;
+        let to = right(&view, id);
+        let from = left(&view, id);
+        let opened = view.version;
         Ok(Member {
             alloc,
             name,
-            place: id.0 as usize - 1,
+            id,
+            phase: Phase::Up,
+            view,
             known,
-            fresh: true,
-            sent,
-            sender: CreditOut::new(credit),
-            receiver: CreditIn::new(credit),
-            kept: None,
-            out: Some(out),
-            link: Some(link),
+            credit,
+            out: Some(OutLink {
+                to,
+                opened,
+                fresh: true,
+                sent,
+                credit: CreditOut::new(credit),
+                kept: None,
+                end: Some(out),
+            }),
+            current: Some(InLink {
+                from,
+                opened,
+                counted: CreditIn::new(credit),
+                end: Some(link),
+            }),
+            door: Vec::new(alloc),
+            asked: false,
+            spare: None,
+            old_outs,
+            old_ins,
         })
     }
 
     /// The member's name.
     pub fn name(&self) -> &Name
-        ensures { result.now ≡ (held_of self.now).member.name }
+        ensures { result.now ≡ (held_of self.now).name }
     {
         &self.name
     }
 
     /// Its id in the ring.
     pub fn id(&self) -> MemberId
-        ensures { result ≡ id_of (held_of self.now).place }
+        ensures { result.0 ≡ (held_of self.now).id }
     {
-        MemberId(self.place as u32 + 1)
+        self.id
+    }
+
+    /// Where it stands: up, or stopped.
+    pub fn phase(&self) -> Phase
+        ensures { result ≡ (held_of self.now).phase }
+    {
+        self.phase
+    }
+
+    /// Its view of the group.
+    pub fn view(&self) -> &View
+        ensures { result.now ≡ (held_of self.now).view }
+    {
+        &self.view
     }
 
     /// The messages of an origin that the member has received, in order; of itself all that it has
     /// published. None of an id that no member has.
     pub fn heard(&self, of: MemberId) -> &[Message]
         requires { 1 ≤ of.0 }
-        ensures { result.now ≡ (known_at (held_of self.now).member.rows (of.0 - 1)).heard }
+        ensures { result.now ≡ (known_at (held_of self.now).rows (of.0 - 1)).heard }
     {
         match self.known.get(of.0 as usize - 1) {
             Some(row) => &row.all,
@@ -114,72 +169,62 @@ impl<O: LinkPair<Load, In = I>, I: LinkIn<Load> + Drop> Member<O, I> {
 
     /// Up to which number its own messages have come round, so that every member has them.
     pub fn confirmed(&self) -> u64
-        ensures { result
-            ≡ (known_at (held_of self.now).member.rows (held_of self.now).place).forgot }
+        ensures { result ≡ (known_at (held_of self.now).rows ((held_of self.now).id - 1)).forgot }
     {
-        self.known[self.place].forgot
+        self.known[self.id.0 as usize - 1].forgot
     }
 
-    /// Lends the end on which the member puts: none where it isn't there. The caller gives it back
-    /// before any other call.
-    pub fn lend_out(&mut self) -> Option<O>
-        ensures lent { result ≡ self.old.out }
-        ensures held { held_of self.new ≡ held_of self.old }
-        ensures ends { (self.new.out ≡ None) × (self.new.link ≡ self.old.link)
-            × (self.new.kept ≡ self.old.kept) }
+    /// Why the member may not act: it has stopped, or its question to the registrar is open.
+    fn activity(&self) -> Option<Reason>
+        ensures { result ≡ active_refused (held_of self.now) None }
     {
-        self.out.take()
-    }
-
-    /// Gives back the end on which the member puts.
-    pub fn give_out(&mut self, out: O)
-        requires { self.old.out ≡ None }
-        ensures held { held_of self.new ≡ held_of self.old }
-        ensures ends { (self.new.out ≡ Some out) × (self.new.link ≡ self.old.link)
-            × (self.new.kept ≡ self.old.kept) }
-    {
-        self.out = Some(out);
-    }
-
-    /// Lends the end at a place from which the member takes: place 0 is its current link, and no link
-    /// stands at its door. The caller gives it back to the same place before any other call.
-    pub fn lend_in(&mut self, place: u32) -> Option<I>
-        ensures current { place ≡ 0 → (result ≡ self.old.link) × (self.new.link ≡ None) }
-        ensures none { (place ≡ 0 → ⊥) → (result ≡ None) × (self.new ≡ self.old) }
-        ensures held { held_of self.new ≡ held_of self.old }
-        ensures ends { (self.new.out ≡ self.old.out) × (self.new.kept ≡ self.old.kept) }
-    {
-        if place > 0 {
-            return None;
+        if matches!(self.phase, Phase::Stopped) {
+            return Some(Reason::Stopped);
         }
-        self.link.take()
+        if self.asked {
+            return Some(Reason::AwaitingAnswer);
+        }
+        None
     }
 
-    /// Gives back the end from which the member takes.
-    pub fn give_in(&mut self, place: u32, link: I)
-        requires { (place ≡ 0) × (self.old.link ≡ None) }
-        ensures held { held_of self.new ≡ held_of self.old }
-        ensures ends { (self.new.link ≡ Some link) × (self.new.out ≡ self.old.out)
-            × (self.new.kept ≡ self.old.kept) }
+    /// Why it may not act, of a member that must have its state.
+    pub(crate) fn up_refusal(&self) -> Option<Reason>
+        ensures { result ≡ up_refused (held_of self.now) None }
     {
-        let _ = place;
-        self.link = Some(link);
+        match self.phase {
+            Phase::Stopped => return Some(Reason::Stopped),
+            Phase::Waiting => return Some(Reason::Waiting),
+            Phase::Up => {}
+        }
+        if self.asked {
+            return Some(Reason::AwaitingAnswer);
+        }
+        None
     }
 
-    /// A message joins the member's own log, and its number there, from 1, is answered.
+    /// A message joins the member's own log, and its number there, from 1, is answered. Refused with `Stopped`,
+    /// `Waiting`, and `AwaitingAnswer` while a question of the member's own is open. As `gm:broadcast`.
     pub fn publish(&mut self, message: Message) -> Result<u64, (Message, MemberFault)>
+        ensures enabled { OnOk result (up_refused (held_of self.old) None ≡ None) }
         ensures ok { OnOk result (held_of self.new ≡ published_held (held_of self.old) message) }
         ensures number { IfOk result (λ n.
-            n ≡ (known_at (held_of self.old).member.rows (held_of self.old).place).got + 1) }
-        ensures fault { IfErr result (λ e. (e.0 ≡ message) × (e.1 ≡ MemberFault.OutOfMemory)) }
+            n ≡ (known_at (held_of self.old).rows ((held_of self.old).id - 1)).got + 1) }
+        ensures refused { (r : Reason) → up_refused (held_of self.old) None ≡ Some r
+            → result ≡ Err (message, MemberFault.Refused r) }
+        ensures fault { IfErr result (λ e. (e.0 ≡ message) × ((e.1 ≡ MemberFault.OutOfMemory)
+            ⊎ (r : Reason) × (e.1 ≡ MemberFault.Refused r) × (up_refused (held_of self.old) None ≡ Some r))) }
+        ensures memory { IfErr result (λ e. e.1 ≡ MemberFault.OutOfMemory → up_refused (held_of self.old) None ≡ None) }
         ensures err { OnErr result (held_of self.new ≡ held_of self.old) }
-        ensures ends { SameEnds self.old self.new }
+        ensures ends { ends_of self.new ≡ ends_of self.old }
 
-        // Wherever the member stands, this is the ring's event.
-        ensures steps { OnOk result (WhereItStands (held_of self.old) (λ w i.
-            StepsTo w i (publishing (held_of self.old).member.name message) (held_of self.new))) }
+        // Wherever the member stands in a state of a run, this is the ring's event.
+        ensures steps { OnOk result (WhereItStands (held_of self.old) (λ w x.
+            StepsTo w x (publishing (held_of self.old).name message) (held_of self.new))) }
         ensures logged { IfOk result (λ n.
-            WhereItStands (held_of self.old) (λ w i. n ≡ length (log_of w i) + 1)) }
+            WhereItStands (held_of self.old) (λ w x. n ≡ length (log_of w x) + 1)) }
+        ensures not_enabled { WhereItStands (held_of self.old) (λ w x. (r : Reason)
+            → refusal w (publishing (held_of self.old).name message) ≡ Some r
+            → result ≡ Err (message, MemberFault.Refused r)) }
     {
         match self.log(message) {
             Ok(number) => Ok(number),
@@ -189,77 +234,102 @@ impl<O: LinkPair<Load, In = I>, I: LinkIn<Load> + Drop> Member<O, I> {
 
     /// The member's own part of `publish`.
     fn log(&mut self, message: Message) -> Result<u64, (Message, MemberFault)>
+        ensures enabled { OnOk result (up_refused (held_of self.old) None ≡ None) }
         ensures ok { OnOk result (held_of self.new ≡ published_held (held_of self.old) message) }
         ensures number { IfOk result (λ n.
-            n ≡ (known_at (held_of self.old).member.rows (held_of self.old).place).got + 1) }
-        ensures fault { IfErr result (λ e. (e.0 ≡ message) × (e.1 ≡ MemberFault.OutOfMemory)) }
+            n ≡ (known_at (held_of self.old).rows ((held_of self.old).id - 1)).got + 1) }
+        ensures refused { (r : Reason) → up_refused (held_of self.old) None ≡ Some r
+            → result ≡ Err (message, MemberFault.Refused r) }
+        ensures fault { IfErr result (λ e. (e.0 ≡ message) × ((e.1 ≡ MemberFault.OutOfMemory)
+            ⊎ (r : Reason) × (e.1 ≡ MemberFault.Refused r) × (up_refused (held_of self.old) None ≡ Some r))) }
+        ensures memory { IfErr result (λ e. e.1 ≡ MemberFault.OutOfMemory → up_refused (held_of self.old) None ≡ None) }
         ensures err { OnErr result (held_of self.new ≡ held_of self.old) }
-        ensures ends { SameEnds self.old self.new }
+        ensures ends { ends_of self.new ≡ ends_of self.old }
     {
-        let place = self.place;
+        if let Some(reason) = self.up_refusal() {
+            return Err((message, MemberFault::Refused(reason)));
+        }
+        let place = self.id.0 as usize - 1;
         match push_at(&mut self.known, place, message) {
             Ok(number) => Ok(number),
             Err(message) => Err((message, MemberFault::OutOfMemory)),
         }
     }
 
-    /// The first condition of `put` that fails: `NoOutLink` where the member sends on no link,
-    /// `NoCredit` where its link has no credit, and `NothingNew` where all numbers equal those last
-    /// sent. It wants no memory.
+    /// Lends the end of the link on which the member sends: none where it isn't there. The caller gives it back before
+    /// any other call.
+    pub fn lend_out(&mut self) -> Option<O>
+        ensures lent { result ≡ (ends_of self.old).out }
+        ensures ends { ends_of self.new ≡ record (ends_of self.old) { out = None } }
+        ensures held { held_of self.new ≡ held_of self.old }
+        ensures kept { KeepsSpare self.old self.new }
+    {
+        match &mut self.out {
+            Some(link) => link.end.take(),
+            None => None,
+        }
+    }
+
+    /// Gives back the end of the link on which the member sends.
+    pub fn give_out(&mut self, out: O)
+        requires lent { (ends_of self.old).out ≡ None }
+        requires sends { IsSome (held_of self.old).out }
+        ensures ends { ends_of self.new ≡ record (ends_of self.old) { out = Some out } }
+        ensures held { held_of self.new ≡ held_of self.old }
+        ensures kept { KeepsSpare self.old self.new }
+    {
+        match &mut self.out {
+            Some(link) => link.end = Some(out),
+            None => unreachable!(),
+        }
+    }
+
+    /// The name of the link on which the member sends: none exactly where it sends on none.
+    pub fn out_name(&self) -> Option<LinkName>
+        ensures { result ≡ out_name_of (held_of self.now) }
+    {
+        let link = self.out.as_ref()?;
+        Some(link.name(self.id))
+    }
+
+    /// Why the member may put no packet: `Stopped`, `Waiting`, `AwaitingAnswer`; `NoOutLink` where it sends on no link;
+    /// `NoCredit` where its link has no credit; `NothingNew` where all numbers equal those last sent. It wants no
+    /// memory.
     pub fn put_refusal(&self) -> Option<Reason>
-        ensures away { self.now.out ≡ None → result ≡ Some Reason.NoOutLink }
-        ensures there { IsSome self.now.out → result ≡ put_refused (held_of self.now) }
+        ensures { result ≡ put_refused (held_of self.now) }
     {
-        if self.out.is_none() {
-            return Some(Reason::NoOutLink);
+        if let Some(reason) = self.up_refusal() {
+            return Some(reason);
         }
-        if self.sender.blocked() {
-            return Some(Reason::NoCredit);
+        match &self.out {
+            None => Some(Reason::NoOutLink),
+            Some(link) => link.put_refusal(&self.known),
         }
-        if has_nothing_new(&self.known, &self.sent) {
-            return Some(Reason::NothingNew);
-        }
-        None
     }
 
-    /// The packet that `put` puts.
-    fn packet(&self) -> Result<Packet, OutOfMemory>
-        ensures { IfOk result (λ packet. packet ≡ parcel_of (held_of self.now)) }
-    {
-        let lines = next_lines(self.alloc, self.fresh, &self.known, &self.sent)?;
-        Ok(Packet {
-            view: 1,
-            first: self.fresh,
-            lines,
-        })
-    }
-
-    /// A packet with all that is known of each origin goes on the link to the right neighbour. Refused
-    /// as `put_refusal` says, and then with `LinkFull` where the link handed the packet back.
+    /// A packet with all that is known of each origin goes on the link on which the member sends, as `gm` broadcasts
+    /// its activity. Refused as `put_refusal` says, and then with `LinkFull` where the link handed the packet back.
     pub fn put(&mut self) -> Result<(), MemberFault>
-        requires { OutIsOpen O.ended self.old }
+        requires { OutIsReady O.ended self.old }
         ensures enabled { OnOk result (put_refused (held_of self.old) ≡ None) }
         ensures ok { OnOk result (held_of self.new ≡ put_held (held_of self.old)) }
-        ensures packet { OnOk result (PutsOn O.puts (parcel_of (held_of self.old)) self.old self.new) }
-        ensures away { self.old.out ≡ None → result ≡ Err (MemberFault.Refused Reason.NoOutLink) }
-        ensures refused { (r : Reason) → IsSome self.old.out → put_refused (held_of self.old) ≡ Some r
+        ensures packet { OnOk result (PutsOn O.puts self.old self.new) }
+        ensures refused { (r : Reason) → put_refused (held_of self.old) ≡ Some r
             → result ≡ Err (MemberFault.Refused r) }
-        ensures reason { IfErr result (λ fault. (r : Reason) → fault ≡ MemberFault.Refused r
-            → IsPutRefusal (put_refused (held_of self.old)) O.free r self.new) }
-        ensures memory { IsErrOf result MemberFault.OutOfMemory
-            → IsSome self.old.out × (put_refused (held_of self.old) ≡ None)
-            × (self.new.out ≡ self.old.out) }
+        ensures fault { IfErr result (λ fault.
+            ((r : Reason) × (fault ≡ MemberFault.Refused r) × (put_refused (held_of self.old) ≡ Some r))
+            ⊎ ((put_refused (held_of self.old) ≡ None) × IsPutFault O.free fault (ends_of self.new).out)) }
         ensures err { OnErr result (held_of self.new ≡ held_of self.old) }
         ensures looks { OnErr result (LooksOut O.looked self.old self.new) }
-        ensures open { OutIsOpen O.ended self.new }
+        ensures ready { OutIsReady O.ended self.new }
 
-        // Wherever the member stands, this is the ring's event, and the packet is the one that it puts.
-        ensures steps { OnOk result (WhereItStands (held_of self.old) (λ w i.
-            StepsTo w i (Put (held_of self.old).member.name) (held_of self.new)
-            × IsPutPacket w i (parcel_of (held_of self.old)))) }
-        ensures not_enabled { IsSome self.old.out → WhereItStands (held_of self.old) (λ w i. (r : Reason)
-            → refusal w (Put (held_of self.old).member.name) ≡ Some r
-            → result ≡ Err (MemberFault.Refused r)) }
+        // Wherever the member stands in a state of a run, this is the ring's event, and the packet is the one that it puts.
+        ensures steps { OnOk result (WhereItStands (held_of self.old) (λ w x.
+            StepsTo w x (Put (held_of self.old).name) (held_of self.new))) }
+        ensures put { OnOk result ((o : Outgoing) × ((held_of self.old).out ≡ Some o)
+            × WhereItStands (held_of self.old) (λ w x. IsPutPacket w x (parcel_on (held_of self.old).view.version (held_of self.old).rows o))) }
+        ensures not_enabled { WhereItStands (held_of self.old) (λ w x. (r : Reason)
+            → refusal w (Put (held_of self.old).name) ≡ Some r → result ≡ Err (MemberFault.Refused r)) }
     {
         match self.put_next() {
             Ok(()) => Ok(()),
@@ -269,82 +339,75 @@ impl<O: LinkPair<Load, In = I>, I: LinkIn<Load> + Drop> Member<O, I> {
 
     /// The member's own part of `put`.
     fn put_next(&mut self) -> Result<(), MemberFault>
-        requires { OutIsOpen O.ended self.old }
+        requires { OutIsReady O.ended self.old }
         ensures enabled { OnOk result (put_refused (held_of self.old) ≡ None) }
         ensures ok { OnOk result (held_of self.new ≡ put_held (held_of self.old)) }
-        ensures packet { OnOk result (PutsOn O.puts (parcel_of (held_of self.old)) self.old self.new) }
-        ensures away { self.old.out ≡ None → result ≡ Err (MemberFault.Refused Reason.NoOutLink) }
-        ensures refused { (r : Reason) → IsSome self.old.out → put_refused (held_of self.old) ≡ Some r
+        ensures packet { OnOk result (PutsOn O.puts self.old self.new) }
+        ensures refused { (r : Reason) → put_refused (held_of self.old) ≡ Some r
             → result ≡ Err (MemberFault.Refused r) }
-        ensures reason { IfErr result (λ fault. (r : Reason) → fault ≡ MemberFault.Refused r
-            → IsPutRefusal (put_refused (held_of self.old)) O.free r self.new) }
-        ensures memory { IsErrOf result MemberFault.OutOfMemory
-            → IsSome self.old.out × (put_refused (held_of self.old) ≡ None)
-            × (self.new.out ≡ self.old.out) }
+        ensures fault { IfErr result (λ fault.
+            ((r : Reason) × (fault ≡ MemberFault.Refused r) × (put_refused (held_of self.old) ≡ Some r))
+            ⊎ ((put_refused (held_of self.old) ≡ None) × IsPutFault O.free fault (ends_of self.new).out)) }
         ensures err { OnErr result (held_of self.new ≡ held_of self.old) }
         ensures looks { OnErr result (LooksOut O.looked self.old self.new) }
-        ensures open { OutIsOpen O.ended self.new }
+        ensures ready { OutIsReady O.ended self.new }
     {
-        match self.put_refusal() {
-            Some(reason) => return Err(MemberFault::Refused(reason)),
-            None => {}
+        if let Some(reason) = self.put_refusal() {
+            return Err(MemberFault::Refused(reason));
         }
-        let Ok(packet) = self.packet() else {
-            return Err(MemberFault::OutOfMemory);
-        };
-        let Ok(sent) = next_of_all(self.alloc, self.fresh, &self.known, &self.sent) else {
-            return Err(MemberFault::OutOfMemory);
-        };
-        let Some(out) = &mut self.out else {
+        let version = version(&self.view);
+        let Some(link) = &mut self.out else {
             unreachable!()
         };
-        match out.put(Load::Packet(packet)) {
-            Ok(()) => {}
-            Err(_load) => return Err(MemberFault::Refused(Reason::LinkFull)),
-        }
-        self.sent = sent;
-        self.fresh = false;
-        self.sender.send();
-        Ok(())
+        link.put(self.alloc, version, &self.known)
     }
 
-    /// The first condition of `take` that fails: `NoCurrentLink` where the member takes from no link,
-    /// `NothingToTake` where the end of its link gives no item in this call, and `EndNext` where the
-    /// next item is the end of the link. It wants no memory.
-    pub fn take_refusal(&mut self) -> Option<Reason>
-        ensures held { held_of self.new ≡ held_of self.old }
-        ensures looks { LooksIn I.looked self.old self.new }
-        ensures some { IfSome result (λ r. IsTakeRefusal I.known I.waiting r self.new) }
-        ensures none { IfNone result (LoadIsNext I.known self.new) }
+    /// Why the member may take nothing, before its link is looked at: `Stopped`, `AwaitingAnswer`; `NoCurrentLink`
+    /// where it takes from no link.
+    fn no_link(&self) -> Option<Reason>
+        ensures { result ≡ take_refused (held_of self.now) None }
     {
-        let Some(link) = &mut self.link else {
-            return Some(Reason::NoCurrentLink);
-        };
-        match link.peek() {
-            Some(Item::Load(_)) => None,
-            Some(Item::End(_)) => Some(Reason::EndNext),
-            None => Some(Reason::NothingToTake),
+        if let Some(reason) = self.activity() {
+            return Some(reason);
         }
+        if self.current.is_none() {
+            return Some(Reason::NoCurrentLink);
+        }
+        None
     }
 
-    /// Takes the oldest packet of the current link, and grants credit where that is due. The answer is
-    /// what the packet brings, in order of origin and number. Refused as `take_refusal` says.
+    /// Takes the oldest packet of the link from which the member takes, and grants credit where that is due. The answer
+    /// is what the packet brings, in order of origin and number. Refused with `Stopped`, `AwaitingAnswer`,
+    /// `NoCurrentLink`; then with `NothingToTake` where the end of the link gives no item in this call, `EndNext` where
+    /// the next item is the end of the link, and `ViewTooOld` where it is a packet of a newer version than the member's. As
+    /// `gm:handle_msg` of an activity.
     pub fn take(&mut self) -> Result<Vec<Taken>, MemberFault>
+        requires { InIsReady self.old }
+        ensures enabled { OnOk result (take_refused (held_of self.old) None ≡ None) }
         ensures ok { IfOk result (λ taken. (k : Parcel)
+            × (k.view ≤ (held_of self.old).view.version)
             × (held_of self.new ≡ took_held (held_of self.old) k)
             × (taken.items ≡ news_of (held_of self.old) k)
             × TookOn I.waiting I.takes I.looked I.sends k self.old self.new) }
-        ensures reason { IfErr result (λ fault. IsTakeFault I.known I.waiting fault self.new) }
+        ensures refused { (r : Reason) → take_refused (held_of self.old) None ≡ Some r
+            → result ≡ Err (MemberFault.Refused r) }
+        ensures fault { IfErr result (λ fault.
+            ((r : Reason) × (fault ≡ MemberFault.Refused r) × (take_refused (held_of self.old) None ≡ Some r))
+            ⊎ ((take_refused (held_of self.old) None ≡ None)
+            × MatchOption self.new.current ⊥ (λ l. IsTakeFault I.known I.waiting (held_of self.old).view.version fault l.end))) }
         ensures err { OnErr result (held_of self.new ≡ held_of self.old) }
         ensures looks { OnErr result (LooksIn I.looked self.old self.new) }
 
-        // Wherever the member stands and the packet is the oldest on its link, this is the ring's event,
-        // and the messages are those of the logs.
+        // Wherever the member stands in a state of a run and the packet is the oldest on its link, this is the ring's event, and
+        // the messages are those of the logs.
         ensures steps { IfOk result (λ taken. (k : Parcel)
             × TookOn I.waiting I.takes I.looked I.sends k self.old self.new
-            × WhereItStands (held_of self.old) (λ w i. IsNextPacket w i k
-            → StepsTo w i (Take (held_of self.old).member.name) (held_of self.new)
-            × (taken.items ≡ taken_in w i))) }
+            × WhereItStands (held_of self.old) (λ w x. IsNextPacket w x k
+            → StepsTo w x (Take (held_of self.old).name) (held_of self.new)
+            × (taken.items ≡ taken_in w (member_at w x).current x))) }
+        ensures not_enabled { WhereItStands (held_of self.old) (λ w x.
+            ((s : ℕ) → (member_at w x).current ≡ Some s → the_take_refusal w x s ≡ None)
+            → (r : Reason) → refusal w (Take (held_of self.old).name) ≡ Some r → result ≡ Err (MemberFault.Refused r)) }
     {
         match self.take_next() {
             Ok(taken) => Ok(taken),
@@ -354,129 +417,235 @@ impl<O: LinkPair<Load, In = I>, I: LinkIn<Load> + Drop> Member<O, I> {
 
     /// The member's own part of `take`.
     fn take_next(&mut self) -> Result<Vec<Taken>, MemberFault>
+        requires { InIsReady self.old }
+        ensures enabled { OnOk result (take_refused (held_of self.old) None ≡ None) }
         ensures ok { IfOk result (λ taken. (k : Parcel)
+            × (k.view ≤ (held_of self.old).view.version)
             × (held_of self.new ≡ took_held (held_of self.old) k)
             × (taken.items ≡ news_of (held_of self.old) k)
             × TookOn I.waiting I.takes I.looked I.sends k self.old self.new) }
-        ensures reason { IfErr result (λ fault. IsTakeFault I.known I.waiting fault self.new) }
+        ensures refused { (r : Reason) → take_refused (held_of self.old) None ≡ Some r
+            → result ≡ Err (MemberFault.Refused r) }
+        ensures fault { IfErr result (λ fault.
+            ((r : Reason) × (fault ≡ MemberFault.Refused r) × (take_refused (held_of self.old) None ≡ Some r))
+            ⊎ ((take_refused (held_of self.old) None ≡ None)
+            × MatchOption self.new.current ⊥ (λ l. IsTakeFault I.known I.waiting (held_of self.old).view.version fault l.end))) }
         ensures err { OnErr result (held_of self.new ≡ held_of self.old) }
         ensures looks { OnErr result (LooksIn I.looked self.old self.new) }
     {
-        let (taken, load) = self.take_load()?;
-        self.accept(load.into_packet());
-        self.count();
-        Ok(taken)
-    }
-
-    /// The oldest load of the current link, and copies of the messages that it brings.
-    fn take_load(&mut self) -> Result<(Vec<Taken>, Load), MemberFault>
-        ensures held { held_of self.new ≡ held_of self.old }
-        ensures ok { IfOk result (λ r. TakesOn I.waiting I.takes I.looked r.1 self.old self.new) }
-        ensures news { IfOk result (λ r. r.0.items ≡ news_of (held_of self.old) (parcel_in r.1)) }
-        ensures reason { IfErr result (λ fault. IsTakeFault I.known I.waiting fault self.new) }
-        ensures looks { OnErr result (LooksIn I.looked self.old self.new) }
-    {
-        let alloc = self.alloc;
-        let place = self.place;
-        let Some(link) = &mut self.link else {
-            return Err(MemberFault::Refused(Reason::NoCurrentLink));
-        };
-        let news = match link.peek() {
-            Some(Item::Load(load)) => load.news(alloc, &self.known, place),
-            Some(Item::End(_)) => return Err(MemberFault::Refused(Reason::EndNext)),
-            None => return Err(MemberFault::Refused(Reason::NothingToTake)),
-        };
-        let Ok(news) = news else {
-            return Err(MemberFault::OutOfMemory);
-        };
-        match link.take() {
-            Some(Item::Load(load)) => Ok((news, load)),
-            _ => unreachable!(),
+        if let Some(reason) = self.no_link() {
+            return Err(MemberFault::Refused(reason));
         }
-    }
-
-    /// Takes in the lines of a packet.
-    fn accept(&mut self, packet: Packet)
-        ensures held { held_of self.new ≡ accepted_held (held_of self.old) packet }
-        ensures ends { SameEnds self.old self.new }
-        ensures receiver { self.new.receiver ≡ self.old.receiver }
-    {
-        let place = self.place;
-        let Packet {
-            view: _,
-            first: _,
-            mut lines,
-        } = packet;
-        accept_all(&mut self.known, place, &mut lines);
-    }
-
-    /// Counts a packet, and grants credit where that is due.
-    fn count(&mut self)
-        requires { IsReady I.waiting self.old }
-        ensures held { held_of self.new ≡ counted_held (held_of self.old) }
-        ensures grants { CountsOn I.sends self.old self.new }
-    {
-        let Some(link) = &mut self.link else {
+        let Some(link) = &mut self.current else {
             unreachable!()
         };
-        if let Some(amount) = self.receiver.took() {
-            link.grant(amount);
+        let from = link.from;
+        let (news, packet) = match link.take(self.alloc, &self.known, &self.view, self.id) {
+            Ok(taken) => taken,
+            Err(fault) => return Err(fault),
+        };
+        accept(&mut self.known, &self.view, self.id, from, packet);
+        Ok(news)
+    }
+
+    /// Takes the end of the link from which the member takes, and leaves it. Refused with `Stopped`, `AwaitingAnswer`,
+    /// `NoCurrentLink`; then with `NothingToTake` where the end of the link gives no item in this call, and `PacketNext`
+    /// where the next item is a packet. It wants no memory. As `gm` where its left neighbour goes down.
+    pub fn take_end(&mut self) -> Result<EndReason, MemberFault>
+        requires { InIsReady self.old }
+        ensures enabled { OnOk result (take_refused (held_of self.old) None ≡ None) }
+        ensures ok { OnOk result (held_of self.new ≡ ended_held (held_of self.old)) }
+        ensures leaves { IfOk result (λ reason. LeavesOn I.takes I.looked reason self.old self.new) }
+        ensures refused { (r : Reason) → take_refused (held_of self.old) None ≡ Some r
+            → result ≡ Err (MemberFault.Refused r) }
+        ensures fault { IfErr result (λ fault. (r : Reason) × (fault ≡ MemberFault.Refused r)
+            × ((take_refused (held_of self.old) None ≡ Some r)
+            ⊎ ((take_refused (held_of self.old) None ≡ None)
+            × MatchOption self.new.current ⊥ (λ l. IsEndRefusal I.known I.waiting r l.end)))) }
+        ensures err { OnErr result (held_of self.new ≡ held_of self.old) }
+        ensures looks { OnErr result (LooksIn I.looked self.old self.new) }
+
+        // Wherever the member stands in a state of a run and the end is next on its link, this is the ring's event.
+        ensures steps { OnOk result (WhereItStands (held_of self.old) (λ w x. IsNextEnd w x
+            → StepsTo w x (TakeEnd (held_of self.old).name) (held_of self.new))) }
+        ensures not_enabled { WhereItStands (held_of self.old) (λ w x.
+            ((s : ℕ) → (member_at w x).current ≡ Some s → the_end_refusal w s ≡ None)
+            → (r : Reason) → refusal w (TakeEnd (held_of self.old).name) ≡ Some r → result ≡ Err (MemberFault.Refused r)) }
+    {
+        match self.take_end_next() {
+            Ok(reason) => Ok(reason),
+            Err(fault) => Err(fault),
         }
     }
 
-    /// The first condition of `gain` that fails: `NoOutLink` where the member sends on no link, and
+    /// The member's own part of `take_end`.
+    fn take_end_next(&mut self) -> Result<EndReason, MemberFault>
+        requires { InIsReady self.old }
+        ensures enabled { OnOk result (take_refused (held_of self.old) None ≡ None) }
+        ensures ok { OnOk result (held_of self.new ≡ ended_held (held_of self.old)) }
+        ensures leaves { IfOk result (λ reason. LeavesOn I.takes I.looked reason self.old self.new) }
+        ensures refused { (r : Reason) → take_refused (held_of self.old) None ≡ Some r
+            → result ≡ Err (MemberFault.Refused r) }
+        ensures fault { IfErr result (λ fault. (r : Reason) × (fault ≡ MemberFault.Refused r)
+            × ((take_refused (held_of self.old) None ≡ Some r)
+            ⊎ ((take_refused (held_of self.old) None ≡ None)
+            × MatchOption self.new.current ⊥ (λ l. IsEndRefusal I.known I.waiting r l.end)))) }
+        ensures err { OnErr result (held_of self.new ≡ held_of self.old) }
+        ensures looks { OnErr result (LooksIn I.looked self.old self.new) }
+    {
+        if let Some(reason) = self.no_link() {
+            return Err(MemberFault::Refused(reason));
+        }
+        let Some(link) = &mut self.current else {
+            unreachable!()
+        };
+        let reason = match link.take_end() {
+            Ok(reason) => reason,
+            Err(reason) => return Err(MemberFault::Refused(reason)),
+        };
+        self.leave_current();
+        Ok(reason)
+    }
+
+    /// The member takes from no link, and the end of the one from which it took is the last of those that it has left.
+    fn leave_current(&mut self)
+        ensures held { held_of self.new ≡ ended_held (held_of self.old) }
+        ensures left { MatchOption self.old.current (self.new.old_ins.items ≡ self.old.old_ins.items) (λ l.
+            self.new.old_ins.items ≡ self.old.old_ins.items ++ left_end (ring_link l.from.0 self.old.id.0 l.opened) l.end) }
+        ensures current { self.new.current ≡ None }
+        ensures same { (self.new.id ≡ self.old.id) × (self.new.credit ≡ self.old.credit) × (self.new.known ≡ self.old.known) }
+        ensures others { (self.new.out ≡ self.old.out) × (self.new.door ≡ self.old.door) × (self.new.old_outs ≡ self.old.old_outs) }
+        ensures kept { self.new.spare ≡ self.old.spare }
+    {
+        let Some(link) = self.current.take() else {
+            return;
+        };
+        let name = link.name(self.id);
+        if let Some(end) = link.end {
+            if self.old_ins.push((name, end)).is_err() {
+                unreachable!()
+            }
+        }
+    }
+
+    /// The member stops, and the link on which it sends ends. Refused with `Stopped`, and with `AwaitingAnswer` while a
+    /// question of the member's own is open. It wants no memory. As a process of `gm` that goes down.
+    pub fn stop(&mut self) -> Result<(), MemberFault>
+        requires { OutIsReady O.ended self.old }
+        ensures enabled { OnOk result (active_refused (held_of self.old) None ≡ None) }
+        ensures ok { OnOk result (held_of self.new ≡ stopped_held (held_of self.old)) }
+        ensures ends { OnOk result (EndsOn O.puts EndReason.Stopped self.old self.new) }
+        ensures refused { (r : Reason) → active_refused (held_of self.old) None ≡ Some r
+            → result ≡ Err (MemberFault.Refused r) }
+        ensures fault { IfErr result (λ fault.
+            (r : Reason) × (fault ≡ MemberFault.Refused r) × (active_refused (held_of self.old) None ≡ Some r)) }
+        ensures err { OnErr result (self.new ≡ self.old) }
+
+        // Wherever the member stands in a state of a run, this is the ring's event.
+        ensures steps { OnOk result (WhereItStands (held_of self.old) (λ w x.
+            StepsTo w x (Stop (held_of self.old).name) (held_of self.new))) }
+        ensures not_enabled { WhereItStands (held_of self.old) (λ w x. (r : Reason)
+            → refusal w (Stop (held_of self.old).name) ≡ Some r → result ≡ Err (MemberFault.Refused r)) }
+    {
+        match self.stop_next() {
+            Ok(()) => Ok(()),
+            Err(fault) => Err(fault),
+        }
+    }
+
+    /// The member's own part of `stop`.
+    fn stop_next(&mut self) -> Result<(), MemberFault>
+        requires { OutIsReady O.ended self.old }
+        ensures enabled { OnOk result (active_refused (held_of self.old) None ≡ None) }
+        ensures ok { OnOk result (held_of self.new ≡ stopped_held (held_of self.old)) }
+        ensures ends { OnOk result (EndsOn O.puts EndReason.Stopped self.old self.new) }
+        ensures refused { (r : Reason) → active_refused (held_of self.old) None ≡ Some r
+            → result ≡ Err (MemberFault.Refused r) }
+        ensures fault { IfErr result (λ fault.
+            (r : Reason) × (fault ≡ MemberFault.Refused r) × (active_refused (held_of self.old) None ≡ Some r)) }
+        ensures err { OnErr result (self.new ≡ self.old) }
+    {
+        if let Some(reason) = self.activity() {
+            return Err(MemberFault::Refused(reason));
+        }
+        self.end_out(EndReason::Stopped);
+        self.phase = Phase::Stopped;
+        Ok(())
+    }
+
+    /// The link on which the member sends ends.
+    fn end_out(&mut self, reason: EndReason)
+        requires { MatchOption self.old.out ⊤ (λ l. MatchOption l.end ⊥ (λ o. O.ended o ≡ false)) }
+        ensures held { held_of self.new ≡ held_of self.old }
+        ensures ends { EndsOn O.puts reason self.old self.new }
+    {
+        let Some(link) = &mut self.out else {
+            return;
+        };
+        link.finish(reason);
+    }
+
+    /// Why the member may gain no credit: `Stopped`, `Waiting`, `AwaitingAnswer`; `NoOutLink` where it sends on no link;
     /// `NoGrant` where none has come back that the end of its link knows. It wants no memory.
     pub fn gain_refusal(&mut self) -> Option<Reason>
-        requires { OutIsOpen O.ended self.old }
+        requires { OutIsReady O.ended self.old }
         ensures held { held_of self.new ≡ held_of self.old }
         ensures looks { LooksOut O.looked self.old self.new }
-        ensures away { self.old.out ≡ None → result ≡ Some Reason.NoOutLink }
-        ensures none { IfNone result (GrantIsBack O.grants self.new) }
-        ensures some { IfSome result (λ r. IsGainRefusal O.grants r self.new) }
-        ensures open { OutIsOpen O.ended self.new }
+        ensures none { IfNone result ((gain_refused (held_of self.old) ≡ None) × GrantIsBack O.grants self.new) }
+        ensures some { IfSome result (λ r. (gain_refused (held_of self.old) ≡ Some r)
+            ⊎ ((r ≡ Reason.NoGrant) × (gain_refused (held_of self.old) ≡ None) × NoGrantBack O.grants self.new)) }
+        ensures ready { OutIsReady O.ended self.new }
     {
-        let Some(out) = &mut self.out else {
-            return Some(Reason::NoOutLink);
-        };
-        if self.kept.is_some() || out.has_grant() {
-            return None;
+        if let Some(reason) = self.up_refusal() {
+            return Some(reason);
         }
-        Some(Reason::NoGrant)
+        match &mut self.out {
+            None => Some(Reason::NoOutLink),
+            Some(link) => {
+                if link.has_grant() {
+                    None
+                } else {
+                    Some(Reason::NoGrant)
+                }
+            }
+        }
     }
 
-    /// The oldest grant that came back on the out link, for `gain`: none only where the end of the link
-    /// knew none. It stays with the member until `gain`, and is answered again till then. It wants no
-    /// memory.
+    /// The oldest grant that came back on the link on which a running member sends, for `gain`: none only where the end
+    /// of the link knew none. It stays with the member until `gain`, and is answered again till then. It wants no memory.
     pub fn granted(&mut self) -> Option<u32>
-        requires { OutIsOpen O.ended self.old }
+        requires runs { self.old.phase ≡ Phase.Up }
+        requires ready { OutIsReady O.ended self.old }
         ensures held { held_of self.new ≡ held_of self.old }
         ensures some { IfSome result (λ amount. KeepsGrant O.gains amount self.old self.new) }
         ensures none { IfNone result (LooksOut O.looked self.old self.new × NoGrantBack O.grants self.new) }
-        ensures open { OutIsOpen O.ended self.new }
+        ensures ready { OutIsReady O.ended self.new }
     {
-        if self.kept.is_none() {
-            let Some(out) = &mut self.out else {
-                return None;
-            };
-            self.kept = out.granted();
+        match &mut self.out {
+            None => None,
+            Some(link) => link.granted(),
         }
-        self.kept
     }
 
-    /// A grant becomes credit: the caller gives what `granted` answered. Refused with `NoOutLink` where
-    /// the member sends on no link. It wants no memory.
+    /// A grant becomes credit of the link on which the member sends: the caller gives what `granted` answered. Refused
+    /// with `Stopped`, `Waiting`, `AwaitingAnswer`, and with `NoOutLink` where the member sends on no link. It wants no
+    /// memory. As `credit_flow:handle_bump_msg`.
     pub fn gain(&mut self, amount: u32) -> Result<(), MemberFault>
-        ensures there { OnOk result (IsSome self.old.out) }
-        ensures ok { OnOk result ((held_of self.new ≡ gained_held (held_of self.old) amount)
-            × (self.new.kept ≡ None) × (self.new.out ≡ self.old.out) × (self.new.link ≡ self.old.link)) }
-        ensures away { self.old.out ≡ None → result ≡ Err (MemberFault.Refused Reason.NoOutLink) }
-        ensures reason { IfErr result (λ fault.
-            (fault ≡ MemberFault.Refused Reason.NoOutLink) × (self.old.out ≡ None)) }
+        ensures enabled { OnOk result (gain_refused (held_of self.old) ≡ None) }
+        ensures ok { OnOk result (held_of self.new ≡ gained_held (held_of self.old) amount) }
+        ensures ends { OnOk result (ends_of self.new ≡ record (ends_of self.old) { kept = None }) }
+        ensures refused { (r : Reason) → gain_refused (held_of self.old) ≡ Some r
+            → result ≡ Err (MemberFault.Refused r) }
+        ensures fault { IfErr result (λ fault.
+            (r : Reason) × (fault ≡ MemberFault.Refused r) × (gain_refused (held_of self.old) ≡ Some r)) }
         ensures err { OnErr result (self.new ≡ self.old) }
 
-        // Wherever the member stands and the grant is the oldest on its way back, this is the ring's event.
-        ensures steps { OnOk result (WhereItStands (held_of self.old) (λ w i. IsNextGrant w i amount
-            → StepsTo w i (Gain (held_of self.old).member.name) (held_of self.new))) }
+        // Wherever the member stands in a state of a run and the grant is the oldest on its way back, this is the ring's event.
+        ensures steps { OnOk result (WhereItStands (held_of self.old) (λ w x. IsNextGrant w x amount
+            → StepsTo w x (Gain (held_of self.old).name) (held_of self.new))) }
+        ensures not_enabled { WhereItStands (held_of self.old) (λ w x.
+            ((o : ℕ) → (member_at w x).out ≡ Some o → the_gain_refusal w o ≡ None)
+            → (r : Reason) → refusal w (Gain (held_of self.old).name) ≡ Some r → result ≡ Err (MemberFault.Refused r)) }
     {
         match self.regain(amount) {
             Ok(()) => Ok(()),
@@ -486,19 +655,313 @@ impl<O: LinkPair<Load, In = I>, I: LinkIn<Load> + Drop> Member<O, I> {
 
     /// The member's own part of `gain`.
     fn regain(&mut self, amount: u32) -> Result<(), MemberFault>
-        ensures there { OnOk result (IsSome self.old.out) }
-        ensures ok { OnOk result ((held_of self.new ≡ gained_held (held_of self.old) amount)
-            × (self.new.kept ≡ None) × (self.new.out ≡ self.old.out) × (self.new.link ≡ self.old.link)) }
-        ensures away { self.old.out ≡ None → result ≡ Err (MemberFault.Refused Reason.NoOutLink) }
-        ensures reason { IfErr result (λ fault.
-            (fault ≡ MemberFault.Refused Reason.NoOutLink) × (self.old.out ≡ None)) }
+        ensures enabled { OnOk result (gain_refused (held_of self.old) ≡ None) }
+        ensures ok { OnOk result (held_of self.new ≡ gained_held (held_of self.old) amount) }
+        ensures ends { OnOk result (ends_of self.new ≡ record (ends_of self.old) { kept = None }) }
+        ensures refused { (r : Reason) → gain_refused (held_of self.old) ≡ Some r
+            → result ≡ Err (MemberFault.Refused r) }
+        ensures fault { IfErr result (λ fault.
+            (r : Reason) × (fault ≡ MemberFault.Refused r) × (gain_refused (held_of self.old) ≡ Some r)) }
         ensures err { OnErr result (self.new ≡ self.old) }
     {
-        if self.out.is_none() {
-            return Err(MemberFault::Refused(Reason::NoOutLink));
+        if let Some(reason) = self.up_refusal() {
+            return Err(MemberFault::Refused(reason));
         }
-        self.sender.gain(amount);
-        self.kept = None;
+        match &mut self.out {
+            None => Err(MemberFault::Refused(Reason::NoOutLink)),
+            Some(link) => {
+                link.credit.gain(amount);
+                link.kept = None;
+                Ok(())
+            }
+        }
+    }
+
+    /// What stays of the link from which the member takes, with another view.
+    fn keep_current(&mut self, view: &View)
+        requires { is_in self.old.id.0 (ids view.now) ≡ true }
+        ensures held { held_of self.new ≡ record (held_of self.old) { current = kept_in view.now self.old.id.0 (held_of self.old).current } }
+        ensures current { self.new.current ≡ kept_link view.now self.old.id.0 self.old.current }
+        ensures left { self.new.old_ins.items ≡ self.old.old_ins.items ++ left_current view.now self.old.id.0 self.old.current }
+        ensures same { (self.new.id ≡ self.old.id) × (self.new.credit ≡ self.old.credit) × (self.new.known ≡ self.old.known) }
+        ensures others { (self.new.out ≡ self.old.out) × (self.new.door ≡ self.old.door) × (self.new.old_outs ≡ self.old.old_outs) }
+        ensures kept { self.new.spare ≡ self.old.spare }
+    {
+        let Some(link) = &self.current else {
+            return;
+        };
+        if is_for(view, self.id, link) {
+            return;
+        }
+        self.leave_current();
+    }
+
+    /// The member has another view.
+    pub(crate) fn look(&mut self, view: View)
+        requires { is_in self.old.id.0 (ids view) ≡ true }
+        ensures held { held_of self.new ≡ looked_held (held_of self.old) view }
+        ensures links { LooksBy view self.old self.new }
+        ensures others { (self.new.out ≡ self.old.out) × (self.new.old_outs ≡ self.old.old_outs) }
+        ensures same { (self.new.id ≡ self.old.id) × (self.new.credit ≡ self.old.credit) × (self.new.known ≡ self.old.known) × (self.new.view ≡ view) }
+        ensures kept { self.new.spare ≡ self.old.spare }
+    {
+        self.keep_current(&view);
+        prune(&view, self.id, &mut self.door, &mut self.old_ins);
+        self.view = view;
+    }
+
+    /// The link on which the member sends ends, and the end joins those that it has replaced.
+    fn move_on(&mut self)
+        requires { MatchOption self.old.out ⊤ (λ l. MatchOption l.end ⊥ (λ o. O.ended o ≡ false)) }
+        ensures held { held_of self.new ≡ record (held_of self.old) { out = None } }
+        ensures moves { MovesOn O.puts self.old self.new }
+        ensures same { (self.new.id ≡ self.old.id) × (self.new.view ≡ self.old.view) × (self.new.credit ≡ self.old.credit) }
+        ensures others { (self.new.current ≡ self.old.current) × (self.new.door ≡ self.old.door) × (self.new.old_ins ≡ self.old.old_ins) }
+        ensures room { vec_capacity self.old.old_outs ≤ vec_capacity self.new.old_outs }
+        ensures len { vec_len self.new.old_outs ≤ vec_len self.old.old_outs + 1 }
+        ensures kept { self.new.spare ≡ self.old.spare }
+    {
+        let Some(link) = self.out.take() else {
+            return;
+        };
+        let name = link.name(self.id);
+        let end = link.into_ended(EndReason::Moved);
+        push_old(&mut self.old_outs, name, end);
+    }
+
+    /// Whether the member sends to another already.
+    pub(crate) fn sends_to(&self, to: MemberId) -> bool
+        ensures { result ≡ sends_to_it (held_of self.now).out to.0 }
+    {
+        match &self.out {
+            None => false,
+            Some(link) => link.to.0 == to.0,
+        }
+    }
+
+    /// A link that is ready to open, with room for the end of the one that it replaces.
+    pub(crate) fn prepare(&mut self) -> Result<Spare<O, I>, OutOfMemory>
+        ensures held { held_of self.new ≡ held_of self.old }
+        ensures ends { (self.new.out ≡ self.old.out) × (self.new.current ≡ self.old.current) × (self.new.door ≡ self.old.door)
+            × (self.new.old_outs.items ≡ self.old.old_outs.items) × (self.new.old_ins ≡ self.old.old_ins) }
+        ensures same { (self.new.id ≡ self.old.id) × (self.new.credit ≡ self.old.credit) × (self.new.known ≡ self.old.known) }
+        ensures kept { self.new.spare ≡ self.old.spare }
+        ensures ready { IfOk result (λ spare. IsReadyToMove O.are_fresh O.free O.ended self.new spare) }
+    {
+        if self.old_outs.reserve(2).is_err() {
+            return Err(OutOfMemory);
+        }
+        let spare = Spare::make(self.alloc, self.credit, &self.known)?;
+        Ok(spare)
+    }
+
+    /// The member sends on a link that was ready, to another, and what it sent on before ends.
+    fn send_to(&mut self, spare: Spare<O, I>, to: MemberId) -> Vec<Request<I>>
+        requires ready { IsReadyToMove O.are_fresh O.free O.ended self.old spare }
+        requires out { MatchOption self.old.out ⊤ (λ l. MatchOption l.end ⊥ (λ o. O.ended o ≡ false)) }
+        ensures held { held_of self.new ≡ record (held_of self.old) { out = Some (first_out (held_of self.old) to.0) } }
+        ensures sends { SendsOn O.are_fresh O.free O.ended O.puts self.old.view.version to self.old self.new result.items }
+        ensures others { (self.new.current ≡ self.old.current) × (self.new.door ≡ self.old.door) × (self.new.old_ins ≡ self.old.old_ins) }
+        ensures kept { self.new.spare ≡ self.old.spare }
+    {
+        self.move_on();
+        let (link, requests) = spare.open(self.id, to, version(&self.view), self.credit);
+        self.out = Some(link);
+        requests
+    }
+
+    /// Why the member may not read a view of this version: `Stopped`, `Waiting`, `AwaitingAnswer`; `ViewOutOfRange`
+    /// where it is older than its own. The newest that the refusal names is the member's own.
+    pub fn refresh_refusal(&self, asked: u32) -> Option<Reason>
+        ensures { result ≡ refresh_refused (held_of self.now) asked }
+    {
+        if let Some(reason) = self.up_refusal() {
+            return Some(reason);
+        }
+        let held = version(&self.view);
+        if asked < held {
+            return Some(Reason::ViewOutOfRange {
+                asked,
+                held,
+                newest: held,
+            });
+        }
+        None
+    }
+
+    /// The member reads a view, and sends to its right neighbour in it on a link that was ready.
+    pub(crate) fn read(&mut self, view: View, to: MemberId, spare: Spare<O, I>) -> Vec<Request<I>>
+        requires stands { is_in self.old.id.0 (ids view) ≡ true }
+        requires ready { IsReadyToMove O.are_fresh O.free O.ended self.old spare }
+        requires out { MatchOption self.old.out ⊤ (λ l. MatchOption l.end ⊥ (λ o. O.ended o ≡ false)) }
+        ensures held { held_of self.new ≡ record (looked_held (held_of self.old) view) { out = Some (first_out (looked_held (held_of self.old) view) to.0) } }
+        ensures links { LooksBy view self.old self.new }
+        ensures sends { SendsOn O.are_fresh O.free O.ended O.puts view.version to self.old self.new result.items }
+        ensures kept { self.new.spare ≡ self.old.spare }
+    {
+        self.look(view);
+        self.send_to(spare, to)
+    }
+
+    /// The member reads a view of the ring in which it stands, as `gm:check_neighbours`: it goes on taking from its
+    /// left neighbour where that is the same, and sends to its right one, on a new link where that is another. Refused
+    /// as `refresh_refusal` says. The answer is what is to be asked of the registrar then: that it hands on the receiving
+    /// end of a link that has opened.
+    pub fn refresh(&mut self, view: View) -> Result<Vec<Request<I>>, (View, MemberFault)>
+        requires stands { is_in self.old.id.0 (ids view) ≡ true }
+        requires ready { OutIsReady O.ended self.old }
+        ensures enabled { OnOk result (refresh_refused (held_of self.old) view.version ≡ None) }
+        ensures ok { OnOk result (held_of self.new ≡ refreshed_held (held_of self.old) view) }
+        ensures links { OnOk result (LooksBy view self.old self.new) }
+        ensures moves { IfOk result (λ requests. MovesTo O.are_fresh O.free O.ended O.puts view self.old self.new requests.items) }
+        ensures refused { (r : Reason) → refresh_refused (held_of self.old) view.version ≡ Some r
+            → result ≡ Err (view, MemberFault.Refused r) }
+        ensures fault { IfErr result (λ e. (e.0 ≡ view) × (((e.1 ≡ MemberFault.OutOfMemory) × (refresh_refused (held_of self.old) view.version ≡ None))
+            ⊎ (r : Reason) × (e.1 ≡ MemberFault.Refused r) × (refresh_refused (held_of self.old) view.version ≡ Some r))) }
+        ensures err { OnErr result (held_of self.new ≡ held_of self.old) }
+        ensures err_ends { OnErr result (ends_of self.new ≡ ends_of self.old) }
+
+        // Wherever the member stands in a state of a run, and the view is one of the ring's, this is the ring's event. A
+        // member that is left alone stands there once the link that it opens to itself has come to its door.
+        ensures steps { OnOk result (WhereItStands (held_of self.old) (λ w x. view.version ≤ newest w
+            → view ≡ view_at w view.version
+            → StepsTo w x (Refresh (held_of self.old).name view.version) (with_own_link (held_of self.old) view (held_of self.new)))) }
+    {
+        match self.refresh_next(view) {
+            Ok(requests) => Ok(requests),
+            Err(fault) => Err(fault),
+        }
+    }
+
+    /// The member's own part of `refresh`.
+    fn refresh_next(&mut self, view: View) -> Result<Vec<Request<I>>, (View, MemberFault)>
+        requires stands { is_in self.old.id.0 (ids view) ≡ true }
+        requires ready { OutIsReady O.ended self.old }
+        ensures enabled { OnOk result (refresh_refused (held_of self.old) view.version ≡ None) }
+        ensures ok { OnOk result (held_of self.new ≡ refreshed_held (held_of self.old) view) }
+        ensures links { OnOk result (LooksBy view self.old self.new) }
+        ensures moves { IfOk result (λ requests. MovesTo O.are_fresh O.free O.ended O.puts view self.old self.new requests.items) }
+        ensures refused { (r : Reason) → refresh_refused (held_of self.old) view.version ≡ Some r
+            → result ≡ Err (view, MemberFault.Refused r) }
+        ensures fault { IfErr result (λ e. (e.0 ≡ view) × (((e.1 ≡ MemberFault.OutOfMemory) × (refresh_refused (held_of self.old) view.version ≡ None))
+            ⊎ (r : Reason) × (e.1 ≡ MemberFault.Refused r) × (refresh_refused (held_of self.old) view.version ≡ Some r))) }
+        ensures err { OnErr result (held_of self.new ≡ held_of self.old) }
+        ensures err_ends { OnErr result (ends_of self.new ≡ ends_of self.old) }
+    {
+        if let Some(reason) = self.refresh_refusal(version(&view)) {
+            return Err((view, MemberFault::Refused(reason)));
+        }
+        let to = right(&view, self.id);
+        if self.sends_to(to) {
+            self.look(view);
+            return Ok(Vec::new(self.alloc));
+        }
+        let Ok(spare) = self.prepare() else {
+            return Err((view, MemberFault::OutOfMemory));
+        };
+        let requests = self.read(view, to, spare);
+        Ok(requests)
+    }
+
+    /// The place of the first link at the door that comes from the left neighbour.
+    pub(crate) fn first_at_door(&self) -> Option<usize>
+        ensures place { result ≡ the_first_at_door (held_of self.now) }
+        ensures within { IfSome result (λ i. i < length self.now.door.items) }
+    {
+        first_for(&self.view, self.id, &self.door)
+    }
+
+    /// Why the member may pick no link: `Stopped`, `Waiting`, `AwaitingAnswer`; `HasCurrentLink` where it takes from a
+    /// link; `NoLinkAtDoor` where no link that has come to its door is from its left neighbour; `ViewTooOld` where the
+    /// first such link is newer than its view. It wants no memory.
+    pub fn pick_refusal(&self) -> Option<Reason>
+        ensures { result ≡ pick_refused (held_of self.now) }
+    {
+        if let Some(reason) = self.up_refusal() {
+            return Some(reason);
+        }
+        if self.current.is_some() {
+            return Some(Reason::HasCurrentLink);
+        }
+        match self.first_at_door() {
+            None => Some(Reason::NoLinkAtDoor),
+            Some(place) => {
+                let need = self.door[place].opened;
+                let have = version(&self.view);
+                if need > have {
+                    Some(Reason::ViewTooOld { need, have })
+                } else {
+                    None
+                }
+            }
+        }
+    }
+
+    /// The member takes from now on from the first link at its door that comes from its left neighbour. Refused as
+    /// `pick_refusal` says. It wants no memory. As `gm` that gets its first message, a `catchup`, from a new left neighbour.
+    pub fn pick(&mut self) -> Result<(), MemberFault>
+        ensures enabled { OnOk result (pick_refused (held_of self.old) ≡ None) }
+        ensures ok { OnOk result (held_of self.new ≡ picked_held (held_of self.old)) }
+        ensures picks { OnOk result ((i : ℕ) × (the_first_at_door (held_of self.old) ≡ Some i) × PicksOn i self.old self.new) }
+        ensures refused { (r : Reason) → pick_refused (held_of self.old) ≡ Some r
+            → result ≡ Err (MemberFault.Refused r) }
+        ensures fault { IfErr result (λ fault.
+            (r : Reason) × (fault ≡ MemberFault.Refused r) × (pick_refused (held_of self.old) ≡ Some r)) }
+        ensures err { OnErr result (self.new ≡ self.old) }
+
+        // Wherever the member stands in a state of a run, this is the ring's event.
+        ensures steps { OnOk result (WhereItStands (held_of self.old) (λ w x.
+            StepsTo w x (Pick (held_of self.old).name) (held_of self.new))) }
+        ensures not_enabled { WhereItStands (held_of self.old) (λ w x. (r : Reason)
+            → refusal w (Pick (held_of self.old).name) ≡ Some r → result ≡ Err (MemberFault.Refused r)) }
+    {
+        match self.pick_next() {
+            Ok(()) => Ok(()),
+            Err(fault) => Err(fault),
+        }
+    }
+
+    /// The member's own part of `pick`.
+    fn pick_next(&mut self) -> Result<(), MemberFault>
+        ensures enabled { OnOk result (pick_refused (held_of self.old) ≡ None) }
+        ensures ok { OnOk result (held_of self.new ≡ picked_held (held_of self.old)) }
+        ensures picks { OnOk result ((i : ℕ) × (the_first_at_door (held_of self.old) ≡ Some i) × PicksOn i self.old self.new) }
+        ensures refused { (r : Reason) → pick_refused (held_of self.old) ≡ Some r
+            → result ≡ Err (MemberFault.Refused r) }
+        ensures fault { IfErr result (λ fault.
+            (r : Reason) × (fault ≡ MemberFault.Refused r) × (pick_refused (held_of self.old) ≡ Some r)) }
+        ensures err { OnErr result (self.new ≡ self.old) }
+    {
+        if let Some(reason) = self.pick_refusal() {
+            return Err(MemberFault::Refused(reason));
+        }
+        match self.first_at_door() {
+            None => unreachable!(),
+            Some(place) => self.pick_at(place),
+        }
         Ok(())
+    }
+
+    /// It takes from the link at a place of its door.
+    fn pick_at(&mut self, place: usize)
+        requires within { place < length self.old.door.items }
+        requires none { self.old.current ≡ None }
+        ensures held { held_of self.new ≡ picked_at (held_of self.old) place }
+        ensures picks { PicksOn place self.old self.new }
+    {
+        self.current = Some(self.door.remove(place));
+    }
+}
+
+/// An end that was replaced joins those before it, for which there is room.
+fn push_old<A: Drop>(old: &mut Vec<(LinkName, A)>, name: LinkName, end: A)
+    requires { vec_len old.old < vec_capacity old.old }
+    ensures items { old.new.items ≡ old.old.items ++ (name, end) ∷ [] }
+    ensures len { vec_len old.new ≡ vec_len old.old + 1 }
+    ensures room { vec_capacity old.old ≤ vec_capacity old.new }
+{
+    match old.push((name, end)) {
+        Ok(()) => {}
+        Err(_full) => unreachable!(),
     }
 }

@@ -1,8 +1,8 @@
-//! What a packet brings, as copies.
+//! What a line of a packet brings, as copies.
 ghost use Rattle.std.specs.Prelude.{◌≡◌, ℕ, ◌+◌, ◌-◌, ◌^◌, ◌<◌, ◌≤◌, ◌++◌, ◌∷◌, [], OnOk, IfOk, length, map, max, nat_eq};
-ghost use Rattle.gm_member.specs.Held.{carried_at};
+ghost use Rattle.gm_member.specs.Parcels.{carried_at};
 ghost use Rattle.gm_member.specs.View.{row_of, known_at, carried_of};
-ghost use Rattle.gm_member.specs.News.{line_news as news_of_line, rows_news, taken_between, taken_at};
+ghost use Rattle.gm_member.specs.News.{line_news as news_of_line, taken_between, taken_at};
 
 use crate::known::Known;
 use crate::packet::Line;
@@ -62,22 +62,4 @@ pub(crate) fn push_line(
     let from = if line.lo < got { got } else { line.lo };
     push_between(out, p, &line.all, from as usize)?;
     Ok(())
-}
-
-/// The messages that the lines bring.
-pub(crate) fn all_news(
-    alloc: Global,
-    known: &[Known],
-    i: usize,
-    lines: &[Line],
-) -> Result<Vec<Taken>, OutOfMemory>
-    requires lines { length known.now ≡ length lines.now }
-    requires few { length known.now < 2 ^ 32 - 1 }
-    ensures { IfOk result (λ v. v.items ≡ rows_news (length known.now) i (map row_of known.now) (map carried_of lines.now)) }
-{
-    let mut out = Vec::new(alloc);
-    for p in 0..known.len() {
-        push_line(&mut out, p == i, p, &known[p], &lines[p])?;
-    }
-    Ok(out)
 }

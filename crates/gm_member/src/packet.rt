@@ -1,7 +1,6 @@
 //! What goes from a member to its right neighbour.
 use crate::known::Known;
-use crate::news::all_news;
-use crate::repair::rows;
+use crate::rows;
 use crate::taken::Taken;
 use group_view::View;
 use ring_names::{MemberId, Message, OutOfMemory, Reason};
@@ -29,8 +28,8 @@ pub struct Packet {
 
 impl Model for Packet {
     ghost use Rattle.std.specs.Prelude.{◌≡◌, map, length};
-    ghost use Rattle.ring_world.specs.World.{most_members};
-    ghost use Rattle.gm_member.specs.Held.{Parcel};
+    ghost use Rattle.ring_world.specs.Rows.{most_members};
+    ghost use Rattle.gm_member.specs.Parcels.{Parcel};
 
     ghost Value = { Parcel };
 
@@ -43,27 +42,11 @@ impl Model for Packet {
 
 impl Packet {
     ghost use Rattle.std.specs.Prelude.{◌≡◌, ◌+◌, IfOk, length, map};
-    ghost use Rattle.ring_world.specs.World.{most_members};
-    ghost use Rattle.ring_world.specs.Deaths.Step.{is_owned};
-    ghost use Rattle.ring_world.specs.Deaths.Event.{version_refusal};
-    ghost use Rattle.gm_member.specs.Deaths.News.{news_below};
-    ghost use Rattle.gm_member.specs.News.{rows_news};
+    ghost use Rattle.ring_world.specs.Rows.{most_members};
+    ghost use Rattle.ring_world.specs.Step.{is_owned};
+    ghost use Rattle.ring_world.specs.Event.{version_refusal};
+    ghost use Rattle.gm_member.specs.News.{news_below};
     ghost use Rattle.gm_member.specs.View.{row_of};
-
-    /// The messages that it brings to a member at this place, with copies of their own.
-    pub(crate) fn news(
-        &self,
-        alloc: Global,
-        known: &[Known],
-        place: usize,
-    ) -> Result<Vec<Taken>, OutOfMemory>
-        requires { length known.now ≡ most_members }
-        ensures { IfOk result (λ v. v.items
-            ≡ rows_news most_members place (map row_of known.now) (self.now).lines) }
-    {
-        let news = all_news(alloc, known, place, &self.lines)?;
-        Ok(news)
-    }
 
     /// The same of this version.
     pub(crate) fn with_view(self, version: u32) -> Packet
@@ -115,30 +98,13 @@ pub enum Load {
 
 impl Load {
     ghost use Rattle.std.specs.Prelude.{◌≡◌, ◌+◌, IfOk, length, map};
-    ghost use Rattle.ring_world.specs.World.{most_members};
-    ghost use Rattle.ring_world.specs.Deaths.Step.{is_owned};
-    ghost use Rattle.ring_world.specs.Deaths.Event.{version_refusal};
-    ghost use Rattle.gm_member.specs.Deaths.News.{news_below};
-    ghost use Rattle.gm_member.specs.News.{rows_news};
-    ghost use Rattle.gm_member.specs.Steps.{parcel_in};
+    ghost use Rattle.ring_world.specs.Rows.{most_members};
+    ghost use Rattle.ring_world.specs.Step.{is_owned};
+    ghost use Rattle.ring_world.specs.Event.{version_refusal};
+    ghost use Rattle.gm_member.specs.News.{news_below};
+    ghost use Rattle.gm_member.specs.Loads.{parcel_in};
     ghost use Rattle.gm_member.specs.View.{row_of};
     ghost use Rattle.gm_member.specs.declared.packet.Load.TheVariants as load;
-
-    /// The messages that it brings to a member at this place, with copies of their own.
-    pub(crate) fn news(
-        &self,
-        alloc: Global,
-        known: &[Known],
-        place: usize,
-    ) -> Result<Vec<Taken>, OutOfMemory>
-        requires { length known.now ≡ most_members }
-        ensures { IfOk result (λ v. v.items
-            ≡ rows_news most_members place (map row_of known.now) (parcel_in self.now).lines) }
-    {
-        match self {
-            Load::Packet(packet) => packet.news(alloc, known, place),
-        }
-    }
 
     /// Why a member whose view is of this version may not take it: it is of a newer one.
     pub(crate) fn view_refusal(&self, version: u32) -> Option<Reason>

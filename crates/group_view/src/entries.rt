@@ -1,10 +1,9 @@
 //! The entries of a view.
-ghost use Rattle.std.specs.Prelude.{◌≡◌, ◌<◌, ◌^◌, map, length, IfOk};
+ghost use Rattle.std.specs.Prelude.{◌≡◌, ◌<◌, ◌^◌, map, length, IfOk, true};
 ghost use Rattle.group_view.specs.declared.entry.Mark.TheVariants.{Dead};
 ghost use Rattle.group_view.specs.Change.{dated, with_mark};
 ghost use Rattle.group_view.specs.Ring.{AreDistinct};
 ghost use Rattle.group_view.specs.View.{ids};
-ghost use Rattle.std.specs.Prelude.{true};
 
 use crate::entry::Entry;
 use crate::ring;

@@ -2,19 +2,19 @@
 use Rattle.std.proofs.Common.{List, ◌≡◌, ◌≢◌, ℕ, ◌<◌, ◌≤◌, Bool, true, false, nat_eq, ◌++◌, ◌∷◌, [], length, Option, Some, None, refl, sym, ap, ◌∙◌, subst, cond, get_or, ⊎_elim}
 use Rattle.std.proofs.lemmas.Bool.{cases_lt}
 use Rattle.std.proofs.lemmas.List.{length-set}
-use Rattle.ring_world.specs.Deaths.View.{right_of}
+use Rattle.ring_world.specs.View.{right_of}
 use Rattle.ring_world.specs.declared.phase.Phase.{Phase}
 use Rattle.ring_world.specs.declared.phase.Phase.TheVariants.{Waiting, Up, Stopped}
 use Rattle.ring_world.specs.declared.phase.Ending.TheVariants.{Moved, Halted}
 use Rattle.ring_names.specs.declared.message.Message.TheVariants as message
 use Rattle.ring_world.specs.declared.event.Event.{Event}
 use Rattle.ring_world.specs.declared.event.Event.TheVariants.{Cast, Put, Take, TakeEnd, Gain, Stop, Mark, Refresh, Pick}
-use Rattle.ring_world.specs.Deaths.Walk.{oldest}
+use Rattle.ring_world.specs.Walk.{oldest}
 use Rattle.registrar.specs.Stands.{IsOwn}
-use Rattle.ring_world.specs.Deaths.Machine.{Link, Member, World, no_member, member_at, link_at, view_at}
-use Rattle.ring_world.specs.Deaths.Step.{size, with_member, with_link, look_at, moved_to, open_to, opened_link, ended, stop_at, stopped, end_out, begun, taker, published, current_is, with_current}
-use Rattle.ring_world.specs.Deaths.Event.{is_stopped, send_to, refreshed, at_found, taken_by, effect, at_door, id_of}
-use Rattle.ring_world.proofs.Deaths.Lists.{at_set, set_nothing}
+use Rattle.ring_world.specs.Machine.{Link, Member, World, no_member, member_at, link_at, view_at}
+use Rattle.ring_world.specs.Step.{size, with_member, with_link, look_at, moved_to, open_to, opened_link, ended, stop_at, stopped, end_out, begun, taker, published, current_is, with_current}
+use Rattle.ring_world.specs.Event.{is_stopped, send_to, refreshed, at_found, taken_by, effect, at_door, id_of}
+use Rattle.ring_world.proofs.Lists.{at_set, set_nothing}
 
 -- the views are as before, and just those have stopped that had
 pub record IsSame (w w' : World) : Type 0 where

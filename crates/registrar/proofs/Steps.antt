@@ -5,16 +5,16 @@ use Rattle.group_view.specs.View.{Group}
 use Rattle.group_view.specs.Change.{marked}
 use Rattle.group_view.specs.Since.{no_group}
 use Rattle.group_view.proofs.Rings.{is_in-append, nat_eq-same, nat_eq-not}
-use Rattle.ring_world.specs.Deaths.Machine as machine
+use Rattle.ring_world.specs.Machine as machine
 use Rattle.ring_world.specs.declared.phase.Ending.TheVariants.{Halted}
 use Rattle.ring_world.specs.declared.event.Event.{Event}
 use Rattle.ring_world.specs.declared.event.Event.TheVariants.{Mark, Stop, Refresh}
-use Rattle.ring_world.specs.Deaths.Machine.{Member, World, member_at, newest}
-use Rattle.ring_world.specs.Deaths.Step.{size, opening, with_view, stop_at, end_out}
-use Rattle.ring_world.specs.Deaths.Event.{id_of, is_stopped, at_found, refreshed, effect}
-use Rattle.ring_world.proofs.Deaths.Refusals.{id_within}
+use Rattle.ring_world.specs.Machine.{Member, World, member_at, newest}
+use Rattle.ring_world.specs.Step.{size, opening, with_view, stop_at, end_out}
+use Rattle.ring_world.specs.Event.{id_of, is_stopped, at_found, refreshed, effect}
+use Rattle.ring_world.proofs.Refusals.{id_within}
 use Rattle.ring_names.specs.declared.numbers.CreditSpec.{CreditSpec}
-use Rattle.ring_world.proofs.Deaths.First.{first_at, first_size}
+use Rattle.ring_world.proofs.First.{first_at, first_size}
 use Rattle.registrar.specs.Registry.{Registry}
 use Rattle.registrar.specs.Registry as registry
 use Rattle.registrar.specs.Handled.{with_stopped}

@@ -1,4 +1,4 @@
--- When a registrar stands in a state of the ring whose members may stop, and what its requests are there.
+-- When a registrar stands in a state of the ring, and what its requests are there.
 use Rattle.std.specs.Prelude.{◌≡◌, ℕ, ◌<◌, ◌≤◌, Bool, true, ◌||◌, is_some, List, ◌∷◌, Some}
 use Rattle.ring_names.specs.declared.numbers.CreditSpec.{CreditSpec}
 use Rattle.group_view.specs.declared.request.Request.{Request}
@@ -9,9 +9,9 @@ use Rattle.group_view.specs.Since.{no_group, view_at}
 use Rattle.ring_world.specs.declared.phase.Phase.TheVariants.{Up}
 use Rattle.ring_world.specs.declared.event.Event.{Event}
 use Rattle.ring_world.specs.declared.event.Event.TheVariants.{Cast, Put, Take, TakeEnd, Gain, Stop, Mark, Refresh, Pick}
-use Rattle.ring_world.specs.Deaths.Machine.{World, member_at, newest}
-use Rattle.ring_world.specs.Deaths.Step.{size, opening}
-use Rattle.ring_world.specs.Deaths.Event.{IsRun, last, id_of, is_stopped, at_door}
+use Rattle.ring_world.specs.Machine.{World, member_at, newest}
+use Rattle.ring_world.specs.Step.{size, opening}
+use Rattle.ring_world.specs.Event.{IsRun, last, id_of, is_stopped, at_door}
 use Rattle.registrar.specs.Registry.{Registry}
 use Rattle.registrar.specs.Asked.{is_left, since_in, waits_from}
 

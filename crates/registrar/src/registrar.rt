@@ -10,8 +10,8 @@ ghost use Rattle.registrar.specs.Asked.{mark_refusal as the_mark_refusal, unknow
 ghost use Rattle.registrar.specs.Handled.{with_view, with_stopped, with_link, without_links, links_for, handled, answered};
 ghost use Rattle.registrar.specs.Stands.{StandsIn, WhereAsked};
 ghost use Rattle.ring_names.specs.declared.numbers.CreditSpec.{CreditSpec};
-ghost use Rattle.ring_world.specs.Deaths.Event.{refusal, effect};
-ghost use Rattle.ring_world.specs.Deaths.Step.{opening};
+ghost use Rattle.ring_world.specs.Event.{refusal, effect};
+ghost use Rattle.ring_world.specs.Step.{opening};
 
 use crate::giving::{count_for, count_named, give_all};
 use crate::judging::{has_entry, has_more, is_among, is_beside, is_live, newest, view_of};
@@ -162,7 +162,7 @@ impl<I: Drop> Registrar<I> {
     /// notice, and `LinkNotEnded` where it is the left neighbour and the asker has more to take from it: by
     /// its own word, or since such a link waits here for it. `Stopped` is refused where the notice was given
     /// before. Only a request that nothing refuses wants memory, and without it everything stands as it
-    /// stood, and the request comes back.
+    /// stood, and the request comes back. As `gm:record_dead_member_in_group` and `gm:read_group`.
     pub fn handle(&mut self, request: Request<I>) -> Result<Answer<I>, (Request<I>, OutOfMemory)>
         requires { AreHere self.old.links }
         ensures refused { (r : Reason) → request_refusal self.old request ≡ Some r

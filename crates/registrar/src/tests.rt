@@ -1,10 +1,10 @@
-//! Small groups, with values from the rules of the ring, and each public call once with ample memory.
+//! Small groups, with values from the rules of the ring. A request is asked again where an allocation failed.
 ghost use Rattle.std.specs.Prelude.{IfOk};
 ghost use Rattle.registrar.specs.Registry.{AreHere};
 
 use crate::*;
 use group_view::{Answer, LinkKind, LinkName, Mark, Request, are_opening_names};
-use ring_names::{MemberId, Name};
+use ring_names::{MemberId, Name, OutOfMemory};
 use std::alloc::Global;
 use std::process::Abort;
 use std::test::Fail;
@@ -50,12 +50,26 @@ fn deposit(from: MemberId, to: MemberId, view: u32, kind: LinkKind, link: u32) -
     }
 }
 
+/// The answer to a request, which is asked again where an allocation failed.
+fn asked(
+    registrar: &mut Registrar<u32>,
+    request: Request<u32>,
+) -> Result<Answer<u32>, (Request<u32>, OutOfMemory)>
+    requires { AreHere registrar.old.links }
+    ensures { AreHere registrar.new.links }
+{
+    match registrar.handle(request) {
+        Ok(answer) => Ok(answer),
+        Err((request, _)) => registrar.handle(request),
+    }
+}
+
 fn expect_refused(rt: &impl Abort, registrar: &mut Registrar<u32>, request: Request<u32>, code: u32)
     requires { AreHere registrar.old.links }
     ensures { AreHere registrar.new.links }
 {
     let version = registrar.view().version;
-    match registrar.handle(request) {
+    match asked(registrar, request) {
         Ok(Answer::No(reason)) => assert_eq!(rt; reason.code(), code),
         _ => assert!(rt; false, "not refused, for {code}"),
     }
@@ -66,7 +80,7 @@ fn expect_noted(rt: &impl Abort, registrar: &mut Registrar<u32>, request: Reques
     requires { AreHere registrar.old.links }
     ensures { AreHere registrar.new.links }
 {
-    match registrar.handle(request) {
+    match asked(registrar, request) {
         Ok(Answer::Noted) => {}
         _ => assert!(rt; false, "not noted"),
     }
@@ -82,7 +96,7 @@ fn expect_viewed(
     requires { AreHere registrar.old.links }
     ensures { AreHere registrar.new.links }
 {
-    match registrar.handle(request) {
+    match asked(registrar, request) {
         Ok(Answer::Viewed(view)) => assert_eq!(rt; view.version, version),
         _other => assert!(rt; false, "no view, for {version}"),
     }
@@ -94,7 +108,7 @@ fn expect_links(rt: &impl Abort, registrar: &mut Registrar<u32>, by: MemberId, w
     requires { AreHere registrar.old.links }
     ensures { AreHere registrar.new.links }
 {
-    match registrar.handle(Request::Collect { by }) {
+    match asked(registrar, Request::Collect { by }) {
         Ok(Answer::Links(links)) => {
             let links = links.as_slice();
             assert_eq!(rt; links.len(), want.len());

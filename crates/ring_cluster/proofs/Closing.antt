@@ -1,198 +1,421 @@
--- A cluster before and after an event.
-use Rattle.std.proofs.Common.{◌≡◌, ℕ, ◌<◌, ◌^◌, true, Some, None, List, [], ◌∷◌, ◌++◌, map, length, set, refl, sym, ap, subst, ◌∙◌, arith, bytes_eq, lit<}
-use Rattle.std.specs.Prelude.{slice_index_or}
-use Rattle.std.specs.List.{range_with_len, position}
-use Rattle.std.proofs.lemmas.List.{length-map, get_or-map}
-use Rattle.std.proofs.lemmas.List.FromFn.{fill_by_all, length-map-range_with_len}
+-- One event of a cluster, from the parties that stand before it to those that stand after it.
+use Rattle.std.proofs.Common.{◌≡◌, ℕ, zero, suc, ◌+◌, ◌-◌, ◌<◌, ◌≤◌, ◌^◌, true, false, not, nat_lt, cond, List, [], ◌∷◌, ◌++◌, map, length, get_or, Option, Some, None, is_some, refl, sym, ap, subst, ◌∙◌, arith}
+use Rattle.std.specs.Prelude.{◌||◌}
+use Rattle.std.proofs.lemmas.List.{length_push, length-set, length-map}
+use Rattle.std.proofs.lemmas.Bool.{false≢true}
+use Rattle.std.proofs.lemmas.Bool.Decides.{nat_tests}
 use Rattle.ring_names.specs.declared.numbers.CreditSpec.{CreditSpec}
-use Rattle.ring_names.specs.declared.reason.Reason.TheVariants.{UnknownMember}
-use Rattle.credit_flow.specs.Credit.{full_credit, none_taken}
-use Rattle.ring_world.specs.declared.fixed.Event.{Event}
-use Rattle.ring_world.specs.World.{World, AreOpeningNames, no_row, no_numbers, no_packet, no_member, no_sending, row_at, numbers_at, member_at, link_at, size, left_of, place_of}
-use Rattle.ring_world.specs.Refusal.{refusal}
-use Rattle.ring_world.specs.Run.{IsRun, opening, opening_member, opening_link}
-use Rattle.ring_world.proofs.Maps.{position_map}
-use Rattle.ring_world.proofs.Round.{left_of-lt}
-use Rattle.ring_world.proofs.Run.{place-lt, opening_size, opening_at, opening_link_at, opening_links, get_or-no_rows, IsRun-push, last-push}
-use Rattle.ring_world.proofs.Names.{run_size}
-use Rattle.gm_member.specs.Held.{Held, places}
-use Rattle.gm_member.specs.Stands.{held_in}
-use Rattle.gm_member.proofs.Parts.{held_from, held_same}
-use Rattle.gm_member.proofs.Places.{map-range_same, tabled_at}
+use Rattle.ring_names.specs.declared.reason.Reason.{Reason}
+use Rattle.ring_names.specs.declared.reason.Reason.TheVariants as reason
+use Rattle.ordered_link.specs.declared.plain.PlainIn.{PlainIn}
+use Rattle.group_view.specs.declared.link.LinkName.{LinkName}
+use Rattle.group_view.specs.View.{Group}
+use Rattle.group_view.specs.Ring.{is_in}
+use Rattle.group_view.specs.Change.{marked}
+use Rattle.group_view.specs.Since.{no_group, view_at}
+use Rattle.ring_world.specs.Refusal.{refuse_if, or_else}
+use Rattle.ring_world.specs.declared.event.Event.{Event}
+use Rattle.ring_world.specs.declared.event.Event.TheVariants.{Cast, Put, Take, TakeEnd, Gain, Stop, Mark, Refresh, Pick}
+use Rattle.ring_world.specs.declared.phase.Phase.{Phase}
+use Rattle.ring_world.specs.declared.phase.Phase.TheVariants.{Waiting, Up, Stopped}
+use Rattle.ring_world.specs.View.{ids}
+use Rattle.ring_world.specs.Machine.{World, member_at, is_waiting, runs_phase}
+use Rattle.ring_world.specs.Machine as machine
+use Rattle.ring_world.specs.Step.{size, opening}
+use Rattle.ring_world.specs.Event.{id_of, of_member, is_stopped, up_refusal, refresh_refusal, pick_refusal, refusal, effect}
+use Rattle.ring_world.specs.Event as event
+use Rattle.ring_world.proofs.InOrder.{last_append, run_append}
+use Rattle.ring_world.proofs.WhatRefuses.{MayLook}
+use Rattle.ring_world.proofs.Refusals.{none_of}
+use Rattle.registrar.specs.Registry.{Registry, AreHere, is_known, newest}
+use Rattle.registrar.specs.Asked.{mark_refusal, stop_refusal}
+use Rattle.registrar.specs.Stands.{StandsIn}
+use Rattle.registrar.proofs.Judged.{view_same, many_views, knows}
+use Rattle.gm_member.specs.declared.packet.Load.{Load}
+use Rattle.gm_member.specs.Held.{Held, at_some, up_refused, pick_refused, refresh_refused, first_at_door}
+use Rattle.gm_member.proofs.Doors.{view_version}
+use Rattle.ring_cluster.specs.Ends.{OutSeen}
+use Rattle.ring_cluster.specs.Parties.{ANode, Shown, Posted, Parties, parties, posted, node_at, with_node, shown_of}
 use Rattle.ring_cluster.specs.Seen.{state}
-use Rattle.ring_cluster.specs.Ends.{OutSeen, InSeen, no_held, no_out, no_in, out_at, in_at, held_at, item_in, Carries, HasMet, AllStand, AllCarry, AllMet, AllFit, AllMeet}
-use Rattle.ring_cluster.specs.Acting.{by_of, refused_at, IsReady, Acts}
-use Rattle.ring_cluster.specs.Standing.{Standing, IsStandingIn, place_in, fresh_out, fresh_in, founded_at}
-use Rattle.ring_cluster.proofs.Grants.{IsLawfulAt, run_lawful}
-use Rattle.ring_cluster.proofs.Carrying.{all_fit, all_meet_carry, all_meet_met}
-use Rattle.ring_cluster.proofs.Moving.{right_of, left_right, effect_at, refusal_placed, refusal_unknown, effect_placed, refused_is, is_ready, moved}
+use Rattle.ring_cluster.specs.Standing.{MemberStands, StandAfter, IsJournal}
+use Rattle.ring_cluster.specs.Loose.{StandBetween, BetweenAfter}
+use Rattle.ring_cluster.specs.Meeting.{LooseAfter, MayMeet, MeetsIn}
+use Rattle.ring_cluster.specs.Acting.{by_of, IsReady, stop_refused, look_refused, posting, newest_of, viewing, LooksAt, Acts}
+use Rattle.ring_cluster.specs.Refused.{id_named, NothingWaits, mark_refused, act_refused, marked_in}
+use Rattle.ring_cluster.specs.Looking.{CanLook, IsPublished}
+use Rattle.ring_cluster.proofs.Lawful.{IsLawfulAt, lawful_at}
+use Rattle.ring_cluster.proofs.Named.{run_many}
+use Rattle.ring_cluster.proofs.Found.{named_alike, found_within}
+use Rattle.ring_cluster.proofs.Fresh.{reached_go}
+use Rattle.ring_cluster.proofs.Ready.{ready}
+use Rattle.ring_cluster.proofs.Refusals.{unknown}
+use Rattle.ring_cluster.proofs.AloneRefusals.{alone_refused, alone_refusal_is}
+use Rattle.ring_cluster.proofs.AloneGoes.{IsAlone}
+use Rattle.ring_cluster.proofs.Refusing.{look_refuses, mark_asked_refuses, mark_unknown}
+use Rattle.ring_cluster.proofs.EachGoes.{MayGo, each_goes}
+use Rattle.ring_cluster.proofs.Marking.{up_none, refresh_may}
+use Rattle.ring_cluster.proofs.Receivers.{GoesIn, loose_goes_in}
+use Rattle.ring_cluster.proofs.MeetsLoose.{loose_may, loose_meets}
+use Rattle.ring_cluster.proofs.Handing.{none_lent, registrar_stands, knows_posted}
 
--- ---- names
+not_lt : (a b : ℕ) → b ≤ a → nat_lt a b ≡ false
+not_lt a b l = grind (arith, nat_tests)
 
-pub names_same : (w : World) (hs : List Held) → AllStand w hs → map (λ h. h.member.name) hs ≡ map (λ m. m.name) w.members
-names_same w hs st =
-    fill_by_all (λ k. (member_at w k).name) (map (λ h. h.member.name) hs) (size w) [] (length-map hs (λ h. h.member.name) ∙ st.count)
-    (λ k kl. get_or-map (λ h. h.member.name) hs k no_held [] (omega (arith, st.count)) ∙ ap (λ h. h.member.name) (st.each k kl))
-    ∙ sym (fill_by_all (λ k. (member_at w k).name) (map (λ m. m.name) w.members) (size w) [] (length-map w.members (λ m. m.name)) (λ k kl. get_or-map (λ m. m.name) w.members k no_member [] kl))
+module _ (credit : CreditSpec) (names : List (List ℕ)) (events : List Event) where
+  pub lawful : (q : Parties) → StandAfter credit names events q → IsLawfulAt credit (state credit names events)
+  lawful q s = lawful_at credit names events s.journal.are s.journal.run
 
-pub place_same : (w : World) (hs : List Held) (name : List ℕ) → AllStand w hs → place_in hs name ≡ place_of w.members name
-place_same w hs name st =
-    sym (position_map (λ n. bytes_eq n name) (λ h. h.member.name) hs) ∙ ap (position (λ n. bytes_eq n name)) (names_same w hs st) ∙ position_map (λ n. bytes_eq n name) (λ m. m.name) w.members
+  -- the id that a name has among the parties is the ring's
+  pub found : (q : Parties) (name : List ℕ) → StandAfter credit names events q → id_named q name ≡ id_of (state credit names events) name
+  found q name s = named_alike credit.initial (state credit names events) q s.stand.places name s.stand.stand
 
--- ---- before an event
+  pub within : (q : Parties) (i : ℕ) → StandAfter credit names events q → i < length q.nodes → i + 1 < size (state credit names events)
+  within q i s l = omega (arith, l, s.stand.stand.count)
 
-pub found : (credit : CreditSpec) (names : List (List ℕ)) (events : List Event) (hs : List Held) (os : List OutSeen) (ns : List InSeen) (name : List ℕ) (i : ℕ) → IsStandingIn credit names events hs os ns → place_in hs name ≡ Some i → place_of (state credit names events).members name ≡ Some i
-found credit names events hs os ns name i s p = sym (place_same (state credit names events) hs name s.standing.stand) ∙ p
+  pub ready_after : (q : Parties) (i : ℕ) → StandAfter credit names events q → i < length q.nodes → IsReady (node_at q i)
+  ready_after q i s l =
+      let place : i + 1 - 1 ≡ i = omega arith in
+      subst (λ k. IsReady (node_at q k)) place (ready credit (state credit names events) q (i + 1) (lawful q s) s.stand (omega arith) (within q i s l))
 
-pub unknown : (credit : CreditSpec) (names : List (List ℕ)) (events : List Event) (hs : List Held) (os : List OutSeen) (ns : List InSeen) (e : Event) → IsStandingIn credit names events hs os ns → place_in hs (by_of e) ≡ None → refusal (state credit names events) e ≡ Some UnknownMember
-unknown credit names events hs os ns e s p = refusal_unknown (state credit names events) e (sym (place_same (state credit names events) hs (by_of e) s.standing.stand) ∙ p)
+  -- no question is open
+  pub free_after : (q : Parties) (i : ℕ) → StandAfter credit names events q → i < length q.nodes → (node_at q i).held.asks ≡ false
+  free_after q i s l =
+      let place : i + 1 - 1 ≡ i = omega arith in
+      subst (λ k. (node_at q k).held.asks ≡ false) place (ap (λ (h : Held). h.asks) (s.stand.stand.each (i + 1) (omega arith) (within q i s l)).held)
 
-pub laws_of : (credit : CreditSpec) (names : List (List ℕ)) (events : List Event) (hs : List Held) (os : List OutSeen) (ns : List InSeen) → IsStandingIn credit names events hs os ns → IsLawfulAt credit (state credit names events)
-laws_of credit names events hs os ns s = run_lawful credit names events s.are s.run
+  pub here_after : (nodes : List ANode) (r : Registry (PlainIn Load)) (behind : List Posted) → StandAfter credit names events (parties nodes r behind) → AreHere r.links
+  here_after nodes r behind s = none_lent credit.initial (state credit names events) nodes r behind s.stand.places s.stand.stand
 
-pub within : (credit : CreditSpec) (names : List (List ℕ)) (events : List Event) (hs : List Held) (os : List OutSeen) (ns : List InSeen) (name : List ℕ) (i : ℕ) → IsStandingIn credit names events hs os ns → place_in hs name ≡ Some i → i < size (state credit names events)
-within credit names events hs os ns name i s p = place-lt (state credit names events) name i (found credit names events hs os ns name i s p)
+  -- ---- refusals
 
--- what refuses an event is what refuses it in the ring
-pub refused_as : (credit : CreditSpec) (names : List (List ℕ)) (events : List Event) (hs : List Held) (os : List OutSeen) (ns : List InSeen) (e : Event) (i : ℕ) → IsStandingIn credit names events hs os ns → place_in hs (by_of e) ≡ Some i → refused_at e (held_at hs i) (out_at os i) (in_at ns i) ≡ refusal (state credit names events) e
-refused_as credit names events hs os ns e i s p =
-    let w : World = state credit names events in
-    let il : i < size w = within credit names events hs os ns (by_of e) i s p in
-    let r : (right_of (size w) i < size w) × (i ≡ left_of (size w) (right_of (size w) i)) = left_right (size w) i il in
-    refused_is credit.initial w e i (held_at hs i) (out_at os i) (in_at ns i) (in_at ns (right_of (size w) i)) (out_at os (left_of (size w) i)) il (laws_of credit names events hs os ns s).fit (s.standing.stand.each i il)
-    (s.standing.carry (right_of (size w) i) i r.0 r.1) (s.met (right_of (size w) i) i r.0 r.1) (s.standing.carry i (left_of (size w) i) il refl) (s.met i (left_of (size w) i) il refl)
-    ∙ sym (refusal_placed w e i (found credit names events hs os ns (by_of e) i s p))
+  pub refused_unknown : (q : Parties) (e : Event) → StandAfter credit names events q → id_named q (by_of e) ≡ None → refusal (state credit names events) e ≡ Some reason.UnknownMember
+  refused_unknown q e s none = unknown (state credit names events) e (sym (found q (by_of e) s) ∙ none)
 
--- the ends of the member at a place are as it needs them
-pub ready_at : (credit : CreditSpec) (names : List (List ℕ)) (events : List Event) (hs : List Held) (os : List OutSeen) (ns : List InSeen) (i : ℕ) → IsStandingIn credit names events hs os ns → i < size (state credit names events) → IsReady (held_at hs i) (out_at os i) (in_at ns i)
-ready_at credit names events hs os ns i s il =
-    let w : World = state credit names events in
-    let r : (right_of (size w) i < size w) × (i ≡ left_of (size w) (right_of (size w) i)) = left_right (size w) i il in
-    is_ready credit w i (held_at hs i) (out_at os i) (in_at ns i) (in_at ns (right_of (size w) i)) (out_at os (left_of (size w) i)) il (laws_of credit names events hs os ns s) (s.standing.stand.each i il)
-    (s.standing.carry (right_of (size w) i) i r.0 r.1) (s.met (right_of (size w) i) i r.0 r.1) (s.standing.carry i (left_of (size w) i) il refl) (s.met i (left_of (size w) i) il refl)
+  -- what is refused of who isn't up, whatever comes later
+  idle : (h : Held) (w : World) (x : ℕ) (f : Phase) → h.phase ≡ f → (member_at w x).phase ≡ f → (f ≡ Up → ⊥) → (a b : Option Reason) → up_refused h a ≡ up_refusal w x b
+  idle h w x f e k ne a b =
+      ap (λ p. or_else (refuse_if (is_stopped p) reason.Stopped) (or_else (refuse_if (is_waiting p) reason.Waiting) (or_else (refuse_if h.asks reason.AwaitingAnswer) a))) e
+      ∙ by_phase f ne
+      ∙ sym (ap (λ p. or_else (refuse_if (is_stopped p) reason.Stopped) (or_else (refuse_if (is_waiting p) reason.Waiting) b)) k)
+    where
+      by_phase : (p : Phase) → (p ≡ Up → ⊥) → or_else (refuse_if (is_stopped p) reason.Stopped) (or_else (refuse_if (is_waiting p) reason.Waiting) (or_else (refuse_if h.asks reason.AwaitingAnswer) a)) ≡ or_else (refuse_if (is_stopped p) reason.Stopped) (or_else (refuse_if (is_waiting p) reason.Waiting) b)
+      by_phase Waiting n = refl
+      by_phase Up n = absurd (n refl)
+      by_phase Stopped n = refl
 
-pub ready_as : (credit : CreditSpec) (names : List (List ℕ)) (events : List Event) (hs : List Held) (os : List OutSeen) (ns : List InSeen) (name : List ℕ) (i : ℕ) → IsStandingIn credit names events hs os ns → place_in hs name ≡ Some i → IsReady (held_at hs i) (out_at os i) (in_at ns i)
-ready_as credit names events hs os ns name i s p = ready_at credit names events hs os ns i s (within credit names events hs os ns name i s p)
+  -- which member an event finds, among those that are shown
+  place : (i : ℕ) → i + 1 - 1 ≡ i
+  place i = omega arith
 
--- the member at a place stands there, and there is one at each place
-pub stands_at : (credit : CreditSpec) (names : List (List ℕ)) (events : List Event) (hs : List Held) (os : List OutSeen) (ns : List InSeen) (i : ℕ) → IsStandingIn credit names events hs os ns → i < size (state credit names events) → held_at hs i ≡ held_in (state credit names events) i
-stands_at credit names events hs os ns i s il = s.standing.stand.each i il
+  member_stands : (q : Parties) (i : ℕ) (s : StandAfter credit names events q) → i < length q.nodes → MemberStands (state credit names events) s.stand.places (i + 1) (node_at q i)
+  member_stands q i s l = subst (λ j. MemberStands (state credit names events) s.stand.places (i + 1) (node_at q j)) (place i) (s.stand.stand.each (i + 1) (omega arith) (within q i s l))
 
-pub state_size : (credit : CreditSpec) (names : List (List ℕ)) (events : List Event) (hs : List Held) (os : List OutSeen) (ns : List InSeen) → IsStandingIn credit names events hs os ns → size (state credit names events) ≡ length names
-state_size credit names events hs os ns s = run_size credit names events s.run
+  phase_is : (q : Parties) (i : ℕ) → StandAfter credit names events q → i < length q.nodes → (node_at q i).held.phase ≡ (member_at (state credit names events) (i + 1)).phase
+  phase_is q i s l = ap (λ (h : Held). h.phase) (member_stands q i s l).held
 
-pub standing_size : (credit : CreditSpec) (names : List (List ℕ)) (events : List Event) (hs : List Held) (os : List OutSeen) (ns : List InSeen) → IsStandingIn credit names events hs os ns → length hs ≡ length names
-standing_size credit names events hs os ns s = s.standing.stand.count ∙ state_size credit names events hs os ns s
+  found_place : (q : Parties) (name : List ℕ) (i : ℕ) → id_named q name ≡ Some (i + 1) → i < length q.nodes
+  found_place q name i e = omega (arith, (found_within q name (i + 1) e).1)
 
--- ---- after it
+  -- a member refuses an event just where the ring does, for the same reason
+  pub refused_is : (nodes : List ANode) (r : Registry (PlainIn Load)) (e : Event) (i : ℕ) → StandAfter credit names events (parties nodes r []) → id_named (parties nodes r []) (by_of e) ≡ Some (i + 1)
+      → ((node_at (parties nodes r []) i).held.phase ≡ Up → NothingWaits (i + 1) (parties nodes r []))
+      → act_refused e i r (parties nodes r []) ≡ refusal (state credit names events) e
+  refused_is nodes r e i s named waits = by_event e (sym (found q (by_of e) s) ∙ named) (found_place q (by_of e) i named)
+    where
+      q : Parties
+      q = parties nodes r []
 
--- the members stand in the last state of a run, and the ends of their links need not have met since
-pub record Moved (credit : CreditSpec) (names : List (List ℕ)) (events : List Event) (hs : List Held) (os : List OutSeen) (ns : List InSeen) : Type 0 where
-  pub run : IsRun (opening credit names) events
-  pub standing : Standing credit.initial (state credit names events) hs os ns
-  pub are : AreOpeningNames names
+      w : World
+      w = state credit names events
 
-pub moved_on : (credit : CreditSpec) (names : List (List ℕ)) (events : List Event) (hs : List Held) (os : List OutSeen) (ns : List InSeen) (e : Event) (i : ℕ) (hs1 : List Held) (os1 : List OutSeen) (ns1 : List InSeen) → IsStandingIn credit names events hs os ns → place_in hs (by_of e) ≡ Some i → refused_at e (held_at hs i) (out_at os i) (in_at ns i) ≡ None → Acts e (held_at hs i) (out_at os i) (in_at ns i) (held_at hs1 i) (out_at os1 i) (in_at ns1 i) → hs1 ≡ set hs i (held_at hs1 i) → os1 ≡ set os i (out_at os1 i) → ns1 ≡ set ns i (in_at ns1 i) → Moved credit names (events ++ e ∷ []) hs1 os1 ns1
-moved_on credit names events hs os ns e i hs1 os1 ns1 s p enabled acts eh eo en =
-    let w : World = state credit names events in
-    let il : i < size w = within credit names events hs os ns (by_of e) i s p in
-    let some : refusal w e ≡ None = sym (refused_as credit names events hs os ns e i s p) ∙ enabled in
-    let is : effect_at w e i ≡ state credit names (events ++ e ∷ []) = sym (last-push (opening credit names) events e ∙ effect_placed w e i (found credit names events hs os ns (by_of e) i s p)) in
-    let st : Standing credit.initial (effect_at w e i) (set hs i (held_at hs1 i)) (set os i (out_at os1 i)) (set ns i (in_at ns1 i)) = moved credit.initial w e i hs os ns (held_at hs1 i) (out_at os1 i) (in_at ns1 i) il (laws_of credit names events hs os ns s).fit s.standing acts in
-    record {
-      run = IsRun-push (opening credit names) events e s.run some;
-      standing = subst (λ v. Standing credit.initial v hs1 os1 ns1) is (subst (λ xs. Standing credit.initial (effect_at w e i) xs os1 ns1) (sym eh) (subst (λ xs. Standing credit.initial (effect_at w e i) (set hs i (held_at hs1 i)) xs ns1) (sym eo) (subst (λ xs. Standing credit.initial (effect_at w e i) (set hs i (held_at hs1 i)) (set os i (out_at os1 i)) xs) (sym en) st)));
-      are = s.are;
-    }
+      alone : (f : Event) → id_of w (by_of f) ≡ Some (i + 1) → IsAlone f (i + 1) q → alone_refused f (node_at q i) ≡ refusal w f
+      alone f k a = subst (λ j. alone_refused f (node_at q j) ≡ refusal w f) (place i) (alone_refusal_is credit w q f (i + 1) (lawful q s) s.stand k a)
 
-pub moved_fit : (credit : CreditSpec) (names : List (List ℕ)) (events : List Event) (hs : List Held) (os : List OutSeen) (ns : List InSeen) (n : ℕ) → Moved credit names events hs os ns → n ≡ length os → AllFit n os ns
-moved_fit credit names events hs os ns n m e = subst (λ k. AllFit k os ns) (sym (e ∙ m.standing.outs)) (all_fit credit.initial (state credit names events) os ns m.standing.carry)
+      -- of one that isn't up
+      not_up : (f : Phase) → (f ≡ Up → ⊥) → (node_at q i).held.phase ≡ f → i < length q.nodes → (a b : Option Reason) → up_refused (node_at q i).held a ≡ up_refusal w (i + 1) b
+      not_up f ne k l a b = idle (node_at q i).held w (i + 1) f k (sym (phase_is q i s l) ∙ k) ne a b
 
--- once the ends have met, all is as before the event
-pub closed : (credit : CreditSpec) (names : List (List ℕ)) (events : List Event) (hs : List Held) (os : List OutSeen) (ns : List InSeen) (hs' : List Held) (os' : List OutSeen) (ns' : List InSeen) (n : ℕ) → length events < 2 ^ 59 → Moved credit names events hs os ns → n ≡ length os → AllMeet n os ns os' ns' → hs' ≡ hs → length os' ≡ length os → length ns' ≡ length ns → IsStandingIn credit names events hs' os' ns'
-closed credit names events hs os ns hs' os' ns' n few m en meets eh lo ln =
-    let w : World = state credit names events in
-    let meets' : AllMeet (size w) os ns os' ns' = subst (λ k. AllMeet k os ns os' ns') (en ∙ m.standing.outs) meets in
-    record {
-      are = m.are;
-      few = few;
-      run = m.run;
-      standing = record {
-        outs = lo ∙ m.standing.outs;
-        ins = ln ∙ m.standing.ins;
-        stand = subst (AllStand w) (sym eh) m.standing.stand;
-        carry = all_meet_carry credit.initial w os ns os' ns' meets' m.standing.carry;
-      };
-      met = all_meet_met (size w) os ns os' ns' meets';
-    }
+      pick_up : (by : List ℕ) → id_of w by ≡ Some (i + 1) → i < length q.nodes → (f : Phase) → (node_at q i).held.phase ≡ f → pick_refused (node_at q i).held ≡ refusal w (Pick by)
+      pick_up by k l Up e = alone (Pick by) k (waits e)
+      pick_up by k l Waiting e = not_up Waiting (λ n. cc) e l _ _ ∙ sym (ap (λ o. of_member o (λ y. up_refusal w y (or_else (refuse_if (is_some (member_at w y).current) reason.HasCurrentLink) (pick_refusal w y)))) k)
+      pick_up by k l Stopped e = not_up Stopped (λ n. cc) e l _ _ ∙ sym (ap (λ o. of_member o (λ y. up_refusal w y (or_else (refuse_if (is_some (member_at w y).current) reason.HasCurrentLink) (pick_refusal w y)))) k)
 
-pub same_views : (credit : CreditSpec) (names : List (List ℕ)) (events : List Event) (hs : List Held) (os : List OutSeen) (ns : List InSeen) (hs' : List Held) (os' : List OutSeen) (ns' : List InSeen) → hs' ≡ hs → os' ≡ os → ns' ≡ ns → IsStandingIn credit names events hs os ns → IsStandingIn credit names events hs' os' ns'
-same_views credit names events hs os ns hs' os' ns' eh eo en s =
-    subst (λ xs. IsStandingIn credit names events xs os' ns') (sym eh) (subst (λ xs. IsStandingIn credit names events hs xs ns') (sym eo) (subst (λ xs. IsStandingIn credit names events hs os xs) (sym en) s))
+      marked_later : ℕ → Option Reason
+      marked_later d = mark_refusal r (node_at q i).held.id d (node_at q i).held.view.version (is_some (node_at q i).held.current || is_some (first_at_door (node_at q i).held))
 
--- ---- the opening
+      mark_up : (by dead : List ℕ) (d : ℕ) → id_of w by ≡ Some (i + 1) → id_of w dead ≡ Some d → i < length q.nodes → (f : Phase) → (node_at q i).held.phase ≡ f → mark_refused r (node_at q i) (Some d) ≡ refusal w (Mark by dead)
+      mark_up by dead d k e l Up f =
+          let id : (node_at q i).held.id ≡ i + 1 = ap (λ (h : Held). h.id) (member_stands q i s l).held in
+          ap (λ x. up_refused (node_at q i).held (mark_refusal r x d (node_at q i).held.view.version (is_some (node_at q i).held.current || is_some (first_at_door (node_at q i).held)))) id
+          ∙ mark_asked_refuses credit w nodes r [] (i + 1) d by dead (node_at q i) (lawful q s) k e s.stand (waits f) (ap (node_at q) (sym (place i)))
+      mark_up by dead d k e l Waiting f = not_up Waiting (λ n. cc) f l _ _ ∙ sym (ap (λ o. of_member o (λ y. up_refusal w y (of_member (id_of w dead) (event.mark_refusal w y)))) k)
+      mark_up by dead d k e l Stopped f = not_up Stopped (λ n. cc) f l _ _ ∙ sym (ap (λ o. of_member o (λ y. up_refusal w y (of_member (id_of w dead) (event.mark_refusal w y)))) k)
 
--- of an opening member, no row of any place says anything
-pub opening_rows : (n : ℕ) (name : List ℕ) → map (λ (_ : ℕ). no_row) places ≡ map (row_at (opening_member n name)) places
-opening_rows n name = map-range_same (λ (_ : ℕ). no_row) (row_at (opening_member n name)) 64 (λ p _. sym (get_or-no_rows n 0 p))
+      by_dead : (by dead : List ℕ) (o : Option ℕ) → id_of w by ≡ Some (i + 1) → id_of w dead ≡ o → i < length q.nodes → mark_refused r (node_at q i) o ≡ refusal w (Mark by dead)
+      by_dead by dead None k d l = subst (λ j. mark_refused r (node_at q j) None ≡ refusal w (Mark by dead)) (place i) (mark_unknown credit w q (i + 1) by dead (lawful q s) k d s.stand)
+      by_dead by dead (Some d) k e l = mark_up by dead d k e l (node_at q i).held.phase refl
 
-pub opening_numbers : map (λ (_ : ℕ). no_numbers) places ≡ map (numbers_at no_packet) places
-opening_numbers = map-range_same (λ (_ : ℕ). no_numbers) (numbers_at no_packet) 64 (λ p _. refl)
+      by_event : (f : Event) → id_of w (by_of f) ≡ Some (i + 1) → i < length q.nodes → act_refused f i r q ≡ refusal w f
+      by_event (Cast by body) k l = alone (Cast by body) k tt
+      by_event (Put by) k l = alone (Put by) k tt
+      by_event (Take by) k l = alone (Take by) k tt
+      by_event (TakeEnd by) k l = alone (TakeEnd by) k tt
+      by_event (Gain by) k l = alone (Gain by) k tt
+      by_event (Stop by) k l = alone (Stop by) k tt
+      by_event (Mark by dead) k l = ap (mark_refused r (node_at q i)) (found q dead s) ∙ by_dead by dead (id_of w dead) k refl l
+      by_event (Refresh by version) k l = subst (λ j. look_refused (newest_of q).version (node_at q j) version ≡ refusal w (Refresh by version)) (place i) (look_refuses credit w q (i + 1) version by (lawful q s) k s.stand)
+      by_event (Pick by) k l = pick_up by k l (node_at q i).held.phase refl
 
-pub opening_held : (credit : CreditSpec) (names : List (List ℕ)) (k : ℕ) → k < length names → founded_at credit names k ≡ held_in (opening credit names) k
-opening_held credit names k kl =
-    let w : World = opening credit names in
-    let link : link_at w k ≡ opening_link credit [] = opening_link_at credit names k kl in
-    let left : left_of (size w) k < length names = omega (arith, opening_size credit names, left_of-lt (size w) k (omega (arith, opening_size credit names))) in
-    let from : link_at w (left_of (size w) k) ≡ opening_link credit [] = opening_link_at credit names (left_of (size w) k) left in
-    ap (λ rs. record (founded_at credit names k) { member = record { name = slice_index_or names k []; log = []; rows = rs } }) (opening_rows (length names) (slice_index_or names k []))
-    ∙ ap (λ xs. record (held_from k (opening_member (length names) (slice_index_or names k [])) no_sending (full_credit credit.initial credit.more) (none_taken credit.initial credit.more)) { sending = record { fresh = true; sent = record { numbers = xs } } }) opening_numbers
-    ∙ held_same k (opening_member (length names) (slice_index_or names k [])) (member_at w k) no_sending (link_at w k).sending (full_credit credit.initial credit.more) (link_at w k).flow.sender (none_taken credit.initial credit.more) (link_at w (left_of (size w) k)).flow.receiver
-    (sym (opening_at credit names k kl)) (sym (ap (λ l. l.sending) link)) (sym (ap (λ l. l.flow.sender) link)) (sym (ap (λ l. l.flow.receiver) from))
+  -- ---- the event happens
 
-pub opening_standing : (credit : CreditSpec) (names : List (List ℕ)) (hs : List Held) (os : List OutSeen) (ns : List InSeen) → AreOpeningNames names → hs ≡ map (founded_at credit names) (range_with_len 0 (length names)) → os ≡ map (λ (_ : ℕ). fresh_out credit.initial) (range_with_len 0 (length names)) → ns ≡ map (λ (_ : ℕ). fresh_in credit.initial) (range_with_len 0 (length names)) → IsStandingIn credit names [] hs os ns
-opening_standing credit names hs os ns are eh eo en =
-    let w : World = opening credit names in
-    let n : size w ≡ length names = opening_size credit names in
-    let out : (k : ℕ) → k < size w → out_at os k ≡ fresh_out credit.initial = λ k kl. ap (λ xs. out_at xs k) eo ∙ tabled_at (λ (_ : ℕ). fresh_out credit.initial) (length names) k no_out (omega (arith, n)) in
-    let link : (k : ℕ) → k < size w → in_at ns k ≡ fresh_in credit.initial = λ k kl. ap (λ xs. in_at xs k) en ∙ tabled_at (λ (_ : ℕ). fresh_in credit.initial) (length names) k no_in (omega (arith, n)) in
-    let carry : AllCarry credit.initial w os ns = λ r s rl es.
-    let sl : s < size w = rw es (left_of-lt (size w) r rl) in
-    subst (λ o. Carries credit.initial w s o (in_at ns r)) (sym (out s sl)) (subst (λ x. Carries credit.initial w s (fresh_out credit.initial) x) (sym (link r rl)) (record {
-      out = refl;
-      link = refl;
-      items = opening_links (λ l. [] ≡ map (item_in w) l.packets) credit names s refl refl;
-      grants = opening_links (λ l. [] ≡ l.flow.grants) credit names s refl refl;
-      kept = refl;
-      late = refl;
-      open_out = refl;
-      out_initial = refl;
-      in_initial = refl;
-      slots = omega arith;
-      room = omega arith;
-    })) in
-    let met : AllMet (size w) os ns = λ r s rl es.
-    let sl : s < size w = rw es (left_of-lt (size w) r rl) in
-    subst (λ o. HasMet o (in_at ns r)) (sym (out s sl)) (subst (λ x. HasMet (fresh_out credit.initial) x) (sym (link r rl)) (record { moved = refl; given = refl; free = omega arith; room = omega arith })) in
-    record {
-      are = are;
-      few = lit< tt;
-      run = tt;
-      standing = record {
-        outs = ap length eo ∙ length-map-range_with_len (λ (_ : ℕ). fresh_out credit.initial) 0 (length names) ∙ sym n;
-        ins = ap length en ∙ length-map-range_with_len (λ (_ : ℕ). fresh_in credit.initial) 0 (length names) ∙ sym n;
-        stand = record {
-          count = ap length eh ∙ length-map-range_with_len (founded_at credit names) 0 (length names) ∙ sym n;
-          each = λ k kl.
-              let kl' : k < length names = omega (arith, n) in
-              ap (λ xs. held_at xs k) eh ∙ tabled_at (founded_at credit names) (length names) k no_held kl' ∙ opening_held credit names k kl';
-        };
-        carry = carry;
-      };
-      met = met;
-    }
+  many_after : (q q' : Parties) (e : Event) (i d : ℕ) (loose : Option (LinkName × OutSeen)) → Acts e i d q q' loose → length q'.nodes ≡ length q.nodes
+  many_after q q' e i d loose a = by_event e a
+    where
+      one : (b : Shown) → q' ≡ with_node q i b → length q'.nodes ≡ length q.nodes
+      one b is = ap (λ (p : Parties). length p.nodes) is ∙ length-set q.nodes i b
 
--- the same of copies
-pub opening_kept : (credit : CreditSpec) (members names : List (List ℕ)) (events : List Event) (hs : List Held) (os : List OutSeen) (ns : List InSeen) → AreOpeningNames members → names ≡ members → events ≡ [] → hs ≡ map (founded_at credit members) (range_with_len 0 (length members)) → os ≡ map (λ (_ : ℕ). fresh_out credit.initial) (range_with_len 0 (length members)) → ns ≡ map (λ (_ : ℕ). fresh_in credit.initial) (range_with_len 0 (length members)) → IsStandingIn credit names events hs os ns
-opening_kept credit members names events hs os ns are en ee eh eo ei =
-    subst (λ xs. IsStandingIn credit xs events hs os ns) (sym en) (subst (λ xs. IsStandingIn credit members xs hs os ns) (sym ee) (opening_standing credit members hs os ns are eh eo ei))
+      posted_same : (new : Option Posted) (p : Parties) → (posting new p).nodes ≡ p.nodes
+      posted_same None p = refl
+      posted_same (Some d) p = refl
+
+      looks : (v : Group) (p : Parties) → p.nodes ≡ q.nodes → LooksAt v i p q' loose → length q'.nodes ≡ length q.nodes
+      looks v p same (b, new, _, is) = ap (λ (p : Parties). length p.nodes) is ∙ ap length (posted_same new (with_node p i b)) ∙ length-set p.nodes i b ∙ ap length same
+
+      by_event : (f : Event) → Acts f i d q q' loose → length q'.nodes ≡ length q.nodes
+      by_event (Cast by body) (b, _, is, _) = one b is
+      by_event (Put by) (b, _, is, _) = one b is
+      by_event (Take by) (b, _, is, _) = one b is
+      by_event (TakeEnd by) (b, _, is, _) = one b is
+      by_event (Gain by) (b, _, is, _) = one b is
+      by_event (Stop by) (b, _, is, _) = ap (λ (p : Parties). length p.nodes) is ∙ length-set q.nodes i b
+      by_event (Mark by dead) k = looks (marked (newest_of q) d) (viewing (marked (newest_of q) d) q) refl k
+      by_event (Refresh by version) k = looks (view_at q.views version) q refl k
+      by_event (Pick by) (b, _, is, _) = one b is
+
+  -- a loose end goes to a member
+  loose_goes : (q q' : Parties) (e : Event) (i d : ℕ) (name : LinkName) (o : OutSeen) → StandAfter credit names events q → i < length q.nodes → Acts e i d q q' (Some (name, o)) → GoesIn (state credit names events) name
+  loose_goes q q' e i d name o s l a = by_event e a
+    where
+      w : World
+      w = state credit names events
+
+      never : ◌≡◌ {A = Option (LinkName × OutSeen)} (Some (name, o)) None → GoesIn w name
+      never k = cc
+
+      looks : (v : Group) (p : Parties) → LooksAt v (i + 1 - 1) q p (Some (name, o)) → GoesIn w name
+      looks v p k = loose_goes_in credit w q p v (i + 1) name o (lawful q s) (reached_go credit names events s.journal.are s.journal.run) (omega arith) (within q i s l) s.stand k
+
+      looks_at : (v : Group) (p : Parties) → LooksAt v i q p (Some (name, o)) → GoesIn w name
+      looks_at v p k = looks v p (subst (λ j. LooksAt v j q p (Some (name, o))) (sym (place i)) k)
+
+      by_event : (f : Event) → Acts f i d q q' (Some (name, o)) → GoesIn w name
+      by_event (Cast by body) k = never k.3
+      by_event (Put by) k = never k.3
+      by_event (Take by) k = never k.3
+      by_event (TakeEnd by) k = never k.3
+      by_event (Gain by) k = never k.3
+      by_event (Stop by) k = never k.3
+      by_event (Mark by dead) (b, new, how, _) = looks_at (marked (newest_of q) d) (posting new (with_node q i b)) (b, new, how, refl)
+      by_event (Refresh by version) k = looks_at (view_at q.views version) q' k
+      by_event (Pick by) k = never k.3
+
+  -- what the event needs besides
+  may_go : (q : Parties) (e : Event) (i : ℕ) → StandAfter credit names events q → refusal (state credit names events) e ≡ None → id_named q (by_of e) ≡ Some (i + 1)
+      → ((node_at q i).held.phase ≡ Up → NothingWaits (i + 1) q) → MayGo (state credit names events) e (i + 1) (marked_in e q) q
+  may_go q e i s r named waits = by_event e r (sym (found q (by_of e) s) ∙ named) (found_place q (by_of e) i named)
+    where
+      w : World
+      w = state credit names events
+
+      up : (later : ℕ → Option Reason) (o : Option ℕ) → o ≡ Some (i + 1) → of_member o (λ x. up_refusal w x (later x)) ≡ None → i < length q.nodes → NothingWaits (i + 1) q
+      up later o k e l = waits (phase_is q i s l ∙ (up_none w (i + 1) (later (i + 1)) (sym (ap (λ c. of_member c (λ x. up_refusal w x (later x))) k) ∙ e)).0)
+
+      dead_is : (by dead : List ℕ) (o : Option ℕ) → id_named q dead ≡ o → id_of w by ≡ Some (i + 1) → refusal w (Mark by dead) ≡ None → id_of w dead ≡ Some (at_some (id_named q dead) 0 (λ d. d))
+      dead_is by dead (Some d) k _ _ = sym (found q dead s) ∙ k ∙ ap (λ o. Some (at_some o 0 (λ d. d))) (sym k)
+      dead_is by dead None k b e =
+          let later : up_refusal w (i + 1) (of_member (id_of w dead) (event.mark_refusal w (i + 1))) ≡ None = sym (ap (λ o. of_member o (λ y. up_refusal w y (of_member (id_of w dead) (event.mark_refusal w y)))) b) ∙ e in
+          let none : of_member (id_of w dead) (event.mark_refusal w (i + 1)) ≡ None = (up_none w (i + 1) _ later).1 in
+          let unknown : Some reason.UnknownMember ≡ None = sym (ap (λ o. of_member o (event.mark_refusal w (i + 1))) (sym (found q dead s) ∙ k)) ∙ none in
+          cc
+
+      by_event : (f : Event) → refusal w f ≡ None → id_of w (by_of f) ≡ Some (i + 1) → i < length q.nodes → MayGo w f (i + 1) (marked_in f q) q
+      by_event (Cast by body) e k l = tt
+      by_event (Put by) e k l = tt
+      by_event (Take by) e k l = tt
+      by_event (TakeEnd by) e k l = tt
+      by_event (Gain by) e k l = tt
+      by_event (Stop by) e k l = tt
+      by_event (Mark by dead) e k l = (dead_is by dead (id_named q dead) refl k e, up (λ y. of_member (id_of w dead) (event.mark_refusal w y)) (id_of w by) k e l)
+      by_event (Refresh by version) e k l = up (λ y. refresh_refusal w y version) (id_of w by) k e l
+      by_event (Pick by) e k l = up (λ y. or_else (refuse_if (is_some (member_at w y).current) reason.HasCurrentLink) (pick_refusal w y)) (id_of w by) k e l
+
+  pub acted : (nodes nodes' : List ANode) (r r' : Registry (PlainIn Load)) (late : List Posted) (e : Event) (i : ℕ) (loose : Option (LinkName × OutSeen)) → StandAfter credit names events (parties nodes r [])
+      → act_refused e i r (parties nodes r []) ≡ None → id_named (parties nodes r []) (by_of e) ≡ Some (i + 1)
+      → ((node_at (parties nodes r []) i).held.phase ≡ Up → NothingWaits (i + 1) (parties nodes r [])) → length events + 1 < 2 ^ 59
+      → Acts e i (marked_in e (parties nodes r [])) (parties nodes r []) (parties nodes' r' late) loose
+      → BetweenAfter credit names (events ++ e ∷ []) (parties nodes' r' late) loose
+  acted nodes nodes' r r' late e i loose s refused named waits few a = record {
+    journal = journal;
+    stand = stand;
+    goes = λ name o k. goes name o (subst (Acts e i (marked_in e q) q q') k a);
+  }
+    where
+      q : Parties
+      q = parties nodes r []
+
+      q' : Parties
+      q' = parties nodes' r' late
+
+      w : World
+      w = state credit names events
+
+      enabled : refusal w e ≡ None
+      enabled = sym (refused_is nodes r e i s named waits) ∙ refused
+
+      journal : IsJournal credit names (events ++ e ∷ [])
+      journal = record {
+        are = s.journal.are;
+        run = run_append (opening credit names) events (e ∷ []) s.journal.run (enabled, tt);
+        few = subst (λ n. n < 2 ^ 59) (sym (length_push events e)) few;
+      }
+
+      after : state credit names (events ++ e ∷ []) ≡ effect w e
+      after = last_append (opening credit names) events (e ∷ [])
+
+      stand : StandBetween credit.initial (state credit names (events ++ e ∷ [])) q' loose
+      stand = subst (λ u. StandBetween credit.initial u q' loose) (sym after)
+          (each_goes credit w e i (marked_in e q) q q' loose (lawful q s)
+          (subst (IsLawfulAt credit) after (lawful_at credit names (events ++ e ∷ []) journal.are journal.run))
+          enabled (sym (found q (by_of e) s) ∙ named) (may_go q e i s enabled named waits) s.stand a)
+
+      goes : (name : LinkName) (o : OutSeen) → Acts e i (marked_in e q) q q' (Some (name, o)) → GoesIn (state credit names (events ++ e ∷ [])) name
+      goes name o k =
+          let in_old = loose_goes q q' e i (marked_in e q) name o s (found_place q (by_of e) i named) k in
+          let many : length q'.nodes ≡ length q.nodes = many_after q q' e i (marked_in e q) loose a in
+          (in_old.0, omega (arith, in_old.1, many, s.stand.stand.count, stand.stand.count))
+
+  -- ---- the loose end meets its other end
+
+  pub between_may : (q : Parties) (name : LinkName) (o : OutSeen) (loose : Option (LinkName × OutSeen)) → loose ≡ Some (name, o) → BetweenAfter credit names events q loose → MayMeet q name o
+  between_may q name o loose e b =
+      loose_may credit (state credit names events) q name o (lawful_at credit names events b.journal.are b.journal.run) (reached_go credit names events b.journal.are b.journal.run) (b.goes name o e)
+      (subst (StandBetween credit.initial (state credit names events) q) e b.stand)
+
+  pub between_meets : (q q' : Parties) (name : LinkName) (o o' : OutSeen) (loose : Option (LinkName × OutSeen)) → loose ≡ Some (name, o) → BetweenAfter credit names events q loose → MeetsIn q name o q q' o' → LooseAfter credit names events q'
+  between_meets q q' name o o' loose e b m = record {
+    journal = b.journal;
+    stand = loose_meets credit (state credit names events) q q' name o o' (lawful_at credit names events b.journal.are b.journal.run) (reached_go credit names events b.journal.are b.journal.run) (b.goes name o e)
+        (subst (StandBetween credit.initial (state credit names events) q) e b.stand) m;
+  }
+
+  -- ---- what the calls of a member need
+
+  pub shown_inside : (nodes : List ANode) (i : ℕ) → i < length nodes → i < length (map shown_of nodes)
+  shown_inside nodes i l = subst (λ n. i < n) (sym (length-map nodes shown_of)) l
+
+  pub few_after : (nodes : List ANode) (r : Registry (PlainIn Load)) (behind : List Posted) → StandAfter credit names events (parties nodes r behind) → length nodes ≤ 64
+  few_after nodes r behind s =
+      let shown : length (map shown_of nodes) ≡ length nodes = length-map nodes shown_of in
+      let many = run_many credit names events s.journal.are s.journal.run in
+      omega (arith, shown, many, s.stand.stand.count, s.journal.are.few)
+
+  -- the registrar hasn't heard of one that hasn't stopped
+  pub unheard_after : (nodes : List ANode) (r : Registry (PlainIn Load)) (i : ℕ) → StandAfter credit names events (parties nodes r []) → i < length nodes → stop_refused (node_at (parties nodes r []) i) ≡ None → stop_refusal r (i + 1) ≡ None
+  unheard_after nodes r i s l e =
+      let q : Parties = parties nodes r [] in
+      let w : World = state credit names events in
+      let inside : i < length q.nodes = subst (λ n. i < n) (sym (length-map nodes shown_of)) l in
+      let running : is_stopped (node_at q i).held.phase ≡ false = (none_of (is_stopped (node_at q i).held.phase) reason.Stopped _ e).0 in
+      let heard : is_in (i + 1) r.stopped ≡ false = s.stand.stand.stopped (i + 1) (omega arith) (within q i s inside) ∙ ap is_stopped (sym (phase_is q i s inside)) ∙ running in
+      let known : is_known r (i + 1) ≡ true = knows w r (i + 1) (lawful q s).fit.good (registrar_stands credit.initial w nodes r [] s.stand.places s.stand.stand) (omega arith) (within q i s inside) in
+      ap (λ b. or_else (refuse_if (not b) reason.UnknownMember) (refuse_if (is_in (i + 1) r.stopped) reason.Stopped)) known
+      ∙ ap (λ b. refuse_if b reason.Stopped) heard
+
+  -- one condition more of a member that refuses nothing before
+  up_later : (k : Held) (a b : Option Reason) → up_refused k a ≡ None → b ≡ None → up_refused k b ≡ None
+  up_later k a b e n = by_parts (refuse_if (is_stopped k.phase) reason.Stopped) (refuse_if (is_waiting k.phase) reason.Waiting) (refuse_if k.asks reason.AwaitingAnswer) e
+    where
+      by_parts : (s w q : Option Reason) → or_else s (or_else w (or_else q a)) ≡ None → or_else s (or_else w (or_else q b)) ≡ None
+      by_parts None None None e = n
+      by_parts (Some x) w q e = cc
+      by_parts None (Some x) q e = cc
+      by_parts None None (Some x) e = cc
+
+  -- a view that a member may read is published, and the member stands in it
+  pub stands_after : (nodes : List ANode) (r : Registry (PlainIn Load)) (i version : ℕ) → StandAfter credit names events (parties nodes r []) → i < length nodes → look_refused (newest r).version (node_at (parties nodes r []) i) version ≡ None
+      → IsPublished r version × CanLook (view_at r.views version) (node_at (parties nodes r []) i)
+  stands_after nodes r i version s l e = ((published, upto), (stands, reads))
+    where
+      q : Parties
+      q = parties nodes r []
+
+      w : World
+      w = state credit names events
+
+      g : IsLawfulAt credit w
+      g = lawful q s
+
+      inside : i < length q.nodes
+      inside = subst (λ n. i < n) (sym (length-map nodes shown_of)) l
+
+      h : MemberStands w s.stand.places (i + 1) (node_at q i)
+      h = member_stands q i s inside
+
+      rs : StandsIn w r
+      rs = registrar_stands credit.initial w nodes r [] s.stand.places s.stand.stand
+
+      named : id_of w (member_at w (i + 1)).name ≡ Some (i + 1)
+      named = g.fit.named (i + 1) (omega arith) (within q i s inside)
+
+      enabled : refusal w (Refresh (member_at w (i + 1)).name version) ≡ None
+      enabled = sym (subst (λ j. look_refused (newest_of q).version (node_at q j) version ≡ refusal w (Refresh (member_at w (i + 1)).name version)) (place i) (look_refuses credit w q (i + 1) version (member_at w (i + 1)).name g named s.stand)) ∙ e
+
+      may : MayLook w (i + 1) version
+      may = refresh_may w (i + 1) version (member_at w (i + 1)).name named enabled
+
+      same : view_at r.views version ≡ machine.view_at w version
+      same = view_same w r version rs
+
+      upto : version ≤ length r.views
+      upto = omega (arith, may.upto, many_views w r rs)
+
+      in_view : is_in (i + 1) (ids (machine.view_at w version)) ≡ true
+      in_view = g.fit.good.inv.is_ring.stands (i + 1) version (ap runs_phase may.up) may.later may.upto
+
+      published : 1 ≤ version
+      published = from_one version in_view
+        where
+          from_one : (v : ℕ) → is_in (i + 1) (ids (machine.view_at w v)) ≡ true → 1 ≤ v
+          from_one zero k = absurd (false≢true (ap (λ vs. is_in (i + 1) (ids (get_or vs 0 no_group))) (sym s.stand.stand.views) ∙ k))
+          from_one (suc v) k = omega arith
+
+      stands : is_in (node_at q i).held.id (ids (view_at r.views version)) ≡ true
+      stands = ap (λ (k : Held). is_in k.id (ids (view_at r.views version))) h.held ∙ ap (λ (v : Group). is_in (i + 1) (ids v)) same ∙ in_view
+
+      reads : refresh_refused (node_at q i).held (view_at r.views version).version ≡ None
+      reads =
+          up_later (node_at q i).held (refuse_if (cond (nat_lt version (node_at q i).held.view.version) true (nat_lt (newest r).version version)) (reason.ViewOutOfRange version (node_at q i).held.view.version (newest r).version))
+          (refuse_if (nat_lt (view_at r.views version).version (node_at q i).held.view.version) (reason.ViewOutOfRange (view_at r.views version).version (node_at q i).held.view.version (node_at q i).held.view.version))
+          e no_older
+        where
+          held_version : (node_at q i).held.view.version ≡ (member_at w (i + 1)).version
+          held_version = ap (λ (k : Held). k.view.version) h.held ∙ view_version w (member_at w (i + 1)).version g.fit.good (g.fit.good.inv.is_ring.held (i + 1))
+
+          read_version : (view_at r.views version).version ≡ version
+          read_version = ap (λ (v : Group). v.version) same ∙ view_version w version g.fit.good may.upto
+
+          no_older : refuse_if (nat_lt (view_at r.views version).version (node_at q i).held.view.version) (reason.ViewOutOfRange (view_at r.views version).version (node_at q i).held.view.version (node_at q i).held.view.version) ≡ None
+          no_older = ap (λ b. refuse_if b (reason.ViewOutOfRange (view_at r.views version).version (node_at q i).held.view.version (node_at q i).held.view.version)) (not_lt (view_at r.views version).version (node_at q i).held.view.version (omega (arith, held_version, read_version, may.later)))
+
+  -- ---- what is handed over to the registrar
+
+  last_of : (xs : List Posted) (d e : Posted) → get_or (xs ++ d ∷ []) (length xs) e ≡ d
+  last_of [] d e = refl
+  last_of (x ∷ xs) d e = last_of xs d e
+
+  pub known_late : (nodes : List ANode) (r : Registry (PlainIn Load)) (d : Posted) → StandAfter credit names events (parties nodes r (d ∷ [])) → (is_known r d.name.from.0 ≡ true) × (is_known r d.name.to.0 ≡ true)
+  known_late nodes r d s =
+      let n : ℕ = length (map posted r.links) in
+      let both = knows_posted credit.initial (state credit names events) nodes r (d ∷ []) s.stand.places n d (lawful (parties nodes r (d ∷ [])) s).fit.good s.stand.stand (subst (λ k. n < k) (sym (length_push (map posted r.links) d)) (omega arith)) in
+      let is : get_or (map posted r.links ++ d ∷ []) n d ≡ d = last_of (map posted r.links) d d in
+      (sym (ap (λ (x : Posted). is_known r x.name.from.0) is) ∙ both.0, sym (ap (λ (x : Posted). is_known r x.name.to.0) is) ∙ both.1)

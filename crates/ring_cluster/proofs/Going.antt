@@ -1,280 +1,158 @@
--- What the turns of a cluster do.
-use Rattle.std.proofs.Common.{◌≡◌, ◌≢◌, ℕ, ◌+◌, ◌<◌, ◌≤◌, Bool, true, false, List, [], ◌∷◌, ◌++◌, length, get_or, set, Option, Some, None, refl, sym, ap, subst, ◌∙◌, ⊎_elim, arith, bytes_eq, append-nil, append_assoc, if◌then◌else◌}
-use Rattle.std.specs.Prelude.{Contains, IsSome}
-use Rattle.std.proofs.lemmas.Bool.{false≢true}
-use Rattle.std.proofs.lemmas.List.{length-map, map-append, length-set, get_or-set_same, get_or-set_other}
-use Rattle.std.proofs.lemmas.List.Quantifiers.{position-Some}
-use Rattle.std.proofs.lemmas.List.Elements.{Contains-append_left, Contains-append_right, Contains-append_cases}
-use Rattle.ring_world.specs.declared.fixed.Event.{Event}
-use Rattle.ring_world.specs.declared.fixed.Event.TheVariants.{Cast, Put, Take, Gain}
-use Rattle.ring_world.specs.World.{AreOpeningNames, size, place_of}
-use Rattle.ring_world.specs.Refusal.{refusal, of_member}
-use Rattle.ring_world.specs.Run.{IsRun, opening}
-use Rattle.ring_world.specs.Laws.{IsQuiet}
-use Rattle.ring_world.proofs.Run.{run_good, last-push}
-use Rattle.ring_world.proofs.Names.{same_bytes, found_at, run_size, run_name_at, run_place_of}
-use Rattle.ring_cluster.specs.declared.agenda.Task.{Task}
-use Rattle.ring_cluster.specs.declared.agenda.Task.TheVariants as task
-use Rattle.ring_cluster.specs.Work.{work}
-use Rattle.ring_cluster.specs.Idle.{IsIdle}
-use Rattle.ring_cluster.specs.Seen.{Seen, state, state_of, IsGoing}
-use Rattle.ring_cluster.specs.Turns.{is_link_event, with_event}
-use Rattle.ring_script.specs.declared.command.Command.{Command}
-use Rattle.ring_script.specs.declared.command.Command.TheVariants as command
+-- A link that hasn't ended is the one on which its running sender sends.
+use Rattle.std.proofs.Common.{◌≡◌, ◌≢◌, ℕ, suc, ◌+◌, ◌-◌, ◌<◌, Bool, true, false, nat_eq, List, [], ◌∷◌, length, set, Option, Some, None, if◌then◌else◌, refl, sym, ap, subst, ◌∙◌, arith}
+use Rattle.std.proofs.lemmas.List.{length-set, length_push}
+use Rattle.std.proofs.lemmas.List.FromFn.{get_or-map-range_with_len, length-map-range_with_len}
 use Rattle.ring_names.specs.declared.numbers.CreditSpec.{CreditSpec}
-use Rattle.ring_cluster.specs.Plays.{IsCommandTo, with_task, commanded, asked, asked_by, Plays, PlaysSoFar, client_event, client_events, task_event, todo, agenda_at, agenda_found, place_among, agenda_of, performed, GoesOn, HasGoneOn, HasBegun, SameElsewhere, HeadsAre, AgendasAreEmpty}
-use Rattle.ring_cluster.proofs.Named.{idle_named, put_named_falls, take_named_falls, gain_named_falls}
-use Rattle.ring_cluster.proofs.Runs.{run_idle_is_quiet}
-use Rattle.ring_cluster.proofs.Playing.{is_own, GoesOn-given, plays_on, plays_noted, settled_each_more, settled_now, empty_is_done, settled_plays, asked_push}
+use Rattle.group_view.specs.Change.{AreOpeningNames, marked}
+use Rattle.ring_world.specs.declared.event.Event.{Event}
+use Rattle.ring_world.specs.declared.phase.Ending.{Ending}
+use Rattle.ring_world.specs.declared.phase.Ending.TheVariants.{Moved, Halted}
+use Rattle.ring_world.specs.View.{right_of}
+use Rattle.ring_world.specs.Machine.{Member, Link, World, no_link, no_member, member_at, link_at, view_at, newest, runs, runs_phase}
+use Rattle.ring_world.specs.Step.{size, published, taker, popped, pushed, next_packet, current_is, with_current, finished, ended, ended_so, stop_at, stopped, end_out, with_member, with_link, with_view, look_at, moved_to, open_to, opened_link, opening, opening_link, opening_member}
+use Rattle.ring_world.specs.Event.{send_to, refreshed, refusal, effect, IsRun, last}
+use Rattle.ring_world.proofs.Lists.{at_set, at_push}
+use Rattle.ring_world.proofs.Kept.{Inv}
+use Rattle.ring_world.proofs.KeptMore.{mark_keeps}
+use Rattle.ring_world.proofs.Cases.{each_event}
+use Rattle.ring_world.proofs.Happens.{IsGood, event_good, opening_good}
 
--- ---- a member's own steps
+-- x runs and sends on the link o
+abbrev pub SendsThere : Member → ℕ → Type 0
+SendsThere x o = (runs_phase x.phase ≡ true) × (x.out ≡ Some o)
 
-pub own_event : (e : Event) → is_link_event e ≡ true → (name : List ℕ) → client_event name e ≡ []
-own_event (Cast by body) l name = absurd (false≢true l)
-own_event (Put by) l name = refl
-own_event (Take by) l name = refl
-own_event (Gain by) l name = refl
+-- each link that hasn't ended has a sender that runs and sends on it
+abbrev pub GoOn : World → Type 0
+GoOn w = (s : ℕ) → s < length w.links → (link_at w s).ending ≡ None → SendsThere (member_at w (link_at w s).sender) s
 
-pub link_goes : (c d : Seen) (e : Event) → is_link_event e ≡ true → d ≡ with_event c e → HasGoneOn c d
-link_goes c d e l is = (e ∷ [], is_own e (own_event e l) c d is)
+-- ---- what is written
 
-pub link_falls : (c d : Seen) (e : Event) → IsGoing c → is_link_event e ≡ true → refusal (state_of c) e ≡ None → d ≡ with_event c e → work (state_of d) < work (state_of c)
-link_falls c d (Cast by body) g l r is = absurd (false≢true l)
-link_falls c d (Put by) g l r is = subst (λ w. work w < work (state_of c)) (sym (ap state_of is ∙ last-push (opening c.credit c.names) c.events (Put by))) (put_named_falls (state_of c) by (run_good c.credit c.names c.events g.run) r)
-link_falls c d (Take by) g l r is = subst (λ w. work w < work (state_of c)) (sym (ap state_of is ∙ last-push (opening c.credit c.names) c.events (Take by))) (take_named_falls (state_of c) by (run_good c.credit c.names c.events g.run) r)
-link_falls c d (Gain by) g l r is = subst (λ w. work w < work (state_of c)) (sym (ap state_of is ∙ last-push (opening c.credit c.names) c.events (Gain by))) (gain_named_falls (state_of c) by (run_good c.credit c.names c.events g.run) r)
+-- a link that keeps its sender
+link_goes : (w : World) (o : ℕ) (l : Link) → o < length w.links → l.sender ≡ (link_at w o).sender → (l.ending ≡ None → (link_at w o).ending ≡ None) → GoOn w → GoOn (with_link w o l)
+link_goes w o l lt from ends h s sl =
+    at_set (λ i a. i < length w.links → a.ending ≡ None → SendsThere (member_at w a.sender) i) w.links o s l no_link lt
+    (λ k e. subst (λ q. SendsThere (member_at w q) o) (sym from) (h o k (ends e))) (λ _ k e. h s k e) (omega (arith, length-set w.links o l))
 
--- the member at a place is found by its name
-pub named_place : (c : Seen) (i : ℕ) → IsGoing c → i < length c.names → place_of (state_of c).members (get_or c.names i []) ≡ Some i
-named_place c i g l =
-    let il : i < size (state_of c) = omega (arith, run_size c.credit c.names c.events g.run) in
-    ap (place_of (state_of c).members) (sym (run_name_at c.credit c.names c.events i g.run il)) ∙ run_place_of c.credit c.names c.events i g.are.different g.run il
+-- a member that runs as before and sends on the same link
+member_goes : (w : World) (x : ℕ) (y : Member) → x < size w → y.phase ≡ (member_at w x).phase → y.out ≡ (member_at w x).out → GoOn w → GoOn (with_member w x y)
+member_goes w x y lt phase out h s sl e =
+    at_set (λ i a. SendsThere (member_at w i) s → SendsThere a s) w.members x (link_at w s).sender y no_member lt
+    (λ k. (ap runs_phase phase ∙ k.0, out ∙ k.1)) (λ _ k. k) (h s sl e)
 
-pub idle_at : (c : Seen) (i : ℕ) → IsGoing c → i < length c.names → refusal (state_of c) (Put (get_or c.names i [])) ≢ None → refusal (state_of c) (Take (get_or c.names i [])) ≢ None → refusal (state_of c) (Gain (get_or c.names i [])) ≢ None → IsIdle (state_of c) i
-idle_at c i g l = idle_named (state_of c) (get_or c.names i []) i (named_place c i g l)
+-- a link that ended so has ended
+has_ended : (why : Ending) (e : Option Ending) → ended_so why e ≢ None
+has_ended why None k = cc
+has_ended why (Some first) k = cc
 
-pub all_idle_is_quiet : (c : Seen) → IsGoing c → ((i : ℕ) → i < length c.names → IsIdle (state_of c) i) → IsQuiet (state_of c)
-all_idle_is_quiet c g h = run_idle_is_quiet c.credit c.names c.events g.run (λ i l. h i (omega (arith, run_size c.credit c.names c.events g.run)))
+-- a stop
+stop_goes : (w : World) (x : ℕ) → x < size w → runs w x ≡ true → Inv w → GoOn w → GoOn (end_out Halted (stop_at w x) (member_at w x).out)
+stop_goes w x lt rx inv h = by_out (member_at w x).out refl
+  where
+    w1 : World
+    w1 = stop_at w x
 
--- ---- tasks
+    still : (s : ℕ) → s < length w.links → (link_at w s).ending ≡ None → (member_at w x).out ≢ Some s → SendsThere (member_at w1 (link_at w s).sender) s
+    still s sl e other =
+        at_set (λ i a. SendsThere (member_at w i) s → SendsThere a s) w.members x (link_at w s).sender (stopped (member_at w x)) no_member lt
+        (λ k. absurd (other k.1)) (λ _ k. k) (h s sl e)
 
-pub task_of_name : (name by : List ℕ) (t : Task) → bytes_eq by name ≡ true → by ≡ name → client_event name (task_event by t) ≡ task_event name t ∷ []
-task_of_name name by (task.Cast body) b e = rw b (ap (λ n. Cast n body ∷ []) e)
+    by_out : (o : Option ℕ) → (member_at w x).out ≡ o → GoOn (end_out Halted w1 o)
+    by_out None out s sl e = still s sl e (λ k. let bad : None ≡ Some s = sym out ∙ k in cc)
+    by_out (Some o) out s sl e =
+        let l : Link = ended Halted (link_at w o) in
+        at_set (λ i a. i < length w.links → a.ending ≡ None → SendsThere (member_at w1 a.sender) i) w.links o s l no_link (inv.linked.out_lt x o rx out)
+        (λ _ e. absurd (has_ended Halted (link_at w o).ending e))
+        (λ ne k e. still s k e (λ both. let same : Some o ≡ Some s = sym out ∙ both in ne (let is : s ≡ o = cc in is))) (omega (arith, length-set w.links o l)) e
 
-pub task_of_other : (name by : List ℕ) (t : Task) → bytes_eq by name ≡ false → client_event name (task_event by t) ≡ []
-task_of_other name by (task.Cast body) b = rw b refl
+-- a link opens, where its sender had no other that hasn't ended
+open_goes : (w : World) (x z : ℕ) → x < size w → runs w x ≡ true → ((s : ℕ) → s < length w.links → (link_at w s).ending ≡ None → (link_at w s).sender ≢ x) → GoOn w → GoOn (open_to w x z)
+open_goes w x z lt rx no_other h s sl =
+    at_push (λ i a. a.ending ≡ None → SendsThere (member_at w1 a.sender) i) w.links s new no_link (omega (arith, length_push w.links new))
+    (λ _. at_set (λ i a. i ≡ x → SendsThere a (length w.links)) w.members x x m no_member lt (λ _. (rx, refl)) (λ ne e. absurd (ne e)) refl)
+    (λ l e. at_set (λ i a. i ≢ x → SendsThere (member_at w i) s → SendsThere a s) w.members x (link_at w s).sender m no_member lt (λ ne. absurd (ne refl)) (λ _ _ k. k) (no_other s l e) (h s l e))
+  where
+    new : Link
+    new = opened_link w x z
 
-pub agenda_other : (agendas : List (List Task)) (names : List (List ℕ)) (name : List ℕ) (i : ℕ) (ts : List Task) (o : Option ℕ) → place_among names name ≡ o → bytes_eq (get_or names i []) name ≡ false → agenda_found (set agendas i ts) o ≡ agenda_found agendas o
-agenda_other agendas names name i ts None e b = refl
-agenda_other agendas names name i ts (Some j) e b =
-    let found : bytes_eq (get_or names j []) name ≡ true = (position-Some (λ n. bytes_eq n name) names j [] e).1 in
-    get_or-set_other agendas i j ts [] (λ (same : j ≡ i). false≢true (sym b ∙ ap (λ k. bytes_eq (get_or names k []) name) (sym same) ∙ found))
+    m : Member
+    m = record (member_at w x) { out = Some (length w.links) }
 
-pub performed_asked : (c : Seen) (i : ℕ) (t : Task) (ts : List Task) (name : List ℕ) (b : Bool) → bytes_eq (get_or c.names i []) name ≡ b → IsGoing c → i < length c.names → agenda_at c.agendas i ≡ t ∷ ts → client_events name (task_event (get_or c.names i []) t ∷ []) ++ todo name (agenda_of (performed c i t ts) name) ≡ todo name (agenda_of c name)
-performed_asked c i t ts name true e g l a =
-    let same : get_or c.names i [] ≡ name = same_bytes (get_or c.names i []) name e in
-    let al : i < length c.agendas = omega (arith, g.agendas) in
-    let place : place_among c.names name ≡ Some i = found_at (λ n. bytes_eq n name) c.names i [] l e (λ j jl x. g.are.different j i jl l (same_bytes (get_or c.names j []) name x ∙ sym same)) in
-    ap (λ zs. (zs ++ []) ++ todo name (agenda_of (performed c i t ts) name)) (task_of_name name (get_or c.names i []) t e same)
-    ∙ ap (λ o. task_event name t ∷ todo name (agenda_found (set c.agendas i ts) o)) place
-    ∙ ap (λ zs. task_event name t ∷ todo name zs) (get_or-set_same c.agendas i ts [] al)
-    ∙ ap (todo name) (sym a)
-    ∙ ap (λ o. todo name (agenda_found c.agendas o)) (sym place)
-performed_asked c i t ts name false e g l a =
-    ap (λ zs. (zs ++ []) ++ todo name (agenda_of (performed c i t ts) name)) (task_of_other name (get_or c.names i []) t e)
-    ∙ ap (todo name) (agenda_other c.agendas c.names name i ts (place_among c.names name) refl e)
+    w1 : World
+    w1 = open_to w x z
 
-pub performed_goes : (c d : Seen) (i : ℕ) (t : Task) (ts : List Task) → IsGoing c → i < length c.names → agenda_at c.agendas i ≡ t ∷ ts → d ≡ performed c i t ts → HasGoneOn c d
-performed_goes c d i t ts g l a is = subst (HasGoneOn c) (sym is) (
-  task_event (get_or c.names i []) t ∷ [],
-  record {
-    credit = refl;
-    names = refl;
-    count = length-set c.agendas i ts;
-    events = refl;
-    asked = λ name. performed_asked c i t ts name (bytes_eq (get_or c.names i []) name) refl g l a;
-  },
-)
+-- a refresh
+refresh_goes : (w : World) (x v : ℕ) → x < size w → runs w x ≡ true → Inv w → GoOn w → GoOn (refreshed w x v)
+refresh_goes w x v lt rx inv h = by_out (member_at w x).out refl
+  where
+    w1 : World
+    w1 = look_at w x v
 
-pub performed_shrinks : (c d : Seen) (i : ℕ) (t : Task) (ts : List Task) → IsGoing c → i < length c.names → agenda_at c.agendas i ≡ t ∷ ts → d ≡ performed c i t ts → length (agenda_at d.agendas i) < length (agenda_at c.agendas i)
-performed_shrinks c d i t ts g l a is =
-    let al : i < length c.agendas = omega (arith, g.agendas) in
-    let new : agenda_at d.agendas i ≡ ts = ap (λ x. agenda_at x.agendas i) is ∙ get_or-set_same c.agendas i ts [] al in
-    omega (arith, ap length new, ap length a)
+    z : ℕ
+    z = right_of (view_at w v) x
 
-pub performed_elsewhere : (c d : Seen) (i : ℕ) (t : Task) (ts : List Task) → d ≡ performed c i t ts → SameElsewhere i c d
-performed_elsewhere c d i t ts is j ne = ap (λ x. agenda_at x.agendas j) is ∙ get_or-set_other c.agendas i j ts [] ne
+    h1 : GoOn w1
+    h1 = member_goes w x (moved_to w x v) lt refl refl h
 
--- a cast by a member of the ring is always enabled
-pub task_enabled : (c : Seen) (i : ℕ) (t : Task) → IsGoing c → i < length c.names → refusal (state_of c) (task_event (get_or c.names i []) t) ≡ None
-task_enabled c i (task.Cast body) g l = ap (λ o. of_member o (λ (_ : ℕ). None)) (named_place c i g l)
+    there : x < size w1
+    there = omega (arith, length-set w.members x (moved_to w x v))
 
--- ---- heads
+    runs_still : runs w1 x ≡ true
+    runs_still = at_set (λ i a. runs w i ≡ true → runs_phase a.phase ≡ true) w.members x x (moved_to w x v) no_member lt (λ r. r) (λ _ r. r) rx
 
-pub contains_cast : (name : List ℕ) (e : Event) (by body : List ℕ) (es : List Event) (b : Bool) → bytes_eq by name ≡ b → Contains (if b then Cast by body ∷ [] else []) e → Contains (Cast by body ∷ es) e
-contains_cast name e by body es true q h = Contains-append_left (Cast by body ∷ []) es e h
-contains_cast name e by body es false q h = absurd (omega (arith, h.1))
+    -- what x sends on, it has as its out link
+    its : (s : ℕ) → s < length w.links → (link_at w s).ending ≡ None → (link_at w s).sender ≡ x → (member_at w x).out ≡ Some s
+    its s sl e from = subst (λ q. (member_at w q).out ≡ Some s) from (h s sl e).1
 
-pub contains_event : (name : List ℕ) (e x : Event) (es : List Event) → Contains (client_event name x) e → Contains (x ∷ es) e
-contains_event name e (Cast by body) es h = contains_cast name e by body es (bytes_eq by name) refl h
-contains_event name e (Put by) es h = absurd (omega (arith, h.1))
-contains_event name e (Take by) es h = absurd (omega (arith, h.1))
-contains_event name e (Gain by) es h = absurd (omega (arith, h.1))
+    by_receiver : (o : ℕ) → (member_at w x).out ≡ Some o → (b : Bool) → GoOn (if b then w1 else open_to (with_link w1 o (ended Moved (link_at w o))) x z)
+    by_receiver o out true = h1
+    by_receiver o out false =
+        let l : Link = ended Moved (link_at w o) in
+        let ol : o < length w.links = inv.linked.out_lt x o rx out in
+        let many : length (set w.links o l) ≡ length w.links = length-set w.links o l in
+        open_goes (with_link w1 o l) x z there runs_still
+        (λ s sl. at_set (λ i a. i < length w.links → a.ending ≡ None → a.sender ≢ x) w.links o s l no_link ol
+        (λ _ e. absurd (has_ended Moved (link_at w o).ending e))
+        (λ ne k e from. let both : Some o ≡ Some s = sym out ∙ its s k e from in ne (let is : s ≡ o = cc in is)) (omega arith))
+        (link_goes w1 o l ol refl (λ e. absurd (has_ended Moved (link_at w o).ending e)) h1)
 
-pub contains_client : (name : List ℕ) (events : List Event) (e : Event) → Contains (client_events name events) e → Contains events e
-contains_client name [] e h = absurd (omega (arith, h.1))
-contains_client name (x ∷ es) e h =
-    ⊎_elim
-    (λ (l : Contains (client_event name x) e). contains_event name e x es l)
-    (λ (r : Contains (client_events name es) e). Contains-append_right (x ∷ []) es e (contains_client name es e r))
-    (Contains-append_cases (client_event name x) (client_events name es) e h)
+    by_out : (o : Option ℕ) → (member_at w x).out ≡ o → GoOn (send_to w1 x z o)
+    by_out None out = open_goes w1 x z there runs_still (λ s sl e from. let bad : None ≡ Some s = sym out ∙ its s sl e from in cc) h1
+    by_out (Some o) out = by_receiver o out (nat_eq (link_at w o).receiver z)
 
-pub first_of : (xs ys zs : List Event) (e : Event) → xs ++ ys ≡ e ∷ zs → length ys < length zs + 1 → Contains xs e
-first_of [] ys zs e is l = absurd (omega (arith, ap length is))
-first_of (x ∷ xs) ys zs e is l = (0, omega arith, cc)
+-- ---- every state of every run
 
-pub head_of : (c d : Seen) (more : List Event) (name : List ℕ) (t : Task) (ts : List Task) (o : Option ℕ) → place_among c.names name ≡ o → GoesOn c d more → ((i : ℕ) → i < length c.names → HasBegun i c d) → agenda_found c.agendas o ≡ t ∷ ts → Contains more (task_event name t)
-head_of c d more name t ts None e g begun a = cc
-head_of c d more name t ts (Some i) e g begun a =
-    let il : i < length c.names = (position-Some (λ n. bytes_eq n name) c.names i [] e).0 in
-    let less : length (agenda_at d.agendas i) < length (agenda_at c.agendas i) = begun i il (omega (arith, ap length a)) in
-    let left : todo name (agenda_of d name) ≡ todo name (agenda_at d.agendas i) = ap (λ ns. todo name (agenda_found d.agendas (place_among ns name))) g.names ∙ ap (λ o. todo name (agenda_found d.agendas o)) e in
-    let is : client_events name more ++ todo name (agenda_of d name) ≡ task_event name t ∷ todo name ts = g.asked name ∙ ap (λ o. todo name (agenda_found c.agendas o)) e ∙ ap (todo name) a in
-    contains_client name more (task_event name t)
-    (first_of (client_events name more) (todo name (agenda_of d name)) (todo name ts) (task_event name t) is
-    (omega (arith, less, ap length a, ap length left, length-map (agenda_at d.agendas i) (task_event name), length-map ts (task_event name))))
+-- one event more
+event_goes : (w : World) (e : Event) → IsGood w → GoOn w → refusal w e ≡ None → GoOn (effect w e)
+event_goes w e g h r = each_event GoOn w e g.none_waits (record {
+  casts = λ x m lt up. member_goes w x (published x m (member_at w x)) lt refl refl h;
+  puts = λ x o lt up out. link_goes w o (pushed (link_at w o) (next_packet (member_at w x) (link_at w o).sending)) (g.inv.linked.out_lt x o (ap runs_phase up) out) refl (λ e2. e2) h;
+  takes = λ y s m. link_goes (with_member w y (taker w y s)) s (popped (link_at w s)) (g.inv.current.lt y s (ap runs_phase m.up) m.current) refl (λ e2. e2) (member_goes w y (taker w y s) m.is_member refl refl h);
+  leaves = λ y s lt up current. link_goes (current_is w y None) s (finished (link_at w s)) (g.inv.current.lt y s (ap runs_phase up) current) refl (λ e2. e2) (member_goes w y (with_current None (member_at w y)) lt refl refl h);
+  gains = λ x o lt up out. link_goes w o _ (g.inv.linked.out_lt x o (ap runs_phase up) out) refl (λ e2. e2) h;
+  stops = λ x lt up. stop_goes w x lt (ap runs_phase up) g.inv h;
+  marks = λ x d lt up rests. mark x d lt (ap runs_phase up) rests;
+  refreshes = λ x v m. refresh_goes w x v m.is_member (ap runs_phase m.up) g.inv h;
+  picks = λ y s lt up none door upto. member_goes w y (with_current (Some s) (member_at w y)) lt refl refl h;
+}) r
+  where
+    mark : (x d : ℕ) → x < size w → runs w x ≡ true → runs w d ≡ false → GoOn (refreshed (with_view w (marked (view_at w (newest w)) d)) x (newest w + 1))
+    mark x d lt rx rests = refresh_goes (with_view w (marked (view_at w (newest w)) d)) x (newest w + 1) lt rx (mark_keeps w d rests g.inv) h
 
--- each member that had an agenda has begun with its head
-pub heads_are : (c d : Seen) (more : List Event) → GoesOn c d more → ((i : ℕ) → i < length c.names → HasBegun i c d) → HeadsAre c more
-heads_are c d more g begun name t ts a = head_of c d more name t ts (place_among c.names name) refl g begun a
+-- every event of a run
+run_goes : (w : World) (es : List Event) → IsGood w → GoOn w → IsRun w es → GoOn (last w es)
+run_goes w [] g h r = h
+run_goes w (e ∷ es) g h r = run_goes (effect w e) es (event_good w e g r.0) (event_goes w e g h r.0) r.1
 
--- ---- turn after turn
+-- each member of the opening sends on the link at its own place
+opening_goes : (credit : CreditSpec) (names : List (List ℕ)) → GoOn (opening credit names)
+opening_goes credit names s sl e =
+    let w : World = opening credit names in
+    let lt : s < length names = omega (arith, length-map-range_with_len (opening_link credit names) 1 (length names)) in
+    let from : (link_at w s).sender ≡ suc s = ap (λ a. a.sender) (get_or-map-range_with_len (opening_link credit names) 1 (length names) s (suc s) no_link lt (omega arith)) in
+    let member : member_at w (suc s) ≡ opening_member names (suc s) = get_or-map-range_with_len (opening_member names) 1 (length names) s (suc s) no_member lt (omega arith) in
+    let place : suc s - 1 ≡ s = omega arith in
+    subst (λ q. SendsThere (member_at w q) s) (sym from) (subst (λ a. SendsThere a s) (sym member) (refl, ap (λ k. Some k) place))
 
-pub begun_on : (i : ℕ) (c d e : Seen) → HasBegun i c d → length (agenda_at e.agendas i) ≤ length (agenda_at d.agendas i) → HasBegun i c e
-begun_on i c d e h l some = omega (arith, h some)
-
-pub begun_later : (i : ℕ) (c d e : Seen) → agenda_at d.agendas i ≡ agenda_at c.agendas i → HasBegun i d e → HasBegun i c e
-begun_later i c d e same h some = omega (arith, ap length same, h (omega (arith, ap length same)))
-
--- ---- commands
-
-pub agenda_more : (agendas : List (List Task)) (i : ℕ) (t : Task) → i < length agendas → agenda_at (set agendas i (agenda_at agendas i ++ t ∷ [])) i ≡ agenda_at agendas i ++ t ∷ []
-agenda_more agendas i t l = get_or-set_same agendas i (agenda_at agendas i ++ t ∷ []) [] l
-
-pub commanded_asked : (c : Seen) (by body : List ℕ) (name : List ℕ) (i : ℕ) (b : Bool) → bytes_eq by name ≡ b → place_among c.names by ≡ Some i → IsGoing c → PlaysSoFar c
-    → client_events name c.events ++ todo name (agenda_of (commanded c (command.Cast by body)) name) ≡ asked name (c.given ++ command.Cast by body ∷ [])
-commanded_asked c by body name i true e p g h =
-    let same : by ≡ name = same_bytes by name e in
-    let il : i < length c.agendas = omega (arith, g.agendas, (position-Some (λ n. bytes_eq n by) c.names i [] p).0) in
-    let place : place_among c.names name ≡ Some i = ap (place_among c.names) (sym same) ∙ p in
-    let agenda : agenda_of (commanded c (command.Cast by body)) name ≡ agenda_at c.agendas i ++ task.Cast body ∷ [] =
-    ap (λ o. agenda_found (with_task c.agendas o (task.Cast body)) (place_among c.names name)) p ∙ ap (agenda_found (with_task c.agendas (Some i) (task.Cast body))) place ∙ agenda_more c.agendas i (task.Cast body) il in
-    let one : asked_by name (command.Cast by body) ≡ task_event name (task.Cast body) ∷ [] = rw e (ap (λ n. Cast n body ∷ []) same) in
-    ap (λ ts. client_events name c.events ++ todo name ts) agenda
-    ∙ ap (λ es. client_events name c.events ++ es) (map-append (task_event name) (agenda_at c.agendas i) (task.Cast body ∷ []))
-    ∙ sym (append_assoc (client_events name c.events) (todo name (agenda_at c.agendas i)) (task_event name (task.Cast body) ∷ []))
-    ∙ ap (λ o. (client_events name c.events ++ todo name (agenda_found c.agendas o)) ++ task_event name (task.Cast body) ∷ []) (sym place)
-    ∙ ap (λ es. es ++ task_event name (task.Cast body) ∷ []) (h.asked name)
-    ∙ ap (λ es. asked name c.given ++ es) (sym one)
-    ∙ sym (asked_push name c.given (command.Cast by body))
-commanded_asked c by body name i false e p g h =
-    let named : get_or c.names i [] ≡ by = same_bytes (get_or c.names i []) by (position-Some (λ n. bytes_eq n by) c.names i [] p).1 in
-    let other : bytes_eq (get_or c.names i []) name ≡ false = ap (λ n. bytes_eq n name) named ∙ e in
-    let agenda : agenda_of (commanded c (command.Cast by body)) name ≡ agenda_of c name =
-    ap (λ o. agenda_found (with_task c.agendas o (task.Cast body)) (place_among c.names name)) p ∙ agenda_other c.agendas c.names name i (agenda_at c.agendas i ++ task.Cast body ∷ []) (place_among c.names name) refl other in
-    let none : asked_by name (command.Cast by body) ≡ [] = rw e refl in
-    ap (λ ts. client_events name c.events ++ todo name ts) agenda
-    ∙ h.asked name
-    ∙ sym (append-nil (asked name c.given))
-    ∙ ap (λ es. asked name c.given ++ es) (sym none)
-    ∙ sym (asked_push name c.given (command.Cast by body))
-
-pub found_place : (o : Option ℕ) → IsSome o → (i : ℕ) × (o ≡ Some i)
-found_place None h = absurd (false≢true h)
-found_place (Some i) h = (i, refl)
-
--- a command that was taken keeps what is played
-pub commanded_plays : (c d : Seen) (x : Command) → IsGoing c → IsCommandTo c.names x → d ≡ commanded c x → PlaysSoFar c → PlaysSoFar d
-commanded_plays c d (command.Cast by body) g k is h =
-    let f : (i : ℕ) × (place_among c.names by ≡ Some i) = found_place (place_among c.names by) k in
-    subst PlaysSoFar (sym is) (record {
-      asked = λ name. commanded_asked c by body name f.0 (bytes_eq by name) refl f.1 g h;
-      settled = settled_each_more c.credit c.names c.events c.given (command.Cast by body) h.settled (λ e. cc);
-    })
-commanded_plays c d (command.Go turns) g k is h = absurd k
-commanded_plays c d command.Settle g k is h = absurd k
-
--- ---- rounds and settling
-
-pub go_plays : (c d : Seen) (turns : ℕ) → HasGoneOn c d → d.given ≡ c.given ++ command.Go turns ∷ [] → PlaysSoFar c → PlaysSoFar d
-go_plays c d turns goes eg h =
-    let e : Seen = record d { given = c.given } in
-    let on : PlaysSoFar e = plays_on c e goes.0 (GoesOn-given c d e goes.0 refl refl refl refl goes.1) refl h in
-    plays_noted e d (command.Go turns) (λ name. refl) (λ x. cc) refl refl refl refl eg on
-
-pub same_plays : (c d : Seen) → HasGoneOn c d → d.given ≡ c.given → PlaysSoFar c → PlaysSoFar d
-same_plays c d goes eg h = plays_on c d goes.0 goes.1 eg h
-
-pub settle_plays : (c d : Seen) → HasGoneOn c d → AgendasAreEmpty d → IsQuiet (state_of d) → d.given ≡ c.given ++ command.Settle ∷ [] → PlaysSoFar c → PlaysSoFar d
-settle_plays c d goes empty quiet eg h =
-    let e : Seen = record d { given = c.given } in
-    let on : PlaysSoFar e = plays_on c e goes.0 (GoesOn-given c d e goes.0 refl refl refl refl goes.1) refl h in
-    plays_noted e d command.Settle (λ name. refl) (λ _. settled_now d.credit d.names d.events c.given quiet (empty_is_done e empty on)) refl refl refl refl eg on
-
-pub settle_played : (c d : Seen) → HasGoneOn c d → AgendasAreEmpty d → IsQuiet (state_of d) → d.given ≡ c.given ++ command.Settle ∷ [] → PlaysSoFar c → Plays d.credit d.names d.events d.given
-settle_played c d goes empty quiet eg h = settled_plays d empty (settle_plays c d goes empty quiet eg h)
-
--- only what was given and the rounds differ
-pub gone_beside : (c c1 d d1 : Seen) → c1.credit ≡ c.credit → c1.names ≡ c.names → c1.events ≡ c.events → c1.agendas ≡ c.agendas → d.credit ≡ d1.credit → d.names ≡ d1.names → d.events ≡ d1.events → d.agendas ≡ d1.agendas → HasGoneOn c1 d1 → HasGoneOn c d
-gone_beside c c1 d d1 c1c c1n c1e c1a dc dn de da h = (
-  h.0,
-  record {
-    credit = dc ∙ h.1.credit ∙ c1c;
-    names = dn ∙ h.1.names ∙ c1n;
-    count = ap length da ∙ h.1.count ∙ ap length c1a;
-    events = de ∙ h.1.events ∙ ap (λ es. es ++ h.0) c1e;
-    asked = λ name.
-        ap (λ ts. client_events name h.0 ++ todo name ts) (ap (λ ags. agenda_found ags (place_among d.names name)) da ∙ ap (λ ns. agenda_found d1.agendas (place_among ns name)) dn)
-        ∙ h.1.asked name
-        ∙ ap (todo name) (ap (λ ags. agenda_found ags (place_among c1.names name)) c1a ∙ ap (λ ns. agenda_found c.agendas (place_among ns name)) c1n);
-  },
-)
-
-pub task_enabled_at : (credit : CreditSpec) (names : List (List ℕ)) (events : List Event) (i : ℕ) (t : Task) → AreOpeningNames names → IsRun (opening credit names) events → i < length names → refusal (state credit names events) (task_event (get_or names i []) t) ≡ None
-task_enabled_at credit names events i (task.Cast body) are run l =
-    let il : i < size (state credit names events) = omega (arith, run_size credit names events run) in
-    ap (λ o. of_member o (λ (_ : ℕ). None)) (ap (place_of (state credit names events).members) (sym (run_name_at credit names events i run il)) ∙ run_place_of credit names events i are.different run il)
-
-pub idle_after : (c c1 c2 c3 : Seen) (i : ℕ) (by : List ℕ) → IsGoing c → i < length c.names → by ≡ get_or c.names i [] → (c1 ≡ c) × (refusal (state_of c) (Gain by) ≢ None) → (c2 ≡ c1) × (refusal (state_of c1) (Take by) ≢ None) → (c3 ≡ c2) × (refusal (state_of c2) (Put by) ≢ None) → (c3 ≡ c) × IsIdle (state_of c) i
-idle_after c c1 c2 c3 i by g l e gain take put =
-    let two : c2 ≡ c = take.0 ∙ gain.0 in (
-      put.0 ∙ two,
-      idle_at c i g l
-          (λ x. put.1 (ap (λ d. refusal (state_of d) (Put by)) two ∙ ap (λ n. refusal (state_of c) (Put n)) e ∙ x))
-          (λ x. take.1 (ap (λ d. refusal (state_of d) (Take by)) gain.0 ∙ ap (λ n. refusal (state_of c) (Take n)) e ∙ x))
-          (λ x. gain.1 (ap (λ n. refusal (state_of c) (Gain n)) e ∙ x)),
-    )
-
--- c1 has another count of rounds than c, and c2 another list of what was given than c1
-pub gone_from : (c c1 c2 d : Seen) (rounds : ℕ) (given : List Command) → c1 ≡ record c { rounds = rounds } → c2 ≡ record c1 { given = given } → HasGoneOn c2 d → HasGoneOn c d
-gone_from c c1 c2 d rounds given e1 e2 h =
-    gone_beside c c2 d d (ap (λ x. x.credit) e2 ∙ ap (λ x. x.credit) e1) (ap (λ x. x.names) e2 ∙ ap (λ x. x.names) e1) (ap (λ x. x.events) e2 ∙ ap (λ x. x.events) e1) (ap (λ x. x.agendas) e2 ∙ ap (λ x. x.agendas) e1) refl refl refl refl h
-
-pub gone_into : (c d e : Seen) (given : List Command) → e ≡ record d { given = given } → HasGoneOn c d → HasGoneOn c e
-gone_into c d e given is h = gone_beside c c e d refl refl refl refl (ap (λ x. x.credit) is) (ap (λ x. x.names) is) (ap (λ x. x.events) is) (ap (λ x. x.agendas) is) h
-
-pub round_heads : (c c1 c2 d : Seen) (rounds : ℕ) (given : List Command) → c1 ≡ record c { rounds = rounds } → c2 ≡ record c1 { given = given } → HasGoneOn c2 d → ((i : ℕ) → i < length c2.names → HasBegun i c2 d) → (more : List Event) × GoesOn c d more × HeadsAre c more
-round_heads c c1 c2 d rounds given e1 e2 h begun =
-    let agendas : c2.agendas ≡ c.agendas = ap (λ x. x.agendas) e2 ∙ ap (λ x. x.agendas) e1 in
-    let names : c2.names ≡ c.names = ap (λ x. x.names) e2 ∙ ap (λ x. x.names) e1 in
-    let gone : HasGoneOn c d = gone_from c c1 c2 d rounds given e1 e2 h in
-    (gone.0, gone.1, heads_are c d gone.0 gone.1 (λ i l. begun_later i c c2 d (ap (λ ags. agenda_at ags i) agendas) (begun i (omega (arith, ap length names)))))
-
-pub given_after : (c c1 c2 d : Seen) (rounds : ℕ) (x : Command) → c1 ≡ record c { rounds = rounds } → c2 ≡ record c1 { given = c1.given ++ x ∷ [] } → d.given ≡ c2.given → d.given ≡ c.given ++ x ∷ []
-given_after c c1 c2 d rounds x e1 e2 e = e ∙ ap (λ y. y.given) e2 ∙ ap (λ y. y.given ++ x ∷ []) e1
-
-pub noted : (c c2 d : Seen) (x : Command) → c2 ≡ record c { given = c.given ++ x ∷ [] } → d.given ≡ c2.given → d.given ≡ c.given ++ x ∷ []
-noted c c2 d x e2 e = e ∙ ap (λ y. y.given) e2
-
-pub gone_noted : (c c2 d : Seen) (given : List Command) → c2 ≡ record c { given = given } → HasGoneOn c2 d → HasGoneOn c d
-gone_noted c c2 d given e2 h = gone_beside c c2 d d (ap (λ x. x.credit) e2) (ap (λ x. x.names) e2) (ap (λ x. x.events) e2) (ap (λ x. x.agendas) e2) refl refl refl refl h
+-- so in every state of every run of a ring with these names
+pub reached_goes : (credit : CreditSpec) (names : List (List ℕ)) (es : List Event) → AreOpeningNames names → IsRun (opening credit names) es → GoOn (last (opening credit names) es)
+reached_goes credit names es are r = run_goes (opening credit names) es (opening_good credit names are) (opening_goes credit names) r

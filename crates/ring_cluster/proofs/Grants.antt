@@ -1,24 +1,18 @@
 -- Each grant under way is of some credit, so there are never more grants than the credit of a link.
-use Rattle.std.proofs.Common.{◌≡◌, ℕ, ◌<◌, ◌≤◌, Bool, true, false, if◌then◌else◌, not, ◌&&◌, Some, None, List, [], ◌∷◌, ◌++◌, length, sum, drop, refl, arith}
+use Rattle.std.proofs.Common.{◌≡◌, ℕ, ◌+◌, ◌<◌, Option, Some, None, List, [], ◌∷◌, ◌++◌, refl, sym, ◌∙◌, append_assoc, ◌≤◌, Bool, true, false, if◌then◌else◌, length, sum, drop, arith, ap, ⊎_elim}
+use Rattle.credit_flow.specs.Link.{with_grant}
 use Rattle.std.specs.Prelude.{⊤}
 use Rattle.std.proofs.lemmas.Grind.{common_steps}
-use Rattle.ring_names.specs.declared.message.Message.TheVariants as message
-use Rattle.ring_names.specs.declared.numbers.CreditSpec.{CreditSpec}
-use Rattle.credit_flow.specs.Credit.{is_grant_next}
-use Rattle.credit_flow.specs.Link.{with_grant}
-use Rattle.ring_world.specs.declared.fixed.Event.{Event}
-use Rattle.ring_world.specs.declared.fixed.Event.TheVariants.{Cast, Put, Take, Gain}
-use Rattle.ring_world.specs.World.{World, Link, AreOpeningNames, no_link, link_at, size, left_of}
-use Rattle.ring_world.specs.Member.{popped}
-use Rattle.ring_world.specs.Refusal.{refusal}
-use Rattle.ring_world.specs.Effect.{effect, with_link, publish_at, put_at, take_at, gain_at}
-use Rattle.ring_world.specs.Run.{IsRun, last, opening}
-use Rattle.ring_world.specs.Laws.{KeepsCredit}
-use Rattle.ring_world.proofs.Writes.{at_set}
-use Rattle.ring_world.proofs.Round.{left_of-lt}
-use Rattle.ring_world.proofs.Run.{at_place_does, run_keeps, opening_links}
-use Rattle.ring_world.proofs.Credit.{LinkIsKept, IsInCredit, links_within, effect_in_credit, opening_in_credit, run_keeps_credit}
-use Rattle.gm_member.proofs.Reached.{IsFit, run_fit}
+use Rattle.ordered_link.specs.declared.plain.PlainIn.{PlainIn}
+use Rattle.ordered_link.specs.Waiting.{Sends}
+use Rattle.ordered_link.specs.Steps.{PlainSends}
+use Rattle.gm_member.specs.declared.packet.Load.{Load}
+use Rattle.gm_member.specs.Loads.{GrantsIf}
+
+-- a grant is given after those that are under way
+pub append-with_grant : (xs ys : List ℕ) (grant : Option ℕ) → xs ++ with_grant ys grant ≡ with_grant (xs ++ ys) grant
+append-with_grant xs ys None = refl
+append-with_grant xs ys (Some grant) = sym (append_assoc xs ys (grant ∷ []))
 
 -- ---- lists of grants
 
@@ -44,57 +38,22 @@ pub ArePositive-with_grant : (b : Bool) (more : ℕ) (gs : List ℕ) → 0 < mor
 ArePositive-with_grant true more gs l h = ArePositive-push gs more l h
 ArePositive-with_grant false more gs l h = h
 
--- ---- one event
+-- ---- a take
 
--- each grant under way on each link
-abbrev pub AllGive : World → Type 0
-AllGive w = (s : ℕ) → ArePositive (link_at w s).flow.grants
+-- nothing waited, so the way back is as it was
+pub nothing_sent : (given given' : List ℕ) (late late' : Option ℕ) → late ≡ None → Sends given late given' late' → (given' ≡ given) × (late' ≡ None)
+nothing_sent given given' late late' e s = ⊎_elim
+    (λ (x : (given' ≡ given) × (late' ≡ late)). (x.0, x.1 ∙ e))
+    (λ (x : (late' ≡ None) × (g : ℕ) × (late ≡ Some g) × (given' ≡ given ++ g ∷ [])). absurd (cc (sym e ∙ x.2)))
+    s
 
-pub link_gives : (w : World) (i : ℕ) (l : Link) → i < length w.links → ArePositive l.flow.grants → AllGive w → AllGive (with_link w i l)
-link_gives w i l il here h s = at_set (λ j k. ArePositive k.flow.grants) w.links i s l no_link il here (λ _. h s)
+-- where nothing waits afterwards, the grant has gone
+one_sent : (given given' : List ℕ) (late' : Option ℕ) (g : ℕ) → late' ≡ None → Sends given (Some g) given' late' → given' ≡ given ++ g ∷ []
+one_sent given given' late' g e s = ⊎_elim
+    (λ (x : (given' ≡ given) × (late' ≡ Some g)). absurd (cc (sym e ∙ x.1)))
+    (λ (x : (late' ≡ None) × (d : ℕ) × (Some g ≡ Some d) × (given' ≡ given ++ d ∷ [])). let d : x.1 ≡ g = cc (x.2) in x.3 ∙ ap (λ k. given ++ k ∷ []) d)
+    s
 
-pub popped_gives : (credit : CreditSpec) (l : Link) → LinkIsKept credit l → ArePositive l.flow.grants → ArePositive (popped l).flow.grants
-popped_gives credit l k h = ArePositive-with_grant (is_grant_next l.flow.receiver && not l.flow.receiver.holding) l.flow.receiver.more l.flow.grants (omega (arith, k.kept.receiver_more, credit.positive)) h
-
--- the credit of the links, and their grants
-pub record IsGiving (credit : CreditSpec) (n : ℕ) (w : World) : Type 0 where
-  pub kept : IsInCredit credit n w
-  pub gives : AllGive w
-
-pub effect_gives : (credit : CreditSpec) (n : ℕ) (w : World) (e : Event) → refusal w e ≡ None → IsGiving credit n w → AllGive (effect w e)
-effect_gives credit n w (Cast by body) r h = at_place_does AllGive w by _ (publish_at w (message.Cast body)) _ refl r (λ i l _. h.gives)
-effect_gives credit n w (Put by) r h = at_place_does AllGive w by _ (put_at w) _ refl r (λ i l _. link_gives w i _ (links_within n w i h.kept.sized l) (h.gives i) h.gives)
-effect_gives credit n w (Take by) r h = at_place_does AllGive w by _ (take_at w) _ refl r
-    (λ i l _ s.
-    let sl : left_of (size w) i < size w = left_of-lt (size w) i l in
-    at_set (λ j k. ArePositive k.flow.grants) w.links (left_of (size w) i) s (popped (link_at w (left_of (size w) i))) no_link (links_within n w _ h.kept.sized sl)
-    (popped_gives credit (link_at w (left_of (size w) i)) (h.kept.kept _ sl) (h.gives _)) (λ _. h.gives s))
-effect_gives credit n w (Gain by) r h = at_place_does AllGive w by _ (gain_at w) _ refl r
-    (λ i l _. link_gives w i _ (links_within n w i h.kept.sized l) (ArePositive-drop (link_at w i).flow.grants (h.gives i)) h.gives)
-
-pub effect_giving : (credit : CreditSpec) (n : ℕ) (w : World) (e : Event) → refusal w e ≡ None → IsGiving credit n w → IsGiving credit n (effect w e)
-effect_giving credit n w e r h = record { kept = effect_in_credit credit n w e r h.kept; gives = effect_gives credit n w e r h }
-
--- ---- runs
-
-pub opening_giving : (credit : CreditSpec) (names : List (List ℕ)) → IsGiving credit (length names) (opening credit names)
-opening_giving credit names = record {
-  kept = opening_in_credit credit names;
-  gives = λ s. opening_links (λ l. ArePositive l.flow.grants) credit names s tt tt;
-}
-
-pub run_giving : (credit : CreditSpec) (names : List (List ℕ)) (events : List Event) → IsRun (opening credit names) events → IsGiving credit (length names) (last (opening credit names) events)
-run_giving credit names events r = run_keeps (IsGiving credit (length names)) (effect_giving credit (length names)) (opening credit names) events r (opening_giving credit names)
-
--- what the lemmas on clusters need of a state of a run
-pub record IsLawfulAt (credit : CreditSpec) (w : World) : Type 0 where
-  pub fit : IsFit w
-  pub kept : KeepsCredit credit.initial w
-  pub few : (s : ℕ) → length (link_at w s).flow.grants ≤ sum (link_at w s).flow.grants
-
-pub run_lawful : (credit : CreditSpec) (names : List (List ℕ)) (events : List Event) → AreOpeningNames names → IsRun (opening credit names) events → IsLawfulAt credit (last (opening credit names) events)
-run_lawful credit names events are r = record {
-  fit = run_fit credit names events are r;
-  kept = run_keeps_credit credit names events r;
-  few = λ s. ArePositive-count (link_at (last (opening credit names) events) s).flow.grants ((run_giving credit names events r).gives s);
-}
+pub granted : (due : Option ℕ) (a b : PlainIn Load) → 0 < a.free → a.late ≡ None → GrantsIf due PlainSends a b → (b.items ≡ a.items) × (b.given.items ≡ with_grant a.given.items due) × (b.late ≡ None) × (length b.given.items + b.free ≡ length a.given.items + a.free) × (b.initial ≡ a.initial)
+granted None a b free late e = (ap (λ x. x.items) e, ap (λ x. x.given.items) e, ap (λ x. x.late) e ∙ late, ap (λ x. length x.given.items + x.free) e, ap (λ x. x.initial) e)
+granted (Some g) a b free late (items, sends, room, gone, initial) = (items, one_sent a.given.items b.given.items b.late g (gone free) sends, gone free, room, initial)

@@ -1,46 +1,81 @@
--- What a member that stands in a state holds of it.
-use Rattle.std.proofs.Common.{◌≡◌, ℕ, ◌<◌, List, length, refl, sym, ap, subst, ◌∙◌, arith}
-use Rattle.std.specs.Prelude.{IsSome, IfSome, Option, None, Some}
+-- What a member that stands in a state, where members may stop, holds of it.
+use Rattle.std.proofs.Common.{◌≡◌, ℕ, ◌+◌, ◌-◌, ◌<◌, ◌≤◌, Bool, true, false, not, ◌||◌, nat_eq, List, length, refl, sym, ap, ◌∙◌, arith}
+use Rattle.std.specs.Prelude.{◌&&◌, Option, None, Some, is_some, option_map}
+use Rattle.group_view.specs.declared.link.LinkName.{LinkName}
 use Rattle.ring_names.specs.declared.numbers.CreditSpec.{CreditSpec}
-use Rattle.ring_world.specs.declared.fixed.Event.{Event}
-use Rattle.ring_world.specs.World.{World, Row, row_at, member_at, size}
-use Rattle.gm_member.specs.Held.{Held}
-use Rattle.gm_member.specs.View.{known_at}
-use Rattle.gm_member.specs.Stands.{held_in}
-use Rattle.gm_member.proofs.Reached.{IsFit, run_fit}
-use Rattle.gm_member.proofs.PutStands.{row_in}
-use Rattle.ring_cluster.specs.Ends.{OutSeen, InSeen, held_at}
+use Rattle.ring_world.specs.declared.event.Event.{Event}
+use Rattle.ring_world.specs.Rows.{Row}
+use Rattle.ring_world.specs.Machine.{World, member_at, view_at, newest}
+use Rattle.ring_world.specs.Step.{size}
+use Rattle.ring_world.specs.Lawful.{row_of}
+use Rattle.gm_member.specs.Held.{Held, Incoming, known_at}
+use Rattle.gm_member.specs.Stands.{held_in, outgoing_in}
+use Rattle.gm_member.specs.Shown.{out_name_of}
+use Rattle.gm_member.proofs.Fit.{IsFit, reached_fit}
+use Rattle.gm_member.proofs.Facts.{held_row, version_of_view}
+use Rattle.ring_cluster.specs.Work.{is_stale}
 use Rattle.ring_cluster.specs.Holds.{HoldsOf}
 use Rattle.ring_cluster.specs.Seen.{state}
-use Rattle.ring_cluster.specs.Standing.{IsStandingIn}
-use Rattle.ring_cluster.proofs.Closing.{stands_at, state_size, standing_size}
+use Rattle.ring_cluster.specs.Parties.{Parties, node_at}
+use Rattle.ring_cluster.specs.Standing.{StandAfter, MemberStands}
+use Rattle.ring_cluster.proofs.Named.{run_many}
 
-pub held_holds : (w : World) (i : ℕ) → IsFit w → i < size w → HoldsOf w i (held_in w i)
-held_holds w i f l =
-    let row : (p : ℕ) → p < size w → known_at (held_in w i).member.rows p ≡ row_at (member_at w i) p = λ p pl. row_in w i p (omega (arith, f.few)) in
-    record {
-      place = refl;
-      name = refl;
-      got = λ p pl. ap (λ (r : Row). r.got) (row p pl);
-      forgot = λ p pl. ap (λ (r : Row). r.forgot) (row p pl);
-      retired = λ p pl. ap (λ (r : Row). r.retired) (row p pl);
-      messages = λ p pl. ap (λ (r : Row). r.heard) (row p pl) ∙ f.good.heard i p l pl;
-    }
+-- what a member holds that stands at an id, but for its door
+abbrev pub IsHeld : World → ℕ → Held → Type 0
+IsHeld w x h = h ≡ record (held_in w x) { door = h.door }
 
-pub stands_holds : (w : World) (i : ℕ) (h : Held) → IsFit w → i < size w → h ≡ held_in w i → HoldsOf w i h
-stands_holds w i h f l e = subst (HoldsOf w i) (sym e) (held_holds w i f l)
+pub held_but_door : (w : World) (x : ℕ) (h : Held) (door : List Incoming) → h ≡ record (held_in w x) { door = door } → IsHeld w x h
+held_but_door w x h door e = e ∙ ap (λ d. record (held_in w x) { door = d }) (sym (ap (λ k. k.door) e))
 
-pub member_within : (credit : CreditSpec) (names : List (List ℕ)) (events : List Event) (hs : List Held) (os : List OutSeen) (ns : List InSeen) (n : ℕ) → IsStandingIn credit names events hs os ns → n ≡ length hs → n ≡ length names
-member_within credit names events hs os ns n s e = e ∙ standing_size credit names events hs os ns s
+pub held_holds : (w : World) (x : ℕ) (h : Held) → IsFit w → IsHeld w x h → HoldsOf w x h
+held_holds w x h f e = record {
+  id = ap (λ k. k.id) e;
+  name = ap (λ k. k.name) e;
+  phase = ap (λ k. k.phase) e;
+  view = ap (λ k. k.view) e;
+  got = λ p some lt. ap (λ (r : Row). r.got) (row p some lt);
+  forgot = λ p some lt. ap (λ (r : Row). r.forgot) (row p some lt);
+  retired = λ p some lt. ap (λ (r : Row). r.retired) (row p some lt);
+  messages = λ p some lt. ap (λ (r : Row). r.heard) (row p some lt) ∙ f.lawful.in_order x p;
+}
+  where
+    row : (p : ℕ) → 1 ≤ p → p < size w → known_at h.rows (p - 1) ≡ row_of w x p
+    row p some lt =
+        let back : p - 1 + 1 ≡ p = omega arith in
+        ap (λ k. known_at k.rows (p - 1)) e ∙ held_row w x (p - 1) (omega (arith, f.sized.few)) ∙ ap (row_of w x) back
 
-pub member_stands : (credit : CreditSpec) (names : List (List ℕ)) (events : List Event) (hs : List Held) (os : List OutSeen) (ns : List InSeen) (i : ℕ) (h : Held) → IsStandingIn credit names events hs os ns → i < length names → h ≡ held_at hs i → h ≡ held_in (state credit names events) i
-member_stands credit names events hs os ns i h s l e = e ∙ stands_at credit names events hs os ns i s (omega (arith, state_size credit names events hs os ns s))
+-- ---- a cluster
 
-pub member_holds : (credit : CreditSpec) (names : List (List ℕ)) (events : List Event) (hs : List Held) (os : List OutSeen) (ns : List InSeen) (i : ℕ) (h : Held) → IsStandingIn credit names events hs os ns → i < length names → h ≡ held_at hs i → HoldsOf (state credit names events) i h
-member_holds credit names events hs os ns i h s l e =
-    stands_holds (state credit names events) i h (run_fit credit names events s.are s.run) (omega (arith, state_size credit names events hs os ns s)) (member_stands credit names events hs os ns i h s l e)
+pub nodes_many : (credit : CreditSpec) (names : List (List ℕ)) (events : List Event) (q : Parties) → StandAfter credit names events q → length q.nodes ≡ length names
+nodes_many credit names events q s = omega (arith, s.stand.stand.count, run_many credit names events s.journal.are s.journal.run)
 
--- what holds of a value that is there
-pub if_some_from : {A : Type 0} (P Q : A → Type 0) (o : Option A) → (IsSome o → (x : A) → P x → Q x) → IfSome o P → IfSome o Q
-if_some_from P Q None h p = p
-if_some_from P Q (Some x) h p = h refl x p
+pub node_stands : (credit : CreditSpec) (names : List (List ℕ)) (events : List Event) (q : Parties) (x : ℕ) → StandAfter credit names events q → 1 ≤ x → x ≤ length names → IsHeld (state credit names events) x (node_at q (x - 1)).held
+node_stands credit names events q x s some le =
+    let m : MemberStands (state credit names events) s.stand.places x (node_at q (x - 1)) = s.stand.stand.each x some (omega (arith, run_many credit names events s.journal.are s.journal.run)) in
+    held_but_door (state credit names events) x (node_at q (x - 1)).held _ m.held
+
+pub node_holds : (credit : CreditSpec) (names : List (List ℕ)) (events : List Event) (q : Parties) (x : ℕ) → StandAfter credit names events q → 1 ≤ x → x ≤ length names → HoldsOf (state credit names events) x (node_at q (x - 1)).held
+node_holds credit names events q x s some le =
+    held_holds (state credit names events) x (node_at q (x - 1)).held (reached_fit credit names events s.journal.are s.journal.run) (node_stands credit names events q x s some le)
+
+-- ---- whether a member is stale
+
+pub not_and : (a b : Bool) → (not a || not b) ≡ not (a && b)
+not_and true b = refl
+not_and false b = refl
+
+-- the version of the newest view
+pub newest_version : (w : World) → IsFit w → (view_at w (newest w)).version ≡ newest w
+newest_version w f = version_of_view w (newest w) f.good.views (omega arith)
+
+mapped_some : {A B : Type 0} (f : A → B) (o : Option A) → is_some (option_map f o) ≡ is_some o
+mapped_some f None = refl
+mapped_some f (Some a) = refl
+
+pub held_stale : (w : World) (x have newer : ℕ) (name : Option LinkName) (h : Held) → IsFit w → IsHeld w x h → have ≡ h.view.version → newer ≡ (view_at w (newest w)).version → name ≡ out_name_of h
+    → (not (nat_eq have newer) || not (is_some name)) ≡ is_stale (newest w) (member_at w x)
+held_stale w x have newer name h f e he ne oe =
+    let own : have ≡ (member_at w x).version = he ∙ ap (λ (k : Held). k.view.version) e ∙ version_of_view w (member_at w x).version f.good.views (f.good.inv.is_ring.held x) in
+    let top : newer ≡ newest w = ne ∙ newest_version w f in
+    let out : is_some name ≡ is_some (member_at w x).out = ap is_some oe ∙ mapped_some _ h.out ∙ ap (λ (k : Held). is_some k.out) e ∙ mapped_some (outgoing_in w) (member_at w x).out in
+    not_and (nat_eq have newer) (is_some name) ∙ ap (λ b. not (b && is_some name)) (ap (λ a. nat_eq a newer) own ∙ ap (nat_eq (member_at w x).version) top) ∙ ap (λ b. not (nat_eq (member_at w x).version (newest w) && b)) out

@@ -1,51 +1,130 @@
--- The events of members by their names.
-use Rattle.std.proofs.Common.{◌≡◌, ◌≢◌, ℕ, ◌<◌, List, Some, None, refl, ap, ◌∙◌}
-use Rattle.ring_world.specs.declared.fixed.Event.TheVariants.{Put, Take, Gain}
-use Rattle.ring_world.specs.World.{World, place_of}
-use Rattle.ring_world.specs.Refusal.{refusal, of_member, put_refusal, take_refusal, gain_refusal}
-use Rattle.ring_world.specs.Effect.{effect, at_place, put_at, take_at, gain_at}
-use Rattle.ring_world.proofs.Good.{IsGood}
-use Rattle.ring_world.proofs.Run.{at_place_does}
-use Rattle.ring_cluster.specs.Work.{work}
-use Rattle.ring_cluster.specs.Idle.{IsIdle}
-use Rattle.ring_cluster.proofs.Falls.{put_falls, gain_falls}
-use Rattle.ring_cluster.proofs.TakeFalls.{take_falls}
+-- The members of a cluster by their names, and what they may do.
+use Rattle.std.proofs.Common.{◌≡◌, ℕ, suc, ◌+◌, ◌-◌, ◌<◌, ◌≤◌, true, false, List, [], ◌∷◌, ◌++◌, length, map, get_or, Option, Some, None, refl, sym, ap, subst, ◌∙◌, arith}
+use Rattle.std.specs.Prelude.{MatchOption}
+use Rattle.std.proofs.lemmas.Bool.{false≢true, le-ltb}
+use Rattle.std.proofs.lemmas.List.{length-map, get_or-map}
+use Rattle.ring_names.specs.declared.reason.Reason.{Reason}
+use Rattle.ring_names.specs.declared.reason.Reason.TheVariants as reason
+use Rattle.ring_names.specs.declared.numbers.CreditSpec.{CreditSpec}
+use Rattle.group_view.specs.Change.{AreOpeningNames}
+use Rattle.ring_world.specs.declared.event.Event.{Event}
+use Rattle.ring_world.specs.declared.event.Event.TheVariants.{Mark, Refresh}
+use Rattle.ring_world.specs.declared.phase.Phase.{Phase}
+use Rattle.ring_world.specs.declared.phase.Phase.TheVariants.{Waiting, Up, Stopped}
+use Rattle.ring_world.specs.Refusal.{refuse_if, or_else}
+use Rattle.ring_world.specs.Machine.{Member, World, no_member, member_at, newest, runs, runs_phase, is_waiting}
+use Rattle.ring_world.specs.Step.{size, opening}
+use Rattle.ring_world.specs.Event.{id_of, of_member, is_stopped, up_refusal, refresh_refusal, refusal, effect, IsRun, last}
+use Rattle.ring_world.proofs.Cases.{up_of}
+use Rattle.gm_member.proofs.Names.{NamesAre, reached_names}
+use Rattle.gm_member.proofs.Fit.{IsFit, reached_fit}
+use Rattle.ring_cluster.specs.declared.agenda.Task.{Task}
+use Rattle.ring_cluster.specs.declared.agenda.Task.TheVariants as task
+use Rattle.ring_cluster.specs.declared.driver.OwnStep.{OwnStep}
+use Rattle.ring_cluster.specs.declared.driver.OwnStep.TheVariants as step
+use Rattle.ring_cluster.specs.Work.{is_stale, LeavesLess}
+use Rattle.ring_cluster.specs.Seen.{Seen, state, state_of, IsGoing}
+use Rattle.ring_cluster.specs.Plays.{task_event}
+use Rattle.ring_cluster.specs.Turns.{step_event}
+use Rattle.ring_cluster.proofs.Falls.{put_lowers, gain_lowers}
+use Rattle.ring_cluster.proofs.Moves.{end_lowers, pick_lowers}
+use Rattle.ring_cluster.proofs.TakeFalls.{take_lowers}
+use Rattle.ring_cluster.proofs.RefreshFalls.{refresh_lowers}
+use Rattle.ring_cluster.proofs.MarkFalls.{mark_lowers}
 
--- ---- of a member that is found by its name: what refuses the event, and what it does
+-- what holds of a value that is there
+pub from_some : {A : Type 0} (P : Type 0) (Q : A → Type 0) (o : Option A) (x : A) → o ≡ Some x → MatchOption o P Q → Q x
+from_some P Q o x e h = subst (λ k. MatchOption k P Q) e h
 
-pub put_refusal_named : (w : World) (name : List ℕ) (i : ℕ) → place_of w.members name ≡ Some i → refusal w (Put name) ≡ put_refusal w i
-put_refusal_named w name i e = ap (λ o. of_member o (put_refusal w)) e
+-- ---- a run and one event more
 
-pub take_refusal_named : (w : World) (name : List ℕ) (i : ℕ) → place_of w.members name ≡ Some i → refusal w (Take name) ≡ take_refusal w i
-take_refusal_named w name i e = ap (λ o. of_member o (take_refusal w)) e
+pub last_push : (w : World) (es : List Event) (e : Event) → last w (es ++ e ∷ []) ≡ effect (last w es) e
+last_push w [] e = refl
+last_push w (f ∷ es) e = last_push (effect w f) es e
 
-pub gain_refusal_named : (w : World) (name : List ℕ) (i : ℕ) → place_of w.members name ≡ Some i → refusal w (Gain name) ≡ gain_refusal w i
-gain_refusal_named w name i e = ap (λ o. of_member o (gain_refusal w)) e
+-- ---- names and sizes
 
-pub put_named : (w : World) (name : List ℕ) (i : ℕ) → place_of w.members name ≡ Some i → effect w (Put name) ≡ put_at w i
-put_named w name i e = ap (λ o. at_place o w (put_at w)) e
+pub names_many : (names : List (List ℕ)) (w : World) → NamesAre names w → size w ≡ length names + 1
+names_many names w h =
+    let same : length (map (λ (m : Member). m.name) w.members) ≡ length ([] ∷ names) = ap length h in
+    omega (arith, same, length-map w.members (λ (m : Member). m.name))
 
-pub take_named : (w : World) (name : List ℕ) (i : ℕ) → place_of w.members name ≡ Some i → effect w (Take name) ≡ take_at w i
-take_named w name i e = ap (λ o. at_place o w (take_at w)) e
+pub name_in : (names : List (List ℕ)) (w : World) (i : ℕ) → NamesAre names w → i < length names → (member_at w (i + 1)).name ≡ get_or names i []
+name_in names w i h l =
+    let next : i + 1 ≡ suc i = omega arith in
+    sym (get_or-map (λ (m : Member). m.name) w.members (i + 1) no_member [] (omega (arith, names_many names w h)))
+    ∙ ap (λ xs. get_or xs (i + 1) []) h
+    ∙ ap (λ k. get_or ([] ∷ names) k []) next
 
-pub gain_named : (w : World) (name : List ℕ) (i : ℕ) → place_of w.members name ≡ Some i → effect w (Gain name) ≡ gain_at w i
-gain_named w name i e = ap (λ o. at_place o w (gain_at w)) e
+pub run_many : (credit : CreditSpec) (names : List (List ℕ)) (events : List Event) → AreOpeningNames names → IsRun (opening credit names) events → size (state credit names events) ≡ length names + 1
+run_many credit names events are r = names_many names (state credit names events) (reached_names credit names events are r)
 
--- who can do nothing by its name is idle
-pub idle_named : (w : World) (name : List ℕ) (i : ℕ) → place_of w.members name ≡ Some i → refusal w (Put name) ≢ None → refusal w (Take name) ≢ None → refusal w (Gain name) ≢ None → IsIdle w i
-idle_named w name i e put take gain = record {
-  put = λ x. put (put_refusal_named w name i e ∙ x);
-  take = λ x. take (take_refusal_named w name i e ∙ x);
-  gain = λ x. gain (gain_refusal_named w name i e ∙ x);
-}
+pub going_fit : (c : Seen) → IsGoing c → IsFit (state_of c)
+going_fit c g = reached_fit c.credit c.names c.events g.are g.run
 
--- ---- of any name: what is enabled leaves less to do
+pub going_many : (c : Seen) → IsGoing c → size (state_of c) ≡ length c.names + 1
+going_many c g = run_many c.credit c.names c.events g.are g.run
 
-pub put_named_falls : (w : World) (name : List ℕ) → IsGood w → refusal w (Put name) ≡ None → work (effect w (Put name)) < work w
-put_named_falls w name h e = at_place_does (λ v. work v < work w) w name (put_refusal w) (put_at w) _ refl e (λ i l x. put_falls w i l h x)
+pub going_name : (c : Seen) (i : ℕ) → IsGoing c → i < length c.names → (member_at (state_of c) (i + 1)).name ≡ get_or c.names i []
+going_name c i g l = name_in c.names (state_of c) i (reached_names c.credit c.names c.events g.are g.run) l
 
-pub take_named_falls : (w : World) (name : List ℕ) → IsGood w → refusal w (Take name) ≡ None → work (effect w (Take name)) < work w
-take_named_falls w name h e = at_place_does (λ v. work v < work w) w name (take_refusal w) (take_at w) _ refl e (λ i l x. take_falls w i l h x)
+pub going_found : (c : Seen) (i : ℕ) → IsGoing c → i < length c.names → id_of (state_of c) (get_or c.names i []) ≡ Some (i + 1)
+going_found c i g l =
+    ap (id_of (state_of c)) (sym (going_name c i g l)) ∙ (going_fit c g).named (i + 1) (omega arith) (omega (arith, going_many c g))
 
-pub gain_named_falls : (w : World) (name : List ℕ) → IsGood w → refusal w (Gain name) ≡ None → work (effect w (Gain name)) < work w
-gain_named_falls w name h e = at_place_does (λ v. work v < work w) w name (gain_refusal w) (gain_at w) _ refl e (λ i l x. gain_falls w i l h x)
+-- the name of the member of an id, by its place
+pub name_before : (c : Seen) (x : ℕ) → IsGoing c → 1 ≤ x → x ≤ length c.names → get_or c.names (x - 1) [] ≡ (member_at (state_of c) x).name
+name_before c x g some le =
+    let back : x - 1 + 1 ≡ x = omega arith in
+    sym (going_name c (x - 1) g (omega arith)) ∙ ap (λ k. (member_at (state_of c) k).name) back
+
+-- ---- tasks
+
+-- who is refused a cast has stopped
+refused_stops : (f : Phase) (r : Reason) → is_waiting f ≡ false → or_else (refuse_if (is_stopped f) reason.Stopped) (or_else (refuse_if (is_waiting f) reason.Waiting) None) ≡ Some r → runs_phase f ≡ false
+refused_stops Waiting r n h = absurd (false≢true (sym n))
+refused_stops Up r n h = cc
+refused_stops Stopped r n h = refl
+
+pub task_stops : (c : Seen) (i : ℕ) (t : Task) (r : Reason) → IsGoing c → i < length c.names → refusal (state_of c) (task_event (get_or c.names i []) t) ≡ Some r → runs (state_of c) (i + 1) ≡ false
+task_stops c i (task.Cast body) r g l h =
+    refused_stops (member_at (state_of c) (i + 1)).phase r ((going_fit c g).good.none_waits (i + 1))
+    (sym (ap (λ o. of_member o (λ x. up_refusal (state_of c) x None)) (going_found c i g l)) ∙ h)
+
+-- ---- a refresh
+
+up_enabled : (f : Phase) (later : Option Reason) → f ≡ Up → later ≡ None → or_else (refuse_if (is_stopped f) reason.Stopped) (or_else (refuse_if (is_waiting f) reason.Waiting) later) ≡ None
+up_enabled Waiting later e h = cc
+up_enabled Up later e h = h
+up_enabled Stopped later e h = cc
+
+-- who runs may read the newest view
+pub refresh_enabled : (w : World) (x : ℕ) → IsFit w → 1 ≤ x → x < size w → runs w x ≡ true → refusal w (Refresh (member_at w x).name (newest w)) ≡ None
+refresh_enabled w x f some lt r =
+    ap (λ o. of_member o (λ k. up_refusal w k (refresh_refusal w k (newest w)))) (f.named x some lt)
+    ∙ up_enabled (member_at w x).phase (refresh_refusal w x (newest w)) (up_of w x f.good.none_waits r)
+    (rw (le-ltb (newest w) (member_at w x).version (f.good.inv.is_ring.held x), le-ltb (newest w) (newest w) (omega arith)) refl)
+
+-- ---- what leaves less to do
+
+pub step_less : (c : Seen) (x : ℕ) (s : OwnStep) (by : List ℕ) → IsGoing c → 1 ≤ x → x ≤ length c.names → by ≡ (member_at (state_of c) x).name → LeavesLess (state_of c) (step_event s by)
+step_less c x s by g some le e = subst (λ n. LeavesLess (state_of c) (step_event s n)) (sym e) (by_step s)
+  where
+    lt : x < size (state_of c)
+    lt = omega (arith, going_many c g)
+
+    by_step : (s : OwnStep) → LeavesLess (state_of c) (step_event s (member_at (state_of c) x).name)
+    by_step step.Pick = pick_lowers (state_of c) x (going_fit c g) some lt
+    by_step step.Take = take_lowers (state_of c) x (going_fit c g) some lt
+    by_step step.TakeEnd = end_lowers (state_of c) x (going_fit c g) some lt
+    by_step step.Gain = gain_lowers (state_of c) x (going_fit c g) some lt
+    by_step step.Put = put_lowers (state_of c) x (going_fit c g) some lt
+
+pub mark_less : (c : Seen) (x : ℕ) (by dead : List ℕ) → IsGoing c → 1 ≤ x → x ≤ length c.names → by ≡ (member_at (state_of c) x).name → LeavesLess (state_of c) (Mark by dead)
+mark_less c x by dead g some le e = subst (λ n. LeavesLess (state_of c) (Mark n dead)) (sym e) (mark_lowers (state_of c) x dead (going_fit c g) some (omega (arith, going_many c g)))
+
+pub refresh_less : (c : Seen) (x : ℕ) (by : List ℕ) (version : ℕ) → IsGoing c → 1 ≤ x → x ≤ length c.names → by ≡ (member_at (state_of c) x).name → version ≡ newest (state_of c) → is_stale (newest (state_of c)) (member_at (state_of c) x) ≡ true → LeavesLess (state_of c) (Refresh by version)
+refresh_less c x by version g some le e v was =
+    subst (λ n. LeavesLess (state_of c) (Refresh n version)) (sym e)
+    (subst (λ u. LeavesLess (state_of c) (Refresh (member_at (state_of c) x).name u)) (sym v)
+    (refresh_lowers (state_of c) x (going_fit c g) some (omega (arith, going_many c g)) was))

@@ -1,40 +1,15 @@
--- Playing what was given: how it goes on.
-use Rattle.std.proofs.Common.{◌≡◌, ℕ, zero, suc, ◌<◌, ◌≤◌, List, [], ◌∷◌, ◌++◌, length, take, replicate, slice_get, Option, Some, None, refl, sym, ap, subst, ◌∙◌, ⊎_elim, arith, append_assoc, append-nil}
-use Rattle.std.specs.List.{flat_map}
+-- Playing what was given, where members may stop: how it goes on.
+use Rattle.std.proofs.Common.{◌≡◌, ℕ, ◌<◌, ◌≤◌, List, [], ◌∷◌, ◌++◌, length, take, Option, Some, None, refl, sym, ap, subst, ◌∙◌, ⊎_elim, arith, append_assoc, append-nil}
 use Rattle.std.proofs.lemmas.Bool.{cases_lt}
 use Rattle.std.proofs.lemmas.List.{length-append, take-append-le, take_all, get_or_past}
 use Rattle.ring_script.specs.declared.command.Command.{Command}
 use Rattle.ring_script.specs.declared.command.Command.TheVariants as command
 use Rattle.ring_names.specs.declared.numbers.CreditSpec.{CreditSpec}
-use Rattle.ring_world.specs.declared.fixed.Event.{Event}
-use Rattle.ring_world.specs.Laws.{IsQuiet}
-use Rattle.ring_cluster.specs.Seen.{Seen, state, opening_seen}
-use Rattle.ring_cluster.specs.Plays.{client_event, client_events, asked_by, asked, todo, agenda_at, agenda_found, place_among, agenda_of, HasSettled, HasSettledEach, Plays, PlaysSoFar, GoesOn, HasGoneOn, AgendasAreEmpty}
-
-pub flat_map-append : {A B : Type 0} (f : A → List B) (xs ys : List A) → flat_map f (xs ++ ys) ≡ flat_map f xs ++ flat_map f ys
-flat_map-append f [] ys = refl
-flat_map-append f (x ∷ xs) ys = ap (λ zs. f x ++ zs) (flat_map-append f xs ys) ∙ sym (append_assoc (f x) (flat_map f xs) (flat_map f ys))
-
--- ---- the opening
-
-pub no_agenda : (n i : ℕ) → agenda_at (replicate n []) i ≡ []
-no_agenda zero i = refl
-no_agenda (suc n) zero = refl
-no_agenda (suc n) (suc i) = no_agenda n i
-
-pub replicate_count : {A : Type 0} (n : ℕ) (x : A) → length (replicate n x) ≡ n
-replicate_count zero x = refl
-replicate_count (suc n) x = omega (arith, replicate_count n x)
-
-pub nothing_todo : (n : ℕ) (o : Option ℕ) → agenda_found (replicate n []) o ≡ []
-nothing_todo n None = refl
-nothing_todo n (Some i) = no_agenda n i
-
-pub opening_plays : (credit : CreditSpec) (names : List (List ℕ)) → PlaysSoFar (opening_seen credit names)
-opening_plays credit names = record {
-  asked = λ name. ap (todo name) (nothing_todo (length names) (place_among names name));
-  settled = λ k e. cc;
-}
+use Rattle.ring_world.specs.declared.event.Event.{Event}
+use Rattle.ring_world.specs.Quiet.{IsQuiet}
+use Rattle.ring_cluster.specs.Seen.{Seen, state}
+use Rattle.ring_cluster.specs.Plays.{client_event, client_events, asked_by, asked, todo, agenda_found, place_among, agenda_of, HasSettled, HasSettledEach, Plays, PlaysSoFar, GoesOn, HasGoneOn, AgendasAreEmpty}
+use Rattle.ring_cluster.proofs.Lists.{flat_map-append, slice_get_within, slice_get_front, slice_get_last, some_injective}
 
 -- ---- going on
 
@@ -95,26 +70,6 @@ settled_now credit names events commands quiet done =
       quiet = subst (λ es. IsQuiet (state credit names es)) (sym all) quiet;
       done = λ name. ap (client_events name) all ∙ done name;
     }
-
--- what stands at a place of a list with one more
-pub slice_get_within : {A : Type 0} (xs : List A) (k : ℕ) (x : A) → slice_get xs k ≡ Some x → k < length xs
-slice_get_within [] k x e = cc
-slice_get_within (y ∷ ys) zero x e = omega arith
-slice_get_within (y ∷ ys) (suc k) x e = omega (arith, slice_get_within ys k x e)
-
-pub slice_get_front : {A : Type 0} (xs ys : List A) (k : ℕ) → k < length xs → slice_get (xs ++ ys) k ≡ slice_get xs k
-slice_get_front [] ys k l = absurd (omega arith)
-slice_get_front (x ∷ xs) ys zero l = refl
-slice_get_front (x ∷ xs) ys (suc k) l = slice_get_front xs ys k (omega arith)
-
-pub slice_get_last : {A : Type 0} (xs : List A) (y : A) (k : ℕ) → k ≡ length xs → slice_get (xs ++ y ∷ []) k ≡ Some y
-slice_get_last [] y zero e = refl
-slice_get_last [] y (suc k) e = absurd (omega arith)
-slice_get_last (x ∷ xs) y zero e = absurd (omega arith)
-slice_get_last (x ∷ xs) y (suc k) e = slice_get_last xs y k (omega arith)
-
-pub some_injective : {A : Type 0} (x y : A) → Some x ≡ Some y → x ≡ y
-some_injective x y e = cc
 
 -- one more command
 pub settled_each_more : (credit : CreditSpec) (names : List (List ℕ)) (events : List Event) (given : List Command) (x : Command) → HasSettledEach credit names events given → (x ≡ command.Settle → HasSettled credit names events given) → HasSettledEach credit names events (given ++ x ∷ [])

@@ -1,15 +1,17 @@
--- One turn after another.
-use Rattle.std.proofs.Common.{◌≡◌, ◌≢◌, ℕ, ◌+◌, ◌<◌, ◌≤◌, Bool, true, false, ◌||◌, List, [], ◌∷◌, length, refl, sym, ap, subst, ◌∙◌, ⊎_elim, arith}
+-- One turn after another, where members may stop.
+use Rattle.std.proofs.Common.{◌≡◌, ◌≢◌, ◌⊎◌, ℕ, ◌+◌, ◌<◌, ◌≤◌, Bool, true, false, ◌||◌, List, [], ◌∷◌, length, get_or, None, inl, inr, refl, sym, ap, subst, ◌∙◌, ⊎_elim, arith}
 use Rattle.std.proofs.lemmas.Bool.{cases_eq, false≢true}
-use Rattle.ring_world.specs.declared.fixed.Event.{Event}
+use Rattle.ring_world.specs.declared.event.Event.{Event}
+use Rattle.ring_world.specs.Machine.{runs}
+use Rattle.ring_world.specs.Event.{refusal}
 use Rattle.ring_cluster.specs.declared.agenda.Task.{Task}
 use Rattle.ring_cluster.specs.Work.{work}
-use Rattle.ring_cluster.specs.Idle.{IsIdle}
-use Rattle.ring_cluster.specs.Seen.{Seen, state_of, IsGoing}
-use Rattle.ring_cluster.specs.Plays.{agenda_at, performed, SameGiven, HasBegun, AgendasAreEmpty}
-use Rattle.ring_cluster.specs.Turns.{is_link_event, with_event, Works, TakesTurns, TakesRound}
+use Rattle.ring_cluster.specs.Seen.{Seen, state_of, IsGoing, with_event}
+use Rattle.ring_cluster.specs.Plays.{agenda_at, performed, task_event, SameGiven, HasBegun, AgendasAreDone}
+use Rattle.ring_cluster.specs.Turns.{is_own_event, Works, TakesTurns, TakesRound, IsDoneAt, RestsAt}
+use Rattle.ring_cluster.proofs.Phases.{same_refl, same_trans, same_runs}
 use Rattle.ring_cluster.proofs.Playing.{HasGoneOn-refl, HasGoneOn-trans}
-use Rattle.ring_cluster.proofs.Going.{link_goes, performed_goes, performed_shrinks, performed_elsewhere, begun_on, begun_later}
+use Rattle.ring_cluster.proofs.Doing.{own_goes, own_stays, performed_goes, performed_shrinks, performed_elsewhere, performed_stays, begun_on, begun_later}
 
 pub given_refl : (c : Seen) → SameGiven c c
 given_refl c = (refl, refl)
@@ -20,26 +22,27 @@ given_trans c d e a b = (b.0 ∙ a.0, b.1 ∙ a.1)
 -- ---- work
 
 pub works_refl : (c : Seen) → Works c c
-works_refl c = record { goes = HasGoneOn-refl c; given = given_refl c; names = refl; agendas = refl }
+works_refl c = record { goes = HasGoneOn-refl c; given = given_refl c; names = refl; agendas = refl; phases = same_refl (state_of c) }
 
 pub works_same : (c d : Seen) → d ≡ c → Works c d
 works_same c d e = subst (Works c) (sym e) (works_refl c)
 
 pub works_trans : (c d e : Seen) → Works c d → Works d e → Works c e
-works_trans c d e a b = record { goes = HasGoneOn-trans c d e a.goes b.goes; given = given_trans c d e a.given b.given; names = b.names ∙ a.names; agendas = b.agendas ∙ a.agendas }
+works_trans c d e a b = record { goes = HasGoneOn-trans c d e a.goes b.goes; given = given_trans c d e a.given b.given; names = b.names ∙ a.names; agendas = b.agendas ∙ a.agendas; phases = same_trans (state_of c) (state_of d) (state_of e) a.phases b.phases }
 
-pub link_works : (c d : Seen) (e : Event) → is_link_event e ≡ true → d ≡ with_event c e → Works c d
-link_works c d e l is = record {
-  goes = link_goes c d e l is;
+pub own_works : (c d : Seen) (e : Event) → IsGoing c → is_own_event e ≡ true → d ≡ with_event c e → Works c d
+own_works c d e g l is = record {
+  goes = own_goes c d e l is;
   given = subst (SameGiven c) (sym is) (given_refl c);
   names = ap (λ x. x.names) is;
   agendas = ap (λ x. x.agendas) is;
+  phases = own_stays c d e g l is;
 }
 
 -- ---- turns
 
 pub turns_refl : (i : ℕ) (c : Seen) → TakesTurns i c c
-turns_refl i c = record { goes = HasGoneOn-refl c; given = given_refl c; names = refl; shrinks = omega arith; elsewhere = λ j ne. refl }
+turns_refl i c = record { goes = HasGoneOn-refl c; given = given_refl c; names = refl; shrinks = omega arith; elsewhere = λ j ne. refl; phases = same_refl (state_of c) }
 
 pub turns_same : (i : ℕ) (c d : Seen) → d ≡ c → TakesTurns i c d
 turns_same i c d e = subst (TakesTurns i c) (sym e) (turns_refl i c)
@@ -51,6 +54,7 @@ turns_trans i c d e a b = record {
   names = b.names ∙ a.names;
   shrinks = omega (arith, a.shrinks, b.shrinks);
   elsewhere = λ j ne. b.elsewhere j ne ∙ a.elsewhere j ne;
+  phases = same_trans (state_of c) (state_of d) (state_of e) a.phases b.phases;
 }
 
 pub works_turns : (i : ℕ) (c d : Seen) → Works c d → TakesTurns i c d
@@ -60,25 +64,37 @@ works_turns i c d w = record {
   names = w.names;
   shrinks = omega (arith, ap (λ x. length (agenda_at x i)) w.agendas);
   elsewhere = λ j ne. ap (λ x. agenda_at x j) w.agendas;
+  phases = w.phases;
 }
 
-pub performed_turns : (i : ℕ) (c d : Seen) → IsGoing c → i < length c.names → ((t : Task) × (ts : List Task) × (agenda_at c.agendas i ≡ t ∷ ts) × (d ≡ performed c i t ts)) → TakesTurns i c d
+-- the member at a place has done the first of its tasks
+abbrev pub Performs : ℕ → Seen → Seen → Type 0
+Performs i c d = (t : Task) × (ts : List Task) × (agenda_at c.agendas i ≡ t ∷ ts) × (refusal (state_of c) (task_event (get_or c.names i []) t) ≡ None) × (d ≡ performed c i t ts)
+
+pub performed_turns : (i : ℕ) (c d : Seen) → IsGoing c → i < length c.names → Performs i c d → TakesTurns i c d
 performed_turns i c d g l p = record {
-  goes = performed_goes c d i p.0 p.1 g l p.2 p.3;
-  given = subst (SameGiven c) (sym p.3) (given_refl c);
-  names = ap (λ x. x.names) p.3;
-  shrinks = omega (arith, performed_shrinks c d i p.0 p.1 g l p.2 p.3);
-  elsewhere = performed_elsewhere c d i p.0 p.1 p.3;
+  goes = performed_goes c d i p.0 p.1 g l p.2 p.4;
+  given = subst (SameGiven c) (sym p.4) (given_refl c);
+  names = ap (λ x. x.names) p.4;
+  shrinks = omega (arith, performed_shrinks c d i p.0 p.1 g l p.2 p.4);
+  elsewhere = performed_elsewhere c d i p.0 p.1 p.4;
+  phases = performed_stays c d i p.0 p.1 p.4;
 }
 
-pub performed_begun : (i : ℕ) (c d : Seen) → IsGoing c → i < length c.names → ((t : Task) × (ts : List Task) × (agenda_at c.agendas i ≡ t ∷ ts) × (d ≡ performed c i t ts)) → HasBegun i c d
-performed_begun i c d g l p some = performed_shrinks c d i p.0 p.1 g l p.2 p.3
+pub performed_begun : (i : ℕ) (c d : Seen) → IsGoing c → i < length c.names → Performs i c d → HasBegun i c d
+performed_begun i c d g l p r some = performed_shrinks c d i p.0 p.1 g l p.2 p.4
 
-pub performed_fewer : (i : ℕ) (c d : Seen) → IsGoing c → i < length c.names → ((t : Task) × (ts : List Task) × (agenda_at c.agendas i ≡ t ∷ ts) × (d ≡ performed c i t ts)) → length (agenda_at d.agendas i) < length (agenda_at c.agendas i)
-performed_fewer i c d g l p = performed_shrinks c d i p.0 p.1 g l p.2 p.3
+pub performed_fewer : (i : ℕ) (c d : Seen) → IsGoing c → i < length c.names → Performs i c d → length (agenda_at d.agendas i) < length (agenda_at c.agendas i)
+performed_fewer i c d g l p = performed_shrinks c d i p.0 p.1 g l p.2 p.4
 
-pub empty_begun : (i : ℕ) (c d : Seen) → agenda_at c.agendas i ≡ [] → HasBegun i c d
-empty_begun i c d e some = absurd (omega (arith, ap length e))
+-- who has no task, or has stopped
+pub done_begun : (i : ℕ) (c d : Seen) → (agenda_at c.agendas i ≡ []) ⊎ (runs (state_of c) (i + 1) ≡ false) → HasBegun i c d
+done_begun i c d (inl e) r some = absurd (omega (arith, ap length e))
+done_begun i c d (inr e) r some = absurd (false≢true (sym e ∙ r))
+
+pub done_at : (i : ℕ) (c : Seen) → (agenda_at c.agendas i ≡ []) ⊎ (runs (state_of c) (i + 1) ≡ false) → IsDoneAt i c
+done_at i c (inl e) r = e
+done_at i c (inr e) r = absurd (false≢true (sym e ∙ r))
 
 pub begun_still : (i : ℕ) (c d e : Seen) → HasBegun i c d → TakesTurns i d e → HasBegun i c e
 begun_still i c d e h t = begun_on i c d e h t.shrinks
@@ -86,16 +102,16 @@ begun_still i c d e h t = begun_on i c d e h t.shrinks
 -- ---- rounds
 
 pub round_refl : (c : Seen) → TakesRound c c
-round_refl c = record { goes = HasGoneOn-refl c; given = given_refl c; names = refl }
+round_refl c = record { goes = HasGoneOn-refl c; given = given_refl c; names = refl; phases = same_refl (state_of c) }
 
 pub round_trans : (c d e : Seen) → TakesRound c d → TakesRound d e → TakesRound c e
-round_trans c d e a b = record { goes = HasGoneOn-trans c d e a.goes b.goes; given = given_trans c d e a.given b.given; names = b.names ∙ a.names }
+round_trans c d e a b = record { goes = HasGoneOn-trans c d e a.goes b.goes; given = given_trans c d e a.given b.given; names = b.names ∙ a.names; phases = same_trans (state_of c) (state_of d) (state_of e) a.phases b.phases }
 
 pub turns_round : (i : ℕ) (c d : Seen) → TakesTurns i c d → TakesRound c d
-turns_round i c d t = record { goes = t.goes; given = t.given; names = t.names }
+turns_round i c d t = record { goes = t.goes; given = t.given; names = t.names; phases = t.phases }
 
 pub works_round : (c d : Seen) → Works c d → TakesRound c d
-works_round c d w = record { goes = w.goes; given = w.given; names = w.names }
+works_round c d w = record { goes = w.goes; given = w.given; names = w.names; phases = w.phases }
 
 -- the members below k have begun, and the agendas of the others are as they were
 pub record BegunBelow (k : ℕ) (c d : Seen) : Type 0 where
@@ -111,32 +127,37 @@ begun_more k c d e b t h = record {
   round = round_trans c d e b.round (turns_round k d e t);
   begun = λ i l.
       ⊎_elim
-      (λ (same : i ≡ k). subst (λ j. HasBegun j c e) (sym same) (begun_later k c d e (b.others k (omega arith)) h))
+      (λ (same : i ≡ k). subst (λ j. HasBegun j c e) (sym same) (begun_later k c d e (same_runs (state_of c) (state_of d) (k + 1) b.round.phases) (b.others k (omega arith)) h))
       (λ (ne : i ≢ k). begun_on i c d e (b.begun i (omega arith)) (omega (arith, ap length (t.elsewhere i ne))))
       (cases_eq i k);
   others = λ i l. t.elsewhere i (λ same. omega arith) ∙ b.others i (omega arith);
 }
 
--- the agendas of the members below k are empty
-pub record EmptyBelow (k : ℕ) (c d : Seen) : Type 0 where
+-- the members below k are done with their agendas
+pub record DoneBelow (k : ℕ) (c d : Seen) : Type 0 where
   pub round : TakesRound c d
-  pub empty : (i : ℕ) → i < k → agenda_at d.agendas i ≡ []
+  pub done : (i : ℕ) → i < k → IsDoneAt i d
 
-pub empty_none : (c : Seen) → EmptyBelow 0 c c
-empty_none c = record { round = round_refl c; empty = λ i l. absurd (omega arith) }
+pub done_none : (c : Seen) → DoneBelow 0 c c
+done_none c = record { round = round_refl c; done = λ i l. absurd (omega arith) }
 
-pub empty_more : (k : ℕ) (c d e : Seen) → EmptyBelow k c d → TakesTurns k d e → agenda_at e.agendas k ≡ [] → EmptyBelow (k + 1) c e
-empty_more k c d e b t h = record {
+pub done_more : (k : ℕ) (c d e : Seen) → DoneBelow k c d → TakesTurns k d e → IsDoneAt k e → DoneBelow (k + 1) c e
+done_more k c d e b t h = record {
   round = round_trans c d e b.round (turns_round k d e t);
-  empty = λ i l.
+  done = λ i l.
       ⊎_elim
-      (λ (same : i ≡ k). ap (agenda_at e.agendas) same ∙ h)
-      (λ (ne : i ≢ k). t.elsewhere i ne ∙ b.empty i (omega arith))
+      (λ (same : i ≡ k). subst (λ j. IsDoneAt j e) (sym same) h)
+      (λ (ne : i ≢ k). λ r. t.elsewhere i ne ∙ b.done i (omega arith) (sym (same_runs (state_of d) (state_of e) (i + 1) t.phases) ∙ r))
       (cases_eq i k);
 }
 
-pub all_empty : (k : ℕ) (c d : Seen) → IsGoing d → k ≡ length d.names → EmptyBelow k c d → AgendasAreEmpty d
-all_empty k c d g e b i l = b.empty i (omega (arith, g.agendas))
+pub all_done : (k : ℕ) (c d : Seen) → IsGoing d → k ≡ length d.names → DoneBelow k c d → AgendasAreDone d
+all_done k c d g e b i l = b.done i (omega (arith, g.agendas))
+
+-- they are still, after members have worked
+pub done_still : (c d : Seen) → AgendasAreDone c → Works c d → AgendasAreDone d
+done_still c d h w i l r =
+    ap (λ ags. agenda_at ags i) w.agendas ∙ h i (omega (arith, ap length w.agendas)) (sym (same_runs (state_of c) (state_of d) (i + 1) w.phases) ∙ r)
 
 -- ---- a pass
 
@@ -144,22 +165,19 @@ pub record PassedBelow (c d : Seen) (moved : Bool) (k : ℕ) : Type 0 where
   pub works : Works c d
   pub falls : moved ≡ true → work (state_of d) < work (state_of c)
   pub stays : moved ≡ false → d ≡ c
-  pub idle : moved ≡ false → (i : ℕ) → i < k → IsIdle (state_of c) i
+  pub rests : moved ≡ false → (i : ℕ) → i < k → RestsAt (state_of c) (i + 1)
 
-pub passed_none : (c : Seen) → PassedBelow c c false 0
-passed_none c = record { works = works_refl c; falls = λ e. absurd (false≢true e); stays = λ _. refl; idle = λ _ i l. absurd (omega arith) }
-
-pub passed_more : (c d e : Seen) (moved did : Bool) (k : ℕ) → PassedBelow c d moved k → Works d e → (did ≡ true → work (state_of e) < work (state_of d)) → (did ≡ false → (e ≡ d) × IsIdle (state_of d) k) → PassedBelow c e (moved || did) (k + 1)
-passed_more c d e true true k h w falls idle = record { works = works_trans c d e h.works w; falls = λ _. omega (arith, falls refl, h.falls refl); stays = λ x. absurd (false≢true (sym x)); idle = λ x. absurd (false≢true (sym x)) }
-passed_more c d e true false k h w falls idle = record { works = works_trans c d e h.works w; falls = λ _. subst (λ x. work (state_of x) < work (state_of c)) (sym (idle refl).0) (h.falls refl); stays = λ x. absurd (false≢true (sym x)); idle = λ x. absurd (false≢true (sym x)) }
-passed_more c d e false true k h w falls idle = record { works = works_trans c d e h.works w; falls = λ _. subst (λ x. work (state_of e) < work (state_of x)) (h.stays refl) (falls refl); stays = λ x. absurd (false≢true (sym x)); idle = λ x. absurd (false≢true (sym x)) }
-passed_more c d e false false k h w falls idle = record {
+pub passed_more : (c d e : Seen) (moved did : Bool) (k : ℕ) → PassedBelow c d moved k → Works d e → (did ≡ true → work (state_of e) < work (state_of d)) → (did ≡ false → (e ≡ d) × RestsAt (state_of d) (k + 1)) → PassedBelow c e (moved || did) (k + 1)
+passed_more c d e true true k h w falls rests = record { works = works_trans c d e h.works w; falls = λ _. omega (arith, falls refl, h.falls refl); stays = λ x. absurd (false≢true (sym x)); rests = λ x. absurd (false≢true (sym x)) }
+passed_more c d e true false k h w falls rests = record { works = works_trans c d e h.works w; falls = λ _. subst (λ x. work (state_of x) < work (state_of c)) (sym (rests refl).0) (h.falls refl); stays = λ x. absurd (false≢true (sym x)); rests = λ x. absurd (false≢true (sym x)) }
+passed_more c d e false true k h w falls rests = record { works = works_trans c d e h.works w; falls = λ _. subst (λ x. work (state_of e) < work (state_of x)) (h.stays refl) (falls refl); stays = λ x. absurd (false≢true (sym x)); rests = λ x. absurd (false≢true (sym x)) }
+passed_more c d e false false k h w falls rests = record {
   works = works_trans c d e h.works w;
   falls = λ x. absurd (false≢true x);
-  stays = λ _. (idle refl).0 ∙ h.stays refl;
-  idle = λ _ i l.
+  stays = λ _. (rests refl).0 ∙ h.stays refl;
+  rests = λ _ i l.
       ⊎_elim
-      (λ (same : i ≡ k). subst (λ j. IsIdle (state_of c) j) (sym same) (subst (λ x. IsIdle (state_of x) k) (h.stays refl) (idle refl).1))
-      (λ (ne : i ≢ k). h.idle refl i (omega arith))
+      (λ (same : i ≡ k). subst (λ j. RestsAt (state_of c) (j + 1)) (sym same) (subst (λ x. RestsAt (state_of x) (k + 1)) (h.stays refl) (rests refl).1))
+      (λ (ne : i ≢ k). h.rests refl i (omega arith))
       (cases_eq i k);
 }

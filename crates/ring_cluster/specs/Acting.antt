@@ -1,89 +1,287 @@
--- What an event does to its member and the member's ends.
-use Rattle.std.specs.Prelude.{◌≡◌, ℕ, ◌+◌, ◌<◌, true, false, List, [], ◌∷◌, ◌++◌, length, Option, Some, None}
+-- What an event does to the parties, before the ends of links meet.
+use Rattle.std.specs.Prelude.{◌≡◌, ℕ, ◌+◌, ◌-◌, ◌<◌, ◌++◌, ◌∷◌, Bool, true, false, not, cond, List, [], length, Option, Some, None, MatchOption, slice_index_or, map, nat_eq, nat_lt, ⊤}
+use Rattle.std.specs.List.{filter}
+use Rattle.ring_names.specs.declared.message.Message.{Message}
 use Rattle.ring_names.specs.declared.message.Message.TheVariants as message
 use Rattle.ring_names.specs.declared.reason.Reason.{Reason}
-use Rattle.ring_names.specs.declared.reason.Reason.TheVariants.{NothingToTake, NoGrant, EndNext}
+use Rattle.ring_names.specs.declared.reason.Reason.TheVariants as reason
 use Rattle.credit_flow.specs.Credit.{grant_due}
 use Rattle.credit_flow.specs.Link.{with_grant}
-use Rattle.ring_world.specs.declared.fixed.Event.{Event}
-use Rattle.ring_world.specs.declared.fixed.Event.TheVariants.{Cast, Put, Take, Gain}
-use Rattle.gm_member.specs.Held.{Carried, Parcel, Held, published_held, put_refused, put_held, parcel_of, took_held, gained_held}
-use Rattle.ring_cluster.specs.Ends.{OutSeen, InSeen}
+use Rattle.group_view.specs.declared.link.LinkName.{LinkName}
+use Rattle.group_view.specs.View.{Group}
+use Rattle.group_view.specs.Change.{marked}
+use Rattle.group_view.specs.Since.{view_at}
+use Rattle.ring_world.specs.declared.event.Event.{Event}
+use Rattle.ring_world.specs.declared.event.Event.TheVariants.{Cast, Put, Take, TakeEnd, Gain, Stop, Mark, Refresh, Pick}
+use Rattle.ring_world.specs.Refusal.{refuse_if}
+use Rattle.ring_world.specs.View.{right_of}
+use Rattle.ring_world.specs.Machine.{runs_phase}
+use Rattle.ring_world.specs.Event.{version_refusal}
+use Rattle.gm_member.specs.Parcels.{Parcel}
+use Rattle.gm_member.specs.Held.{Held, Outgoing, Incoming, at_some, active_refused, up_refused, on_some, published_held, put_held, parcel_on, take_refused, took_held, gained_held, ended_held, stopped_held, is_for, stays, sends_to, fresh_out as unsent_on, fresh_in as arriving_in, refreshed_held, first_at_door, picked_held, without, collected_held}
+use Rattle.gm_member.specs.View.{ring_link}
+use Rattle.gm_member.specs.Shown.{When}
+use Rattle.ring_cluster.specs.Ends.{Sent, OutSeen, InSeen, opened_out, fresh_in}
+use Rattle.ring_cluster.specs.Parties.{EndsSeen, Shown, Posted, Parties, node_at, with_node}
 
 -- the name of the acting member
 abbrev pub by_of : Event → List ℕ
 by_of (Cast by body) = by
 by_of (Put by) = by
 by_of (Take by) = by
+by_of (TakeEnd by) = by
 by_of (Gain by) = by
+by_of (Stop by) = by
+by_of (Mark by dead) = by
+by_of (Refresh by version) = by
+by_of (Pick by) = by
 
--- why no packet is taken from an end with these items
-abbrev pub take_refused : List (Option (List Carried)) → Option Reason
-take_refused [] = Some NothingToTake
-take_refused (None ∷ items) = Some EndNext
-take_refused (Some k ∷ items) = None
+-- ---- one end
 
--- why no credit is gained from an end to which these grants came back
-abbrev pub gain_refused : List ℕ → Option Reason
-gain_refused [] = Some NoGrant
-gain_refused (g ∷ gs) = None
+-- a packet, as it stands on a link
+abbrev pub sent_of : Parcel → Sent
+sent_of k = record { view = k.view; lines = k.lines }
 
--- the first condition of the event that fails, by what its member holds and its ends show
-abbrev pub refused_at : Event → Held → OutSeen → InSeen → Option Reason
-refused_at (Cast by body) h o n = None
-refused_at (Put by) h o n = put_refused h
-refused_at (Take by) h o n = take_refused n.items
-refused_at (Gain by) h o n = gain_refused o.back
-
--- the ends as a member needs them for its calls: both are there and open, nothing is kept or waits, a packet for which
--- there is credit has a slot, and so has the grant that a packet may bring
-pub record IsReady (h : Held) (o : OutSeen) (n : InSeen) : Type 0 where
-  pub out : o.there ≡ true
-  pub link : n.there ≡ true
-  pub open_out : o.ended ≡ false
-  pub kept : o.kept ≡ None
-  pub late : n.late ≡ None
-  pub slot : 0 < h.sender.credit → 1 < o.free
-  pub room : 0 < length n.items → 0 < n.free
-
--- the packet waits in the out end
-pub record PutsOut (o : OutSeen) (lines : List Carried) (o' : OutSeen) : Type 0 where
-  pub there : o'.there ≡ true
-  pub waiting : o'.waiting ≡ o.waiting ++ Some lines ∷ []
+-- The packet waits in the out end.
+pub record PutsOut (o : OutSeen) (k : Sent) (o' : OutSeen) : Type 0 where
+  pub waiting : o'.waiting ≡ o.waiting ++ Some k ∷ []
   pub free : o.free ≡ o'.free + 1
-  pub kept : o'.kept ≡ o.kept
   pub back : o'.back ≡ o.back
   pub initial : o'.initial ≡ o.initial
   pub ended : o'.ended ≡ false
 
--- the oldest grant is gone from the out end
+-- The end of the link waits in it.
+pub record EndsOut (o o' : OutSeen) : Type 0 where
+  pub waiting : o'.waiting ≡ o.waiting ++ None ∷ []
+  pub free : o.free ≡ o'.free + 1
+  pub back : o'.back ≡ o.back
+  pub initial : o'.initial ≡ o.initial
+  pub ended : o'.ended ≡ true
+
+-- The oldest grant is gone from it.
 pub record GainsOut (o : OutSeen) (amount : ℕ) (o' : OutSeen) : Type 0 where
-  pub there : o'.there ≡ true
   pub waiting : o'.waiting ≡ o.waiting
   pub free : o'.free ≡ o.free
-  pub kept : o'.kept ≡ None
   pub back : o.back ≡ amount ∷ o'.back
   pub initial : o'.initial ≡ o.initial
   pub ended : o'.ended ≡ o.ended
 
--- the oldest packet is gone from the in end, and the grant that it brings is given
-pub record TakesIn (h : Held) (n : InSeen) (lines : List Carried) (n' : InSeen) : Type 0 where
-  pub there : n'.there ≡ true
-  pub items : n.items ≡ Some lines ∷ n'.items
-  pub given : n'.given ≡ with_grant n.given (grant_due h.receiver)
+-- The oldest item, a packet, is gone from the in end, and the grant that is due is given.
+pub record TakesIn (due : Option ℕ) (n : InSeen) (k : Sent) (n' : InSeen) : Type 0 where
+  pub items : n.items ≡ Some k ∷ n'.items
+  pub given : n'.given ≡ with_grant n.given due
   pub late : n'.late ≡ None
   pub room : length n'.given + n'.free ≡ length n.given + n.free
   pub initial : n'.initial ≡ n.initial
 
-abbrev pub Takes : Held → OutSeen → InSeen → Held → OutSeen → InSeen → Type 0
-Takes h o n h' o' n' = (k : Parcel) × TakesIn h n k.lines n' × (h' ≡ took_held h k) × (o' ≡ o)
+-- ---- what a member needs of its ends for its calls
 
-abbrev pub Gains : Held → OutSeen → InSeen → Held → OutSeen → InSeen → Type 0
-Gains h o n h' o' n' = (amount : ℕ) × GainsOut o amount o' × (h' ≡ gained_held h amount) × (n' ≡ n)
+-- A running member has the end of the link on which it sends, which hasn't ended, and there a packet for which it has credit has a slot. It has
+-- the end of the link from which it takes, where no grant waits, and the grant that a packet may bring has a slot. It keeps no grant, and no
+-- end that it has replaced or left.
+pub record IsReady (m : Shown) : Type 0 where
+  pub out : runs_phase m.held.phase ≡ true → MatchOption m.held.out ⊤ (λ h. MatchOption m.ends.out ⊥ (λ o. (o.ended ≡ false) × (0 < h.credit.credit → 1 < o.free)))
+  pub link : MatchOption m.held.current ⊤ (λ _. MatchOption m.ends.link ⊥ (λ n. (n.late ≡ None) × ((k : Sent) (rest : List (Option Sent)) → n.items ≡ Some k ∷ rest → 0 < n.free)))
+  pub kept : m.ends.kept ≡ None
+  pub old_outs : m.ends.old_outs ≡ []
+  pub old_ins : m.ends.old_ins ≡ []
 
--- what the event does
-abbrev pub Acts : Event → Held → OutSeen → InSeen → Held → OutSeen → InSeen → Type 0
-Acts (Cast by body) h o n h' o' n' = (h' ≡ published_held h (message.Cast body)) × (o' ≡ o) × (n' ≡ n)
-Acts (Put by) h o n h' o' n' = PutsOut o (parcel_of h).lines o' × (h' ≡ put_held h) × (n' ≡ n)
-Acts (Take by) h o n h' o' n' = Takes h o n h' o' n'
-Acts (Gain by) h o n h' o' n' = Gains h o n h' o' n'
+-- ---- refusals, by what a member holds and what its ends show
+
+-- the first item of a link
+abbrev pub first_item : Option InSeen → List (Option Sent)
+first_item None = []
+first_item (Some n) = n.items
+
+-- why a member with a view of this version takes no packet from a link with these items
+abbrev pub items_refused : ℕ → List (Option Sent) → Option Reason
+items_refused have [] = Some reason.NothingToTake
+items_refused have (None ∷ items) = Some reason.EndNext
+items_refused have (Some k ∷ items) = version_refusal k.view have
+
+-- why no end
+abbrev pub end_refused : List (Option Sent) → Option Reason
+end_refused [] = Some reason.NothingToTake
+end_refused (None ∷ items) = None
+end_refused (Some k ∷ items) = Some reason.PacketNext
+
+-- why no grant becomes credit, where these have come back
+abbrev pub back_refused : List ℕ → Option Reason
+back_refused [] = Some reason.NoGrant
+back_refused (g ∷ gs) = None
+
+-- the grants that have come back to an out end
+abbrev pub back_of : Option OutSeen → List ℕ
+back_of None = []
+back_of (Some o) = o.back
+
+-- of each event that a member does by itself, the first condition that fails
+abbrev pub cast_refused : Shown → Option Reason
+cast_refused m = up_refused m.held None
+
+abbrev pub packet_refused : Shown → Option Reason
+packet_refused m = take_refused m.held (items_refused m.held.view.version (first_item m.ends.link))
+
+abbrev pub link_end_refused : Shown → Option Reason
+link_end_refused m = take_refused m.held (end_refused (first_item m.ends.link))
+
+abbrev pub grant_refused : Shown → Option Reason
+grant_refused m = up_refused m.held (on_some m.held.out reason.NoOutLink (λ _. back_refused (back_of m.ends.out)))
+
+abbrev pub stop_refused : Shown → Option Reason
+stop_refused m = active_refused m.held None
+
+-- and of a refresh to a version, where the newest is another
+abbrev pub look_refused : ℕ → Shown → ℕ → Option Reason
+look_refused newest m version = up_refused m.held (refuse_if (cond (nat_lt version m.held.view.version) true (nat_lt newest version)) (reason.ViewOutOfRange version m.held.view.version newest))
+
+-- ---- one member
+
+-- it has published a message
+abbrev pub Casts : Message → Shown → Shown → Type 0
+Casts m a b = b ≡ record a { held = published_held a.held m }
+
+-- it has put a packet
+abbrev pub PutsPacket : Shown → Shown → Type 0
+PutsPacket a b =
+    (h : Outgoing) × (o : OutSeen) × (o' : OutSeen) × (a.held.out ≡ Some h) × (a.ends.out ≡ Some o)
+    × PutsOut o (sent_of (parcel_on a.held.view.version a.held.rows h)) o'
+    × (b ≡ record { held = put_held a.held; ends = record a.ends { out = Some o' } })
+
+-- the grant that is due with the next load from the link that it takes from
+abbrev pub due_of : Held → Option ℕ
+due_of h = at_some h.current None (λ l. grant_due l.counted)
+
+-- it has taken one
+abbrev pub TakesPacket : Shown → Shown → Type 0
+TakesPacket a b =
+    (k : Parcel) × (n : InSeen) × (n' : InSeen) × (a.ends.link ≡ Some n) × TakesIn (due_of a.held) n (sent_of k) n'
+    × (b ≡ record { held = took_held a.held k; ends = record a.ends { link = Some n' } })
+
+-- it has taken the end of its link, and given up its own end of it
+abbrev pub TakesEnd : Shown → Shown → Type 0
+TakesEnd a b =
+    (n : InSeen) × (rest : List (Option Sent)) × (a.ends.link ≡ Some n) × (n.items ≡ None ∷ rest)
+    × (b ≡ record { held = ended_held a.held; ends = record a.ends { link = None } })
+
+-- it has gained the oldest grant
+abbrev pub Gains : Shown → Shown → Type 0
+Gains a b =
+    (amount : ℕ) × (o : OutSeen) × (o' : OutSeen) × (a.ends.out ≡ Some o) × GainsOut o amount o'
+    × (b ≡ record { held = gained_held a.held amount; ends = record a.ends { out = Some o' } })
+
+-- its out end has ended, where it has one
+abbrev pub EndsIts : Option OutSeen → Option OutSeen → Type 0
+EndsIts None b = b ≡ None
+EndsIts (Some o) b = (o' : OutSeen) × EndsOut o o' × (b ≡ Some o')
+
+-- it has stopped
+abbrev pub Stops : Shown → Shown → Type 0
+Stops a b = EndsIts a.ends.out b.ends.out × (b ≡ record { held = stopped_held a.held; ends = record a.ends { out = b.ends.out } })
+
+-- it has picked the first link at its door that it may
+abbrev pub Picks : Shown → Shown → Type 0
+Picks a b =
+    (i : ℕ) × (first_at_door a.held ≡ Some i)
+    × (b ≡ record { held = picked_held a.held; ends = record a.ends { link = slice_index_or a.ends.door i None; door = without i a.ends.door } })
+
+-- ---- a member that has another view
+
+-- of two lists side by side, what stands in the second where the first passes a test
+abbrev pub beside : {A B : Type 0} → (A → Bool) → List A → List B → List B
+beside t [] ys = []
+beside t (x ∷ xs) [] = []
+beside t (x ∷ xs) (y ∷ ys) = cond (t x) (y ∷ beside t xs ys) (beside t xs ys)
+
+-- what stays of the end of the link from which it takes
+abbrev pub kept_end : Group → ℕ → Option Incoming → Option InSeen → Option InSeen
+kept_end v x None e = None
+kept_end v x (Some l) e = cond (is_for v x l) e None
+
+-- the ends that it has then: those of links that stay
+abbrev pub looked_ends : Group → Shown → EndsSeen
+looked_ends v a = record a.ends { link = kept_end v a.held.id a.held.current a.ends.link; door = beside (stays v a.held.id) a.held.door a.ends.door }
+
+-- the name of the link on which it sent
+abbrev pub name_out : ℕ → Outgoing → LinkName
+name_out x h = ring_link x h.to h.opened
+
+-- its out end is replaced, where it had one: it has ended, and is loose
+abbrev pub Loosens : ℕ → Option Outgoing → Option OutSeen → Option (LinkName × OutSeen) → Type 0
+Loosens x None o loose = loose ≡ None
+Loosens x (Some h) None loose = ⊥
+Loosens x (Some h) (Some o) loose = (o' : OutSeen) × EndsOut o o' × (loose ≡ Some (name_out x h, o'))
+
+-- the first packet of the link that it opens
+abbrev pub first_sent : Shown → Group → Sent
+first_sent a v = sent_of (parcel_on v.version a.held.rows (unsent_on a.held.initial a.held.more (right_of v a.held.id) v.version))
+
+-- It has a view, and sends to its right neighbour in it: as it did, or on a new link, whose in end is to wait for its receiver.
+abbrev pub Looks : Group → Shown → Shown → Option Posted → Option (LinkName × OutSeen) → Type 0
+Looks v a b new loose =
+    When (sends_to a.held.out (right_of v a.held.id))
+    ((b ≡ record { held = refreshed_held a.held v; ends = looked_ends v a }) × (new ≡ None) × (loose ≡ None))
+    × When (not (sends_to a.held.out (right_of v a.held.id)))
+    ((b ≡ record { held = refreshed_held a.held v; ends = record (looked_ends v a) { out = Some (opened_out a.held.initial (first_sent a v)) } })
+    × (new ≡ Some (record { name = ring_link a.held.id (right_of v a.held.id) v.version; end = Some (fresh_in a.held.initial) }))
+    × Loosens a.held.id a.held.out a.ends.out loose)
+
+-- ---- all parties
+
+-- a link waits behind the others
+abbrev pub posting : Option Posted → Parties → Parties
+posting None q = q
+posting (Some new) q = record q { post = q.post ++ new ∷ [] }
+
+-- the newest view
+abbrev pub newest_of : Parties → Group
+newest_of q = view_at q.views (length q.views)
+
+-- another view follows
+abbrev pub viewing : Group → Parties → Parties
+viewing v q = record q { views = q.views ++ v ∷ [] }
+
+-- the member at a place has done something by itself
+abbrev pub Alone : (Shown → Shown → Type 0) → ℕ → Parties → Parties → Option (LinkName × OutSeen) → Type 0
+Alone does i q q' loose = (b : Shown) × does (node_at q i) b × (q' ≡ with_node q i b) × (loose ≡ None)
+
+-- it has another view
+abbrev pub LooksAt : Group → ℕ → Parties → Parties → Option (LinkName × OutSeen) → Type 0
+LooksAt v i q q' loose = (b : Shown) × (new : Option Posted) × Looks v (node_at q i) b new loose × (q' ≡ posting new (with_node q i b))
+
+-- the event of the member at place i; d is the id of the one that is marked
+abbrev pub Acts : Event → ℕ → ℕ → Parties → Parties → Option (LinkName × OutSeen) → Type 0
+Acts (Cast by body) i d q q' loose = Alone (Casts (message.Cast body)) i q q' loose
+Acts (Put by) i d q q' loose = Alone PutsPacket i q q' loose
+Acts (Take by) i d q q' loose = Alone TakesPacket i q q' loose
+Acts (TakeEnd by) i d q q' loose = Alone TakesEnd i q q' loose
+Acts (Gain by) i d q q' loose = Alone Gains i q q' loose
+Acts (Stop by) i d q q' loose = (b : Shown) × Stops (node_at q i) b × (q' ≡ record (with_node q i b) { stopped = q.stopped ++ (i + 1) ∷ [] }) × (loose ≡ None)
+Acts (Mark by dead) i d q q' loose = LooksAt (marked (newest_of q) d) i (viewing (marked (newest_of q) d) q) q' loose
+Acts (Refresh by version) i d q q' loose = LooksAt (view_at q.views version) i q q' loose
+Acts (Pick by) i d q q' loose = Alone Picks i q q' loose
+
+-- ---- collecting
+
+-- whether a link waits for the member of an id
+abbrev pub waits_at : ℕ → Posted → Bool
+waits_at x d = nat_eq d.name.to.0 x
+
+-- such a link, as its receiver has it that has taken nothing from it
+abbrev pub received : Held → Posted → Incoming
+received h d = arriving_in h.initial h.more d.name.from.0 d.name.view
+
+-- whether the receiver keeps it
+abbrev pub is_kept_by : Held → Posted → Bool
+is_kept_by h d = stays h.view h.id (received h d)
+
+-- These links come to the member's door, but for those that it may not take from any more.
+pub record Collects (a b : Shown) (links : List Posted) : Type 0 where
+  pub held : b.held ≡ collected_held a.held (map (received a.held) links)
+  pub ends : b.ends ≡ record a.ends { door = a.ends.door ++ map (λ d. d.end) (filter (is_kept_by a.held) links) }
+
+-- all that wait for the member of an id
+abbrev pub CollectsAt : ℕ → Parties → Parties → Type 0
+CollectsAt x q q' =
+    (b : Shown) × Collects (node_at q (x - 1)) b (filter (waits_at x) q.post)
+    × (q' ≡ record (with_node q (x - 1) b) { post = filter (λ d. not (waits_at x d)) q.post })

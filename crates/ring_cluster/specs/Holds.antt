@@ -1,14 +1,17 @@
 -- What a member that stands in a state of the ring holds of it.
-use Rattle.std.specs.Prelude.{◌≡◌, ℕ, ◌<◌, take}
-use Rattle.ring_world.specs.World.{World, row_at, member_at, log_of, size}
-use Rattle.gm_member.specs.Held.{Held}
-use Rattle.gm_member.specs.View.{known_at}
+use Rattle.std.specs.Prelude.{◌≡◌, ℕ, ◌-◌, ◌<◌, ◌≤◌, take}
+use Rattle.ring_world.specs.Machine.{World, member_at, row_at, view_at}
+use Rattle.ring_world.specs.Step.{size, log_of}
+use Rattle.gm_member.specs.Held.{Held, known_at}
 
--- the name and the numbers of the member at place i, and the messages of each log up to the number that it got
-pub record HoldsOf (w : World) (i : ℕ) (h : Held) : Type 0 where
-  pub place : h.place ≡ i
-  pub name : h.member.name ≡ (member_at w i).name
-  pub got : (p : ℕ) → p < size w → (known_at h.member.rows p).got ≡ (row_at (member_at w i) p).got
-  pub forgot : (p : ℕ) → p < size w → (known_at h.member.rows p).forgot ≡ (row_at (member_at w i) p).forgot
-  pub retired : (p : ℕ) → p < size w → (known_at h.member.rows p).retired ≡ (row_at (member_at w i) p).retired
-  pub messages : (p : ℕ) → p < size w → (known_at h.member.rows p).heard ≡ take (row_at (member_at w i) p).got (log_of w p)
+-- its id, its name, where it stands, its view, the numbers that it keeps of each origin, and the messages of each log up to the number
+-- that it got
+pub record HoldsOf (w : World) (x : ℕ) (h : Held) : Type 0 where
+  pub id : h.id ≡ x
+  pub name : h.name ≡ (member_at w x).name
+  pub phase : h.phase ≡ (member_at w x).phase
+  pub view : h.view ≡ view_at w (member_at w x).version
+  pub got : (p : ℕ) → 1 ≤ p → p < size w → (known_at h.rows (p - 1)).got ≡ (row_at (member_at w x) p).got
+  pub forgot : (p : ℕ) → 1 ≤ p → p < size w → (known_at h.rows (p - 1)).forgot ≡ (row_at (member_at w x) p).forgot
+  pub retired : (p : ℕ) → 1 ≤ p → p < size w → (known_at h.rows (p - 1)).retired ≡ (row_at (member_at w x) p).retired
+  pub messages : (p : ℕ) → 1 ≤ p → p < size w → (known_at h.rows (p - 1)).heard ≡ take (row_at (member_at w x) p).got (log_of w p)

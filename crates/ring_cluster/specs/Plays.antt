@@ -1,15 +1,16 @@
 -- When a journal plays what a cluster was given.
-use Rattle.std.specs.Prelude.{◌≡◌, ℕ, ◌<◌, ◌≤◌, List, [], ◌∷◌, ◌++◌, length, map, take, slice_get, slice_set, slice_index_or, IsSome, position, bytes_eq, Option, Some, None, if◌then◌else◌, Contains}
+use Rattle.std.specs.Prelude.{◌≡◌, ℕ, ◌+◌, true, ◌<◌, ◌≤◌, List, [], ◌∷◌, ◌++◌, length, map, take, slice_get, slice_set, slice_index_or, IsSome, position, bytes_eq, Option, Some, None, if◌then◌else◌, Contains}
 use Rattle.std.specs.List.{flat_map}
 use Rattle.ring_names.specs.declared.numbers.CreditSpec.{CreditSpec}
 use Rattle.ring_script.specs.declared.command.Command.{Command}
 use Rattle.ring_script.specs.declared.command.Command.TheVariants as command
-use Rattle.ring_world.specs.declared.fixed.Event.{Event}
-use Rattle.ring_world.specs.declared.fixed.Event.TheVariants.{Cast, Put, Take, Gain}
-use Rattle.ring_world.specs.Laws.{IsQuiet}
+use Rattle.ring_world.specs.declared.event.Event.{Event}
+use Rattle.ring_world.specs.declared.event.Event.TheVariants.{Cast, Put, Take, TakeEnd, Gain, Stop, Mark, Refresh, Pick}
+use Rattle.ring_world.specs.Machine.{runs}
+use Rattle.ring_world.specs.Quiet.{IsQuiet}
 use Rattle.ring_cluster.specs.declared.agenda.Task.{Task}
 use Rattle.ring_cluster.specs.declared.agenda.Task.TheVariants as task
-use Rattle.ring_cluster.specs.Seen.{Seen, state}
+use Rattle.ring_cluster.specs.Seen.{Seen, state, state_of}
 
 -- ---- what clients asked for
 
@@ -18,7 +19,12 @@ abbrev pub client_event : List ℕ → Event → List Event
 client_event name (Cast by body) = if bytes_eq by name then Cast by body ∷ [] else []
 client_event name (Put by) = []
 client_event name (Take by) = []
+client_event name (TakeEnd by) = []
 client_event name (Gain by) = []
+client_event name (Stop by) = if bytes_eq by name then Stop by ∷ [] else []
+client_event name (Mark by dead) = []
+client_event name (Refresh by version) = []
+client_event name (Pick by) = []
 
 -- the client events of a member, in the order of the journal
 abbrev pub client_events : List ℕ → List Event → List Event
@@ -137,18 +143,22 @@ performed c i t ts = record c { events = c.events ++ task_event (slice_index_or 
 abbrev pub SameGiven : Seen → Seen → Type 0
 SameGiven c d = (d.given ≡ c.given) × (d.rounds ≡ c.rounds)
 
--- the member at a place has begun with its agenda, where it had one
+-- the member at a place has begun with its agenda, where it runs and had one
 abbrev pub HasBegun : ℕ → Seen → Seen → Type 0
-HasBegun i c d = 0 < length (agenda_at c.agendas i) → length (agenda_at d.agendas i) < length (agenda_at c.agendas i)
+HasBegun i c d = runs (state_of c) (i + 1) ≡ true → 0 < length (agenda_at c.agendas i) → length (agenda_at d.agendas i) < length (agenda_at c.agendas i)
 
 -- the agendas at other places stay
 abbrev pub SameElsewhere : ℕ → Seen → Seen → Type 0
 SameElsewhere i c d = (j : ℕ) → ¬ (j ≡ i) → agenda_at d.agendas j ≡ agenda_at c.agendas j
 
--- the head of each agenda is among these events
+-- the head of the agenda of each member that runs is among these events
 abbrev pub HeadsAre : Seen → List Event → Type 0
-HeadsAre c more = (name : List ℕ) (t : Task) (ts : List Task) → agenda_of c name ≡ t ∷ ts → Contains more (task_event name t)
+HeadsAre c more = (name : List ℕ) (i : ℕ) (t : Task) (ts : List Task) → place_among c.names name ≡ Some i → runs (state_of c) (i + 1) ≡ true → agenda_at c.agendas i ≡ t ∷ ts → Contains more (task_event name t)
 
--- nobody has anything to do
+-- no member that runs has anything to do
+abbrev pub AgendasAreDone : Seen → Type 0
+AgendasAreDone c = (i : ℕ) → i < length c.agendas → runs (state_of c) (i + 1) ≡ true → agenda_at c.agendas i ≡ []
+
+-- nobody has
 abbrev pub AgendasAreEmpty : Seen → Type 0
 AgendasAreEmpty c = (i : ℕ) → i < length c.agendas → agenda_at c.agendas i ≡ []

@@ -1,10 +1,12 @@
 -- What is seen of a cluster.
-use Rattle.std.specs.Prelude.{◌≡◌, ℕ, ◌<◌, ◌^◌, List, [], length, replicate}
+use Rattle.std.specs.Prelude.{◌≡◌, ℕ, ◌+◌, ◌-◌, ◌<◌, ◌^◌, ◌++◌, ◌∷◌, List, [], length, min, replicate}
 use Rattle.ring_names.specs.declared.numbers.CreditSpec.{CreditSpec}
 use Rattle.ring_script.specs.declared.command.Command.{Command}
-use Rattle.ring_world.specs.declared.fixed.Event.{Event}
-use Rattle.ring_world.specs.World.{World, AreOpeningNames}
-use Rattle.ring_world.specs.Run.{IsRun, opening, last}
+use Rattle.group_view.specs.Change.{AreOpeningNames}
+use Rattle.ring_world.specs.declared.event.Event.{Event}
+use Rattle.ring_world.specs.Machine.{World}
+use Rattle.ring_world.specs.Step.{opening}
+use Rattle.ring_world.specs.Event.{IsRun, last}
 use Rattle.ring_cluster.specs.declared.agenda.Task.{Task}
 
 -- the state of the ring after these events from its opening
@@ -37,3 +39,11 @@ pub record IsGoing (c : Seen) : Type 0 where
   pub run : IsRun (opening c.credit c.names) c.events
   pub few : length c.events < 2 ^ 59
   pub agendas : length c.agendas ≡ length c.names
+
+-- one event has happened
+abbrev pub with_event : Seen → Event → Seen
+with_event c e = record c { events = c.events ++ e ∷ [] }
+
+-- as a round of its own
+abbrev pub stepped : Seen → Event → Seen
+stepped c e = record c { events = c.events ++ e ∷ []; rounds = min (c.rounds + 1) (2 ^ 32 - 1) }

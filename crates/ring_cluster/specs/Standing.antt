@@ -1,41 +1,113 @@
--- The fact that every cluster keeps of its members.
-use Rattle.std.specs.Prelude.{◌≡◌, ℕ, ◌+◌, ◌<◌, ◌^◌, true, false, List, [], length, slice_index_or, Option, None, position, bytes_eq}
+-- When the parties of a cluster stand in a state of the ring.
+use Rattle.std.specs.Prelude.{◌≡◌, ℕ, ◌+◌, ◌-◌, ◌<◌, ◌≤◌, ◌^◌, ◌++◌, ◌∷◌, ◌⊎◌, Bool, true, false, List, [], length, map, nat_eq, Option, Some, None, option_map}
+use Rattle.std.specs.List.{filter}
 use Rattle.ring_names.specs.declared.numbers.CreditSpec.{CreditSpec}
-use Rattle.ring_world.specs.declared.fixed.Event.{Event}
-use Rattle.ring_world.specs.World.{World, AreOpeningNames, size}
-use Rattle.ring_world.specs.Run.{IsRun, opening}
-use Rattle.gm_member.specs.Held.{Held, founded}
+use Rattle.group_view.specs.declared.link.LinkName.{LinkName}
+use Rattle.group_view.specs.Ring.{is_in}
+use Rattle.group_view.specs.Change.{AreOpeningNames}
+use Rattle.group_view.specs.Since.{no_group}
+use Rattle.ring_world.specs.declared.event.Event.{Event}
+use Rattle.ring_world.specs.Machine.{World, member_at, link_at}
+use Rattle.ring_world.specs.OpenLinks.{is_place, is_open}
+use Rattle.ring_world.specs.Step.{size, opening}
+use Rattle.ring_world.specs.Event.{IsRun, is_stopped}
+use Rattle.gm_member.specs.View.{ring_link}
+use Rattle.gm_member.specs.Stands.{incoming_in, door_links, held_in}
+use Rattle.ring_cluster.specs.Ends.{OutSeen, InSeen, Carries, HaveMet, HasRested}
 use Rattle.ring_cluster.specs.Seen.{state}
-use Rattle.ring_cluster.specs.Ends.{OutSeen, InSeen, AllStand, AllCarry, AllMet}
+use Rattle.ring_cluster.specs.Parties.{Shown, Parties, node_at}
 
--- the members stand in a state, and the ends of their links carry its links
-pub record Standing (initial : ℕ) (w : World) (hs : List Held) (os : List OutSeen) (ns : List InSeen) : Type 0 where
-  pub outs : length os ≡ size w
-  pub ins : length ns ≡ size w
-  pub stand : AllStand w hs
-  pub carry : AllCarry initial w os ns
+-- Of each link of the ring, by its place: what its out end shows, and last showed where it was dropped; what its in end shows; and the
+-- places of the links that wait for their receivers.
+pub record Places : Type 0 where
+  pub outs : ℕ → OutSeen
+  pub ins : ℕ → InSeen
+  pub post : List ℕ
 
--- the journal is a run, all stand in its last state, and the ends of each link have met
-pub record IsStandingIn (credit : CreditSpec) (names : List (List ℕ)) (events : List Event) (hs : List Held) (os : List OutSeen) (ns : List InSeen) : Type 0 where
+-- the name of the link at place s
+abbrev pub name_of : World → ℕ → LinkName
+name_of w s = ring_link (link_at w s).sender (link_at w s).receiver (link_at w s).opened
+
+-- whether it goes to x
+abbrev pub is_to : World → ℕ → ℕ → Bool
+is_to w x s = nat_eq (link_at w s).receiver x
+
+-- whether its sender still has its out end
+abbrev pub has_out : World → ℕ → Bool
+has_out w s = is_place (member_at w (link_at w s).sender).out s
+
+-- whether its receiver may still take from it
+abbrev pub has_in : World → ℕ → Bool
+has_in w s = is_open w (link_at w s).receiver s
+
+-- A member stands at the id x, but for the links at its door that it hasn't collected yet; it has the ends of its links, and none that it
+-- has replaced or left.
+pub record MemberStands (w : World) (p : Places) (x : ℕ) (m : Shown) : Type 0 where
+  pub door : List ℕ
+  pub comes : door_links w x ≡ door ++ filter (is_to w x) p.post
+  pub held : m.held ≡ record (held_in w x) { door = map (incoming_in w) door }
+  pub out : m.ends.out ≡ option_map p.outs (member_at w x).out
+  pub kept : m.ends.kept ≡ None
+  pub link : m.ends.link ≡ option_map p.ins (member_at w x).current
+  pub ends : m.ends.door ≡ map (λ s. Some (p.ins s)) door
+  pub old_outs : m.ends.old_outs ≡ []
+  pub old_ins : m.ends.old_ins ≡ []
+
+-- The parties stand in a state: each member at its id, the registrar with the views and the notices of those that have stopped, the links
+-- that wait with their names and ends; and the ends of each link that its receiver may still take from carry it.
+pub record StandIn (initial : ℕ) (w : World) (q : Parties) (p : Places) : Type 0 where
+  pub count : length q.nodes + 1 ≡ size w
+  pub each : (x : ℕ) → 1 ≤ x → x < size w → MemberStands w p x (node_at q (x - 1))
+  pub views : w.views ≡ no_group ∷ q.views
+  pub stopped : (x : ℕ) → 1 ≤ x → x < size w → is_in x q.stopped ≡ is_stopped (member_at w x).phase
+  pub post : q.post ≡ map (λ s. record { name = name_of w s; end = Some (p.ins s) }) p.post
+  pub within : (s : ℕ) → is_in s p.post ≡ true → s < length w.links
+  pub carry : (s : ℕ) → s < length w.links → has_in w s ≡ true → Carries w initial (link_at w s) (p.outs s) (p.ins s)
+
+-- the ends of a link have met, and where the out end was dropped, it had met the in end before
+abbrev pub HaveDone : Bool → OutSeen → InSeen → Type 0
+HaveDone true o n = HaveMet o n
+HaveDone false o n = HasRested o n
+
+-- of each link that has both ends they have met; of one whose out end was dropped, it had
+abbrev pub AllHaveMet : World → Places → Type 0
+AllHaveMet w p = (s : ℕ) → s < length w.links → has_in w s ≡ true → HaveDone (has_out w s) (p.outs s) (p.ins s)
+
+-- The parties stand in a state, and nothing waits in the ends of a link.
+pub record Stand (initial : ℕ) (w : World) (q : Parties) : Type 0 where
+  pub places : Places
+  pub stand : StandIn initial w q places
+  pub met : AllHaveMet w places
+
+-- ---- between an event and the meetings after it
+
+-- each out end that was dropped had met its other end, but for this one, which was just replaced
+abbrev pub DroppedHaveMet : World → Places → Option (LinkName × OutSeen) → Type 0
+DroppedHaveMet w p loose = (s : ℕ) → s < length w.links → has_in w s ≡ true → has_out w s ≡ false
+    → HasRested (p.outs s) (p.ins s) ⊎ (loose ≡ Some (name_of w s, p.outs s))
+
+-- The parties stand in a state in which ends still have to meet; an out end that was just replaced may be loose.
+pub record StandLoose (initial : ℕ) (w : World) (q : Parties) (loose : Option (LinkName × OutSeen)) : Type 0 where
+  pub places : Places
+  pub stand : StandIn initial w q places
+  pub dropped : DroppedHaveMet w places loose
+
+-- The same, where the ends of links on which members of ids up to k send have met.
+pub record StandMet (k : ℕ) (initial : ℕ) (w : World) (q : Parties) : Type 0 where
+  pub places : Places
+  pub stand : StandIn initial w q places
+  pub dropped : DroppedHaveMet w places None
+  pub met : (s : ℕ) → s < length w.links → has_in w s ≡ true → has_out w s ≡ true → (link_at w s).sender ≤ k → HaveMet (places.outs s) (places.ins s)
+
+-- ---- a cluster
+
+-- The journal is a run of the ring of fewer than 2^59 events.
+pub record IsJournal (credit : CreditSpec) (names : List (List ℕ)) (events : List Event) : Type 0 where
   pub are : AreOpeningNames names
-  pub few : length events < 2 ^ 59
   pub run : IsRun (opening credit names) events
-  pub standing : Standing credit.initial (state credit names events) hs os ns
-  pub met : AllMet (size (state credit names events)) os ns
+  pub few : length events < 2 ^ 59
 
--- the place of the member of that name
-abbrev pub place_in : List Held → List ℕ → Option ℕ
-place_in hs name = position (λ h. bytes_eq h.member.name name) hs
-
--- ---- the opening
-
--- the ends of a link of the opening
-abbrev pub fresh_out : ℕ → OutSeen
-fresh_out initial = record { there = true; waiting = []; kept = None; back = []; initial = initial; free = initial + 1; ended = false }
-
-abbrev pub fresh_in : ℕ → InSeen
-fresh_in initial = record { there = true; items = []; given = []; late = None; initial = initial; free = initial }
-
--- the member at place k of the opening
-abbrev pub founded_at : CreditSpec → List (List ℕ) → ℕ → Held
-founded_at credit names k = founded credit (slice_index_or names k []) k
+-- The journal is a run, and the parties stand in its last state.
+pub record StandAfter (credit : CreditSpec) (names : List (List ℕ)) (events : List Event) (q : Parties) : Type 0 where
+  pub journal : IsJournal credit names events
+  pub stand : Stand credit.initial (state credit names events) q

@@ -1,27 +1,48 @@
 -- The turns of a cluster.
-use Rattle.std.specs.Prelude.{◌≡◌, ℕ, ◌≤◌, Bool, true, false, [], ◌∷◌, ◌++◌, length}
-use Rattle.ring_world.specs.declared.fixed.Event.{Event}
-use Rattle.ring_world.specs.declared.fixed.Event.TheVariants.{Cast, Put, Take, Gain}
-use Rattle.ring_cluster.specs.Seen.{Seen}
+use Rattle.std.specs.Prelude.{◌≡◌, ◌≢◌, ℕ, ◌+◌, ◌≤◌, Bool, true, false, List, [], length, None}
+use Rattle.ring_world.specs.declared.event.Event.{Event}
+use Rattle.ring_world.specs.declared.event.Event.TheVariants.{Cast, Put, Take, TakeEnd, Gain, Stop, Mark, Refresh, Pick}
+use Rattle.ring_world.specs.Machine.{World, member_at, newest, right, runs}
+use Rattle.ring_world.specs.Step.{size}
+use Rattle.ring_world.specs.Event.{refusal}
+use Rattle.ring_cluster.specs.declared.driver.OwnStep.{OwnStep}
+use Rattle.ring_cluster.specs.declared.driver.OwnStep.TheVariants as step
+use Rattle.ring_cluster.specs.Idle.{HasNothingToDo}
+use Rattle.ring_cluster.specs.Seen.{Seen, state_of}
 use Rattle.ring_cluster.specs.Plays.{agenda_at, HasGoneOn, SameGiven, SameElsewhere}
 
--- whether an event is a member's own work on its links
-abbrev pub is_link_event : Event → Bool
-is_link_event (Cast by body) = false
-is_link_event (Put by) = true
-is_link_event (Take by) = true
-is_link_event (Gain by) = true
+-- whether an event is a member's own, by which it goes on or repairs the ring; no client asks for it
+abbrev pub is_own_event : Event → Bool
+is_own_event (Cast by body) = false
+is_own_event (Put by) = true
+is_own_event (Take by) = true
+is_own_event (TakeEnd by) = true
+is_own_event (Gain by) = true
+is_own_event (Stop by) = false
+is_own_event (Mark by dead) = true
+is_own_event (Refresh by version) = true
+is_own_event (Pick by) = true
 
--- one event has happened
-abbrev pub with_event : Seen → Event → Seen
-with_event c e = record c { events = c.events ++ e ∷ [] }
+-- the event of a step on its links, by the member of this name
+abbrev pub step_event : OwnStep → List ℕ → Event
+step_event step.Pick by = Pick by
+step_event step.Take by = Take by
+step_event step.TakeEnd by = TakeEnd by
+step_event step.Gain by = Gain by
+step_event step.Put by = Put by
 
--- members have worked on their links, and their agendas stay
+-- the members are as many, and nobody has stopped or come up
+pub record SamePhases (w w' : World) : Type 0 where
+  pub many : size w' ≡ size w
+  pub phase : (x : ℕ) → (member_at w' x).phase ≡ (member_at w x).phase
+
+-- members have done steps of their own, and their agendas stay
 pub record Works (c d : Seen) : Type 0 where
   pub goes : HasGoneOn c d
   pub given : SameGiven c d
   pub names : d.names ≡ c.names
   pub agendas : d.agendas ≡ c.agendas
+  pub phases : SamePhases (state_of c) (state_of d)
 
 -- the member at place i has taken turns: its agenda hasn't grown, and the others' stay
 pub record TakesTurns (i : ℕ) (c d : Seen) : Type 0 where
@@ -30,9 +51,31 @@ pub record TakesTurns (i : ℕ) (c d : Seen) : Type 0 where
   pub names : d.names ≡ c.names
   pub shrinks : length (agenda_at d.agendas i) ≤ length (agenda_at c.agendas i)
   pub elsewhere : SameElsewhere i c d
+  pub phases : SamePhases (state_of c) (state_of d)
 
 -- members have taken turns
 pub record TakesRound (c d : Seen) : Type 0 where
   pub goes : HasGoneOn c d
   pub given : SameGiven c d
   pub names : d.names ≡ c.names
+  pub phases : SamePhases (state_of c) (state_of d)
+
+-- the member at a place is done with its agenda, where it runs
+abbrev pub IsDoneAt : ℕ → Seen → Type 0
+IsDoneAt i c = runs (state_of c) (i + 1) ≡ true → agenda_at c.agendas i ≡ []
+
+-- member y may do this step
+abbrev pub MayStep : World → ℕ → OwnStep → Type 0
+MayStep w y s = refusal w (step_event s (member_at w y).name) ≡ None
+
+-- it may do none
+abbrev pub MayStepNowhere : World → ℕ → Type 0
+MayStepNowhere w y = (s : OwnStep) → MayStep w y s → ⊥
+
+-- it can't have its right neighbour in the newest view marked dead
+abbrev pub MarksNoneAt : World → ℕ → Type 0
+MarksNoneAt w y = refusal w (Mark (member_at w y).name (member_at w (right w (newest w) y)).name) ≢ None
+
+-- it has nothing to do and nobody to have marked, where it runs
+abbrev pub RestsAt : World → ℕ → Type 0
+RestsAt w y = runs w y ≡ true → HasNothingToDo w y × MarksNoneAt w y

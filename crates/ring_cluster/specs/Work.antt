@@ -1,52 +1,122 @@
--- How much a ring still has to do, as one number, which each put, take and gain makes less.
-use Rattle.std.specs.Prelude.{ℕ, zero, suc, ◌+◌, ◌-◌, ◌*◌, if◌then◌else◌, length}
-use Rattle.ring_world.specs.World.{World, member_at, link_at, log_of, size}
-use Rattle.ring_world.specs.Member.{has_nothing_new}
-use Rattle.ring_world.specs.Laws.{row_of}
+-- How much a ring still has to do, as one number, which each step of repair makes less.
+use Rattle.std.specs.Prelude.{ℕ, zero, suc, ◌+◌, ◌-◌, ◌*◌, if◌then◌else◌, ◌≡◌, ◌<◌, ◌≤◌, Bool, true, ◌&&◌, not, nat_eq, length, List, is_some, Option, Some, None}
+use Rattle.std.specs.List.{sum_by}
+use Rattle.group_view.specs.declared.entry.Entry.{Entry}
+use Rattle.group_view.specs.declared.entry.Mark.{Mark}
+use Rattle.group_view.specs.declared.entry.Mark.TheVariants.{Live, Dead, Erased}
+use Rattle.ring_world.specs.declared.event.Event.{Event}
+use Rattle.ring_world.specs.declared.event.Event.TheVariants.{Refresh}
+use Rattle.ring_world.specs.Machine.{Member, Link, World, member_at, link_at, view_at, newest}
+use Rattle.ring_world.specs.OpenLinks.{passes, is_current}
+use Rattle.ring_world.specs.Step.{size, log_of}
+use Rattle.ring_world.specs.Lawful.{row_of}
+use Rattle.ring_world.specs.Event.{has_nothing_new, refusal, effect}
 
 -- f 0 + .. + f (n - 1)
 abbrev pub sum_below : ℕ → (ℕ → ℕ) → ℕ
 sum_below zero f = 0
 sum_below (suc n) f = sum_below n f + f n
 
--- how many messages of origin p member q still has to get, and how many to forget
-abbrev pub behind_at : World → ℕ → ℕ → ℕ
-behind_at w q p = (length (log_of w p) - (row_of w q p).got) + (length (log_of w p) - (row_of w q p).forgot)
+-- ---- the entries of the newest view
 
--- the same over all members and origins of a ring of n
-abbrev pub behind : ℕ → World → ℕ
-behind n w = sum_below n (λ q. sum_below n (behind_at w q))
+-- how often an entry's mark may still change: it dies, and is erased
+abbrev pub marks_after : Mark → ℕ
+marks_after Live = 2
+marks_after Dead = 1
+marks_after Erased = 0
 
--- 1 where member i has numbers that it has not sent, else 0
-abbrev pub unsent_at : ℕ → World → ℕ → ℕ
-unsent_at n w i = if has_nothing_new n (member_at w i) (link_at w i).sending then 0 else 1
+-- the changes that are left to an entry: those of its mark, and its registration
+abbrev pub entry_left : Entry → ℕ
+entry_left e = marks_after e.mark + (if e.synced then 0 else 1)
+
+-- those of all entries of the newest view
+abbrev pub marks_left : World → ℕ
+marks_left w = sum_by entry_left (view_at w (newest w)).entries
+
+-- ---- members
+
+-- whether a member is stale: its view isn't of the version v, the newest, or it sends on no link
+abbrev pub is_stale : ℕ → Member → Bool
+is_stale v y = not (nat_eq y.version v && is_some y.out)
+
+-- 1 where it is
+abbrev pub stale_by : ℕ → Member → ℕ
+stale_by v y = if is_stale v y then 1 else 0
+
+-- the same of the member with the id after i; ids count from 1
+abbrev pub stale_at : World → ℕ → ℕ
+stale_at w i = stale_by (newest w) (member_at w (i + 1))
+
+-- how many members are stale
+abbrev pub stale : World → ℕ
+stale w = sum_below (size w - 1) (stale_at w)
+
+-- 1 where a member sends on a link and has numbers, of n origins, that it has not sent there, else 0
+abbrev pub dirty_on : ℕ → World → Member → Option ℕ → ℕ
+dirty_on n w y None = 0
+dirty_on n w y (Some o) = if has_nothing_new n y (link_at w o).sending then 0 else 1
+
+-- the same of the member of an id, with n origins
+abbrev pub dirty_at : ℕ → World → ℕ → ℕ
+dirty_at n w i = dirty_on n w (member_at w i) (member_at w i).out
 
 -- how many members have such numbers
-abbrev pub unsent : ℕ → World → ℕ
-unsent n w = sum_below n (unsent_at n w)
+abbrev pub dirty : World → ℕ
+dirty w = sum_below (size w) (dirty_at (size w) w)
 
--- how many packets a link holds
-abbrev pub packets_at : World → ℕ → ℕ
-packets_at w s = length (link_at w s).packets
+-- how many messages of origin p member q still has to get, to forget, and to retire
+abbrev pub lag_at : World → ℕ → ℕ → ℕ
+lag_at w q p = (length (log_of w p) - (row_of w q p).got) + (length (log_of w p) - (row_of w q p).forgot) + (length (log_of w p) - (row_of w q p).retired)
 
--- and all links together
-abbrev pub packets : ℕ → World → ℕ
-packets n w = sum_below n (packets_at w)
+-- of all origins
+abbrev pub lag_by : World → ℕ → ℕ
+lag_by w q = sum_below (size w) (lag_at w q)
 
--- how many grants are under way on a link
-abbrev pub grants_at : World → ℕ → ℕ
-grants_at w s = length (link_at w s).flow.grants
+-- all members together
+abbrev pub lag : World → ℕ
+lag w = sum_below (size w - 1) (λ i. lag_by w (i + 1))
 
--- and on all links together
-abbrev pub grants : ℕ → World → ℕ
-grants n w = sum_below n (grants_at w)
+-- ---- links
 
--- What a ring of n has to do. A put spends a member's unsent numbers on one packet, a take spends a packet
--- on at most one grant, and leaves numbers unsent only where its member came less behind, and a gain spends
--- a grant: hence the weights.
-abbrev pub work_of : ℕ → World → ℕ
-work_of n w = 3 * (behind n w + unsent n w) + 2 * packets n w + grants n w
+-- what is to be taken from a link: its packets, and its end where that wasn't taken yet
+abbrev pub items : Link → ℕ
+items l = length l.packets + (if is_some l.ending && not l.over then 1 else 0)
 
--- what a ring has to do
+-- how far a link is from having been left, where it is over, is its receiver's current link, and passes at its receiver's door
+abbrev pub place_by : Bool → Bool → Bool → ℕ
+place_by over current door = if over then 0 else (if current then 1 else (if door then 2 else 0))
+
+-- the same of the link at a place
+abbrev pub place_at : World → ℕ → ℕ
+place_at w s = place_by (link_at w s).over (is_current w (link_at w s).receiver s) (passes w (link_at w s).receiver (link_at w s))
+
+-- what is left of a link: its items, each of which may make a grant, its place, and its grants
+abbrev pub weight_at : World → ℕ → ℕ
+weight_at w s = 2 * items (link_at w s) + place_at w s + length (link_at w s).flow.grants
+
+-- all links together
+abbrev pub on_links : World → ℕ
+on_links w = sum_below (length w.links) (weight_at w)
+
+-- ---- all of it
+
+-- What a ring has to do. A put spends a member's unsent numbers on one packet; a take spends a packet on at most one grant,
+-- and leaves numbers unsent only where its member came less behind; a refresh spends a stale member on the end of one link
+-- and the first packet of another; and a mark spends one of an entry's on the refreshes of all. Hence the weights, for at
+-- most 64 members.
 abbrev pub work : World → ℕ
-work w = work_of (size w) w
+work w = 585 * marks_left w + 9 * stale w + (3 * dirty w + 3 * lag w + on_links w)
+
+-- ---- what leaves less of it
+
+-- an event leaves less to do, where it is enabled
+abbrev pub LeavesLess : World → Event → Type 0
+LeavesLess w e = refusal w e ≡ None → work (effect w e) < work w
+
+-- so does the event of each member
+abbrev pub EachLeavesLess : World → (List ℕ → Event) → Type 0
+EachLeavesLess w e = (x : ℕ) → 1 ≤ x → x < size w → LeavesLess w (e (member_at w x).name)
+
+-- so does the refresh of each stale member to the newest view
+abbrev pub EachRefreshLeavesLess : World → Type 0
+EachRefreshLeavesLess w = (x : ℕ) → 1 ≤ x → x < size w → is_stale (newest w) (member_at w x) ≡ true → LeavesLess w (Refresh (member_at w x).name (newest w))

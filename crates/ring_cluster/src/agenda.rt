@@ -4,7 +4,7 @@ ghost use Rattle.ring_cluster.specs.Plays.{task_event};
 ghost use Rattle.ring_cluster.specs.declared.agenda.Task.{Task};
 
 use ring_names::{Body, Name, OutOfMemory};
-use ring_world::fixed::Event;
+use ring_world::Event;
 use std::alloc::Global;
 use std::collections::VecDeque;
 use std::marker::Model;

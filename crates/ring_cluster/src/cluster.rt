@@ -1,21 +1,25 @@
 //! The cluster.
 ghost use Rattle.std.specs.Prelude.{◌≡◌, ◌<◌, ◌∷◌, ◌++◌, [], ◌↔◌, ◌≤◌, ◌-◌, List, true, false, IsSome, MatchOption, drop, slice_set, IfOk, IfSome, OnOk, OnErr, bytes_eq, length, map, slice_index_or, replicate, vec_len, vec_capacity};
-ghost use Rattle.ring_cluster.specs.Nodes.{held_of, out_of, in_of};
+ghost use Rattle.ring_cluster.specs.Parties.{parties, shown_of, no_shown};
+ghost use Rattle.ring_cluster.specs.Behind.{behind};
 ghost use Rattle.ring_cluster.specs.declared.agenda.Task.{Task};
-ghost use Rattle.ring_cluster.specs.Ends.{held_at};
 ghost use Rattle.ring_cluster.specs.Plays.{IsCommandTo, IsTaskOf, place_among as the_place, task_event, agenda_at};
-ghost use Rattle.ring_cluster.specs.Standing.{IsStandingIn};
+ghost use Rattle.ring_cluster.specs.Standing.{StandAfter};
 
 use crate::agenda::{Agenda, Task};
 use crate::driver::{drain, round};
 use crate::node::Node;
-use crate::opening::{copied, opening_nodes};
-use crate::stepping::step;
+use crate::opening::{Opening, copied, opening_parties};
+use crate::stepping::{hand_over, step};
+use crate::undelivered::Undelivered;
+use gm_member::Load;
+use group_view::View;
+use ordered_link::PlainIn;
+use registrar::Registrar;
 use ring_io::Gate;
 use ring_names::{CreditSpec, MemberId, Name, OutOfMemory};
 use ring_script::Command;
-use ring_world::Refused;
-use ring_world::fixed::Event;
+use ring_world::{Event, Refused};
 use std::alloc::Global;
 use std::marker::Model;
 use std::thread::Threads;
@@ -26,14 +30,17 @@ const MOST_ROUNDS: u32 = 64;
 /// How many turns each member has in a round of a settling.
 const TURNS: u32 = 16;
 
-/// The members of a ring over plain pairs, the journal of what has happened among them, and what each has
-/// still to do.
+/// The members of a ring over plain pairs, the registrar, the journal of what has happened among them, and what
+/// each has still to do. It stands for the nodes on which the processes of `gm` run, and for the registry in which
+/// they keep their group.
 #[derive(Drop)]
 pub struct Cluster {
     alloc: Global,
     credit: CreditSpec,
     names: Vec<Name>,
     nodes: Vec<Node>,
+    registrar: Registrar<PlainIn<Load>>,
+    late: Option<Undelivered>,
     journal: Vec<Event>,
     agendas: Vec<Agenda>,
     rounds: u32,
@@ -53,21 +60,23 @@ impl Model for Cluster {
 }
 
 impl Cluster {
-    ghost use Rattle.std.specs.Prelude.{◌≡◌, ◌↔◌, ◌≢◌, ◌⊎◌, ℕ, ◌+◌, ◌-◌, ◌<◌, ◌≤◌, ◌^◌, ◌∷◌, ◌++◌, [], List, true, false, Some, None, Err, IsTrue, IsSome, IfSome, IfOk, IfErr, OnOk, OnErr, length, map, replicate, min, slice_index_or};
+    ghost use Rattle.std.specs.Prelude.{◌≡◌, ◌↔◌, ◌≢◌, ◌⊎◌, ℕ, ◌+◌, ◌-◌, ◌<◌, ◌≤◌, ◌^◌, ◌∷◌, ◌++◌, [], List, true, false, Some, None, Err, IsTrue, IsSome, MatchOption, IfSome, IfOk, IfErr, OnOk, OnErr, length, map, replicate, min, drop, slice_set, slice_index_or};
     ghost use Rattle.ring_names.specs.declared.reason.Reason.{Reason};
     ghost use Rattle.ring_script.specs.declared.command.Command.{Command};
     ghost use Rattle.ring_script.specs.declared.command.Command.TheVariants as command;
-    ghost use Rattle.ring_world.specs.declared.fixed.Event.{Event};
-    ghost use Rattle.ring_world.specs.World.{AreOpeningNames, size};
-    ghost use Rattle.ring_world.specs.Laws.{IsQuiet};
-    ghost use Rattle.ring_world.specs.Refusal.{refusal};
-    ghost use Rattle.ring_world.specs.Run.{IsRun, opening};
+    ghost use Rattle.group_view.specs.Change.{AreOpeningNames};
+    ghost use Rattle.ring_world.specs.declared.event.Event.{Event};
+    ghost use Rattle.ring_world.specs.Machine.{view_at, newest, runs};
+    ghost use Rattle.ring_world.specs.Quiet.{IsQuiet};
+    ghost use Rattle.ring_world.specs.Event.{refusal};
     ghost use Rattle.gm_member.specs.Stands.{held_in};
+    ghost use Rattle.gm_member.specs.Shown.{held_of};
+    ghost use Rattle.ring_cluster.specs.Idle.{IsIdle, NobodyStopped, MarksNobody};
     ghost use Rattle.ring_cluster.specs.Holds.{HoldsOf};
-    ghost use Rattle.ring_cluster.specs.Nodes.{held_of};
-    ghost use Rattle.ring_cluster.specs.Seen.{Seen, IsGoing, state_of, opening_seen};
+    ghost use Rattle.ring_cluster.specs.Seen.{Seen, IsGoing, state_of, opening_seen, with_event, stepped};
     ghost use Rattle.ring_cluster.specs.declared.agenda.Task.{Task};
-    ghost use Rattle.ring_cluster.specs.Plays.{PlaysSoFar, Plays, place_among, IsCommandTo, commanded, performed, agenda_at, GoesOn, HasGoneOn, HeadsAre, AgendasAreEmpty};
+    ghost use Rattle.ring_cluster.specs.Plays.{PlaysSoFar, Plays, task_event, place_among, IsCommandTo, commanded, performed, agenda_at, GoesOn, HasGoneOn, HasBegun, HeadsAre, AgendasAreDone, AgendasAreEmpty};
+    ghost use Rattle.ring_cluster.specs.Turns.{SamePhases, TakesRound};
 
     /// The cluster of a ring that has just opened with these members, in ring order: nobody has anything
     /// to do.
@@ -88,7 +97,7 @@ impl Cluster {
         requires { AreOpeningNames members.now }
         ensures { IfOk result (λ c. c ≡ opening_seen credit members.now) }
     {
-        let nodes = opening_nodes(alloc, members, credit)?;
+        let Opening { nodes, registrar } = opening_parties(alloc, members, credit)?;
         let names = copied(alloc, members)?;
         let agendas = opening_agendas(alloc, members.len())?;
         Ok(Cluster {
@@ -96,6 +105,8 @@ impl Cluster {
             credit,
             names,
             nodes,
+            registrar,
+            late: None,
             journal: Vec::new(alloc),
             agendas,
             rounds: 0,
@@ -153,31 +164,34 @@ impl Cluster {
         Ok(())
     }
 
-    /// The one event, where it is enabled. Want of memory leaves all as it was.
+    /// The one event, where it is enabled. Without memory all stands as it stood, or the event has happened and
+    /// the cluster keeps a link that has still to be handed to the registrar. What it keeps so, and the collecting
+    /// of the links that wait for the acting member, comes before the next event, and without memory for it no event
+    /// happens.
     pub fn step(&mut self, event: &Event) -> Result<(), Refused>
         ensures enabled { OnOk result (refusal (state_of self.old) event.now ≡ None) }
-        ensures ok { OnOk result (self.new ≡ record self.old {
-          events = (self.old).events ++ event.now ∷ [];
-          rounds = min ((self.old).rounds + 1) (2 ^ 32 - 1);
-        }) }
+        ensures ok { OnOk result (self.new ≡ stepped self.old event.now) }
         ensures refused { (r : Reason) → refusal (state_of self.old) event.now ≡ Some r
-            → result ≡ Err (Refused.NotEnabled r) }
+            → (result ≡ Err (Refused.NotEnabled r)) ⊎ (result ≡ Err Refused.OutOfMemory) }
         ensures reason { IfErr result (λ e. (r : Reason) → e ≡ Refused.NotEnabled r
             → refusal (state_of self.old) event.now ≡ Some r) }
-        ensures err { OnErr result (self.new ≡ self.old) }
+        ensures err { IfErr result (λ e. (self.new ≡ self.old)
+            ⊎ ((e ≡ Refused.OutOfMemory) × (refusal (state_of self.old) event.now ≡ None) × (self.new ≡ stepped self.old event.now))) }
     {
         self.happen(event)?;
         self.number_round();
-        Ok(())
+        match self.deliver() {
+            Ok(()) => Ok(()),
+            Err(OutOfMemory) => Err(Refused::OutOfMemory),
+        }
     }
 
     /// The one event, as a part of a round.
     pub(crate) fn happen(&mut self, event: &Event) -> Result<(), Refused>
         ensures enabled { OnOk result (refusal (state_of self.old) event.now ≡ None) }
-        ensures ok { OnOk result (self.new
-            ≡ record self.old { events = (self.old).events ++ event.now ∷ [] }) }
+        ensures ok { OnOk result (self.new ≡ with_event self.old event.now) }
         ensures refused { (r : Reason) → refusal (state_of self.old) event.now ≡ Some r
-            → result ≡ Err (Refused.NotEnabled r) }
+            → (result ≡ Err (Refused.NotEnabled r)) ⊎ (result ≡ Err Refused.OutOfMemory) }
         ensures reason { IfErr result (λ e. (r : Reason) → e ≡ Refused.NotEnabled r
             → refusal (state_of self.old) event.now ≡ Some r) }
         ensures err { OnErr result (self.new ≡ self.old) }
@@ -186,29 +200,75 @@ impl Cluster {
             self.credit,
             &self.names,
             &mut self.nodes,
+            &mut self.registrar,
+            &mut self.late,
             &mut self.journal,
             event,
         )
     }
 
-    /// The member at a place does the first of its tasks: whether it had one.
+    /// Hands to the registrar what waits for that.
+    pub(crate) fn deliver(&mut self) -> Result<(), OutOfMemory>
+        ensures { self.new ≡ self.old }
+    {
+        hand_over(
+            self.credit,
+            &self.names,
+            &self.nodes,
+            &mut self.registrar,
+            &mut self.late,
+            &self.journal,
+        )
+    }
+
+    /// The member at a place does the first of its tasks: whether it had one and hasn't stopped.
     pub(crate) fn perform(&mut self, place: usize) -> Result<bool, OutOfMemory>
         requires { place < length (self.old).names }
         ensures done { IfOk result (λ b. b ≡ true → (t : Task) × (ts : List Task)
             × (agenda_at (self.old).agendas place ≡ t ∷ ts)
+            × (refusal (state_of self.old) (task_event (slice_index_or (self.old).names place []) t) ≡ None)
             × (self.new ≡ performed self.old place t ts)) }
-        ensures none { IfOk result (λ b. b ≡ false
-            → (self.new ≡ self.old) × (agenda_at (self.old).agendas place ≡ [])) }
+        ensures none { IfOk result (λ b. b ≡ false → (self.new ≡ self.old)
+            × ((agenda_at (self.old).agendas place ≡ []) ⊎ (runs (state_of self.old) (place + 1) ≡ false))) }
         ensures err { OnErr result (self.new ≡ self.old) }
     {
-        perform_at(
-            self.credit,
-            &self.names,
-            &mut self.nodes,
-            &mut self.journal,
-            &mut self.agendas,
-            place,
-        )
+        self.is_going();
+        let Some(event) = self.next_event(place)? else {
+            return Ok(false);
+        };
+        match self.happen(&event) {
+            Ok(()) => {
+                self.strike_off(place);
+                Ok(true)
+            }
+            Err(Refused::NotEnabled(_)) => Ok(false),
+            Err(Refused::OutOfMemory) => Err(OutOfMemory),
+        }
+    }
+
+    /// The event of the first task of the member at a place, where it has one.
+    fn next_event(&self, place: usize) -> Result<Option<Event>, OutOfMemory>
+        requires { place < length (self.now).names }
+        ensures { IfOk result (λ next. MatchOption next (agenda_at (self.now).agendas place ≡ [])
+            (λ event. (t : Task) × (ts : List Task) × (agenda_at (self.now).agendas place ≡ t ∷ ts)
+            × (event ≡ task_event (slice_index_or (self.now).names place []) t))) }
+    {
+        let Some(task) = head_at(&self.agendas, place) else {
+            return Ok(None);
+        };
+        let event = task.event(&self.names[place])?;
+        Ok(Some(event))
+    }
+
+    /// The first task of the member at a place is done.
+    fn strike_off(&mut self, place: usize)
+        requires { place < length (self.old).names }
+        ensures { self.new ≡ record self.old {
+          agendas = slice_set (self.old).agendas place
+              (drop 1 (agenda_at (self.old).agendas place));
+        } }
+    {
+        pop_at(&mut self.agendas, place);
     }
 
     /// The name of the member at a place.
@@ -234,7 +294,7 @@ impl Cluster {
     }
 
     /// One round: each member takes at least one and at most so many turns, the first of which does the
-    /// head of its agenda, where it has one. Want of memory leaves what has happened.
+    /// head of its agenda, where it has one and hasn't stopped. Want of memory leaves what has happened.
     pub fn go<T: Threads, G: Gate>(
         &mut self,
         threads: &T,
@@ -245,6 +305,7 @@ impl Cluster {
         ensures heads { OnOk result ((more : List Event)
             × GoesOn self.old self.new more × HeadsAre self.old more) }
         ensures goes { HasGoneOn self.old self.new }
+        ensures alive { NobodyStopped (state_of self.old) → NobodyStopped (state_of self.new) }
         ensures given { OnOk result
             ((self.new).given ≡ (self.old).given ++ command.Go turns ∷ []) }
         ensures not_given { OnErr result ((self.new).given ≡ (self.old).given) }
@@ -254,7 +315,7 @@ impl Cluster {
         let _ = threads;
         self.number_round();
         self.note(Command::Go { turns })?;
-        match round(self, turns, gate) {
+        match self.take_round(turns, gate) {
             Ok(()) => Ok(()),
             Err(OutOfMemory) => {
                 self.forget_note();
@@ -263,12 +324,26 @@ impl Cluster {
         }
     }
 
-    /// Rounds of 16 turns until one does nothing, 64 at most, and then a drain: every agenda is done, and
-    /// the ring works until it is quiet. Want of memory leaves what has happened.
+    /// A round, after which nothing waits to be handed to the registrar.
+    fn take_round<G: Gate>(&mut self, turns: u32, gate: &G) -> Result<(), OutOfMemory>
+        requires { 1 ≤ turns }
+        ensures round { TakesRound self.old self.new }
+        ensures begun { OnOk result ((i : ℕ) → i < length (self.old).names → HasBegun i self.old self.new) }
+    {
+        round(self, turns, gate)?;
+        self.deliver()?;
+        Ok(())
+    }
+
+    /// Rounds of 16 turns until one does nothing, 64 at most, and then a drain: each member that runs does
+    /// all of its agenda, and the ring works and repairs itself until no member has anything left to do. Where nobody has
+    /// stopped it is quiet then. Want of memory leaves what has happened.
     pub fn settle<T: Threads, G: Gate>(&mut self, threads: &T, gate: &G) -> Result<(), OutOfMemory>
         ensures goes { HasGoneOn self.old self.new }
-        ensures empty { OnOk result (AgendasAreEmpty self.new) }
-        ensures quiet { OnOk result (IsQuiet (state_of self.new)) }
+        ensures alive { NobodyStopped (state_of self.old) → NobodyStopped (state_of self.new) }
+        ensures done { OnOk result (AgendasAreDone self.new) }
+        ensures idle { OnOk result (IsIdle (state_of self.new) × MarksNobody (state_of self.new)) }
+        ensures quiet { OnOk result (NobodyStopped (state_of self.old) → IsQuiet (state_of self.new) × AgendasAreEmpty self.new) }
         ensures given { OnOk result ((self.new).given ≡ (self.old).given ++ command.Settle ∷ []) }
         ensures not_given { OnErr result ((self.new).given ≡ (self.old).given) }
         ensures rounds { (self.new).rounds ≤ (self.old).rounds + 129 }
@@ -277,6 +352,7 @@ impl Cluster {
             → Plays (self.new).credit (self.new).names (self.new).events (self.new).given) }
     {
         let _ = threads;
+        self.is_going();
         self.note(Command::Settle)?;
         match self.work_out(gate) {
             Ok(()) => Ok(()),
@@ -290,9 +366,13 @@ impl Cluster {
     /// The rounds of a settling, and its drain.
     fn work_out<G: Gate>(&mut self, gate: &G) -> Result<(), OutOfMemory>
         ensures goes { HasGoneOn self.old self.new }
+        ensures phases { SamePhases (state_of self.old) (state_of self.new) }
         ensures given { (self.new).given ≡ (self.old).given }
-        ensures empty { OnOk result (AgendasAreEmpty self.new) }
-        ensures quiet { OnOk result (IsQuiet (state_of self.new)) }
+        ensures done { OnOk result (AgendasAreDone self.new) }
+        ensures idle { OnOk result (IsIdle (state_of self.new)) }
+        ensures marks { OnOk result (MarksNobody (state_of self.new)) }
+        ensures quiet { OnOk result (NobodyStopped (state_of self.new) → IsQuiet (state_of self.new)) }
+        ensures empty { OnOk result (NobodyStopped (state_of self.new) → AgendasAreEmpty self.new) }
         ensures rounds { (self.new).rounds ≤ (self.old).rounds + 129 }
     {
         for _round in 0..MOST_ROUNDS {
@@ -305,6 +385,8 @@ impl Cluster {
         }
         self.number_round();
         drain(self)?;
+        self.deliver()?;
+        self.is_going();
         Ok(())
     }
 
@@ -335,14 +417,22 @@ impl Cluster {
         self.rounds = self.rounds.saturating_add(1);
     }
 
-    /// The member of that id: it stands in the last state of the journal. None exactly where the ring has
-    /// no such member.
+    /// The member of that id: it stands in the last state of the journal, but for the links at its door that it
+    /// hasn't collected yet. None exactly where the ring has no such member.
     pub fn member(&self, id: MemberId) -> Option<&Node>
         ensures there { IsSome result ↔ ((1 ≤ id.0) × (id.0 ≤ length (self.now).names)) }
-        ensures stands { IfSome result (λ m. held_of m.now ≡ held_in (state_of self.now) (id.0 - 1)) }
-        ensures holds { IfSome result (λ m. HoldsOf (state_of self.now) (id.0 - 1) (held_of m.now)) }
+        ensures stands { IfSome result (λ m. held_of m.now
+            ≡ record (held_in (state_of self.now) id.0) { door = (held_of m.now).door }) }
+        ensures holds { IfSome result (λ m. HoldsOf (state_of self.now) id.0 (held_of m.now)) }
     {
         node_at(&self.nodes, id)
+    }
+
+    /// The newest view of the group, as the registrar has it.
+    pub fn view(&self) -> &View
+        ensures { result.now ≡ view_at (state_of self.now) (newest (state_of self.now)) }
+    {
+        self.registrar.view()
     }
 
     /// A copy of the journal: all that has happened, in order.
@@ -376,7 +466,7 @@ fn copied_events(alloc: Global, events: &[Event]) -> Result<Vec<Event>, OutOfMem
 /// The member of that id, where the list has one.
 fn node_at(nodes: &[Node], id: MemberId) -> Option<&Node>
     ensures there { IsSome result ↔ ((1 ≤ id.0) × (id.0 ≤ length nodes.now)) }
-    ensures held { IfSome result (λ m. held_of m.now ≡ held_at (map held_of nodes.now) (id.0 - 1)) }
+    ensures held { IfSome result (λ m. shown_of m.now ≡ slice_index_or (map shown_of nodes.now) (id.0 - 1) no_shown) }
 {
     if id.0 == 0 {
         return None;
@@ -399,65 +489,6 @@ fn pop_at(agendas: &mut [Agenda], place: usize)
     ensures { agendas.new ≡ slice_set agendas.old place (drop 1 (agenda_at agendas.old place)) }
 {
     agendas[place].pop();
-}
-
-/// The member at a place does the first of its tasks: whether it had one.
-fn perform_at(
-    credit: CreditSpec,
-    names: &[Name],
-    nodes: &mut [Node],
-    journal: &mut Vec<Event>,
-    agendas: &mut [Agenda],
-    place: usize,
-) -> Result<bool, OutOfMemory>
-    requires standing { IsStandingIn credit names.now journal.old.items
-        (map held_of nodes.old) (map out_of nodes.old) (map in_of nodes.old) }
-    requires within { place < length names.now }
-    requires agendas { length agendas.old ≡ length names.now }
-    ensures standing { IsStandingIn credit names.now journal.new.items
-        (map held_of nodes.new) (map out_of nodes.new) (map in_of nodes.new) }
-    ensures done { IfOk result (λ b. b ≡ true → (t : Task) × (ts : List Task)
-        × (agenda_at agendas.old place ≡ t ∷ ts)
-        × (journal.new.items
-        ≡ journal.old.items ++ task_event (slice_index_or names.now place []) t ∷ [])
-        × (agendas.new ≡ slice_set agendas.old place ts)) }
-    ensures none { IfOk result (λ b. b ≡ false → (journal.new.items ≡ journal.old.items)
-        × (agendas.new ≡ agendas.old) × (agenda_at agendas.old place ≡ [])) }
-    ensures err { OnErr result ((journal.new.items ≡ journal.old.items)
-        × (agendas.new ≡ agendas.old)) }
-{
-    let Some(task) = head_at(agendas, place) else {
-        return Ok(false);
-    };
-    do_task(credit, names, nodes, journal, place, task)?;
-    pop_at(agendas, place);
-    Ok(true)
-}
-
-/// The member at a place does a task, which it always may.
-fn do_task(
-    credit: CreditSpec,
-    names: &[Name],
-    nodes: &mut [Node],
-    journal: &mut Vec<Event>,
-    place: usize,
-    task: &Task,
-) -> Result<(), OutOfMemory>
-    requires standing { IsStandingIn credit names.now journal.old.items
-        (map held_of nodes.old) (map out_of nodes.old) (map in_of nodes.old) }
-    requires within { place < length names.now }
-    ensures standing { IsStandingIn credit names.now journal.new.items
-        (map held_of nodes.new) (map out_of nodes.new) (map in_of nodes.new) }
-    ensures ok { OnOk result (journal.new.items
-        ≡ journal.old.items ++ task_event (slice_index_or names.now place []) task.now ∷ []) }
-    ensures err { OnErr result (journal.new.items ≡ journal.old.items) }
-{
-    let event = task.event(&names[place])?;
-    match step(credit, names, nodes, journal, &event) {
-        Ok(()) => Ok(()),
-        Err(Refused::OutOfMemory) => Err(OutOfMemory),
-        Err(Refused::NotEnabled(_)) => unreachable!(),
-    }
 }
 
 /// The place and the task of a command.

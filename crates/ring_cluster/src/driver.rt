@@ -1,29 +1,58 @@
 //! The turns of the members: rounds, and the drain that ends when nothing is left to do.
-ghost use Rattle.std.specs.Prelude.{◌≡◌, ◌≢◌, ℕ, ◌+◌, ◌<◌, ◌≤◌, ◌∷◌, ◌++◌, ◌||◌, [], true, false, length, IfOk, OnOk, OnErr, None};
-ghost use Rattle.ring_world.specs.Laws.{IsQuiet};
-ghost use Rattle.ring_world.specs.Refusal.{refusal};
-ghost use Rattle.ring_cluster.specs.Idle.{IsIdle};
+ghost use Rattle.std.specs.Prelude.{◌≡◌, ◌≢◌, ℕ, ◌+◌, ◌-◌, ◌<◌, ◌≤◌, ◌∷◌, ◌++◌, ◌||◌, [], true, false, length, IfOk, OnOk, OnErr, None};
+ghost use Rattle.ring_world.specs.Machine.{member_at, newest as the_newest, right as the_right, runs as runs_at};
+ghost use Rattle.ring_world.specs.Event.{refusal};
+ghost use Rattle.ring_cluster.specs.Idle.{IsIdle, MarksNobody};
 ghost use Rattle.ring_cluster.specs.Seen.{Seen, state_of, IsGoing};
-ghost use Rattle.ring_cluster.specs.Plays.{agenda_at, HasBegun, AgendasAreEmpty};
-ghost use Rattle.ring_cluster.specs.Turns.{is_link_event, with_event, Works, TakesTurns, TakesRound};
-ghost use Rattle.ring_cluster.specs.Work.{work};
+ghost use Rattle.ring_cluster.specs.Plays.{agenda_at, HasBegun, AgendasAreDone};
+ghost use Rattle.ring_cluster.specs.Turns.{is_own_event, step_event, Works, TakesTurns, TakesRound, IsDoneAt, MayStep, MayStepNowhere, MarksNoneAt, RestsAt};
+ghost use Rattle.ring_cluster.specs.Work.{work, is_stale as the_staleness, LeavesLess};
 
 use crate::cluster::Cluster;
 use ring_io::Gate;
-use ring_names::{MemberId, OutOfMemory};
-use ring_world::Refused;
-use ring_world::fixed::Event;
+use ring_names::{MemberId, Name, OutOfMemory};
+use ring_world::{Event, Phase, Refused};
 
-/// A step of a member of its own, where it is enabled: whether it was.
-#[tactic(auto, using(crate::proofs::Going::link_falls, crate::proofs::Turning::link_works, crate::proofs::Turning::works_same))]
-fn attempt(cluster: &mut Cluster, event: &Event) -> Result<bool, OutOfMemory>
-    requires { is_link_event event.now ≡ true }
+/// A step of a member on its links.
+#[derive(Clone, Copy, PartialEq, Eq, Debug)]
+pub(crate) enum OwnStep {
+    /// It takes from the first link at its door.
+    Pick,
+    /// It takes a packet.
+    Take,
+    /// It takes the end of a link.
+    TakeEnd,
+    /// It gains credit.
+    Gain,
+    /// It puts a packet.
+    Put,
+}
+
+impl OwnStep {
+    /// The event by which this member does it.
+    fn event(self, by: Name) -> Event
+        ensures { result ≡ step_event self by }
+    {
+        match self {
+            OwnStep::Pick => Event::Pick { by },
+            OwnStep::Take => Event::Take { by },
+            OwnStep::TakeEnd => Event::TakeEnd { by },
+            OwnStep::Gain => Event::Gain { by },
+            OwnStep::Put => Event::Put { by },
+        }
+    }
+}
+
+/// An event of a member of its own that leaves less to do, where it is enabled: whether it was.
+#[tactic(auto, using(crate::proofs::Doing::own_falls, crate::proofs::Turning::own_works, crate::proofs::Turning::works_same))]
+fn happens(cluster: &mut Cluster, event: &Event) -> Result<bool, OutOfMemory>
+    requires own { is_own_event event.now ≡ true }
+    requires less { LeavesLess (state_of cluster.old) event.now }
     ensures works { Works cluster.old cluster.new }
     ensures falls { IfOk result (λ b. b ≡ true
         → work (state_of cluster.new) < work (state_of cluster.old)) }
     ensures stays { IfOk result (λ b. b ≡ false → (cluster.new ≡ cluster.old)
         × (refusal (state_of cluster.old) event.now ≢ None)) }
-    ensures err { OnErr result (cluster.new ≡ cluster.old) }
 {
     cluster.is_going();
     match cluster.happen(event) {
@@ -33,30 +62,182 @@ fn attempt(cluster: &mut Cluster, event: &Event) -> Result<bool, OutOfMemory>
     }
 }
 
-/// The member at a place gains, takes or puts, the first of these that it may: whether it did any.
-#[tactic(auto, using(crate::proofs::Turning::works_trans, crate::proofs::Going::idle_at))]
+/// The name of the member of an id.
+fn name_of(cluster: &Cluster, id: MemberId) -> Name
+    requires { (1 ≤ id.0) × (id.0 ≤ length (cluster.now).names) }
+    ensures { result ≡ (member_at (state_of cluster.now) id.0).name }
+{
+    cluster.is_going();
+    cluster.name_at(id.0 as usize - 1)
+}
+
+/// Whether the member of an id runs.
+fn runs(cluster: &Cluster, id: MemberId) -> bool
+    requires { (1 ≤ id.0) × (id.0 ≤ length (cluster.now).names) }
+    ensures { result ≡ runs_at (state_of cluster.now) id.0 }
+{
+    let Some(member) = cluster.member(id) else {
+        unreachable!()
+    };
+    matches!(member.phase(), Phase::Waiting | Phase::Up)
+}
+
+/// Whether it is stale: its view isn't the newest, or it sends on no link.
+fn is_stale(cluster: &Cluster, id: MemberId) -> bool
+    requires { (1 ≤ id.0) × (id.0 ≤ length (cluster.now).names) }
+    ensures { result ≡ the_staleness (the_newest (state_of cluster.now)) (member_at (state_of cluster.now) id.0) }
+{
+    cluster.is_going();
+    let Some(member) = cluster.member(id) else {
+        unreachable!()
+    };
+    let is_old = member.view().version != cluster.view().version;
+    let name = member.out_name();
+    let sends = name.is_some();
+    either(is_old, !sends)
+}
+
+/// The version of the newest view.
+fn newest(cluster: &Cluster) -> u32
+    ensures { result ≡ the_newest (state_of cluster.now) }
+{
+    cluster.is_going();
+    cluster.view().version
+}
+
+/// The right neighbour of a member that runs, in the newest view.
+fn right_of(cluster: &Cluster, id: MemberId) -> MemberId
+    requires within { (1 ≤ id.0) × (id.0 ≤ length (cluster.now).names) }
+    requires runs { runs_at (state_of cluster.now) id.0 ≡ true }
+    ensures right { result.0 ≡ the_right (state_of cluster.now) (the_newest (state_of cluster.now)) id.0 }
+    ensures within { (1 ≤ result.0) × (result.0 ≤ length (cluster.now).names) }
+{
+    cluster.is_going();
+    cluster.view().right_of(id)
+}
+
+/// A step of a member on its links, where it is enabled: whether it was.
+fn attempt(cluster: &mut Cluster, id: MemberId, step: OwnStep) -> Result<bool, OutOfMemory>
+    requires { (1 ≤ id.0) × (id.0 ≤ length (cluster.old).names) }
+    ensures works { Works cluster.old cluster.new }
+    ensures falls { IfOk result (λ b. b ≡ true
+        → work (state_of cluster.new) < work (state_of cluster.old)) }
+    ensures stays { IfOk result (λ b. b ≡ false → (cluster.new ≡ cluster.old)
+        × (MayStep (state_of cluster.old) id.0 step → ⊥)) }
+{
+    cluster.is_going();
+    let by = name_of(cluster, id);
+    let event = step.event(by);
+    let did = happens(cluster, &event)?;
+    Ok(did)
+}
+
+/// The first step of a member on its links that it may do: whether it did any.
+#[tactic(auto, using(crate::proofs::Turning::works_trans))]
+fn step_on_links(cluster: &mut Cluster, id: MemberId) -> Result<bool, OutOfMemory>
+    requires { (1 ≤ id.0) × (id.0 ≤ length (cluster.old).names) }
+    ensures works { Works cluster.old cluster.new }
+    ensures falls { IfOk result (λ b. b ≡ true
+        → work (state_of cluster.new) < work (state_of cluster.old)) }
+    ensures stays { IfOk result (λ b. b ≡ false
+        → (cluster.new ≡ cluster.old) × MayStepNowhere (state_of cluster.old) id.0) }
+{
+    if attempt(cluster, id, OwnStep::Pick)? {
+        return Ok(true);
+    }
+    if attempt(cluster, id, OwnStep::Take)? {
+        return Ok(true);
+    }
+    if attempt(cluster, id, OwnStep::TakeEnd)? {
+        return Ok(true);
+    }
+    if attempt(cluster, id, OwnStep::Gain)? {
+        return Ok(true);
+    }
+    let put = attempt(cluster, id, OwnStep::Put)?;
+    Ok(put)
+}
+
+/// A member that runs and is stale reads the newest view.
+fn refresh(cluster: &mut Cluster, id: MemberId) -> Result<(), OutOfMemory>
+    requires within { (1 ≤ id.0) × (id.0 ≤ length (cluster.old).names) }
+    requires runs { runs_at (state_of cluster.old) id.0 ≡ true }
+    requires stale { the_staleness (the_newest (state_of cluster.old)) (member_at (state_of cluster.old) id.0) ≡ true }
+    ensures works { Works cluster.old cluster.new }
+    ensures falls { OnOk result (work (state_of cluster.new) < work (state_of cluster.old)) }
+{
+    cluster.is_going();
+    let by = name_of(cluster, id);
+    let version = newest(cluster);
+    let did = happens(cluster, &Event::Refresh { by, view: version })?;
+    if !did {
+        unreachable!();
+    }
+    Ok(())
+}
+
+/// A member that runs has its right neighbour in the newest view marked dead, where it may: whether it did.
+fn mark(cluster: &mut Cluster, id: MemberId) -> Result<bool, OutOfMemory>
+    requires within { (1 ≤ id.0) × (id.0 ≤ length (cluster.old).names) }
+    requires runs { runs_at (state_of cluster.old) id.0 ≡ true }
+    ensures works { Works cluster.old cluster.new }
+    ensures falls { IfOk result (λ b. b ≡ true
+        → work (state_of cluster.new) < work (state_of cluster.old)) }
+    ensures stays { IfOk result (λ b. b ≡ false
+        → (cluster.new ≡ cluster.old) × MarksNoneAt (state_of cluster.old) id.0) }
+{
+    cluster.is_going();
+    let by = name_of(cluster, id);
+    let right = right_of(cluster, id);
+    let dead = name_of(cluster, right);
+    let did = happens(cluster, &Event::Mark { by, dead })?;
+    Ok(did)
+}
+
+/// A member that runs reads the newest view, where it is stale. Else it has its right neighbour marked dead, or does
+/// a step on its links, the first of these that it may. Whether it did any.
+#[tactic(auto, using(crate::proofs::Turning::works_trans))]
+fn own_turn(cluster: &mut Cluster, id: MemberId) -> Result<bool, OutOfMemory>
+    requires within { (1 ≤ id.0) × (id.0 ≤ length (cluster.old).names) }
+    requires runs { runs_at (state_of cluster.old) id.0 ≡ true }
+    ensures works { Works cluster.old cluster.new }
+    ensures falls { IfOk result (λ b. b ≡ true
+        → work (state_of cluster.new) < work (state_of cluster.old)) }
+    ensures rests { IfOk result (λ b. b ≡ false
+        → (cluster.new ≡ cluster.old) × RestsAt (state_of cluster.old) id.0) }
+{
+    if is_stale(cluster, id) {
+        refresh(cluster, id)?;
+        return Ok(true);
+    }
+    if mark(cluster, id)? {
+        return Ok(true);
+    }
+    let did = step_on_links(cluster, id)?;
+    Ok(did)
+}
+
+/// The member at a place does a step of its own, where it runs and has any to do: whether it did.
+#[tactic(auto, using(crate::proofs::Turning::works_refl))]
 fn work_turn(cluster: &mut Cluster, place: usize) -> Result<bool, OutOfMemory>
     requires { place < length (cluster.old).names }
     ensures works { Works cluster.old cluster.new }
     ensures falls { IfOk result (λ b. b ≡ true
         → work (state_of cluster.new) < work (state_of cluster.old)) }
-    ensures idle { IfOk result (λ b. b ≡ false
-        → (cluster.new ≡ cluster.old) × IsIdle (state_of cluster.old) place) }
+    ensures rests { IfOk result (λ b. b ≡ false
+        → (cluster.new ≡ cluster.old) × RestsAt (state_of cluster.old) (place + 1)) }
 {
     cluster.is_going();
-    let by = cluster.name_at(place);
-    if attempt(cluster, &Event::Gain { by })? {
-        return Ok(true);
+    let id = MemberId(place as u32 + 1);
+    if !runs(cluster, id) {
+        return Ok(false);
     }
-    if attempt(cluster, &Event::Take { by })? {
-        return Ok(true);
-    }
-    let put = attempt(cluster, &Event::Put { by })?;
-    Ok(put)
+    let did = own_turn(cluster, id)?;
+    Ok(did)
 }
 
 /// The member at a place takes a turn: the head of its agenda, or a step of its own. Whether it did any.
-#[tactic(auto, using(crate::proofs::Turning::performed_turns, crate::proofs::Turning::performed_begun, crate::proofs::Turning::works_turns, crate::proofs::Turning::empty_begun, crate::proofs::Turning::turns_same))]
+#[tactic(auto, using(crate::proofs::Turning::performed_turns, crate::proofs::Turning::performed_begun, crate::proofs::Turning::works_turns, crate::proofs::Turning::done_begun, crate::proofs::Turning::turns_same))]
 fn turn(cluster: &mut Cluster, place: usize) -> Result<bool, OutOfMemory>
     requires { place < length (cluster.old).names }
     ensures turns { TakesTurns place cluster.old cluster.new }
@@ -142,12 +323,12 @@ pub(crate) fn round<G: Gate>(cluster: &mut Cluster, turns: u32, gate: &G) -> Res
     Ok(())
 }
 
-/// The member at a place does all its tasks.
-#[tactic(auto, using(crate::proofs::Turning::performed_turns, crate::proofs::Turning::performed_fewer, crate::proofs::Turning::turns_trans, crate::proofs::Turning::turns_same, crate::proofs::Turning::turns_refl))]
+/// The member at a place does all its tasks, where it runs.
+#[tactic(auto, using(crate::proofs::Turning::performed_turns, crate::proofs::Turning::performed_fewer, crate::proofs::Turning::turns_trans, crate::proofs::Turning::turns_same, crate::proofs::Turning::turns_refl, crate::proofs::Turning::done_at))]
 fn finish(cluster: &mut Cluster, place: usize) -> Result<(), OutOfMemory>
     requires { place < length (cluster.old).names }
     ensures turns { TakesTurns place cluster.old cluster.new }
-    ensures empty { OnOk result (agenda_at (cluster.new).agendas place ≡ []) }
+    ensures done { OnOk result (IsDoneAt place cluster.new) }
 {
     'tasks: loop {
         cluster.is_going();
@@ -157,11 +338,11 @@ fn finish(cluster: &mut Cluster, place: usize) -> Result<(), OutOfMemory>
     }
 }
 
-/// Every member does all its tasks.
-#[tactic(auto, using(crate::proofs::Turning::empty_more, crate::proofs::Turning::empty_none, crate::proofs::Turning::round_trans, crate::proofs::Turning::turns_round, crate::proofs::Turning::all_empty))]
+/// Every member that runs does all its tasks.
+#[tactic(auto, using(crate::proofs::Turning::done_more, crate::proofs::Turning::done_none, crate::proofs::Turning::round_trans, crate::proofs::Turning::turns_round, crate::proofs::Turning::all_done))]
 fn finish_all(cluster: &mut Cluster) -> Result<(), OutOfMemory>
     ensures round { TakesRound cluster.old cluster.new }
-    ensures empty { OnOk result (AgendasAreEmpty cluster.new) }
+    ensures done { OnOk result (AgendasAreDone cluster.new) }
 {
     let count = cluster.count();
     for place in 0..count {
@@ -182,8 +363,8 @@ fn pass(cluster: &mut Cluster) -> Result<bool, OutOfMemory>
     ensures works { Works cluster.old cluster.new }
     ensures falls { IfOk result (λ b. b ≡ true
         → work (state_of cluster.new) < work (state_of cluster.old)) }
-    ensures idle { IfOk result (λ b. b ≡ false → (cluster.new ≡ cluster.old)
-        × ((i : ℕ) → i < length (cluster.old).names → IsIdle (state_of cluster.old) i)) }
+    ensures rests { IfOk result (λ b. b ≡ false → (cluster.new ≡ cluster.old)
+        × ((i : ℕ) → i < length (cluster.old).names → RestsAt (state_of cluster.old) (i + 1))) }
 {
     let count = cluster.count();
     let mut moved = false;
@@ -195,10 +376,11 @@ fn pass(cluster: &mut Cluster) -> Result<bool, OutOfMemory>
 }
 
 /// The members work until none has anything left to do.
-#[tactic(auto, using(crate::proofs::Turning::works_trans, crate::proofs::Turning::works_refl, crate::proofs::Going::all_idle_is_quiet))]
+#[tactic(auto, using(crate::proofs::Turning::works_trans, crate::proofs::Turning::works_refl))]
 fn work_out(cluster: &mut Cluster) -> Result<(), OutOfMemory>
     ensures works { Works cluster.old cluster.new }
-    ensures quiet { OnOk result (IsQuiet (state_of cluster.new)) }
+    ensures idle { OnOk result (IsIdle (state_of cluster.new)) }
+    ensures marks { OnOk result (MarksNobody (state_of cluster.new)) }
 {
     'passes: loop {
         cluster.is_going();
@@ -208,12 +390,13 @@ fn work_out(cluster: &mut Cluster) -> Result<(), OutOfMemory>
     }
 }
 
-/// All tasks are done, and then all work.
-#[tactic(auto, using(crate::proofs::Turning::works_round, crate::proofs::Turning::round_trans))]
+/// All tasks of members that run are done, and then all work.
+#[tactic(auto, using(crate::proofs::Turning::works_round, crate::proofs::Turning::round_trans, crate::proofs::Turning::done_still))]
 pub(crate) fn drain(cluster: &mut Cluster) -> Result<(), OutOfMemory>
     ensures round { TakesRound cluster.old cluster.new }
-    ensures empty { OnOk result (AgendasAreEmpty cluster.new) }
-    ensures quiet { OnOk result (IsQuiet (state_of cluster.new)) }
+    ensures done { OnOk result (AgendasAreDone cluster.new) }
+    ensures idle { OnOk result (IsIdle (state_of cluster.new)) }
+    ensures marks { OnOk result (MarksNobody (state_of cluster.new)) }
 {
     finish_all(cluster)?;
     work_out(cluster)?;

@@ -1,26 +1,28 @@
-//! The cluster: the members of a ring over plain pairs, the journal of what has happened among them, and a
-//! driver that gives each member its turns until nothing is left to do.
-//! Begin at `Cluster`, at specs/Seen.antt for what is seen of one, and at specs/Work.antt for how much a ring
-//! still has to do, with deaths at specs/Deaths/Work.antt.
+//! The cluster: the members of a ring over plain pairs, each with its view of the group, the registrar that keeps
+//! the views, the journal of what has happened among them, and a driver that gives each member its turns until
+//! nothing is left to do.
+//! Begin at `Cluster`, at specs/Seen.antt for what is seen of one, and at specs/Work.antt for how much
+//! a ring still has to do.
 #![tactic(auto)]
 
 mod acting;
 mod agenda;
 mod cluster;
+mod collecting;
 mod driver;
 mod laws;
+mod looking;
 mod meeting;
 mod node;
 mod opening;
-pub mod repair;
 mod stepping;
 #[cfg(test)]
 mod tests;
+mod undelivered;
 
-pub use agenda::{Agenda, Task};
+pub use agenda::Task;
 pub use cluster::Cluster;
 pub use laws::{
-    a_quiet_ring_with_deaths_has_heard_all, an_idle_ring_is_quiet,
-    an_idle_ring_with_deaths_is_at_rest, each_step_of_repair_leaves_less_to_do,
+    a_quiet_ring_has_heard_all, an_idle_ring_is_at_rest, each_step_of_repair_leaves_less_to_do,
 };
 pub use node::Node;

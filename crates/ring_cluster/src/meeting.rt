@@ -1,158 +1,291 @@
 //! The ends of each link meet.
-ghost use Rattle.std.specs.Prelude.{◌≡◌, ℕ, ◌<◌, true, false, map, length, None, slice_set};
-ghost use Rattle.ring_world.specs.World.{left_of as the_left};
-ghost use Rattle.ring_cluster.specs.Ends.{no_out, no_in, out_at, in_at, Fits, Meets, AllFit, AllMeet};
-ghost use Rattle.ring_cluster.specs.Nodes.{held_of, out_of, in_of, out_seen, in_seen};
+ghost use Rattle.std.specs.Prelude.{◌≡◌, ◌-◌, ◌≤◌, ◌<◌, ℕ, true, false, map, length, IfSome, IfNone, IsSome, List, None, Some, option_map, slice_index_or, slice_set};
+ghost use Rattle.group_view.specs.declared.link.LinkName.{LinkName};
+ghost use Rattle.registrar.specs.Registry.{name_in, end_in};
+ghost use Rattle.gm_member.specs.Shown.{in_name_of, out_name_of};
+ghost use Rattle.ring_cluster.specs.Ends.{Fits, Meets, InSeen};
+ghost use Rattle.ring_cluster.specs.Parties.{shown_of, out_seen, in_seen, in_end_at, with_in, with_out, posted, no_shown, parties};
+ghost use Rattle.ring_cluster.specs.Behind.{behind};
+ghost use Rattle.ring_cluster.specs.Meeting.{IsToMeet, MeetsEnd, HasNone, NodeMayMeet, NodeMeets, PostMayMeet, PostMeets, NoneIsPosted, MayMeet, MeetsIn, MayMeetOut, MeetsOut, LooseAfter, lent_out};
+ghost use Rattle.ring_cluster.specs.Standing.{StandAfter};
+ghost use Rattle.ring_names.specs.declared.numbers.CreditSpec.{CreditSpec};
+ghost use Rattle.ring_world.specs.declared.event.Event.{Event};
 
 use crate::node::Node;
+use crate::undelivered::Undelivered;
 use gm_member::Load;
+use group_view::LinkName;
 use ordered_link::{PlainIn, PlainOut, meet};
+use registrar::Registrar;
 
-/// The out end of a member that keeps no grant.
-fn lend_out(node: &mut Node) -> PlainOut<Load>
-    requires there { (out_of node.old).there ≡ true }
-    requires kept { (out_of node.old).kept ≡ None }
-    ensures value { out_seen None result ≡ out_of node.old }
-    ensures out { out_of node.new ≡ no_out }
-    ensures same { (in_of node.new ≡ in_of node.old) × (held_of node.new ≡ held_of node.old) }
-{
-    match node.lend_out() {
-        Some(out) => out,
-        None => unreachable!(),
-    }
-}
-
-/// The in end of a member.
-fn lend_in(node: &mut Node) -> PlainIn<Load>
-    requires { (in_of node.old).there ≡ true }
-    ensures value { in_seen result ≡ in_of node.old }
-    ensures link { in_of node.new ≡ no_in }
-    ensures same { (out_of node.new ≡ out_of node.old) × (held_of node.new ≡ held_of node.old) }
-{
-    match node.lend_in(0) {
-        Some(link) => link,
-        None => unreachable!(),
-    }
-}
-
-/// Gives back the out end.
-fn give_out(node: &mut Node, out: PlainOut<Load>)
-    requires { out_of node.old ≡ no_out }
-    ensures out { out_of node.new ≡ out_seen None out }
-    ensures same { (in_of node.new ≡ in_of node.old) × (held_of node.new ≡ held_of node.old) }
-{
-    node.give_out(out);
-}
-
-/// Gives back the in end.
-fn give_in(node: &mut Node, link: PlainIn<Load>)
-    requires { (in_of node.old).there ≡ false }
-    ensures link { in_of node.new ≡ in_seen link }
-    ensures same { (out_of node.new ≡ out_of node.old) × (held_of node.new ≡ held_of node.old) }
-{
-    node.give_in(0, link);
-}
-
-/// The out end of the member at a place.
-#[tactic(auto, using(crate::proofs::Views::outs))]
-fn lend_out_at(nodes: &mut [Node], i: usize) -> PlainOut<Load>
-    requires within { i < length nodes.old }
-    requires there { (out_at (map out_of nodes.old) i).there ≡ true }
-    requires kept { (out_at (map out_of nodes.old) i).kept ≡ None }
-    ensures value { out_seen None result ≡ out_at (map out_of nodes.old) i }
-    ensures outs { map out_of nodes.new ≡ slice_set (map out_of nodes.old) i no_out }
-    ensures ins { map in_of nodes.new ≡ map in_of nodes.old }
-    ensures held { map held_of nodes.new ≡ map held_of nodes.old }
-{
-    lend_out(&mut nodes[i])
-}
-
-/// The in end of the member at a place.
-#[tactic(auto, using(crate::proofs::Views::ins))]
-fn lend_in_at(nodes: &mut [Node], i: usize) -> PlainIn<Load>
-    requires within { i < length nodes.old }
-    requires there { (in_at (map in_of nodes.old) i).there ≡ true }
-    ensures value { in_seen result ≡ in_at (map in_of nodes.old) i }
-    ensures ins { map in_of nodes.new ≡ slice_set (map in_of nodes.old) i no_in }
-    ensures outs { map out_of nodes.new ≡ map out_of nodes.old }
-    ensures held { map held_of nodes.new ≡ map held_of nodes.old }
-{
-    lend_in(&mut nodes[i])
-}
-
-/// Gives back the out end of the member at a place.
-#[tactic(auto, using(crate::proofs::Views::outs))]
-fn give_out_at(nodes: &mut [Node], i: usize, out: PlainOut<Load>)
-    requires within { i < length nodes.old }
-    requires lent { out_at (map out_of nodes.old) i ≡ no_out }
-    ensures outs { map out_of nodes.new
-        ≡ slice_set (map out_of nodes.old) i (out_seen None out) }
-    ensures ins { map in_of nodes.new ≡ map in_of nodes.old }
-    ensures held { map held_of nodes.new ≡ map held_of nodes.old }
-{
-    give_out(&mut nodes[i], out);
-}
-
-/// Gives back the in end of the member at a place.
-#[tactic(auto, using(crate::proofs::Views::ins))]
-fn give_in_at(nodes: &mut [Node], i: usize, link: PlainIn<Load>)
-    requires within { i < length nodes.old }
-    requires lent { (in_at (map in_of nodes.old) i).there ≡ false }
-    ensures ins { map in_of nodes.new ≡ slice_set (map in_of nodes.old) i (in_seen link) }
-    ensures outs { map out_of nodes.new ≡ map out_of nodes.old }
-    ensures held { map held_of nodes.new ≡ map held_of nodes.old }
-{
-    give_in(&mut nodes[i], link);
-}
-
-/// Lets two ends meet, of which no grant is kept.
+/// Lets two ends meet.
 fn meet_two(out: &mut PlainOut<Load>, link: &mut PlainIn<Load>)
-    requires { Fits (out_seen None out.old) (in_seen link.old) }
-    ensures { Meets (out_seen None out.old) (in_seen link.old)
-        (out_seen None out.new) (in_seen link.new) }
+    requires { Fits (out_seen out.old) (in_seen link.old) }
+    ensures { Meets (out_seen out.old) (in_seen link.old) (out_seen out.new) (in_seen link.new) }
 {
     meet(out, link);
 }
 
-/// Lets the out end of one member and the in end of another meet.
-fn meet_at(nodes: &mut [Node], s: usize, r: usize)
-    requires sender { s < length nodes.old }
-    requires receiver { r < length nodes.old }
-    requires fits { Fits (out_at (map out_of nodes.old) s) (in_at (map in_of nodes.old) r) }
-    ensures meets { Meets (out_at (map out_of nodes.old) s) (in_at (map in_of nodes.old) r)
-        (out_at (map out_of nodes.new) s) (in_at (map in_of nodes.new) r) }
-    ensures outs { (k : ℕ) → ¬ (k ≡ s)
-        → out_at (map out_of nodes.new) k ≡ out_at (map out_of nodes.old) k }
-    ensures ins { (k : ℕ) → ¬ (k ≡ r)
-        → in_at (map in_of nodes.new) k ≡ in_at (map in_of nodes.old) k }
-    ensures held { map held_of nodes.new ≡ map held_of nodes.old }
+/// Whether two names are one.
+fn is_same(one: &LinkName, other: &LinkName) -> bool
+    ensures same { result ≡ true → one.now ≡ other.now }
+    ensures differ { result ≡ false → one.now ≡ other.now → ⊥ }
 {
-    let mut out = lend_out_at(nodes, s);
-    let mut link = lend_in_at(nodes, r);
-    meet_two(&mut out, &mut link);
-    give_out_at(nodes, s, out);
-    give_in_at(nodes, r, link);
+    one == other
 }
 
-/// The place of the left neighbour of the member at place i.
-fn left_of(n: usize, i: usize) -> usize
-    requires { i < n }
-    ensures left { result ≡ the_left n i }
-    ensures within { result < n }
+/// Whether the link to a member at a place has this name.
+fn is_named(node: &Node, place: usize, name: &LinkName) -> bool
+    ensures named { result ≡ true → in_name_of (shown_of node.now).held place ≡ Some name.now }
+    ensures other { result ≡ false → in_name_of (shown_of node.now).held place ≡ Some name.now → ⊥ }
 {
-    if i == 0 { n - 1 } else { i - 1 }
+    match node.name_at(place) {
+        Some(other) => is_same(&other, name),
+        None => false,
+    }
 }
 
-/// Lets the ends of each link meet. It takes no memory.
-pub(crate) fn meet_all(nodes: &mut [Node])
-    requires { AllFit (length nodes.old) (map out_of nodes.old) (map in_of nodes.old) }
-    ensures met { AllMeet (length nodes.old)
-        (map out_of nodes.old) (map in_of nodes.old)
-        (map out_of nodes.new) (map in_of nodes.new) }
-    ensures held { map held_of nodes.new ≡ map held_of nodes.old }
+/// The place of the link of that name among those to a member, as `Node::name_at` counts them.
+#[tactic(auto, using(crate::proofs::Meets::none_further))]
+fn place_of(node: &Node, name: &LinkName) -> Option<usize>
+    ensures some { IfSome result (λ place. in_name_of (shown_of node.now).held place ≡ Some name.now) }
+    ensures none { IfNone result (HasNone (shown_of node.now).held name.now) }
 {
-    for r in 0..nodes.len() {
-        let s = left_of(nodes.len(), r);
-        meet_at(nodes, s, r);
+    if is_named(node, 0, name) {
+        return Some(0);
+    }
+    let mut place = 1;
+    while node.name_at(place).is_some() {
+        if is_named(node, place, name) {
+            return Some(place);
+        }
+        place += 1;
+    }
+    None
+}
+
+/// Lets an out end meet the end of the link to a member at a place.
+fn meet_at(node: &mut Node, place: usize, out: &mut PlainOut<Load>)
+    requires stands { IsSome (in_name_of (shown_of node.old).held place) }
+    requires may { IsToMeet (out_seen out.old) (in_end_at (shown_of node.old).ends place) }
+    ensures { (met : InSeen)
+        × MeetsEnd (out_seen out.old) (in_end_at (shown_of node.old).ends place) (out_seen out.new) met
+        × (shown_of node.new ≡ with_in (shown_of node.old) place met) }
+{
+    let Some(mut link) = node.lend_at(place) else {
+        unreachable!()
+    };
+    meet_two(out, &mut link);
+    node.give_at(place, link);
+}
+
+/// Lets an out end meet the end of the link of that name to a member: whether there is one.
+fn meet_node(node: &mut Node, out: &mut PlainOut<Load>, name: &LinkName) -> bool
+    requires { NodeMayMeet (shown_of node.old) name.now (out_seen out.old) }
+    ensures met { result ≡ true → NodeMeets (shown_of node.old) name.now (out_seen out.old)
+        (shown_of node.old) (shown_of node.new) (out_seen out.new) }
+    ensures none { result ≡ false → HasNone (shown_of node.old).held name.now }
+    ensures same { result ≡ false → shown_of node.new ≡ shown_of node.old }
+    ensures out { result ≡ false → out_seen out.new ≡ out_seen out.old }
+{
+    match place_of(node, name) {
+        Some(place) => {
+            meet_at(node, place, out);
+            true
+        }
+        None => false,
+    }
+}
+
+/// Whether the link that waits at a place has this name.
+fn is_posted(registrar: &Registrar<PlainIn<Load>>, place: usize, name: &LinkName) -> bool
+    ensures named { result ≡ true → name_in registrar.now place ≡ Some name.now }
+    ensures other { result ≡ false → name_in registrar.now place ≡ Some name.now → ⊥ }
+{
+    match registrar.name_at(place) {
+        Some(other) => is_same(&other, name),
+        None => false,
+    }
+}
+
+/// The place of the link of that name among those that wait at the registrar.
+#[tactic(auto, using(crate::proofs::Meets::none_waits_further))]
+fn place_at(registrar: &Registrar<PlainIn<Load>>, name: &LinkName) -> Option<usize>
+    ensures some { IfSome result (λ place. name_in registrar.now place ≡ Some name.now) }
+    ensures none { IfNone result (NoneIsPosted (map posted registrar.now.links) name.now) }
+{
+    for place in 0..registrar.waiting() {
+        if is_posted(registrar, place, name) {
+            return Some(place);
+        }
+    }
+    None
+}
+
+/// Lets an out end meet the end of the link that waits at a place.
+fn meet_waiting(registrar: &mut Registrar<PlainIn<Load>>, place: usize, out: &mut PlainOut<Load>)
+    requires stands { IsSome (name_in registrar.old place) }
+    requires may { IsToMeet (out_seen out.old) (option_map in_seen (end_in registrar.old place)) }
+    ensures met { (name : LinkName) → name_in registrar.old place ≡ Some name
+        → PostMeets (map posted registrar.old.links) name (out_seen out.old)
+        (map posted registrar.new.links) (out_seen out.new) }
+    ensures same { (registrar.new.views ≡ registrar.old.views)
+        × (registrar.new.stopped ≡ registrar.old.stopped) }
+{
+    let Some(mut link) = registrar.lend_at(place) else {
+        unreachable!()
+    };
+    meet_two(out, &mut link);
+    registrar.give_at(place, link);
+}
+
+/// Lets an out end meet the end of the link of that name that waits at the registrar: whether there is one.
+#[tactic(auto, using(crate::proofs::Meets::may_meet_waiting))]
+fn meet_posted(
+    registrar: &mut Registrar<PlainIn<Load>>,
+    out: &mut PlainOut<Load>,
+    name: &LinkName,
+) -> bool
+    requires { PostMayMeet (map posted registrar.old.links) name.now (out_seen out.old) }
+    ensures met { result ≡ true → PostMeets (map posted registrar.old.links) name.now
+        (out_seen out.old) (map posted registrar.new.links) (out_seen out.new) }
+    ensures none { result ≡ false → NoneIsPosted (map posted registrar.old.links) name.now }
+    ensures still { result ≡ false → registrar.new ≡ registrar.old }
+    ensures out { result ≡ false → out_seen out.new ≡ out_seen out.old }
+    ensures same { (registrar.new.views ≡ registrar.old.views)
+        × (registrar.new.stopped ≡ registrar.old.stopped) }
+{
+    match place_at(registrar, name) {
+        Some(place) => {
+            meet_waiting(registrar, place, out);
+            true
+        }
+        None => false,
+    }
+}
+
+/// Lets an out end meet the end of a link that hasn't reached the registrar, where it has that name: whether it has.
+fn meet_late(late: &mut Option<Undelivered>, out: &mut PlainOut<Load>, name: &LinkName) -> bool
+    requires { PostMayMeet (behind late.old) name.now (out_seen out.old) }
+    ensures met { result ≡ true → PostMeets (behind late.old) name.now
+        (out_seen out.old) (behind late.new) (out_seen out.new) }
+    ensures none { result ≡ false → NoneIsPosted (behind late.old) name.now }
+    ensures still { result ≡ false → behind late.new ≡ behind late.old }
+    ensures out { result ≡ false → out_seen out.new ≡ out_seen out.old }
+{
+    let Some(undelivered) = late else {
+        return false;
+    };
+    if !is_same(&undelivered.name, name) {
+        return false;
+    }
+    meet_two(out, &mut undelivered.link);
+    true
+}
+
+/// Lets an out end meet the end of the link of that name to the member that receives it: whether there is one.
+fn meet_member(nodes: &mut [Node], out: &mut PlainOut<Load>, name: &LinkName) -> bool
+    requires from_one { 1 ≤ name.now.to.0 }
+    requires may { NodeMayMeet (slice_index_or (map shown_of nodes.old) (name.now.to.0 - 1) no_shown)
+        name.now (out_seen out.old) }
+    ensures inside { result ≡ true → name.now.to.0 - 1 < length nodes.old }
+    ensures met { result ≡ true → NodeMeets
+        (slice_index_or (map shown_of nodes.old) (name.now.to.0 - 1) no_shown) name.now
+        (out_seen out.old)
+        (slice_index_or (map shown_of nodes.old) (name.now.to.0 - 1) no_shown)
+        (slice_index_or (map shown_of nodes.new) (name.now.to.0 - 1) no_shown)
+        (out_seen out.new) }
+    ensures others { result ≡ true → map shown_of nodes.new
+        ≡ slice_set (map shown_of nodes.old) (name.now.to.0 - 1)
+        (slice_index_or (map shown_of nodes.new) (name.now.to.0 - 1) no_shown) }
+    ensures none { result ≡ false → HasNone
+        (slice_index_or (map shown_of nodes.old) (name.now.to.0 - 1) no_shown).held name.now }
+    ensures still { result ≡ false → map shown_of nodes.new ≡ map shown_of nodes.old }
+    ensures out { result ≡ false → out_seen out.new ≡ out_seen out.old }
+{
+    let receiver = name.to.0 as usize - 1;
+    if receiver >= nodes.len() {
+        return false;
+    }
+    meet_node(&mut nodes[receiver], out, name)
+}
+
+/// Lets an out end meet the in end of the link of that name, wherever that stands. It takes no memory.
+pub(crate) fn meet_in(
+    nodes: &mut [Node],
+    registrar: &mut Registrar<PlainIn<Load>>,
+    late: &mut Option<Undelivered>,
+    out: &mut PlainOut<Load>,
+    name: &LinkName,
+)
+    requires { MayMeet (parties nodes.old registrar.old (behind late.old)) name.now (out_seen out.old) }
+    ensures { MeetsIn (parties nodes.old registrar.old (behind late.old)) name.now (out_seen out.old)
+        (parties nodes.old registrar.old (behind late.old))
+        (parties nodes.new registrar.new (behind late.new)) (out_seen out.new) }
+{
+    if meet_member(nodes, out, name) {
+        return;
+    }
+    if meet_posted(registrar, out, name) {
+        return;
+    }
+    meet_late(late, out, name);
+}
+
+/// The out end of a member, where it has one, with the name of its link.
+fn lend_out(node: &mut Node) -> Option<(LinkName, PlainOut<Load>)>
+    ensures none { IfNone result ((shown_of node.old).ends.out ≡ None) }
+    ensures still { IfNone result (shown_of node.new ≡ shown_of node.old) }
+    ensures named { IfSome result (λ lent. out_name_of (shown_of node.old).held ≡ Some lent.0) }
+    ensures there { IfSome result (λ lent. (shown_of node.old).ends.out ≡ Some (out_seen lent.1)) }
+    ensures lent { IfSome result (λ _. shown_of node.new ≡ lent_out (shown_of node.old)) }
+{
+    let name = node.out_name()?;
+    let out = node.lend_out()?;
+    Some((name, out))
+}
+
+/// Gives it back.
+fn give_out(node: &mut Node, out: PlainOut<Load>)
+    requires lent { (shown_of node.old).ends.out ≡ None }
+    requires sends { IsSome (shown_of node.old).held.out }
+    ensures { shown_of node.new ≡ with_out (shown_of node.old) (out_seen out) }
+{
+    node.give_out(out);
+}
+
+/// Lets the out end of the member at a place meet the in end of its link, where it has one. It takes no memory.
+pub(crate) fn meet_out(
+    nodes: &mut [Node],
+    registrar: &mut Registrar<PlainIn<Load>>,
+    late: &mut Option<Undelivered>,
+    i: usize,
+)
+    requires within { i < length nodes.old }
+    requires may { MayMeetOut (parties nodes.old registrar.old (behind late.old)) i }
+    ensures { MeetsOut i (parties nodes.old registrar.old (behind late.old))
+        (parties nodes.new registrar.new (behind late.new)) }
+{
+    let Some((name, mut out)) = lend_out(&mut nodes[i]) else {
+        return;
+    };
+    meet_in(nodes, registrar, late, &mut out, &name);
+    give_out(&mut nodes[i], out);
+}
+
+/// Lets the ends of each link meet, where the parties stand in a state of the ring in which they have to. It takes no memory.
+pub(crate) fn meet_all(
+    nodes: &mut [Node],
+    registrar: &mut Registrar<PlainIn<Load>>,
+    late: &mut Option<Undelivered>,
+)
+    requires { (credit : CreditSpec) × (names : List (List ℕ)) × (events : List Event)
+        × LooseAfter credit names events (parties nodes.old registrar.old (behind late.old)) }
+    ensures { (credit : CreditSpec) (names : List (List ℕ)) (events : List Event)
+        → LooseAfter credit names events (parties nodes.old registrar.old (behind late.old))
+        → StandAfter credit names events (parties nodes.new registrar.new (behind late.new)) }
+{
+    for i in 0..nodes.len() {
+        meet_out(nodes, registrar, late, i);
     }
 }

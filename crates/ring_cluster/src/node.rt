@@ -1,51 +1,50 @@
-//! A member over plain ends, and its events.
-ghost use Rattle.std.specs.Prelude.{◌≡◌, ◌∷◌, ◌++◌, [], OnOk, OnErr, IfErr, Some, None, Err};
+//! A member over plain ends, and what it does by itself.
+ghost use Rattle.std.specs.Prelude.{◌≡◌, [], OnOk, OnErr, IfErr, IsOk, Some, None, Err};
 ghost use Rattle.ring_names.specs.declared.reason.Reason.{Reason};
 ghost use Rattle.ring_names.specs.declared.message.Message.TheVariants as message;
-ghost use Rattle.gm_member.specs.Held.{published_held, put_refused, put_held, parcel_of};
-ghost use Rattle.ring_cluster.specs.Nodes.{held_of, out_of, in_of};
-ghost use Rattle.ring_cluster.specs.Acting.{IsReady, take_refused, gain_refused, refused_at, PutsOut, Takes, Gains, Acts};
+ghost use Rattle.gm_member.specs.Held.{put_refused, pick_refused};
+ghost use Rattle.ring_cluster.specs.Parties.{shown_of};
+ghost use Rattle.ring_cluster.specs.Acting.{IsReady, cast_refused, packet_refused, link_end_refused, grant_refused, stop_refused, Casts, PutsPacket, TakesPacket, TakesEnd, Gains, Stops, Picks};
 
 use gm_member::{Load, Member, MemberFault};
 use ordered_link::{PlainIn, PlainOut};
-use ring_names::{Body, Message, Reason};
+use ring_names::{Body, Message};
 use ring_world::Refused;
-use ring_world::fixed::Event;
 
 /// A member whose links are plain pairs.
 pub type Node = Member<PlainOut<Load>, PlainIn<Load>>;
 
 /// The member publishes the body.
-fn cast(node: &mut Node, body: &Body) -> Result<(), Refused>
+pub(crate) fn cast(node: &mut Node, body: &Body) -> Result<(), Refused>
+    ensures enabled { OnOk result (cast_refused (shown_of node.old) ≡ None) }
     ensures ok { OnOk result
-        (held_of node.new ≡ published_held (held_of node.old) (message.Cast body.now)) }
-    ensures err { OnErr result (held_of node.new ≡ held_of node.old) }
-    ensures reason { IfErr result (λ e. e ≡ Refused.OutOfMemory) }
-    ensures ends { (out_of node.new ≡ out_of node.old) × (in_of node.new ≡ in_of node.old) }
+        (Casts (message.Cast body.now) (shown_of node.old) (shown_of node.new)) }
+    ensures reason { IfErr result (λ e. (r : Reason) → e ≡ Refused.NotEnabled r
+        → cast_refused (shown_of node.old) ≡ Some r) }
+    ensures err { OnErr result (shown_of node.new ≡ shown_of node.old) }
 {
     let Ok(body) = body.copy() else {
         return Err(Refused::OutOfMemory);
     };
     match node.publish(Message::Cast(body)) {
         Ok(_number) => Ok(()),
-        Err(_back) => Err(Refused::OutOfMemory),
+        Err((_message, fault)) => match fault {
+            MemberFault::Refused(reason) => Err(Refused::NotEnabled(reason)),
+            MemberFault::OutOfMemory => Err(Refused::OutOfMemory),
+        },
     }
 }
 
 /// The member puts its next packet, where that is enabled.
-fn put(node: &mut Node) -> Result<(), Refused>
-    requires { IsReady (held_of node.old) (out_of node.old) (in_of node.old) }
-    ensures enabled { OnOk result (put_refused (held_of node.old) ≡ None) }
-    ensures held { OnOk result (held_of node.new ≡ put_held (held_of node.old)) }
-    ensures out { OnOk result
-        (PutsOut (out_of node.old) (parcel_of (held_of node.old)).lines (out_of node.new)) }
-    ensures link { in_of node.new ≡ in_of node.old }
-    ensures refused { (r : Reason) → put_refused (held_of node.old) ≡ Some r
+pub(crate) fn put(node: &mut Node) -> Result<(), Refused>
+    requires { IsReady (shown_of node.old) }
+    ensures enabled { OnOk result (put_refused (shown_of node.old).held ≡ None) }
+    ensures ok { OnOk result (PutsPacket (shown_of node.old) (shown_of node.new)) }
+    ensures refused { (r : Reason) → put_refused (shown_of node.old).held ≡ Some r
         → result ≡ Err (Refused.NotEnabled r) }
     ensures reason { IfErr result (λ e. (r : Reason) → e ≡ Refused.NotEnabled r
-        → put_refused (held_of node.old) ≡ Some r) }
-    ensures err { OnErr result
-        ((held_of node.new ≡ held_of node.old) × (out_of node.new ≡ out_of node.old)) }
+        → put_refused (shown_of node.old).held ≡ Some r) }
+    ensures err { OnErr result (shown_of node.new ≡ shown_of node.old) }
 {
     match node.put() {
         Ok(()) => Ok(()),
@@ -54,19 +53,16 @@ fn put(node: &mut Node) -> Result<(), Refused>
     }
 }
 
-/// The member takes the oldest packet of its current link, where there is one.
-fn take(node: &mut Node) -> Result<(), Refused>
-    requires { IsReady (held_of node.old) (out_of node.old) (in_of node.old) }
-    ensures enabled { OnOk result (take_refused (in_of node.old).items ≡ None) }
-    ensures ok { OnOk result (Takes
-        (held_of node.old) (out_of node.old) (in_of node.old)
-        (held_of node.new) (out_of node.new) (in_of node.new)) }
-    ensures refused { (r : Reason) → take_refused (in_of node.old).items ≡ Some r
+/// The member takes the oldest packet of the link from which it takes, where there is one.
+pub(crate) fn take(node: &mut Node) -> Result<(), Refused>
+    requires { IsReady (shown_of node.old) }
+    ensures enabled { OnOk result (packet_refused (shown_of node.old) ≡ None) }
+    ensures ok { OnOk result (TakesPacket (shown_of node.old) (shown_of node.new)) }
+    ensures refused { (r : Reason) → packet_refused (shown_of node.old) ≡ Some r
         → result ≡ Err (Refused.NotEnabled r) }
     ensures reason { IfErr result (λ e. (r : Reason) → e ≡ Refused.NotEnabled r
-        → take_refused (in_of node.old).items ≡ Some r) }
-    ensures err { OnErr result ((held_of node.new ≡ held_of node.old)
-        × (out_of node.new ≡ out_of node.old) × (in_of node.new ≡ in_of node.old)) }
+        → packet_refused (shown_of node.old) ≡ Some r) }
+    ensures err { OnErr result (shown_of node.new ≡ shown_of node.old) }
 {
     match node.take() {
         Ok(_taken) => Ok(()),
@@ -75,22 +71,50 @@ fn take(node: &mut Node) -> Result<(), Refused>
     }
 }
 
-/// The member gains the oldest grant that came back, where there is one.
-fn gain(node: &mut Node) -> Result<(), Refused>
-    requires { IsReady (held_of node.old) (out_of node.old) (in_of node.old) }
-    ensures enabled { OnOk result (gain_refused (out_of node.old).back ≡ None) }
-    ensures ok { OnOk result (Gains
-        (held_of node.old) (out_of node.old) (in_of node.old)
-        (held_of node.new) (out_of node.new) (in_of node.new)) }
-    ensures refused { (r : Reason) → gain_refused (out_of node.old).back ≡ Some r
+/// The member takes the end of that link, where it is next, and leaves it.
+pub(crate) fn take_end(node: &mut Node) -> Result<(), Refused>
+    requires { IsReady (shown_of node.old) }
+    ensures enabled { OnOk result (link_end_refused (shown_of node.old) ≡ None) }
+    ensures ok { OnOk result (TakesEnd (shown_of node.old) (shown_of node.new)) }
+    ensures refused { (r : Reason) → link_end_refused (shown_of node.old) ≡ Some r
         → result ≡ Err (Refused.NotEnabled r) }
     ensures reason { IfErr result (λ e. (r : Reason) → e ≡ Refused.NotEnabled r
-        → gain_refused (out_of node.old).back ≡ Some r) }
-    ensures err { OnErr result ((held_of node.new ≡ held_of node.old)
-        × (out_of node.new ≡ out_of node.old) × (in_of node.new ≡ in_of node.old)) }
+        → link_end_refused (shown_of node.old) ≡ Some r) }
+    ensures err { OnErr result (shown_of node.new ≡ shown_of node.old) }
 {
+    match node.take_end() {
+        Ok(_reason) => {}
+        Err(MemberFault::Refused(reason)) => return Err(Refused::NotEnabled(reason)),
+        Err(MemberFault::OutOfMemory) => unreachable!(),
+    }
+    drop_old_ins(node);
+    Ok(())
+}
+
+/// The ends that the member has left are dropped.
+pub(crate) fn drop_old_ins(node: &mut Node)
+    ensures held { (shown_of node.new).held ≡ (shown_of node.old).held }
+    ensures ends { (shown_of node.new).ends ≡ record (shown_of node.old).ends { old_ins = [] } }
+{
+    while let Some(_left) = node.old_in() {}
+}
+
+/// The member gains the oldest grant that came back, where there is one.
+pub(crate) fn gain(node: &mut Node) -> Result<(), Refused>
+    requires { IsReady (shown_of node.old) }
+    ensures enabled { OnOk result (grant_refused (shown_of node.old) ≡ None) }
+    ensures ok { OnOk result (Gains (shown_of node.old) (shown_of node.new)) }
+    ensures refused { (r : Reason) → grant_refused (shown_of node.old) ≡ Some r
+        → result ≡ Err (Refused.NotEnabled r) }
+    ensures reason { IfErr result (λ e. (r : Reason) → e ≡ Refused.NotEnabled r
+        → grant_refused (shown_of node.old) ≡ Some r) }
+    ensures err { OnErr result (shown_of node.new ≡ shown_of node.old) }
+{
+    if let Some(reason) = node.gain_refusal() {
+        return Err(Refused::NotEnabled(reason));
+    }
     let Some(amount) = node.granted() else {
-        return Err(Refused::NotEnabled(Reason::NoGrant));
+        unreachable!()
     };
     match node.gain(amount) {
         Ok(()) => Ok(()),
@@ -98,84 +122,39 @@ fn gain(node: &mut Node) -> Result<(), Refused>
     }
 }
 
-/// Why the member may not put.
-fn put_check(node: &mut Node) -> Option<Reason>
-    requires { IsReady (held_of node.old) (out_of node.old) (in_of node.old) }
-    ensures refused { result ≡ put_refused (held_of node.old) }
-    ensures same { (held_of node.new ≡ held_of node.old)
-        × (out_of node.new ≡ out_of node.old) × (in_of node.new ≡ in_of node.old) }
+/// The member stops, where it acts.
+pub(crate) fn stop(node: &mut Node) -> Result<(), Refused>
+    requires { IsReady (shown_of node.old) }
+    ensures enabled { OnOk result (stop_refused (shown_of node.old) ≡ None) }
+    ensures ok { OnOk result (Stops (shown_of node.old) (shown_of node.new)) }
+    ensures refused { (r : Reason) → stop_refused (shown_of node.old) ≡ Some r
+        → result ≡ Err (Refused.NotEnabled r) }
+    ensures reason { IfErr result (λ e. (r : Reason) → e ≡ Refused.NotEnabled r
+        → stop_refused (shown_of node.old) ≡ Some r) }
+    ensures succeeds { stop_refused (shown_of node.old) ≡ None → IsOk result }
+    ensures err { OnErr result (shown_of node.new ≡ shown_of node.old) }
 {
-    node.put_refusal()
-}
-
-/// Why the member may not take.
-fn take_check(node: &mut Node) -> Option<Reason>
-    requires { IsReady (held_of node.old) (out_of node.old) (in_of node.old) }
-    ensures refused { result ≡ take_refused (in_of node.old).items }
-    ensures same { (held_of node.new ≡ held_of node.old)
-        × (out_of node.new ≡ out_of node.old) × (in_of node.new ≡ in_of node.old) }
-{
-    node.take_refusal()
-}
-
-/// Why the member may not gain.
-fn gain_check(node: &mut Node) -> Option<Reason>
-    requires { IsReady (held_of node.old) (out_of node.old) (in_of node.old) }
-    ensures refused { result ≡ gain_refused (out_of node.old).back }
-    ensures same { (held_of node.new ≡ held_of node.old)
-        × (out_of node.new ≡ out_of node.old) × (in_of node.new ≡ in_of node.old) }
-{
-    node.gain_refusal()
-}
-
-/// The first condition of the event that fails. It wants no memory.
-pub(crate) fn check(node: &mut Node, event: &Event) -> Option<Reason>
-    requires { IsReady (held_of node.old) (out_of node.old) (in_of node.old) }
-    ensures refused { result
-        ≡ refused_at event.now (held_of node.old) (out_of node.old) (in_of node.old) }
-    ensures same { (held_of node.new ≡ held_of node.old)
-        × (out_of node.new ≡ out_of node.old) × (in_of node.new ≡ in_of node.old) }
-{
-    match event {
-        Event::Cast { by: _, body: _ } => None,
-        Event::Put { by: _ } => put_check(node),
-        Event::Take { by: _ } => take_check(node),
-        Event::Gain { by: _ } => gain_check(node),
+    match node.stop() {
+        Ok(()) => Ok(()),
+        Err(MemberFault::Refused(reason)) => Err(Refused::NotEnabled(reason)),
+        Err(MemberFault::OutOfMemory) => unreachable!(),
     }
 }
 
-/// The event of this member happens, where it is enabled.
-pub(crate) fn act(node: &mut Node, event: &Event) -> Result<(), Refused>
-    requires { IsReady (held_of node.old) (out_of node.old) (in_of node.old) }
-    ensures enabled { OnOk result
-        (refused_at event.now (held_of node.old) (out_of node.old) (in_of node.old) ≡ None) }
-    ensures ok { OnOk result (Acts event.now
-        (held_of node.old) (out_of node.old) (in_of node.old)
-        (held_of node.new) (out_of node.new) (in_of node.new)) }
-    ensures refused { (r : Reason)
-        → refused_at event.now (held_of node.old) (out_of node.old) (in_of node.old) ≡ Some r
+/// The member takes from now on from the first link at its door that it may, where there is one.
+pub(crate) fn pick(node: &mut Node) -> Result<(), Refused>
+    requires { IsReady (shown_of node.old) }
+    ensures enabled { OnOk result (pick_refused (shown_of node.old).held ≡ None) }
+    ensures ok { OnOk result (Picks (shown_of node.old) (shown_of node.new)) }
+    ensures refused { (r : Reason) → pick_refused (shown_of node.old).held ≡ Some r
         → result ≡ Err (Refused.NotEnabled r) }
     ensures reason { IfErr result (λ e. (r : Reason) → e ≡ Refused.NotEnabled r
-        → refused_at event.now (held_of node.old) (out_of node.old) (in_of node.old) ≡ Some r) }
-    ensures err { OnErr result ((held_of node.new ≡ held_of node.old)
-        × (out_of node.new ≡ out_of node.old) × (in_of node.new ≡ in_of node.old)) }
+        → pick_refused (shown_of node.old).held ≡ Some r) }
+    ensures err { OnErr result (shown_of node.new ≡ shown_of node.old) }
 {
-    match event {
-        Event::Cast { by: _, body } => {
-            cast(node, body)?;
-            Ok(())
-        }
-        Event::Put { by: _ } => {
-            put(node)?;
-            Ok(())
-        }
-        Event::Take { by: _ } => {
-            take(node)?;
-            Ok(())
-        }
-        Event::Gain { by: _ } => {
-            gain(node)?;
-            Ok(())
-        }
+    match node.pick() {
+        Ok(()) => Ok(()),
+        Err(MemberFault::Refused(reason)) => Err(Refused::NotEnabled(reason)),
+        Err(MemberFault::OutOfMemory) => unreachable!(),
     }
 }

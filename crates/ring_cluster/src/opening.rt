@@ -1,52 +1,63 @@
 //! The opening of a cluster.
-ghost use Rattle.std.specs.Prelude.{◌≡◌, ℕ, ◌≤◌, ◌<◌, IfOk, OnOk, ◌++◌, ◌∷◌, [], map, length};
+ghost use Rattle.std.specs.Prelude.{◌≡◌, ℕ, ◌+◌, ◌<◌, ◌≤◌, ◌++◌, ◌∷◌, IfOk, OnOk, [], None, true, length, map, slice_index_or};
 ghost use Rattle.std.specs.List.{range_with_len};
-ghost use Rattle.ring_world.specs.World.{most_members};
+ghost use Rattle.group_view.specs.Change.{AreOpeningNames, opening as opening_group};
+ghost use Rattle.group_view.specs.Ring.{is_in};
+ghost use Rattle.ring_world.specs.Rows.{most_members};
+ghost use Rattle.ring_world.specs.View.{ids};
 ghost use Rattle.gm_member.specs.Held.{founded};
-ghost use Rattle.ring_cluster.specs.Nodes.{held_of, out_of, in_of};
-ghost use Rattle.ring_cluster.specs.Standing.{fresh_out, fresh_in, founded_at};
+ghost use Rattle.ring_cluster.specs.Parties.{parties, shown_of};
+ghost use Rattle.ring_cluster.specs.Opened.{opened_ends, opened_at};
+ghost use Rattle.ring_cluster.specs.Standing.{StandAfter};
 
 use crate::node::Node;
-use gm_member::Member;
-use ordered_link::plain_pair;
+use gm_member::{Load, Member};
+use group_view::View;
+use ordered_link::{PlainIn, plain_pair};
+use registrar::Registrar;
 use ring_names::{CreditSpec, MemberId, Name, OutOfMemory};
 use std::alloc::Global;
 
-/// The member at place k of the opening, with both ends of a fresh pair. Plain ends share no memory,
-/// so its in end may well meet the out end of its left neighbour.
+/// The members of the opening and the registrar.
+#[derive(Drop)]
+pub(crate) struct Opening {
+    pub(crate) nodes: Vec<Node>,
+    pub(crate) registrar: Registrar<PlainIn<Load>>,
+}
+
+/// The member at place k of the opening, with both ends of a fresh pair. Plain ends share no memory, so its in
+/// end may well meet the out end of its left neighbour.
 fn opening_node(
     alloc: Global,
     name: Name,
     k: usize,
+    view: &View,
     credit: CreditSpec,
 ) -> Result<Node, OutOfMemory>
-    requires { k < most_members }
-    ensures held { IfOk result (λ m. held_of m ≡ founded credit name k) }
-    ensures out { IfOk result (λ m. out_of m ≡ fresh_out credit.initial) }
-    ensures link { IfOk result (λ m. in_of m ≡ fresh_in credit.initial) }
+    requires few { k < most_members }
+    requires stands { is_in (k + 1) (ids view.now) ≡ true }
+    ensures { IfOk result (λ m. shown_of m ≡ record { held = founded credit name (k + 1) view.now; ends = opened_ends credit }) }
 {
     let (out, link) = plain_pair(alloc, credit)?;
-    let node = Member::founding(alloc, name, MemberId(k as u32 + 1), credit, out, link)?;
+    let view = view.copy()?;
+    let node = Member::founding(alloc, name, MemberId(k as u32 + 1), view, credit, out, link)?;
     Ok(node)
 }
 
 /// The members of the opening, in ring order.
-pub(crate) fn opening_nodes(
+fn opening_nodes(
     alloc: Global,
     names: &[Name],
+    view: &View,
     credit: CreditSpec,
 ) -> Result<Vec<Node>, OutOfMemory>
-    requires { length names.now ≤ most_members }
-    ensures held { IfOk result (λ v. map held_of v.items
-        ≡ map (founded_at credit names.now) (range_with_len 0 (length names.now))) }
-    ensures outs { IfOk result (λ v. map out_of v.items
-        ≡ map (λ (_ : ℕ). fresh_out credit.initial) (range_with_len 0 (length names.now))) }
-    ensures ins { IfOk result (λ v. map in_of v.items
-        ≡ map (λ (_ : ℕ). fresh_in credit.initial) (range_with_len 0 (length names.now))) }
+    requires few { length names.now ≤ most_members }
+    requires view { view.now ≡ opening_group names.now }
+    ensures { IfOk result (λ v. map shown_of v.items ≡ map (opened_at credit names.now) (range_with_len 0 (length names.now))) }
 {
     let mut nodes = Vec::new(alloc);
     for k in 0..names.len() {
-        let node = opening_node(alloc, names[k], k, credit)?;
+        let node = opening_node(alloc, names[k], k, view, credit)?;
         push_node(&mut nodes, node)?;
     }
     Ok(nodes)
@@ -60,6 +71,20 @@ fn push_node(nodes: &mut Vec<Node>, node: Node) -> Result<(), OutOfMemory>
         Ok(()) => Ok(()),
         Err(_) => Err(OutOfMemory),
     }
+}
+
+/// The parties of a ring that opens with these members, in ring order.
+pub(crate) fn opening_parties(
+    alloc: Global,
+    names: &[Name],
+    credit: CreditSpec,
+) -> Result<Opening, OutOfMemory>
+    requires { AreOpeningNames names.now }
+    ensures { IfOk result (λ o. StandAfter credit names.now [] (parties o.nodes.items o.registrar [])) }
+{
+    let registrar: Registrar<PlainIn<Load>> = Registrar::opening(alloc, names)?;
+    let nodes = opening_nodes(alloc, names, registrar.view(), credit)?;
+    Ok(Opening { nodes, registrar })
 }
 
 /// Names of one's own.

@@ -2,7 +2,6 @@ pub mod FirstWord
 pub mod Numbers
 pub mod FirstLine
 pub mod Bodies
-pub mod Members
 pub mod Taking
 pub mod Lines
 pub mod Walk

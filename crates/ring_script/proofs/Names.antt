@@ -10,7 +10,7 @@ use Rattle.std.proofs.lemmas.List.Folds.{list_any_at, Any-from_list_any}
 use Rattle.std.proofs.lemmas.Slice.Eq.{bytes_eq-Decides}
 use Rattle.ring_names.specs.Name.{IsName, is_bad_name_byte, unless_bad}
 use Rattle.ring_names.specs.declared.name.NameFault.TheVariants.{Empty, TooLong}
-use Rattle.ring_world.specs.World.{AreDifferent}
+use Rattle.ring_world.specs.Rows.{AreDifferent}
 use Rattle.ring_script.specs.declared.fault.Kind.TheVariants.{BadName, NameTaken, TooManyMembers}
 use Rattle.ring_script.specs.Script.{is_name, is_among, further_fault, names_fault}
 

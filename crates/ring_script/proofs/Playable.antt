@@ -9,7 +9,7 @@ use Rattle.std.proofs.lemmas.List.{append-nil, take_all}
 use Rattle.std.proofs.lemmas.List.Elements.{All-append, All-cons, All-nil}
 use Rattle.ring_names.specs.Name.{IsName}
 use Rattle.ring_names.specs.Body.{IsBody}
-use Rattle.ring_world.specs.World.{AreOpeningNames}
+use Rattle.ring_world.specs.Rows.{AreOpeningNames}
 use Rattle.ring_script.specs.declared.fault.Kind.{Kind}
 use Rattle.ring_script.specs.declared.fault.Kind.TheVariants.{NotText, LineTooLong, BadName, UnknownName, BodyTooLong, BadNumber}
 use Rattle.ring_script.specs.declared.line.Keyword.{Keyword}

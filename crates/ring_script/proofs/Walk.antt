@@ -1,7 +1,6 @@
 -- A text read line by line: what is read so far, and what is left.
-use Rattle.std.proofs.Common.{◌≡◌, ℕ, ◌+◌, ◌<◌, ◌≤◌, List, [], ◌∷◌, ◌++◌, Option, Some, None, Err, length, take, drop, refl, sym, ap, ◌∙◌, subst, inl, inr, arith}
+use Rattle.std.proofs.Common.{◌≡◌, ℕ, ◌+◌, ◌<◌, ◌≤◌, List, [], ◌∷◌, ◌++◌, Option, Some, None, Err, length, take, drop, sym, ap, ◌∙◌, subst, inl, arith}
 use Rattle.ring_script.specs.declared.fault.Kind.{Kind}
-use Rattle.ring_script.specs.declared.fault.Kind.TheVariants.{NoMembers}
 use Rattle.ring_script.specs.declared.fault.LineFault.{LineFault}
 use Rattle.ring_script.specs.declared.fault.LineFault.TheVariants.{Wrong, OutOfMemory}
 use Rattle.ring_script.specs.declared.fault.ScriptFault.TheVariants as told
@@ -21,16 +20,6 @@ pub record IsReadUpTo (bytes rest : List ℕ) (number : ℕ) (reader : Reader) :
   pub left : drop done (lines_of bytes) ≡ lines_of rest
   pub right : AreRight (lines_of bytes) done
   pub read : HasRead (used_of (take done (lines_of bytes))) reader
-
-pub read_none : (bytes : List ℕ) (reader : Reader) → HasRead [] reader → IsReadUpTo bytes bytes 1 reader
-read_none bytes reader h = record {
-  done = 0;
-  is = refl;
-  within = omega arith;
-  left = refl;
-  right = λ place l. absurd (omega arith);
-  read = h;
-}
 
 -- the used lines before the next
 abbrev pub used_before : {bytes rest : List ℕ} {number : ℕ} {reader : Reader} → IsReadUpTo bytes rest number reader → List (ℕ × List ℕ)
@@ -96,21 +85,6 @@ pub read_all : {bytes rest : List ℕ} {number : ℕ} {reader : Reader} (h : IsR
 read_all {bytes} {rest} {number} {reader} h e =
     let all = all_lines h.done (lines_of bytes) (h.left ∙ ap lines_of e) h.within in
     (h.is ∙ ap (λ n. n + 1) all.0, subst (AreRight (lines_of bytes)) all.0 h.right, subst (λ lines. HasRead (used_of lines) reader) all.1 h.read)
-
--- where no line is used, the members are missed
-pub missed : {bytes rest : List ℕ} {number : ℕ} {reader : Reader} (h : IsReadUpTo bytes rest number reader) (kind : Kind) (told_line code : ℕ) → rest ≡ []
-    → ((used : List (ℕ × List ℕ)) → HasRead used reader → (used ≡ []) × (kind ≡ NoMembers)) → told_at number (Wrong kind) ≡ told.At told_line code
-    → IsFirstFault bytes told_line code
-missed {bytes} {rest} {number} {reader} h kind told_line code e none same =
-    let all = read_all h e in
-    let found = none (used_of (lines_of bytes)) all.2 in
-    let a : code_of kind ≡ code = cc in
-    let b : number ≡ told_line = cc in
-    record {
-      kind = kind;
-      is = sym a;
-      stands = inr (record { is = sym b ∙ all.0; right = all.1; nothing = found.0; members = found.1 });
-    }
 
 -- else the reader has the script
 pub script_read : {bytes rest : List ℕ} {number : ℕ} {reader : Reader} (h : IsReadUpTo bytes rest number reader) (script : Script) → rest ≡ []

@@ -3,7 +3,7 @@ use Rattle.std.specs.Prelude.{◌≡◌, ◌⊎◌, ℕ, ◌+◌, ◌<◌, ◌�
 use Rattle.std.specs.List.{filter, enumerate_from, slice_index_or}
 use Rattle.ring_names.specs.Name.{IsName}
 use Rattle.ring_names.specs.Body.{IsBody}
-use Rattle.ring_world.specs.World.{AreOpeningNames}
+use Rattle.ring_world.specs.Rows.{AreOpeningNames}
 use Rattle.ring_script.specs.declared.command.Command.{Command}
 use Rattle.ring_script.specs.declared.command.Command.TheVariants as command
 use Rattle.ring_script.specs.declared.fault.Kind.{Kind}

@@ -1,11 +1,16 @@
 -- What holds in every state of every run.
-use Rattle.std.proofs.Common.{◌≡◌, ◌≢◌, ℕ, ◌<◌, ◌≤◌, length, refl, sym, subst, ⊎_elim, arith, Bool, true, false, [], eq-eqb, nat_eq}
-use Rattle.std.proofs.lemmas.Bool.{cases_eq}
-use Rattle.std.proofs.lemmas.Bool.Decides.{nat_tests}
-use Rattle.ring_world.specs.World.{Row, Link, World, member_at, link_at, numbers_at, size, left_of}
-use Rattle.ring_world.specs.Laws.{row_of, HearsInOrder, StaysWithinLogs, HasOwnLog}
-use Rattle.ring_world.proofs.Chain.{IsChain, IsChain-top, IsFall, IsFall-top}
-use Rattle.ring_world.proofs.Round.{round_top, round_bottom}
+use Rattle.std.proofs.Common.{◌≡◌, ◌≢◌, ℕ, ◌<◌, ◌≤◌, ⊎_elim, Bool, true, false, [], zero, suc, ◌+◌, ◌-◌, List, ◌∷◌, length, refl, sym, ap, subst, ◌∙◌, arith, nat_eq, Some}
+use Rattle.ring_world.specs.Rows.{Row}
+use Rattle.std.specs.Prelude.{◌&&◌}
+use Rattle.std.specs.List.{list_all, range_with_len}
+use Rattle.std.proofs.lemmas.Bool.{cases_eq, cases_lt, false≢true}
+use Rattle.ring_world.specs.Refusal.{is_empty}
+use Rattle.ring_world.proofs.Rounds.{nat_eq-is, nat_eq-same}
+use Rattle.ring_world.specs.View.{ids, is_live}
+use Rattle.group_view.specs.Ring.{first_or, is_in, AreDistinct}
+use Rattle.ring_world.specs.Machine.{is_kept_of, Waiting, Link, World, member_at, link_at, view_at, newest, left, right, runs, is_kept}
+use Rattle.ring_world.specs.Walk.{FallsFrom, NeverRises}
+use Rattle.ring_world.proofs.Weakens.{FallsTo, Weakens, FallsFrom-FallsTo, FallsTo-FallsFrom}
 
 -- the number that the packets on the link to a member lead to: at the origin itself the one that comes round
 abbrev pub low : Bool → Row → ℕ
@@ -16,59 +21,99 @@ abbrev pub low_forgot : Bool → Row → ℕ
 low_forgot true r = r.retired
 low_forgot false r = r.forgot
 
--- of origin p, a link goes from the receiver's number g up to the sender's, top
-abbrev pub LinkIsChain : ℕ → ℕ → Link → ℕ → Type 0
-LinkIsChain p g l top = IsChain p g l.packets (numbers_at l.sending.sent p).got top
-
-abbrev pub LinkIsFall : ℕ → ℕ → Link → ℕ → Type 0
-LinkIsFall p g l top = IsFall p g l.packets (numbers_at l.sending.sent p).forgot top
-
-pub record IsGood (w : World) : Type 0 where
-  pub links : length w.links ≡ size w
-  pub rows : (q : ℕ) → q < size w → length (member_at w q).rows ≡ size w
-  pub own : HasOwnLog w
-  pub within : StaysWithinLogs w
-  pub heard : HearsInOrder w
-  pub chain : (q p s : ℕ) → q < size w → p < size w → s ≡ left_of (size w) q → LinkIsChain p (low (nat_eq p q) (row_of w q p)) (link_at w s) (row_of w s p).got
-  pub fall : (q p s : ℕ) → q < size w → p < size w → s ≡ left_of (size w) q → LinkIsFall p (low_forgot (nat_eq p q) (row_of w q p)) (link_at w s) (row_of w s p).forgot
-  pub fresh : (s : ℕ) → (link_at w s).sending.fresh ≡ true → (link_at w s).packets ≡ []
-
-pub not_eq : (p q : ℕ) → p ≢ q → nat_eq p q ≡ false
-not_eq p q ne = grind (arith, nat_tests)
-
 -- ---- the numbers fall round the ring
 
-pub got_falls : (w : World) (q p : ℕ) → IsGood w → q < size w → p < size w → q ≢ p → (row_of w q p).got ≤ (row_of w (left_of (size w) q) p).got
-got_falls w q p h ql pl ne =
-    let no : nat_eq p q ≡ false = not_eq p q (λ e. ne (sym e)) in
-    let c : low (nat_eq p q) (row_of w q p) ≤ (row_of w (left_of (size w) q) p).got = IsChain-top p _ _ _ _ (h.chain q p _ ql pl refl) in
-    subst (λ b. low b (row_of w q p) ≤ (row_of w (left_of (size w) q) p).got) no c
+-- the receiver has had the sender at its left in each view up to v
+abbrev pub Kept : World → Link → ℕ → Type 0
+Kept w l v = (u : ℕ) → l.opened ≤ u → u ≤ v → left w u l.receiver ≡ l.sender
 
-pub forgot_falls : (w : World) (q p : ℕ) → IsGood w → q < size w → p < size w → q ≢ p → (row_of w q p).forgot ≤ (row_of w (left_of (size w) q) p).forgot
-forgot_falls w q p h ql pl ne =
-    let no : nat_eq p q ≡ false = not_eq p q (λ e. ne (sym e)) in
-    let c : low_forgot (nat_eq p q) (row_of w q p) ≤ (row_of w (left_of (size w) q) p).forgot = IsFall-top p _ _ _ _ (h.fall q p _ ql pl refl) in
-    subst (λ b. low_forgot b (row_of w q p) ≤ (row_of w (left_of (size w) q) p).forgot) no c
+-- ---- of views and members alone
 
-pub round_falls : (w : World) (p : ℕ) → IsGood w → p < size w → (row_of w p p).forgot ≤ (row_of w (left_of (size w) p) p).got
-round_falls w p h pl =
-    let c : low (nat_eq p p) (row_of w p p) ≤ (row_of w (left_of (size w) p) p).got = IsChain-top p _ _ _ _ (h.chain p p _ pl pl refl) in
-    subst (λ b. low b (row_of w p p) ≤ (row_of w (left_of (size w) p) p).got) (eq-eqb p p refl) c
+pub record IsRing (w : World) : Type 0 where
+  pub some : 0 < length w.views
+  pub distinct : (v : ℕ) → v ≤ newest w → AreDistinct (ids (view_at w v))
+  pub held : (x : ℕ) → (member_at w x).version ≤ newest w
+  -- a running member stands live in each view from its own on
+  pub stands : (x v : ℕ) → runs w x ≡ true → (member_at w x).version ≤ v → v ≤ newest w → is_in x (ids (view_at w v)) ≡ true
+  pub lives : (x v : ℕ) → runs w x ≡ true → (member_at w x).version ≤ v → v ≤ newest w → is_live (view_at w v) x ≡ true
+  -- nobody comes between a running member and its right neighbour unless by itself
+  pub front : (x v u : ℕ) → runs w x ≡ true → (member_at w x).version ≤ v → v ≤ u → u ≤ newest w → left w u (right w v x) ≡ x
 
--- what any member forgot of an origin, every member has got
-pub forgot_everywhere : (w : World) (x q p : ℕ) → IsGood w → x < size w → q < size w → p < size w → (row_of w x p).forgot ≤ (row_of w q p).got
-forgot_everywhere w x q p h xl ql pl =
-    omega (
-      arith,
-      round_top (size w) p (λ k. (row_of w k p).forgot) pl (λ k kl ne. forgot_falls w k p h kl pl ne) x xl,
-      round_falls w p h pl,
-      round_bottom (size w) p (λ k. (row_of w k p).got) pl (λ k kl ne. got_falls w k p h kl pl ne) q ql,
-    )
+-- ---- of links
 
--- and the origin has forgotten
-pub forgot_low : (w : World) (x q p : ℕ) → IsGood w → x < size w → q < size w → p < size w → (row_of w x p).forgot ≤ low (nat_eq p q) (row_of w q p)
-forgot_low w x q p h xl ql pl =
+pub record IsLinked (w : World) : Type 0 where
+  pub opened : (s : ℕ) → s < length w.links → (link_at w s).opened ≤ newest w
+  pub from_left : (s : ℕ) → s < length w.links → left w (link_at w s).opened (link_at w s).receiver ≡ (link_at w s).sender
+  pub seen : (s : ℕ) → s < length w.links → (link_at w s).opened ≤ (member_at w (link_at w s).sender).version
+  -- an earlier link to a member isn't kept up to the opening of a later one
+  pub period : (i j : ℕ) → i < j → j < length w.links → (link_at w i).receiver ≡ (link_at w j).receiver → is_kept w (link_at w i) (link_at w j).opened ≡ false
+  pub out_lt : (x o : ℕ) → runs w x ≡ true → (member_at w x).out ≡ Some o → o < length w.links
+  pub out_from : (x o : ℕ) → runs w x ≡ true → (member_at w x).out ≡ Some o → (link_at w o).sender ≡ x
+  pub out_to : (x o : ℕ) → runs w x ≡ true → (member_at w x).out ≡ Some o → (link_at w o).receiver ≡ right w (member_at w x).version x
+  pub out_kept : (x o : ℕ) → runs w x ≡ true → (member_at w x).out ≡ Some o → Kept w (link_at w o) (member_at w x).version
+  -- a link that its running sender has as kept is its out link
+  pub is_out : (s : ℕ) → s < length w.links → runs w (link_at w s).sender ≡ true → Kept w (link_at w s) (member_at w (link_at w s).sender).version → is_live (view_at w (member_at w (link_at w s).sender).version) (link_at w s).receiver ≡ true → (member_at w (link_at w s).sender).out ≡ Some s
+
+pub record IsWaitingRight (w : World) : Type 0 where
+  -- a waiting member's current link has its first packet
+  pub first : (y s : ℕ) → (member_at w y).phase ≡ Waiting → (member_at w y).current ≡ Some s → is_empty (link_at w s).packets ≡ false
+  pub mine : (y s : ℕ) → (member_at w y).phase ≡ Waiting → (member_at w y).current ≡ Some s → (link_at w s).receiver ≡ y
+  pub admission : (y s : ℕ) → (member_at w y).phase ≡ Waiting → s < length w.links → (link_at w s).receiver ≡ y → (link_at w s).opened ≡ (member_at w y).version → is_empty (link_at w s).packets ≡ false
+
+-- ---- kept links
+
+pub all_range : (t : ℕ → Bool) (a n : ℕ) → ((u : ℕ) → a ≤ u → u < a + n → t u ≡ true) → list_all t (range_with_len a n) ≡ true
+all_range t a zero h = refl
+all_range t a (suc n) h = rw (h a (omega arith) (omega arith)) (all_range t (a + 1) n (λ u l m. h u (omega arith) (omega arith)))
+
+pub at_range : (t : ℕ → Bool) (a n u : ℕ) → list_all t (range_with_len a n) ≡ true → a ≤ u → u < a + n → t u ≡ true
+at_range t a zero u h l m = absurd (omega arith)
+at_range t a (suc n) u h l m =
     ⊎_elim
-    (λ (same : p ≡ q). rw (eq-eqb p q same) (rw (← same) (round_top (size w) p (λ k. (row_of w k p).forgot) pl (λ k kl ne. forgot_falls w k p h kl pl ne) x xl)))
-    (λ (other : p ≢ q). rw (not_eq p q other) (forgot_everywhere w x q p h xl ql pl))
-    (cases_eq p q)
+    (λ (is : u ≡ a). ap t is ∙ first (t a) _ h)
+    (λ (no : u ≢ a). at_range t (a + 1) n u (second (t a) _ h) (omega arith) (omega arith))
+    (cases_eq u a)
+  where
+    first : (x y : Bool) → (x && y) ≡ true → x ≡ true
+    first true y e = refl
+    first false y e = e
+
+    second : (x y : Bool) → (x && y) ≡ true → y ≡ true
+    second true y e = e
+    second false y e = absurd (false≢true e)
+
+pub kept_true : (w : World) (l : Link) (v : ℕ) → Kept w l v → is_kept w l v ≡ true
+unfolding is_kept_of
+kept_true w l v h =
+    all_range (λ u. nat_eq (left w u l.receiver) l.sender) l.opened (v + 1 - l.opened)
+    (λ u a b. subst (λ q. nat_eq q l.sender ≡ true) (sym (h u a (omega arith))) (nat_eq-same l.sender))
+
+pub true_kept : (w : World) (l : Link) (v : ℕ) → is_kept w l v ≡ true → Kept w l v
+unfolding is_kept_of
+true_kept w l v h = λ u a b. nat_eq-is (left w u l.receiver) l.sender (at_range (λ u. nat_eq (left w u l.receiver) l.sender) l.opened (v + 1 - l.opened) u h a (omega arith))
+
+-- the out link of a running member is kept up to the newest view
+pub out_stays : (w : World) (x o : ℕ) → IsRing w → IsLinked w → runs w x ≡ true → (member_at w x).out ≡ Some o → Kept w (link_at w o) (newest w)
+out_stays w x o hr hl rx e = λ u a b.
+    ⊎_elim
+    (λ (early : u < (member_at w x).version). hl.out_kept x o rx e u a (omega arith))
+    (λ (late : (member_at w x).version ≤ u). ap (left w u) (hl.out_to x o rx e) ∙ hr.front x (member_at w x).version u rx (omega arith) late b ∙ sym (hl.out_from x o rx e))
+    (cases_lt u (member_at w x).version)
+
+-- and the newest link to its receiver
+pub out_newest : (w : World) (x o j : ℕ) → IsRing w → IsLinked w → runs w x ≡ true → (member_at w x).out ≡ Some o → o < j → j < length w.links → (link_at w j).receiver ≢ (link_at w o).receiver
+out_newest w x o j hr hl rx e l m same =
+    false≢true (sym (hl.period o j l m (sym same)) ∙ kept_true w (link_at w o) (link_at w j).opened (λ u a b. out_stays w x o hr hl rx e u a (omega (arith, hl.opened j m))))
+
+-- ---- the walk of a later state
+
+pub NeverRises-FallsTo : (xs : List ℕ) → NeverRises xs → FallsTo (first_or 0 xs) xs 0
+NeverRises-FallsTo [] h = omega arith
+NeverRises-FallsTo (x ∷ xs) h = (omega arith, FallsFrom-FallsTo x xs h)
+
+pub FallsFrom-NeverRises : (a : ℕ) (xs : List ℕ) → FallsFrom a xs → NeverRises xs
+FallsFrom-NeverRises a [] h = tt
+FallsFrom-NeverRises a (x ∷ xs) h = h.1
+
+pub never_rises_still : (xs ys : List ℕ) → Weakens xs ys → NeverRises xs → NeverRises ys
+never_rises_still xs ys k h = FallsFrom-NeverRises (first_or 0 xs) ys (FallsTo-FallsFrom (first_or 0 xs) ys 0 (k (first_or 0 xs) 0 (NeverRises-FallsTo xs h)))

@@ -1,98 +1,150 @@
--- Packets carry numbers for the members of the ring alone.
-use Rattle.std.proofs.Common.{◌≡◌, refl, None, ℕ, ◌<◌, ◌≤◌, List, [], ◌∷◌, ◌++◌, length, sym, ◌∙◌, subst, arith}
-use Rattle.std.specs.Prelude.{⊤}
-use Rattle.std.proofs.lemmas.List.{length-set, get_or_past, length-map}
-use Rattle.std.proofs.lemmas.List.FromFn.{length-map-range_with_len}
+-- Members stay as many as they are, each has a row for each, and its own row has got all that it published.
+use Rattle.std.proofs.Common.{◌≡◌, ℕ, zero, suc, ◌<◌, ◌≤◌, ◌+◌, Bool, true, false, bytes_eq, nat_eq, List, [], ◌∷◌, ◌++◌, length, drop, map, get_or, set, Option, Some, None, refl, sym, ap, ◌∙◌, arith, if◌then◌else◌}
+use Rattle.std.specs.Prelude.{position, option_map}
+use Rattle.std.specs.List.{range_with_len}
+use Rattle.std.proofs.lemmas.List.{length-set, length_push, length-drop, get_or-set_same}
+use Rattle.std.proofs.lemmas.List.FromFn.{length-map-range_with_len, get_or-map-range_with_len}
+use Rattle.std.proofs.lemmas.List.Quantifiers.{position-Some}
 use Rattle.ring_names.specs.declared.message.Message.{Message}
 use Rattle.ring_names.specs.declared.message.Message.TheVariants as message
 use Rattle.ring_names.specs.declared.numbers.CreditSpec.{CreditSpec}
-use Rattle.ring_world.specs.declared.fixed.Event.{Event}
-use Rattle.ring_world.specs.declared.fixed.Event.TheVariants.{Cast, Put, Take, Gain}
-use Rattle.ring_world.specs.World.{Packet, Link, World, no_numbers, no_link, numbers_at, row_at, member_at, link_at, size, left_of}
-use Rattle.ring_world.specs.Member.{next_packet, next_numbers, popped, oldest}
-use Rattle.ring_world.specs.Refusal.{refusal}
-use Rattle.ring_world.specs.Effect.{effect, publish_at, put_at, take_at, gain_at}
-use Rattle.ring_world.specs.Run.{IsRun, opening, last, opening_link}
-use Rattle.ring_world.proofs.Writes.{at_set}
-use Rattle.ring_world.proofs.Round.{left_of-lt}
-use Rattle.ring_world.proofs.Run.{at_place_does, run_keeps, opening_size, opening_links}
+use Rattle.ring_world.specs.Rows.{no_row, Row}
+use Rattle.group_view.specs.View.{Group}
+use Rattle.group_view.specs.Change.{AreOpeningNames, marked}
+use Rattle.ring_world.specs.View.{right_of}
+use Rattle.ring_world.specs.Machine.{Phase, Waiting, Up, Stopped, Member, Link, World, Moved, Halted, is_waiting, no_member, member_at, link_at, view_at, newest, row_at, numbers_at}
+use Rattle.ring_world.specs.Walk.{oldest}
+use Rattle.ring_world.specs.Step.{size, publish_at, published, take_from, taker, taken_row, is_owned, log_of, current_is, with_current, leave_link, stop_at, stopped, end_out, with_view, with_link, look_at, moved_to, open_to, ended, opening, opening_member}
+use Rattle.ring_world.specs.Event.{Event, Cast, Put, Take, TakeEnd, Gain, Stop, Mark, Refresh, Pick, id_of, at_found, at_door, taken_by, send_to, refreshed, effect}
+use Rattle.ring_world.proofs.Lists.{at_set}
+use Rattle.ring_world.proofs.Rounds.{nat_eq-same}
 
-abbrev pub AreShort : ℕ → List Packet → Type 0
-AreShort n [] = ⊤
-AreShort n (k ∷ ks) = (length k.numbers ≤ n) × AreShort n ks
+pub record IsSized (w : World) : Type 0 where
+  pub few : size w ≤ 65
+  pub rows : (x : ℕ) → 1 ≤ x → x < size w → length (member_at w x).rows ≡ size w
+  pub own : (x : ℕ) → 1 ≤ x → x < size w → (row_at (member_at w x) x).got ≡ length (log_of w x)
 
-pub AreShort-push : (n : ℕ) (ks : List Packet) (k : Packet) → length k.numbers ≤ n → AreShort n ks → AreShort n (ks ++ k ∷ [])
-AreShort-push n [] k l h = (l, tt)
-AreShort-push n (x ∷ xs) k l h = (h.0, AreShort-push n xs k l h.1)
+-- links and views count for nothing
+pub other_sized : (w : World) (ls : List Link) (vs : List Group) → IsSized w → IsSized (record w { links = ls; views = vs })
+other_sized w ls vs h = record { few = h.few; rows = h.rows; own = h.own }
 
-pub AreShort-drop : (n : ℕ) (l : Link) (ks : List Packet) → l.packets ≡ ks → AreShort n ks → AreShort n (popped l).packets
-AreShort-drop n l [] e h = subst (λ ps. AreShort n (popped (record l { packets = ps })).packets) (sym e) tt
-AreShort-drop n l (k ∷ ks) e h = subst (λ ps. AreShort n (popped (record l { packets = ps })).packets) (sym e) h.1
-
-pub oldest_is_short : (n : ℕ) (l : Link) (ks : List Packet) → l.packets ≡ ks → AreShort n ks → length (oldest l).numbers ≤ n
-oldest_is_short n l [] e h = subst (λ ps. length (oldest (record l { packets = ps })).numbers ≤ n) (sym e) (omega arith)
-oldest_is_short n l (k ∷ ks) e h = subst (λ ps. length (oldest (record l { packets = ps })).numbers ≤ n) (sym e) h.0
-
-pub record IsSized (n : ℕ) (w : World) : Type 0 where
-  pub size_is : size w ≡ n
-  pub links : length w.links ≡ n
-  pub sent : (s : ℕ) → length (link_at w s).sending.sent.numbers ≤ n
-  pub packets : (s : ℕ) → AreShort n (link_at w s).packets
-
-pub next_packet_length : (n i : ℕ) (w : World) → size w ≡ n → length (next_packet (size w) (member_at w i) (link_at w i).sending).numbers ≤ n
-next_packet_length n i w e = omega (arith, length-map-range_with_len (λ p. next_numbers (link_at w i).sending.fresh (row_at (member_at w i) p) (numbers_at (link_at w i).sending.sent p)) 0 (size w))
-
-pub publish_sized : (n : ℕ) (w : World) (i : ℕ) (m : Message) → IsSized n w → IsSized n (publish_at w m i)
-publish_sized n w i m h = record { size_is = length-set w.members i _ ∙ h.size_is; links = h.links; sent = h.sent; packets = h.packets }
-
-pub put_sized : (n : ℕ) (w : World) (i : ℕ) → i < size w → IsSized n w → IsSized n (put_at w i)
-put_sized n w i l h =
-    let il : i < length w.links = omega (arith, h.links, h.size_is) in
+-- one member changes
+pub changed_sized : (w : World) (x : ℕ) (y : Member) (ls : List Link) (vs : List Group) → x < size w → (1 ≤ x → length y.rows ≡ size w) → (1 ≤ x → (row_at y x).got ≡ length y.log) → IsSized w → IsSized (record w { members = set w.members x y; links = ls; views = vs })
+changed_sized w x y ls vs lt r o h =
+    let many : length (set w.members x y) ≡ length w.members = length-set w.members x y in
     record {
-      size_is = h.size_is;
-      links = length-set w.links i _ ∙ h.links;
-      sent = λ s. at_set (λ _ k. length k.sending.sent.numbers ≤ n) w.links i s _ no_link il (next_packet_length n i w h.size_is) (λ _. h.sent s);
-      packets = λ s. at_set (λ _ k. AreShort n k.packets) w.links i s _ no_link il (AreShort-push n (link_at w i).packets _ (next_packet_length n i w h.size_is) (h.packets i)) (λ _. h.packets s);
+      few = omega (arith, h.few);
+      rows = λ q some l. at_set (λ k z. 1 ≤ k → length z.rows ≡ length (set w.members x y)) w.members x q y no_member lt (λ s. r s ∙ sym many) (λ _ s. h.rows q s (omega (arith, many)) ∙ sym many) some;
+      own = λ q some l. at_set (λ k z. 1 ≤ k → (row_at z k).got ≡ length z.log) w.members x q y no_member lt o (λ _ s. h.own q s (omega (arith, many))) some;
     }
 
-pub take_sized : (n : ℕ) (w : World) (i : ℕ) → i < size w → IsSized n w → IsSized n (take_at w i)
-take_sized n w i l h =
-    let s0 : ℕ = left_of (size w) i in
-    let s0l : s0 < length w.links = omega (arith, left_of-lt (size w) i l, h.links, h.size_is) in
-    record {
-      size_is = length-set w.members i _ ∙ h.size_is;
-      links = length-set w.links s0 _ ∙ h.links;
-      sent = λ s. at_set (λ _ k. length k.sending.sent.numbers ≤ n) w.links s0 s _ no_link s0l (h.sent s0) (λ _. h.sent s);
-      packets = λ s. at_set (λ _ k. AreShort n k.packets) w.links s0 s _ no_link s0l (AreShort-drop n (link_at w s0) (link_at w s0).packets refl (h.packets s0)) (λ _. h.packets s);
-    }
+-- or keeps its rows and its log
+pub same_sized : (w : World) (x : ℕ) (y : Member) (ls : List Link) (vs : List Group) → x < size w → y.rows ≡ (member_at w x).rows → y.log ≡ (member_at w x).log → IsSized w → IsSized (record w { members = set w.members x y; links = ls; views = vs })
+same_sized w x y ls vs lt r o h =
+    changed_sized w x y ls vs lt (λ s. ap length r ∙ h.rows x s lt) (λ s. ap (λ rs. (get_or rs x no_row).got) r ∙ h.own x s lt ∙ ap length (sym o)) h
 
-pub gain_sized : (n : ℕ) (w : World) (i : ℕ) → i < size w → IsSized n w → IsSized n (gain_at w i)
-gain_sized n w i l h =
-    let il : i < length w.links = omega (arith, h.links, h.size_is) in
-    record {
-      size_is = h.size_is;
-      links = length-set w.links i _ ∙ h.links;
-      sent = λ s. at_set (λ _ k. length k.sending.sent.numbers ≤ n) w.links i s _ no_link il (h.sent i) (λ _. h.sent s);
-      packets = λ s. at_set (λ _ k. AreShort n k.packets) w.links i s _ no_link il (h.packets i) (λ _. h.packets s);
-    }
+publish_sized : (w : World) (x : ℕ) (m : Message) → x < size w → IsSized w → IsSized (publish_at w x m)
+publish_sized w x m lt h =
+    let y = member_at w x in
+    let r : Row = record (row_at y x) { got = (row_at y x).got + 1; heard = (row_at y x).heard ++ m ∷ [] } in
+    changed_sized w x (published x m y) w.links w.views lt (λ s. length-set y.rows x r ∙ h.rows x s lt)
+    (λ s. ap (λ (k : Row). k.got) (get_or-set_same y.rows x r no_row (omega (arith, h.rows x s lt))) ∙ ap (λ n. n + 1) (h.own x s lt) ∙ sym (length_push y.log m)) h
 
-pub effect_sized : (n : ℕ) (w : World) (e : Event) → refusal w e ≡ None → IsSized n w → IsSized n (effect w e)
-effect_sized n w (Cast by body) r h = at_place_does (IsSized n) w by _ (publish_at w (message.Cast body)) _ refl r (λ i l _. publish_sized n w i (message.Cast body) h)
-effect_sized n w (Put by) r h = at_place_does (IsSized n) w by _ (put_at w) _ refl r (λ i l _. put_sized n w i l h)
-effect_sized n w (Take by) r h = at_place_does (IsSized n) w by _ (take_at w) _ refl r (λ i l _. take_sized n w i l h)
-effect_sized n w (Gain by) r h = at_place_does (IsSized n) w by _ (gain_at w) _ refl r (λ i l _. gain_sized n w i l h)
+take_sized : (w : World) (y s : ℕ) → y < size w → IsSized w → IsSized (take_from w y s)
+take_sized w y s lt h =
+    let v = view_at w (member_at w y).version in
+    let l = link_at w s in
+    let f : ℕ → Row = λ p. taken_row (is_owned v y l.sender p) (log_of w p) (row_at (member_at w y) p) (numbers_at (oldest l) p) in
+    let own : is_owned v y l.sender y ≡ true = rw (nat_eq-same y) refl in
+    changed_sized w y (taker w y s) (take_from w y s).links w.views lt (λ _. length-map-range_with_len f 0 (size w))
+    (λ some. ap (λ (k : Row). k.got) (get_or-map-range_with_len f 0 (size w) y y no_row lt (omega arith))
+    ∙ ap (λ b. (taken_row b (log_of w y) (row_at (member_at w y) y) (numbers_at (oldest l) y)).got) own
+    ∙ h.own y some lt) h
 
-pub opening_sized : (credit : CreditSpec) (names : List (List ℕ)) → IsSized (length names) (opening credit names)
-opening_sized credit names = record {
-  size_is = opening_size credit names;
-  links = length-map names (opening_link credit);
-  sent = λ s. opening_links (λ l. length l.sending.sent.numbers ≤ length names) credit names s (omega arith) (omega arith);
-  packets = λ s. opening_links (λ l. AreShort (length names) l.packets) credit names s tt tt;
-}
+taken_by_sized : (w : World) (y s : ℕ) (f : Phase) → is_waiting f ≡ false → y < size w → IsSized w → IsSized (taken_by f w y s)
+taken_by_sized w y s Waiting n lt h = cc
+taken_by_sized w y s Up n lt h = take_sized w y s lt h
+taken_by_sized w y s Stopped n lt h = h
 
-pub run_sized : (credit : CreditSpec) (names : List (List ℕ)) (events : List Event) → IsRun (opening credit names) events → IsSized (length names) (last (opening credit names) events)
-run_sized credit names events r = run_keeps (IsSized (length names)) (effect_sized (length names)) (opening credit names) events r (opening_sized credit names)
+current_sized : (w : World) (y : ℕ) (c : Option ℕ) (ls : List Link) → y < size w → IsSized w → IsSized (record (current_is w y c) { links = ls })
+current_sized w y c ls lt h = same_sized w y (with_current c (member_at w y)) ls w.views lt refl refl h
 
--- no packet says anything of a place beyond the ring
-pub numbers_past : (k : Packet) (n p : ℕ) → length k.numbers ≤ n → n ≤ p → numbers_at k p ≡ no_numbers
-numbers_past k n p l le = get_or_past k.numbers p no_numbers (omega arith)
+stop_sized : (w : World) (x : ℕ) (o : Option ℕ) → x < size w → IsSized w → IsSized (end_out Halted (stop_at w x) o)
+stop_sized w x None lt h = same_sized w x (stopped (member_at w x)) w.links w.views lt refl refl h
+stop_sized w x (Some o) lt h = same_sized w x (stopped (member_at w x)) (end_out Halted (stop_at w x) (Some o)).links w.views lt refl refl h
+
+open_sized : (w : World) (x z : ℕ) → x < size w → IsSized w → IsSized (open_to w x z)
+open_sized w x z lt h = same_sized w x (record (member_at w x) { out = Some (length w.links) }) (open_to w x z).links w.views lt refl refl h
+
+refresh_sized : (w : World) (x v : ℕ) → x < size w → IsSized w → IsSized (refreshed w x v)
+refresh_sized w x v lt h = by_out (member_at w x).out
+  where
+    z : ℕ
+    z = right_of (view_at w v) x
+
+    w1 : World
+    w1 = look_at w x v
+
+    there : x < size w1
+    there = omega (arith, lt, length-set w.members x (moved_to w x v))
+
+    now : IsSized w1
+    now = same_sized w x (moved_to w x v) w.links w.views lt refl refl h
+
+    by_test : (o : ℕ) (b : Bool) → IsSized (if b then w1 else open_to (with_link w1 o (ended Moved (link_at w1 o))) x z)
+    by_test o true = now
+    by_test o false = open_sized (with_link w1 o (ended Moved (link_at w1 o))) x z there (other_sized w1 (with_link w1 o (ended Moved (link_at w1 o))).links w1.views now)
+
+    by_out : (o : Option ℕ) → IsSized (send_to w1 x z o)
+    by_out None = open_sized w1 x z there now
+    by_out (Some o) = by_test o (nat_eq (link_at w1 o).receiver z)
+
+id_by : (w : World) (name : List ℕ) (o : Option ℕ) (x : ℕ) → position (λ y. bytes_eq y.name name) (drop 1 w.members) ≡ o → option_map (λ i. i + 1) o ≡ Some x → (1 ≤ x) × (x < size w)
+id_by w name None x e h = cc
+id_by w name (Some i) x e h =
+    let is : i + 1 ≡ x = cc in
+    let within = (position-Some (λ y. bytes_eq y.name name) (drop 1 w.members) i no_member e).0 in
+    (omega arith, omega (arith, within, length-drop 1 w.members))
+
+found_sized : (w : World) (name : List ℕ) (f : ℕ → World) (o : Option ℕ) → id_of w name ≡ o → IsSized w → ((x : ℕ) → x < size w → IsSized (f x)) → IsSized (at_found o w f)
+found_sized w name f None e h k = h
+found_sized w name f (Some x) e h k = k x (id_by w name _ x refl e).1
+
+link_sized : (w : World) (f : ℕ → World) (o : Option ℕ) → IsSized w → ((s : ℕ) → IsSized (f s)) → IsSized (at_found o w f)
+link_sized w f None h k = h
+link_sized w f (Some s) h k = k s
+
+-- one event more
+pub event_sized : (w : World) (e : Event) → ((q : ℕ) → is_waiting (member_at w q).phase ≡ false) → IsSized w → IsSized (effect w e)
+event_sized w (Cast by body) n h = found_sized w by (λ x. publish_at w x (message.Cast body)) (id_of w by) refl h (λ x lt. publish_sized w x (message.Cast body) lt h)
+event_sized w (Put by) n h = found_sized w by _ (id_of w by) refl h (λ x lt. link_sized w _ (member_at w x).out h (λ o. other_sized w _ w.views h))
+event_sized w (Take by) n h = found_sized w by _ (id_of w by) refl h (λ x lt. link_sized w _ (member_at w x).current h (λ s. taken_by_sized w x s (member_at w x).phase (n x) lt h))
+event_sized w (TakeEnd by) n h = found_sized w by _ (id_of w by) refl h (λ x lt. link_sized w _ (member_at w x).current h (λ s. current_sized w x None (leave_link w x s).links lt h))
+event_sized w (Gain by) n h = found_sized w by _ (id_of w by) refl h (λ x lt. link_sized w _ (member_at w x).out h (λ o. other_sized w _ w.views h))
+event_sized w (Stop by) n h = found_sized w by _ (id_of w by) refl h (λ x lt. stop_sized w x (member_at w x).out lt h)
+event_sized w (Mark by dead) n h = found_sized w by _ (id_of w by) refl h (λ x lt. found_sized w dead _ (id_of w dead) refl h (λ d dlt. refresh_sized (with_view w (marked (view_at w (newest w)) d)) x (newest w + 1) lt (other_sized w w.links (with_view w (marked (view_at w (newest w)) d)).views h)))
+event_sized w (Refresh by version) n h = found_sized w by _ (id_of w by) refl h (λ x lt. refresh_sized w x version lt h)
+event_sized w (Pick by) n h = found_sized w by _ (id_of w by) refl h (λ x lt. link_sized w _ (at_door w x) h (λ s. current_sized w x (Some s) w.links lt h))
+
+-- the opening
+pub opening_sized : (credit : CreditSpec) (names : List (List ℕ)) → AreOpeningNames names → IsSized (opening credit names)
+opening_sized credit names are = record { few = omega (arith, many, are.few); rows = λ x some lt. at_opening x some lt; own = λ x some lt. own_at x some lt }
+  where
+    n : ℕ
+    n = length names
+
+    many : length (map (opening_member names) (range_with_len 1 n)) ≡ n
+    many = length-map-range_with_len (opening_member names) 1 n
+
+    member : (x : ℕ) → 1 ≤ x → x < size (opening credit names) → member_at (opening credit names) x ≡ opening_member names x
+    member zero some lt = absurd (omega arith)
+    member (suc k) some lt = get_or-map-range_with_len (opening_member names) 1 n k (suc k) no_member (omega (arith, many)) (omega arith)
+
+    at_opening : (x : ℕ) → 1 ≤ x → x < size (opening credit names) → length (member_at (opening credit names) x).rows ≡ size (opening credit names)
+    at_opening x some lt = ap (λ m. length m.rows) (member x some lt) ∙ length-map-range_with_len (λ _. no_row) 0 (n + 1) ∙ (let same : n + 1 ≡ suc (length (map (opening_member names) (range_with_len 1 n))) = omega (arith, many) in same)
+
+    own_at : (x : ℕ) → 1 ≤ x → x < size (opening credit names) → (row_at (member_at (opening credit names) x) x).got ≡ length (log_of (opening credit names) x)
+    own_at x some lt =
+        ap (λ m. (row_at m x).got) (member x some lt)
+        ∙ ap (λ (r : Row). r.got) (get_or-map-range_with_len (λ _. no_row) 0 (n + 1) x x no_row (omega (arith, many)) (omega arith))
+        ∙ ap (λ m. length m.log) (sym (member x some lt))

@@ -4,7 +4,6 @@ use Rattle.ring_names.specs.declared.message.Message.{Message}
 use Rattle.ring_names.specs.declared.message.Message.TheVariants.{Cast}
 use Rattle.ring_names.specs.declared.numbers.MemberId.{MemberId}
 use Rattle.ring_world.specs.declared.shown.Counts.{Counts}
-use Rattle.ring_world.specs.World.{Member, row_at}
 
 -- ids go from 1
 abbrev pub id_of : ℕ → MemberId
@@ -26,7 +25,3 @@ counts_in forgot log = record {
   publishes = count_by is_publish log;
   publishes_confirmed = count_by is_publish (take forgot log);
 }
-
--- a message of member i is confirmed when it has come round to i, which then forgets it
-abbrev pub counts_of : ℕ → Member → Counts
-counts_of i y = counts_in (row_at y i).forgot y.log

@@ -6,12 +6,12 @@ ghost use Rattle.ring_world.specs.Refusal.{refuse_if, or_else};
 ghost use Rattle.group_view.specs.Change.{marked};
 ghost use Rattle.ring_world.specs.declared.phase.Phase.TheVariants as phase;
 ghost use Rattle.ring_world.specs.declared.phase.Ending.TheVariants as ending;
-ghost use Rattle.ring_world.specs.Deaths.View.{is_live};
-ghost use Rattle.ring_world.specs.Deaths.Machine.{member_at, view_at, newest as the_newest};
-ghost use Rattle.ring_world.specs.Deaths.Step.{publish_at, put_on, gain_on, stop_at, end_out, current_is, leave_link, with_view};
-ghost use Rattle.ring_world.specs.Deaths.Event.{up_refusal, running_refusal, on_link, put_refusal, take_refusal, end_refusal, gain_refusal, pick_refusal, mark_refusal, at_found, taken_by, at_door as the_door, refreshed};
-ghost use Rattle.ring_world.specs.Deaths.Placed.{IsPlaced};
-ghost use Rattle.ring_world.specs.Deaths.Shows.{world_of};
+ghost use Rattle.ring_world.specs.View.{is_live};
+ghost use Rattle.ring_world.specs.Machine.{member_at, view_at, newest as the_newest};
+ghost use Rattle.ring_world.specs.Step.{publish_at, put_on, gain_on, stop_at, end_out, current_is, leave_link, with_view};
+ghost use Rattle.ring_world.specs.Event.{up_refusal, running_refusal, on_link, put_refusal, take_refusal, end_refusal, gain_refusal, pick_refusal, mark_refusal, at_found, taken_by, at_door as the_door, refreshed};
+ghost use Rattle.ring_world.specs.Placed.{IsPlaced};
+ghost use Rattle.ring_world.specs.Shows.{world_of};
 
 use crate::neighbours::at_door;
 use crate::state::Ring;
@@ -32,7 +32,7 @@ pub(crate) fn cast(ring: &mut Ring, place: usize, body: &Body) -> Result<(), Out
 }
 
 /// It puts a packet.
-#[tactic(auto, using(crate::proofs::Deaths::Shown::read_member, crate::proofs::Deaths::Found::out_at, crate::proofs::Deaths::Enabled::up_phase, crate::proofs::Deaths::Enabled::up_later, crate::proofs::Deaths::Enabled::link_there, crate::proofs::Deaths::Enabled::link_later, crate::proofs::Deaths::Enabled::put_credit))]
+#[tactic(auto, using(crate::proofs::ShownParts::read_member, crate::proofs::Found::out_at, crate::proofs::Enabled::up_phase, crate::proofs::Enabled::up_later, crate::proofs::Enabled::link_there, crate::proofs::Enabled::link_later, crate::proofs::Enabled::put_credit))]
 pub(crate) fn put(alloc: Global, ring: &mut Ring, place: usize) -> Result<(), OutOfMemory>
     requires placed { IsPlaced (world_of ring.old) }
     requires place { place < length ring.old.seats.items }
@@ -51,7 +51,7 @@ pub(crate) fn put(alloc: Global, ring: &mut Ring, place: usize) -> Result<(), Ou
 }
 
 /// It gains credit.
-#[tactic(auto, using(crate::proofs::Deaths::Shown::read_member, crate::proofs::Deaths::Found::out_at, crate::proofs::Deaths::Enabled::up_phase, crate::proofs::Deaths::Enabled::up_later, crate::proofs::Deaths::Enabled::link_there, crate::proofs::Deaths::Enabled::link_later, crate::proofs::Deaths::Enabled::gain_some))]
+#[tactic(auto, using(crate::proofs::ShownParts::read_member, crate::proofs::Found::out_at, crate::proofs::Enabled::up_phase, crate::proofs::Enabled::up_later, crate::proofs::Enabled::link_there, crate::proofs::Enabled::link_later, crate::proofs::Enabled::gain_some))]
 pub(crate) fn gain(ring: &mut Ring, place: usize)
     requires placed { IsPlaced (world_of ring.old) }
     requires place { place < length ring.old.seats.items }
@@ -69,7 +69,7 @@ pub(crate) fn gain(ring: &mut Ring, place: usize)
 }
 
 /// It takes a packet.
-#[tactic(auto, using(crate::proofs::Deaths::Shown::read_member, crate::proofs::Deaths::Found::current_at, crate::proofs::Deaths::Enabled::running_phase, crate::proofs::Deaths::Enabled::running_later, crate::proofs::Deaths::Enabled::link_there, crate::proofs::Deaths::Enabled::link_later, crate::proofs::Deaths::Enabled::take_some))]
+#[tactic(auto, using(crate::proofs::ShownParts::read_member, crate::proofs::Found::current_at, crate::proofs::Enabled::running_phase, crate::proofs::Enabled::running_later, crate::proofs::Enabled::link_there, crate::proofs::Enabled::link_later, crate::proofs::Enabled::take_some))]
 pub(crate) fn take(alloc: Global, ring: &mut Ring, place: usize) -> Result<(), OutOfMemory>
     requires placed { IsPlaced (world_of ring.old) }
     requires place { place < length ring.old.seats.items }
@@ -89,7 +89,7 @@ pub(crate) fn take(alloc: Global, ring: &mut Ring, place: usize) -> Result<(), O
 }
 
 /// It takes the end of its link.
-#[tactic(auto, using(crate::proofs::Deaths::Shown::read_member, crate::proofs::Deaths::Found::current_at, crate::proofs::Deaths::Enabled::running_phase, crate::proofs::Deaths::Enabled::running_later, crate::proofs::Deaths::Enabled::link_there))]
+#[tactic(auto, using(crate::proofs::ShownParts::read_member, crate::proofs::Found::current_at, crate::proofs::Enabled::running_phase, crate::proofs::Enabled::running_later, crate::proofs::Enabled::link_there))]
 pub(crate) fn take_end(ring: &mut Ring, place: usize)
     requires placed { IsPlaced (world_of ring.old) }
     requires place { place < length ring.old.seats.items }
@@ -107,7 +107,7 @@ pub(crate) fn take_end(ring: &mut Ring, place: usize)
 }
 
 /// It picks a link.
-#[tactic(auto, using(crate::proofs::Deaths::Enabled::up_phase, crate::proofs::Deaths::Enabled::up_later, crate::proofs::Deaths::Enabled::first_none, crate::proofs::Deaths::Enabled::link_there))]
+#[tactic(auto, using(crate::proofs::Enabled::up_phase, crate::proofs::Enabled::up_later, crate::proofs::Enabled::first_none, crate::proofs::Enabled::link_there))]
 pub(crate) fn pick(ring: &mut Ring, place: usize)
     requires placed { IsPlaced (world_of ring.old) }
     requires place { place < length ring.old.seats.items }
@@ -125,7 +125,7 @@ pub(crate) fn pick(ring: &mut Ring, place: usize)
 }
 
 /// It has another member marked dead.
-#[tactic(auto, using(crate::proofs::Deaths::Enabled::mark_lives, crate::proofs::Deaths::Enabled::mark_stops))]
+#[tactic(auto, using(crate::proofs::Enabled::mark_lives, crate::proofs::Enabled::mark_stops))]
 pub(crate) fn mark(
     alloc: Global,
     ring: &mut Ring,

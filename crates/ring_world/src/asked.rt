@@ -1,10 +1,10 @@
 //! What is asked of a state.
 ghost use Rattle.std.specs.Prelude.{◌≡◌, ◌<◌, suc, length, Option, Some, IsSome, IfOk};
-ghost use Rattle.ring_world.specs.Deaths.Machine.{row_at, member_at};
-ghost use Rattle.ring_world.specs.Deaths.Asked.{heard_at as the_heard, id_at as the_id_at, state_of as the_state, counts_of as the_counts};
-ghost use Rattle.ring_world.specs.Deaths.Event.{id_of as the_id};
-ghost use Rattle.ring_world.specs.Deaths.Placed.{IsPlaced};
-ghost use Rattle.ring_world.specs.Deaths.Shows.{world_of, member_of, member_in};
+ghost use Rattle.ring_world.specs.Machine.{row_at, member_at};
+ghost use Rattle.ring_world.specs.Asked.{heard_at as the_heard, id_at as the_id_at, state_of as the_state, counts_of as the_counts};
+ghost use Rattle.ring_world.specs.Event.{id_of as the_id};
+ghost use Rattle.ring_world.specs.Placed.{IsPlaced};
+ghost use Rattle.ring_world.specs.Shows.{world_of, member_of, member_in};
 
 use crate::log::copied;
 use crate::neighbours::id_at;
@@ -17,7 +17,7 @@ use ring_names::{MemberId, Message, Name, OutOfMemory};
 use std::alloc::Global;
 
 /// What a member has heard of an origin.
-#[tactic(auto, using(crate::proofs::Deaths::Shown::read_row))]
+#[tactic(auto, using(crate::proofs::ShownParts::read_row))]
 fn heard_from(alloc: Global, seat: &Seat, origin: usize) -> Result<Vec<Message>, OutOfMemory>
     requires { origin < length seat.now.rows.items }
     ensures { IfOk result (λ v. v.items ≡ (row_at (member_of seat.now) origin).heard) }
@@ -27,7 +27,7 @@ fn heard_from(alloc: Global, seat: &Seat, origin: usize) -> Result<Vec<Message>,
 }
 
 /// What the member at a place has heard of that at another.
-#[tactic(auto, using(crate::proofs::Deaths::Shown::read_member, crate::proofs::Deaths::Found::row_there))]
+#[tactic(auto, using(crate::proofs::ShownParts::read_member, crate::proofs::Found::row_there))]
 pub(crate) fn heard_at(
     alloc: Global,
     ring: &Ring,
@@ -54,7 +54,7 @@ fn state_of(phase: Phase) -> MemberState
 }
 
 /// Where the member at a place stands.
-#[tactic(auto, using(crate::proofs::Deaths::Shown::read_member))]
+#[tactic(auto, using(crate::proofs::ShownParts::read_member))]
 pub(crate) fn state_at(ring: &Ring, place: usize) -> MemberState
     requires { place < length ring.now.seats.items }
     ensures { result ≡ the_state (member_at (world_of ring.now) (suc place)).phase }
@@ -85,7 +85,7 @@ pub(crate) fn heard_named(
 }
 
 /// The id of the member of a name.
-#[tactic(auto, using(crate::proofs::Deaths::Found::few_seats))]
+#[tactic(auto, using(crate::proofs::Found::few_seats))]
 pub(crate) fn member_named(ring: &Ring, name: &Name) -> Option<MemberId>
     requires { IsPlaced (world_of ring.now) }
     ensures { result ≡ the_id_at (the_id (world_of ring.now) name.now) }
@@ -103,7 +103,7 @@ fn counts_of(seat: &Seat, id: usize) -> Counts
 }
 
 /// The same of the member at a place.
-#[tactic(auto, using(crate::proofs::Deaths::Shown::read_member, crate::proofs::Deaths::Found::few_seats))]
+#[tactic(auto, using(crate::proofs::ShownParts::read_member, crate::proofs::Found::few_seats))]
 pub(crate) fn counts_at(ring: &Ring, place: usize) -> Counts
     requires placed { IsPlaced (world_of ring.now) }
     requires place { place < length ring.now.seats.items }

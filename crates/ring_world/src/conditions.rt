@@ -2,10 +2,10 @@
 ghost use Rattle.std.specs.Prelude.{◌≡◌, ◌<◌, suc, true, length, Some, None};
 ghost use Rattle.ring_names.specs.declared.reason.Reason.TheVariants as reason;
 ghost use Rattle.ring_world.specs.Refusal.{answer_of};
-ghost use Rattle.ring_world.specs.Deaths.Machine.{member_at, runs as runs_at};
-ghost use Rattle.ring_world.specs.Deaths.Event.{up_refusal, running_refusal, on_link, put_refusal, take_refusal, end_refusal, gain_refusal, version_refusal};
-ghost use Rattle.ring_world.specs.Deaths.Placed.{IsPlaced};
-ghost use Rattle.ring_world.specs.Deaths.Shows.{world_of};
+ghost use Rattle.ring_world.specs.Machine.{member_at, runs as runs_at};
+ghost use Rattle.ring_world.specs.Event.{up_refusal, running_refusal, on_link, put_refusal, take_refusal, end_refusal, gain_refusal, version_refusal};
+ghost use Rattle.ring_world.specs.Placed.{IsPlaced};
+ghost use Rattle.ring_world.specs.Shows.{world_of};
 
 use crate::state::Ring;
 use ring_names::Reason;
@@ -21,7 +21,7 @@ pub(crate) fn is_known(need: u32, have: u32) -> Result<(), Reason>
 }
 
 /// Whether the member at a place may put a packet on its link.
-#[tactic(auto, using(crate::proofs::Deaths::Shown::read_member, crate::proofs::Deaths::Shown::read_link))]
+#[tactic(auto, using(crate::proofs::ShownParts::read_member, crate::proofs::ShownParts::read_link))]
 pub(crate) fn may_put_on(ring: &Ring, place: usize, out: usize) -> Result<(), Reason>
     requires place { place < length ring.now.seats.items }
     requires out { out < length ring.now.wires.items }
@@ -37,7 +37,7 @@ pub(crate) fn may_put_on(ring: &Ring, place: usize, out: usize) -> Result<(), Re
 }
 
 /// Whether it may take a packet from its link.
-#[tactic(auto, using(crate::proofs::Deaths::Shown::read_member, crate::proofs::Deaths::Shown::read_link))]
+#[tactic(auto, using(crate::proofs::ShownParts::read_member, crate::proofs::ShownParts::read_link))]
 pub(crate) fn may_take_from(ring: &Ring, place: usize, current: usize) -> Result<(), Reason>
     requires place { place < length ring.now.seats.items }
     requires current { current < length ring.now.wires.items }
@@ -54,7 +54,7 @@ pub(crate) fn may_take_from(ring: &Ring, place: usize, current: usize) -> Result
 }
 
 /// Whether the end of a link is next.
-#[tactic(auto, using(crate::proofs::Deaths::Shown::read_link))]
+#[tactic(auto, using(crate::proofs::ShownParts::read_link))]
 pub(crate) fn is_end_next(ring: &Ring, current: usize) -> Result<(), Reason>
     requires { current < length ring.now.wires.items }
     ensures { result ≡ answer_of (end_refusal (world_of ring.now) current) }
@@ -70,7 +70,7 @@ pub(crate) fn is_end_next(ring: &Ring, current: usize) -> Result<(), Reason>
 }
 
 /// Whether a grant is under way on a link.
-#[tactic(auto, using(crate::proofs::Deaths::Shown::read_link))]
+#[tactic(auto, using(crate::proofs::ShownParts::read_link))]
 pub(crate) fn may_gain_on(ring: &Ring, out: usize) -> Result<(), Reason>
     requires { out < length ring.now.wires.items }
     ensures { result ≡ answer_of (gain_refusal (world_of ring.now) out) }
@@ -82,7 +82,7 @@ pub(crate) fn may_gain_on(ring: &Ring, out: usize) -> Result<(), Reason>
 }
 
 /// Whether the member at a place may publish.
-#[tactic(auto, using(crate::proofs::Deaths::Shown::read_member))]
+#[tactic(auto, using(crate::proofs::ShownParts::read_member))]
 pub(crate) fn may_cast(ring: &Ring, place: usize) -> Result<(), Reason>
     requires { place < length ring.now.seats.items }
     ensures { result ≡ answer_of (up_refusal (world_of ring.now) (suc place) None) }
@@ -92,7 +92,7 @@ pub(crate) fn may_cast(ring: &Ring, place: usize) -> Result<(), Reason>
 }
 
 /// Whether it may put a packet.
-#[tactic(auto, using(crate::proofs::Deaths::Shown::read_member, crate::proofs::Deaths::Found::out_within))]
+#[tactic(auto, using(crate::proofs::ShownParts::read_member, crate::proofs::Found::out_within))]
 pub(crate) fn may_put(ring: &Ring, place: usize) -> Result<(), Reason>
     requires placed { IsPlaced (world_of ring.now) }
     requires place { place < length ring.now.seats.items }
@@ -108,7 +108,7 @@ pub(crate) fn may_put(ring: &Ring, place: usize) -> Result<(), Reason>
 }
 
 /// Whether it may gain credit.
-#[tactic(auto, using(crate::proofs::Deaths::Shown::read_member, crate::proofs::Deaths::Found::out_within))]
+#[tactic(auto, using(crate::proofs::ShownParts::read_member, crate::proofs::Found::out_within))]
 pub(crate) fn may_gain(ring: &Ring, place: usize) -> Result<(), Reason>
     requires placed { IsPlaced (world_of ring.now) }
     requires place { place < length ring.now.seats.items }
@@ -124,7 +124,7 @@ pub(crate) fn may_gain(ring: &Ring, place: usize) -> Result<(), Reason>
 }
 
 /// Whether it may take a packet.
-#[tactic(auto, using(crate::proofs::Deaths::Shown::read_member, crate::proofs::Deaths::Found::current_within))]
+#[tactic(auto, using(crate::proofs::ShownParts::read_member, crate::proofs::Found::current_within))]
 pub(crate) fn may_take(ring: &Ring, place: usize) -> Result<(), Reason>
     requires placed { IsPlaced (world_of ring.now) }
     requires place { place < length ring.now.seats.items }
@@ -140,7 +140,7 @@ pub(crate) fn may_take(ring: &Ring, place: usize) -> Result<(), Reason>
 }
 
 /// Whether it may take the end of its link.
-#[tactic(auto, using(crate::proofs::Deaths::Shown::read_member, crate::proofs::Deaths::Found::current_within))]
+#[tactic(auto, using(crate::proofs::ShownParts::read_member, crate::proofs::Found::current_within))]
 pub(crate) fn may_take_end(ring: &Ring, place: usize) -> Result<(), Reason>
     requires placed { IsPlaced (world_of ring.now) }
     requires place { place < length ring.now.seats.items }
@@ -156,7 +156,7 @@ pub(crate) fn may_take_end(ring: &Ring, place: usize) -> Result<(), Reason>
 }
 
 /// Whether it may stop.
-#[tactic(auto, using(crate::proofs::Deaths::Shown::read_member))]
+#[tactic(auto, using(crate::proofs::ShownParts::read_member))]
 pub(crate) fn may_stop(ring: &Ring, place: usize) -> Result<(), Reason>
     requires { place < length ring.now.seats.items }
     ensures { result ≡ answer_of (running_refusal (world_of ring.now) (suc place) None) }

@@ -3,12 +3,12 @@ ghost use Rattle.std.specs.Prelude.{◌≡◌, ℕ, true, None, OnOk, OnErr};
 ghost use Rattle.ring_world.specs.Refusal.{answer_of};
 ghost use Rattle.group_view.specs.Change.{marked};
 ghost use Rattle.ring_world.specs.declared.phase.Phase.TheVariants as phase;
-ghost use Rattle.ring_world.specs.Deaths.View.{is_live};
-ghost use Rattle.ring_world.specs.Deaths.Machine.{member_at, view_at, newest};
-ghost use Rattle.ring_world.specs.Deaths.Step.{with_view};
-ghost use Rattle.ring_world.specs.Deaths.Event.{refusal, effect};
-ghost use Rattle.ring_world.specs.Deaths.Placed.{IsPlaced};
-ghost use Rattle.ring_world.specs.Deaths.Shows.{world_of};
+ghost use Rattle.ring_world.specs.View.{is_live};
+ghost use Rattle.ring_world.specs.Machine.{member_at, view_at, newest};
+ghost use Rattle.ring_world.specs.Step.{with_view};
+ghost use Rattle.ring_world.specs.Event.{refusal, effect};
+ghost use Rattle.ring_world.specs.Placed.{IsPlaced};
+ghost use Rattle.ring_world.specs.Shows.{world_of};
 
 use crate::event::Event;
 use crate::places::place_in;
@@ -64,7 +64,7 @@ pub(crate) fn enabled(ring: &Ring, event: &Event) -> Result<(), Reason>
 }
 
 /// An enabled event happens.
-#[tactic(auto, using(crate::proofs::Deaths::Enabled::up_phase, crate::proofs::Deaths::Enabled::up_later, crate::proofs::Deaths::Enabled::running_phase, crate::proofs::Deaths::Enabled::refresh_later, crate::proofs::Deaths::Enabled::refresh_upto))]
+#[tactic(auto, using(crate::proofs::Enabled::up_phase, crate::proofs::Enabled::up_later, crate::proofs::Enabled::running_phase, crate::proofs::Enabled::refresh_later, crate::proofs::Enabled::refresh_upto))]
 pub(crate) fn step(alloc: Global, ring: &mut Ring, event: &Event) -> Result<(), OutOfMemory>
     requires placed { IsPlaced (world_of ring.old) }
     requires after { (d : ℕ) → (member_at (world_of ring.old) d).phase ≡ phase.Stopped

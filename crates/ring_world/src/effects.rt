@@ -4,10 +4,10 @@ ghost use Rattle.credit_flow.specs.Credit.{is_blocked};
 ghost use Rattle.ring_world.specs.Refusal.{is_empty};
 ghost use Rattle.ring_world.specs.declared.phase.Phase.TheVariants as phase;
 ghost use Rattle.ring_world.specs.declared.phase.Ending.TheVariants as ending;
-ghost use Rattle.ring_world.specs.Deaths.Machine.{member_at, link_at, runs as runs_at};
-ghost use Rattle.ring_world.specs.Deaths.Step.{publish_at, put_on, gain_on, stop_at, end_out, current_is, leave_link};
-ghost use Rattle.ring_world.specs.Deaths.Placed.{IsPlaced};
-ghost use Rattle.ring_world.specs.Deaths.Shows.{world_of};
+ghost use Rattle.ring_world.specs.Machine.{member_at, link_at, runs as runs_at};
+ghost use Rattle.ring_world.specs.Step.{publish_at, put_on, gain_on, stop_at, end_out, current_is, leave_link};
+ghost use Rattle.ring_world.specs.Placed.{IsPlaced};
+ghost use Rattle.ring_world.specs.Shows.{world_of};
 
 use crate::neighbours::id_at;
 use crate::phase::Ending;
@@ -17,7 +17,7 @@ use ring_names::{Message, OutOfMemory};
 use std::alloc::Global;
 
 /// The member at a place publishes a message.
-#[tactic(auto, using(crate::proofs::Deaths::Found::few_seats, crate::proofs::Deaths::Found::own_row, crate::proofs::Deaths::Found::own_got))]
+#[tactic(auto, using(crate::proofs::Found::few_seats, crate::proofs::Found::own_row, crate::proofs::Found::own_got))]
 pub(crate) fn cast(ring: &mut Ring, place: usize, message: Message) -> Result<(), OutOfMemory>
     requires placed { IsPlaced (world_of ring.old) }
     requires place { place < length ring.old.seats.items }
@@ -30,7 +30,7 @@ pub(crate) fn cast(ring: &mut Ring, place: usize, message: Message) -> Result<()
 }
 
 /// It puts a packet on its link.
-#[tactic(auto, using(crate::proofs::Deaths::Shown::read_member))]
+#[tactic(auto, using(crate::proofs::ShownParts::read_member))]
 pub(crate) fn put(
     alloc: Global,
     ring: &mut Ring,
@@ -74,7 +74,7 @@ pub(crate) fn pick(ring: &mut Ring, place: usize, link: usize)
 }
 
 /// It stops, and the link that it sends on ends.
-#[tactic(auto, using(crate::proofs::Deaths::Shown::read_member, crate::proofs::Deaths::Found::out_at))]
+#[tactic(auto, using(crate::proofs::ShownParts::read_member, crate::proofs::Found::out_at))]
 pub(crate) fn stop(ring: &mut Ring, place: usize)
     requires placed { IsPlaced (world_of ring.old) }
     requires place { place < length ring.old.seats.items }

@@ -1,6 +1,5 @@
 //! The ring as a plain machine: its state, its events, and what each event does, as `gm` has it for a ring whose
-//! members may stop. Begin at `World`, and at specs/Deaths/Machine.antt for what a state is. The ring in which
-//! nobody stops, in whose states the members of a cluster stand so far, is that of specs/World.antt.
+//! members may stop. Begin at `World`, and at specs/Machine.antt for what a state is.
 #![tactic(auto)]
 
 mod arms;
@@ -9,7 +8,6 @@ mod conditions;
 mod dispatch;
 mod effects;
 mod event;
-pub mod fixed;
 mod laws;
 mod log;
 mod marking;
@@ -35,11 +33,7 @@ mod world;
 
 pub use event::Event;
 pub use group_view::are_opening_names;
-pub use laws::{
-    a_fixed_ring_runs_the_same, a_quiet_ring_has_heard_all, every_link_keeps_its_credit,
-    every_state_is_lawful, every_state_with_deaths_is_lawful, nothing_falls_through_deaths,
-    numbers_never_fall,
-};
+pub use laws::{every_state_is_lawful, nothing_falls_through_deaths};
 pub use numbers::Numbers;
 pub use phase::{Ending, Phase};
 pub use shown::{Counts, MemberState};

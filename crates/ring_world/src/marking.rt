@@ -2,12 +2,12 @@
 ghost use Rattle.std.specs.Prelude.{◌≡◌, ◌<◌, ◌+◌, suc, true, ◌-◌, take, length, IfOk, OnOk, OnErr};
 ghost use Rattle.group_view.specs.Change.{marked};
 ghost use Rattle.ring_world.specs.declared.phase.Phase.TheVariants as phase;
-ghost use Rattle.ring_world.specs.Deaths.View.{is_live};
-ghost use Rattle.ring_world.specs.Deaths.Machine.{member_at, view_at, newest as the_newest};
-ghost use Rattle.ring_world.specs.Deaths.Step.{with_view};
-ghost use Rattle.ring_world.specs.Deaths.Event.{refreshed};
-ghost use Rattle.ring_world.specs.Deaths.Placed.{IsPlaced};
-ghost use Rattle.ring_world.specs.Deaths.Shows.{world_of};
+ghost use Rattle.ring_world.specs.View.{is_live};
+ghost use Rattle.ring_world.specs.Machine.{member_at, view_at, newest as the_newest};
+ghost use Rattle.ring_world.specs.Step.{with_view};
+ghost use Rattle.ring_world.specs.Event.{refreshed};
+ghost use Rattle.ring_world.specs.Placed.{IsPlaced};
+ghost use Rattle.ring_world.specs.Shows.{world_of};
 
 use crate::neighbours::{id_at, newest, view_of};
 use crate::refreshing::refresh;
@@ -17,7 +17,7 @@ use ring_names::{MemberId, OutOfMemory};
 use std::alloc::Global;
 
 /// The view without an entry that lives in it.
-#[tactic(auto, using(crate::proofs::Deaths::Looks::nobody_refuses))]
+#[tactic(auto, using(crate::proofs::Looks::nobody_refuses))]
 fn without(view: &View, dead: u32) -> Result<View, OutOfMemory>
     requires { is_live view.now dead ≡ true }
     ensures { IfOk result (λ next. next ≡ marked view.now dead) }

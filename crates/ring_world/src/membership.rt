@@ -3,10 +3,10 @@ ghost use Rattle.std.specs.Prelude.{◌≡◌, ◌<◌, ◌&&◌, ◌||◌, suc,
 ghost use Rattle.ring_names.specs.declared.reason.Reason.TheVariants as reason;
 ghost use Rattle.ring_world.specs.Refusal.{answer_of, refuse_if, or_else};
 ghost use Rattle.ring_world.specs.declared.phase.Phase.TheVariants as phase;
-ghost use Rattle.ring_world.specs.Deaths.Machine.{member_at};
-ghost use Rattle.ring_world.specs.Deaths.Event.{id_of as the_id, of_member, up_refusal, pick_refusal, mark_refusal, refresh_refusal, is_still_taken as still_taken};
-ghost use Rattle.ring_world.specs.Deaths.Placed.{IsPlaced};
-ghost use Rattle.ring_world.specs.Deaths.Shows.{world_of};
+ghost use Rattle.ring_world.specs.Machine.{member_at};
+ghost use Rattle.ring_world.specs.Event.{id_of as the_id, of_member, up_refusal, pick_refusal, mark_refusal, refresh_refusal, is_still_taken as still_taken};
+ghost use Rattle.ring_world.specs.Placed.{IsPlaced};
+ghost use Rattle.ring_world.specs.Shows.{world_of};
 
 use crate::conditions::is_known;
 use crate::neighbours::{at_door, id_at, is_live, is_neighbour, left_neighbour, newest, view_of};
@@ -15,7 +15,7 @@ use crate::state::Ring;
 use ring_names::{Name, Reason};
 
 /// Whether the member at a place may pick the oldest link at its door.
-#[tactic(auto, using(crate::proofs::Deaths::Shown::read_member, crate::proofs::Deaths::Shown::read_link))]
+#[tactic(auto, using(crate::proofs::ShownParts::read_member, crate::proofs::ShownParts::read_link))]
 fn may_pick_at_door(ring: &Ring, place: usize) -> Result<(), Reason>
     requires placed { IsPlaced (world_of ring.now) }
     requires place { place < length ring.now.seats.items }
@@ -29,7 +29,7 @@ fn may_pick_at_door(ring: &Ring, place: usize) -> Result<(), Reason>
 }
 
 /// Whether it may pick a link.
-#[tactic(auto, using(crate::proofs::Deaths::Shown::read_member))]
+#[tactic(auto, using(crate::proofs::ShownParts::read_member))]
 pub(crate) fn may_pick(ring: &Ring, place: usize) -> Result<(), Reason>
     requires placed { IsPlaced (world_of ring.now) }
     requires place { place < length ring.now.seats.items }
@@ -45,7 +45,7 @@ pub(crate) fn may_pick(ring: &Ring, place: usize) -> Result<(), Reason>
 }
 
 /// Whether it still takes from its left neighbour of that id, or could.
-#[tactic(auto, using(crate::proofs::Deaths::Shown::read_member))]
+#[tactic(auto, using(crate::proofs::ShownParts::read_member))]
 fn is_still_taken(ring: &Ring, place: usize, dead: u32) -> bool
     requires placed { IsPlaced (world_of ring.now) }
     requires place { place < length ring.now.seats.items }
@@ -57,7 +57,7 @@ fn is_still_taken(ring: &Ring, place: usize, dead: u32) -> bool
 }
 
 /// Whether it may have the member at another place marked dead.
-#[tactic(auto, using(crate::proofs::Deaths::Shown::read_member))]
+#[tactic(auto, using(crate::proofs::ShownParts::read_member))]
 fn may_mark_at(ring: &Ring, place: usize, dead: usize) -> Result<(), Reason>
     requires placed { IsPlaced (world_of ring.now) }
     requires place { place < length ring.now.seats.items }
@@ -82,7 +82,7 @@ fn may_mark_at(ring: &Ring, place: usize, dead: usize) -> Result<(), Reason>
 }
 
 /// Whether it may have the member of a name marked dead.
-#[tactic(auto, using(crate::proofs::Deaths::Shown::read_member))]
+#[tactic(auto, using(crate::proofs::ShownParts::read_member))]
 pub(crate) fn may_mark(ring: &Ring, place: usize, dead: &Name) -> Result<(), Reason>
     requires placed { IsPlaced (world_of ring.now) }
     requires place { place < length ring.now.seats.items }
@@ -98,7 +98,7 @@ pub(crate) fn may_mark(ring: &Ring, place: usize, dead: &Name) -> Result<(), Rea
 }
 
 /// Whether it may read the view of a version.
-#[tactic(auto, using(crate::proofs::Deaths::Shown::read_member))]
+#[tactic(auto, using(crate::proofs::ShownParts::read_member))]
 pub(crate) fn may_refresh(ring: &Ring, place: usize, version: u32) -> Result<(), Reason>
     requires placed { IsPlaced (world_of ring.now) }
     requires place { place < length ring.now.seats.items }

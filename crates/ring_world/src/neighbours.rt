@@ -4,11 +4,11 @@ ghost use Rattle.ring_world.specs.declared.phase.Phase.TheVariants as phase;
 ghost use Rattle.group_view.specs.View.{entry_in};
 ghost use Rattle.group_view.specs.Ring.{is_in};
 ghost use Rattle.group_view.specs.Since.{no_group};
-ghost use Rattle.ring_world.specs.Deaths.View.{ids, is_live as lives_in, left_of as the_left, right_of as the_right};
-ghost use Rattle.ring_world.specs.Deaths.Machine.{member_at, view_at, is_kept_of, newest as the_newest, runs as runs_at};
-ghost use Rattle.ring_world.specs.Deaths.Event.{left_neighbour as the_left_neighbour, since as the_since, is_neighbour as neighbours, at_door as the_door};
-ghost use Rattle.ring_world.specs.Deaths.Placed.{IsPlaced};
-ghost use Rattle.ring_world.specs.Deaths.Shows.{world_of, link_of, stands_at_door};
+ghost use Rattle.ring_world.specs.View.{ids, is_live as lives_in, left_of as the_left, right_of as the_right};
+ghost use Rattle.ring_world.specs.Machine.{member_at, view_at, is_kept_of, newest as the_newest, runs as runs_at};
+ghost use Rattle.ring_world.specs.Event.{left_neighbour as the_left_neighbour, since as the_since, is_neighbour as neighbours, at_door as the_door};
+ghost use Rattle.ring_world.specs.Placed.{IsPlaced};
+ghost use Rattle.ring_world.specs.Shows.{world_of, link_of, stands_at_door};
 
 use crate::state::Ring;
 use crate::wire::Wire;
@@ -71,7 +71,7 @@ pub(crate) fn right_in(view: &View, id: u32) -> u32
 }
 
 /// The view of a version.
-#[tactic(auto, using(crate::proofs::Deaths::Shown::view_read))]
+#[tactic(auto, using(crate::proofs::ShownParts::view_read))]
 pub(crate) fn view_of(views: &[View], version: u32) -> &View
     requires some { 1 ≤ version }
     requires within { version ≤ length views.now }
@@ -171,7 +171,7 @@ pub(crate) fn at_door(ring: &Ring, place: usize) -> Option<usize>
 }
 
 /// Whether the receiver has had the sender at its left in each view from `opened` up to a version.
-#[tactic(auto, using(crate::proofs::Deaths::Looks::kept_yes, crate::proofs::Deaths::Looks::kept_no))]
+#[tactic(auto, using(crate::proofs::Looks::kept_yes, crate::proofs::Looks::kept_no))]
 pub(crate) fn is_kept(views: &[View], receiver: u32, sender: u32, opened: u32, version: u32) -> bool
     requires some { 1 ≤ opened }
     requires within { version ≤ length views.now }

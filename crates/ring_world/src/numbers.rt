@@ -1,6 +1,6 @@
 //! What a packet says of one origin.
 ghost use Rattle.std.specs.Prelude.{◌≡◌, slice_index_or};
-ghost use Rattle.ring_world.specs.World.{no_numbers};
+ghost use Rattle.ring_world.specs.Rows.{no_numbers};
 
 /// The numbers of one origin in a packet: the packet brings the origin's messages from `lo` + 1 to
 /// `got`, and its sender has forgotten those up to `forgot`, as their acknowledgement has passed.

@@ -3,8 +3,8 @@ ghost use Rattle.std.specs.Prelude.{◌≡◌, true, false, Option, Some, OnOk, 
 ghost use Rattle.ring_names.specs.declared.reason.Reason.{Reason};
 ghost use Rattle.ring_names.specs.declared.reason.Reason.TheVariants as reason;
 ghost use Rattle.ring_world.specs.Refusal.{refuse_if, or_else};
-ghost use Rattle.ring_world.specs.Deaths.Machine.{runs_phase, is_waiting as waiting_is};
-ghost use Rattle.ring_world.specs.Deaths.Event.{is_stopped as stopped_is};
+ghost use Rattle.ring_world.specs.Machine.{runs_phase, is_waiting as waiting_is};
+ghost use Rattle.ring_world.specs.Event.{is_stopped as stopped_is};
 
 use ring_names::Reason;
 

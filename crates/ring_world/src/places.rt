@@ -1,7 +1,7 @@
 //! Members by names.
 ghost use Rattle.std.specs.Prelude.{◌≡◌, ◌<◌, length, map, position, bytes_eq, suc, option_map, IfSome};
-ghost use Rattle.ring_world.specs.Deaths.Event.{id_of as the_id};
-ghost use Rattle.ring_world.specs.Deaths.Shows.{member_of, world_of};
+ghost use Rattle.ring_world.specs.Event.{id_of as the_id};
+ghost use Rattle.ring_world.specs.Shows.{member_of, world_of};
 
 use crate::seat::Seat;
 use crate::state::Ring;
@@ -23,7 +23,7 @@ fn first_named(seats: &[Seat], name: &Name) -> Option<usize>
 }
 
 /// The place of the member of that name in the ring.
-#[tactic(auto, using(crate::proofs::Deaths::Found::named_place))]
+#[tactic(auto, using(crate::proofs::Found::named_place))]
 pub(crate) fn place_in(ring: &Ring, name: &Name) -> Option<usize>
     ensures place { option_map suc result ≡ the_id (world_of ring.now) name.now }
     ensures within { IfSome result (λ place. place < length ring.now.seats.items) }

@@ -1,11 +1,11 @@
 //! Whether a ring rests.
 ghost use Rattle.std.specs.Prelude.{◌≡◌, ◌↔◌, ◌<◌, ℕ, suc, true, false, length, All, IsTrue};
-ghost use Rattle.ring_world.specs.Deaths.Machine.{Up, link_at, runs as runs_at, row_at};
-ghost use Rattle.ring_world.specs.Deaths.OpenLinks.{is_open as open_is};
-ghost use Rattle.ring_world.specs.Deaths.Event.{holds_nothing};
-ghost use Rattle.ring_world.specs.Deaths.Quiet.{IsResting, IsSettled, IsQuiet};
-ghost use Rattle.ring_world.specs.Deaths.Placed.{IsPlaced};
-ghost use Rattle.ring_world.specs.Deaths.Shows.{world_of, member_of};
+ghost use Rattle.ring_world.specs.Machine.{Up, link_at, runs as runs_at, row_at};
+ghost use Rattle.ring_world.specs.OpenLinks.{is_open as open_is};
+ghost use Rattle.ring_world.specs.Event.{holds_nothing};
+ghost use Rattle.ring_world.specs.Quiet.{IsResting, IsSettled, IsQuiet};
+ghost use Rattle.ring_world.specs.Placed.{IsPlaced};
+ghost use Rattle.ring_world.specs.Shows.{world_of, member_of};
 
 use crate::neighbours::{id_at, newest, newest_view};
 use crate::phase::Phase;
@@ -15,7 +15,7 @@ use crate::walk::{is_open, running_place};
 use group_view::{Entry, Mark};
 
 /// Whether no link holds an item that is open to the running member at a place.
-#[tactic(auto, using(crate::proofs::Deaths::Shown::read_link))]
+#[tactic(auto, using(crate::proofs::ShownParts::read_link))]
 fn has_nothing_to_take(ring: &Ring, place: usize) -> bool
     requires placed { IsPlaced (world_of ring.now) }
     requires place { place < length ring.now.seats.items }
@@ -40,7 +40,7 @@ fn has_come_round(seat: &Seat, id: usize) -> bool
 }
 
 /// Whether the running member at a place rests.
-#[tactic(auto, using(crate::proofs::Deaths::Shown::read_member, crate::proofs::Deaths::Found::few_seats))]
+#[tactic(auto, using(crate::proofs::ShownParts::read_member, crate::proofs::Found::few_seats))]
 fn is_resting(ring: &Ring, place: usize) -> bool
     requires placed { IsPlaced (world_of ring.now) }
     requires place { place < length ring.now.seats.items }
@@ -61,7 +61,7 @@ fn is_resting(ring: &Ring, place: usize) -> bool
 }
 
 /// Whether every running member rests.
-#[tactic(auto, using(crate::proofs::Deaths::Shown::read_member))]
+#[tactic(auto, using(crate::proofs::ShownParts::read_member))]
 fn all_rest(ring: &Ring) -> bool
     requires { IsPlaced (world_of ring.now) }
     ensures { IsTrue result ↔ ((y : ℕ) → runs_at (world_of ring.now) y ≡ true
@@ -99,7 +99,7 @@ fn are_settled(ring: &Ring, entries: &[Entry]) -> bool
 }
 
 /// Whether every member has stopped.
-#[tactic(auto, using(crate::proofs::Deaths::Shown::read_member))]
+#[tactic(auto, using(crate::proofs::ShownParts::read_member))]
 fn nobody_runs(ring: &Ring) -> bool
     ensures { IsTrue result ↔ ((y : ℕ) → runs_at (world_of ring.now) y ≡ false) }
 {

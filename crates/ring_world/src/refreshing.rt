@@ -2,12 +2,12 @@
 ghost use Rattle.std.specs.Prelude.{◌≡◌, ◌<◌, ◌≤◌, ◌++◌, ◌∷◌, [], suc, length, map, nat_eq, Option, Some, None, vec_len, vec_capacity, OnOk, OnErr, IfSome};
 ghost use Rattle.ring_world.specs.declared.phase.Phase.TheVariants as phase;
 ghost use Rattle.ring_world.specs.declared.phase.Ending.TheVariants as ending;
-ghost use Rattle.ring_world.specs.Deaths.View.{right_of};
-ghost use Rattle.ring_world.specs.Deaths.Machine.{member_at, link_at, view_at, newest as the_newest, is_kept as the_kept};
-ghost use Rattle.ring_world.specs.Deaths.Step.{look_at, kept_current as the_kept_current, moved_to, end_out, open_to, opened_link};
-ghost use Rattle.ring_world.specs.Deaths.Event.{refreshed};
-ghost use Rattle.ring_world.specs.Deaths.Placed.{IsPlaced};
-ghost use Rattle.ring_world.specs.Deaths.Shows.{world_of, link_of, link_opened, sends_to as the_sends_to};
+ghost use Rattle.ring_world.specs.View.{right_of};
+ghost use Rattle.ring_world.specs.Machine.{member_at, link_at, view_at, newest as the_newest, is_kept as the_kept};
+ghost use Rattle.ring_world.specs.Step.{look_at, kept_current as the_kept_current, moved_to, end_out, open_to, opened_link};
+ghost use Rattle.ring_world.specs.Event.{refreshed};
+ghost use Rattle.ring_world.specs.Placed.{IsPlaced};
+ghost use Rattle.ring_world.specs.Shows.{world_of, link_of, link_opened, sends_to as the_sends_to};
 
 use crate::neighbours::{id_at, is_kept, right_in, view_of};
 use crate::phase::Ending;
@@ -18,7 +18,7 @@ use ring_names::OutOfMemory;
 use std::alloc::Global;
 
 /// Whether a link is kept up to a version.
-#[tactic(auto, using(crate::proofs::Deaths::Shown::read_link))]
+#[tactic(auto, using(crate::proofs::ShownParts::read_link))]
 fn is_link_kept(ring: &Ring, link: usize, version: u32) -> bool
     requires placed { IsPlaced (world_of ring.now) }
     requires link { link < length ring.now.wires.items }
@@ -36,7 +36,7 @@ fn is_link_kept(ring: &Ring, link: usize, version: u32) -> bool
 }
 
 /// What stays of the current link of the member at a place.
-#[tactic(auto, using(crate::proofs::Deaths::Shown::read_member, crate::proofs::Deaths::Found::current_at))]
+#[tactic(auto, using(crate::proofs::ShownParts::read_member, crate::proofs::Found::current_at))]
 fn kept_current(ring: &Ring, place: usize, version: u32) -> Option<usize>
     requires placed { IsPlaced (world_of ring.now) }
     requires place { place < length ring.now.seats.items }
@@ -59,7 +59,7 @@ fn kept_current(ring: &Ring, place: usize, version: u32) -> Option<usize>
 }
 
 /// Whether it sends to a receiver already.
-#[tactic(auto, using(crate::proofs::Deaths::Shown::read_member, crate::proofs::Deaths::Shown::read_link, crate::proofs::Deaths::Found::out_at))]
+#[tactic(auto, using(crate::proofs::ShownParts::read_member, crate::proofs::ShownParts::read_link, crate::proofs::Found::out_at))]
 fn sends_to(ring: &Ring, place: usize, receiver: u32) -> bool
     requires placed { IsPlaced (world_of ring.now) }
     requires place { place < length ring.now.seats.items }
@@ -167,7 +167,7 @@ fn move_to(
 }
 
 /// The member at a place reads the view of a version.
-#[tactic(auto, using(crate::proofs::Deaths::Looks::refreshed_stays, crate::proofs::Deaths::Looks::refreshed_moves))]
+#[tactic(auto, using(crate::proofs::Looks::refreshed_stays, crate::proofs::Looks::refreshed_moves))]
 pub(crate) fn refresh(
     alloc: Global,
     ring: &mut Ring,

@@ -1,11 +1,10 @@
 //! A member's seat in the machine.
 ghost use Rattle.std.specs.Prelude.{◌≡◌, ◌↔◌, IsTrue, ℕ, ◌+◌, ◌^◌, ◌<◌, ◌≤◌, [], ◌∷◌, ◌++◌, length, map, nat_eq, bytes_eq, vec_len, vec_capacity, IfOk, OnOk, OnErr};
 ghost use Rattle.std.specs.List.{range_with_len};
-ghost use Rattle.ring_world.specs.World.{no_row};
-ghost use Rattle.ring_world.specs.Member.{published_row};
-ghost use Rattle.ring_world.specs.Deaths.Machine.{row_at, numbers_at as the_numbers};
-ghost use Rattle.ring_world.specs.Deaths.Step.{published as is_published, taken_with};
-ghost use Rattle.ring_world.specs.Deaths.Shows.{row_of, row_in, member_of, packet_of, room_of, with_rows, News, news_of, news_in, looked, HasRoom};
+ghost use Rattle.ring_world.specs.Rows.{no_row, published_row};
+ghost use Rattle.ring_world.specs.Machine.{row_at, numbers_at as the_numbers};
+ghost use Rattle.ring_world.specs.Step.{published as is_published, taken_with};
+ghost use Rattle.ring_world.specs.Shows.{row_of, row_in, member_of, packet_of, room_of, with_rows, News, news_of, news_in, looked, HasRoom};
 
 use crate::numbers::{Numbers, numbers_at};
 use crate::phase::Phase;
@@ -143,7 +142,7 @@ impl Seat {
     }
 
     /// Publishes a message; the member's id is given.
-    #[tactic(auto, using(crate::proofs::Deaths::Shown::published_rows, crate::proofs::Deaths::Shown::rewrite_row, crate::proofs::Deaths::Shown::read_row))]
+    #[tactic(auto, using(crate::proofs::ShownParts::published_rows, crate::proofs::ShownParts::rewrite_row, crate::proofs::ShownParts::read_row))]
     pub(crate) fn publish(&mut self, id: usize, message: Message) -> Result<(), OutOfMemory>
         requires row { id < length self.old.rows.items }
         requires own { (row_at (member_of self.old) id).got ≡ length self.old.log.items }
@@ -200,7 +199,7 @@ pub(crate) fn opening_rows(alloc: Global, size: usize) -> Result<Vec<KnownOrigin
 }
 
 /// Makes room in each row for its news.
-#[tactic(auto, using(crate::proofs::Deaths::Shown::rewrite_row))]
+#[tactic(auto, using(crate::proofs::ShownParts::rewrite_row))]
 fn make_room(rows: &mut [KnownOrigin], news: &[Brought]) -> Result<(), OutOfMemory>
     requires { length rows.old ≡ length news.now }
     ensures same { map row_of rows.new ≡ map row_of rows.old }

@@ -1,15 +1,15 @@
 //! Changes of single members.
 ghost use Rattle.std.specs.Prelude.{◌≡◌, ◌<◌, suc, length, map, slice_set, Some, OnOk, OnErr};
-ghost use Rattle.ring_world.specs.Deaths.Machine.{row_at};
-ghost use Rattle.ring_world.specs.Deaths.Step.{published, with_current, stopped};
-ghost use Rattle.ring_world.specs.Deaths.Shows.{member_of, member_in, looked, with_out};
+ghost use Rattle.ring_world.specs.Machine.{row_at};
+ghost use Rattle.ring_world.specs.Step.{published, with_current, stopped};
+ghost use Rattle.ring_world.specs.Shows.{member_of, member_in, looked, with_out};
 
 use crate::phase::Phase;
 use crate::seat::Seat;
 use ring_names::{Message, OutOfMemory};
 
 /// The member at a place publishes a message.
-#[tactic(auto, using(crate::proofs::Deaths::Shown::read_member, crate::proofs::Deaths::Shown::read_row, crate::proofs::Deaths::Shown::published_seats, crate::proofs::Deaths::Shown::rewrite_seat))]
+#[tactic(auto, using(crate::proofs::ShownParts::read_member, crate::proofs::ShownParts::read_row, crate::proofs::ShownParts::published_seats, crate::proofs::ShownParts::rewrite_seat))]
 pub(crate) fn publish(
     seats: &mut [Seat],
     place: usize,
@@ -29,7 +29,7 @@ pub(crate) fn publish(
 }
 
 /// It takes from this link, or from none.
-#[tactic(auto, using(crate::proofs::Deaths::Shown::current_seats))]
+#[tactic(auto, using(crate::proofs::ShownParts::current_seats))]
 pub(crate) fn set_current(seats: &mut [Seat], place: usize, current: Option<usize>)
     requires { place < length seats.old }
     ensures { map member_of seats.new ≡ slice_set (map member_of seats.old) place
@@ -39,7 +39,7 @@ pub(crate) fn set_current(seats: &mut [Seat], place: usize, current: Option<usiz
 }
 
 /// It stops.
-#[tactic(auto, using(crate::proofs::Deaths::Shown::stopped_seats))]
+#[tactic(auto, using(crate::proofs::ShownParts::stopped_seats))]
 pub(crate) fn stop(seats: &mut [Seat], place: usize)
     requires { place < length seats.old }
     ensures { map member_of seats.new ≡ slice_set (map member_of seats.old) place
@@ -49,7 +49,7 @@ pub(crate) fn stop(seats: &mut [Seat], place: usize)
 }
 
 /// It has the view of a version, and this current link.
-#[tactic(auto, using(crate::proofs::Deaths::Shown::looked_seats))]
+#[tactic(auto, using(crate::proofs::ShownParts::looked_seats))]
 pub(crate) fn look(seats: &mut [Seat], place: usize, version: u32, current: Option<usize>)
     requires { place < length seats.old }
     ensures { map member_of seats.new ≡ slice_set (map member_of seats.old) place
@@ -59,7 +59,7 @@ pub(crate) fn look(seats: &mut [Seat], place: usize, version: u32, current: Opti
 }
 
 /// It sends on this link.
-#[tactic(auto, using(crate::proofs::Deaths::Shown::sending_seats))]
+#[tactic(auto, using(crate::proofs::ShownParts::sending_seats))]
 pub(crate) fn set_out(seats: &mut [Seat], place: usize, out: usize)
     requires { place < length seats.old }
     ensures { map member_of seats.new ≡ slice_set (map member_of seats.old) place

@@ -3,9 +3,9 @@ ghost use Rattle.std.specs.Prelude.{◌≡◌, ◌<◌, ◌≤◌, ◌+◌, [], 
 ghost use Rattle.std.specs.List.{range_with_len};
 ghost use Rattle.group_view.specs.Change.{AreOpeningNames, opening as opening_group};
 ghost use Rattle.group_view.specs.Ring.{is_in};
-ghost use Rattle.ring_world.specs.Deaths.View.{ids};
-ghost use Rattle.ring_world.specs.Deaths.Step.{opening as the_opening, opening_member, opening_link};
-ghost use Rattle.ring_world.specs.Deaths.Shows.{world_of, member_of, link_of};
+ghost use Rattle.ring_world.specs.View.{ids};
+ghost use Rattle.ring_world.specs.Step.{opening as the_opening, opening_member, opening_link};
+ghost use Rattle.ring_world.specs.Shows.{world_of, member_of, link_of};
 
 use crate::neighbours::{id_at, left_in, right_in};
 use crate::phase::Phase;
@@ -17,7 +17,7 @@ use ring_names::{CreditSpec, Name, OutOfMemory};
 use std::alloc::Global;
 
 /// The member at a place.
-#[tactic(auto, using(crate::proofs::Deaths::Starts::opening_stands, crate::proofs::Deaths::Starts::name_at))]
+#[tactic(auto, using(crate::proofs::Starts::opening_stands, crate::proofs::Starts::name_at))]
 fn opening_seat(
     alloc: Global,
     view: &View,
@@ -60,7 +60,7 @@ fn opening_seats(alloc: Global, view: &View, names: &[Name]) -> Result<Vec<Seat>
 }
 
 /// The link of the member at a place.
-#[tactic(auto, using(crate::proofs::Deaths::Starts::opening_stands))]
+#[tactic(auto, using(crate::proofs::Starts::opening_stands))]
 fn opening_wire(
     alloc: Global,
     view: &View,

@@ -3,11 +3,11 @@ ghost use Rattle.std.specs.Prelude.{◌≡◌, ◌<◌, ◌≤◌, ◌+◌, ◌�
 ghost use Rattle.std.specs.List.{range_with_len};
 ghost use Rattle.ring_world.specs.Refusal.{is_empty};
 ghost use Rattle.ring_world.specs.declared.phase.Phase.TheVariants as phase;
-ghost use Rattle.ring_world.specs.Deaths.Machine.{member_at, link_at, no_member, row_at, numbers_at as the_numbers};
-ghost use Rattle.ring_world.specs.Deaths.Walk.{oldest};
-ghost use Rattle.ring_world.specs.Deaths.Step.{is_owned as owned_is, brought, taken, popped, take_from};
-ghost use Rattle.ring_world.specs.Deaths.Placed.{IsPlaced};
-ghost use Rattle.ring_world.specs.Deaths.Shows.{world_of, member_of, member_in, link_of, packet_of, news_of as the_news, news_at};
+ghost use Rattle.ring_world.specs.Machine.{member_at, link_at, no_member, row_at, numbers_at as the_numbers};
+ghost use Rattle.ring_world.specs.Walk.{oldest};
+ghost use Rattle.ring_world.specs.Step.{is_owned as owned_is, brought, taken, popped, take_from};
+ghost use Rattle.ring_world.specs.Placed.{IsPlaced};
+ghost use Rattle.ring_world.specs.Shows.{world_of, member_of, member_in, link_of, packet_of, news_of as the_news, news_at};
 
 use crate::log::messages_between;
 use crate::neighbours::{id_at, view_of};
@@ -47,7 +47,7 @@ fn messages_for(
 }
 
 /// What it brings of the origin of an id; nobody has id 0, and a log without messages.
-#[tactic(auto, using(crate::proofs::Deaths::Shown::read_member, crate::proofs::Deaths::Taken::nobody_brings))]
+#[tactic(auto, using(crate::proofs::ShownParts::read_member, crate::proofs::Taken::nobody_brings))]
 fn messages_of(
     alloc: Global,
     own: bool,
@@ -119,7 +119,7 @@ fn all_news(
 }
 
 /// All that wants memory comes first, so that without it nothing has changed.
-#[tactic(auto, using(crate::proofs::Deaths::Shown::rewrite_seat))]
+#[tactic(auto, using(crate::proofs::ShownParts::rewrite_seat))]
 fn take_packet(
     alloc: Global,
     seats: &mut [Seat],
@@ -149,7 +149,7 @@ fn take_packet(
 }
 
 /// The member at a place takes the oldest packet from its link.
-#[tactic(auto, using(crate::proofs::Deaths::Found::few_seats))]
+#[tactic(auto, using(crate::proofs::Found::few_seats))]
 pub(crate) fn take(
     alloc: Global,
     ring: &mut Ring,

@@ -4,16 +4,16 @@ ghost use Rattle.std.specs.List.{filter, flat_map};
 ghost use Rattle.group_view.specs.Ring.{is_in, rotated};
 ghost use Rattle.group_view.specs.View.{ids as ids_of};
 ghost use Rattle.group_view.specs.Parts.{place_of as the_place};
-ghost use Rattle.ring_world.specs.Deaths.View.{ids, between};
-ghost use Rattle.ring_world.specs.Deaths.Machine.{numbers_at as the_numbers, row_at, member_at, link_at, view_at, runs as runs_at, newest as the_newest, is_waiting, ring as ring_ids};
-ghost use Rattle.ring_world.specs.Deaths.Walk.{number as the_number, oldest as the_oldest};
-ghost use Rattle.ring_world.specs.Deaths.OpenLinks.{is_late as late_is, is_open as open_is, passes as the_test, is_place as place_is, packets_of as the_packets, round_trip, running_on as all_running_on, owner as the_owner, the_walk, walk_of as the_walk_of, walk_named};
-ghost use Rattle.ring_world.specs.Deaths.Event.{id_of as the_id};
-ghost use Rattle.ring_world.specs.Deaths.Placed.{IsPlaced};
+ghost use Rattle.ring_world.specs.View.{ids, between};
+ghost use Rattle.ring_world.specs.Machine.{numbers_at as the_numbers, row_at, member_at, link_at, view_at, runs as runs_at, newest as the_newest, is_waiting, ring as ring_ids};
+ghost use Rattle.ring_world.specs.Walk.{number as the_number, oldest as the_oldest};
+ghost use Rattle.ring_world.specs.OpenLinks.{is_late as late_is, is_open as open_is, passes as the_test, is_place as place_is, packets_of as the_packets, round_trip, running_on as all_running_on, owner as the_owner, the_walk, walk_of as the_walk_of, walk_named};
+ghost use Rattle.ring_world.specs.Event.{id_of as the_id};
+ghost use Rattle.ring_world.specs.Placed.{IsPlaced};
 ghost use Rattle.ring_world.specs.declared.walk.Part.TheVariants as part;
 ghost use Rattle.ring_world.specs.declared.walk.Round.TheVariants as kind;
-ghost use Rattle.ring_world.specs.Deaths.Shows.{world_of, member_of, link_of, packet_of, row_of};
-ghost use Rattle.ring_world.specs.Deaths.Walking.{reads, reads_row, says, counts, said, stop_at, is_from_left};
+ghost use Rattle.ring_world.specs.Shows.{world_of, member_of, link_of, packet_of, row_of};
+ghost use Rattle.ring_world.specs.Walking.{reads, reads_row, says, counts, said, stop_at, is_from_left};
 
 use crate::neighbours::{id_at, left_in, newest_view, since_in, view_of};
 use crate::numbers::{Numbers, numbers_at};
@@ -82,7 +82,7 @@ impl Round {
 }
 
 /// The number of the member at a place: a waiting one has that of its first packet.
-#[tactic(auto, using(crate::proofs::Deaths::Shown::read_member, crate::proofs::Deaths::Shown::read_link, crate::proofs::Deaths::Found::current_within))]
+#[tactic(auto, using(crate::proofs::ShownParts::read_member, crate::proofs::ShownParts::read_link, crate::proofs::Found::current_within))]
 fn own_number(ring: &Ring, round: Round, origin: usize, place: usize) -> u64
     requires placed { IsPlaced (world_of ring.now) }
     requires place { place < length ring.now.seats.items }
@@ -129,7 +129,7 @@ fn is_current(seat: &Seat, s: usize) -> bool
 }
 
 /// Whether a link is open to the running member at a place.
-#[tactic(auto, using(crate::proofs::Deaths::Shown::read_member, crate::proofs::Deaths::Shown::read_link))]
+#[tactic(auto, using(crate::proofs::ShownParts::read_member, crate::proofs::ShownParts::read_link))]
 pub(crate) fn is_open(ring: &Ring, place: usize, s: usize) -> bool
     requires placed { IsPlaced (world_of ring.now) }
     requires place { place < length ring.now.seats.items }
@@ -155,7 +155,7 @@ fn is_late(view: &View, origin: u32, id: u32, sender: u32) -> bool
 }
 
 /// Whether a link that is open to a member counts.
-#[tactic(auto, using(crate::proofs::Deaths::Shown::read_link))]
+#[tactic(auto, using(crate::proofs::ShownParts::read_link))]
 fn is_counted(ring: &Ring, part: Part, origin: u32, place: usize, s: usize) -> bool
     requires placed { IsPlaced (world_of ring.now) }
     requires place { place < length ring.now.seats.items }
@@ -172,7 +172,7 @@ fn is_counted(ring: &Ring, part: Part, origin: u32, place: usize, s: usize) -> b
 }
 
 /// The packets that count of a link that is open to a member: a waiting one has its first packet's numbers.
-#[tactic(auto, using(crate::proofs::Deaths::Shown::read_member, crate::proofs::Deaths::Shown::read_link))]
+#[tactic(auto, using(crate::proofs::ShownParts::read_member, crate::proofs::ShownParts::read_link))]
 fn packets_of(ring: &Ring, place: usize, s: usize) -> &[Parcel]
     requires place { place < length ring.now.seats.items }
     requires link { s < length ring.now.wires.items }

@@ -2,8 +2,8 @@
 ghost use Rattle.std.specs.Prelude.{◌≡◌, ◌<◌, false, length, map, slice_set, OnOk, OnErr};
 ghost use Rattle.credit_flow.specs.Credit.{is_blocked};
 ghost use Rattle.ring_world.specs.Refusal.{is_empty};
-ghost use Rattle.ring_world.specs.Deaths.Step.{pushed, next_packet, finished, ended};
-ghost use Rattle.ring_world.specs.Deaths.Shows.{member_of, link_of, link_in, gained_on};
+ghost use Rattle.ring_world.specs.Step.{pushed, next_packet, finished, ended};
+ghost use Rattle.ring_world.specs.Shows.{member_of, link_of, link_in, gained_on};
 
 use crate::phase::Ending;
 use crate::seat::Seat;
@@ -12,7 +12,7 @@ use ring_names::OutOfMemory;
 use std::alloc::Global;
 
 /// A member puts its next packet on a link.
-#[tactic(auto, using(crate::proofs::Deaths::Shown::read_link, crate::proofs::Deaths::Shown::pushed_wires, crate::proofs::Deaths::Shown::rewrite_wire))]
+#[tactic(auto, using(crate::proofs::ShownParts::read_link, crate::proofs::ShownParts::pushed_wires, crate::proofs::ShownParts::rewrite_wire))]
 pub(crate) fn put(
     alloc: Global,
     wires: &mut [Wire],
@@ -31,7 +31,7 @@ pub(crate) fn put(
 }
 
 /// The oldest grant on a link becomes credit.
-#[tactic(auto, using(crate::proofs::Deaths::Shown::read_link, crate::proofs::Deaths::Shown::gained_wires))]
+#[tactic(auto, using(crate::proofs::ShownParts::read_link, crate::proofs::ShownParts::gained_wires))]
 pub(crate) fn gain(wires: &mut [Wire], out: usize)
     requires out { out < length wires.old }
     requires some { is_empty (link_in wires.old out).flow.grants ≡ false }
@@ -42,7 +42,7 @@ pub(crate) fn gain(wires: &mut [Wire], out: usize)
 }
 
 /// The end of a link was taken.
-#[tactic(auto, using(crate::proofs::Deaths::Shown::finished_wires))]
+#[tactic(auto, using(crate::proofs::ShownParts::finished_wires))]
 pub(crate) fn finish(wires: &mut [Wire], current: usize)
     requires { current < length wires.old }
     ensures { map link_of wires.new
@@ -52,7 +52,7 @@ pub(crate) fn finish(wires: &mut [Wire], current: usize)
 }
 
 /// A link ends so, if it hasn't ended yet.
-#[tactic(auto, using(crate::proofs::Deaths::Shown::ended_wires))]
+#[tactic(auto, using(crate::proofs::ShownParts::ended_wires))]
 pub(crate) fn end(wires: &mut [Wire], out: usize, why: Ending)
     requires { out < length wires.old }
     ensures { map link_of wires.new

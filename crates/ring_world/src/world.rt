@@ -3,14 +3,14 @@ ghost use Rattle.std.specs.Prelude.{◌≡◌, ◌↔◌, IsTrue, Some, None, Re
 ghost use Rattle.ring_names.specs.declared.reason.Reason.{Reason};
 ghost use Rattle.ring_world.specs.Refusal.{answer_of};
 ghost use Rattle.group_view.specs.Change.{AreOpeningNames};
-ghost use Rattle.ring_world.specs.Deaths.Step.{opening as the_opening};
-ghost use Rattle.ring_world.specs.Deaths.Machine.{view_at, newest};
-ghost use Rattle.ring_world.specs.Deaths.Walk.{NeverRises};
-ghost use Rattle.ring_world.specs.Deaths.OpenLinks.{walk_named};
-ghost use Rattle.ring_world.specs.Deaths.Asked.{id_at, heard_at, got_at, log_at, state_at, counts_at};
-ghost use Rattle.ring_world.specs.Deaths.Quiet.{IsQuiet};
-ghost use Rattle.ring_world.specs.Deaths.Laws.{IsLawful};
-ghost use Rattle.ring_world.specs.Deaths.Event.{refusal, effect, id_of};
+ghost use Rattle.ring_world.specs.Step.{opening as the_opening};
+ghost use Rattle.ring_world.specs.Machine.{view_at, newest};
+ghost use Rattle.ring_world.specs.Walk.{NeverRises};
+ghost use Rattle.ring_world.specs.OpenLinks.{walk_named};
+ghost use Rattle.ring_world.specs.Asked.{id_at, heard_at, got_at, log_at, state_at, counts_at};
+ghost use Rattle.ring_world.specs.Quiet.{IsQuiet};
+ghost use Rattle.ring_world.specs.Laws.{IsLawful};
+ghost use Rattle.ring_world.specs.Event.{refusal, effect, id_of};
 
 use crate::event::Event;
 use crate::neighbours::newest_view;
@@ -45,11 +45,11 @@ pub struct World {
 }
 
 impl Model for World {
-    ghost use Rattle.ring_world.specs.Deaths.Machine.{World as State};
+    ghost use Rattle.ring_world.specs.Machine.{World as State};
 
     ghost Value = { State };
 
-    ghost use Rattle.ring_world.specs.Deaths.Reached.{state_of, IsRunning};
+    ghost use Rattle.ring_world.specs.Reached.{state_of, IsRunning};
 
     ghost view = { state_of };
 
@@ -76,7 +76,7 @@ impl World {
     }
 
     /// The newest view.
-    #[tactic(auto, using(crate::proofs::Deaths::Running::running_placed))]
+    #[tactic(auto, using(crate::proofs::Running::running_placed))]
     pub fn view(&self) -> &View
         ensures { result.now ≡ view_at self.now (newest self.now) }
     {
@@ -87,7 +87,7 @@ impl World {
     /// and each further running member with the packets open to it say that they got, and the late packets; the
     /// same of what was forgotten; and how much the owner has retired. It is empty where every member has stopped, and for a name
     /// that nobody has.
-    #[tactic(auto, using(crate::proofs::Deaths::Running::running_placed, crate::proofs::Deaths::HeldLaws::named_falls))]
+    #[tactic(auto, using(crate::proofs::Running::running_placed, crate::proofs::HeldLaws::named_falls))]
     pub fn walk(&self, of: &Name) -> Result<Vec<u64>, OutOfMemory>
         ensures walk { IfOk result (λ walk. walk.items ≡ walk_named self.now (id_of self.now of.now)) }
         ensures falls { IfOk result (λ walk. NeverRises walk.items) }
@@ -148,7 +148,7 @@ impl World {
     }
 
     /// The first condition of the event that fails, if one fails. It wants no memory.
-    #[tactic(auto, using(crate::proofs::Deaths::Running::running_placed))]
+    #[tactic(auto, using(crate::proofs::Running::running_placed))]
     pub fn enabled(&self, event: &Event) -> Result<(), Reason>
         ensures { result ≡ answer_of (refusal self.now event.now) }
     {

@@ -8,20 +8,20 @@ use Rattle.ring_script.specs.declared.command.Command.{Command}
 use Rattle.ring_script.specs.declared.command.Command.TheVariants as command
 use Rattle.group_view.specs.Change.{AreOpeningNames}
 use Rattle.ring_world.specs.declared.event.Event.{Event}
-use Rattle.ring_world.specs.Deaths.Machine.{World}
-use Rattle.ring_world.specs.Deaths.Step.{opening}
-use Rattle.ring_world.specs.Deaths.Event.{IsRun, effect, last}
-use Rattle.ring_world.specs.Deaths.Laws.{IsLawful, GoesOn}
-use Rattle.ring_world.specs.Deaths.Quiet.{IsQuiet}
+use Rattle.ring_world.specs.Machine.{World}
+use Rattle.ring_world.specs.Step.{opening}
+use Rattle.ring_world.specs.Event.{IsRun, effect, last}
+use Rattle.ring_world.specs.Laws.{IsLawful, GoesOn}
+use Rattle.ring_world.specs.Quiet.{IsQuiet}
 use Rattle.ring_world.proofs.Names.{own_bytes}
-use Rattle.ring_world.proofs.Deaths.InOrder.{last_append}
-use Rattle.ring_world.proofs.Deaths.Laws.{every_state_lawful, every_run_goes_on}
-use Rattle.ring_cluster.specs.Deaths.Seen.{Seen, IsGoing, state_of, opening_seen}
-use Rattle.ring_cluster.specs.Deaths.Idle.{NobodyStopped}
-use Rattle.ring_cluster.specs.Deaths.Plays.{Plays, PlaysSoFar, HasGoneOn, AgendasAreEmpty, place_among}
-use Rattle.ring_cluster.specs.Deaths.Plays as cluster
-use Rattle.ring_cluster.proofs.Deaths.Alive.{nobody_stopped_before}
-use Rattle.ring_cluster.proofs.Deaths.Heard.{run_quiet_has_heard}
+use Rattle.ring_world.proofs.InOrder.{last_append}
+use Rattle.ring_world.proofs.AllRuns.{every_state_lawful, every_run_goes_on}
+use Rattle.ring_cluster.specs.Seen.{Seen, IsGoing, state_of, opening_seen}
+use Rattle.ring_cluster.specs.Idle.{NobodyStopped}
+use Rattle.ring_cluster.specs.Plays.{Plays, HasGoneOn, AgendasAreEmpty, place_among}
+use Rattle.ring_cluster.specs.Plays as cluster
+use Rattle.ring_cluster.proofs.Alive.{nobody_stopped_before}
+use Rattle.ring_cluster.proofs.Heard.{run_quiet_has_heard}
 use Rattle.ring_script.specs.declared.script.Script.{Script}
 use Rattle.ring_script.specs.Reading.{IsCommandTo}
 use Rattle.ringplay.specs.Report.{report_of}

@@ -4,13 +4,13 @@ use Rattle.std.specs.List.{flat_map, range_with_len}
 use Rattle.std.proofs.Common.{◌≡◌, ℕ, zero, suc, ◌+◌, ◌-◌, ◌<◌, ◌≤◌, List, [], ◌∷◌, ◌++◌, length, ap, sym, ◌∙◌, arith, append_assoc, add-zero, add-one}
 use Rattle.ring_world.specs.Shown.{counts_in}
 use Rattle.group_view.specs.View.{Group, entry_in}
-use Rattle.ring_world.specs.Deaths.Machine.{World, row_at, member_at}
-use Rattle.ring_world.specs.Deaths.Step.{size, log_of}
-use Rattle.ring_world.specs.Deaths.Asked.{counts_of}
-use Rattle.gm_member.specs.Deaths.Held.{Held, known_at}
-use Rattle.gm_member.proofs.Deaths.Fit.{IsFit}
-use Rattle.gm_member.proofs.Deaths.Facts.{held_row}
-use Rattle.ring_cluster.proofs.Deaths.Holding.{IsHeld}
+use Rattle.ring_world.specs.Machine.{World, row_at, member_at}
+use Rattle.ring_world.specs.Step.{size, log_of}
+use Rattle.ring_world.specs.Asked.{counts_of}
+use Rattle.gm_member.specs.Held.{Held, known_at}
+use Rattle.gm_member.proofs.Fit.{IsFit}
+use Rattle.gm_member.proofs.Facts.{held_row}
+use Rattle.ring_cluster.proofs.Holding.{IsHeld}
 use Rattle.ringplay.specs.Report.{name_of, newest_view, member_line, counts_lines, heard_line, heard_from, heard_lines, while_up, lines_of_member}
 
 -- the numbers from a on, and the next one

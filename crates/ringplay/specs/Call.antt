@@ -7,15 +7,15 @@ use Rattle.ring_script.specs.declared.script.Script.{Script}
 use Rattle.ring_script.specs.Words.{lines_of}
 use Rattle.ring_script.specs.Reading.{IsScriptOf, IsFirstFault}
 use Rattle.ring_world.specs.declared.event.Event.{Event}
-use Rattle.ring_world.specs.Deaths.Machine.{World}
-use Rattle.ring_world.specs.Deaths.Step.{opening}
-use Rattle.ring_world.specs.Deaths.Event.{IsRun, last}
-use Rattle.ring_world.specs.Deaths.Laws.{IsLawful, GoesOn}
-use Rattle.ring_world.specs.Deaths.Quiet.{IsQuiet}
-use Rattle.ring_cluster.specs.Deaths.Seen.{Seen}
-use Rattle.ring_cluster.specs.Deaths.Idle.{NobodyStopped}
-use Rattle.ring_cluster.specs.Deaths.Heard.{HasHeardAll}
-use Rattle.ring_cluster.specs.Deaths.Plays.{Plays, AgendasAreEmpty}
+use Rattle.ring_world.specs.Machine.{World}
+use Rattle.ring_world.specs.Step.{opening}
+use Rattle.ring_world.specs.Event.{IsRun, last}
+use Rattle.ring_world.specs.Laws.{IsLawful, GoesOn}
+use Rattle.ring_world.specs.Quiet.{IsQuiet}
+use Rattle.ring_cluster.specs.Seen.{Seen}
+use Rattle.ring_cluster.specs.Idle.{NobodyStopped}
+use Rattle.ring_cluster.specs.Heard.{HasHeardAll}
+use Rattle.ring_cluster.specs.Plays.{Plays, AgendasAreEmpty}
 use Rattle.ringplay.specs.declared.call.Cause.{Cause}
 use Rattle.ringplay.specs.declared.call.Cause.TheVariants as causes
 use Rattle.ringplay.specs.declared.call.Ended.{Ended}

@@ -12,9 +12,9 @@ use Rattle.group_view.specs.View.{Group, entry_in}
 use Rattle.ring_world.specs.declared.phase.Phase.{Phase}
 use Rattle.ring_world.specs.declared.phase.Phase.TheVariants.{Waiting, Up, Stopped}
 use Rattle.ring_world.specs.declared.shown.Counts.{Counts}
-use Rattle.ring_world.specs.Deaths.Machine.{World, member_at, row_at, view_at, newest}
-use Rattle.ring_world.specs.Deaths.Step.{size}
-use Rattle.ring_world.specs.Deaths.Asked.{counts_of}
+use Rattle.ring_world.specs.Machine.{World, member_at, row_at, view_at, newest}
+use Rattle.ring_world.specs.Step.{size}
+use Rattle.ring_world.specs.Asked.{counts_of}
 
 -- the name of the member of an id
 abbrev pub name_of : World → ℕ → List ℕ

@@ -9,7 +9,7 @@ ghost use Rattle.ringplay.specs.Call.{Answers, IsDue, IsUnlessFailed, IsWithin, 
 
 use crate::play::play;
 use crate::word::{Word, is_play};
-use ring_cluster::repair::Cluster;
+use ring_cluster::Cluster;
 use ring_io::{Gate, ReadEnd, Sink, Source, read_all, write_all};
 use ring_names::{Items, OutOfMemory};
 use ring_script::{Script, ScriptFault, line_count, read_script};

@@ -1,11 +1,11 @@
 //! Playing a script.
 ghost use Rattle.std.specs.Prelude.{◌≡◌, ◌∷◌, ◌++◌, [], Some, All, IfOk, OnOk};
 ghost use Rattle.ring_script.specs.Reading.{IsPlayable, IsCommandTo};
-ghost use Rattle.ring_cluster.specs.Deaths.Plays.{PlaysSoFar};
+ghost use Rattle.ring_cluster.specs.Plays.{PlaysSoFar};
 ghost use Rattle.ringplay.specs.Call.{SameRing, IsPlayedBy, commands_on};
 
 use crate::report::report;
-use ring_cluster::repair::Cluster;
+use ring_cluster::Cluster;
 use ring_io::Gate;
 use ring_names::OutOfMemory;
 use ring_script::{Command, Script};

@@ -3,21 +3,21 @@ ghost use Rattle.std.specs.Prelude.{◌≡◌, ℕ, ◌+◌, ◌-◌, ◌<◌, �
 ghost use Rattle.std.specs.Fmt.{decimal};
 ghost use Rattle.std.specs.List.{flat_map};
 ghost use Rattle.group_view.specs.View.{entry_in, no_entry};
-ghost use Rattle.ring_world.specs.World.{most_members};
+ghost use Rattle.ring_world.specs.Rows.{most_members};
 ghost use Rattle.ring_world.specs.Shown.{is_cast as is_cast_message, is_publish as is_publish_message, counts_in};
-ghost use Rattle.ring_world.specs.Deaths.Machine.{member_at as the_member};
-ghost use Rattle.ring_world.specs.Deaths.Step.{size};
-ghost use Rattle.gm_member.specs.Deaths.Held.{known_at};
-ghost use Rattle.gm_member.specs.Deaths.Shown.{held_of};
-ghost use Rattle.gm_member.specs.Deaths.Stands.{held_in};
-ghost use Rattle.ring_cluster.specs.Deaths.Seen.{state_of};
+ghost use Rattle.ring_world.specs.Machine.{member_at as the_member};
+ghost use Rattle.ring_world.specs.Step.{size};
+ghost use Rattle.gm_member.specs.Held.{known_at};
+ghost use Rattle.gm_member.specs.Shown.{held_of};
+ghost use Rattle.gm_member.specs.Stands.{held_in};
+ghost use Rattle.ring_cluster.specs.Seen.{state_of};
 ghost use Rattle.ringplay.specs.Report.{report_of, newline, ring_line, master_name, state_text as the_state_text, up_text as the_up_text, stopped_text as the_stopped_text, member_line, counts_lines, heard_line, heard_lines, while_up, lines_of_member};
 
 #[cfg(test)]
 mod tests;
 
 use group_view::{Entry, Mark, View};
-use ring_cluster::repair::{Cluster, Node};
+use ring_cluster::{Cluster, Node};
 use ring_names::{MemberId, Message, Name, OutOfMemory};
 use ring_world::{Counts, Phase};
 use std::alloc::Global;

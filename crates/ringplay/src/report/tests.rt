@@ -2,9 +2,9 @@
 ghost use Rattle.std.specs.Prelude.{◌≡◌};
 
 use super::report;
-use ring_cluster::repair::Cluster;
+use ring_cluster::Cluster;
 use ring_names::{Body, CreditSpec, Name, Reason};
-use ring_world::{Event, Refused, are_opening_names};
+use ring_world::{Event, Refused, World, are_opening_names};
 use std::alloc::Global;
 use std::process::Abort;
 use std::test::Fail;
@@ -190,5 +190,85 @@ fn reports_a_member_that_has_stopped(rt: HostRuntime) -> Result<(), Fail> {
         &names,
         &cluster,
         "ring view=2 term=1 master=a\nmember a stopped\ncasts 0 confirmed 0\npublishes 0 confirmed 0\nmember b up synced\ncasts 0 confirmed 0\npublishes 0 confirmed 0\nmember c up synced\ncasts 0 confirmed 0\npublishes 0 confirmed 0\n",
+    )
+}
+
+/// An event, and what is answered of it.
+#[derive(Drop)]
+struct Tried {
+    event: Event,
+    want: Result<(), Refused>,
+}
+
+fn happens(event: Event) -> Tried {
+    Tried {
+        event,
+        want: Ok(()),
+    }
+}
+
+fn fails(event: Event, reason: Reason) -> Tried {
+    Tried {
+        event,
+        want: Err(Refused::NotEnabled(reason)),
+    }
+}
+
+/// The events are given to the plain machine and to the cluster, and both answer this.
+fn try_both(rt: &impl Abort, world: &mut World, cluster: &mut Cluster, events: &[Tried])
+    ensures { (cluster.new).names ≡ (cluster.old).names }
+{
+    for tried in events {
+        assert_eq!(rt; world.apply(&tried.event), tried.want);
+        assert_eq!(rt; cluster.step(&tried.event), tried.want);
+    }
+}
+
+// Two neighbours of five stop, the second with a message that nobody else has. Their right neighbour takes the end of
+// the link between them, has both marked dead and picks up the link of the first one's left neighbour, whose message
+// then goes on round the others.
+#[test]
+fn reports_two_neighbours_that_have_stopped(rt: HostRuntime) -> Result<(), Fail> {
+    let a = Name::read(b"a")?;
+    let b = Name::read(b"b")?;
+    let c = Name::read(b"c")?;
+    let d = Name::read(b"d")?;
+    let e = Name::read(b"e")?;
+    let names = [a, b, c, d, e];
+    assert!(rt; are_opening_names(&names));
+    let mut world = World::opening(rt.alloc(), &names, credit(&rt, 8, 4))?;
+    let mut cluster = Cluster::opening(rt.alloc(), &names, credit(&rt, 8, 4))?;
+    let too_old = Reason::ViewTooOld { need: 3, have: 1 };
+    let events = [
+        happens(cast(rt.alloc(), a, b"x")?),
+        happens(Event::Put { by: a }),
+        happens(Event::Take { by: b }),
+        happens(cast(rt.alloc(), c, b"y")?),
+        happens(Event::Stop { by: b }),
+        happens(Event::Stop { by: c }),
+        fails(Event::Put { by: b }, Reason::Stopped),
+        fails(Event::Mark { by: a, dead: c }, Reason::NotNeighbour),
+        fails(Event::Mark { by: d, dead: c }, Reason::LinkNotEnded),
+        happens(Event::TakeEnd { by: d }),
+        happens(Event::Mark { by: d, dead: c }),
+        fails(Event::Pick { by: d }, Reason::NoLinkAtDoor),
+        happens(Event::Mark { by: d, dead: b }),
+        fails(Event::Mark { by: a, dead: b }, Reason::AlreadyDead),
+        happens(Event::Refresh { by: a, view: 3 }),
+        happens(Event::Pick { by: d }),
+        happens(Event::Take { by: d }),
+        happens(Event::Put { by: d }),
+        fails(Event::Take { by: e }, too_old),
+        happens(Event::Refresh { by: e, view: 3 }),
+        happens(Event::Take { by: e }),
+        happens(Event::Put { by: e }),
+        happens(Event::Take { by: a }),
+    ];
+    try_both(&rt, &mut world, &mut cluster, &events);
+    reads(
+        &rt,
+        &names,
+        &cluster,
+        "ring view=3 term=1 master=a\nmember a up synced\ncasts 1 confirmed 1\npublishes 0 confirmed 0\nheard a x\nmember b stopped\ncasts 0 confirmed 0\npublishes 0 confirmed 0\nmember c stopped\ncasts 1 confirmed 0\npublishes 0 confirmed 0\nmember d up synced\ncasts 0 confirmed 0\npublishes 0 confirmed 0\nheard a x\nmember e up synced\ncasts 0 confirmed 0\npublishes 0 confirmed 0\nheard a x\n",
     )
 }

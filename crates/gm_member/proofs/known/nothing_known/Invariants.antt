@@ -1,6 +1,6 @@
 use Rattle.std.proofs.Common.{◌≡◌, ℕ, map, length}
 use Rattle.std.specs.List.{range_with_len}
-use Rattle.ring_world.specs.World.{no_row}
+use Rattle.ring_world.specs.Rows.{no_row}
 use Rattle.gm_member.specs.View.{row_of}
 use Rattle.gm_member.proofs.known.nothing_known.Given as goal
 

@@ -1,11 +1,11 @@
-use Rattle.ring_world.specs.Deaths.Step.{opening}
-use Rattle.ring_world.specs.Deaths.Event.{last}
-use Rattle.gm_member.proofs.Deaths.Fit.{reached_fit}
-use Rattle.ring_cluster.proofs.Deaths.Falls.{put_lowers, gain_lowers}
-use Rattle.ring_cluster.proofs.Deaths.Moves.{end_lowers, pick_lowers}
-use Rattle.ring_cluster.proofs.Deaths.TakeFalls.{take_lowers}
-use Rattle.ring_cluster.proofs.Deaths.RefreshFalls.{refresh_lowers}
-use Rattle.ring_cluster.proofs.Deaths.MarkFalls.{mark_lowers}
+use Rattle.ring_world.specs.Step.{opening}
+use Rattle.ring_world.specs.Event.{last}
+use Rattle.gm_member.proofs.Fit.{reached_fit}
+use Rattle.ring_cluster.proofs.Falls.{put_lowers, gain_lowers}
+use Rattle.ring_cluster.proofs.Moves.{end_lowers, pick_lowers}
+use Rattle.ring_cluster.proofs.TakeFalls.{take_lowers}
+use Rattle.ring_cluster.proofs.RefreshFalls.{refresh_lowers}
+use Rattle.ring_cluster.proofs.MarkFalls.{mark_lowers}
 use Rattle.ring_cluster.proofs.laws.each_step_of_repair_leaves_less_to_do.Goals as goal
 
 pub returns-clause-put : goal.returns-clause-put

@@ -1,6 +1,6 @@
 use Rattle.std.proofs.Common.{suc, None}
-use Rattle.ring_world.specs.Deaths.Shows.{world_of}
-use Rattle.ring_world.proofs.Deaths.Enabled.{running_phase}
+use Rattle.ring_world.specs.Shows.{world_of}
+use Rattle.ring_world.proofs.Enabled.{running_phase}
 use Rattle.ring_world.proofs.arms.stop.Goals as goal
 
 pub stop-requires-clause-up : goal.stop-requires-clause-up

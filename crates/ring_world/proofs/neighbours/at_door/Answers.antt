@@ -1,7 +1,7 @@
 use Rattle.std.proofs.Common.{suc, ap, ◌∙◌}
 use Rattle.std.specs.Prelude.{position}
-use Rattle.ring_world.specs.Deaths.Shows.{link_of, stands_at_door}
-use Rattle.ring_world.proofs.Deaths.Found.{door_first}
+use Rattle.ring_world.specs.Shows.{link_of, stands_at_door}
+use Rattle.ring_world.proofs.Found.{door_first}
 use Rattle.ring_world.proofs.neighbours.at_door.Goals as goal
 
 pub returns-clause-door : goal.returns-clause-door

@@ -1,6 +1,6 @@
 use Rattle.std.proofs.Common.{◌≤◌, ◌∷◌, length, get_or, ap, ◌∙◌, sym, subst}
 use Rattle.group_view.specs.Since.{no_group}
-use Rattle.ring_world.proofs.Deaths.Found.{version_some, version_within, version_stands}
+use Rattle.ring_world.proofs.Found.{version_some, version_within, version_stands}
 use Rattle.ring_world.proofs.neighbours.view_at_place.Goals as goal
 
 pub view_of-requires-clause-some : goal.view_of-requires-clause-some

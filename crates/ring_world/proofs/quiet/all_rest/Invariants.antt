@@ -1,7 +1,7 @@
 use Rattle.std.proofs.Common.{◌≡◌, ℕ, suc, ◌<◌, true}
-use Rattle.ring_world.specs.Deaths.Machine.{runs}
-use Rattle.ring_world.specs.Deaths.Quiet.{IsResting}
-use Rattle.ring_world.specs.Deaths.Shows.{world_of}
+use Rattle.ring_world.specs.Machine.{runs}
+use Rattle.ring_world.specs.Quiet.{IsResting}
+use Rattle.ring_world.specs.Shows.{world_of}
 use Rattle.ring_world.proofs.quiet.all_rest.Given as goal
 
 abbrev pub invariant-loop-place : goal.invariant-loop-place

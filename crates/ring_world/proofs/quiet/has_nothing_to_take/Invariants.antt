@@ -1,8 +1,8 @@
 use Rattle.std.proofs.Common.{◌≡◌, ℕ, suc, ◌<◌, true}
-use Rattle.ring_world.specs.Deaths.Machine.{link_at}
-use Rattle.ring_world.specs.Deaths.OpenLinks.{is_open}
-use Rattle.ring_world.specs.Deaths.Event.{holds_nothing}
-use Rattle.ring_world.specs.Deaths.Shows.{world_of}
+use Rattle.ring_world.specs.Machine.{link_at}
+use Rattle.ring_world.specs.OpenLinks.{is_open}
+use Rattle.ring_world.specs.Event.{holds_nothing}
+use Rattle.ring_world.specs.Shows.{world_of}
 use Rattle.ring_world.proofs.quiet.has_nothing_to_take.Given as goal
 
 abbrev pub invariant-loop-s : goal.invariant-loop-s

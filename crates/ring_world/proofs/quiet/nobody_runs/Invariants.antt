@@ -1,6 +1,6 @@
 use Rattle.std.proofs.Common.{◌≡◌, ℕ, suc, ◌<◌, false}
-use Rattle.ring_world.specs.Deaths.Machine.{runs}
-use Rattle.ring_world.specs.Deaths.Shows.{world_of}
+use Rattle.ring_world.specs.Machine.{runs}
+use Rattle.ring_world.specs.Shows.{world_of}
 use Rattle.ring_world.proofs.quiet.nobody_runs.Given as goal
 
 abbrev pub invariant-loop-place : goal.invariant-loop-place

@@ -1,8 +1,8 @@
 use Rattle.std.proofs.Common.{◌≡◌, ◌∷◌, true, get_or, sym, subst}
 use Rattle.group_view.specs.Since.{no_group}
 use Rattle.group_view.specs.Ring.{is_in}
-use Rattle.ring_world.specs.Deaths.View.{ids}
-use Rattle.ring_world.proofs.Deaths.Found.{link_some, link_door}
+use Rattle.ring_world.specs.View.{ids}
+use Rattle.ring_world.proofs.Found.{link_some, link_door}
 use Rattle.ring_world.proofs.refreshing.is_link_kept.Goals as goal
 
 pub is_kept-requires-clause-some : goal.is_kept-requires-clause-some

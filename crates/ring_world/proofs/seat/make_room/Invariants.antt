@@ -1,5 +1,5 @@
 use Rattle.std.proofs.Common.{◌≡◌, ℕ, ◌<◌, ◌≤◌, map, length, slice_index_or}
-use Rattle.ring_world.specs.Deaths.Shows.{row_of, room_of, news_in}
+use Rattle.ring_world.specs.Shows.{row_of, room_of, news_in}
 use Rattle.ring_world.proofs.seat.make_room.Given as goal
 
 abbrev pub invariant-loop-k : goal.invariant-loop-k

@@ -3,8 +3,8 @@ use Rattle.std.proofs.lemmas.Grind.{common_steps}
 use Rattle.std.specs.List.{range_with_len}
 use Rattle.std.proofs.lemmas.List.FromFn.{map-range_with_len_more}
 use Rattle.std.proofs.lemmas.List.{map-append}
-use Rattle.ring_world.specs.Deaths.Machine.{no_member}
-use Rattle.ring_world.specs.Deaths.Shows.{News, member_of, packet_of, news_at}
+use Rattle.ring_world.specs.Machine.{no_member}
+use Rattle.ring_world.specs.Shows.{News, member_of, packet_of, news_at}
 use Rattle.ring_world.proofs.taking.all_news.Goals as goal
 
 pub loop-origin-preserved : goal.loop-origin-preserved

@@ -1,12 +1,12 @@
 use Rattle.std.proofs.Common.{◌≡◌, suc, ◌≤◌, ◌∷◌, length, map, get_or, set, ap, sym, subst, ◌∙◌, arith}
 use Rattle.std.proofs.lemmas.List.{length-map, with_items_is}
-use Rattle.ring_world.specs.Deaths.Machine.{no_member}
+use Rattle.ring_world.specs.Machine.{no_member}
 use Rattle.group_view.specs.Since.{no_group}
-use Rattle.ring_world.specs.Deaths.Shows.{world_of, member_of, member_in, link_of}
-use Rattle.ring_world.specs.Deaths.Step.{taken, is_owned}
-use Rattle.ring_world.specs.Deaths.Walk.{oldest}
-use Rattle.ring_world.proofs.Deaths.Found.{version_some, version_within}
-use Rattle.ring_world.proofs.Deaths.Taken.{take_ring, same_ring, logs_of, OnErr_of}
+use Rattle.ring_world.specs.Shows.{world_of, member_of, member_in, link_of}
+use Rattle.ring_world.specs.Step.{taken, is_owned}
+use Rattle.ring_world.specs.Walk.{oldest}
+use Rattle.ring_world.proofs.Found.{version_some, version_within}
+use Rattle.ring_world.proofs.Taken.{take_ring, same_ring, logs_of, OnErr_of}
 use Rattle.ring_world.proofs.taking.take.Goals as goal
 
 pub view_of-view-requires-clause-some : goal.view_of-view-requires-clause-some

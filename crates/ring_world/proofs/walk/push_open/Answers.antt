@@ -1,10 +1,10 @@
 use Rattle.std.proofs.Common.{◌≡◌, ℕ, suc, ◌<◌, ◌+◌, ◌-◌, ◌++◌, map, reverse, filter, length, ap, sym, ◌∙◌, arith}
 use Rattle.std.specs.List.{range_with_len}
-use Rattle.ring_world.specs.Deaths.Machine.{World}
-use Rattle.ring_world.specs.Deaths.OpenLinks.{is_open, packets_of}
-use Rattle.ring_world.specs.Deaths.Shows.{world_of}
-use Rattle.ring_world.specs.Deaths.Walking.{says, counts, said_on}
-use Rattle.ring_world.proofs.Deaths.Told.{shut, passed, gathered_more}
+use Rattle.ring_world.specs.Machine.{World}
+use Rattle.ring_world.specs.OpenLinks.{is_open, packets_of}
+use Rattle.ring_world.specs.Shows.{world_of}
+use Rattle.ring_world.specs.Walking.{says, counts, said_on}
+use Rattle.ring_world.proofs.Told.{shut, passed, gathered_more}
 use Rattle.ring_world.proofs.walk.push_open.Goals as goal
 use Rattle.ring_world.proofs.walk.push_open.Goals.{else-is_open-via-then-is_open+else-is_counted, else-is_open-via-else-is_open}
 

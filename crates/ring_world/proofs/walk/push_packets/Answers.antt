@@ -2,9 +2,9 @@ use Rattle.std.proofs.Common.{◌≡◌, ℕ, ◌+◌, ◌-◌, ◌++◌, [], �
 use Rattle.std.proofs.lemmas.Grind.{common_steps}
 use Rattle.std.proofs.lemmas.List.{append-nil}
 use Rattle.std.proofs.Math.Seq.{drop-length}
-use Rattle.ring_world.specs.Deaths.Shows.{packet_of}
-use Rattle.ring_world.specs.Deaths.Walking.{says}
-use Rattle.ring_world.proofs.Deaths.Told.{told_more}
+use Rattle.ring_world.specs.Shows.{packet_of}
+use Rattle.ring_world.specs.Walking.{says}
+use Rattle.ring_world.proofs.Told.{told_more}
 use Rattle.ring_world.proofs.walk.push_packets.Goals as goal
 
 pub loop-k-init : goal.loop-k-init

@@ -1,6 +1,6 @@
 use Rattle.std.proofs.Common.{◌≡◌, ◌++◌, map, reverse, drop}
-use Rattle.ring_world.specs.Deaths.Shows.{packet_of}
-use Rattle.ring_world.specs.Deaths.Walking.{says}
+use Rattle.ring_world.specs.Shows.{packet_of}
+use Rattle.ring_world.specs.Walking.{says}
 use Rattle.ring_world.proofs.walk.push_packets.Given as goal
 
 abbrev pub invariant-loop-k : goal.invariant-loop-k

@@ -1,8 +1,8 @@
 use Rattle.std.proofs.Common.{◌≡◌, ◌++◌, suc, map, drop}
 use Rattle.std.specs.List.{filter}
 use Rattle.group_view.specs.View.{ids}
-use Rattle.ring_world.specs.Deaths.Machine.{runs}
-use Rattle.ring_world.specs.Deaths.Shows.{world_of}
+use Rattle.ring_world.specs.Machine.{runs}
+use Rattle.ring_world.specs.Shows.{world_of}
 use Rattle.ring_world.proofs.walk.push_running.Given as goal
 
 abbrev pub invariant-loop-entry : goal.invariant-loop-entry

@@ -1,8 +1,8 @@
 use Rattle.std.proofs.Common.{◌≡◌, ◌++◌, suc, drop}
 use Rattle.std.specs.List.{flat_map}
 use Rattle.ring_world.specs.declared.walk.Part.TheVariants as part
-use Rattle.ring_world.specs.Deaths.Shows.{world_of}
-use Rattle.ring_world.specs.Deaths.Walking.{stop_at}
+use Rattle.ring_world.specs.Shows.{world_of}
+use Rattle.ring_world.specs.Walking.{stop_at}
 use Rattle.ring_world.proofs.walk.push_stops.Given as goal
 
 abbrev pub invariant-loop-place : goal.invariant-loop-place

@@ -1,9 +1,9 @@
 use Rattle.std.proofs.Common.{◌++◌, suc, map, ap, ◌∙◌}
 use Rattle.std.specs.List.{filter}
 use Rattle.group_view.specs.View.{ids}
-use Rattle.ring_world.specs.Deaths.Machine.{runs}
-use Rattle.ring_world.specs.Deaths.Shows.{world_of}
-use Rattle.ring_world.proofs.Deaths.Told.{running_parts}
+use Rattle.ring_world.specs.Machine.{runs}
+use Rattle.ring_world.specs.Shows.{world_of}
+use Rattle.ring_world.proofs.Told.{running_parts}
 use Rattle.ring_world.proofs.walk.running_among.Goals as goal
 
 pub returns : goal.returns

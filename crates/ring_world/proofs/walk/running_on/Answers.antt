@@ -2,8 +2,8 @@ use Rattle.std.proofs.Common.{suc, length, ap}
 use Rattle.std.proofs.lemmas.List.{length-map}
 use Rattle.group_view.specs.Ring.{rotated}
 use Rattle.group_view.specs.View.{ids}
-use Rattle.ring_world.specs.Deaths.Shows.{world_of, member_of}
-use Rattle.ring_world.proofs.Deaths.Told.{all_run, all_within}
+use Rattle.ring_world.specs.Shows.{world_of, member_of}
+use Rattle.ring_world.proofs.Told.{all_run, all_within}
 use Rattle.ring_world.proofs.walk.running_on.Goals as goal
 
 pub returns-clause-within : goal.returns-clause-within

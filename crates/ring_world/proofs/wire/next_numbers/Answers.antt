@@ -1,7 +1,7 @@
 use Rattle.std.proofs.Common.{◌≡◌, length, map, sym, ap, ◌∙◌, arith}
 use Rattle.std.proofs.lemmas.List.{length-map}
-use Rattle.ring_world.specs.Deaths.Shows.{row_of}
-use Rattle.ring_world.proofs.Deaths.Sent.{next_lines_range, lines_to}
+use Rattle.ring_world.specs.Shows.{row_of}
+use Rattle.ring_world.proofs.Sent.{next_lines_range, lines_to}
 use Rattle.ring_world.proofs.wire.next_numbers.Goals as goal
 
 pub returns : goal.returns

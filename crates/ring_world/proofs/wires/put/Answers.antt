@@ -1,5 +1,5 @@
-use Rattle.ring_world.specs.Deaths.Shows.{member_of}
-use Rattle.ring_world.proofs.Deaths.Shown.{pushed_wires}
+use Rattle.ring_world.specs.Shows.{member_of}
+use Rattle.ring_world.proofs.ShownParts.{pushed_wires}
 use Rattle.ring_world.proofs.wires.put.Goals as goal
 
 pub returns-clause-ok : goal.returns-clause-ok

@@ -1,6 +1,6 @@
 use Rattle.std.proofs.Common.{◌≡◌, ◌++◌, length}
 use Rattle.std.specs.List.{All}
-use Rattle.ring_cluster.specs.Deaths.Plays.{PlaysSoFar}
+use Rattle.ring_cluster.specs.Plays.{PlaysSoFar}
 use Rattle.ring_script.specs.Reading.{IsCommandTo}
 use Rattle.ringplay.specs.Call.{SameRing, commands_on}
 use Rattle.ringplay.proofs.play.perform.Given as goal

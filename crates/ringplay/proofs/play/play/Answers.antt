@@ -1,8 +1,8 @@
 use Rattle.std.proofs.Common.{◌≡◌, ◌++◌, ◌∙◌, sym, ap, subst}
 use Rattle.std.specs.List.{All}
 use Rattle.ring_script.specs.Reading.{IsCommandTo}
-use Rattle.ring_cluster.specs.Deaths.Seen.{opening_seen}
-use Rattle.ring_cluster.proofs.Deaths.NoStops.{plays_alive}
+use Rattle.ring_cluster.specs.Seen.{opening_seen}
+use Rattle.ring_cluster.proofs.NoStops.{plays_alive}
 use Rattle.ringplay.specs.Call.{commands_on}
 use Rattle.ringplay.proofs.Playing.{played_all}
 use Rattle.ringplay.proofs.play.play.Goals as goal

@@ -1,9 +1,9 @@
 use Rattle.std.proofs.Common.{◌≡◌, ◌+◌, ◌-◌, ◌<◌, ◌≤◌, ◌++◌, ◌∙◌, ap, arith}
 use Rattle.std.specs.List.{flat_map, range_with_len}
-use Rattle.ring_world.specs.Deaths.Step.{size}
-use Rattle.gm_member.specs.Deaths.Shown.{held_of}
-use Rattle.ring_cluster.specs.Deaths.Seen.{state_of}
-use Rattle.ring_cluster.proofs.Deaths.Named.{going_many}
+use Rattle.ring_world.specs.Step.{size}
+use Rattle.gm_member.specs.Shown.{held_of}
+use Rattle.ring_cluster.specs.Seen.{state_of}
+use Rattle.ring_cluster.proofs.Named.{going_many}
 use Rattle.ringplay.specs.Report.{heard_from}
 use Rattle.ringplay.proofs.Reports.{heard_more}
 use Rattle.ringplay.proofs.report.push_heard.Goals as goal

@@ -1,6 +1,6 @@
 use Rattle.std.proofs.Common.{◌≡◌, ◌+◌, ◌++◌}
 use Rattle.std.specs.List.{flat_map, range_with_len}
-use Rattle.ring_cluster.specs.Deaths.Seen.{state_of}
+use Rattle.ring_cluster.specs.Seen.{state_of}
 use Rattle.ringplay.specs.Report.{heard_from}
 use Rattle.ringplay.proofs.report.push_heard.Given as goal
 

@@ -1,8 +1,8 @@
 use Rattle.std.proofs.Common.{◌≡◌, ◌-◌, ◌+◌, ◌++◌, ◌∙◌, ap, length, arith}
 use Rattle.std.specs.List.{flat_map, range_with_len}
-use Rattle.ring_world.specs.Deaths.Step.{size}
-use Rattle.ring_cluster.specs.Deaths.Seen.{state_of}
-use Rattle.ring_cluster.proofs.Deaths.Named.{going_many}
+use Rattle.ring_world.specs.Step.{size}
+use Rattle.ring_cluster.specs.Seen.{state_of}
+use Rattle.ring_cluster.proofs.Named.{going_many}
 use Rattle.ringplay.specs.Report.{ring_line, newest_view, lines_of_member}
 use Rattle.ringplay.proofs.Reports.{ids_more}
 use Rattle.ringplay.proofs.report.report.Goals as goal

@@ -1,13 +1,28 @@
-use Rattle.std.proofs.Common.{sym, ◌∙◌}
-use Rattle.gm_member.specs.View.{held_of}
+use Rattle.std.proofs.Common.{◌≡◌, Option, Some, None, refl, sym, ◌∙◌}
+use Rattle.ring_names.specs.declared.reason.Reason.TheVariants.{NoOutLink}
+use Rattle.gm_member.specs.Held.{Held, Outgoing, put_refused, on_some, out_refused, parcel_on}
+use Rattle.gm_member.specs.Stands.{WhereItStands, IsPutPacket}
+use Rattle.gm_member.proofs.Calls.{up_later}
+use Rattle.gm_member.specs.Shown.{held_of}
 use Rattle.gm_member.proofs.Lifts.{put_lifts, put_packet_lifts, put_refusal_lifts}
 use Rattle.gm_member.proofs.member.Member.put.Goals as goal
 
+-- who may put sends on a link, and the packet is the ring's
+put_out_lifts : (h : Held) → put_refused h ≡ None → (o : Outgoing) × (h.out ≡ Some o) × WhereItStands h (λ w x. IsPutPacket w x (parcel_on h.view.version h.rows o))
+put_out_lifts h e = by_out h.out refl (up_later h (on_some h.out NoOutLink (out_refused h.rows)) e)
+  where
+    by_out : (a : Option Outgoing) → h.out ≡ a → on_some a NoOutLink (out_refused h.rows) ≡ None → (o : Outgoing) × (h.out ≡ Some o) × WhereItStands h (λ w x. IsPutPacket w x (parcel_on h.view.version h.rows o))
+    by_out None is k = cc
+    by_out (Some o) is k = (o, is, put_packet_lifts h o is)
+
 pub returns-in-Ok-clause-steps : goal.returns-in-Ok-clause-steps
-returns-in-Ok-clause-steps g c = λ credit names events i are r l s. (put_lifts (held_of c.args.self.now) (held_of c.put_next.new.self) c.in-Ok.ensures.enabled c.in-Ok.ensures.ok credit names events i are r l s, put_packet_lifts (held_of c.args.self.now) credit names events i are r l s)
+returns-in-Ok-clause-steps g c = put_lifts (held_of c.args.self.now) (held_of c.put_next.new.self) c.in-Ok.ensures.enabled c.in-Ok.ensures.ok
+
+pub returns-in-Ok-clause-put : goal.returns-in-Ok-clause-put
+returns-in-Ok-clause-put g c = put_out_lifts (held_of c.args.self.now) c.in-Ok.ensures.enabled
 
 pub returns-in-Ok-clause-not_enabled : goal.returns-in-Ok-clause-not_enabled
-returns-in-Ok-clause-not_enabled g c = λ there credit names events i are r l s q x. cc (sym x ∙ sym (put_refusal_lifts (held_of c.args.self.now) credit names events i are r l s) ∙ c.in-Ok.ensures.enabled)
+returns-in-Ok-clause-not_enabled g c = λ credit names events x are r l n s q e. cc (sym e ∙ sym (put_refusal_lifts (held_of c.args.self.now) credit names events x are r l n s) ∙ c.in-Ok.ensures.enabled)
 
 pub returns-in-Err-clause-not_enabled : goal.returns-in-Err-clause-not_enabled
-returns-in-Err-clause-not_enabled g c = λ there credit names events i are r l s q x. c.in-Err.ensures.refused q there (put_refusal_lifts (held_of c.args.self.now) credit names events i are r l s ∙ x)
+returns-in-Err-clause-not_enabled g c = λ credit names events x are r l n s q e. c.in-Err.ensures.refused q (put_refusal_lifts (held_of c.args.self.now) credit names events x are r l n s ∙ e)

@@ -1,4 +1,4 @@
-use Rattle.std.proofs.Common.{◌≡◌, ◌≤◌, ◌∙◌, length, ap, sym, subst}
+use Rattle.std.proofs.Common.{◌≤◌, ◌∙◌, length, ap, sym, subst}
 use Rattle.std.specs.List.{filter}
 use Rattle.registrar.specs.Registry.{is_for}
 use Rattle.registrar.specs.Handled.{links_for}

@@ -1,4 +1,4 @@
-use Rattle.ring_cluster.proofs.Going.{commanded_plays}
+use Rattle.ring_cluster.proofs.Doing.{commanded_plays}
 use Rattle.ring_cluster.proofs.cluster.Cluster.command.Goals as goal
 
 pub returns-in-Ok-clause-plays : goal.returns-in-Ok-clause-plays

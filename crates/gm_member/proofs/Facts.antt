@@ -1,0 +1,105 @@
+-- What follows for single members, rows and packets.
+use Rattle.std.proofs.Common.{◌≡◌, ℕ, zero, suc, ◌+◌, ◌-◌, ◌<◌, ◌≤◌, List, [], ◌∷◌, length, get_or, false, Bool, refl, sym, ap, subst, ◌∙◌, arith}
+use Rattle.std.proofs.lemmas.Bool.{false≢true}
+use Rattle.std.proofs.lemmas.List.{get_or_past}
+use Rattle.group_view.specs.Since.{no_group}
+use Rattle.ring_world.specs.declared.numbers.Numbers.{Numbers}
+use Rattle.ring_world.specs.Rows.{Row, no_row, no_numbers, next_numbers}
+use Rattle.ring_world.specs.Refusal.{is_empty}
+use Rattle.ring_world.specs.Machine.{World, Packet, Member, Sending, no_packet, no_member, row_at, numbers_at, member_at, link_at, view_at, newest}
+use Rattle.ring_world.specs.Walk.{oldest}
+use Rattle.ring_world.specs.Step.{size, log_of, next_lines, next_packet}
+use Rattle.ring_world.specs.Lawful.{row_of, NumbersAreWithin, PacketsAreWithin}
+use Rattle.ring_world.proofs.Happens.{HasViews}
+use Rattle.gm_member.specs.Held.{known_at, numbers_of}
+use Rattle.gm_member.specs.Stands.{held_in, outgoing_in}
+use Rattle.gm_member.proofs.Places.{tabled_at}
+use Rattle.gm_member.proofs.Fit.{IsFit}
+
+-- ---- ids that nobody has
+
+pub log_past : (w : World) (p : ℕ) → size w ≤ p → log_of w p ≡ []
+log_past w p ge = ap (λ (y : Member). y.log) (get_or_past w.members p no_member ge)
+
+pub row_past : (w : World) (x p : ℕ) → IsFit w → 1 ≤ x → x < size w → size w ≤ p → row_of w x p ≡ no_row
+row_past w x p f some lt ge = get_or_past (member_at w x).rows p no_row (omega (arith, f.sized.rows x some lt))
+
+-- a number of an origin that publishes nothing is 0
+pub got_zero : (w : World) (q p : ℕ) → IsFit w → log_of w p ≡ [] → (row_of w q p).got ≡ 0
+got_zero w q p f e = omega (arith, (f.lawful.within.rows q p).got, ap length e)
+
+pub forgot_zero : (w : World) (q p : ℕ) → IsFit w → log_of w p ≡ [] → (row_of w q p).forgot ≡ 0
+forgot_zero w q p f e = omega (arith, (f.lawful.within.rows q p).forgot, ap length e)
+
+no_numbers_within : (k : Numbers) → NumbersAreWithin 0 k → k ≡ no_numbers
+no_numbers_within k h =
+    let a : k.lo ≡ 0 = omega (arith, h.lo) in
+    let b : k.got ≡ 0 = omega (arith, h.got) in
+    let c : k.forgot ≡ 0 = omega (arith, h.forgot) in
+    ap (λ n. record { lo = n; got = k.got; forgot = k.forgot }) a ∙ ap (λ n. record { lo = 0; got = n; forgot = k.forgot }) b ∙ ap (λ n. record { lo = 0; got = 0; forgot = n }) c
+
+pub sent_nothing : (w : World) (s p : ℕ) → IsFit w → log_of w p ≡ [] → numbers_at (link_at w s).sending.sent p ≡ no_numbers
+sent_nothing w s p f e = no_numbers_within (numbers_at (link_at w s).sending.sent p) (subst (λ n. NumbersAreWithin n (numbers_at (link_at w s).sending.sent p)) (ap length e) (f.lawful.within.sent s p))
+
+oldest_of : (n p : ℕ) (ks : List Packet) → PacketsAreWithin n p ks → is_empty ks ≡ false → NumbersAreWithin n (numbers_at (get_or ks 0 no_packet) p)
+oldest_of n p [] h e = absurd (false≢true (sym e))
+oldest_of n p (k ∷ ks) h e = h.0
+
+-- no number of the oldest packet is above the length of the log
+pub oldest_within : (w : World) (s p : ℕ) → IsFit w → is_empty (link_at w s).packets ≡ false → NumbersAreWithin (length (log_of w p)) (numbers_at (oldest (link_at w s)) p)
+oldest_within w s p f e = oldest_of (length (log_of w p)) p (link_at w s).packets (f.lawful.within.packets s p) e
+
+pub oldest_nothing : (w : World) (s p : ℕ) → IsFit w → is_empty (link_at w s).packets ≡ false → log_of w p ≡ [] → numbers_at (oldest (link_at w s)) p ≡ no_numbers
+oldest_nothing w s p f some e = no_numbers_within (numbers_at (oldest (link_at w s)) p) (subst (λ n. NumbersAreWithin n (numbers_at (oldest (link_at w s)) p)) (ap length e) (oldest_within w s p f some))
+
+-- ---- ids from 1 stand at places from 0
+
+pub place_few : (w : World) (x : ℕ) → IsFit w → 1 ≤ x → x < size w → x - 1 < 64
+place_few w x f some lt = omega (arith, f.sized.few)
+
+pub held_row : (w : World) (x p : ℕ) → p < 64 → known_at (held_in w x).rows p ≡ row_of w x (p + 1)
+held_row w x p l = tabled_at (λ q. row_at (member_at w x) (q + 1)) 64 p no_row l
+
+pub held_sent : (w : World) (o p : ℕ) → p < 64 → numbers_of (outgoing_in w o).sent p ≡ numbers_at (link_at w o).sending.sent (p + 1)
+held_sent w o p l = tabled_at (λ q. numbers_at (link_at w o).sending.sent (q + 1)) 64 p no_numbers l
+
+-- its own row tells how many messages a member has published
+pub own_row : (w : World) (x : ℕ) → IsFit w → 1 ≤ x → x < size w → (known_at (held_in w x).rows (x - 1)).got ≡ length (log_of w x)
+own_row w x f some lt =
+    let back : x - 1 + 1 ≡ x = omega arith in
+    ap (λ (r : Row). r.got) (held_row w x (x - 1) (place_few w x f some lt)) ∙ ap (λ p. (row_of w x p).got) back ∙ f.sized.own x some lt
+
+-- ---- views
+
+-- the view of a version is numbered with it
+pub version_of_view : (w : World) (v : ℕ) → HasViews w → v ≤ newest w → (view_at w v).version ≡ v
+version_of_view w zero h l = ap (λ vs. (get_or vs 0 no_group).version) h.is
+version_of_view w (suc v) h l =
+    ap (λ vs. (get_or vs (suc v) no_group).version) h.is
+    ∙ h.ends.history.numbered (suc v) (omega arith) (let many = ap length h.is in omega (arith, many))
+
+pub version_is : (w : World) (x : ℕ) → IsFit w → (held_in w x).view.version ≡ (member_at w x).version
+version_is w x f = version_of_view w (member_at w x).version f.good.views (f.good.inv.is_ring.held x)
+
+-- ---- packets
+
+lines_at : (fresh : Bool) (rows : List Row) (last : List Numbers) (p : ℕ) → p < length rows → get_or (next_lines fresh rows last) p no_numbers ≡ next_numbers fresh (get_or rows p no_row) (get_or last p no_numbers)
+lines_at fresh [] last p l = absurd (omega arith)
+lines_at fresh (r ∷ rows) [] zero l = refl
+lines_at fresh (r ∷ rows) (k ∷ last) zero l = refl
+lines_at fresh (r ∷ rows) [] (suc p) l = lines_at fresh rows [] p (omega arith)
+lines_at fresh (r ∷ rows) (k ∷ last) (suc p) l = lines_at fresh rows last p (omega arith)
+
+lines_past : (fresh : Bool) (rows : List Row) (last : List Numbers) (p : ℕ) → length rows ≤ p → get_or (next_lines fresh rows last) p no_numbers ≡ no_numbers
+lines_past fresh [] last p l = refl
+lines_past fresh (r ∷ rows) last zero l = absurd (omega arith)
+lines_past fresh (r ∷ rows) [] (suc p) l = lines_past fresh rows [] p (omega arith)
+lines_past fresh (r ∷ rows) (k ∷ last) (suc p) l = lines_past fresh rows last p (omega arith)
+
+-- the numbers of the next packet, of an origin with a row
+pub next_at : (y : Member) (s : Sending) (p : ℕ) → p < length y.rows → numbers_at (next_packet y s) p ≡ next_numbers s.fresh (row_at y p) (numbers_at s.sent p)
+next_at y s p l = lines_at s.fresh y.rows s.sent.numbers p l
+
+-- and of one without
+pub next_past : (y : Member) (s : Sending) (p : ℕ) → length y.rows ≤ p → numbers_at (next_packet y s) p ≡ no_numbers
+next_past y s p l = lines_past s.fresh y.rows s.sent.numbers p l

@@ -1,0 +1,92 @@
+-- A member that has another marked dead stands where the ring's mark leaves it.
+use Rattle.std.proofs.Common.{◌≡◌, ℕ, ◌+◌, ◌<◌, true, nat_eq, nat_le, [], ◌∷◌, ◌++◌, length, map, max, None, refl, sym, ap, subst, ◌∙◌, arith}
+use Rattle.std.specs.Prelude.{◌&&◌}
+use Rattle.std.proofs.lemmas.List.{length_push}
+use Rattle.group_view.specs.View.{Group, entry_in}
+use Rattle.group_view.specs.Change.{marked}
+use Rattle.group_view.proofs.History.{Ends, mark_goes_on}
+use Rattle.group_view.proofs.Passing.{live_in}
+use Rattle.ring_world.specs.declared.phase.Phase.TheVariants.{Up, Stopped}
+use Rattle.ring_world.specs.View.{is_live}
+use Rattle.ring_world.specs.Machine.{Link, World, member_at, link_at, view_at, newest, left, runs_phase}
+use Rattle.ring_world.specs.OpenLinks.{version_of, since_in, comes_from_left, is_door_link}
+use Rattle.ring_world.specs.Step.{size, with_view}
+use Rattle.ring_world.specs.Event.{mark_refusal}
+use Rattle.ring_world.proofs.WhatRefuses.{MayLook}
+use Rattle.ring_world.proofs.Views.{view_old, view_new, left_old}
+use Rattle.ring_world.proofs.KeptMore.{mark_keeps}
+use Rattle.ring_world.proofs.Happens.{IsGood}
+use Rattle.ring_world.proofs.Enabled.{mark_lives, mark_stops}
+use Rattle.gm_member.specs.Stands.{incoming_in, waits_for, door_in, held_in}
+use Rattle.gm_member.proofs.DoorLists.{filter_agree}
+use Rattle.gm_member.proofs.DoorParts.{held_same}
+
+-- ---- one more view
+
+-- it changes no test in an earlier one
+comes_old : (w : World) (g : Group) (y u : ℕ) (l : Link) → u < length w.views → comes_from_left w y l u ≡ comes_from_left (with_view w g) y l u
+comes_old w g y u l lt =
+    ap (λ q. nat_eq l.sender q && nat_le (since_in w u y) l.opened) (sym (left_old w g u y lt))
+    ∙ ap (λ (v : Group). nat_eq l.sender (left (with_view w g) u y) && nat_le ((entry_in v.entries y).since) l.opened) (sym (view_old w g u lt))
+
+-- nor what a member holds
+pub view_held : (w : World) (g : Group) (x : ℕ) → IsGood w → held_in w x ≡ held_in (with_view w g) x
+view_held w g x h =
+    let some = h.inv.is_ring.some in
+    let upto = h.inv.is_ring.held x in
+    held_same x (member_at w x) (view_at w (version_of w x)) (view_at (with_view w g) (version_of w x)) _ _ _ _ (door_in w x) (door_in (with_view w g) x) w.initial w.more
+    (sym (view_old w g (version_of w x) (omega arith)))
+    refl
+    refl
+    (ap (map (incoming_in w)) (filter_agree (waits_for w x) (waits_for (with_view w g) x) 0 (length w.links)
+    (λ s a b. ap (λ p. is_door_link w x s && p) (comes_old w g x (max (version_of w x) (link_at w s).opened) (link_at w s) (omega (arith, h.inv.linked.opened s (omega arith)))))))
+
+-- ---- a mark
+
+-- x may have d marked dead
+pub record MayMark (w : World) (x d : ℕ) : Type 0 where
+  pub is_member : x < size w
+  pub up : (member_at w x).phase ≡ Up
+  pub rests : (member_at w d).phase ≡ Stopped
+  pub lives : is_live (view_at w (newest w)) d ≡ true
+
+-- by the ring's conditions
+pub may_mark : (w : World) (x d : ℕ) → x < size w → (member_at w x).phase ≡ Up → mark_refusal w x d ≡ None → MayMark w x d
+may_mark w x d l up r = record { is_member = l; up = up; rests = mark_stops w x d r; lives = mark_lives w x d r }
+
+-- the view that the mark makes, and the state that has it
+abbrev pub mark_view : World → ℕ → Group
+mark_view w d = marked (view_at w (newest w)) d
+
+abbrev pub mark_world : World → ℕ → World
+mark_world w d = with_view w (mark_view w d)
+
+-- that state is one in which everything holds
+pub mark_good : (w : World) (x d : ℕ) → MayMark w x d → IsGood w → IsGood (mark_world w d)
+mark_good w x d m h =
+    let g = view_at w (newest w) in
+    let v' = marked g d in
+    let more : length (w.views ++ v' ∷ []) ≡ length w.views + 1 = length_push w.views v' in
+    let some : 0 < length w.views = h.inv.is_ring.some in
+    record {
+      inv = mark_keeps w d (ap runs_phase m.rests) h.inv;
+      none_waits = h.none_waits;
+      views = record {
+        groups = h.views.groups ++ v' ∷ [];
+        is = ap (λ vs. vs ++ v' ∷ []) h.views.is;
+        ends = subst (Ends (h.views.groups ++ v' ∷ [])) (sym (view_new w v' (newest (with_view w v')) (omega arith)))
+            (mark_goes_on h.views.groups g d h.views.ends (record { there = live_in g.entries d m.lives; lives = m.lives }));
+      };
+    }
+
+-- x may look at that view
+pub mark_look : (w : World) (x d : ℕ) → MayMark w x d → IsGood w → MayLook (mark_world w d) x (newest w + 1)
+mark_look w x d m h =
+    let more : length (w.views ++ mark_view w d ∷ []) ≡ length w.views + 1 = length_push w.views (mark_view w d) in
+    let some : 0 < length w.views = h.inv.is_ring.some in
+    let upto = h.inv.is_ring.held x in
+    record { is_member = m.is_member; up = m.up; later = omega arith; upto = omega arith }
+
+-- it is the one that the mark makes
+pub mark_newest : (w : World) (d : ℕ) → IsGood w → view_at (mark_world w d) (newest w + 1) ≡ mark_view w d
+mark_newest w d h = let some : 0 < length w.views = h.inv.is_ring.some in view_new w (mark_view w d) (newest w + 1) (omega arith)

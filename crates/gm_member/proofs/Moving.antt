@@ -1,0 +1,63 @@
+-- A member that reads a view, by its structs.
+use Rattle.std.specs.List.{remove}
+use Rattle.std.proofs.Common.{◌≡◌, ℕ, suc, arith, ◌+◌, ◌<◌, length, get_or, take, drop, Bool, false, not, cond, ◌∷◌, ◌++◌, [], List, Some, map, sym, ap, subst, ◌∙◌}
+use Rattle.std.specs.Prelude.{MatchOption}
+use Rattle.std.proofs.lemmas.List.{take-map, drop-map, map-append, get_or-map}
+use Rattle.ring_names.specs.declared.numbers.MemberId.{MemberId}
+use Rattle.group_view.specs.View.{Group}
+use Rattle.group_view.specs.declared.request.Request.{Request}
+use Rattle.ordered_link.specs.declared.item.Item.{Item}
+use Rattle.ordered_link.specs.declared.item.EndReason.TheVariants.{Moved}
+use Rattle.ring_world.specs.View.{right_of}
+use Rattle.gm_member.specs.declared.packet.Load.{Load}
+use Rattle.gm_member.specs.declared.member.Member.{Member}
+use Rattle.gm_member.specs.View.{row_of, in_of, ring_link}
+use Rattle.gm_member.specs.declared.links.InLink.{InLink}
+use Rattle.gm_member.specs.Held.{Held, no_incoming, door_at, without, looked_held, first_out, sends_to, refreshed_held}
+use Rattle.gm_member.specs.Ends.{EndGets}
+use Rattle.gm_member.specs.Spares.{IsSpareFor, OpensOn}
+use Rattle.gm_member.specs.Shown.{When, SendsOn}
+
+-- a member that has to send to another does so after a refresh
+pub refreshed_moves : (h : Held) (v : Group) (to : ℕ) → sends_to h.out (right_of v h.id) ≡ false → to ≡ right_of v h.id → record (looked_held h v) { out = Some (first_out (looked_held h v) to) } ≡ refreshed_held h v
+refreshed_moves h v to b e =
+    ap (λ z. record (looked_held h v) { out = Some (first_out (looked_held h v) z) }) e
+    ∙ ap (λ c. record (looked_held h v) { out = cond c h.out (Some (first_out (looked_held h v) (right_of v h.id))) }) (sym b)
+
+module _ {O I : Type 0} where
+  -- what a member had before it looked, or made room, it had all the same
+  pub sends_from : (are_fresh : ℕ → O → I → Type 0) (free : O → ℕ) (ended : O → Bool) (puts : O → Item Load → O → Type 0) (version : ℕ) (to : MemberId) (m l n : Member O I) (requests : List (Request I))
+      → l.id ≡ m.id → l.credit ≡ m.credit → l.known ≡ m.known → l.out ≡ m.out → l.old_outs.items ≡ m.old_outs.items
+      → SendsOn are_fresh free ended puts version to l n requests → SendsOn are_fresh free ended puts version to m n requests
+  sends_from are_fresh free ended puts version to m l n requests ei ec ek eo es s = record {
+    spare = s.spare;
+    ready =
+        subst (λ c. IsSpareFor are_fresh free ended c.initial (map row_of m.known.items) s.spare) ec
+        (subst (λ ks. IsSpareFor are_fresh free ended l.credit.initial (map row_of ks.items) s.spare) ek s.ready);
+    link = s.link;
+    out = s.out;
+    opens =
+        subst (λ c. OpensOn puts c (map row_of m.known.items) m.id to version s.spare s.link requests) ec
+        (subst (λ i. OpensOn puts l.credit (map row_of m.known.items) i to version s.spare s.link requests) ei
+        (subst (λ ks. OpensOn puts l.credit (map row_of ks.items) l.id to version s.spare s.link requests) ek s.opens));
+    old_outs =
+        subst (λ i. MatchOption m.out (n.old_outs.items ≡ m.old_outs.items) (λ k. (o : O) × EndGets puts Moved k.end (Some o) × (n.old_outs.items ≡ m.old_outs.items ++ (ring_link i.0 k.to.0 k.opened, o) ∷ []))) ei
+        (subst (λ xs. MatchOption m.out (n.old_outs.items ≡ xs) (λ k. (o : O) × EndGets puts Moved k.end (Some o) × (n.old_outs.items ≡ xs ++ (ring_link l.id.0 k.to.0 k.opened, o) ∷ []))) es
+        (subst (λ p. MatchOption p (n.old_outs.items ≡ l.old_outs.items) (λ k. (o : O) × EndGets puts Moved k.end (Some o) × (n.old_outs.items ≡ l.old_outs.items ++ (ring_link l.id.0 k.to.0 k.opened, o) ∷ []))) eo s.old_outs));
+  }
+
+-- of two cases the one that is there
+pub when_not : (b : Bool) (P Q : Type 0) → b ≡ false → Q → When b P × When (not b) Q
+when_not b P Q e q = subst (λ c. When c P × When (not c) Q) (sym e) (tt, q)
+
+-- what is shown of the links of a door without one of them
+pub without_seen : {A B : Type 0} (f : A → B) (i : ℕ) (xs : List A) → map f (without i xs) ≡ without i (map f xs)
+without_seen f i xs = map-append f (take i xs) (drop (i + 1) xs) ∙ ap (λ zs. zs ++ map f (drop (i + 1) xs)) (sym (take-map f i xs)) ∙ ap (λ zs. take i (map f xs) ++ zs) (sym (drop-map f (i + 1) xs))
+
+-- and of the one
+pub door_seen_at : {I : Type 0} (l : InLink I) (links : List (InLink I)) (i : ℕ) → i < length links → l ≡ get_or links i l → in_of l ≡ door_at (map in_of links) i
+door_seen_at l links i lt e = ap in_of e ∙ sym (get_or-map in_of links i l no_incoming lt)
+
+-- a list after a removal
+pub removed : {A : Type 0} (i : ℕ) (xs : List A) → remove xs i ≡ without i xs
+removed i xs = let next : suc i ≡ i + 1 = omega arith in ap (λ n. take i xs ++ drop n xs) next

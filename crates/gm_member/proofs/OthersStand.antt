@@ -1,0 +1,65 @@
+-- What the other members hold after one has picked, refreshed or marked: as before, but for a link that opens to one of them.
+use Rattle.std.proofs.Common.{◌≡◌, ◌≢◌, ℕ, ◌<◌, Bool, true, false, cond, nat_eq, [], ◌∷◌, ◌++◌, length, map, Option, Some, None, refl, sym, ap, ◌∙◌}
+use Rattle.std.specs.Prelude.{option_map}
+use Rattle.std.specs.List.{filter, range_with_len}
+use Rattle.std.proofs.lemmas.List.{append-nil}
+use Rattle.ring_world.specs.View.{right_of}
+use Rattle.ring_world.specs.Machine.{World, Member, member_at, view_at}
+use Rattle.ring_world.specs.Step.{with_member, with_current, current_is, moved_to}
+use Rattle.ring_world.specs.Event.{refreshed}
+use Rattle.ring_world.proofs.WhatRefuses.{MayLook}
+use Rattle.ring_world.proofs.Happens.{IsGood}
+use Rattle.gm_member.specs.Held.{fresh_in}
+use Rattle.gm_member.specs.Stands.{incoming_in, outgoing_in, waits_for, door_in, held_in}
+use Rattle.gm_member.proofs.DoorParts.{held_from, held_same, waits_by, member_other}
+use Rattle.gm_member.proofs.OpenDoors.{sends_right, arriving, sending_member, opened_world, old_links, refresh_looks, refresh_opens, incoming_old, outgoing_old, door_after}
+use Rattle.gm_member.proofs.RefreshStands.{current_lt, nothing_opens}
+use Rattle.gm_member.proofs.WithinLinks.{IsWithin}
+
+-- ---- what is written of another member
+
+pub member_others : (w : World) (x y : ℕ) (m : Member) → y ≢ x → held_in (with_member w x m) y ≡ held_in w y
+member_others w x y m ne =
+    ap (λ k. held_from y k (view_at w k.version) (option_map (outgoing_in w) k.out) (option_map (incoming_in w) k.current) (map (incoming_in w) (filter (waits_by w y k.current k.version) (range_with_len 0 (length w.links)))) w.initial w.more) (member_other w x y m ne)
+
+-- a pick
+pub pick_others : (w : World) (x y : ℕ) (c : Option ℕ) → y ≢ x → held_in (current_is w x c) y ≡ held_in w y
+pick_others w x y c ne = member_others w x y (with_current c (member_at w x)) ne
+
+-- ---- a refresh
+
+-- where a link opens
+opens_others : (w : World) (x v y : ℕ) → MayLook w x v → IsGood w → IsWithin w y → y ≢ x → held_in (opened_world w x v (old_links w x)) y ≡ record (held_in w y) { door = door_in w y ++ cond (nat_eq (right_of (view_at w v) x) y) (fresh_in w.initial w.more x v ∷ []) [] }
+opens_others w x v y m h i ne =
+    let w' : World = opened_world w x v (old_links w x) in
+    let k : Member = member_at w y in
+    ap (λ k. held_from y k (view_at w k.version) (option_map (outgoing_in w') k.out) (option_map (incoming_in w') k.current) (map (incoming_in w') (filter (waits_by w' y k.current k.version) (range_with_len 0 (length w'.links)))) w.initial w.more) (member_other w x y (sending_member w x v (length w.links)) ne)
+    ∙ held_same y k (view_at w k.version) (view_at w k.version) (option_map (outgoing_in w') k.out) (option_map (outgoing_in w) k.out) (option_map (incoming_in w') k.current) (option_map (incoming_in w) k.current)
+    (map (incoming_in w') (filter (waits_by w' y k.current k.version) (range_with_len 0 (length w'.links)))) (door_in w y ++ cond (nat_eq (right_of (view_at w v) x) y) (fresh_in w.initial w.more x v ∷ []) []) w.initial w.more
+    refl
+    (same_out k.out (λ o e. i.out o e))
+    (same_current k.current (λ s e. i.current s e))
+    (door_after w x v y (waits_for w y) k.current k.version m h (h.inv.is_ring.held y) (current_lt w y (length w.links) k.current (λ s e. i.current s e)) (λ s l. refl))
+  where
+    same_out : (o : Option ℕ) → ((s : ℕ) → o ≡ Some s → s < length w.links) → option_map (outgoing_in (opened_world w x v (old_links w x))) o ≡ option_map (outgoing_in w) o
+    same_out None l = refl
+    same_out (Some s) l = ap Some (outgoing_old w x v s (l s refl))
+
+    same_current : (c : Option ℕ) → ((s : ℕ) → c ≡ Some s → s < length w.links) → option_map (incoming_in (opened_world w x v (old_links w x))) c ≡ option_map (incoming_in w) c
+    same_current None l = refl
+    same_current (Some s) l = ap Some (incoming_old w x v s (l s refl))
+
+-- a refresh of x: the link that opens stands last at the door of its receiver
+pub refresh_others : (w : World) (x v y : ℕ) → MayLook w x v → IsGood w → IsWithin w y → y ≢ x → held_in (refreshed w x v) y ≡ record (held_in w y) { door = (held_in w y).door ++ arriving w x v y }
+refresh_others w x v y m h i ne = by_out (sends_right w x v) refl
+  where
+    by_out : (b : Bool) → sends_right w x v ≡ b → held_in (refreshed w x v) y ≡ record (held_in w y) { door = door_in w y ++ arriving w x v y }
+    by_out true e =
+        ap (λ u. held_in u y) (refresh_looks w x v e)
+        ∙ member_others w x y (moved_to w x v) ne
+        ∙ ap (λ ls. record (held_in w y) { door = ls }) (sym (append-nil (door_in w y)))
+        ∙ ap (λ ls. record (held_in w y) { door = door_in w y ++ ls }) (sym (nothing_opens w x v y e))
+    by_out false e =
+        ap (λ u. held_in u y) (refresh_opens w x v m.is_member e)
+        ∙ opens_others w x v y m h i ne
+        ∙ ap (λ b. record (held_in w y) { door = door_in w y ++ cond b [] (cond (nat_eq (right_of (view_at w v) x) y) (fresh_in w.initial w.more x v ∷ []) []) }) (sym e)

@@ -1,0 +1,78 @@
+-- What is done to an end of a link that a member has.
+use Rattle.std.specs.Prelude.{◌≡◌, ◌⊎◌, ◌<◌, ◌≤◌, ℕ, List, [], ◌∷◌, ⊤, Option, None, Some, MatchOption}
+use mathlib.Core.List.{IsPrefix}
+use Rattle.ring_names.specs.declared.reason.Reason.{Reason}
+use Rattle.ring_names.specs.declared.reason.Reason.TheVariants.{LinkFull, NothingToTake, EndNext, PacketNext, ViewTooOld}
+use Rattle.ordered_link.specs.declared.item.EndReason.{EndReason}
+use Rattle.ordered_link.specs.declared.item.Item.{Item}
+use Rattle.ordered_link.specs.declared.item.Item.TheVariants as item
+use Rattle.gm_member.specs.declared.packet.Load.{Load}
+use Rattle.gm_member.specs.declared.fault.MemberFault.{MemberFault}
+use Rattle.gm_member.specs.declared.fault.MemberFault.TheVariants as faults
+use Rattle.gm_member.specs.Parcels.{Parcel}
+use Rattle.gm_member.specs.Loads.{parcel_in, on_link, GrantsIf}
+
+module _ {O : Type 0} where
+  -- the packet was put on the end
+  abbrev pub EndPuts : (O → Item Load → O → Type 0) → Parcel → Option O → Option O → Type 0
+  EndPuts puts k a b = (o : O) × (p : O) × (a ≡ Some o) × (b ≡ Some p) × puts o (on_link k) p
+
+  -- the end may know more
+  abbrev pub EndLooks : (O → O → Type 0) → Option O → Option O → Type 0
+  EndLooks looked a b = (b ≡ a) ⊎ (o : O) × (p : O) × (a ≡ Some o) × (b ≡ Some p) × looked o p
+
+  -- the end of the link was put on it
+  abbrev pub EndGets : (O → Item Load → O → Type 0) → EndReason → Option O → Option O → Type 0
+  EndGets puts reason a b = (o : O) × (p : O) × (a ≡ Some o) × (b ≡ Some p) × puts o (item.End reason) p
+
+  -- why an enabled put failed: memory was wanted, or the end had no room for a load
+  abbrev pub IsPutFault : (O → ℕ) → MemberFault → Option O → Type 0
+  IsPutFault free fault b = (fault ≡ faults.OutOfMemory) ⊎ ((fault ≡ faults.Refused LinkFull) × MatchOption b ⊥ (λ o. free o ≤ 1))
+
+module _ {I : Type 0} where
+  -- nothing is known to stand on the link, unless a grant waits
+  abbrev pub NothingIsNext : (I → List (Item Load)) → (I → Option ℕ) → Option I → Type 0
+  NothingIsNext known waiting a = MatchOption a ⊥ (λ i. (waiting i ≡ None) → known i ≡ [])
+
+  -- the end of the link is known to stand first on it
+  abbrev pub EndIsNext : (I → List (Item Load)) → Option I → Type 0
+  EndIsNext known a = MatchOption a ⊥ (λ i. (reason : EndReason) × IsPrefix (item.End reason ∷ []) (known i))
+
+  -- a packet is known to stand first on it, of which P holds
+  abbrev pub PacketIsNext : (I → List (Item Load)) → (Parcel → Type 0) → Option I → Type 0
+  PacketIsNext known P a = MatchOption a ⊥ (λ i. (x : Load) × IsPrefix (item.Load x ∷ []) (known i) × P (parcel_in x))
+
+  -- why a member whose view is of this version may take no packet: nothing stands there, the end is next, or the packet is of a newer
+  -- version
+  abbrev pub IsTakeRefusal : (I → List (Item Load)) → (I → Option ℕ) → ℕ → Reason → Option I → Type 0
+  IsTakeRefusal known waiting version reason a =
+      ((reason ≡ NothingToTake) × NothingIsNext known waiting a)
+      ⊎ (((reason ≡ EndNext) × EndIsNext known a)
+      ⊎ PacketIsNext known (λ k. (version < k.view) × (reason ≡ ViewTooOld k.view version)) a)
+
+  -- why it may not take the end
+  abbrev pub IsEndRefusal : (I → List (Item Load)) → (I → Option ℕ) → Reason → Option I → Type 0
+  IsEndRefusal known waiting reason a =
+      ((reason ≡ NothingToTake) × NothingIsNext known waiting a)
+      ⊎ ((reason ≡ PacketNext) × PacketIsNext known (λ _. ⊤) a)
+
+  -- why it took no packet: it may not, or memory was wanted for one that it may
+  abbrev pub IsTakeFault : (I → List (Item Load)) → (I → Option ℕ) → ℕ → MemberFault → Option I → Type 0
+  IsTakeFault known waiting version fault a =
+      ((reason : Reason) × (fault ≡ faults.Refused reason) × IsTakeRefusal known waiting version reason a)
+      ⊎ ((fault ≡ faults.OutOfMemory) × PacketIsNext known (λ k. k.view ≤ version) a)
+
+  -- a load was taken after a look, and no grant waits
+  abbrev pub EndTakes : (I → Option ℕ) → (I → Item Load → I → Type 0) → (I → I → Type 0) → Load → Option I → Option I → Type 0
+  EndTakes waiting takes looked x a b =
+      (i : I) × (j : I) × (z : I) × (a ≡ Some i) × looked i j × takes j (item.Load x) z × (waiting z ≡ None) × (b ≡ Some z)
+
+  -- a packet was taken after a look, and a grant given where one is due
+  abbrev pub EndTook : (I → Option ℕ) → (I → Item Load → I → Type 0) → (I → I → Type 0) → (I → ℕ → I → Type 0) → Option ℕ → Parcel → Option I → Option I → Type 0
+  EndTook waiting takes looked sends due k a b =
+      (i : I) × (j : I) × (y : I) × (z : I) × (a ≡ Some i) × looked i j × takes j (on_link k) y × (waiting y ≡ None)
+      × GrantsIf due sends y z × (b ≡ Some z)
+
+  -- the end of the link was taken after a look
+  abbrev pub EndEnds : (I → Item Load → I → Type 0) → (I → I → Type 0) → EndReason → Option I → Option I → Type 0
+  EndEnds takes looked reason a b = (i : I) × (j : I) × (z : I) × (a ≡ Some i) × looked i j × takes j (item.End reason) z × (b ≡ Some z)

@@ -1,0 +1,20 @@
+-- What stands on a link, and the grants that are given for it.
+use Rattle.std.specs.Prelude.{◌≡◌, ℕ, Option, None, Some}
+use Rattle.ordered_link.specs.declared.item.Item.{Item}
+use Rattle.ordered_link.specs.declared.item.Item.TheVariants as item
+use Rattle.gm_member.specs.declared.packet.Load.{Load}
+use Rattle.gm_member.specs.declared.packet.Load.TheVariants as load
+use Rattle.gm_member.specs.Parcels.{Parcel}
+
+-- the packet that a load is
+abbrev pub parcel_in : Load → Parcel
+parcel_in (load.Packet k) = k
+
+-- a packet as it stands on a link
+abbrev pub on_link : Parcel → Item Load
+on_link k = item.Load (load.Packet k)
+
+-- a grant was given where one is due
+abbrev pub GrantsIf : {I : Type 0} → Option ℕ → (I → ℕ → I → Type 0) → I → I → Type 0
+GrantsIf None sends i j = j ≡ i
+GrantsIf (Some amount) sends i j = sends i amount j

@@ -1,0 +1,36 @@
+-- What a spare link is, and what opening it does.
+use Rattle.std.specs.Prelude.{◌≡◌, ◌+◌, ℕ, Bool, true, false, List, [], ◌∷◌, None, Some}
+use Rattle.ring_names.specs.declared.numbers.CreditSpec.{CreditSpec}
+use Rattle.ring_names.specs.declared.numbers.MemberId.{MemberId}
+use Rattle.group_view.specs.declared.link.LinkKind.TheVariants.{Ring}
+use Rattle.group_view.specs.declared.request.Request.{Request}
+use Rattle.group_view.specs.declared.request.Request.TheVariants.{Deposit}
+use Rattle.ordered_link.specs.declared.item.Item.{Item}
+use Rattle.ring_world.specs.Rows.{Row}
+use Rattle.gm_member.specs.declared.packet.Load.{Load}
+use Rattle.gm_member.specs.declared.links.OutLink.{OutLink}
+use Rattle.gm_member.specs.declared.spare.Spare.{Spare}
+use Rattle.gm_member.specs.Loads.{on_link}
+use Rattle.gm_member.specs.View.{out_of}
+use Rattle.gm_member.specs.Held.{fresh_out, put_on, lines_on, next_sent, parcel_on}
+
+module _ {O I : Type 0} where
+  -- A spare link of a member with these rows: nothing was put on it, its packet is the first that the member will put, and no request
+  -- stands in its room.
+  pub record IsSpareFor (are_fresh : ℕ → O → I → Type 0) (free : O → ℕ) (ended : O → Bool) (initial : ℕ) (rows : List Row) (s : Spare O I) : Type 0 where
+    pub fresh : are_fresh initial s.out s.link
+    pub free_slots : free s.out ≡ initial + 1
+    pub unended : ended s.out ≡ false
+    pub first : s.packet.first ≡ true
+    pub lines : s.packet.lines ≡ lines_on rows (fresh_out 0 0 0 0)
+    pub sent : s.sent.items ≡ next_sent rows (fresh_out 0 0 0 0)
+    pub none : s.requests.items ≡ []
+
+  -- The link opens from one member to another, in a version: its first packet was put, and the receiving end stands in a request.
+  pub record OpensOn (puts : O → Item Load → O → Type 0) (credit : CreditSpec) (rows : List Row) (by to : MemberId) (version : ℕ) (s : Spare O I) (l : OutLink O) (requests : List (Request I)) : Type 0 where
+    pub held : out_of l ≡ put_on rows (fresh_out credit.initial credit.more to.0 version)
+    pub kept : l.kept ≡ None
+    pub end : O
+    pub there : l.end ≡ Some end
+    pub packet : puts s.out (on_link (parcel_on version rows (fresh_out credit.initial credit.more to.0 version))) end
+    pub deposit : requests ≡ Deposit by to version Ring s.link ∷ []

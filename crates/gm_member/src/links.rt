@@ -1,0 +1,386 @@
+//! The links of a member, each with the end that the member has of it.
+ghost use Rattle.std.specs.Prelude.{◌≡◌, ◌<◌};
+ghost use Rattle.std.specs.Vec.{vec_len};
+
+use crate::fault::MemberFault;
+use crate::known::{Known, has_nothing_new, next_lines, next_of_all};
+use crate::packet::{Load, Packet};
+use crate::taken::Taken;
+use credit_flow::{CreditIn, CreditOut};
+use group_view::{LinkKind, LinkName, View};
+use ordered_link::{EndReason, Item, LinkIn, LinkOut};
+use ring_names::{MemberId, OutOfMemory, Reason};
+use ring_world::Numbers;
+use std::alloc::Global;
+
+/// The link on which a member sends: to whom, from which version of its view on, what it has last sent on it, and
+/// the credit that is left (the right neighbour in the state of `gm`, and its `credit_flow`). `kept` is a grant that
+/// came back and isn't credit yet.
+#[derive(Drop)]
+pub struct OutLink<O> {
+    pub(crate) to: MemberId,
+    pub(crate) opened: u32,
+    pub(crate) fresh: bool,
+    pub(crate) sent: Vec<Numbers>,
+    pub(crate) credit: CreditOut,
+    pub(crate) kept: Option<u32>,
+    pub(crate) end: Option<O>,
+    ghost each_sent: { vec_len sent ≡ 64 },
+}
+
+/// A link from which a member takes or may take: from whom, from which version of that one's view on, and the
+/// loads counted on it (the left neighbour in the state of `gm`).
+#[derive(Drop)]
+pub struct InLink<I> {
+    pub(crate) from: MemberId,
+    pub(crate) opened: u32,
+    pub(crate) counted: CreditIn,
+    pub(crate) end: Option<I>,
+}
+
+impl<O> OutLink<O> {
+    ghost use Rattle.std.specs.Prelude.{◌≡◌, map, length, IfOk, IfSome, IfNone, Option};
+    ghost use Rattle.ring_names.specs.declared.reason.Reason.{Reason};
+    ghost use Rattle.gm_member.specs.Held.{out_refused, parcel_on, next_sent};
+    ghost use Rattle.gm_member.specs.View.{out_of, row_of};
+
+    /// What names the link, whose sender is given.
+    pub(crate) fn name(&self, from: MemberId) -> LinkName
+        ensures { result ≡ record { from = from; to = (self.now).to; view = (self.now).opened; kind = LinkKind.Ring } }
+    {
+        LinkName {
+            from,
+            to: self.to,
+            view: self.opened,
+            kind: LinkKind::Ring,
+        }
+    }
+
+    /// Why nothing can be put, of these rows: the link has no credit, or all numbers equal those last sent.
+    pub(crate) fn put_refusal(&self, known: &[Known]) -> Option<Reason>
+        requires { length known.now ≡ 64 }
+        ensures { result ≡ out_refused (map row_of known.now) (out_of self.now) }
+    {
+        if self.credit.blocked() {
+            return Some(Reason::NoCredit);
+        }
+        if has_nothing_new(known, &self.sent) {
+            return Some(Reason::NothingNew);
+        }
+        None
+    }
+
+    /// The next packet of these rows.
+    pub(crate) fn packet(
+        &self,
+        alloc: Global,
+        version: u32,
+        known: &[Known],
+    ) -> Result<Packet, OutOfMemory>
+        requires { length known.now ≡ 64 }
+        ensures { IfOk result (λ packet. packet ≡ parcel_on version (map row_of known.now) (out_of self.now)) }
+    {
+        let lines = next_lines(alloc, self.fresh, known, &self.sent)?;
+        Ok(Packet {
+            view: version,
+            first: self.fresh,
+            lines,
+        })
+    }
+
+    /// The numbers that it says.
+    pub(crate) fn numbers(
+        &self,
+        alloc: Global,
+        known: &[Known],
+    ) -> Result<Vec<Numbers>, OutOfMemory>
+        requires { length known.now ≡ 64 }
+        ensures { IfOk result (λ v. v.items ≡ next_sent (map row_of known.now) (out_of self.now)) }
+    {
+        next_of_all(alloc, self.fresh, known, &self.sent)
+    }
+}
+
+impl<O: LinkOut<Load>> OutLink<O> {
+    ghost use Rattle.std.specs.Prelude.{◌≡◌, ◌≤◌, false, map, length, OnOk, OnErr, IfErr, None, Some, MatchOption};
+    ghost use Rattle.ring_names.specs.declared.reason.Reason.{Reason};
+    ghost use Rattle.gm_member.specs.Held.{out_refused, parcel_on, put_on};
+    ghost use Rattle.gm_member.specs.View.{out_of, row_of};
+    ghost use Rattle.gm_member.specs.Ends.{EndPuts, EndLooks, IsPutFault};
+
+    /// The next packet of these rows goes on the link, of a sender whose view is of this version.
+    pub(crate) fn put(
+        &mut self,
+        alloc: Global,
+        version: u32,
+        known: &[Known],
+    ) -> Result<(), MemberFault>
+        requires known { length known.now ≡ 64 }
+        requires open { MatchOption self.old.end ⊥ (λ o. O.ended o ≡ false) }
+        requires enabled { out_refused (map row_of known.now) (out_of self.old) ≡ None }
+        ensures ok { OnOk result (out_of self.new ≡ put_on (map row_of known.now) (out_of self.old)) }
+        ensures packet { OnOk result (EndPuts O.puts (parcel_on version (map row_of known.now) (out_of self.old)) self.old.end self.new.end) }
+        ensures kept { self.new.kept ≡ self.old.kept }
+        ensures err { OnErr result (out_of self.new ≡ out_of self.old) }
+        ensures looks { OnErr result (EndLooks O.looked self.old.end self.new.end) }
+        ensures fault { IfErr result (λ fault. IsPutFault O.free fault self.new.end) }
+        ensures open { MatchOption self.new.end ⊥ (λ o. O.ended o ≡ false) }
+    {
+        let Ok(packet) = self.packet(alloc, version, known) else {
+            return Err(MemberFault::OutOfMemory);
+        };
+        let Ok(sent) = self.numbers(alloc, known) else {
+            return Err(MemberFault::OutOfMemory);
+        };
+        let Some(end) = &mut self.end else {
+            unreachable!()
+        };
+        match end.put(Load::Packet(packet)) {
+            Ok(()) => {}
+            Err(_load) => return Err(MemberFault::Refused(Reason::LinkFull)),
+        }
+        self.sent = sent;
+        self.fresh = false;
+        self.credit.send();
+        Ok(())
+    }
+}
+
+impl<O: LinkOut<Load> + Drop> OutLink<O> {
+    ghost use Rattle.std.specs.Prelude.{◌≡◌, ◌↔◌, ◌⊎◌, ◌<◌, [], false, true, length, IsTrue, IfSome, IfNone, IsSome, None, Some, MatchOption, ⊤, ℕ};
+    ghost use Rattle.gm_member.specs.View.{out_of};
+    ghost use Rattle.gm_member.specs.Ends.{EndGets, EndLooks};
+
+    /// The link ends.
+    pub(crate) fn finish(&mut self, reason: EndReason)
+        requires { MatchOption self.old.end ⊥ (λ o. O.ended o ≡ false) }
+        ensures same { out_of self.new ≡ out_of self.old }
+        ensures ends { EndGets O.puts reason self.old.end self.new.end }
+        ensures kept { self.new.kept ≡ self.old.kept }
+    {
+        let Some(end) = &mut self.end else {
+            unreachable!()
+        };
+        end.end(reason);
+    }
+
+    /// The end of the link, on which its end was put.
+    pub(crate) fn into_ended(self, reason: EndReason) -> O
+        requires { MatchOption self.end ⊥ (λ o. O.ended o ≡ false) }
+        ensures { EndGets O.puts reason self.end (Some result) }
+    {
+        let mut link = self;
+        let Some(mut end) = link.end.take() else {
+            unreachable!()
+        };
+        end.end(reason);
+        end
+    }
+
+    /// Whether a grant is kept, or has come back.
+    pub(crate) fn has_grant(&mut self) -> bool
+        requires { MatchOption self.old.end ⊥ (λ o. O.ended o ≡ false) }
+        ensures same { out_of self.new ≡ out_of self.old }
+        ensures kept { self.new.kept ≡ self.old.kept }
+        ensures looks { EndLooks O.looked self.old.end self.new.end }
+        ensures some { result ≡ true → IsSome self.new.kept ⊎ MatchOption self.new.end ⊥ (λ o. 0 < length (O.grants o)) }
+        ensures none { result ≡ false → (self.new.kept ≡ None) × MatchOption self.new.end ⊤ (λ o. O.grants o ≡ []) }
+        ensures open { MatchOption self.new.end ⊥ (λ o. O.ended o ≡ false) }
+    {
+        if self.kept.is_some() {
+            return true;
+        }
+        let Some(end) = &mut self.end else {
+            unreachable!()
+        };
+        end.has_grant()
+    }
+
+    /// The grant that is kept, or the oldest that has come back, which is kept from now on.
+    pub(crate) fn granted(&mut self) -> Option<u32>
+        requires { MatchOption self.old.end ⊥ (λ o. O.ended o ≡ false) }
+        ensures same { out_of self.new ≡ out_of self.old }
+        ensures some { IfSome result (λ amount. (self.new.kept ≡ Some amount)
+            × (((self.old.kept ≡ Some amount) × (self.new.end ≡ self.old.end))
+            ⊎ (self.old.kept ≡ None) × (o : O) × (p : O) × (self.old.end ≡ Some o) × (self.new.end ≡ Some p) × O.gains o amount p)) }
+        ensures none { IfNone result ((self.old.kept ≡ None) × (self.new.kept ≡ None)
+            × EndLooks O.looked self.old.end self.new.end × MatchOption self.new.end ⊤ (λ o. O.grants o ≡ [])) }
+        ensures open { MatchOption self.new.end ⊥ (λ o. O.ended o ≡ false) }
+    {
+        if self.kept.is_some() {
+            return self.kept;
+        }
+        let Some(end) = &mut self.end else {
+            unreachable!()
+        };
+        self.kept = end.granted();
+        self.kept
+    }
+}
+
+impl<I> InLink<I> {
+    ghost use Rattle.std.specs.Prelude.{◌≡◌};
+
+    /// What names the link, whose receiver is given.
+    pub(crate) fn name(&self, to: MemberId) -> LinkName
+        ensures { result ≡ record { from = (self.now).from; to = to; view = (self.now).opened; kind = LinkKind.Ring } }
+    {
+        LinkName {
+            from: self.from,
+            to,
+            view: self.opened,
+            kind: LinkKind::Ring,
+        }
+    }
+}
+
+impl<I: LinkIn<Load>> InLink<I> {
+    ghost use Rattle.std.specs.Prelude.{◌≡◌, ◌≤◌, ◌+◌, map, length, OnOk, OnErr, IfOk, IfErr, IfSome, IfNone, None, Some, IsSome, MatchOption, Option};
+    ghost use Rattle.credit_flow.specs.Credit.{grant_due};
+    ghost use Rattle.ring_world.specs.Step.{is_owned};
+    ghost use Rattle.gm_member.specs.Held.{counted_in};
+    ghost use Rattle.gm_member.specs.News.{news_below};
+    ghost use Rattle.gm_member.specs.View.{in_of, row_of};
+    ghost use Rattle.gm_member.specs.Ends.{EndLooks, EndTakes, EndTook, EndEnds, PacketIsNext, EndIsNext, IsTakeRefusal, IsEndRefusal, IsTakeFault};
+    ghost use Rattle.gm_member.specs.Loads.{parcel_in, GrantsIf};
+
+    /// Why no packet may be taken, by a member whose view is of this version: `NothingToTake` where the end gives no
+    /// item in this call, `EndNext` where the next item is the end of the link, `ViewTooOld` where it is a packet of a
+    /// newer version.
+    pub(crate) fn take_refusal(&mut self, version: u32) -> Option<Reason>
+        requires { IsSome self.old.end }
+        ensures same { in_of self.new ≡ in_of self.old }
+        ensures looks { EndLooks I.looked self.old.end self.new.end }
+        ensures some { IfSome result (λ r. IsTakeRefusal I.known I.waiting version r self.new.end) }
+        ensures none { IfNone result (PacketIsNext I.known (λ k. k.view ≤ version) self.new.end) }
+    {
+        let Some(end) = &mut self.end else {
+            unreachable!()
+        };
+        match end.peek() {
+            Some(Item::Load(load)) => load.view_refusal(version),
+            Some(Item::End(_)) => Some(Reason::EndNext),
+            None => Some(Reason::NothingToTake),
+        }
+    }
+
+    /// Why its end may not be taken: `NothingToTake` where the end gives no item in this call, `PacketNext` where the
+    /// next item is a packet.
+    pub(crate) fn end_refusal(&mut self) -> Option<Reason>
+        requires { IsSome self.old.end }
+        ensures same { in_of self.new ≡ in_of self.old }
+        ensures looks { EndLooks I.looked self.old.end self.new.end }
+        ensures some { IfSome result (λ r. IsEndRefusal I.known I.waiting r self.new.end) }
+        ensures none { IfNone result (EndIsNext I.known self.new.end) }
+    {
+        let Some(end) = &mut self.end else {
+            unreachable!()
+        };
+        match end.peek() {
+            Some(Item::Load(_)) => Some(Reason::PacketNext),
+            Some(Item::End(_)) => None,
+            None => Some(Reason::NothingToTake),
+        }
+    }
+
+    /// The oldest packet, and copies of the messages that it brings to a member with these rows and this view.
+    fn take_load(
+        &mut self,
+        alloc: Global,
+        known: &[Known],
+        view: &View,
+        id: MemberId,
+    ) -> Result<(Vec<Taken>, Load), MemberFault>
+        requires known { length known.now ≡ 64 }
+        requires there { IsSome self.old.end }
+        ensures same { in_of self.new ≡ in_of self.old }
+        ensures ok { IfOk result (λ r. EndTakes I.waiting I.takes I.looked r.1 self.old.end self.new.end) }
+        ensures version { IfOk result (λ r. (parcel_in r.1).view ≤ view.now.version) }
+        ensures news { IfOk result (λ r. r.0.items
+            ≡ news_below 64 (λ p. is_owned view.now id.0 self.old.from.0 (p + 1)) (map row_of known.now) (parcel_in r.1).lines) }
+        ensures fault { IfErr result (λ fault. IsTakeFault I.known I.waiting view.now.version fault self.new.end) }
+        ensures looks { OnErr result (EndLooks I.looked self.old.end self.new.end) }
+    {
+        let from = self.from;
+        let Some(end) = &mut self.end else {
+            unreachable!()
+        };
+        let news = match end.peek() {
+            Some(Item::Load(load)) => {
+                if let Some(reason) = load.view_refusal(view.version) {
+                    return Err(MemberFault::Refused(reason));
+                }
+                load.news_from(alloc, known, view, id, from)
+            }
+            Some(Item::End(_)) => return Err(MemberFault::Refused(Reason::EndNext)),
+            None => return Err(MemberFault::Refused(Reason::NothingToTake)),
+        };
+        let Ok(news) = news else {
+            return Err(MemberFault::OutOfMemory);
+        };
+        match end.take() {
+            Some(Item::Load(load)) => Ok((news, load)),
+            _ => unreachable!(),
+        }
+    }
+
+    /// Counts a packet, and grants credit where that is due.
+    fn count(&mut self)
+        requires { MatchOption self.old.end ⊥ (λ i. I.waiting i ≡ None) }
+        ensures counted { in_of self.new ≡ counted_in (in_of self.old) }
+        ensures grants { (i : I) → self.old.end ≡ Some i → (j : I) × (self.new.end ≡ Some j) × GrantsIf (grant_due self.old.counted) I.sends i j }
+    {
+        let Some(end) = &mut self.end else {
+            unreachable!()
+        };
+        if let Some(amount) = self.counted.took() {
+            end.grant(amount);
+        }
+    }
+
+    /// The oldest packet, which is counted, and copies of the messages that it brings.
+    pub(crate) fn take(
+        &mut self,
+        alloc: Global,
+        known: &[Known],
+        view: &View,
+        id: MemberId,
+    ) -> Result<(Vec<Taken>, Packet), MemberFault>
+        requires known { length known.now ≡ 64 }
+        requires there { IsSome self.old.end }
+        ensures counted { OnOk result (in_of self.new ≡ counted_in (in_of self.old)) }
+        ensures took { IfOk result (λ r. EndTook I.waiting I.takes I.looked I.sends (grant_due self.old.counted) r.1 self.old.end self.new.end) }
+        ensures version { IfOk result (λ r. r.1.view ≤ view.now.version) }
+        ensures news { IfOk result (λ r. r.0.items
+            ≡ news_below 64 (λ p. is_owned view.now id.0 self.old.from.0 (p + 1)) (map row_of known.now) r.1.lines) }
+        ensures fault { IfErr result (λ fault. IsTakeFault I.known I.waiting view.now.version fault self.new.end) }
+        ensures err { OnErr result (in_of self.new ≡ in_of self.old) }
+        ensures looks { OnErr result (EndLooks I.looked self.old.end self.new.end) }
+    {
+        let (news, load) = self.take_load(alloc, known, view, id)?;
+        self.count();
+        Ok((news, load.into_packet()))
+    }
+
+    /// The end of the link.
+    pub(crate) fn take_end(&mut self) -> Result<EndReason, Reason>
+        requires { IsSome self.old.end }
+        ensures same { in_of self.new ≡ in_of self.old }
+        ensures ok { IfOk result (λ reason. EndEnds I.takes I.looked reason self.old.end self.new.end) }
+        ensures reason { IfErr result (λ r. IsEndRefusal I.known I.waiting r self.new.end) }
+        ensures looks { OnErr result (EndLooks I.looked self.old.end self.new.end) }
+    {
+        let Some(end) = &mut self.end else {
+            unreachable!()
+        };
+        match end.peek() {
+            Some(Item::Load(_)) => return Err(Reason::PacketNext),
+            Some(Item::End(_)) => {}
+            None => return Err(Reason::NothingToTake),
+        }
+        match end.take() {
+            Some(Item::End(reason)) => Ok(reason),
+            _ => unreachable!(),
+        }
+    }
+}

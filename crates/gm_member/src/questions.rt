@@ -1,0 +1,283 @@
+//! The questions of a member to the registrar.
+ghost use Rattle.std.specs.Prelude.{◌≡◌};
+
+use crate::arrivals::arrive_all;
+use crate::fault::MemberFault;
+use crate::member::Member;
+use crate::packet::Load;
+use crate::spare::Spare;
+use crate::views::{right, version};
+use group_view::{Answer, Deposited, Request, View};
+use ordered_link::{LinkIn, LinkPair};
+use ring_names::{Items, MemberId, OutOfMemory};
+
+/// What a member asks of the registrar.
+#[derive(Clone, Copy, PartialEq, Eq, Debug)]
+pub enum Ask {
+    /// To mark a neighbour that has stopped.
+    Mark(MemberId),
+    /// For the newest view.
+    Refresh,
+    /// For the links that wait for it.
+    Collect,
+}
+
+impl<O: LinkPair<Load, In = I>, I: LinkIn<Load> + Drop> Member<O, I> {
+    ghost use Rattle.std.specs.Prelude.{◌≡◌, ◌⊎◌, ◌+◌, ◌<◌, ◌≤◌, ◌∷◌, ◌^◌, ◌||◌, ℕ, [], OnOk, OnErr, IfOk, IfErr, IfSome, IfNone, IsOk, IsSome, None, Some, Ok, Err, length, false, true, is_some, MatchOption, vec_len, vec_capacity};
+    ghost use Rattle.ring_names.specs.declared.reason.Reason.{Reason};
+    ghost use Rattle.group_view.specs.Ring.{is_in};
+    ghost use Rattle.ring_world.specs.declared.event.Event.TheVariants.{Refresh as TheRefresh};
+    ghost use Rattle.ring_world.specs.Machine.{view_at, newest};
+    ghost use Rattle.ring_world.specs.View.{ids};
+    ghost use Rattle.gm_member.specs.View.{count_of};
+    ghost use Rattle.gm_member.specs.Held.{ask_refused, asking_held, answered_held, collected_held, refreshed_held};
+    ghost use Rattle.gm_member.specs.Stands.{WhereItStands, StepsTo, with_own_link};
+    ghost use Rattle.gm_member.specs.Shown.{When, held_of, ends_of, OutIsReady, LooksBy, MovesTo, IsReadyToMove, SpareIsReady, SpareIsSound, HasRoom};
+    ghost use Rattle.gm_member.specs.Arrivals.{incoming_of, with_arrived};
+    ghost use Rattle.gm_member.specs.Questions.{may_bring_view, has_link as has_a_link, asked_for, OfView, OfLinks, OfWord, answered_by};
+
+    /// Makes room at the member's door for so many links that the registrar may hand it, and for their ends among
+    /// those that it has left. Only want of memory refuses it, and then too all stands as before.
+    pub fn make_room(&mut self, links: usize) -> Result<(), OutOfMemory>
+        ensures held { held_of self.new ≡ held_of self.old }
+        ensures ends { ends_of self.new ≡ ends_of self.old }
+        ensures room { OnOk result (HasRoom links self.new) }
+        ensures memory { HasRoom links self.old → IsOk result }
+        ensures out { (self.new.out ≡ self.old.out) × (self.new.old_outs ≡ self.old.old_outs) }
+        ensures same { (self.new.id ≡ self.old.id) × (self.new.credit ≡ self.old.credit) × (self.new.known ≡ self.old.known) × (self.new.spare ≡ self.old.spare) }
+    {
+        let Some(ends) = self.ends_with(links) else {
+            return Err(OutOfMemory);
+        };
+        if self.door.reserve(links).is_err() {
+            return Err(OutOfMemory);
+        }
+        if self.old_ins.reserve(ends).is_err() {
+            return Err(OutOfMemory);
+        }
+        Ok(())
+    }
+
+    /// How many links the member has with so many further ones: none where no vector has so many.
+    fn ends_with(&self, links: usize) -> Option<usize>
+        ensures some { IfSome result (λ n. n ≡ vec_len self.now.door + count_of self.now.current + links) }
+        ensures none { IfNone result (2 ^ 64 ≤ vec_len self.now.door + count_of self.now.current + links) }
+    {
+        let all = self.door.len().checked_add(links)?;
+        match &self.current {
+            Some(_) => all.checked_add(1),
+            None => Some(all),
+        }
+    }
+
+    /// The member asks the registrar, and does nothing more until the answer comes; the request is what is to be asked.
+    /// For a mark and for a view it gets a link ready, with which the answer wants no memory. Refused with `Stopped`,
+    /// `Waiting`, and `AwaitingAnswer` while an earlier question is open. As `gm:record_dead_member_in_group` and
+    /// `gm:read_group`.
+    pub fn ask(&mut self, what: Ask) -> Result<Request<I>, MemberFault>
+        ensures enabled { OnOk result (ask_refused (held_of self.old) ≡ None) }
+        ensures ok { OnOk result (held_of self.new ≡ asking_held (held_of self.old)) }
+        ensures request { IfOk result (λ r. r ≡ asked_for (held_of self.old) what) }
+        ensures refused { (r : Reason) → ask_refused (held_of self.old) ≡ Some r
+            → result ≡ Err (MemberFault.Refused r) }
+        ensures fault { IfErr result (λ fault. ((fault ≡ MemberFault.OutOfMemory) × (ask_refused (held_of self.old) ≡ None))
+            ⊎ (r : Reason) × (fault ≡ MemberFault.Refused r) × (ask_refused (held_of self.old) ≡ Some r)) }
+        ensures err { OnErr result (held_of self.new ≡ held_of self.old) }
+        ensures ends { ends_of self.new ≡ ends_of self.old }
+        ensures room { (n : ℕ) → HasRoom n self.old → HasRoom n self.new }
+        ensures spare { OnOk result (When (may_bring_view what) (SpareIsReady O.are_fresh O.free O.ended self.new)) }
+        ensures sound { OnOk result (SpareIsSound O.are_fresh O.free O.ended self.new) }
+    {
+        if let Some(reason) = self.up_refusal() {
+            return Err(MemberFault::Refused(reason));
+        }
+        if self.make_ready(what).is_err() {
+            return Err(MemberFault::OutOfMemory);
+        }
+        self.asked = true;
+        Ok(self.request(what))
+    }
+
+    /// A link is ready where the answer may be a view; else there is none.
+    fn make_ready(&mut self, what: Ask) -> Result<(), OutOfMemory>
+        ensures held { held_of self.new ≡ held_of self.old }
+        ensures ends { ends_of self.new ≡ ends_of self.old }
+        ensures ins { (self.new.current ≡ self.old.current) × (self.new.door ≡ self.old.door) × (self.new.old_ins ≡ self.old.old_ins) }
+        ensures same { (self.new.phase ≡ self.old.phase) × (self.new.id ≡ self.old.id) }
+        ensures spare { OnOk result (When (may_bring_view what) (SpareIsReady O.are_fresh O.free O.ended self.new)) }
+        ensures sound { OnOk result (SpareIsSound O.are_fresh O.free O.ended self.new) }
+    {
+        match what {
+            Ask::Collect => self.spare = None,
+            Ask::Mark(_) | Ask::Refresh => {
+                let spare = self.prepare()?;
+                self.spare = Some(spare);
+            }
+        }
+        Ok(())
+    }
+
+    /// Whether the member takes from a link, or has one at its door from its left neighbour.
+    fn has_link(&self) -> bool
+        ensures { result ≡ has_a_link (held_of self.now) }
+    {
+        self.current.is_some() || self.first_at_door().is_some()
+    }
+
+    /// What is to be asked of the registrar.
+    fn request(&self, what: Ask) -> Request<I>
+        ensures { result ≡ asked_for (held_of self.now) what }
+    {
+        match what {
+            Ask::Mark(dead) => Request::Mark {
+                by: self.id,
+                dead,
+                view: version(&self.view),
+                has_current: self.has_link(),
+            },
+            Ask::Refresh => Request::Refresh { by: self.id },
+            Ask::Collect => Request::Collect { by: self.id },
+        }
+    }
+
+    /// The registrar's answer closes the member's question. A view is read as by `refresh`; links come to the door in their
+    /// order where they may yet be taken from, and the ends of the others join those that the member has left; else
+    /// nothing more is done. The answer is what is to be asked of the registrar then. Want of memory leaves all as it stood, and
+    /// comes only of a view where no link is ready, and of links for which there is no room.
+    pub fn answer(&mut self, answer: Answer<I>) -> Result<Vec<Request<I>>, (Answer<I>, OutOfMemory)>
+        requires open { (held_of self.old).asks ≡ true }
+        requires stands { OfView answer (λ v. is_in self.old.id.0 (ids v) ≡ true) }
+        requires ready { OfView answer (λ _. OutIsReady O.ended self.old) }
+        requires sound { SpareIsSound O.are_fresh O.free O.ended self.old }
+        ensures ok { OnOk result (held_of self.new ≡ answered_by (held_of self.old) answer) }
+        ensures links { OnOk result (OfView answer (λ v. LooksBy v self.old self.new)) }
+        ensures moves { IfOk result (λ requests. OfView answer (λ v. MovesTo O.are_fresh O.free O.ended O.puts v self.old self.new requests.items)) }
+        ensures arrived { OnOk result (OfLinks answer (λ links. ends_of self.new ≡ with_arrived (held_of self.old) (ends_of self.old) links)) }
+        ensures arrived_none { IfOk result (λ requests. OfLinks answer (λ _. requests.items ≡ [])) }
+        ensures told { OnOk result (OfWord answer (ends_of self.new ≡ ends_of self.old)) }
+        ensures told_none { IfOk result (λ requests. OfWord answer (requests.items ≡ [])) }
+        ensures dropped { OnOk result (self.new.spare ≡ None) }
+        ensures err { OnErr result (held_of self.new ≡ held_of self.old) }
+        ensures err_ends { OnErr result (ends_of self.new ≡ ends_of self.old) }
+        ensures err_sound { OnErr result (SpareIsSound O.are_fresh O.free O.ended self.new) }
+        ensures back { IfErr result (λ e. e.0 ≡ answer) }
+        ensures spared { OfView answer (λ _. IsSome self.old.spare → IsOk result) }
+        ensures roomy { OfLinks answer (λ links. HasRoom (length links) self.old → IsOk result) }
+        ensures told_ok { OfWord answer (IsOk result) }
+
+        // Wherever the member, its question closed, stands in a state of a run, and the view is the ring's newest, this is the
+        // ring's event. A member that is left alone stands there once the link that it opens to itself has come to its door.
+        ensures steps { OnOk result (OfView answer (λ v. WhereItStands (answered_held (held_of self.old)) (λ w x. v ≡ view_at w (newest w)
+            → StepsTo w x (TheRefresh (held_of self.old).name v.version) (with_own_link (held_of self.old) v (held_of self.new))))) }
+    {
+        match answer {
+            Answer::Viewed(view) => match self.read_answer(view) {
+                Ok(requests) => Ok(requests),
+                Err((view, fault)) => Err((Answer::Viewed(view), fault)),
+            },
+            Answer::Links(links) => match self.collect(links.into_vec()) {
+                Ok(()) => Ok(Vec::new(self.alloc)),
+                Err((links, fault)) => Err((Answer::Links(Items::from_vec(links)), fault)),
+            },
+            Answer::Noted | Answer::No(_) => {
+                self.close();
+                Ok(Vec::new(self.alloc))
+            }
+        }
+    }
+
+    /// The question is closed, and no link is ready.
+    fn close(&mut self)
+        ensures held { held_of self.new ≡ answered_held (held_of self.old) }
+        ensures ends { ends_of self.new ≡ ends_of self.old }
+        ensures ins { (self.new.current ≡ self.old.current) × (self.new.door ≡ self.old.door) × (self.new.old_ins ≡ self.old.old_ins) }
+        ensures outs { (self.new.out ≡ self.old.out) × (self.new.old_outs ≡ self.old.old_outs) }
+        ensures same { (self.new.id ≡ self.old.id) × (self.new.credit ≡ self.old.credit) × (self.new.known ≡ self.old.known) }
+        ensures spare { self.new.spare ≡ None }
+    {
+        self.asked = false;
+        self.spare = None;
+    }
+
+    /// The link that is ready, or one that is made so.
+    fn take_spare(&mut self) -> Result<Spare<O, I>, OutOfMemory>
+        requires { SpareIsSound O.are_fresh O.free O.ended self.old }
+        ensures held { held_of self.new ≡ held_of self.old }
+        ensures ends { (self.new.out ≡ self.old.out) × (self.new.current ≡ self.old.current) × (self.new.door ≡ self.old.door)
+            × (self.new.old_outs.items ≡ self.old.old_outs.items) × (self.new.old_ins ≡ self.old.old_ins) }
+        ensures same { (self.new.id ≡ self.old.id) × (self.new.credit ≡ self.old.credit) × (self.new.known ≡ self.old.known) }
+        ensures taken { self.new.spare ≡ None }
+        ensures ready { IfOk result (λ spare. IsReadyToMove O.are_fresh O.free O.ended self.new spare) }
+        ensures memory { IsSome self.old.spare → IsOk result }
+    {
+        match self.spare.take() {
+            Some(spare) => Ok(spare),
+            None => self.prepare(),
+        }
+    }
+
+    /// A view closes the question, and is read.
+    fn read_answer(&mut self, view: View) -> Result<Vec<Request<I>>, (View, OutOfMemory)>
+        requires open { (held_of self.old).asks ≡ true }
+        requires stands { is_in self.old.id.0 (ids view) ≡ true }
+        requires ready { OutIsReady O.ended self.old }
+        requires sound { SpareIsSound O.are_fresh O.free O.ended self.old }
+        ensures ok { OnOk result (held_of self.new ≡ refreshed_held (answered_held (held_of self.old)) view) }
+        ensures links { OnOk result (LooksBy view self.old self.new) }
+        ensures moves { IfOk result (λ requests. MovesTo O.are_fresh O.free O.ended O.puts view self.old self.new requests.items) }
+        ensures dropped { OnOk result (self.new.spare ≡ None) }
+        ensures err { OnErr result (held_of self.new ≡ held_of self.old) }
+        ensures err_ends { OnErr result (ends_of self.new ≡ ends_of self.old) }
+        ensures err_spare { OnErr result (self.new.spare ≡ None) }
+        ensures back { IfErr result (λ e. e.0 ≡ view) }
+        ensures memory { IsSome self.old.spare → IsOk result }
+    {
+        let to = right(&view, self.id);
+        if self.sends_to(to) {
+            self.close();
+            self.look(view);
+            return Ok(Vec::new(self.alloc));
+        }
+        let Ok(spare) = self.take_spare() else {
+            return Err((view, OutOfMemory));
+        };
+        self.close();
+        Ok(self.read(view, to, spare))
+    }
+
+    /// Links close the question, and come to the door.
+    fn collect(&mut self, links: Vec<Deposited<I>>) -> Result<(), (Vec<Deposited<I>>, OutOfMemory)>
+        ensures ok { OnOk result (held_of self.new ≡ collected_held (answered_held (held_of self.old)) (incoming_of (held_of self.old) links.items)) }
+        ensures arrived { OnOk result (ends_of self.new ≡ with_arrived (held_of self.old) (ends_of self.old) links.items) }
+        ensures dropped { OnOk result (self.new.spare ≡ None) }
+        ensures err { OnErr result (held_of self.new ≡ held_of self.old) }
+        ensures err_ends { OnErr result (ends_of self.new ≡ ends_of self.old) }
+        ensures err_same { OnErr result ((self.new.id ≡ self.old.id) × (self.new.credit ≡ self.old.credit) × (self.new.known ≡ self.old.known)
+            × (self.new.spare ≡ self.old.spare) × (self.new.old_outs ≡ self.old.old_outs)) }
+        ensures back { IfErr result (λ e. e.0 ≡ links) }
+        ensures memory { HasRoom (length links.items) self.old → IsOk result }
+    {
+        if self.make_room(links.len()).is_err() {
+            return Err((links, OutOfMemory));
+        }
+        self.welcome(links);
+        self.close();
+        Ok(())
+    }
+
+    /// Links come to the door, for which there is room.
+    fn welcome(&mut self, links: Vec<Deposited<I>>)
+        requires { HasRoom (length links.items) self.old }
+        ensures held { held_of self.new ≡ collected_held (held_of self.old) (incoming_of (held_of self.old) links.items) }
+        ensures ends { ends_of self.new ≡ with_arrived (held_of self.old) (ends_of self.old) links.items }
+    {
+        arrive_all(
+            &self.view,
+            self.id,
+            self.credit,
+            links,
+            &mut self.door,
+            &mut self.old_ins,
+        );
+    }
+}

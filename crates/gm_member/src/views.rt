@@ -1,0 +1,60 @@
+//! What a member's view says of it and of a link.
+ghost use Rattle.std.specs.Prelude.{◌≡◌, ◌+◌, ◌<◌, true};
+ghost use Rattle.group_view.specs.Ring.{is_in};
+ghost use Rattle.group_view.specs.View.{entry_in};
+ghost use Rattle.ring_world.specs.View.{ids, left_of as the_left, right_of as the_right};
+ghost use Rattle.ring_world.specs.Step.{is_owned};
+
+use group_view::{Entry, View};
+use ring_names::MemberId;
+
+/// Since when the left neighbour of an entry has been it; 0 without the entry.
+fn since_in(entries: &[Entry], id: MemberId) -> u32
+    ensures { result ≡ (entry_in entries.now id.0).since }
+{
+    for entry in entries {
+        if entry.id.0 == id.0 {
+            return entry.since;
+        }
+    }
+    0
+}
+
+/// The version of a view.
+pub(crate) fn version(view: &View) -> u32
+    ensures { result ≡ view.now.version }
+{
+    view.version
+}
+
+/// Since when the left neighbour that the view gives to an entry has been it.
+pub(crate) fn since(view: &View, id: MemberId) -> u32
+    ensures { result ≡ (entry_in view.now.entries id.0).since }
+{
+    since_in(view.entries.as_slice(), id)
+}
+
+/// The left neighbour of an entry.
+pub(crate) fn left(view: &View, id: MemberId) -> MemberId
+    requires { is_in id.0 (ids view.now) ≡ true }
+    ensures { result.0 ≡ the_left view.now id.0 }
+{
+    view.left_of(id)
+}
+
+/// The right neighbour of an entry.
+pub(crate) fn right(view: &View, id: MemberId) -> MemberId
+    requires { is_in id.0 (ids view.now) ≡ true }
+    ensures { result.0 ≡ the_right view.now id.0 }
+{
+    view.right_of(id)
+}
+
+/// Whether a member answers, against a sender, for the origin at a place, whose id is one more.
+pub(crate) fn owns(view: &View, id: MemberId, from: MemberId, place: usize) -> bool
+    requires { place < 64 }
+    ensures { result ≡ is_owned view.now id.0 from.0 (place + 1) }
+{
+    let origin = MemberId(place as u32 + 1);
+    origin.0 == id.0 || view.is_between(from, origin, id)
+}

@@ -1,0 +1,338 @@
+-- Where the parties stand when the ends of a link have met.
+use Rattle.std.proofs.Common.{◌≡◌, ◌≢◌, ℕ, ◌+◌, ◌-◌, ◌<◌, ◌≤◌, Bool, true, false, length, get_or, set, Option, Some, None, refl, sym, ap, subst, ◌∙◌, arith, ⊎_elim, inl}
+use Rattle.std.specs.Prelude.{option_map, ◌⊎◌}
+use Rattle.std.proofs.lemmas.Bool.{false≢true, cases_eq, cases_lt}
+use Rattle.std.proofs.lemmas.List.{set_past}
+use Rattle.ring_names.specs.declared.numbers.CreditSpec.{CreditSpec}
+use Rattle.group_view.specs.declared.link.LinkName.{LinkName}
+use Rattle.group_view.proofs.Rings.{nat_eq-same}
+use Rattle.ring_world.specs.Machine.{World, member_at, link_at}
+use Rattle.ring_world.specs.OpenLinks.{is_place}
+use Rattle.ring_world.specs.Step.{size}
+use Rattle.ring_world.proofs.Lists.{at_set}
+use Rattle.ring_world.proofs.Rounds.{nat_eq-is}
+use Rattle.ring_world.proofs.Happens.{IsGood}
+use Rattle.gm_member.specs.Held.{Outgoing}
+use Rattle.gm_member.specs.View.{ring_link}
+use Rattle.gm_member.specs.Shown.{in_name_of, out_name_of}
+use Rattle.gm_member.specs.Stands.{outgoing_in}
+use Rattle.gm_member.proofs.OwnEnds.{OwnEnds}
+use Rattle.ring_cluster.specs.Ends.{OutSeen, InSeen, Carries, HaveMet, HasRested, Fits, Meets}
+use Rattle.ring_cluster.specs.Parties.{Shown, Posted, Parties, no_shown, node_at, with_node, with_out, with_in, in_end_at}
+use Rattle.ring_cluster.specs.Standing.{Places, MemberStands, StandIn, Stand, StandLoose, StandMet, DroppedHaveMet, HaveDone, name_of, has_out, has_in}
+use Rattle.ring_cluster.specs.Loose.{StandBetween, IsNowhere}
+use Rattle.ring_cluster.proofs.Lawful.{IsLawfulAt}
+use Rattle.ring_cluster.proofs.Writing.{placed, placed_same, placed_other, at_in}
+use Rattle.ring_cluster.proofs.Placing.{GoBetween, name_is_unique, name_found}
+use Rattle.ring_cluster.proofs.Showing.{shows_of, stands_of, with_outs, with_ins, out_shows, out_hidden, in_shows, in_posts}
+use Rattle.ring_cluster.proofs.Meetings.{carries_fit, meets_carry, met_rests, found_at, found_posted, found_nowhere, posted_at, posted_place}
+
+-- ---- what holds of the ends of each link
+
+-- where both ends of one show something else
+pub each_placed : (P : ℕ → OutSeen → InSeen → Type 0) (p : Places) (s : ℕ) (o : OutSeen) (n : InSeen) (t : ℕ) → (t ≡ s → P s o n) → (t ≢ s → P t (p.outs t) (p.ins t)) → P t (placed p.outs s o t) (placed p.ins s n t)
+each_placed P p s o n t here other = ⊎_elim
+    (λ (same : t ≡ s). subst (λ k. P k (placed p.outs s o k) (placed p.ins s n k)) (sym same)
+    (subst (λ a. P s a (placed p.ins s n s)) (sym (placed_same p.outs s o)) (subst (P s o) (sym (placed_same p.ins s n)) (here same))))
+    (λ (ne : t ≢ s). subst (λ a. P t a (placed p.ins s n t)) (sym (placed_other p.outs s o t ne)) (subst (P t (p.outs t)) (sym (placed_other p.ins s n t ne)) (other ne)))
+    (cases_eq t s)
+
+-- both ends of a link
+abbrev pub with_both : Places → ℕ → OutSeen → InSeen → Places
+with_both p s o n = with_ins (with_outs p s o) s n
+
+-- they carry it where they have met
+pub met_carry : (initial : ℕ) (w : World) (q : Parties) (p : Places) (s : ℕ) (o' : OutSeen) (n' : InSeen) → StandIn initial w q p → Meets (p.outs s) (p.ins s) o' n' → (t : ℕ) → t < length w.links → has_in w t ≡ true → Carries w initial (link_at w t) ((with_both p s o' n').outs t) ((with_both p s o' n').ins t)
+met_carry initial w q p s o' n' st m t l h =
+    each_placed (λ k o n. k < length w.links → has_in w k ≡ true → Carries w initial (link_at w k) o n) p s o' n' t
+    (λ same tl th. meets_carry w initial (link_at w s) (p.outs s) (p.ins s) o' n' m (st.carry s tl th))
+    (λ ne. st.carry t) l h
+
+-- ---- names
+
+-- a link that is found at a member has a place
+pub placed_at : (w : World) (initial : ℕ) (q : Parties) (p : Places) (y place : ℕ) (name : LinkName) → IsGood w → OwnEnds w → StandIn initial w q p → 1 ≤ y → y < size w → in_name_of (node_at q (y - 1)).held place ≡ Some name → (s : ℕ) × (s < length w.links) × (name_of w s ≡ name)
+placed_at w initial q p y place name g own st a l e = name_found w p y place name (node_at q (y - 1)) (st.each y a l) own e
+
+-- the link on which a member sends, by its name
+pub out_placed : (w : World) (initial : ℕ) (q : Parties) (p : Places) (x : ℕ) (o : OutSeen) → OwnEnds w → StandIn initial w q p → 1 ≤ x → x < size w → (node_at q (x - 1)).ends.out ≡ Some o
+    → (s : ℕ) × ((member_at w x).out ≡ Some s) × (s < length w.links) × ((link_at w s).sender ≡ x) × (p.outs s ≡ o) × (out_name_of (node_at q (x - 1)).held ≡ Some (name_of w s)) × (has_out w s ≡ true)
+out_placed w initial q p x o own st a l e = by_out (member_at w x).out refl (sym h.out ∙ e)
+  where
+    m : Shown
+    m = node_at q (x - 1)
+
+    h : MemberStands w p x m
+    h = st.each x a l
+
+    by_out : (c : Option ℕ) → (member_at w x).out ≡ c → option_map p.outs c ≡ Some o → (s : ℕ) × ((member_at w x).out ≡ Some s) × (s < length w.links) × ((link_at w s).sender ≡ x) × (p.outs s ≡ o) × (out_name_of m.held ≡ Some (name_of w s)) × (has_out w s ≡ true)
+    by_out None c k = cc
+    by_out (Some s) c k =
+        let own_of = own.out x s c in
+        let name : out_name_of m.held ≡ Some (name_of w s) =
+        ap out_name_of h.held
+        ∙ ap (λ d. option_map (λ (f : Outgoing). ring_link x f.to f.opened) (option_map (outgoing_in w) d)) c
+        ∙ ap (λ y. Some (ring_link y (link_at w s).receiver (link_at w s).opened)) (sym own_of.1) in
+        (s, c, own_of.0, own_of.1, cc, name, ap (λ y. is_place (member_at w y).out s) own_of.1 ∙ ap (λ d. is_place d s) c ∙ nat_eq-same s)
+
+-- ---- a loose end
+
+pub loose_between : (initial : ℕ) (w : World) (q : Parties) → StandLoose initial w q None → StandBetween initial w q None
+loose_between initial w q l = record { places = l.places; stand = l.stand; dropped = l.dropped; fits = λ s o sl h e. cc }
+
+-- of the loose end only one name is that
+pub first_same : (a b : LinkName × OutSeen) → Some a ≡ Some b → a.0 ≡ b.0
+first_same a b e = let is : a ≡ b = cc in ap (λ (c : LinkName × OutSeen). c.0) is
+
+-- it rests, or is loose
+abbrev pub RestsOr : World → Option (LinkName × OutSeen) → ℕ → OutSeen → InSeen → Type 0
+RestsOr w loose t o n = HasRested o n ⊎ (loose ≡ Some (name_of w t, o))
+
+-- what rested when it was dropped still does, and what was loose has met
+loose_dropped : (w : World) (p : Places) (s : ℕ) (name : LinkName) (o : OutSeen) (o' : OutSeen) (n' : InSeen) → IsGood w → s < length w.links → name_of w s ≡ name → HaveMet o' n' → DroppedHaveMet w p (Some (name, o)) → DroppedHaveMet w (with_both p s o' n') None
+loose_dropped w p s name o o' n' g sl named m d t l h none =
+    each_placed (RestsOr w None) p s o' n' t
+    (λ same. inl (met_rests o' n' m))
+    (λ ne. ⊎_elim
+    (λ (r : HasRested (p.outs t) (p.ins t)). inl r)
+    (λ (e : Some (name, o) ≡ Some (name_of w t, p.outs t)).
+    let is : name ≡ name_of w t = first_same (name, o) (name_of w t, p.outs t) e in
+    absurd (ne (name_is_unique w t s g l sl (sym is ∙ sym named))))
+    (d t l h none))
+
+-- it has met its other end at a member
+pub loose_met_at : (credit : CreditSpec) (w : World) (q : Parties) (y place : ℕ) (name : LinkName) (o : OutSeen) (n : InSeen) (o' : OutSeen) (n' : InSeen) → IsLawfulAt credit w → StandBetween credit.initial w q (Some (name, o)) → 1 ≤ y → y < size w
+    → in_name_of (node_at q (y - 1)).held place ≡ Some name → in_end_at (node_at q (y - 1)).ends place ≡ Some n → Meets o n o' n'
+    → StandLoose credit.initial w (with_node q (y - 1) (with_in (node_at q (y - 1)) place n')) None
+loose_met_at credit w q y place name o n o' n' g b a l named end m =
+    let p : Places = b.places in
+    let f = placed_at w credit.initial q p y place name g.fit.good g.fit.own_ends b.stand a l named in
+    let s : ℕ = f.0 in
+    let sl : s < length w.links = f.1 in
+    let its : in_name_of (node_at q (y - 1)).held place ≡ Some (name_of w s) = named ∙ ap Some (sym f.2) in
+    let k = found_at credit w q p y place s g b.stand a l sl its in
+    let fits : (has_out w s ≡ false) × (p.outs s ≡ o) = b.fits s o sl k.1 (ap (λ i. Some (i, o)) (sym f.2)) in
+    let same : Some n ≡ Some (p.ins s) = sym end ∙ k.2 in
+    let is : n ≡ p.ins s = cc in
+    let meets : Meets (p.outs s) (p.ins s) o' n' = subst (λ i. Meets (p.outs s) i o' n') is (subst (λ i. Meets i n o' n') (sym fits.1) m) in
+    record {
+      places = with_both p s o' n';
+      stand = stands_of credit.initial w (with_node q (y - 1) (with_in (node_at q (y - 1)) place n')) (with_both p s o' n')
+          (in_shows w q (with_outs p s o') y place s n' g.fit.good g.fit.own_ends a l sl its (out_hidden w q p s o' g.fit.own_ends fits.0 (shows_of credit.initial w q p b.stand)))
+          (met_carry credit.initial w q p s o' n' b.stand meets);
+      dropped = loose_dropped w p s name o o' n' g.fit.good sl f.2 m.met b.dropped;
+    }
+
+-- in the post
+pub loose_met_posted : (credit : CreditSpec) (w : World) (q : Parties) (j : ℕ) (d : Posted) (name : LinkName) (o : OutSeen) (n : InSeen) (o' : OutSeen) (n' : InSeen) → IsLawfulAt credit w → GoBetween w → StandBetween credit.initial w q (Some (name, o)) → j < length q.post
+    → (get_or q.post j d).name ≡ name → (get_or q.post j d).end ≡ Some n → Meets o n o' n'
+    → StandLoose credit.initial w (record q { post = set q.post j (record { name = name; end = Some n' }) }) None
+loose_met_posted credit w q j d name o n o' n' g go b l named end m =
+    let p : Places = b.places in
+    let f = posted_at credit.initial w q p j d b.stand l in
+    let s : ℕ = get_or p.post j 0 in
+    let sl : s < length w.links = b.stand.within s (at_in p.post j f.0) in
+    let its : name_of w s ≡ name = sym (ap (λ (x : Posted). x.name) f.1) ∙ named in
+    let k = found_posted credit w q p j s d g go b.stand l sl (named ∙ sym its) in
+    let fits : (has_out w s ≡ false) × (p.outs s ≡ o) = b.fits s o sl k.0 (ap (λ i. Some (i, o)) (sym its)) in
+    let same : Some n ≡ Some (p.ins s) = sym end ∙ k.1 in
+    let is : n ≡ p.ins s = cc in
+    let meets : Meets (p.outs s) (p.ins s) o' n' = subst (λ i. Meets (p.outs s) i o' n') is (subst (λ i. Meets i n o' n') (sym fits.1) m) in
+    subst (λ i. StandLoose credit.initial w (record q { post = set q.post j (record { name = i; end = Some n' }) }) None) its (record {
+      places = with_both p s o' n';
+      stand = stands_of credit.initial w (record q { post = set q.post j (record { name = name_of w s; end = Some n' }) }) (with_both p s o' n')
+          (in_posts w q (with_outs p s o') j s n' g.fit.own_ends go f.0 refl (out_hidden w q p s o' g.fit.own_ends fits.0 (shows_of credit.initial w q p b.stand)))
+          (met_carry credit.initial w q p s o' n' b.stand meets);
+      dropped = loose_dropped w p s name o o' n' g.fit.good sl its m.met b.dropped;
+    })
+
+-- its other end is nowhere
+pub loose_gone : (credit : CreditSpec) (w : World) (q : Parties) (name : LinkName) (o : OutSeen) → IsLawfulAt credit w → GoBetween w → StandBetween credit.initial w q (Some (name, o)) → IsNowhere q name → StandLoose credit.initial w q None
+loose_gone credit w q name o g go b none = record {
+  places = b.places;
+  stand = b.stand;
+  dropped = λ t l h out. ⊎_elim
+      (λ (r : HasRested (b.places.outs t) (b.places.ins t)). inl r)
+      (λ (e : Some (name, o) ≡ Some (name_of w t, b.places.outs t)).
+      let is : name ≡ name_of w t = first_same (name, o) (name_of w t, b.places.outs t) e in
+      absurd (false≢true (sym (found_nowhere credit w q b.places t g go b.stand l (subst (IsNowhere q) is none)) ∙ h)))
+      (b.dropped t l h out);
+}
+
+-- ---- the out ends of members, one after the other
+
+-- of members of ids up to 0 there is none
+pub loose_met : (credit : CreditSpec) (w : World) (q : Parties) → GoBetween w → StandLoose credit.initial w q None → StandMet 0 credit.initial w q
+loose_met credit w q go l = record { places = l.places; stand = l.stand; dropped = l.dropped; met = λ s sl h o le. absurd (omega (arith, le, (go.sender s sl).0)) }
+
+-- all have met
+pub met_all : (credit : CreditSpec) (w : World) (q : Parties) (k : ℕ) → GoBetween w → k + 1 ≡ size w → StandMet k credit.initial w q → Stand credit.initial w q
+met_all credit w q k go many m = record {
+  places = m.places;
+  stand = m.stand;
+  met = λ s sl h. by_out s sl h (has_out w s) refl;
+}
+  where
+    by_out : (s : ℕ) → s < length w.links → has_in w s ≡ true → (b : Bool) → has_out w s ≡ b → HaveDone b (m.places.outs s) (m.places.ins s)
+    by_out s sl h true e = m.met s sl h e (omega (arith, (go.sender s sl).1))
+    by_out s sl h false e = ⊎_elim
+        (λ (r : HasRested (m.places.outs s) (m.places.ins s)). r)
+        (λ (n : None ≡ Some (name_of w s, m.places.outs s)). cc)
+        (m.dropped s sl h e)
+
+-- who sends on a link has it
+sends_it : (w : World) (s : ℕ) → has_out w s ≡ true → (member_at w (link_at w s).sender).out ≡ Some s
+sends_it w s h = place_is (member_at w (link_at w s).sender).out h
+  where
+    place_is : (c : Option ℕ) → is_place c s ≡ true → c ≡ Some s
+    place_is None k = absurd (false≢true k)
+    place_is (Some t) k = ap Some (nat_eq-is t s k)
+
+-- the links of one sender more
+met_more : (w : World) (p : Places) (k x s : ℕ) (o' : OutSeen) (n' : InSeen) → x ≡ k + 1 → (member_at w x).out ≡ Some s → HaveMet o' n'
+    → ((t : ℕ) → t < length w.links → has_in w t ≡ true → has_out w t ≡ true → (link_at w t).sender ≤ k → HaveMet (p.outs t) (p.ins t))
+    → (t : ℕ) → t < length w.links → has_in w t ≡ true → has_out w t ≡ true → (link_at w t).sender ≤ k + 1 → HaveMet ((with_both p s o' n').outs t) ((with_both p s o' n').ins t)
+met_more w p k x s o' n' is out m old t l h o le =
+    each_placed (λ _ a b. HaveMet a b) p s o' n' t (λ same. m)
+    (λ ne. ⊎_elim
+    (λ (lt : (link_at w t).sender < k + 1). old t l h o (omega arith))
+    (λ (ge : k + 1 ≤ (link_at w t).sender).
+    let who : (link_at w t).sender ≡ x = omega arith in
+    let both : Some t ≡ Some s = sym (ap (λ y. (member_at w y).out) (sym who) ∙ sends_it w t o) ∙ out in
+    absurd (ne cc))
+    (cases_lt (link_at w t).sender (k + 1)))
+
+-- what was dropped isn't that link
+dropped_more : (w : World) (p : Places) (s : ℕ) (o' : OutSeen) (n' : InSeen) → has_out w s ≡ true → DroppedHaveMet w p None → DroppedHaveMet w (with_both p s o' n') None
+dropped_more w p s o' n' has d t l h none =
+    each_placed (RestsOr w None) p s o' n' t
+    (λ same. absurd (false≢true (sym none ∙ ap (has_out w) same ∙ has)))
+    (λ ne. d t l h none)
+
+-- a member that sends on no link
+pub met_none : (credit : CreditSpec) (w : World) (q : Parties) (k x : ℕ) → x ≡ k + 1 → x < size w → (node_at q (x - 1)).ends.out ≡ None → StandMet k credit.initial w q → StandMet (k + 1) credit.initial w q
+met_none credit w q k x is l none m = record {
+  places = m.places;
+  stand = m.stand;
+  dropped = m.dropped;
+  met = λ t tl h o le. ⊎_elim
+      (λ (lt : (link_at w t).sender < k + 1). m.met t tl h o (omega arith))
+      (λ (ge : k + 1 ≤ (link_at w t).sender).
+      let who : (link_at w t).sender ≡ x = omega arith in
+      let mine : MemberStands w m.places x (node_at q (x - 1)) = m.stand.each x (omega arith) l in
+      let both : None ≡ Some (m.places.outs t) = sym none ∙ mine.out ∙ ap (option_map m.places.outs) (ap (λ y. (member_at w y).out) (sym who) ∙ sends_it w t o) in
+      cc)
+      (cases_lt (link_at w t).sender (k + 1));
+}
+
+-- one whose link has no other end
+pub met_gone : (credit : CreditSpec) (w : World) (q : Parties) (k x : ℕ) (o : OutSeen) (name : LinkName) → IsLawfulAt credit w → GoBetween w → x ≡ k + 1 → x < size w → (node_at q (x - 1)).ends.out ≡ Some o → out_name_of (node_at q (x - 1)).held ≡ Some name → IsNowhere q name
+    → StandMet k credit.initial w q → StandMet (k + 1) credit.initial w q
+met_gone credit w q k x o name g go is l out named none m =
+    let f = out_placed w credit.initial q m.places x o g.fit.own_ends m.stand (omega arith) l out in
+    let s : ℕ = f.0 in
+    let same : Some name ≡ Some (name_of w s) = sym named ∙ f.5 in
+    let named_so : name ≡ name_of w s = cc in
+    let gone : has_in w s ≡ false = found_nowhere credit w q m.places s g go m.stand f.2 (subst (IsNowhere q) named_so none) in
+    record {
+      places = m.places;
+      stand = m.stand;
+      dropped = m.dropped;
+      met = λ t tl h o le. ⊎_elim
+          (λ (lt : (link_at w t).sender < k + 1). m.met t tl h o (omega arith))
+          (λ (ge : k + 1 ≤ (link_at w t).sender).
+          let who : (link_at w t).sender ≡ x = omega arith in
+          let both : Some t ≡ Some s = sym (ap (λ y. (member_at w y).out) (sym who) ∙ sends_it w t o) ∙ f.1 in
+          let t_is : t ≡ s = cc in
+          absurd (false≢true (sym gone ∙ ap (has_in w) (sym t_is) ∙ h)))
+          (cases_lt (link_at w t).sender (k + 1));
+    }
+
+-- ---- one whose link has met its other end
+
+-- what a member holds where another has another out end, or it itself
+held_still : (q : Parties) (i j : ℕ) (o : OutSeen) → (node_at (with_node q i (with_out (node_at q i) o)) j).held ≡ (node_at q j).held
+held_still q i j o = ⊎_elim
+    (λ (lt : i < length q.nodes). at_set (λ k (m : Shown). m.held ≡ (node_at q k).held) q.nodes i j (with_out (node_at q i) o) no_shown lt refl (λ _. refl))
+    (λ (ge : length q.nodes ≤ i). ap (λ ms. (get_or ms j no_shown).held) (set_past q.nodes i (with_out (node_at q i) o) ge))
+    (cases_lt i (length q.nodes))
+
+-- at a member
+pub met_at : (credit : CreditSpec) (w : World) (q : Parties) (k x y place : ℕ) (name : LinkName) (o : OutSeen) (n : InSeen) (o' : OutSeen) (n' : InSeen) → IsLawfulAt credit w → x ≡ k + 1 → x < size w → (node_at q (x - 1)).ends.out ≡ Some o → out_name_of (node_at q (x - 1)).held ≡ Some name
+    → 1 ≤ y → y < size w → in_name_of (node_at q (y - 1)).held place ≡ Some name → in_end_at (node_at q (y - 1)).ends place ≡ Some n → Meets o n o' n'
+    → StandMet k credit.initial w q
+    → StandMet (k + 1) credit.initial w (with_node (with_node q (x - 1) (with_out (node_at q (x - 1)) o')) (y - 1) (with_in (node_at (with_node q (x - 1) (with_out (node_at q (x - 1)) o')) (y - 1)) place n'))
+met_at credit w q k x y place name o n o' n' g is xl out named a l found end m met =
+    let p : Places = met.places in
+    let f = out_placed w credit.initial q p x o g.fit.own_ends met.stand (omega arith) xl out in
+    let s : ℕ = f.0 in
+    let sl : s < length w.links = f.2 in
+    let both : Some name ≡ Some (name_of w s) = sym named ∙ f.5 in
+    let its : in_name_of (node_at q (y - 1)).held place ≡ Some (name_of w s) = found ∙ both in
+    let c = found_at credit w q p y place s g met.stand a l sl its in
+    let same : Some n ≡ Some (p.ins s) = sym end ∙ c.2 in
+    let n_is : n ≡ p.ins s = cc in
+    let meets : Meets (p.outs s) (p.ins s) o' n' = subst (λ i. Meets (p.outs s) i o' n') n_is (subst (λ i. Meets i n o' n') (sym f.4) m) in
+    let q1 : Parties = with_node q (x - 1) (with_out (node_at q (x - 1)) o') in
+    record {
+      places = with_both p s o' n';
+      stand = stands_of credit.initial w (with_node q1 (y - 1) (with_in (node_at q1 (y - 1)) place n')) (with_both p s o' n')
+          (in_shows w q1 (with_outs p s o') y place s n' g.fit.good g.fit.own_ends a l sl (ap (λ h. in_name_of h place) (held_still q (x - 1) (y - 1) o') ∙ its)
+          (out_shows w q p x s o' g.fit.own_ends (omega arith) xl f.1 (shows_of credit.initial w q p met.stand)))
+          (met_carry credit.initial w q p s o' n' met.stand meets);
+      dropped = dropped_more w p s o' n' f.6 met.dropped;
+      met = met_more w p k x s o' n' is f.1 m.met met.met;
+    }
+
+-- in the post
+pub met_posted : (credit : CreditSpec) (w : World) (q : Parties) (k x j : ℕ) (d : Posted) (name : LinkName) (o : OutSeen) (n : InSeen) (o' : OutSeen) (n' : InSeen) → IsLawfulAt credit w → GoBetween w → x ≡ k + 1 → x < size w → (node_at q (x - 1)).ends.out ≡ Some o → out_name_of (node_at q (x - 1)).held ≡ Some name
+    → j < length q.post → (get_or q.post j d).name ≡ name → (get_or q.post j d).end ≡ Some n → Meets o n o' n'
+    → StandMet k credit.initial w q
+    → StandMet (k + 1) credit.initial w (record (with_node q (x - 1) (with_out (node_at q (x - 1)) o')) { post = set q.post j (record { name = name; end = Some n' }) })
+met_posted credit w q k x j d name o n o' n' g go is xl out named l found end m met =
+    let p : Places = met.places in
+    let f = out_placed w credit.initial q p x o g.fit.own_ends met.stand (omega arith) xl out in
+    let s : ℕ = f.0 in
+    let sl : s < length w.links = f.2 in
+    let both : Some name ≡ Some (name_of w s) = sym named ∙ f.5 in
+    let named_so : name_of w s ≡ name = cc in
+    let c = found_posted credit w q p j s d g go met.stand l sl (found ∙ sym named_so) in
+    let place = posted_place w credit.initial q p j s d g.fit.good met.stand l sl (found ∙ sym named_so) in
+    let same : Some n ≡ Some (p.ins s) = sym end ∙ c.1 in
+    let n_is : n ≡ p.ins s = cc in
+    let meets : Meets (p.outs s) (p.ins s) o' n' = subst (λ i. Meets (p.outs s) i o' n') n_is (subst (λ i. Meets i n o' n') (sym f.4) m) in
+    let q1 : Parties = with_node q (x - 1) (with_out (node_at q (x - 1)) o') in
+    subst (λ i. StandMet (k + 1) credit.initial w (record q1 { post = set q.post j (record { name = i; end = Some n' }) })) named_so (record {
+      places = with_both p s o' n';
+      stand = stands_of credit.initial w (record q1 { post = set q.post j (record { name = name_of w s; end = Some n' }) }) (with_both p s o' n')
+          (in_posts w q1 (with_outs p s o') j s n' g.fit.own_ends go place.0 place.1 (out_shows w q p x s o' g.fit.own_ends (omega arith) xl f.1 (shows_of credit.initial w q p met.stand)))
+          (met_carry credit.initial w q p s o' n' met.stand meets);
+      dropped = dropped_more w p s o' n' f.6 met.dropped;
+      met = met_more w p k x s o' n' is f.1 m.met met.met;
+    })
+
+-- ---- the ends that are found are there, and may meet
+
+-- of a loose end, at a member
+pub loose_there_at : (credit : CreditSpec) (w : World) (q : Parties) (y place : ℕ) (name : LinkName) (o : OutSeen) → IsLawfulAt credit w → StandBetween credit.initial w q (Some (name, o)) → 1 ≤ y → y < size w → in_name_of (node_at q (y - 1)).held place ≡ Some name
+    → (n : InSeen) × (in_end_at (node_at q (y - 1)).ends place ≡ Some n) × Fits o n
+loose_there_at credit w q y place name o g b a l named =
+    let p : Places = b.places in
+    let f = placed_at w credit.initial q p y place name g.fit.good g.fit.own_ends b.stand a l named in
+    let s : ℕ = f.0 in
+    let k = found_at credit w q p y place s g b.stand a l f.1 (named ∙ ap Some (sym f.2)) in
+    let fits : (has_out w s ≡ false) × (p.outs s ≡ o) = b.fits s o f.1 k.1 (ap (λ i. Some (i, o)) (sym f.2)) in
+    (p.ins s, k.2, subst (λ i. Fits i (p.ins s)) fits.1 (carries_fit w credit.initial (link_at w s) (p.outs s) (p.ins s) (b.stand.carry s f.1 k.1)))
+
+-- in the post
+pub loose_there_posted : (credit : CreditSpec) (w : World) (q : Parties) (j : ℕ) (d : Posted) (name : LinkName) (o : OutSeen) → IsLawfulAt credit w → GoBetween w → StandBetween credit.initial w q (Some (name, o)) → j < length q.post → (get_or q.post j d).name ≡ name
+    → (n : InSeen) × ((get_or q.post j d).end ≡ Some n) × Fits o n
+loose_there_posted credit w q j d name o g go b l named =
+    let p : Places = b.places in
+    let f = posted_at credit.initial w q p j d b.stand l in
+    let s : ℕ = get_or p.post j 0 in
+    let sl : s < length w.links = b.stand.within s (at_in p.post j f.0) in
+    let its : name_of w s ≡ name = sym (ap (λ (x : Posted). x.name) f.1) ∙ named in
+    let k = found_posted credit w q p j s d g go b.stand l sl (named ∙ sym its) in
+    let fits : (has_out w s ≡ false) × (p.outs s ≡ o) = b.fits s o sl k.0 (ap (λ i. Some (i, o)) (sym its)) in
+    (p.ins s, k.1, subst (λ i. Fits i (p.ins s)) fits.1 (carries_fit w credit.initial (link_at w s) (p.outs s) (p.ins s) (b.stand.carry s sl k.0)))

@@ -1,0 +1,62 @@
+-- Lists: what stands at their places, and what is made of each element.
+use Rattle.std.proofs.Common.{◌≡◌, ℕ, ◌+◌, ◌<◌, false, List, [], ◌∷◌, drop, length, sym, ◌∙◌, arith, refl, zero, suc, ◌++◌, slice_get, Some, ap, append_assoc, map, get_or, set}
+use Rattle.std.proofs.lemmas.Bool.{false≢true}
+use Rattle.ring_world.specs.Refusal.{is_empty}
+use Rattle.std.specs.Prelude.{IsSome, IfSome, Option, None, Some}
+use Rattle.std.specs.List.{flat_map, range_with_len}
+use Rattle.std.proofs.lemmas.List.FromFn.{map-range_with_len_more}
+use Rattle.std.proofs.lemmas.List.{length-map, get_or-map, map-set, set-get_or, get_or-set_same, map-append}
+
+-- on a list with an element, one fewer is left when the first goes
+pub length-rest : {A : Type 0} (xs : List A) → is_empty xs ≡ false → length (drop 1 xs) + 1 ≡ length xs
+length-rest [] e = absurd (false≢true (sym e))
+length-rest (x ∷ xs) e = omega arith
+
+-- what holds of a value that is there
+pub if_some_from : {A : Type 0} (P Q : A → Type 0) (o : Option A) → (IsSome o → (x : A) → P x → Q x) → IfSome o P → IfSome o Q
+if_some_from P Q None h p = p
+if_some_from P Q (Some x) h p = h refl x p
+
+pub flat_map-append : {A B : Type 0} (f : A → List B) (xs ys : List A) → flat_map f (xs ++ ys) ≡ flat_map f xs ++ flat_map f ys
+flat_map-append f [] ys = refl
+flat_map-append f (x ∷ xs) ys = ap (λ zs. f x ++ zs) (flat_map-append f xs ys) ∙ sym (append_assoc (f x) (flat_map f xs) (flat_map f ys))
+
+-- what stands at a place of a list with one more
+pub slice_get_within : {A : Type 0} (xs : List A) (k : ℕ) (x : A) → slice_get xs k ≡ Some x → k < length xs
+slice_get_within [] k x e = cc
+slice_get_within (y ∷ ys) zero x e = omega arith
+slice_get_within (y ∷ ys) (suc k) x e = omega (arith, slice_get_within ys k x e)
+
+pub slice_get_front : {A : Type 0} (xs ys : List A) (k : ℕ) → k < length xs → slice_get (xs ++ ys) k ≡ slice_get xs k
+slice_get_front [] ys k l = absurd (omega arith)
+slice_get_front (x ∷ xs) ys zero l = refl
+slice_get_front (x ∷ xs) ys (suc k) l = slice_get_front xs ys k (omega arith)
+
+pub slice_get_last : {A : Type 0} (xs : List A) (y : A) (k : ℕ) → k ≡ length xs → slice_get (xs ++ y ∷ []) k ≡ Some y
+slice_get_last [] y zero e = refl
+slice_get_last [] y (suc k) e = absurd (omega arith)
+slice_get_last (x ∷ xs) y zero e = absurd (omega arith)
+slice_get_last (x ∷ xs) y (suc k) e = slice_get_last xs y k (omega arith)
+
+pub some_injective : {A : Type 0} (x y : A) → Some x ≡ Some y → x ≡ y
+some_injective x y e = cc
+
+-- what a read of an element shows
+pub mapped_read : {A B : Type 0} (f : A → B) (xs : List A) (i : ℕ) (x : A) (d : B) → i < length xs → x ≡ get_or xs i x → get_or (map f xs) i d ≡ f x
+mapped_read f xs i x d l e = get_or-map f xs i x d l ∙ ap f (sym e)
+
+-- a write that shows nothing
+pub mapped_rewrite : {A B : Type 0} (f : A → B) (xs : List A) (i : ℕ) (x y : A) → i < length xs → x ≡ get_or xs i x → f y ≡ f x → map f (set xs i y) ≡ map f xs
+mapped_rewrite f xs i x y l e g = map-set f xs i y ∙ ap (set (map f xs) i) (g ∙ ap f e ∙ sym (get_or-map f xs i x (f x) l)) ∙ set-get_or (map f xs) i (f x)
+
+-- a write changes nothing but its place
+pub mapped_written : {A B : Type 0} (f : A → B) (xs : List A) (i : ℕ) (y : A) (d : B) → i < length xs → map f (set xs i y) ≡ set (map f xs) i (get_or (map f (set xs i y)) i d)
+mapped_written f xs i y d l =
+    map-set f xs i y ∙ ap (set (map f xs) i) (sym (get_or-set_same (map f xs) i (f y) d (rw length-map l)) ∙ ap (λ zs. get_or zs i d) (sym (map-set f xs i y)))
+
+pub mapped_new : {A B : Type 0} (f : A → B) (xs : List A) (i : ℕ) (y : A) (d : B) → i < length xs → get_or (map f (set xs i y)) i d ≡ f y
+mapped_new f xs i y d l = ap (λ zs. get_or zs i d) (map-set f xs i y) ∙ get_or-set_same (map f xs) i (f y) d (rw length-map l)
+
+-- a tabled list that gains an element
+pub grown : {A B : Type 0} (f : A → B) (g : ℕ → B) (xs ys : List A) (y : A) (k : ℕ) → ys ≡ xs ++ y ∷ [] → map f xs ≡ map g (range_with_len 0 k) → f y ≡ g k → map f ys ≡ map g (range_with_len 0 (k + 1))
+grown f g xs ys y k e h here = ap (map f) e ∙ map-append f xs (y ∷ []) ∙ ap (λ zs. zs ++ f y ∷ []) h ∙ ap (λ z. map g (range_with_len 0 k) ++ z ∷ []) here ∙ sym (map-range_with_len_more g 0 k k (omega arith))

@@ -1,0 +1,19 @@
+-- Lists of members, and what they show.
+use Rattle.std.proofs.Common.{◌≡◌, ℕ, ◌<◌, List, length, map, get_or, set}
+use Rattle.ring_cluster.specs.Parties.{ANode, shown_of, no_shown}
+use Rattle.ring_cluster.proofs.Lists.{mapped_read, mapped_rewrite, mapped_written, mapped_new}
+
+pub read_shown : (xs : List ANode) (i : ℕ) (x : ANode) → i < length xs → x ≡ get_or xs i x → get_or (map shown_of xs) i no_shown ≡ shown_of x
+read_shown xs i x l e = mapped_read shown_of xs i x no_shown l e
+
+pub same_shown : (xs : List ANode) (i : ℕ) (x y : ANode) → i < length xs → x ≡ get_or xs i x → shown_of y ≡ shown_of x → map shown_of (set xs i y) ≡ map shown_of xs
+same_shown xs i x y l e g = mapped_rewrite shown_of xs i x y l e g
+
+pub written_shown : (xs : List ANode) (i : ℕ) (y : ANode) → i < length xs → map shown_of (set xs i y) ≡ set (map shown_of xs) i (get_or (map shown_of (set xs i y)) i no_shown)
+written_shown xs i y l = mapped_written shown_of xs i y no_shown l
+
+pub new_shown : (xs : List ANode) (i : ℕ) (y : ANode) → i < length xs → get_or (map shown_of (set xs i y)) i no_shown ≡ shown_of y
+new_shown xs i y l = mapped_new shown_of xs i y no_shown l
+
+-- what a read of a member shows, and a write
+pub ruleset nodes = (read_shown, same_shown, written_shown, new_shown)

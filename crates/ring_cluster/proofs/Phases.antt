@@ -1,0 +1,94 @@
+-- Nobody stops but by a stop.
+use Rattle.std.proofs.Common.{◌≡◌, ℕ, zero, suc, Bool, true, false, nat_eq, List, [], ◌∷◌, get_or, set, length, Option, Some, None, if◌then◌else◌, refl, sym, ap, ◌∙◌}
+use Rattle.std.proofs.lemmas.Bool.{false≢true}
+use Rattle.std.proofs.lemmas.List.{length-set}
+use Rattle.ring_names.specs.declared.message.Message.TheVariants as message
+use Rattle.group_view.specs.View.{Group}
+use Rattle.group_view.specs.Change.{marked}
+use Rattle.ring_world.specs.declared.event.Event.{Event}
+use Rattle.ring_world.specs.declared.event.Event.TheVariants.{Cast, Put, Take, TakeEnd, Gain, Stop, Mark, Refresh, Pick}
+use Rattle.ring_world.specs.declared.phase.Phase.{Phase}
+use Rattle.ring_world.specs.declared.phase.Phase.TheVariants.{Waiting, Up, Stopped}
+use Rattle.ring_world.specs.declared.phase.Ending.TheVariants.{Moved}
+use Rattle.ring_world.specs.View.{right_of}
+use Rattle.ring_world.specs.Machine.{Member, Link, World, no_member, member_at, link_at, view_at, newest, is_waiting, runs, runs_phase}
+use Rattle.ring_world.specs.Step.{published, taker, with_current, with_view, with_link, moved_to, look_at, open_to, ended}
+use Rattle.ring_world.specs.Event.{at_found, taken_by, send_to, refreshed, effect, id_of, at_door}
+use Rattle.ring_world.proofs.NoneWaits.{NoneWaits}
+use Rattle.ring_cluster.specs.Turns.{is_own_event, SamePhases}
+
+pub same_refl : (w : World) → SamePhases w w
+same_refl w = record { many = refl; phase = λ x. refl }
+
+pub same_trans : (w w' w'' : World) → SamePhases w w' → SamePhases w' w'' → SamePhases w w''
+same_trans w w' w'' a b = record { many = b.many ∙ a.many; phase = λ x. b.phase x ∙ a.phase x }
+
+-- who runs still does
+pub same_runs : (w w' : World) (x : ℕ) → SamePhases w w' → runs w' x ≡ runs w x
+same_runs w w' x h = ap runs_phase (h.phase x)
+
+-- ---- one member is written
+
+phase_set : (ms : List Member) (x q : ℕ) (y : Member) → y.phase ≡ (get_or ms x no_member).phase → (get_or (set ms x y) q no_member).phase ≡ (get_or ms q no_member).phase
+phase_set [] x q y e = refl
+phase_set (m ∷ ms) zero zero y e = e
+phase_set (m ∷ ms) zero (suc q) y e = refl
+phase_set (m ∷ ms) (suc x) zero y e = refl
+phase_set (m ∷ ms) (suc x) (suc q) y e = phase_set ms x q y e
+
+pub same_set : (w : World) (x : ℕ) (y : Member) (ls : List Link) (vs : List Group) → y.phase ≡ (member_at w x).phase → SamePhases w (record w { members = set w.members x y; links = ls; views = vs })
+same_set w x y ls vs e = record { many = length-set w.members x y; phase = λ q. phase_set w.members x q y e }
+
+-- ---- parts of events
+
+found_same : (w : World) (o : Option ℕ) (f : ℕ → World) → ((x : ℕ) → SamePhases w (f x)) → SamePhases w (at_found o w f)
+found_same w None f h = same_refl w
+found_same w (Some x) f h = h x
+
+-- a take of a member that doesn't wait
+take_same : (w : World) (x s : ℕ) (f : Phase) → is_waiting f ≡ false → SamePhases w (taken_by f w x s)
+take_same w x s Waiting e = absurd (false≢true (sym e))
+take_same w x s Up e = same_set w x (taker w x s) _ w.views refl
+take_same w x s Stopped e = same_refl w
+
+open_same : (w : World) (x z : ℕ) → SamePhases w (open_to w x z)
+open_same w x z = same_set w x (record (member_at w x) { out = Some (length w.links) }) _ w.views refl
+
+send_same : (w : World) (x z : ℕ) (o : Option ℕ) → SamePhases w (send_to w x z o)
+send_same w x z None = open_same w x z
+send_same w x z (Some o) = by_test (nat_eq (link_at w o).receiver z)
+  where
+    w1 : World
+    w1 = with_link w o (ended Moved (link_at w o))
+
+    by_test : (b : Bool) → SamePhases w (if b then w else open_to w1 x z)
+    by_test true = same_refl w
+    by_test false = let k = open_same w1 x z in record { many = k.many; phase = k.phase }
+
+refreshed_same : (w : World) (x v : ℕ) → SamePhases w (refreshed w x v)
+refreshed_same w x v =
+    same_trans w (look_at w x v) (refreshed w x v) (same_set w x (moved_to w x v) w.links w.views refl) (send_same (look_at w x v) x (right_of (view_at w v) x) (member_at w x).out)
+
+view_same : (w : World) (v : Group) → SamePhases w (with_view w v)
+view_same w v = record { many = refl; phase = λ x. refl }
+
+marked_same : (w : World) (v : Group) (x n : ℕ) → SamePhases w (refreshed (with_view w v) x n)
+marked_same w v x n = same_trans w (with_view w v) (refreshed (with_view w v) x n) (view_same w v) (refreshed_same (with_view w v) x n)
+
+-- ---- events
+
+-- a cast
+pub cast_phases : (w : World) (by body : List ℕ) → SamePhases w (effect w (Cast by body))
+cast_phases w by body = found_same w (id_of w by) _ (λ x. same_set w x (published x (message.Cast body) (member_at w x)) w.links w.views refl)
+
+-- a member's own event
+pub own_phases : (w : World) (e : Event) → NoneWaits w → is_own_event e ≡ true → SamePhases w (effect w e)
+own_phases w (Cast by body) n own = absurd (false≢true own)
+own_phases w (Put by) n own = found_same w (id_of w by) _ (λ x. found_same w (member_at w x).out _ (λ o. record { many = refl; phase = λ q. refl }))
+own_phases w (Take by) n own = found_same w (id_of w by) _ (λ x. found_same w (member_at w x).current _ (λ s. take_same w x s (member_at w x).phase (n x)))
+own_phases w (TakeEnd by) n own = found_same w (id_of w by) _ (λ x. found_same w (member_at w x).current _ (λ s. same_set w x (with_current None (member_at w x)) _ w.views refl))
+own_phases w (Gain by) n own = found_same w (id_of w by) _ (λ x. found_same w (member_at w x).out _ (λ o. record { many = refl; phase = λ q. refl }))
+own_phases w (Stop by) n own = absurd (false≢true own)
+own_phases w (Mark by dead) n own = found_same w (id_of w by) _ (λ x. found_same w (id_of w dead) _ (λ d. marked_same w (marked (view_at w (newest w)) d) x _))
+own_phases w (Refresh by version) n own = found_same w (id_of w by) _ (λ x. refreshed_same w x version)
+own_phases w (Pick by) n own = found_same w (id_of w by) _ (λ x. found_same w (at_door w x) _ (λ s. same_set w x (with_current (Some s) (member_at w x)) w.links w.views refl))

@@ -1,0 +1,5 @@
+use Rattle.ring_cluster.proofs.Turning.{own_works}
+use Rattle.ring_cluster.proofs.driver.happens.Goals as goal
+
+pub returns-in-Ok-clause-works : goal.returns-in-Ok-clause-works
+returns-in-Ok-clause-works c = own_works c.args.cluster.now c.happen.new.self c.args.event.now c.is_going.ensures c.requires.own c.in-Ok.ensures.ok

@@ -1,0 +1,12 @@
+use Rattle.std.proofs.Common.{false, sym, subst}
+use Rattle.ring_cluster.specs.Parties.{shown_of}
+use Rattle.ring_cluster.specs.Looking.{HasLooked, to_post, kept_post, loose_seen, tidied, without_question}
+use Rattle.ring_cluster.proofs.Looked.{looks_asked}
+use Rattle.ring_cluster.proofs.looking.read_answer.Goals as goal
+
+pub returns : goal.returns
+returns c =
+    subst (λ b. HasLooked c.args.view (without_question (shown_of c.args.node.now)) b (kept_post c.hand_on.result.opened) (loose_seen c.hand_on.result.loose)) (sym c.hand_on.ensures.node)
+    (subst (λ o. HasLooked c.args.view (without_question (shown_of c.args.node.now)) (tidied (shown_of c.answer.new.self)) o (loose_seen c.hand_on.result.loose)) (sym c.hand_on.ensures.opened)
+    (subst (λ l. HasLooked c.args.view (without_question (shown_of c.args.node.now)) (tidied (shown_of c.answer.new.self)) (to_post c.in-Ok.requests.items) l) (sym c.hand_on.ensures.loose)
+    (record { looks = looks_asked false c.args.node.now c.answer.new.self c.args.view c.in-Ok.requests.items c.requires.ready c.in-Ok.ensures.ok c.in-Ok.ensures.links c.in-Ok.ensures.moves })))

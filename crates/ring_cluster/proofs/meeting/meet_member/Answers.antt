@@ -1,0 +1,19 @@
+use Rattle.std.proofs.Common.{◌<◌, ◌-◌, length, arith}
+use Rattle.ring_cluster.specs.Parties.{out_seen}
+use Rattle.ring_cluster.proofs.Meets.{member_met, others_stay, member_stays}
+use Rattle.ring_cluster.proofs.meeting.meet_member.Goals as goal
+
+pub returns-clause-met : goal.returns-clause-met
+returns-clause-met c = λ b.
+    let l : c.args.name.now.to.0 - 1 < length c.args.nodes.now = omega arith in
+    member_met c.args.nodes.now (c.args.name.now.to.0 - 1) c.index-nodes-receiver.result c.meet_node.new.node c.args.name.now (out_seen c.args.out.now) (out_seen c.meet_node.new.out) l (c.meet_node.ensures.met b)
+
+pub returns-clause-others : goal.returns-clause-others
+returns-clause-others c = λ b.
+    let l : c.args.name.now.to.0 - 1 < length c.args.nodes.now = omega arith in
+    others_stay c.args.nodes.now (c.args.name.now.to.0 - 1) c.meet_node.new.node l
+
+pub returns-clause-still : goal.returns-clause-still
+returns-clause-still c = λ b.
+    let l : c.args.name.now.to.0 - 1 < length c.args.nodes.now = omega arith in
+    member_stays c.args.nodes.now (c.args.name.now.to.0 - 1) c.index-nodes-receiver.result c.meet_node.new.node l c.index-nodes-receiver.is (c.meet_node.ensures.same b)

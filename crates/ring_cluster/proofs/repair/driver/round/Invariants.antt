@@ -1,9 +1,0 @@
-use Rattle.std.proofs.Common.{◌≡◌, length}
-use Rattle.ring_cluster.proofs.Deaths.Turning.{BegunBelow}
-use Rattle.ring_cluster.proofs.repair.driver.round.Given as goal
-
-abbrev pub invariant-loop-place : goal.invariant-loop-place
-invariant-loop-place g l = record {
-  count : l.count ≡ length (l.initial.cluster).names;
-  begun : BegunBelow l.place l.initial.cluster l.cluster;
-}

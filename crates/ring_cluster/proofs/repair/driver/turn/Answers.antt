@@ -1,5 +1,0 @@
-use Rattle.ring_cluster.proofs.Deaths.Turning.{performed_turns}
-use Rattle.ring_cluster.proofs.repair.driver.turn.Goals as goal
-
-pub returns-then-branch-clause-turns : goal.returns-then-branch-clause-turns
-returns-then-branch-clause-turns c = performed_turns c.args.place c.args.cluster.now c.perform.new.self c.is_going.ensures c.requires (c.in_ok-perform.ensures.done c.if-branch.true)

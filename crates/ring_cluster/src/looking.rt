@@ -1,0 +1,172 @@
+//! A member over plain ends that has another view.
+ghost use Rattle.std.specs.Prelude.{◌≡◌, ◌≤◌, [], drop, true, length, IfOk, IfErr, OnOk, OnErr, None, Some};
+ghost use Rattle.ring_names.specs.declared.reason.Reason.{Reason};
+ghost use Rattle.ordered_link.specs.declared.plain.PlainOut.{PlainOut as Out};
+ghost use Rattle.ordered_link.specs.Steps.{IsFreshPair};
+ghost use Rattle.gm_member.specs.declared.packet.Load.{Load as Loaded};
+ghost use Rattle.gm_member.specs.Shown.{SpareIsReady, SpareIsSound};
+ghost use Rattle.group_view.specs.Change.{marked};
+ghost use Rattle.registrar.specs.Registry.{AreHere, newest};
+ghost use Rattle.registrar.specs.Handled.{with_view, handled, answered};
+ghost use Rattle.registrar.specs.Asked.{request_refusal};
+ghost use Rattle.group_view.specs.View.{Group};
+ghost use Rattle.group_view.specs.declared.request.Answer.TheVariants.{Viewed};
+ghost use Rattle.ring_cluster.specs.Refused.{mark_refused};
+ghost use Rattle.group_view.specs.Ring.{is_in};
+ghost use Rattle.ring_world.specs.View.{ids};
+ghost use Rattle.gm_member.specs.Held.{refresh_refused};
+ghost use Rattle.ring_cluster.specs.Parties.{shown_of};
+ghost use Rattle.ring_cluster.specs.Acting.{IsReady};
+ghost use Rattle.ring_cluster.specs.Looking.{first_of, to_post, kept_post, loose_seen, tidied, without_question, HasLooked};
+
+use crate::node::{Node, drop_old_ins};
+use crate::undelivered::Undelivered;
+use gm_member::{Ask, Load, MemberFault};
+use group_view::{Answer, LinkName, Request, View};
+use ordered_link::{PlainIn, PlainOut};
+use registrar::Registrar;
+use ring_names::{MemberId, OutOfMemory, Reason};
+use ring_world::Refused;
+
+/// What a member that has another view hands on: the link that it opened, and the out end that it replaced.
+#[derive(Drop)]
+pub(crate) struct Looked {
+    pub(crate) opened: Option<Undelivered>,
+    pub(crate) loose: Option<(LinkName, PlainOut<Load>)>,
+}
+
+/// The member reads a view, which isn't older than its own.
+pub(crate) fn look(node: &mut Node, view: View) -> Result<Looked, OutOfMemory>
+    requires ready { IsReady (shown_of node.old) }
+    requires stands { is_in (shown_of node.old).held.id (ids view) ≡ true }
+    requires allowed { refresh_refused (shown_of node.old).held view.version ≡ None }
+    ensures ok { IfOk result (λ l. HasLooked view (shown_of node.old) (shown_of node.new) (kept_post l.opened) (loose_seen l.loose)) }
+    ensures err { OnErr result (shown_of node.new ≡ shown_of node.old) }
+{
+    match node.refresh(view) {
+        Ok(requests) => Ok(hand_on(node, requests)),
+        Err((_view, _fault)) => Err(OutOfMemory),
+    }
+}
+
+/// The registrar marks a member dead, which the acting one asks for, and this one has the view in which it is.
+pub(crate) fn mark(
+    node: &mut Node,
+    registrar: &mut Registrar<PlainIn<Load>>,
+    dead: MemberId,
+) -> Result<Looked, Refused>
+    requires ready { IsReady (shown_of node.old) }
+    requires here { AreHere (registrar.old).links }
+    ensures enabled { OnOk result (mark_refused registrar.old (shown_of node.old) (Some dead.0) ≡ None) }
+    ensures ok { IfOk result (λ l. HasLooked (marked (newest registrar.old) dead.0) (shown_of node.old) (shown_of node.new) (kept_post l.opened) (loose_seen l.loose)) }
+    ensures registrar { OnOk result (registrar.new ≡ with_view registrar.old (marked (newest registrar.old) dead.0)) }
+    ensures reason { IfErr result (λ e. (r : Reason) → e ≡ Refused.NotEnabled r
+        → mark_refused registrar.old (shown_of node.old) (Some dead.0) ≡ Some r) }
+    ensures err { OnErr result ((shown_of node.new ≡ shown_of node.old) × (registrar.new ≡ registrar.old)) }
+{
+    let request = match node.ask(Ask::Mark(dead)) {
+        Ok(request) => request,
+        Err(MemberFault::Refused(reason)) => return Err(Refused::NotEnabled(reason)),
+        Err(MemberFault::OutOfMemory) => return Err(Refused::OutOfMemory),
+    };
+    match ask_for_view(registrar, request) {
+        Ok(view) => Ok(read_answer(node, view)),
+        Err(refused) => {
+            close(node);
+            Err(refused)
+        }
+    }
+}
+
+/// What the registrar answers to a request for a view.
+fn ask_for_view(
+    registrar: &mut Registrar<PlainIn<Load>>,
+    request: Request<PlainIn<Load>>,
+) -> Result<View, Refused>
+    requires here { AreHere (registrar.old).links }
+    requires view { (v : Group) × (answered registrar.old request ≡ Viewed v) }
+    ensures enabled { OnOk result (request_refusal registrar.old request ≡ None) }
+    ensures view { IfOk result (λ v. answered registrar.old request ≡ Viewed v) }
+    ensures registrar { OnOk result (registrar.new ≡ handled registrar.old request) }
+    ensures reason { IfErr result (λ e. (r : Reason) → e ≡ Refused.NotEnabled r
+        → request_refusal registrar.old request ≡ Some r) }
+    ensures err { OnErr result (registrar.new ≡ registrar.old) }
+{
+    if let Some(reason) = registrar.refusal(&request) {
+        return Err(Refused::NotEnabled(reason));
+    }
+    match registrar.handle(request) {
+        Ok(Answer::Viewed(view)) => Ok(view),
+        Ok(Answer::Links(_)) => unreachable!(),
+        Ok(Answer::Noted) => unreachable!(),
+        Ok(Answer::No(_)) => unreachable!(),
+        Err((_request, OutOfMemory)) => Err(Refused::OutOfMemory),
+    }
+}
+
+/// The member reads the view with which its question is answered.
+fn read_answer(node: &mut Node, view: View) -> Looked
+    requires open { (shown_of node.old).held.asks ≡ true }
+    requires ready { IsReady (shown_of node.old) }
+    requires stands { is_in (shown_of node.old).held.id (ids view) ≡ true }
+    requires spare { SpareIsReady (λ n o i. IsFreshPair n o i) (λ (o : Out Loaded). o.free) (λ (o : Out Loaded). o.ended) node.old }
+    ensures { HasLooked view (without_question (shown_of node.old)) (shown_of node.new) (kept_post result.opened) (loose_seen result.loose) }
+{
+    match node.answer(Answer::Viewed(view)) {
+        Ok(requests) => hand_on(node, requests),
+        Err(_) => unreachable!(),
+    }
+}
+
+/// The member's question is closed, unanswered.
+pub(crate) fn close(node: &mut Node)
+    requires open { (shown_of node.old).held.asks ≡ true }
+    requires sound { SpareIsSound (λ n o i. IsFreshPair n o i) (λ (o : Out Loaded). o.free) (λ (o : Out Loaded). o.ended) node.old }
+    ensures { shown_of node.new ≡ without_question (shown_of node.old) }
+{
+    match node.answer(Answer::No(Reason::AwaitingAnswer)) {
+        Ok(_requests) => {}
+        Err(_) => unreachable!(),
+    }
+}
+
+/// What a member that has another view hands on; the ends that it has left are dropped.
+fn hand_on(node: &mut Node, requests: Vec<Request<PlainIn<Load>>>) -> Looked
+    requires few { length (shown_of node.old).ends.old_outs ≤ 1 }
+    ensures node { shown_of node.new ≡ tidied (shown_of node.old) }
+    ensures opened { kept_post result.opened ≡ to_post requests.items }
+    ensures loose { loose_seen result.loose ≡ first_of (shown_of node.old).ends.old_outs }
+{
+    let loose = node.old_out();
+    drop_old_ins(node);
+    let opened = opened_by(requests);
+    Looked { opened, loose }
+}
+
+/// The link that is to wait at the registrar, if one is.
+fn opened_by(requests: Vec<Request<PlainIn<Load>>>) -> Option<Undelivered>
+    ensures { kept_post result ≡ to_post requests.items }
+{
+    let first = requests.into_iter().next()?;
+    match first {
+        Request::Deposit {
+            by,
+            to,
+            view,
+            kind,
+            link,
+        } => Some(Undelivered {
+            name: LinkName {
+                from: by,
+                to,
+                view,
+                kind,
+            },
+            link,
+        }),
+        Request::Mark { .. }
+        | Request::Refresh { .. }
+        | Request::Stopped { .. }
+        | Request::Collect { .. } => None,
+    }
+}

@@ -1,0 +1,355 @@
+-- Each event that may happen keeps the whole invariant.
+use Rattle.std.proofs.Common.{◌≡◌, ◌≢◌, ℕ, ◌+◌, ◌<◌, ◌≤◌, Bool, true, false, not, nat_eq, nat_lt, nat_le, List, [], ◌∷◌, ◌++◌, length, get_or, set, Option, Some, None, is_some, refl, sym, ap, subst, ◌∙◌, ⊎_elim, if◌then◌else◌, arith}
+use Rattle.std.specs.Prelude.{◌&&◌}
+use Rattle.std.proofs.lemmas.Bool.{and_parts, false≢true, leb-true, ltb-false, cases_lt}
+use Rattle.std.proofs.lemmas.List.{length_push, get_or_append_left}
+use Rattle.std.proofs.lemmas.List.Quantifiers.{position-Some}
+use Rattle.ring_names.specs.declared.message.Message.{Message}
+use Rattle.ring_names.specs.declared.message.Message.TheVariants as message
+use Rattle.ring_names.specs.declared.numbers.CreditSpec.{CreditSpec}
+use Rattle.ring_names.specs.declared.reason.Reason.{Reason}
+use Rattle.ring_names.specs.declared.reason.Reason.TheVariants as reason
+use Rattle.ring_world.specs.Refusal.{refuse_if, or_else, is_empty}
+use Rattle.group_view.specs.Ring.{is_in}
+use Rattle.group_view.specs.View.{Group, entry_in}
+use Rattle.group_view.specs.Since.{no_group, IsSince, KeepsLeft, since_at}
+use Rattle.group_view.specs.Change.{AreOpeningNames, marked, opening as opening_group}
+use Rattle.group_view.proofs.History.{Ends, mark_goes_on, opening_begins}
+use Rattle.group_view.proofs.Passing.{live_in}
+use Rattle.ring_world.specs.View.{ids, is_live, left_of, right_of, left_at, right_at}
+use Rattle.ring_world.specs.Machine.{Waiting, Up, Stopped, Member, Moved, Halted, Link, World, no_link, no_member, member_at, link_at, view_at, newest, left, right, runs, runs_phase, is_kept}
+use Rattle.ring_world.specs.Walk.{oldest}
+use Rattle.ring_world.specs.Step.{size, publish_at, put_on, gain_on, take_from, current_is, with_current, leave_link, finished, ended, stop_at, stopped, end_out, with_member, with_link, with_view, look_at, moved_to, open_to, opened_link, taker, published, opening}
+use Rattle.ring_world.proofs.WhatRefuses.{IsSameWay, MayTake, IsPickable, MayLook}
+use Rattle.ring_world.specs.Event.{Event, Cast, Put, Take, TakeEnd, Gain, Stop, Mark, Refresh, Pick, id_of, of_member, on_link, running_refusal, up_refusal, put_refusal, take_refusal, end_refusal, gain_refusal, version_refusal, holds_nothing, left_neighbour, since, is_at_door, at_door, mark_refusal, send_to, refreshed, refusal, at_found, taken_by, effect, IsRun, last, is_stopped}
+use Rattle.ring_world.specs.Event as event
+use Rattle.ring_world.specs.Machine as machine
+use Rattle.group_view.specs.Since as group
+use Rattle.group_view.proofs.KeptLeft.{keeps_since}
+use Rattle.ring_world.proofs.Lists.{at_set}
+use Rattle.ring_world.proofs.Rounds.{nat_eq-is, nat_eq-same}
+use Rattle.ring_world.proofs.Good.{kept_true}
+use Rattle.ring_world.proofs.Views.{view_new}
+use Rattle.ring_world.proofs.NoneWaits.{look_none, open_none, NoneWaits}
+use Rattle.ring_world.proofs.Kept.{Inv, put_keeps}
+use Rattle.ring_world.proofs.KeptTake.{take_keeps}
+use Rattle.ring_world.proofs.KeptMore.{stop_keeps, current_keeps, mark_keeps, way_keeps}
+use Rattle.ring_world.proofs.KeptLook.{look_keeps}
+use Rattle.ring_world.proofs.KeptOpen.{open_keeps}
+use Rattle.ring_world.proofs.KeptCast.{cast_keeps}
+use Rattle.ring_world.proofs.Opening.{opening_inv, opening_phase}
+use Rattle.ring_world.proofs.Refusals.{none_of, refuse_none, stopped_from, up_from, id_within, open_after_end, not_less, or_false, not_false}
+
+-- ---- what holds in every state
+
+-- the views are those of a group that opened and changed
+pub record HasViews (w : World) : Type 0 where
+  pub groups : List Group
+  pub is : w.views ≡ no_group ∷ groups
+  pub ends : Ends groups (view_at w (newest w))
+
+pub record IsGood (w : World) : Type 0 where
+  pub inv : Inv w
+  pub none_waits : NoneWaits w
+  pub views : HasViews w
+
+pub opening_good : (credit : CreditSpec) (names : List (List ℕ)) → AreOpeningNames names → IsGood (opening credit names)
+opening_good credit names are = record {
+  inv = opening_inv credit names;
+  none_waits = opening_phase credit names;
+  views = record { groups = opening_group names ∷ []; is = refl; ends = opening_begins names are };
+}
+
+-- ---- conditions
+
+-- the conditions of a member that is up, beyond which later ones stand
+up_none : (w : World) (x : ℕ) (later : Option Reason) → up_refusal w x later ≡ None → ((member_at w x).phase ≡ Up) × (later ≡ None)
+up_none w x later h =
+    let a = none_of (is_stopped (member_at w x).phase) reason.Stopped (or_else (refuse_if (machine.is_waiting (member_at w x).phase) reason.Waiting) later) h in
+    let b = none_of (machine.is_waiting (member_at w x).phase) reason.Waiting later a.1 in
+    (up_from (member_at w x).phase a.0 b.0, b.1)
+
+-- of a member that runs; none waits
+running_none : (w : World) (x : ℕ) (later : Option Reason) → NoneWaits w → running_refusal w x later ≡ None → ((member_at w x).phase ≡ Up) × (later ≡ None)
+running_none w x later n h =
+    let a = none_of (is_stopped (member_at w x).phase) reason.Stopped later h in
+    (up_from (member_at w x).phase a.0 (n x), a.1)
+
+-- what an event does at the member that is found is right where it is right at each
+found_good : (w : World) (name : List ℕ) (later : ℕ → Option Reason) (f : ℕ → World) (o : Option ℕ) → id_of w name ≡ o → of_member o later ≡ None
+    → ((x : ℕ) → 1 ≤ x → x < size w → later x ≡ None → IsGood (f x)) → IsGood (at_found o w f)
+found_good w name later f None e h k = cc
+found_good w name later f (Some x) e h k = let i = id_within w name x e in k x i.0 i.1 h
+
+-- and likewise at a link
+link_good : (w : World) (missing : Reason) (later : ℕ → Option Reason) (f : ℕ → World) (o : Option ℕ) → on_link o missing later ≡ None
+    → ((s : ℕ) → o ≡ Some s → later s ≡ None → IsGood (f s)) → IsGood (at_found o w f)
+link_good w missing later f None h k = cc
+link_good w missing later f (Some s) h k = k s refl h
+
+-- ---- members and links alone
+
+set_waits : (w : World) (x : ℕ) (y : Member) → x < size w → machine.is_waiting y.phase ≡ false → NoneWaits w → NoneWaits (with_member w x y)
+set_waits w x y lt e n = λ q. at_set (λ k z. machine.is_waiting z.phase ≡ false) w.members x q y no_member lt e (λ _. n q)
+
+same_views : (w : World) (ms : List Member) (ls : List Link) → HasViews w → HasViews (record w { members = ms; links = ls })
+same_views w ms ls h = record { groups = h.groups; is = h.is; ends = h.ends }
+
+-- a link goes the same way
+way_good : (w : World) (s : ℕ) (l : Link) → s < length w.links → IsSameWay (link_at w s) l → IsGood w → IsGood (with_link w s l)
+way_good w s l lt k h = record { inv = way_keeps w s l lt k h.inv; none_waits = h.none_waits; views = same_views w w.members (set w.links s l) h.views }
+
+current_good : (w : World) (y : ℕ) (c : Option ℕ) → y < size w → (member_at w y).phase ≡ Up → IsPickable w y c → IsGood w → IsGood (current_is w y c)
+current_good w y c lt up k h = record {
+  inv = current_keeps w y c lt up k h.inv;
+  none_waits = set_waits w y (with_current c (member_at w y)) lt (h.none_waits y) h.none_waits;
+  views = same_views w (set w.members y (with_current c (member_at w y))) w.links h.views;
+}
+
+nothing_pickable : (w : World) (y : ℕ) → IsPickable w y None
+nothing_pickable w y = record { lt = λ s e. cc; receiver = λ s e. cc; kept_yet = λ s e. cc; opened = λ s e. cc }
+
+-- ---- the events but for marks, refreshes and picks
+
+cast_good : (w : World) (x : ℕ) (m : Message) → x < size w → (member_at w x).phase ≡ Up → IsGood w → IsGood (publish_at w x m)
+cast_good w x m lt up h = record {
+  inv = cast_keeps m w x lt up h.inv;
+  none_waits = set_waits w x (published x m (member_at w x)) lt (h.none_waits x) h.none_waits;
+  views = same_views w (set w.members x (published x m (member_at w x))) w.links h.views;
+}
+
+put_good : (w : World) (x o : ℕ) → (member_at w x).phase ≡ Up → (member_at w x).out ≡ Some o → IsGood w → IsGood (put_on w x o)
+put_good w x o up out h = record {
+  inv = put_keeps w x o up out h.inv;
+  none_waits = h.none_waits;
+  views = same_views w w.members (put_on w x o).links h.views;
+}
+
+take_good : (w : World) (y s : ℕ) → MayTake w y s → IsGood w → IsGood (take_from w y s)
+take_good w y s m h = record {
+  inv = take_keeps w y s h.inv m;
+  none_waits = set_waits w y (taker w y s) m.is_member (h.none_waits y) h.none_waits;
+  views = same_views w (set w.members y (taker w y s)) (take_from w y s).links h.views;
+}
+
+stop_good : (w : World) (x : ℕ) → x < size w → (member_at w x).phase ≡ Up → IsGood w → IsGood (end_out Halted (stop_at w x) (member_at w x).out)
+stop_good w x lt up h = by_out (member_at w x).out refl
+  where
+    rx : runs w x ≡ true
+    rx = ap runs_phase up
+
+    now : IsGood (stop_at w x)
+    now = record {
+      inv = stop_keeps w x lt rx h.inv;
+      none_waits = set_waits w x (stopped (member_at w x)) lt refl h.none_waits;
+      views = same_views w (set w.members x (stopped (member_at w x))) w.links h.views;
+    }
+
+    by_out : (o : Option ℕ) → (member_at w x).out ≡ o → IsGood (end_out Halted (stop_at w x) o)
+    by_out None e = now
+    by_out (Some o) e = way_good (stop_at w x) o (ended Halted (link_at w o)) (h.inv.linked.out_lt x o rx e) (record { sender = refl; receiver = refl; opened = refl; packets = refl }) now
+
+-- ---- a refresh
+
+refresh_good : (w : World) (x v : ℕ) → x < size w → (member_at w x).phase ≡ Up → (member_at w x).version ≤ v → v ≤ newest w → IsGood w → IsGood (refreshed w x v)
+unfolding right_at
+refresh_good w x v lt up later upto h = by_out (member_at w x).out refl
+  where
+    m : MayLook w x v
+    m = record { is_member = lt; up = up; later = later; upto = upto }
+
+    z : ℕ
+    z = right_of (view_at w v) x
+
+    w1 : World
+    w1 = look_at w x v
+
+    fresh : (a b : Bool) → a ≡ false → (a && b) ≡ false
+    fresh a b e = rw e refl
+
+    waits1 : NoneWaits w1
+    waits1 = look_none w x v m h.none_waits
+
+    views1 : HasViews w1
+    views1 = same_views w (set w.members x (moved_to w x v)) w.links h.views
+
+    opened_good : ((o : ℕ) → (member_at w x).out ≡ Some o → (link_at w o).receiver ≢ right w v x) → IsGood (open_to w1 x z)
+    opened_good moves = record {
+      inv = open_keeps w x v m moves (fresh (machine.is_waiting (member_at w1 z).phase) (nat_eq (member_at w1 x).version (member_at w1 z).version) (waits1 z)) h.inv;
+      none_waits = open_none w x v m h.none_waits;
+      views = same_views w1 (open_to w1 x z).members (open_to w1 x z).links views1;
+    }
+
+    by_receiver : (o : ℕ) → (member_at w x).out ≡ Some o → (b : Bool) → nat_eq (link_at w o).receiver z ≡ b → IsGood (if b then w1 else open_to (with_link w1 o (ended Moved (link_at w o))) x z)
+    by_receiver o e true t = record {
+      inv = look_keeps w x v m (λ o2 e2. let same : o ≡ o2 = (let both : Some o ≡ Some o2 = sym e ∙ e2 in cc) in subst (λ k. (link_at w k).receiver ≡ right w v x) same (nat_eq-is (link_at w o).receiver z t)) h.inv;
+      none_waits = waits1;
+      views = views1;
+    }
+    by_receiver o e false t =
+        let there : o < length w.links = h.inv.linked.out_lt x o (ap runs_phase up) e in
+        let moves : (o2 : ℕ) → (member_at w x).out ≡ Some o2 → (link_at w o2).receiver ≢ right w v x = λ o2 e2 is.
+        let same : o ≡ o2 = (let both : Some o ≡ Some o2 = sym e ∙ e2 in cc) in
+        false≢true (sym t ∙ ap (λ k. nat_eq k z) (ap (λ j. (link_at w j).receiver) same ∙ is) ∙ nat_eq-same z) in
+        let w2 = open_to w1 x z in
+        let old : link_at w2 o ≡ link_at w o = get_or_append_left w.links (opened_link w1 x z ∷ []) no_link o there in
+        let more : length w2.links ≡ length w.links + 1 = length_push w.links (opened_link w1 x z) in
+        subst IsGood (sym (open_after_end w1 x z o (ended Moved (link_at w o)) there))
+        (way_good w2 o (ended Moved (link_at w o)) (omega arith)
+        (subst (λ a. IsSameWay a (ended Moved (link_at w o))) (sym old) (record { sender = refl; receiver = refl; opened = refl; packets = refl }))
+        (opened_good moves))
+
+    by_out : (o : Option ℕ) → (member_at w x).out ≡ o → IsGood (send_to w1 x z o)
+    by_out None e = opened_good (λ o e2. let both : None ≡ Some o = sym e ∙ e2 in cc)
+    by_out (Some o) e = by_receiver o e (nat_eq (link_at w o).receiver z) refl
+
+-- ---- a mark
+
+mark_view_good : (w : World) (d : ℕ) → (member_at w d).phase ≡ Stopped → is_live (view_at w (newest w)) d ≡ true → IsGood w → IsGood (with_view w (marked (view_at w (newest w)) d))
+mark_view_good w d rests lives h =
+    let g = view_at w (newest w) in
+    let v' = marked g d in
+    let more : length (w.views ++ v' ∷ []) ≡ length w.views + 1 = length_push w.views v' in
+    let some : 0 < length w.views = h.inv.is_ring.some in
+    record {
+      inv = mark_keeps w d (ap runs_phase rests) h.inv;
+      none_waits = h.none_waits;
+      views = record {
+        groups = h.views.groups ++ v' ∷ [];
+        is = ap (λ vs. vs ++ v' ∷ []) h.views.is;
+        ends = subst (Ends (h.views.groups ++ v' ∷ [])) (sym (view_new w v' (newest (with_view w v')) (omega arith)))
+            (mark_goes_on h.views.groups g d h.views.ends (record { there = live_in g.entries d lives; lives = lives }));
+      };
+    }
+
+-- ---- a pick
+
+left_is_group : (w : World) (h : HasViews w) (u y : ℕ) → is_in y (ids (view_at w u)) ≡ true → left w u y ≡ group.left_at h.groups u y
+unfolding left_at group.left_at
+left_is_group w h u y i =
+    let same : view_at w u ≡ group.view_at h.groups u = ap (λ vs. get_or vs u no_group) h.is in
+    ap (λ v. left_of v y) same ∙ sym (rw (sym (ap (λ v. is_in y (ids v)) same) ∙ i) refl)
+
+door_parts : (w : World) (y : ℕ) (l : Link) → is_at_door w y l ≡ true → (l.receiver ≡ y) × (l.sender ≡ left_neighbour w y) × (since w y ≤ l.opened)
+door_parts w y l h =
+    let a = and_parts (nat_eq l.receiver y) (not l.over && (nat_eq l.sender (left_neighbour w y) && nat_le (since w y) l.opened)) h in
+    let b = and_parts (not l.over) (nat_eq l.sender (left_neighbour w y) && nat_le (since w y) l.opened) a.1 in
+    let c = and_parts (nat_eq l.sender (left_neighbour w y)) (nat_le (since w y) l.opened) b.1 in
+    (nat_eq-is l.receiver y a.0, nat_eq-is l.sender (left_neighbour w y) c.0, leb-true (since w y) l.opened c.1)
+
+-- the link that may be picked
+pub door_pickable : (w : World) (y s : ℕ) → y < size w → (member_at w y).phase ≡ Up → at_door w y ≡ Some s → (link_at w s).opened ≤ (member_at w y).version → IsGood w → IsPickable w y (Some s)
+unfolding left_at group.left_at
+door_pickable w y s lt up e upto h = record {
+  lt = λ t k. subst (λ j. j < length w.links) (is t k) there;
+  receiver = λ t k. subst (λ j. (link_at w j).receiver ≡ y) (is t k) parts.0;
+  kept_yet = λ t k. subst (λ j. is_kept w (link_at w j) v ≡ true) (is t k) (kept_true w (link_at w s) v stays);
+  opened = λ t k. subst (λ j. (link_at w j).opened ≤ v) (is t k) upto;
+}
+  where
+    v : ℕ
+    v = (member_at w y).version
+
+    is : (t : ℕ) → Some s ≡ Some t → s ≡ t
+    is t k = cc
+
+    found : (s < length w.links) × (is_at_door w y (link_at w s) ≡ true)
+    found = let f = position-Some (is_at_door w y) w.links s no_link e in (f.0, f.1)
+
+    there : s < length w.links
+    there = found.0
+
+    parts : ((link_at w s).receiver ≡ y) × ((link_at w s).sender ≡ left_neighbour w y) × (since w y ≤ (link_at w s).opened)
+    parts = door_parts w y (link_at w s) found.1
+
+    ry : runs w y ≡ true
+    ry = ap runs_phase up
+
+    stands : (u : ℕ) → v ≤ u → u ≤ newest w → is_in y (ids (view_at w u)) ≡ true
+    stands u a b = h.inv.is_ring.stands y u ry a b
+
+    some : 1 ≤ v
+    some = ⊎_elim (λ (zero_is : v < 1). absurd (false≢true (subst (λ k. is_in y (ids k) ≡ true) (nobody zero_is) (stands v (omega arith) (h.inv.is_ring.held y))))) (λ (ok : 1 ≤ v). ok) (cases_lt v 1)
+      where
+        nobody : v < 1 → view_at w v ≡ no_group
+        nobody k = ap (λ vs. get_or vs v no_group) h.views.is ∙ (let z : v ≡ 0 = omega arith in ap (λ n. get_or (no_group ∷ h.views.groups) n no_group) z)
+
+    many : v ≤ length h.views.groups
+    many = omega (arith, h.inv.is_ring.held y, ap length h.views.is)
+
+    same_view : view_at w v ≡ group.view_at h.views.groups v
+    same_view = ap (λ vs. get_or vs v no_group) h.views.is
+
+    dated : IsSince h.views.groups y v (since_at h.views.groups v y)
+    dated = h.views.ends.history.dated v y some many (sym (ap (λ k. is_in y (ids k)) same_view) ∙ stands v (omega arith) (h.inv.is_ring.held y))
+
+    since_is : since_at h.views.groups v y ≡ since w y
+    since_is = sym (ap (λ (k : Group). (entry_in k.entries y).since) same_view)
+
+    left_now : group.left_at h.views.groups v y ≡ (link_at w s).sender
+    left_now = sym (left_is_group w h.views v y (stands v (omega arith) (h.inv.is_ring.held y))) ∙ sym parts.1
+
+    keeps : KeepsLeft h.views.groups y (link_at w s).sender (link_at w s).opened v
+    keeps = keeps_since h.views.groups y v (since_at h.views.groups v y) (link_at w s).sender (link_at w s).opened dated (omega (arith, since_is, parts.2)) left_now
+
+    present : (u : ℕ) → (link_at w s).opened ≤ u → u ≤ v → is_in y (ids (view_at w u)) ≡ true
+    present u a b = subst (λ q. is_in q (ids (view_at w u)) ≡ true) parts.0 (h.inv.history.grows (link_at w s).receiver (link_at w s).opened u (h.inv.history.known s there) a (omega (arith, b, h.inv.is_ring.held y)))
+
+    stays : (u : ℕ) → (link_at w s).opened ≤ u → u ≤ v → left w u (link_at w s).receiver ≡ (link_at w s).sender
+    stays u a b = ap (left w u) parts.0 ∙ left_is_group w h.views u y (present u a b) ∙ keeps u a b
+
+-- ---- events
+
+-- one event more
+pub event_good : (w : World) (e : Event) → IsGood w → refusal w e ≡ None → IsGood (effect w e)
+event_good w (Cast by body) h r = found_good w by (λ x. up_refusal w x None) (λ x. publish_at w x (message.Cast body)) (id_of w by) refl r
+    (λ x some lt k. cast_good w x (message.Cast body) lt (up_none w x None k).0 h)
+event_good w (Put by) h r = found_good w by _ _ (id_of w by) refl r
+    (λ x some lt k. let u = up_none w x _ k in link_good w reason.NoOutLink (put_refusal w x) (put_on w x) (member_at w x).out u.1 (λ o out q. put_good w x o u.0 out h))
+event_good w (Take by) h r = found_good w by _ _ (id_of w by) refl r
+    (λ x some lt k. let u = running_none w x _ h.none_waits k in
+    link_good w reason.NoCurrentLink (take_refusal w x) (taken_by (member_at w x).phase w x) (member_at w x).current u.1
+    (λ s current q.
+    let a = none_of (holds_nothing (link_at w s)) reason.NothingToTake _ q in
+    let b = none_of (is_empty (link_at w s).packets) reason.EndNext _ a.1 in
+    let v = not_less (member_at w x).version (oldest (link_at w s)).version _ b.1 in
+    subst (λ f. IsGood (taken_by f w x s)) (sym u.0) (take_good w x s (record { is_member = lt; up = u.0; current = current; has = b.0; version = v }) h)))
+event_good w (TakeEnd by) h r = found_good w by _ _ (id_of w by) refl r
+    (λ x some lt k. let u = running_none w x _ h.none_waits k in
+    link_good w reason.NoCurrentLink (end_refusal w) (leave_link w x) (member_at w x).current u.1
+    (λ s current q. way_good (current_is w x None) s (finished (link_at w s)) (h.inv.current.lt x s (ap runs_phase u.0) current) (record { sender = refl; receiver = refl; opened = refl; packets = refl })
+    (current_good w x None lt u.0 (nothing_pickable w x) h)))
+event_good w (Gain by) h r = found_good w by _ _ (id_of w by) refl r
+    (λ x some lt k. let u = up_none w x _ k in link_good w reason.NoOutLink (gain_refusal w) (gain_on w) (member_at w x).out u.1
+    (λ o out q. way_good w o _ (h.inv.linked.out_lt x o (ap runs_phase u.0) out) (record { sender = refl; receiver = refl; opened = refl; packets = refl }) h))
+event_good w (Stop by) h r = found_good w by _ _ (id_of w by) refl r
+    (λ x some lt k. stop_good w x lt (running_none w x None h.none_waits k).0 h)
+event_good w (Mark by dead) h r = found_good w by _ _ (id_of w by) refl r
+    (λ x some lt k. let u = up_none w x _ k in
+    found_good w dead (mark_refusal w x) (λ d. refreshed (with_view w (marked (view_at w (newest w)) d)) x (newest w + 1)) (id_of w dead) refl u.1
+    (λ d dsome dlt q.
+    let a = none_of (not (event.is_neighbour w x d)) reason.NotNeighbour _ q in
+    let b = none_of (not (is_live (view_at w (newest w)) d)) reason.AlreadyDead _ a.1 in
+    let c = none_of (not (is_stopped (member_at w d).phase)) reason.NotStopped _ b.1 in
+    let rests = stopped_from (member_at w d).phase (not_false _ c.0) in
+    let w' = with_view w (marked (view_at w (newest w)) d) in
+    let more : length w'.views ≡ length w.views + 1 = length_push w.views (marked (view_at w (newest w)) d) in
+    refresh_good w' x (newest w + 1) lt u.0 (omega (arith, h.inv.is_ring.held x)) (omega (arith, h.inv.is_ring.some))
+    (mark_view_good w d rests (not_false _ b.0) h)))
+event_good w (Refresh by version) h r = found_good w by _ _ (id_of w by) refl r
+    (λ x some lt k. let u = up_none w x _ k in
+    let parts = or_false (nat_lt version (member_at w x).version) (nat_lt (newest w) version) (refuse_none _ _ u.1) in
+    refresh_good w x version lt u.0 (ltb-false version (member_at w x).version parts.0) (ltb-false (newest w) version parts.1) h)
+event_good w (Pick by) h r = found_good w by _ _ (id_of w by) refl r
+    (λ x some lt k. let u = up_none w x _ k in
+    let a = none_of (is_some (member_at w x).current) reason.HasCurrentLink _ u.1 in
+    link_good w reason.NoLinkAtDoor (λ s. version_refusal (link_at w s).opened (member_at w x).version) (λ s. current_is w x (Some s)) (at_door w x) a.1
+    (λ s e q. current_good w x (Some s) lt u.0 (door_pickable w x s lt u.0 e (not_less (member_at w x).version (link_at w s).opened _ q) h) h))
+
+-- every state of every run
+pub run_good : (w : World) (es : List Event) → IsGood w → IsRun w es → IsGood (last w es)
+run_good w [] h r = h
+run_good w (e ∷ es) h r = run_good (effect w e) es (event_good w e h r.0) r.1
+
+pub reached_good : (credit : CreditSpec) (names : List (List ℕ)) (es : List Event) → AreOpeningNames names → IsRun (opening credit names) es → IsGood (last (opening credit names) es)
+reached_good credit names es are r = run_good (opening credit names) es (opening_good credit names are) r

@@ -1,0 +1,35 @@
+-- When a step of a member may happen.
+use Rattle.std.specs.Prelude.{◌≡◌, ℕ, ◌<◌, ◌≤◌, true, false, length, Option, Some}
+use Rattle.ring_world.specs.Machine.{Up, Link, World, member_at, link_at, newest, is_kept}
+use Rattle.ring_world.specs.Walk.{oldest}
+use Rattle.ring_world.specs.Step.{size}
+use Rattle.ring_world.specs.Refusal.{is_empty}
+
+-- the conditions of a take of y from its current link s
+pub record MayTake (w : World) (y s : ℕ) : Type 0 where
+  pub is_member : y < size w
+  pub up : (member_at w y).phase ≡ Up
+  pub current : (member_at w y).current ≡ Some s
+  pub has : is_empty (link_at w s).packets ≡ false
+  pub version : (oldest (link_at w s)).version ≤ (member_at w y).version
+
+-- what y may take from: nothing, or a link to it that is kept up to its view and isn't newer
+pub record IsPickable (w : World) (y : ℕ) (c : Option ℕ) : Type 0 where
+  pub lt : (s : ℕ) → c ≡ Some s → s < length w.links
+  pub receiver : (s : ℕ) → c ≡ Some s → (link_at w s).receiver ≡ y
+  pub kept_yet : (s : ℕ) → c ≡ Some s → is_kept w (link_at w s) (member_at w y).version ≡ true
+  pub opened : (s : ℕ) → c ≡ Some s → (link_at w s).opened ≤ (member_at w y).version
+
+-- x may refresh to v
+pub record MayLook (w : World) (x v : ℕ) : Type 0 where
+  pub is_member : x < size w
+  pub up : (member_at w x).phase ≡ Up
+  pub later : (member_at w x).version ≤ v
+  pub upto : v ≤ newest w
+
+-- a link goes the same way with the same packets, whatever its credit and its end are
+pub record IsSameWay (l l' : Link) : Type 0 where
+  pub sender : l'.sender ≡ l.sender
+  pub receiver : l'.receiver ≡ l.receiver
+  pub opened : l'.opened ≡ l.opened
+  pub packets : l'.packets ≡ l.packets

@@ -1,0 +1,187 @@
+-- The events of the ring: when one may happen, and what it does.
+use Rattle.std.specs.Prelude.{◌≡◌, ℕ, ◌+◌, Bool, true, false, ◌&&◌, ◌||◌, not, nat_eq, nat_le, nat_lt, bytes_eq, if◌then◌else◌, List, [], ◌∷◌, drop, position, option_map, is_some, Option, Some, None, ⊤}
+use Rattle.std.specs.List.{list_all, range_with_len}
+use Rattle.ring_names.specs.declared.message.Message.TheVariants as message
+use Rattle.ring_names.specs.declared.reason.Reason.{Reason}
+use Rattle.ring_names.specs.declared.reason.Reason.TheVariants as reason
+use Rattle.credit_flow.specs.Credit.{is_blocked}
+use Rattle.ring_world.specs.Rows.{is_sent}
+use Rattle.ring_world.specs.Refusal.{refuse_if, or_else, is_empty}
+use Rattle.group_view.specs.View.{entry_in}
+use Rattle.group_view.specs.Change.{marked}
+use Rattle.ring_world.specs.View.{is_live, left_of, right_of}
+use Rattle.ring_world.specs.Machine.{Phase, Waiting, Up, Stopped, Member, Sending, Moved, Halted, Link, World, row_at, numbers_at, member_at, link_at, view_at, newest, is_waiting}
+use Rattle.ring_world.specs.Walk.{oldest}
+use Rattle.ring_world.specs.Step.{size, publish_at, put_on, gain_on, take_from, begin_from, current_is, leave_link, stop_at, end_out, with_view, look_at, open_to, with_link, ended}
+pub use Rattle.ring_world.specs.declared.event.Event.{Event}
+pub use Rattle.ring_world.specs.declared.event.Event.TheVariants.{Cast, Put, Take, TakeEnd, Gain, Stop, Mark, Refresh, Pick}
+
+-- ---- conditions
+
+-- the id of the member of that name
+abbrev pub id_of : World → List ℕ → Option ℕ
+id_of w name = option_map (λ i. i + 1) (position (λ y. bytes_eq y.name name) (drop 1 w.members))
+
+-- the conditions after the acting member is known
+abbrev pub of_member : Option ℕ → (ℕ → Option Reason) → Option Reason
+of_member None later = Some reason.UnknownMember
+of_member (Some x) later = later x
+
+-- whether a member has stopped
+abbrev pub is_stopped : Phase → Bool
+is_stopped Waiting = false
+is_stopped Up = false
+is_stopped Stopped = true
+
+-- a member acts that hasn't stopped
+abbrev pub running_refusal : World → ℕ → Option Reason → Option Reason
+running_refusal w x later = or_else (refuse_if (is_stopped (member_at w x).phase) reason.Stopped) later
+
+-- and doesn't wait
+abbrev pub up_refusal : World → ℕ → Option Reason → Option Reason
+up_refusal w x later = running_refusal w x (or_else (refuse_if (is_waiting (member_at w x).phase) reason.Waiting) later)
+
+-- the conditions on a link that a member has, and their number where it has none
+abbrev pub on_link : Option ℕ → Reason → (ℕ → Option Reason) → Option Reason
+on_link None missing later = Some missing
+on_link (Some s) missing later = later s
+
+-- whether the numbers of each origin equal those last sent
+abbrev pub has_nothing_new : ℕ → Member → Sending → Bool
+has_nothing_new n y s = list_all (λ p. is_sent (row_at y p) (numbers_at s.sent p)) (range_with_len 0 n)
+
+-- x puts a packet on its out link o only where that has credit, and where there is something new
+abbrev pub put_refusal : World → ℕ → ℕ → Option Reason
+put_refusal w x o =
+    or_else (refuse_if (is_blocked (link_at w o).flow.sender) reason.NoCredit)
+    (refuse_if (has_nothing_new (size w) (member_at w x) (link_at w o).sending) reason.NothingNew)
+
+-- whether a link holds no item: no packet, and no end
+abbrev pub holds_nothing : Link → Bool
+holds_nothing l = is_empty l.packets && not (is_some l.ending)
+
+-- the first packet is of a version that the member has
+abbrev pub version_refusal : ℕ → ℕ → Option Reason
+version_refusal need have = refuse_if (nat_lt have need) (reason.ViewTooOld need have)
+
+-- y takes a packet from its current link s only where an item stands there, the next one is a packet, and its version is one that y has
+abbrev pub take_refusal : World → ℕ → ℕ → Option Reason
+take_refusal w y s =
+    or_else (refuse_if (holds_nothing (link_at w s)) reason.NothingToTake)
+    (or_else (refuse_if (is_empty (link_at w s).packets) reason.EndNext)
+    (version_refusal (oldest (link_at w s)).version (member_at w y).version))
+
+-- and the end only where it is the next item
+abbrev pub end_refusal : World → ℕ → Option Reason
+end_refusal w s =
+    or_else (refuse_if (holds_nothing (link_at w s)) reason.NothingToTake)
+    (refuse_if (not (is_empty (link_at w s).packets)) reason.PacketNext)
+
+-- x gains credit on its out link o only where a grant is under way
+abbrev pub gain_refusal : World → ℕ → Option Reason
+gain_refusal w o = refuse_if (is_empty (link_at w o).flow.grants) reason.NoGrant
+
+-- ---- picking a link
+
+-- since when the left neighbour that a member has in its view has been it
+abbrev pub since : World → ℕ → ℕ
+since w y = (entry_in (view_at w (member_at w y).version).entries y).since
+
+-- y's left neighbour in its view
+abbrev pub left_neighbour : World → ℕ → ℕ
+left_neighbour w y = left_of (view_at w (member_at w y).version) y
+
+-- A link stands at y's door that goes to y, isn't taken to its end, and comes from y's left neighbour, opened when that one
+-- was it already. A link that y once had for its current one and left doesn't come back so: it was taken to its end, or
+-- it was opened before that.
+abbrev pub is_at_door : World → ℕ → Link → Bool
+is_at_door w y l = nat_eq l.receiver y && (not l.over && (nat_eq l.sender (left_neighbour w y) && nat_le (since w y) l.opened))
+
+-- the oldest of them
+abbrev pub at_door : World → ℕ → Option ℕ
+at_door w y = position (is_at_door w y) w.links
+
+-- y picks the link that stands first at its door only where there is one, and where it was opened in a version that y has
+abbrev pub pick_refusal : World → ℕ → Option Reason
+pick_refusal w y = on_link (at_door w y) reason.NoLinkAtDoor (λ s. version_refusal (link_at w s).opened (member_at w y).version)
+
+-- ---- marking
+
+-- whether d is x's left or right neighbour in x's view
+abbrev pub is_neighbour : World → ℕ → ℕ → Bool
+is_neighbour w x d = nat_eq d (left_neighbour w x) || nat_eq d (right_of (view_at w (member_at w x).version) x)
+
+-- d is x's left neighbour, and x has a current link or could pick one
+abbrev pub is_still_taken : World → ℕ → ℕ → Bool
+is_still_taken w x d = nat_eq d (left_neighbour w x) && (is_some (member_at w x).current || is_some (at_door w x))
+
+-- x has d marked dead only where d is a neighbour, is live in the newest view, and has stopped, and where x has taken to its end what came from d
+abbrev pub mark_refusal : World → ℕ → ℕ → Option Reason
+mark_refusal w x d =
+    or_else (refuse_if (not (is_neighbour w x d)) reason.NotNeighbour)
+    (or_else (refuse_if (not (is_live (view_at w (newest w)) d)) reason.AlreadyDead)
+    (or_else (refuse_if (not (is_stopped (member_at w d).phase)) reason.NotStopped)
+    (refuse_if (is_still_taken w x d) reason.LinkNotEnded)))
+
+-- ---- refreshing
+
+-- x reads the view of version v only where that isn't older than its own, and is there
+abbrev pub refresh_refusal : World → ℕ → ℕ → Option Reason
+refresh_refusal w x v =
+    refuse_if (nat_lt v (member_at w x).version || nat_lt (newest w) v) (reason.ViewOutOfRange v (member_at w x).version (newest w))
+
+-- a link opens to z where there is no out link, or where that goes elsewhere, which then ends
+abbrev pub send_to : World → ℕ → ℕ → Option ℕ → World
+send_to w x z None = open_to w x z
+send_to w x z (Some o) = if nat_eq (link_at w o).receiver z then w else open_to (with_link w o (ended Moved (link_at w o))) x z
+
+-- x has view v: its current link stays where that is kept, and it sends to its right neighbour
+abbrev pub refreshed : World → ℕ → ℕ → World
+refreshed w x v = send_to (look_at w x v) x (right_of (view_at w v) x) (member_at w x).out
+
+-- ---- events
+
+-- the first failing condition of an event, if one fails
+abbrev pub refusal : World → Event → Option Reason
+refusal w (Cast by body) = of_member (id_of w by) (λ x. up_refusal w x None)
+refusal w (Put by) = of_member (id_of w by) (λ x. up_refusal w x (on_link (member_at w x).out reason.NoOutLink (put_refusal w x)))
+refusal w (Take by) = of_member (id_of w by) (λ x. running_refusal w x (on_link (member_at w x).current reason.NoCurrentLink (take_refusal w x)))
+refusal w (TakeEnd by) = of_member (id_of w by) (λ x. running_refusal w x (on_link (member_at w x).current reason.NoCurrentLink (end_refusal w)))
+refusal w (Gain by) = of_member (id_of w by) (λ x. up_refusal w x (on_link (member_at w x).out reason.NoOutLink (gain_refusal w)))
+refusal w (Stop by) = of_member (id_of w by) (λ x. running_refusal w x None)
+refusal w (Mark by dead) = of_member (id_of w by) (λ x. up_refusal w x (of_member (id_of w dead) (mark_refusal w x)))
+refusal w (Refresh by version) = of_member (id_of w by) (λ x. up_refusal w x (refresh_refusal w x version))
+refusal w (Pick by) = of_member (id_of w by) (λ x. up_refusal w x (or_else (refuse_if (is_some (member_at w x).current) reason.HasCurrentLink) (pick_refusal w x)))
+
+-- what happens at an id or a link that was found; nothing where none was
+abbrev pub at_found : Option ℕ → World → (ℕ → World) → World
+at_found None w f = w
+at_found (Some x) w f = f x
+
+-- a take of a member that is up, or its first one
+abbrev pub taken_by : Phase → World → ℕ → ℕ → World
+taken_by Waiting w y s = begin_from w y s
+taken_by Up w y s = take_from w y s
+taken_by Stopped w y s = w
+
+-- the state after an event
+abbrev pub effect : World → Event → World
+effect w (Cast by body) = at_found (id_of w by) w (λ x. publish_at w x (message.Cast body))
+effect w (Put by) = at_found (id_of w by) w (λ x. at_found (member_at w x).out w (put_on w x))
+effect w (Take by) = at_found (id_of w by) w (λ x. at_found (member_at w x).current w (taken_by (member_at w x).phase w x))
+effect w (TakeEnd by) = at_found (id_of w by) w (λ x. at_found (member_at w x).current w (leave_link w x))
+effect w (Gain by) = at_found (id_of w by) w (λ x. at_found (member_at w x).out w (gain_on w))
+effect w (Stop by) = at_found (id_of w by) w (λ x. end_out Halted (stop_at w x) (member_at w x).out)
+effect w (Mark by dead) = at_found (id_of w by) w (λ x. at_found (id_of w dead) w (λ d. refreshed (with_view w (marked (view_at w (newest w)) d)) x (newest w + 1)))
+effect w (Refresh by version) = at_found (id_of w by) w (λ x. refreshed w x version)
+effect w (Pick by) = at_found (id_of w by) w (λ x. at_found (at_door w x) w (λ s. current_is w x (Some s)))
+
+-- each event is enabled where the earlier ones leave the ring
+abbrev pub IsRun : World → List Event → Type 0
+IsRun w [] = ⊤
+IsRun w (e ∷ es) = (refusal w e ≡ None) × IsRun (effect w e) es
+
+-- the state after all of them
+abbrev pub last : World → List Event → World
+last w [] = w
+last w (e ∷ es) = last (effect w e) es
