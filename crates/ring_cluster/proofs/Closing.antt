@@ -21,13 +21,13 @@ use Rattle.ring_world.specs.declared.phase.Phase.TheVariants.{Waiting, Up, Stopp
 use Rattle.ring_world.specs.View.{ids}
 use Rattle.ring_world.specs.Machine.{World, member_at, is_waiting, runs_phase}
 use Rattle.ring_world.specs.Machine as machine
-use Rattle.ring_world.specs.Step.{size, opening}
+use Rattle.ring_world.specs.Step.{opening}
 use Rattle.ring_world.specs.Event.{id_of, of_member, is_stopped, up_refusal, refresh_refusal, pick_refusal, refusal, effect}
 use Rattle.ring_world.specs.Event as event
 use Rattle.ring_world.proofs.InOrder.{last_append, run_append}
 use Rattle.ring_world.proofs.WhatRefuses.{MayLook}
 use Rattle.ring_world.proofs.Refusals.{none_of}
-use Rattle.registrar.specs.Registry.{Registry, AreHere, is_known, newest}
+use Rattle.registrar.specs.Registry.{Registry, is_known, newest}
 use Rattle.registrar.specs.Asked.{mark_refusal, stop_refusal}
 use Rattle.registrar.specs.Stands.{StandsIn}
 use Rattle.registrar.proofs.Judged.{view_same, many_views, knows}
@@ -40,14 +40,13 @@ use Rattle.ring_cluster.specs.Seen.{state}
 use Rattle.ring_cluster.specs.Standing.{MemberStands, StandAfter, IsJournal}
 use Rattle.ring_cluster.specs.Loose.{StandBetween, BetweenAfter}
 use Rattle.ring_cluster.specs.Meeting.{LooseAfter, MayMeet, MeetsIn}
-use Rattle.ring_cluster.specs.Acting.{by_of, IsReady, stop_refused, look_refused, posting, newest_of, viewing, LooksAt, Acts}
+use Rattle.ring_cluster.specs.Acting.{by_of, stop_refused, look_refused, posting, newest_of, viewing, LooksAt, Acts}
 use Rattle.ring_cluster.specs.Refused.{id_named, NothingWaits, mark_refused, act_refused, marked_in}
 use Rattle.ring_cluster.specs.Looking.{CanLook, IsPublished}
-use Rattle.ring_cluster.proofs.Lawful.{IsLawfulAt, lawful_at}
+use Rattle.ring_cluster.proofs.Lawful.{IsLawfulAt}
+use Rattle.ring_cluster.proofs.After.{shown_inside, lawful_after, go_after, within_after, member_after, id_after}
 use Rattle.ring_cluster.proofs.Named.{run_many}
 use Rattle.ring_cluster.proofs.Found.{named_alike, found_within}
-use Rattle.ring_cluster.proofs.Fresh.{reached_go}
-use Rattle.ring_cluster.proofs.Ready.{ready}
 use Rattle.ring_cluster.proofs.Refusals.{unknown}
 use Rattle.ring_cluster.proofs.AloneRefusals.{alone_refused, alone_refusal_is}
 use Rattle.ring_cluster.proofs.AloneGoes.{IsAlone}
@@ -56,35 +55,15 @@ use Rattle.ring_cluster.proofs.EachGoes.{MayGo, each_goes}
 use Rattle.ring_cluster.proofs.Marking.{up_none, refresh_may}
 use Rattle.ring_cluster.proofs.Receivers.{GoesIn, loose_goes_in}
 use Rattle.ring_cluster.proofs.MeetsLoose.{loose_may, loose_meets}
-use Rattle.ring_cluster.proofs.Handing.{none_lent, registrar_stands, knows_posted}
+use Rattle.ring_cluster.proofs.Handing.{registrar_stands, knows_posted}
 
 not_lt : (a b : ℕ) → b ≤ a → nat_lt a b ≡ false
 not_lt a b l = grind (arith, nat_tests)
 
 module _ (credit : CreditSpec) (names : List (List ℕ)) (events : List Event) where
-  pub lawful : (q : Parties) → StandAfter credit names events q → IsLawfulAt credit (state credit names events)
-  lawful q s = lawful_at credit names events s.journal.are s.journal.run
-
   -- the id that a name has among the parties is the ring's
   pub found : (q : Parties) (name : List ℕ) → StandAfter credit names events q → id_named q name ≡ id_of (state credit names events) name
   found q name s = named_alike credit.initial (state credit names events) q s.stand.places name s.stand.stand
-
-  pub within : (q : Parties) (i : ℕ) → StandAfter credit names events q → i < length q.nodes → i + 1 < size (state credit names events)
-  within q i s l = omega (arith, l, s.stand.stand.count)
-
-  pub ready_after : (q : Parties) (i : ℕ) → StandAfter credit names events q → i < length q.nodes → IsReady (node_at q i)
-  ready_after q i s l =
-      let place : i + 1 - 1 ≡ i = omega arith in
-      subst (λ k. IsReady (node_at q k)) place (ready credit (state credit names events) q (i + 1) (lawful q s) s.stand (omega arith) (within q i s l))
-
-  -- no question is open
-  pub free_after : (q : Parties) (i : ℕ) → StandAfter credit names events q → i < length q.nodes → (node_at q i).held.asks ≡ false
-  free_after q i s l =
-      let place : i + 1 - 1 ≡ i = omega arith in
-      subst (λ k. (node_at q k).held.asks ≡ false) place (ap (λ (h : Held). h.asks) (s.stand.stand.each (i + 1) (omega arith) (within q i s l)).held)
-
-  pub here_after : (nodes : List ANode) (r : Registry (PlainIn Load)) (behind : List Posted) → StandAfter credit names events (parties nodes r behind) → AreHere r.links
-  here_after nodes r behind s = none_lent credit.initial (state credit names events) nodes r behind s.stand.places s.stand.stand
 
   -- ---- refusals
 
@@ -107,11 +86,8 @@ module _ (credit : CreditSpec) (names : List (List ℕ)) (events : List Event) w
   place : (i : ℕ) → i + 1 - 1 ≡ i
   place i = omega arith
 
-  member_stands : (q : Parties) (i : ℕ) (s : StandAfter credit names events q) → i < length q.nodes → MemberStands (state credit names events) s.stand.places (i + 1) (node_at q i)
-  member_stands q i s l = subst (λ j. MemberStands (state credit names events) s.stand.places (i + 1) (node_at q j)) (place i) (s.stand.stand.each (i + 1) (omega arith) (within q i s l))
-
   phase_is : (q : Parties) (i : ℕ) → StandAfter credit names events q → i < length q.nodes → (node_at q i).held.phase ≡ (member_at (state credit names events) (i + 1)).phase
-  phase_is q i s l = ap (λ (h : Held). h.phase) (member_stands q i s l).held
+  phase_is q i s l = ap (λ (h : Held). h.phase) (member_after credit names events q i s l).held
 
   found_place : (q : Parties) (name : List ℕ) (i : ℕ) → id_named q name ≡ Some (i + 1) → i < length q.nodes
   found_place q name i e = omega (arith, (found_within q name (i + 1) e).1)
@@ -129,7 +105,7 @@ module _ (credit : CreditSpec) (names : List (List ℕ)) (events : List Event) w
       w = state credit names events
 
       alone : (f : Event) → id_of w (by_of f) ≡ Some (i + 1) → IsAlone f (i + 1) q → alone_refused f (node_at q i) ≡ refusal w f
-      alone f k a = subst (λ j. alone_refused f (node_at q j) ≡ refusal w f) (place i) (alone_refusal_is credit w q f (i + 1) (lawful q s) s.stand k a)
+      alone f k a = subst (λ j. alone_refused f (node_at q j) ≡ refusal w f) (place i) (alone_refusal_is credit w q f (i + 1) (lawful_after credit names events s.journal) s.stand k a)
 
       -- of one that isn't up
       not_up : (f : Phase) → (f ≡ Up → ⊥) → (node_at q i).held.phase ≡ f → i < length q.nodes → (a b : Option Reason) → up_refused (node_at q i).held a ≡ up_refusal w (i + 1) b
@@ -145,14 +121,14 @@ module _ (credit : CreditSpec) (names : List (List ℕ)) (events : List Event) w
 
       mark_up : (by dead : List ℕ) (d : ℕ) → id_of w by ≡ Some (i + 1) → id_of w dead ≡ Some d → i < length q.nodes → (f : Phase) → (node_at q i).held.phase ≡ f → mark_refused r (node_at q i) (Some d) ≡ refusal w (Mark by dead)
       mark_up by dead d k e l Up f =
-          let id : (node_at q i).held.id ≡ i + 1 = ap (λ (h : Held). h.id) (member_stands q i s l).held in
+          let id : (node_at q i).held.id ≡ i + 1 = id_after credit names events q i s l in
           ap (λ x. up_refused (node_at q i).held (mark_refusal r x d (node_at q i).held.view.version (is_some (node_at q i).held.current || is_some (first_at_door (node_at q i).held)))) id
-          ∙ mark_asked_refuses credit w nodes r [] (i + 1) d by dead (node_at q i) (lawful q s) k e s.stand (waits f) (ap (node_at q) (sym (place i)))
+          ∙ mark_asked_refuses credit w nodes r [] (i + 1) d by dead (node_at q i) (lawful_after credit names events s.journal) k e s.stand (waits f) (ap (node_at q) (sym (place i)))
       mark_up by dead d k e l Waiting f = not_up Waiting (λ n. cc) f l _ _ ∙ sym (ap (λ o. of_member o (λ y. up_refusal w y (of_member (id_of w dead) (event.mark_refusal w y)))) k)
       mark_up by dead d k e l Stopped f = not_up Stopped (λ n. cc) f l _ _ ∙ sym (ap (λ o. of_member o (λ y. up_refusal w y (of_member (id_of w dead) (event.mark_refusal w y)))) k)
 
       by_dead : (by dead : List ℕ) (o : Option ℕ) → id_of w by ≡ Some (i + 1) → id_of w dead ≡ o → i < length q.nodes → mark_refused r (node_at q i) o ≡ refusal w (Mark by dead)
-      by_dead by dead None k d l = subst (λ j. mark_refused r (node_at q j) None ≡ refusal w (Mark by dead)) (place i) (mark_unknown credit w q (i + 1) by dead (lawful q s) k d s.stand)
+      by_dead by dead None k d l = subst (λ j. mark_refused r (node_at q j) None ≡ refusal w (Mark by dead)) (place i) (mark_unknown credit w q (i + 1) by dead (lawful_after credit names events s.journal) k d s.stand)
       by_dead by dead (Some d) k e l = mark_up by dead d k e l (node_at q i).held.phase refl
 
       by_event : (f : Event) → id_of w (by_of f) ≡ Some (i + 1) → i < length q.nodes → act_refused f i r q ≡ refusal w f
@@ -163,7 +139,7 @@ module _ (credit : CreditSpec) (names : List (List ℕ)) (events : List Event) w
       by_event (Gain by) k l = alone (Gain by) k tt
       by_event (Stop by) k l = alone (Stop by) k tt
       by_event (Mark by dead) k l = ap (mark_refused r (node_at q i)) (found q dead s) ∙ by_dead by dead (id_of w dead) k refl l
-      by_event (Refresh by version) k l = subst (λ j. look_refused (newest_of q).version (node_at q j) version ≡ refusal w (Refresh by version)) (place i) (look_refuses credit w q (i + 1) version by (lawful q s) k s.stand)
+      by_event (Refresh by version) k l = subst (λ j. look_refused (newest_of q).version (node_at q j) version ≡ refusal w (Refresh by version)) (place i) (look_refuses credit w q (i + 1) version by (lawful_after credit names events s.journal) k s.stand)
       by_event (Pick by) k l = pick_up by k l (node_at q i).held.phase refl
 
   -- ---- the event happens
@@ -203,7 +179,7 @@ module _ (credit : CreditSpec) (names : List (List ℕ)) (events : List Event) w
       never k = cc
 
       looks : (v : Group) (p : Parties) → LooksAt v (i + 1 - 1) q p (Some (name, o)) → GoesIn w name
-      looks v p k = loose_goes_in credit w q p v (i + 1) name o (lawful q s) (reached_go credit names events s.journal.are s.journal.run) (omega arith) (within q i s l) s.stand k
+      looks v p k = loose_goes_in credit w q p v (i + 1) name o (lawful_after credit names events s.journal) (go_after credit names events s.journal) (omega arith) (within_after credit names events q i s l) s.stand k
 
       looks_at : (v : Group) (p : Parties) → LooksAt v i q p (Some (name, o)) → GoesIn w name
       looks_at v p k = looks v p (subst (λ j. LooksAt v j q p (Some (name, o))) (sym (place i)) k)
@@ -284,8 +260,8 @@ module _ (credit : CreditSpec) (names : List (List ℕ)) (events : List Event) w
 
       stand : StandBetween credit.initial (state credit names (events ++ e ∷ [])) q' loose
       stand = subst (λ u. StandBetween credit.initial u q' loose) (sym after)
-          (each_goes credit w e i (marked_in e q) q q' loose (lawful q s)
-          (subst (IsLawfulAt credit) after (lawful_at credit names (events ++ e ∷ []) journal.are journal.run))
+          (each_goes credit w e i (marked_in e q) q q' loose (lawful_after credit names events s.journal)
+          (subst (IsLawfulAt credit) after (lawful_after credit names (events ++ e ∷ []) journal))
           enabled (sym (found q (by_of e) s) ∙ named) (may_go q e i s enabled named waits) s.stand a)
 
       goes : (name : LinkName) (o : OutSeen) → Acts e i (marked_in e q) q q' (Some (name, o)) → GoesIn (state credit names (events ++ e ∷ [])) name
@@ -298,20 +274,17 @@ module _ (credit : CreditSpec) (names : List (List ℕ)) (events : List Event) w
 
   pub between_may : (q : Parties) (name : LinkName) (o : OutSeen) (loose : Option (LinkName × OutSeen)) → loose ≡ Some (name, o) → BetweenAfter credit names events q loose → MayMeet q name o
   between_may q name o loose e b =
-      loose_may credit (state credit names events) q name o (lawful_at credit names events b.journal.are b.journal.run) (reached_go credit names events b.journal.are b.journal.run) (b.goes name o e)
+      loose_may credit (state credit names events) q name o (lawful_after credit names events b.journal) (go_after credit names events b.journal) (b.goes name o e)
       (subst (StandBetween credit.initial (state credit names events) q) e b.stand)
 
   pub between_meets : (q q' : Parties) (name : LinkName) (o o' : OutSeen) (loose : Option (LinkName × OutSeen)) → loose ≡ Some (name, o) → BetweenAfter credit names events q loose → MeetsIn q name o q q' o' → LooseAfter credit names events q'
   between_meets q q' name o o' loose e b m = record {
     journal = b.journal;
-    stand = loose_meets credit (state credit names events) q q' name o o' (lawful_at credit names events b.journal.are b.journal.run) (reached_go credit names events b.journal.are b.journal.run) (b.goes name o e)
+    stand = loose_meets credit (state credit names events) q q' name o o' (lawful_after credit names events b.journal) (go_after credit names events b.journal) (b.goes name o e)
         (subst (StandBetween credit.initial (state credit names events) q) e b.stand) m;
   }
 
   -- ---- what the calls of a member need
-
-  pub shown_inside : (nodes : List ANode) (i : ℕ) → i < length nodes → i < length (map shown_of nodes)
-  shown_inside nodes i l = subst (λ n. i < n) (sym (length-map nodes shown_of)) l
 
   pub few_after : (nodes : List ANode) (r : Registry (PlainIn Load)) (behind : List Posted) → StandAfter credit names events (parties nodes r behind) → length nodes ≤ 64
   few_after nodes r behind s =
@@ -324,10 +297,10 @@ module _ (credit : CreditSpec) (names : List (List ℕ)) (events : List Event) w
   unheard_after nodes r i s l e =
       let q : Parties = parties nodes r [] in
       let w : World = state credit names events in
-      let inside : i < length q.nodes = subst (λ n. i < n) (sym (length-map nodes shown_of)) l in
+      let inside : i < length q.nodes = shown_inside nodes i l in
       let running : is_stopped (node_at q i).held.phase ≡ false = (none_of (is_stopped (node_at q i).held.phase) reason.Stopped _ e).0 in
-      let heard : is_in (i + 1) r.stopped ≡ false = s.stand.stand.stopped (i + 1) (omega arith) (within q i s inside) ∙ ap is_stopped (sym (phase_is q i s inside)) ∙ running in
-      let known : is_known r (i + 1) ≡ true = knows w r (i + 1) (lawful q s).fit.good (registrar_stands credit.initial w nodes r [] s.stand.places s.stand.stand) (omega arith) (within q i s inside) in
+      let heard : is_in (i + 1) r.stopped ≡ false = s.stand.stand.stopped (i + 1) (omega arith) (within_after credit names events q i s inside) ∙ ap is_stopped (sym (phase_is q i s inside)) ∙ running in
+      let known : is_known r (i + 1) ≡ true = knows w r (i + 1) (lawful_after credit names events s.journal).fit.good (registrar_stands credit.initial w nodes r [] s.stand.places s.stand.stand) (omega arith) (within_after credit names events q i s inside) in
       ap (λ b. or_else (refuse_if (not b) reason.UnknownMember) (refuse_if (is_in (i + 1) r.stopped) reason.Stopped)) known
       ∙ ap (λ b. refuse_if b reason.Stopped) heard
 
@@ -353,19 +326,19 @@ module _ (credit : CreditSpec) (names : List (List ℕ)) (events : List Event) w
       w = state credit names events
 
       g : IsLawfulAt credit w
-      g = lawful q s
+      g = lawful_after credit names events s.journal
 
       inside : i < length q.nodes
-      inside = subst (λ n. i < n) (sym (length-map nodes shown_of)) l
+      inside = shown_inside nodes i l
 
       h : MemberStands w s.stand.places (i + 1) (node_at q i)
-      h = member_stands q i s inside
+      h = member_after credit names events q i s inside
 
       rs : StandsIn w r
       rs = registrar_stands credit.initial w nodes r [] s.stand.places s.stand.stand
 
       named : id_of w (member_at w (i + 1)).name ≡ Some (i + 1)
-      named = g.fit.named (i + 1) (omega arith) (within q i s inside)
+      named = g.fit.named (i + 1) (omega arith) (within_after credit names events q i s inside)
 
       enabled : refusal w (Refresh (member_at w (i + 1)).name version) ≡ None
       enabled = sym (subst (λ j. look_refused (newest_of q).version (node_at q j) version ≡ refusal w (Refresh (member_at w (i + 1)).name version)) (place i) (look_refuses credit w q (i + 1) version (member_at w (i + 1)).name g named s.stand)) ∙ e
@@ -416,6 +389,6 @@ module _ (credit : CreditSpec) (names : List (List ℕ)) (events : List Event) w
   pub known_late : (nodes : List ANode) (r : Registry (PlainIn Load)) (d : Posted) → StandAfter credit names events (parties nodes r (d ∷ [])) → (is_known r d.name.from.0 ≡ true) × (is_known r d.name.to.0 ≡ true)
   known_late nodes r d s =
       let n : ℕ = length (map posted r.links) in
-      let both = knows_posted credit.initial (state credit names events) nodes r (d ∷ []) s.stand.places n d (lawful (parties nodes r (d ∷ [])) s).fit.good s.stand.stand (subst (λ k. n < k) (sym (length_push (map posted r.links) d)) (omega arith)) in
+      let both = knows_posted credit.initial (state credit names events) nodes r (d ∷ []) s.stand.places n d (lawful_after credit names events s.journal).fit.good s.stand.stand (subst (λ k. n < k) (sym (length_push (map posted r.links) d)) (omega arith)) in
       let is : get_or (map posted r.links ++ d ∷ []) n d ≡ d = last_of (map posted r.links) d d in
       (sym (ap (λ (x : Posted). is_known r x.name.from.0) is) ∙ both.0, sym (ap (λ (x : Posted). is_known r x.name.to.0) is) ∙ both.1)

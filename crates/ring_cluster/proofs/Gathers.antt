@@ -1,7 +1,6 @@
 -- A cluster in which a member collects the links that wait for it.
-use Rattle.std.proofs.Common.{◌≡◌, ℕ, zero, suc, ◌+◌, ◌-◌, ◌<◌, true, false, not, List, [], ◌∷◌, length, get_or, map, set, sym, ap, subst, ◌∙◌, arith, append-nil}
+use Rattle.std.proofs.Common.{◌≡◌, ℕ, zero, suc, ◌+◌, ◌-◌, ◌<◌, true, not, List, [], ◌∷◌, length, get_or, map, set, sym, ap, subst, ◌∙◌, arith, append-nil}
 use Rattle.std.specs.List.{filter}
-use Rattle.std.proofs.lemmas.List.{length-map}
 use Rattle.ring_names.specs.declared.numbers.CreditSpec.{CreditSpec}
 use Rattle.ordered_link.specs.declared.plain.PlainIn.{PlainIn}
 use Rattle.group_view.specs.declared.link.LinkKind.TheVariants.{Ring}
@@ -9,22 +8,20 @@ use Rattle.ring_world.specs.declared.event.Event.{Event}
 use Rattle.ring_world.specs.Machine.{World}
 use Rattle.ring_world.specs.Step.{size}
 use Rattle.registrar.specs.declared.standing.Standing.{Standing}
-use Rattle.registrar.specs.Registry.{Registry, AreHere, is_known}
+use Rattle.registrar.specs.Registry.{Registry, is_known}
 use Rattle.registrar.specs.Handled.{without_links}
 use Rattle.registrar.proofs.Judged.{knows}
 use Rattle.gm_member.specs.declared.packet.Load.{Load}
-use Rattle.gm_member.specs.Held.{Held}
 use Rattle.ring_cluster.specs.Parties.{ANode, Shown, Posted, Parties, parties, posted, node_at, with_node, shown_of, no_shown}
 use Rattle.ring_cluster.specs.Seen.{state}
 use Rattle.ring_cluster.specs.Standing.{Places, StandIn, StandAfter}
-use Rattle.ring_cluster.specs.Acting.{IsReady, waits_at, Collects, CollectsAt}
+use Rattle.ring_cluster.specs.Acting.{waits_at, Collects, CollectsAt}
 use Rattle.ring_cluster.specs.Refused.{NothingWaits}
 use Rattle.ring_cluster.specs.Collecting.{AreOfRing}
-use Rattle.ring_cluster.proofs.Lawful.{IsLawfulAt, lawful_at}
+use Rattle.ring_cluster.proofs.After.{shown_inside, lawful_after, within_after, id_after}
 use Rattle.ring_cluster.proofs.Fresh.{reached_fresh}
-use Rattle.ring_cluster.proofs.Ready.{ready}
 use Rattle.ring_cluster.proofs.Collections.{collect_stands, none_left}
-use Rattle.ring_cluster.proofs.Handing.{none_lent, registrar_stands, left_links}
+use Rattle.ring_cluster.proofs.Handing.{registrar_stands, left_links}
 use Rattle.ring_cluster.proofs.Meetings.{waiting_at}
 
 -- ---- what waits
@@ -66,33 +63,15 @@ module _ (credit : CreditSpec) (names : List (List ℕ)) (events : List Event) (
   pub all_ring : AreOfRing r.links
   all_ring = all_of_ring credit.initial (state credit names events) nodes r s.stand.places s.stand.stand
 
-  pub all_here : AreHere r.links
-  all_here = none_lent credit.initial (state credit names events) nodes r [] s.stand.places s.stand.stand
-
-  lawful : IsLawfulAt credit (state credit names events)
-  lawful = lawful_at credit names events s.journal.are s.journal.run
-
   within : (i : ℕ) → i < length nodes → i + 1 < size (state credit names events)
-  within i l = omega (arith, l, s.stand.stand.count, length-map nodes shown_of)
+  within i l = within_after credit names events (parties nodes r []) i s (shown_inside nodes i l)
 
-  pub is_ready : (i : ℕ) → i < length nodes → IsReady (get_or (map shown_of nodes) i no_shown)
-  is_ready i l =
-      let place : i + 1 - 1 ≡ i = omega arith in
-      subst (λ k. IsReady (get_or (map shown_of nodes) k no_shown)) place (ready credit (state credit names events) (parties nodes r []) (i + 1) lawful s.stand (omega arith) (within i l))
-
-  pub is_free : (i : ℕ) → i < length nodes → (get_or (map shown_of nodes) i no_shown).held.asks ≡ false
-  is_free i l =
-      let place : i + 1 - 1 ≡ i = omega arith in
-      subst (λ k. (get_or (map shown_of nodes) k no_shown).held.asks ≡ false) place (ap (λ (h : Held). h.asks) (s.stand.stand.each (i + 1) (omega arith) (within i l)).held)
-
-  pub its_id : (i : ℕ) → i < length nodes → (get_or (map shown_of nodes) i no_shown).held.id ≡ i + 1
-  its_id i l =
-      let place : i + 1 - 1 ≡ i = omega arith in
-      subst (λ k. (get_or (map shown_of nodes) k no_shown).held.id ≡ i + 1) place (ap (λ (h : Held). h.id) (s.stand.stand.each (i + 1) (omega arith) (within i l)).held)
+  its_id : (i : ℕ) → i < length nodes → (get_or (map shown_of nodes) i no_shown).held.id ≡ i + 1
+  its_id i l = id_after credit names events (parties nodes r []) i s (shown_inside nodes i l)
 
   pub is_known_there : (i : ℕ) → i < length nodes → is_known r (get_or (map shown_of nodes) i no_shown).held.id ≡ true
   is_known_there i l = ap (is_known r) (its_id i l)
-      ∙ knows (state credit names events) r (i + 1) lawful.fit.good (registrar_stands credit.initial (state credit names events) nodes r [] s.stand.places s.stand.stand) (omega arith) (within i l)
+      ∙ knows (state credit names events) r (i + 1) (lawful_after credit names events s.journal).fit.good (registrar_stands credit.initial (state credit names events) nodes r [] s.stand.places s.stand.stand) (omega arith) (within i l)
 
   -- and what comes of it
   module _ (nodes' : List ANode) (r' : Registry (PlainIn Load)) (i : ℕ) (l : i < length nodes)
@@ -107,7 +86,7 @@ module _ (credit : CreditSpec) (names : List (List ℕ)) (events : List Event) (
     pub stand_then : StandAfter credit names events (parties nodes' r' [])
     stand_then = record {
       journal = s.journal;
-      stand = collect_stands credit.initial (state credit names events) (parties nodes r []) (parties nodes' r' []) (i + 1) lawful.fit.good (reached_fresh credit names events s.journal.are s.journal.run) (omega arith) (within i l) gathers s.stand;
+      stand = collect_stands credit.initial (state credit names events) (parties nodes r []) (parties nodes' r' []) (i + 1) (lawful_after credit names events s.journal).fit.good (reached_fresh credit names events s.journal.are s.journal.run) (omega arith) (within i l) gathers s.stand;
     }
 
     pub nothing_waits : NothingWaits (i + 1) (parties nodes' r' [])

@@ -1,5 +1,6 @@
 pub mod Acted
 pub mod Alive
+pub mod After
 pub mod AloneGoes
 pub mod AloneRefusals
 pub mod Asked

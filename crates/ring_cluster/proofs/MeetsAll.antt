@@ -16,9 +16,9 @@ use Rattle.ring_cluster.specs.Parties.{ANode, Posted, Parties, parties, shown_of
 use Rattle.ring_cluster.specs.Seen.{state}
 use Rattle.ring_cluster.specs.Standing.{StandMet, StandAfter, IsJournal, name_of, has_out}
 use Rattle.ring_cluster.specs.Meeting.{IsToMeet, MayMeetOut, MeetsOut, MeetsAt, MeetsPosted, MeetsNone, MeetsIn, receiver_of, LooseAfter}
-use Rattle.ring_cluster.proofs.Lawful.{IsLawfulAt, lawful_at}
+use Rattle.ring_cluster.proofs.Lawful.{IsLawfulAt}
 use Rattle.ring_cluster.proofs.Placing.{GoBetween}
-use Rattle.ring_cluster.proofs.Fresh.{reached_go}
+use Rattle.ring_cluster.proofs.After.{lawful_after, go_after}
 use Rattle.ring_cluster.proofs.Meetings.{carries_fit, found_at, found_posted}
 use Rattle.ring_cluster.proofs.Joining.{out_placed, loose_met, met_all, met_none, met_gone, met_at, met_posted}
 use Rattle.ring_cluster.proofs.Receivers.{GoesIn, out_goes_in}
@@ -82,12 +82,6 @@ meets_more credit w q q' k x g go e l how met = ⊎_elim
         m
 
 -- ---- members that run
-
-lawful_after : (credit : CreditSpec) (names : List (List ℕ)) (events : List Event) → IsJournal credit names events → IsLawfulAt credit (state credit names events)
-lawful_after credit names events j = lawful_at credit names events j.are j.run
-
-go_after : (credit : CreditSpec) (names : List (List ℕ)) (events : List Event) → IsJournal credit names events → GoBetween (state credit names events)
-go_after credit names events j = reached_go credit names events j.are j.run
 
 -- as many as the state has
 many_stand : (initial k : ℕ) (w : World) (ns : List ANode) (r : Registry (PlainIn Load)) (back : List Posted) → StandMet k initial w (parties ns r back) → length ns + 1 ≡ size w

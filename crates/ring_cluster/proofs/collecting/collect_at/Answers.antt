@@ -1,14 +1,17 @@
-use Rattle.ring_cluster.proofs.Gathers.{all_ring, all_here, is_ready, is_free, is_known_there, stand_then, nothing_waits}
+use Rattle.std.proofs.Common.{[]}
+use Rattle.ring_cluster.specs.Parties.{parties}
+use Rattle.ring_cluster.proofs.After.{shown_inside, free_after, ready_after, here_after}
+use Rattle.ring_cluster.proofs.Gathers.{all_ring, is_known_there, stand_then, nothing_waits}
 use Rattle.ring_cluster.proofs.collecting.collect_at.Goals as goal
 
 pub collect_of-requires-clause-free : goal.collect_of-requires-clause-free
-collect_of-requires-clause-free c = is_free c.args.credit c.args.names.now c.args.events.now c.args.nodes.now c.args.registrar.now c.requires.standing c.args.i c.requires.within
+collect_of-requires-clause-free c = free_after c.args.credit c.args.names.now c.args.events.now (parties c.args.nodes.now c.args.registrar.now []) c.args.i c.requires.standing (shown_inside c.args.nodes.now c.args.i c.requires.within)
 
 pub collect_of-requires-clause-ready : goal.collect_of-requires-clause-ready
-collect_of-requires-clause-ready c = is_ready c.args.credit c.args.names.now c.args.events.now c.args.nodes.now c.args.registrar.now c.requires.standing c.args.i c.requires.within
+collect_of-requires-clause-ready c = ready_after c.args.credit c.args.names.now c.args.events.now (parties c.args.nodes.now c.args.registrar.now []) c.args.i c.requires.standing (shown_inside c.args.nodes.now c.args.i c.requires.within)
 
 pub collect_of-requires-clause-here : goal.collect_of-requires-clause-here
-collect_of-requires-clause-here c = all_here c.args.credit c.args.names.now c.args.events.now c.args.nodes.now c.args.registrar.now c.requires.standing
+collect_of-requires-clause-here c = here_after c.args.credit c.args.names.now c.args.events.now c.args.nodes.now c.args.registrar.now [] c.requires.standing
 
 pub collect_of-requires-clause-ring : goal.collect_of-requires-clause-ring
 collect_of-requires-clause-ring c = all_ring c.args.credit c.args.names.now c.args.events.now c.args.nodes.now c.args.registrar.now c.requires.standing

@@ -2,7 +2,8 @@ use Rattle.std.proofs.Common.{◌≡◌, Some, subst}
 use Rattle.ring_cluster.specs.Parties.{parties, in_seen}
 use Rattle.ring_cluster.specs.Behind.{behind}
 use Rattle.ring_cluster.specs.Standing.{StandAfter}
-use Rattle.ring_cluster.proofs.Closing.{here_after, known_late}
+use Rattle.ring_cluster.proofs.After.{here_after}
+use Rattle.ring_cluster.proofs.Closing.{known_late}
 use Rattle.ring_cluster.proofs.stepping.hand_over.Goals as goal
 
 pub deposit-requires-clause-here : goal.deposit-requires-clause-here

@@ -2,17 +2,18 @@ use Rattle.std.proofs.Common.{◌++◌, ◌∷◌, [], sym, ◌∙◌}
 use Rattle.ring_cluster.specs.Parties.{parties}
 use Rattle.ring_cluster.specs.Behind.{behind}
 use Rattle.ring_cluster.specs.Looking.{loose_seen}
-use Rattle.ring_cluster.proofs.Closing.{shown_inside, few_after, free_after, ready_after, here_after, unheard_after, stands_after, refused_is, acted}
+use Rattle.ring_cluster.proofs.After.{shown_inside, free_after, ready_after, here_after}
+use Rattle.ring_cluster.proofs.Closing.{few_after, unheard_after, stands_after, refused_is, acted}
 use Rattle.ring_cluster.proofs.stepping.happen.Goals as goal
 
 pub act-requires-clause-few : goal.act-requires-clause-few
 act-requires-clause-few c = few_after c.args.credit c.args.names.now c.args.events.now c.args.nodes.now c.args.registrar.now [] c.requires.standing
 
 pub act-requires-clause-free : goal.act-requires-clause-free
-act-requires-clause-free c = free_after c.args.credit c.args.names.now c.args.events.now (parties c.args.nodes.now c.args.registrar.now []) c.args.i c.requires.standing (shown_inside c.args.credit c.args.names.now c.args.events.now c.args.nodes.now c.args.i c.requires.within)
+act-requires-clause-free c = free_after c.args.credit c.args.names.now c.args.events.now (parties c.args.nodes.now c.args.registrar.now []) c.args.i c.requires.standing (shown_inside c.args.nodes.now c.args.i c.requires.within)
 
 pub act-requires-clause-ready : goal.act-requires-clause-ready
-act-requires-clause-ready c = ready_after c.args.credit c.args.names.now c.args.events.now (parties c.args.nodes.now c.args.registrar.now []) c.args.i c.requires.standing (shown_inside c.args.credit c.args.names.now c.args.events.now c.args.nodes.now c.args.i c.requires.within)
+act-requires-clause-ready c = ready_after c.args.credit c.args.names.now c.args.events.now (parties c.args.nodes.now c.args.registrar.now []) c.args.i c.requires.standing (shown_inside c.args.nodes.now c.args.i c.requires.within)
 
 pub act-requires-clause-here : goal.act-requires-clause-here
 act-requires-clause-here c = here_after c.args.credit c.args.names.now c.args.events.now c.args.nodes.now c.args.registrar.now [] c.requires.standing
