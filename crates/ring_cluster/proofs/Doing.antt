@@ -17,7 +17,7 @@ use Rattle.ring_world.proofs.Names.{same_bytes, found_at}
 use Rattle.ring_cluster.specs.declared.agenda.Task.{Task}
 use Rattle.ring_cluster.specs.declared.agenda.Task.TheVariants as task
 use Rattle.ring_cluster.specs.Work.{work, LeavesLess}
-use Rattle.ring_cluster.specs.Seen.{Seen, state, state_of, IsGoing, with_event}
+use Rattle.ring_cluster.specs.Seen.{Seen, state, state_of, IsGoing, SameButOwed, with_event}
 use Rattle.ring_cluster.specs.Turns.{is_own_event, SamePhases}
 use Rattle.ring_cluster.specs.Plays.{IsCommandTo, with_task, commanded, asked, asked_by, Plays, PlaysSoFar, client_event, client_events, task_event, todo, agenda_at, agenda_found, place_among, agenda_of, performed, GoesOn, HasGoneOn, HasBegun, SameElsewhere, HeadsAre, AgendasAreEmpty}
 use Rattle.ring_cluster.proofs.Named.{last_push, going_fit}
@@ -37,15 +37,15 @@ own_event (Mark by dead) l name = refl
 own_event (Refresh by version) l name = refl
 own_event (Pick by) l name = refl
 
-pub own_goes : (c d : Seen) (e : Event) → is_own_event e ≡ true → d ≡ with_event c e → HasGoneOn c d
-own_goes c d e l is = (e ∷ [], is_own e (own_event e l) c d is)
+pub own_goes : (c d : Seen) (e : Event) → is_own_event e ≡ true → SameButOwed (with_event c e) d → HasGoneOn c d
+own_goes c d e l is = (e ∷ [], is_own e (own_event e l) c d is.0 is.1)
 
-pub own_stays : (c d : Seen) (e : Event) → IsGoing c → is_own_event e ≡ true → d ≡ with_event c e → SamePhases (state_of c) (state_of d)
+pub own_stays : (c d : Seen) (e : Event) → IsGoing c → is_own_event e ≡ true → SameButOwed (with_event c e) d → SamePhases (state_of c) (state_of d)
 own_stays c d e g l is =
-    subst (SamePhases (state_of c)) (sym (ap state_of is ∙ last_push (opening c.credit c.names) c.events e)) (own_phases (state_of c) e (going_fit c g).good.none_waits l)
+    subst (SamePhases (state_of c)) (sym (ap state_of is.1 ∙ last_push (opening c.credit c.names) c.events e)) (own_phases (state_of c) e (going_fit c g).good.none_waits l)
 
-pub own_falls : (c d : Seen) (e : Event) → LeavesLess (state_of c) e → refusal (state_of c) e ≡ None → d ≡ with_event c e → work (state_of d) < work (state_of c)
-own_falls c d e less r is = subst (λ w. work w < work (state_of c)) (sym (ap state_of is ∙ last_push (opening c.credit c.names) c.events e)) (less r)
+pub own_falls : (c d : Seen) (e : Event) → LeavesLess (state_of c) e → refusal (state_of c) e ≡ None → SameButOwed (with_event c e) d → work (state_of d) < work (state_of c)
+own_falls c d e less r is = subst (λ w. work w < work (state_of c)) (sym (ap state_of is.1 ∙ last_push (opening c.credit c.names) c.events e)) (less r)
 
 -- ---- tasks
 
@@ -75,8 +75,8 @@ performed_asked c i t ts name false e g l a =
     ap (λ zs. (zs ++ []) ++ todo name (agenda_of (performed c i t ts) name)) (task_of_other name (get_or c.names i []) t e)
     ∙ ap (todo name) (agenda_other c.agendas c.names name i ts (place_among c.names name) refl e)
 
-pub performed_goes : (c d : Seen) (i : ℕ) (t : Task) (ts : List Task) → IsGoing c → i < length c.names → agenda_at c.agendas i ≡ t ∷ ts → d ≡ performed c i t ts → HasGoneOn c d
-performed_goes c d i t ts g l a is = subst (HasGoneOn c) (sym is) (
+pub performed_goes : (c d : Seen) (i : ℕ) (t : Task) (ts : List Task) → IsGoing c → i < length c.names → agenda_at c.agendas i ≡ t ∷ ts → SameButOwed (performed c i t ts) d → HasGoneOn c d
+performed_goes c d i t ts g l a is = subst (HasGoneOn c) (sym is.1) (
   task_event (get_or c.names i []) t ∷ [],
   record {
     credit = refl;
@@ -87,18 +87,18 @@ performed_goes c d i t ts g l a is = subst (HasGoneOn c) (sym is) (
   },
 )
 
-pub performed_shrinks : (c d : Seen) (i : ℕ) (t : Task) (ts : List Task) → IsGoing c → i < length c.names → agenda_at c.agendas i ≡ t ∷ ts → d ≡ performed c i t ts → length (agenda_at d.agendas i) < length (agenda_at c.agendas i)
+pub performed_shrinks : (c d : Seen) (i : ℕ) (t : Task) (ts : List Task) → IsGoing c → i < length c.names → agenda_at c.agendas i ≡ t ∷ ts → SameButOwed (performed c i t ts) d → length (agenda_at d.agendas i) < length (agenda_at c.agendas i)
 performed_shrinks c d i t ts g l a is =
     let al : i < length c.agendas = omega (arith, g.agendas) in
-    let new : agenda_at d.agendas i ≡ ts = ap (λ x. agenda_at x.agendas i) is ∙ get_or-set_same c.agendas i ts [] al in
+    let new : agenda_at d.agendas i ≡ ts = ap (λ x. agenda_at x.agendas i) is.1 ∙ get_or-set_same c.agendas i ts [] al in
     omega (arith, ap length new, ap length a)
 
-pub performed_elsewhere : (c d : Seen) (i : ℕ) (t : Task) (ts : List Task) → d ≡ performed c i t ts → SameElsewhere i c d
-performed_elsewhere c d i t ts is j ne = ap (λ x. agenda_at x.agendas j) is ∙ get_or-set_other c.agendas i j ts [] ne
+pub performed_elsewhere : (c d : Seen) (i : ℕ) (t : Task) (ts : List Task) → SameButOwed (performed c i t ts) d → SameElsewhere i c d
+performed_elsewhere c d i t ts is j ne = ap (λ x. agenda_at x.agendas j) is.1 ∙ get_or-set_other c.agendas i j ts [] ne
 
-pub performed_stays : (c d : Seen) (i : ℕ) (t : Task) (ts : List Task) → d ≡ performed c i t ts → SamePhases (state_of c) (state_of d)
+pub performed_stays : (c d : Seen) (i : ℕ) (t : Task) (ts : List Task) → SameButOwed (performed c i t ts) d → SamePhases (state_of c) (state_of d)
 performed_stays c d i (task.Cast body) ts is =
-    subst (SamePhases (state_of c)) (sym (ap state_of is ∙ last_push (opening c.credit c.names) c.events (Cast (get_or c.names i []) body))) (cast_phases (state_of c) (get_or c.names i []) body)
+    subst (SamePhases (state_of c)) (sym (ap state_of is.1 ∙ last_push (opening c.credit c.names) c.events (Cast (get_or c.names i []) body))) (cast_phases (state_of c) (get_or c.names i []) body)
 
 -- ---- heads
 

@@ -47,6 +47,7 @@ pub mod NoStops
 pub mod Nodes
 pub mod OneEvent
 pub mod Opens
+pub mod Owed
 pub mod Parts
 pub mod Phases
 pub mod PickGoes

@@ -1,5 +1,5 @@
 -- Playing what was given, where members may stop: how it goes on.
-use Rattle.std.proofs.Common.{◌≡◌, ℕ, ◌<◌, ◌≤◌, List, [], ◌∷◌, ◌++◌, length, take, Option, Some, None, refl, sym, ap, subst, ◌∙◌, ⊎_elim, arith, append_assoc, append-nil}
+use Rattle.std.proofs.Common.{◌≡◌, ℕ, ◌<◌, ◌≤◌, Bool, List, [], ◌∷◌, ◌++◌, length, take, Option, Some, None, refl, sym, ap, subst, ◌∙◌, ⊎_elim, arith, append_assoc, append-nil}
 use Rattle.std.proofs.lemmas.Bool.{cases_lt}
 use Rattle.std.proofs.lemmas.List.{length-append, take-append-le, take_all, get_or_past}
 use Rattle.ring_script.specs.declared.command.Command.{Command}
@@ -32,6 +32,9 @@ GoesOn-trans c d e xs ys a b = record {
 pub HasGoneOn-refl : (c : Seen) → HasGoneOn c c
 HasGoneOn-refl c = ([], GoesOn-refl c)
 
+pub HasGoneOn-owing : (c : Seen) (owes : Bool) → HasGoneOn c (record c { owes = owes })
+HasGoneOn-owing c owes = ([], record { credit = refl; names = refl; count = refl; events = sym (append-nil c.events); asked = λ name. refl })
+
 pub HasGoneOn-trans : (c d e : Seen) → HasGoneOn c d → HasGoneOn d e → HasGoneOn c e
 HasGoneOn-trans c d e a b = (a.0 ++ b.0, GoesOn-trans c d e a.0 b.0 a.1 b.1)
 
@@ -46,8 +49,8 @@ GoesOn-given c d e xs ec en ee ea h = record {
 }
 
 -- a step of a member of its own
-pub is_own : (e : Event) → ((name : List ℕ) → client_event name e ≡ []) → (c d : Seen) → d ≡ record c { events = c.events ++ e ∷ [] } → GoesOn c d (e ∷ [])
-is_own e own c d is = subst (λ x. GoesOn c x (e ∷ [])) (sym is) (record { credit = refl; names = refl; count = refl; events = refl; asked = λ name. ap (λ zs. (zs ++ []) ++ todo name (agenda_of c name)) (own name) })
+pub is_own : (e : Event) → ((name : List ℕ) → client_event name e ≡ []) → (c d : Seen) (owes : Bool) → d ≡ record c { events = c.events ++ e ∷ []; owes = owes } → GoesOn c d (e ∷ [])
+is_own e own c d owes is = subst (λ x. GoesOn c x (e ∷ [])) (sym is) (record { credit = refl; names = refl; count = refl; events = refl; asked = λ name. ap (λ zs. (zs ++ []) ++ todo name (agenda_of c name)) (own name) })
 
 -- ---- settling
 

@@ -19,9 +19,10 @@ use Rattle.ring_world.proofs.Put.{runs_phase-Up}
 use Rattle.ring_cluster.specs.declared.driver.OwnStep.TheVariants as step
 use Rattle.ring_cluster.specs.Idle.{HasNothingToDo, IsIdle, NobodyStopped, MarksNobody}
 use Rattle.ring_cluster.specs.Work.{is_stale}
-use Rattle.ring_cluster.specs.Seen.{Seen, state_of, IsGoing}
+use Rattle.ring_cluster.specs.Seen.{Seen, state_of, IsGoing, SameButOwed}
 use Rattle.ring_cluster.specs.Plays.{AgendasAreDone, AgendasAreEmpty}
 use Rattle.ring_cluster.specs.Turns.{SamePhases, MayStep, MayStepNowhere, MarksNoneAt, RestsAt}
+use Rattle.ring_cluster.proofs.Owed.{but_trans}
 use Rattle.ring_cluster.proofs.Reached.{IsReached, reached, in_range}
 use Rattle.ring_cluster.proofs.Rest.{run_idle_is_quiet}
 use Rattle.ring_cluster.proofs.Named.{going_many}
@@ -74,29 +75,29 @@ has_nothing w x fresh none =
     }
 
 -- one step after another was refused
-pub all_refused : (c c1 c2 c3 c4 c5 : Seen) (x : ℕ) → (c1 ≡ c) × (MayStep (state_of c) x step.Pick → ⊥) → (c2 ≡ c1) × (MayStep (state_of c1) x step.Take → ⊥) → (c3 ≡ c2) × (MayStep (state_of c2) x step.TakeEnd → ⊥) → (c4 ≡ c3) × (MayStep (state_of c3) x step.Gain → ⊥) → (c5 ≡ c4) × (MayStep (state_of c4) x step.Put → ⊥) → (c5 ≡ c) × MayStepNowhere (state_of c) x
-all_refused c c1 c2 c3 c4 c5 x pick take end gain put = (put.0 ∙ four, by_step)
+pub all_refused : (c c1 c2 c3 c4 c5 : Seen) (x : ℕ) → SameButOwed c c1 × (MayStep (state_of c) x step.Pick → ⊥) → SameButOwed c1 c2 × (MayStep (state_of c1) x step.Take → ⊥) → SameButOwed c2 c3 × (MayStep (state_of c2) x step.TakeEnd → ⊥) → SameButOwed c3 c4 × (MayStep (state_of c3) x step.Gain → ⊥) → SameButOwed c4 c5 × (MayStep (state_of c4) x step.Put → ⊥) → SameButOwed c c5 × MayStepNowhere (state_of c) x
+all_refused c c1 c2 c3 c4 c5 x pick take end gain put = (but_trans c c4 c5 four put.0, by_step)
   where
-    two : c2 ≡ c
-    two = take.0 ∙ pick.0
+    two : SameButOwed c c2
+    two = but_trans c c1 c2 pick.0 take.0
 
-    three : c3 ≡ c
-    three = end.0 ∙ two
+    three : SameButOwed c c3
+    three = but_trans c c2 c3 two end.0
 
-    four : c4 ≡ c
-    four = gain.0 ∙ three
+    four : SameButOwed c c4
+    four = but_trans c c3 c4 three gain.0
 
     by_step : MayStepNowhere (state_of c) x
     by_step step.Pick k = pick.1 k
-    by_step step.Take k = take.1 (subst (λ d. MayStep (state_of d) x step.Take) (sym pick.0) k)
-    by_step step.TakeEnd k = end.1 (subst (λ d. MayStep (state_of d) x step.TakeEnd) (sym two) k)
-    by_step step.Gain k = gain.1 (subst (λ d. MayStep (state_of d) x step.Gain) (sym three) k)
-    by_step step.Put k = put.1 (subst (λ d. MayStep (state_of d) x step.Put) (sym four) k)
+    by_step step.Take k = take.1 (subst (λ d. MayStep (state_of d) x step.Take) (sym pick.0.1) k)
+    by_step step.TakeEnd k = end.1 (subst (λ d. MayStep (state_of d) x step.TakeEnd) (sym two.1) k)
+    by_step step.Gain k = gain.1 (subst (λ d. MayStep (state_of d) x step.Gain) (sym three.1) k)
+    by_step step.Put k = put.1 (subst (λ d. MayStep (state_of d) x step.Put) (sym four.1) k)
 
 -- it wasn't stale, and nothing was marked or done
-pub rests_after : (c c1 c2 : Seen) (x : ℕ) → is_stale (newest (state_of c)) (member_at (state_of c) x) ≡ false → (c1 ≡ c) × MarksNoneAt (state_of c) x → (c2 ≡ c1) × MayStepNowhere (state_of c1) x → (c2 ≡ c) × RestsAt (state_of c) x
+pub rests_after : (c c1 c2 : Seen) (x : ℕ) → is_stale (newest (state_of c)) (member_at (state_of c) x) ≡ false → SameButOwed c c1 × MarksNoneAt (state_of c) x → SameButOwed c1 c2 × MayStepNowhere (state_of c1) x → SameButOwed c c2 × RestsAt (state_of c) x
 rests_after c c1 c2 x fresh marks none =
-    (none.0 ∙ marks.0, λ r. (has_nothing (state_of c) x fresh (subst (λ d. MayStepNowhere (state_of d) x) marks.0 none.1), marks.1))
+    (but_trans c c1 c2 marks.0 none.0, λ r. (has_nothing (state_of c) x fresh (subst (λ d. MayStepNowhere (state_of d) x) marks.0.1 none.1), marks.1))
 
 -- ---- all of them
 
@@ -111,11 +112,11 @@ rests_at c y g h r =
     subst (RestsAt (state_of c)) p.2 (h p.0 p.1) r
 
 -- after a pass in which nobody did anything
-pub idle_after : (c d : Seen) → IsGoing c → (d ≡ c) × ((i : ℕ) → i < length c.names → RestsAt (state_of c) (i + 1)) → IsIdle (state_of d)
-idle_after c d g h = subst (λ x. IsIdle (state_of x)) (sym h.0) (λ y r. (rests_at c y g h.1 r).0)
+pub idle_after : (c d : Seen) → IsGoing c → SameButOwed c d × ((i : ℕ) → i < length c.names → RestsAt (state_of c) (i + 1)) → IsIdle (state_of d)
+idle_after c d g h = subst (λ x. IsIdle (state_of x)) (sym h.0.1) (λ y r. (rests_at c y g h.1 r).0)
 
-pub marks_after : (c d : Seen) → IsGoing c → (d ≡ c) × ((i : ℕ) → i < length c.names → RestsAt (state_of c) (i + 1)) → MarksNobody (state_of d)
-marks_after c d g h = subst (λ x. MarksNobody (state_of x)) (sym h.0) (λ y r. (rests_at c y g h.1 r).1)
+pub marks_after : (c d : Seen) → IsGoing c → SameButOwed c d × ((i : ℕ) → i < length c.names → RestsAt (state_of c) (i + 1)) → MarksNobody (state_of d)
+marks_after c d g h = subst (λ x. MarksNobody (state_of x)) (sym h.0.1) (λ y r. (rests_at c y g h.1 r).1)
 
 -- ---- where nobody has stopped
 

@@ -6,11 +6,12 @@ use Rattle.ring_world.specs.Machine.{runs}
 use Rattle.ring_world.specs.Event.{refusal}
 use Rattle.ring_cluster.specs.declared.agenda.Task.{Task}
 use Rattle.ring_cluster.specs.Work.{work}
-use Rattle.ring_cluster.specs.Seen.{Seen, state_of, IsGoing, with_event}
+use Rattle.ring_cluster.specs.Seen.{Seen, state_of, IsGoing, SameButOwed, with_event}
 use Rattle.ring_cluster.specs.Plays.{agenda_at, performed, task_event, SameGiven, HasBegun, AgendasAreDone}
 use Rattle.ring_cluster.specs.Turns.{is_own_event, Works, TakesTurns, TakesRound, IsDoneAt, RestsAt}
 use Rattle.ring_cluster.proofs.Phases.{same_refl, same_trans, same_runs}
-use Rattle.ring_cluster.proofs.Playing.{HasGoneOn-refl, HasGoneOn-trans}
+use Rattle.ring_cluster.proofs.Owed.{but_refl, but_trans}
+use Rattle.ring_cluster.proofs.Playing.{HasGoneOn-refl, HasGoneOn-owing, HasGoneOn-trans}
 use Rattle.ring_cluster.proofs.Doing.{own_goes, own_stays, performed_goes, performed_shrinks, performed_elsewhere, performed_stays, begun_on, begun_later}
 
 pub given_refl : (c : Seen) → SameGiven c c
@@ -24,18 +25,18 @@ given_trans c d e a b = (b.0 ∙ a.0, b.1 ∙ a.1)
 pub works_refl : (c : Seen) → Works c c
 works_refl c = record { goes = HasGoneOn-refl c; given = given_refl c; names = refl; agendas = refl; phases = same_refl (state_of c) }
 
-pub works_same : (c d : Seen) → d ≡ c → Works c d
-works_same c d e = subst (Works c) (sym e) (works_refl c)
+pub works_same : (c d : Seen) → SameButOwed c d → Works c d
+works_same c d e = subst (Works c) (sym e.1) (record { goes = HasGoneOn-owing c e.0; given = (refl, refl); names = refl; agendas = refl; phases = same_refl (state_of c) })
 
 pub works_trans : (c d e : Seen) → Works c d → Works d e → Works c e
 works_trans c d e a b = record { goes = HasGoneOn-trans c d e a.goes b.goes; given = given_trans c d e a.given b.given; names = b.names ∙ a.names; agendas = b.agendas ∙ a.agendas; phases = same_trans (state_of c) (state_of d) (state_of e) a.phases b.phases }
 
-pub own_works : (c d : Seen) (e : Event) → IsGoing c → is_own_event e ≡ true → d ≡ with_event c e → Works c d
+pub own_works : (c d : Seen) (e : Event) → IsGoing c → is_own_event e ≡ true → SameButOwed (with_event c e) d → Works c d
 own_works c d e g l is = record {
   goes = own_goes c d e l is;
-  given = subst (SameGiven c) (sym is) (given_refl c);
-  names = ap (λ x. x.names) is;
-  agendas = ap (λ x. x.agendas) is;
+  given = subst (SameGiven c) (sym is.1) (given_refl c);
+  names = ap (λ x. x.names) is.1;
+  agendas = ap (λ x. x.agendas) is.1;
   phases = own_stays c d e g l is;
 }
 
@@ -43,19 +44,6 @@ own_works c d e g l is = record {
 
 pub turns_refl : (i : ℕ) (c : Seen) → TakesTurns i c c
 turns_refl i c = record { goes = HasGoneOn-refl c; given = given_refl c; names = refl; shrinks = omega arith; elsewhere = λ j ne. refl; phases = same_refl (state_of c) }
-
-pub turns_same : (i : ℕ) (c d : Seen) → d ≡ c → TakesTurns i c d
-turns_same i c d e = subst (TakesTurns i c) (sym e) (turns_refl i c)
-
-pub turns_trans : (i : ℕ) (c d e : Seen) → TakesTurns i c d → TakesTurns i d e → TakesTurns i c e
-turns_trans i c d e a b = record {
-  goes = HasGoneOn-trans c d e a.goes b.goes;
-  given = given_trans c d e a.given b.given;
-  names = b.names ∙ a.names;
-  shrinks = omega (arith, a.shrinks, b.shrinks);
-  elsewhere = λ j ne. b.elsewhere j ne ∙ a.elsewhere j ne;
-  phases = same_trans (state_of c) (state_of d) (state_of e) a.phases b.phases;
-}
 
 pub works_turns : (i : ℕ) (c d : Seen) → Works c d → TakesTurns i c d
 works_turns i c d w = record {
@@ -67,15 +55,28 @@ works_turns i c d w = record {
   phases = w.phases;
 }
 
+pub turns_same : (i : ℕ) (c d : Seen) → SameButOwed c d → TakesTurns i c d
+turns_same i c d e = works_turns i c d (works_same c d e)
+
+pub turns_trans : (i : ℕ) (c d e : Seen) → TakesTurns i c d → TakesTurns i d e → TakesTurns i c e
+turns_trans i c d e a b = record {
+  goes = HasGoneOn-trans c d e a.goes b.goes;
+  given = given_trans c d e a.given b.given;
+  names = b.names ∙ a.names;
+  shrinks = omega (arith, a.shrinks, b.shrinks);
+  elsewhere = λ j ne. b.elsewhere j ne ∙ a.elsewhere j ne;
+  phases = same_trans (state_of c) (state_of d) (state_of e) a.phases b.phases;
+}
+
 -- the member at a place has done the first of its tasks
 abbrev pub Performs : ℕ → Seen → Seen → Type 0
-Performs i c d = (t : Task) × (ts : List Task) × (agenda_at c.agendas i ≡ t ∷ ts) × (refusal (state_of c) (task_event (get_or c.names i []) t) ≡ None) × (d ≡ performed c i t ts)
+Performs i c d = (t : Task) × (ts : List Task) × (agenda_at c.agendas i ≡ t ∷ ts) × (refusal (state_of c) (task_event (get_or c.names i []) t) ≡ None) × SameButOwed (performed c i t ts) d
 
 pub performed_turns : (i : ℕ) (c d : Seen) → IsGoing c → i < length c.names → Performs i c d → TakesTurns i c d
 performed_turns i c d g l p = record {
   goes = performed_goes c d i p.0 p.1 g l p.2 p.4;
-  given = subst (SameGiven c) (sym p.4) (given_refl c);
-  names = ap (λ x. x.names) p.4;
+  given = subst (SameGiven c) (sym p.4.1) (given_refl c);
+  names = ap (λ x. x.names) p.4.1;
   shrinks = omega (arith, performed_shrinks c d i p.0 p.1 g l p.2 p.4);
   elsewhere = performed_elsewhere c d i p.0 p.1 p.4;
   phases = performed_stays c d i p.0 p.1 p.4;
@@ -164,20 +165,23 @@ done_still c d h w i l r =
 pub record PassedBelow (c d : Seen) (moved : Bool) (k : ℕ) : Type 0 where
   pub works : Works c d
   pub falls : moved ≡ true → work (state_of d) < work (state_of c)
-  pub stays : moved ≡ false → d ≡ c
+  pub stays : moved ≡ false → SameButOwed c d
   pub rests : moved ≡ false → (i : ℕ) → i < k → RestsAt (state_of c) (i + 1)
 
-pub passed_more : (c d e : Seen) (moved did : Bool) (k : ℕ) → PassedBelow c d moved k → Works d e → (did ≡ true → work (state_of e) < work (state_of d)) → (did ≡ false → (e ≡ d) × RestsAt (state_of d) (k + 1)) → PassedBelow c e (moved || did) (k + 1)
+pub passed_none : (c : Seen) → PassedBelow c c false 0
+passed_none c = record { works = works_refl c; falls = λ e. absurd (false≢true e); stays = λ _. but_refl c; rests = λ _ i l. absurd (omega arith) }
+
+pub passed_more : (c d e : Seen) (moved did : Bool) (k : ℕ) → PassedBelow c d moved k → Works d e → (did ≡ true → work (state_of e) < work (state_of d)) → (did ≡ false → SameButOwed d e × RestsAt (state_of d) (k + 1)) → PassedBelow c e (moved || did) (k + 1)
 passed_more c d e true true k h w falls rests = record { works = works_trans c d e h.works w; falls = λ _. omega (arith, falls refl, h.falls refl); stays = λ x. absurd (false≢true (sym x)); rests = λ x. absurd (false≢true (sym x)) }
-passed_more c d e true false k h w falls rests = record { works = works_trans c d e h.works w; falls = λ _. subst (λ x. work (state_of x) < work (state_of c)) (sym (rests refl).0) (h.falls refl); stays = λ x. absurd (false≢true (sym x)); rests = λ x. absurd (false≢true (sym x)) }
-passed_more c d e false true k h w falls rests = record { works = works_trans c d e h.works w; falls = λ _. subst (λ x. work (state_of e) < work (state_of x)) (h.stays refl) (falls refl); stays = λ x. absurd (false≢true (sym x)); rests = λ x. absurd (false≢true (sym x)) }
+passed_more c d e true false k h w falls rests = record { works = works_trans c d e h.works w; falls = λ _. subst (λ x. work (state_of x) < work (state_of c)) (sym (rests refl).0.1) (h.falls refl); stays = λ x. absurd (false≢true (sym x)); rests = λ x. absurd (false≢true (sym x)) }
+passed_more c d e false true k h w falls rests = record { works = works_trans c d e h.works w; falls = λ _. subst (λ x. work (state_of e) < work (state_of x)) (h.stays refl).1 (falls refl); stays = λ x. absurd (false≢true (sym x)); rests = λ x. absurd (false≢true (sym x)) }
 passed_more c d e false false k h w falls rests = record {
   works = works_trans c d e h.works w;
   falls = λ x. absurd (false≢true x);
-  stays = λ _. (rests refl).0 ∙ h.stays refl;
+  stays = λ _. but_trans c d e (h.stays refl) (rests refl).0;
   rests = λ _ i l.
       ⊎_elim
-      (λ (same : i ≡ k). subst (λ j. RestsAt (state_of c) (j + 1)) (sym same) (subst (λ x. RestsAt (state_of x) (k + 1)) (h.stays refl) (rests refl).1))
+      (λ (same : i ≡ k). subst (λ j. RestsAt (state_of c) (j + 1)) (sym same) (subst (λ x. RestsAt (state_of x) (k + 1)) (h.stays refl).1 (rests refl).1))
       (λ (ne : i ≢ k). h.rests refl i (omega arith))
       (cases_eq i k);
 }

@@ -115,23 +115,29 @@ abbrev pub back_of : Option OutSeen → List ℕ
 back_of None = []
 back_of (Some o) = o.back
 
--- of each event that a member does by itself, the first condition that fails
+-- ---- of each event that a member does by itself, the first condition that fails
+
+-- of a cast
 abbrev pub cast_refused : Shown → Option Reason
 cast_refused m = up_refused m.held None
 
+-- of the taking of a packet
 abbrev pub packet_refused : Shown → Option Reason
 packet_refused m = take_refused m.held (items_refused m.held.view.version (first_item m.ends.link))
 
+-- of the taking of a link's end
 abbrev pub link_end_refused : Shown → Option Reason
 link_end_refused m = take_refused m.held (end_refused (first_item m.ends.link))
 
+-- of a gain
 abbrev pub grant_refused : Shown → Option Reason
 grant_refused m = up_refused m.held (on_some m.held.out reason.NoOutLink (λ _. back_refused (back_of m.ends.out)))
 
+-- of a stop
 abbrev pub stop_refused : Shown → Option Reason
 stop_refused m = active_refused m.held None
 
--- and of a refresh to a version, where the newest is another
+-- of a refresh to a version, where the newest is another
 abbrev pub look_refused : ℕ → Shown → ℕ → Option Reason
 look_refused newest m version = up_refused m.held (refuse_if (cond (nat_lt version m.held.view.version) true (nat_lt newest version)) (reason.ViewOutOfRange version m.held.view.version newest))
 

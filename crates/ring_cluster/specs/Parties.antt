@@ -76,12 +76,15 @@ pub record Shown : Type 0 where
 abbrev pub shown_of : ANode → Shown
 shown_of m = record { held = held_of m; ends = ends_seen (ends_of m) }
 
+-- a member that isn't there, for places beyond the last
 abbrev pub no_held : Held
 no_held = record { id = 0; name = []; phase = phase.Stopped; view = no_group; rows = []; out = None; current = None; door = []; asks = false; initial = 0; more = 0 }
 
+-- the ends of one that isn't there
 abbrev pub no_ends : EndsSeen
 no_ends = record { out = None; kept = None; link = None; door = []; old_outs = []; old_ins = [] }
 
+-- what one that isn't there shows
 abbrev pub no_shown : Shown
 no_shown = record { held = no_held; ends = no_ends }
 
@@ -96,6 +99,7 @@ pub record Posted : Type 0 where
 abbrev pub posted : Standing (PlainIn Load) → Posted
 posted s = record { name = s.name; end = option_map in_seen s.link }
 
+-- a link whose end isn't there
 abbrev pub no_posted : LinkName → Posted
 no_posted name = record { name = name; end = None }
 

@@ -54,6 +54,7 @@ todo name tasks = map (task_event name) tasks
 abbrev pub agenda_at : List (List Task) → ℕ → List Task
 agenda_at agendas i = slice_index_or agendas i []
 
+-- the agenda at a place, where there is one
 abbrev pub agenda_found : List (List Task) → Option ℕ → List Task
 agenda_found agendas None = []
 agenda_found agendas (Some i) = agenda_at agendas i

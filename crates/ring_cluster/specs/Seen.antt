@@ -1,5 +1,5 @@
 -- What is seen of a cluster.
-use Rattle.std.specs.Prelude.{◌≡◌, ℕ, ◌+◌, ◌-◌, ◌<◌, ◌^◌, ◌++◌, ◌∷◌, List, [], length, min, replicate}
+use Rattle.std.specs.Prelude.{◌≡◌, ℕ, ◌+◌, ◌-◌, ◌<◌, ◌^◌, ◌++◌, ◌∷◌, Bool, true, false, List, [], length, min, replicate}
 use Rattle.ring_names.specs.declared.numbers.CreditSpec.{CreditSpec}
 use Rattle.ring_script.specs.declared.command.Command.{Command}
 use Rattle.group_view.specs.Change.{AreOpeningNames}
@@ -14,8 +14,9 @@ abbrev pub state : CreditSpec → List (List ℕ) → List Event → World
 state credit names events = last (opening credit names) events
 
 -- A cluster is seen as the names and the credit with which its ring opened, its journal, what each member has
--- still to do, by places, how many rounds were given a number, and what it was given: the commands that it took
--- and its rounds and settlings, in their order.
+-- still to do, by places, how many rounds were given a number, what it was given: the commands that it took
+-- and its rounds and settlings, in their order; and whether it owes the registrar a link, which was opened by an event
+-- and couldn't be handed over for want of memory.
 pub record Seen : Type 0 where
   pub credit : CreditSpec
   pub names : List (List ℕ)
@@ -23,6 +24,7 @@ pub record Seen : Type 0 where
   pub agendas : List (List Task)
   pub rounds : ℕ
   pub given : List Command
+  pub owes : Bool
 
 -- the last state of its journal
 abbrev pub state_of : Seen → World
@@ -30,7 +32,7 @@ state_of c = state c.credit c.names c.events
 
 -- a cluster that has just opened: nothing has happened, and nobody has anything to do
 abbrev pub opening_seen : CreditSpec → List (List ℕ) → Seen
-opening_seen credit names = record { credit = credit; names = names; events = []; agendas = replicate (length names) []; rounds = 0; given = [] }
+opening_seen credit names = record { credit = credit; names = names; events = []; agendas = replicate (length names) []; rounds = 0; given = []; owes = false }
 
 -- what every cluster keeps of this: its journal is a run of the ring of fewer than 2^59 events, and each member has
 -- an agenda
@@ -40,10 +42,22 @@ pub record IsGoing (c : Seen) : Type 0 where
   pub few : length c.events < 2 ^ 59
   pub agendas : length c.agendas ≡ length c.names
 
+-- d is c, but for what is owed
+abbrev pub SameButOwed : Seen → Seen → Type 0
+SameButOwed c d = (b : Bool) × (d ≡ record c { owes = b })
+
+-- d is c, but that it may have handed over what it owed
+abbrev pub MayHandOver : Seen → Seen → Type 0
+MayHandOver c d = (b : Bool) × (d ≡ record c { owes = b }) × (b ≡ true → c.owes ≡ true)
+
+-- it owes nothing any more
+abbrev pub with_nothing_owed : Seen → Seen
+with_nothing_owed c = record c { owes = false }
+
 -- one event has happened
 abbrev pub with_event : Seen → Event → Seen
 with_event c e = record c { events = c.events ++ e ∷ [] }
 
--- as a round of its own
-abbrev pub stepped : Seen → Event → Seen
-stepped c e = record c { events = c.events ++ e ∷ []; rounds = min (c.rounds + 1) (2 ^ 32 - 1) }
+-- as a round of its own, after which it owes a link or nothing
+abbrev pub stepped : Seen → Event → Bool → Seen
+stepped c e owes = record c { events = c.events ++ e ∷ []; rounds = min (c.rounds + 1) (2 ^ 32 - 1); owes = owes }

@@ -73,7 +73,7 @@ impl Cluster {
     ghost use Rattle.gm_member.specs.Shown.{held_of};
     ghost use Rattle.ring_cluster.specs.Idle.{IsIdle, NobodyStopped, MarksNobody};
     ghost use Rattle.ring_cluster.specs.Holds.{HoldsOf};
-    ghost use Rattle.ring_cluster.specs.Seen.{Seen, IsGoing, state_of, opening_seen, with_event, stepped};
+    ghost use Rattle.ring_cluster.specs.Seen.{Seen, IsGoing, SameButOwed, MayHandOver, state_of, opening_seen, with_event, with_nothing_owed, stepped};
     ghost use Rattle.ring_cluster.specs.declared.agenda.Task.{Task};
     ghost use Rattle.ring_cluster.specs.Plays.{PlaysSoFar, Plays, task_event, place_among, IsCommandTo, commanded, performed, agenda_at, GoesOn, HasGoneOn, HasBegun, HeadsAre, AgendasAreDone, AgendasAreEmpty};
     ghost use Rattle.ring_cluster.specs.Turns.{SamePhases, TakesRound};
@@ -164,19 +164,19 @@ impl Cluster {
         Ok(())
     }
 
-    /// The one event, where it is enabled. Without memory all stands as it stood, or the event has happened and
-    /// the cluster keeps a link that has still to be handed to the registrar. What it keeps so, and the collecting
-    /// of the links that wait for the acting member, comes before the next event, and without memory for it no event
-    /// happens.
+    /// The one event, where it is enabled; after it nothing is owed. Without memory all stands as it stood, but that
+    /// what was owed may have been handed over, or the event has happened and the cluster owes the registrar a link.
+    /// What it owes, and the collecting of the links that wait for the acting member, comes before the next event, and
+    /// without memory for it no event happens.
     pub fn step(&mut self, event: &Event) -> Result<(), Refused>
         ensures enabled { OnOk result (refusal (state_of self.old) event.now ≡ None) }
-        ensures ok { OnOk result (self.new ≡ stepped self.old event.now) }
+        ensures ok { OnOk result (self.new ≡ stepped self.old event.now false) }
         ensures refused { (r : Reason) → refusal (state_of self.old) event.now ≡ Some r
             → (result ≡ Err (Refused.NotEnabled r)) ⊎ (result ≡ Err Refused.OutOfMemory) }
         ensures reason { IfErr result (λ e. (r : Reason) → e ≡ Refused.NotEnabled r
             → refusal (state_of self.old) event.now ≡ Some r) }
-        ensures err { IfErr result (λ e. (self.new ≡ self.old)
-            ⊎ ((e ≡ Refused.OutOfMemory) × (refusal (state_of self.old) event.now ≡ None) × (self.new ≡ stepped self.old event.now))) }
+        ensures err { IfErr result (λ e. MayHandOver self.old self.new
+            ⊎ ((e ≡ Refused.OutOfMemory) × (refusal (state_of self.old) event.now ≡ None) × (self.new ≡ stepped self.old event.now true))) }
     {
         self.happen(event)?;
         self.number_round();
@@ -189,12 +189,12 @@ impl Cluster {
     /// The one event, as a part of a round.
     pub(crate) fn happen(&mut self, event: &Event) -> Result<(), Refused>
         ensures enabled { OnOk result (refusal (state_of self.old) event.now ≡ None) }
-        ensures ok { OnOk result (self.new ≡ with_event self.old event.now) }
+        ensures ok { OnOk result (SameButOwed (with_event self.old event.now) self.new) }
         ensures refused { (r : Reason) → refusal (state_of self.old) event.now ≡ Some r
             → (result ≡ Err (Refused.NotEnabled r)) ⊎ (result ≡ Err Refused.OutOfMemory) }
         ensures reason { IfErr result (λ e. (r : Reason) → e ≡ Refused.NotEnabled r
             → refusal (state_of self.old) event.now ≡ Some r) }
-        ensures err { OnErr result (self.new ≡ self.old) }
+        ensures err { OnErr result (MayHandOver self.old self.new) }
     {
         step(
             self.credit,
@@ -207,9 +207,10 @@ impl Cluster {
         )
     }
 
-    /// Hands to the registrar what waits for that.
+    /// Hands over what is owed to the registrar.
     pub(crate) fn deliver(&mut self) -> Result<(), OutOfMemory>
-        ensures { self.new ≡ self.old }
+        ensures ok { OnOk result (self.new ≡ with_nothing_owed self.old) }
+        ensures err { OnErr result ((self.new ≡ self.old) × ((self.old).owes ≡ true)) }
     {
         hand_over(
             self.credit,
@@ -222,15 +223,16 @@ impl Cluster {
     }
 
     /// The member at a place does the first of its tasks: whether it had one and hasn't stopped.
+    #[tactic(auto, using(crate::proofs::Owed::but_refl, crate::proofs::Owed::but_handed))]
     pub(crate) fn perform(&mut self, place: usize) -> Result<bool, OutOfMemory>
         requires { place < length (self.old).names }
         ensures done { IfOk result (λ b. b ≡ true → (t : Task) × (ts : List Task)
             × (agenda_at (self.old).agendas place ≡ t ∷ ts)
             × (refusal (state_of self.old) (task_event (slice_index_or (self.old).names place []) t) ≡ None)
-            × (self.new ≡ performed self.old place t ts)) }
-        ensures none { IfOk result (λ b. b ≡ false → (self.new ≡ self.old)
+            × SameButOwed (performed self.old place t ts) self.new) }
+        ensures none { IfOk result (λ b. b ≡ false → SameButOwed self.old self.new
             × ((agenda_at (self.old).agendas place ≡ []) ⊎ (runs (state_of self.old) (place + 1) ≡ false))) }
-        ensures err { OnErr result (self.new ≡ self.old) }
+        ensures err { OnErr result (SameButOwed self.old self.new) }
     {
         self.is_going();
         let Some(event) = self.next_event(place)? else {
@@ -294,7 +296,8 @@ impl Cluster {
     }
 
     /// One round: each member takes at least one and at most so many turns, the first of which does the
-    /// head of its agenda, where it has one and hasn't stopped. Want of memory leaves what has happened.
+    /// head of its agenda, where it has one and hasn't stopped; after it nothing is owed. Want of memory leaves what has
+    /// happened.
     pub fn go<T: Threads, G: Gate>(
         &mut self,
         threads: &T,
@@ -310,6 +313,7 @@ impl Cluster {
             ((self.new).given ≡ (self.old).given ++ command.Go turns ∷ []) }
         ensures not_given { OnErr result ((self.new).given ≡ (self.old).given) }
         ensures rounds { (self.new).rounds ≡ min ((self.old).rounds + 1) (2 ^ 32 - 1) }
+        ensures delivered { OnOk result ((self.new).owes ≡ false) }
         ensures plays { PlaysSoFar self.old → PlaysSoFar self.new }
     {
         let _ = threads;
@@ -324,11 +328,12 @@ impl Cluster {
         }
     }
 
-    /// A round, after which nothing waits to be handed to the registrar.
+    /// A round, after which nothing is owed.
     fn take_round<G: Gate>(&mut self, turns: u32, gate: &G) -> Result<(), OutOfMemory>
         requires { 1 ≤ turns }
         ensures round { TakesRound self.old self.new }
         ensures begun { OnOk result ((i : ℕ) → i < length (self.old).names → HasBegun i self.old self.new) }
+        ensures delivered { OnOk result ((self.new).owes ≡ false) }
     {
         round(self, turns, gate)?;
         self.deliver()?;
@@ -337,7 +342,7 @@ impl Cluster {
 
     /// Rounds of 16 turns until one does nothing, 64 at most, and then a drain: each member that runs does
     /// all of its agenda, and the ring works and repairs itself until no member has anything left to do. Where nobody has
-    /// stopped it is quiet then. Want of memory leaves what has happened.
+    /// stopped it is quiet then. After it nothing is owed. Want of memory leaves what has happened.
     pub fn settle<T: Threads, G: Gate>(&mut self, threads: &T, gate: &G) -> Result<(), OutOfMemory>
         ensures goes { HasGoneOn self.old self.new }
         ensures alive { NobodyStopped (state_of self.old) → NobodyStopped (state_of self.new) }
@@ -347,6 +352,7 @@ impl Cluster {
         ensures given { OnOk result ((self.new).given ≡ (self.old).given ++ command.Settle ∷ []) }
         ensures not_given { OnErr result ((self.new).given ≡ (self.old).given) }
         ensures rounds { (self.new).rounds ≤ (self.old).rounds + 129 }
+        ensures delivered { OnOk result ((self.new).owes ≡ false) }
         ensures plays { PlaysSoFar self.old → PlaysSoFar self.new }
         ensures played { OnOk result (PlaysSoFar self.old
             → Plays (self.new).credit (self.new).names (self.new).events (self.new).given) }
@@ -374,6 +380,7 @@ impl Cluster {
         ensures quiet { OnOk result (NobodyStopped (state_of self.new) → IsQuiet (state_of self.new)) }
         ensures empty { OnOk result (NobodyStopped (state_of self.new) → AgendasAreEmpty self.new) }
         ensures rounds { (self.new).rounds ≤ (self.old).rounds + 129 }
+        ensures delivered { OnOk result ((self.new).owes ≡ false) }
     {
         for _round in 0..MOST_ROUNDS {
             let before = self.happened();

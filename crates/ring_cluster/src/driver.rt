@@ -3,7 +3,7 @@ ghost use Rattle.std.specs.Prelude.{◌≡◌, ◌≢◌, ℕ, ◌+◌, ◌-◌,
 ghost use Rattle.ring_world.specs.Machine.{member_at, newest as the_newest, right as the_right, runs as runs_at};
 ghost use Rattle.ring_world.specs.Event.{refusal};
 ghost use Rattle.ring_cluster.specs.Idle.{IsIdle, MarksNobody};
-ghost use Rattle.ring_cluster.specs.Seen.{Seen, state_of, IsGoing};
+ghost use Rattle.ring_cluster.specs.Seen.{Seen, state_of, IsGoing, SameButOwed};
 ghost use Rattle.ring_cluster.specs.Plays.{agenda_at, HasBegun, AgendasAreDone};
 ghost use Rattle.ring_cluster.specs.Turns.{is_own_event, step_event, Works, TakesTurns, TakesRound, IsDoneAt, MayStep, MayStepNowhere, MarksNoneAt, RestsAt};
 ghost use Rattle.ring_cluster.specs.Work.{work, is_stale as the_staleness, LeavesLess};
@@ -51,7 +51,7 @@ fn happens(cluster: &mut Cluster, event: &Event) -> Result<bool, OutOfMemory>
     ensures works { Works cluster.old cluster.new }
     ensures falls { IfOk result (λ b. b ≡ true
         → work (state_of cluster.new) < work (state_of cluster.old)) }
-    ensures stays { IfOk result (λ b. b ≡ false → (cluster.new ≡ cluster.old)
+    ensures stays { IfOk result (λ b. b ≡ false → SameButOwed cluster.old cluster.new
         × (refusal (state_of cluster.old) event.now ≢ None)) }
 {
     cluster.is_going();
@@ -122,7 +122,7 @@ fn attempt(cluster: &mut Cluster, id: MemberId, step: OwnStep) -> Result<bool, O
     ensures works { Works cluster.old cluster.new }
     ensures falls { IfOk result (λ b. b ≡ true
         → work (state_of cluster.new) < work (state_of cluster.old)) }
-    ensures stays { IfOk result (λ b. b ≡ false → (cluster.new ≡ cluster.old)
+    ensures stays { IfOk result (λ b. b ≡ false → SameButOwed cluster.old cluster.new
         × (MayStep (state_of cluster.old) id.0 step → ⊥)) }
 {
     cluster.is_going();
@@ -140,7 +140,7 @@ fn step_on_links(cluster: &mut Cluster, id: MemberId) -> Result<bool, OutOfMemor
     ensures falls { IfOk result (λ b. b ≡ true
         → work (state_of cluster.new) < work (state_of cluster.old)) }
     ensures stays { IfOk result (λ b. b ≡ false
-        → (cluster.new ≡ cluster.old) × MayStepNowhere (state_of cluster.old) id.0) }
+        → SameButOwed cluster.old cluster.new × MayStepNowhere (state_of cluster.old) id.0) }
 {
     if attempt(cluster, id, OwnStep::Pick)? {
         return Ok(true);
@@ -184,7 +184,7 @@ fn mark(cluster: &mut Cluster, id: MemberId) -> Result<bool, OutOfMemory>
     ensures falls { IfOk result (λ b. b ≡ true
         → work (state_of cluster.new) < work (state_of cluster.old)) }
     ensures stays { IfOk result (λ b. b ≡ false
-        → (cluster.new ≡ cluster.old) × MarksNoneAt (state_of cluster.old) id.0) }
+        → SameButOwed cluster.old cluster.new × MarksNoneAt (state_of cluster.old) id.0) }
 {
     cluster.is_going();
     let by = name_of(cluster, id);
@@ -204,7 +204,7 @@ fn own_turn(cluster: &mut Cluster, id: MemberId) -> Result<bool, OutOfMemory>
     ensures falls { IfOk result (λ b. b ≡ true
         → work (state_of cluster.new) < work (state_of cluster.old)) }
     ensures rests { IfOk result (λ b. b ≡ false
-        → (cluster.new ≡ cluster.old) × RestsAt (state_of cluster.old) id.0) }
+        → SameButOwed cluster.old cluster.new × RestsAt (state_of cluster.old) id.0) }
 {
     if is_stale(cluster, id) {
         refresh(cluster, id)?;
@@ -218,14 +218,14 @@ fn own_turn(cluster: &mut Cluster, id: MemberId) -> Result<bool, OutOfMemory>
 }
 
 /// The member at a place does a step of its own, where it runs and has any to do: whether it did.
-#[tactic(auto, using(crate::proofs::Turning::works_refl))]
+#[tactic(auto, using(crate::proofs::Turning::works_refl, crate::proofs::Owed::but_refl))]
 fn work_turn(cluster: &mut Cluster, place: usize) -> Result<bool, OutOfMemory>
     requires { place < length (cluster.old).names }
     ensures works { Works cluster.old cluster.new }
     ensures falls { IfOk result (λ b. b ≡ true
         → work (state_of cluster.new) < work (state_of cluster.old)) }
     ensures rests { IfOk result (λ b. b ≡ false
-        → (cluster.new ≡ cluster.old) × RestsAt (state_of cluster.old) (place + 1)) }
+        → SameButOwed cluster.old cluster.new × RestsAt (state_of cluster.old) (place + 1)) }
 {
     cluster.is_going();
     let id = MemberId(place as u32 + 1);
@@ -363,7 +363,7 @@ fn pass(cluster: &mut Cluster) -> Result<bool, OutOfMemory>
     ensures works { Works cluster.old cluster.new }
     ensures falls { IfOk result (λ b. b ≡ true
         → work (state_of cluster.new) < work (state_of cluster.old)) }
-    ensures rests { IfOk result (λ b. b ≡ false → (cluster.new ≡ cluster.old)
+    ensures rests { IfOk result (λ b. b ≡ false → SameButOwed cluster.old cluster.new
         × ((i : ℕ) → i < length (cluster.old).names → RestsAt (state_of cluster.old) (i + 1))) }
 {
     let count = cluster.count();

@@ -1,5 +1,5 @@
 //! One event of a cluster.
-ghost use Rattle.std.specs.Prelude.{◌≡◌, ◌⊎◌, ◌∷◌, ◌++◌, ◌+◌, ◌<◌, ◌≤◌, ◌^◌, ℕ, List, [], true, map, length, OnOk, OnErr, IfOk, IfErr, IfSome, IsSome, Some, None, Err, vec_len, vec_capacity, slice_index_or};
+ghost use Rattle.std.specs.Prelude.{◌≡◌, ◌⊎◌, ◌∷◌, ◌++◌, ◌+◌, ◌<◌, ◌≤◌, ◌^◌, ℕ, List, [], true, map, length, OnOk, OnErr, IfOk, IfErr, IfSome, IsSome, is_some, Some, None, Err, vec_len, vec_capacity, slice_index_or};
 ghost use Rattle.ring_names.specs.declared.numbers.CreditSpec.{CreditSpec};
 ghost use Rattle.ring_names.specs.declared.reason.Reason.{Reason};
 ghost use Rattle.ring_world.specs.declared.event.Event.{Event};
@@ -231,6 +231,7 @@ pub(crate) fn step(
     ensures reason { IfErr result (λ e. (r : Reason) → e ≡ Refused.NotEnabled r
         → refusal (state credit names.now journal.old.items) event.now ≡ Some r) }
     ensures err { OnErr result (journal.new.items ≡ journal.old.items) }
+    ensures owes { OnErr result (is_some late.new ≡ true → is_some late.old ≡ true) }
 {
     if hand_over(credit, names, nodes, registrar, late, journal).is_err() {
         return Err(Refused::OutOfMemory);
@@ -299,6 +300,7 @@ pub(crate) fn hand_over(
     requires { StandAfter credit names.now journal.now (parties nodes.now registrar.old (behind late.old)) }
     ensures standing { StandAfter credit names.now journal.now (parties nodes.now registrar.new (behind late.new)) }
     ensures none { OnOk result (late.new ≡ None) }
+    ensures kept { OnErr result ((is_some late.old ≡ true) × (is_some late.new ≡ true)) }
 {
     let Some(Undelivered { name, link }) = late.take() else {
         return Ok(());

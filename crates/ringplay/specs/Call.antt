@@ -74,17 +74,19 @@ pub record IsPlayedBy (script : Script) (journal : List Event) (text : List ℕ)
 
 -- ---- what is read
 
--- how many bytes of input are taken, and how many lines
+-- how many bytes of input are taken
 abbrev pub most_bytes : ℕ
 most_bytes = 1048576
 
+-- how many lines of input are taken
 abbrev pub most_lines : ℕ
 most_lines = 20000
 
--- an input is within the limits, or passes one of them
+-- an input is within the limits
 abbrev pub IsWithin : List ℕ → Type 0
 IsWithin bytes = (length bytes ≤ most_bytes) × (length (lines_of bytes) ≤ most_lines)
 
+-- it passes one of them
 abbrev pub IsTooLarge : List ℕ → Type 0
 IsTooLarge bytes = (most_bytes < length bytes) ⊎ (most_lines < length (lines_of bytes))
 

@@ -1,6 +1,9 @@
 use Rattle.std.proofs.Common.{sym, subst, ◌+◌}
-use Rattle.ring_cluster.proofs.Turning.{PassedBelow, passed_more}
+use Rattle.ring_cluster.proofs.Turning.{PassedBelow, passed_none, passed_more}
 use Rattle.ring_cluster.proofs.driver.pass.Goals as goal
+
+pub loop-place-init : goal.loop-place-init
+loop-place-init c = record { count = c.count-count.ensures; passed = passed_none c.args.cluster.now }
 
 pub loop-place-preserved : goal.loop-place-preserved
 loop-place-preserved c = record {

@@ -2,12 +2,13 @@ use Rattle.std.proofs.Common.{ap, sym, inr, ◌∙◌}
 use Rattle.ring_world.specs.Event.{refusal}
 use Rattle.ring_cluster.specs.Seen.{state_of}
 use Rattle.ring_cluster.proofs.Named.{task_stops, from_some}
+use Rattle.ring_cluster.proofs.Owed.{but_handed}
 use Rattle.ring_cluster.proofs.cluster.Cluster.perform.Goals as goal
 
 pub returns-in-Err-NotEnabled-clause-none : goal.returns-in-Err-NotEnabled-clause-none
 returns-in-Err-NotEnabled-clause-none c = λ _.
     let f = from_some _ _ _ _ c.in-Some.is c.in_ok-event.ensures in (
-      c.in-Err-NotEnabled.ensures.err,
+      but_handed c.args.self.now c.happen.new.self c.in-Err-NotEnabled.ensures.err,
       inr (task_stops c.args.self.now c.args.place f.0 c.in-Err-NotEnabled.field-0-0 c.is_going.ensures c.requires
           (ap (refusal (state_of c.args.self.now)) (sym f.3) ∙ c.in-Err-NotEnabled.ensures.reason c.in-Err-NotEnabled.field-0-0 c.in-Err-NotEnabled.field-0-is)),
     )

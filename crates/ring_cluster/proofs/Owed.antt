@@ -1,0 +1,31 @@
+-- What only differs in what is owed.
+use Rattle.std.proofs.Common.{◌≡◌, ◌+◌, ◌-◌, ◌^◌, Bool, true, min, refl, ap, ◌∙◌}
+use Rattle.ring_world.specs.declared.event.Event.{Event}
+use Rattle.ring_cluster.specs.Seen.{Seen, SameButOwed, MayHandOver, with_event, stepped}
+
+pub but_refl : (c : Seen) → SameButOwed c c
+but_refl c = (c.owes, refl)
+
+-- c, but that it owes a link or nothing
+abbrev pub owing : Bool → Seen → Seen
+owing owes c = record c { owes = owes }
+
+pub but_trans : (c d e : Seen) → SameButOwed c d → SameButOwed d e → SameButOwed c e
+but_trans c d e a b = (b.0, b.1 ∙ ap (owing b.0) a.1)
+
+pub but_handed : (c d : Seen) → MayHandOver c d → SameButOwed c d
+but_handed c d h = (h.0, h.1)
+
+-- ---- a step
+
+-- with another number of rounds
+abbrev pub numbered : Seen → Seen
+numbered c = record c { rounds = min (c.rounds + 1) (2 ^ 32 - 1) }
+
+-- an event has happened, a round was given a number, and what is owed is known then
+pub stepped_is : (c c1 c2 d : Seen) (e : Event) (owes : Bool) → SameButOwed (with_event c e) c1 → c2 ≡ numbered c1 → d ≡ owing owes c2 → d ≡ stepped c e owes
+stepped_is c c1 c2 d e owes happened number is = is ∙ ap (owing owes) number ∙ ap (λ x. owing owes (numbered x)) happened.1
+
+-- what is owed stays
+pub owing_is : (c d : Seen) (owes : Bool) → d ≡ c → c.owes ≡ owes → d ≡ owing owes c
+owing_is c d owes same is = same ∙ ap (λ b. owing b c) is
