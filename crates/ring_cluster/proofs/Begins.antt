@@ -175,6 +175,7 @@ module _ (credit : CreditSpec) (names : List (List ℕ)) (are : AreOpeningNames 
         carry = λ s l _. carries_first s l;
       };
       met = λ s l _. met_first (has_out (opening credit names) s);
+      known = λ s l _ _. (carries_first s l).grants;
     };
   }
 

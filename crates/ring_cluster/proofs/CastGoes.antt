@@ -24,8 +24,9 @@ use Rattle.ring_cluster.specs.Standing.{Places, MemberStands, StandIn, Stand, St
 use Rattle.ring_cluster.specs.Acting.{Casts, Acts}
 use Rattle.ring_cluster.proofs.Rows.{carried_grown}
 use Rattle.ring_cluster.proofs.Lawful.{IsLawfulAt}
-use Rattle.ring_cluster.proofs.Frames.{SameWays, member_ways, same_to, same_in, same_doors, carries_still, Goes, goes_stands, stays_stands, one_steps}
+use Rattle.ring_cluster.proofs.Frames.{SameWays, member_ways, same_to, same_in, same_out, same_doors, carries_still, Goes, goes_stands, stays_stands, one_steps}
 use Rattle.ring_cluster.proofs.OneEvent.{found_does, stands_at, held_but_door, dropped_still}
+use Rattle.ring_cluster.proofs.Known.{known_still}
 
 -- ---- packets
 
@@ -111,4 +112,5 @@ cast_goes credit w by body i d q q' loose h found st (b, does, is, none) =
       places = p;
       stand = cast_steps credit w m i q p b h lt st.stand does;
       dropped = dropped_still w w' p p ways st.met (λ s _ _ _ r. r);
+      known = known_still credit.initial w w' q p st refl (λ s _ _. record { out = same_out w w' s ways; back = refl; grants = refl });
     })))

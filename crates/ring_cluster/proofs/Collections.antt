@@ -186,6 +186,7 @@ collect_stands initial w q q' x g fresh a l c st =
         within = λ s e. st.stand.within s (and_parts (not (is_to w x s)) (is_in s p.post) (sym (in_filter (λ k. not (is_to w x k)) s p.post) ∙ e)).1;
       }) st.stand.carry;
       met = st.met;
+      known = st.known;
     })
 
 -- and none waits for it any more

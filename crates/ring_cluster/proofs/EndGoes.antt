@@ -29,6 +29,7 @@ use Rattle.ring_cluster.specs.Acting.{Acts}
 use Rattle.ring_cluster.proofs.Lawful.{IsLawfulAt}
 use Rattle.ring_cluster.proofs.Frames.{same_filter, carries_same, Goes, goes_stands, stays_stands, one_steps}
 use Rattle.ring_cluster.proofs.OneEvent.{found_later, found_does, link_there, stands_at, held_but_door, met_rested}
+use Rattle.ring_cluster.proofs.Known.{known_still}
 
 -- with x's current link s
 module _ (credit : CreditSpec) (w : World) (x s : ℕ) (h : IsLawfulAt credit w) (lt : x < size w) (is : (member_at w x).current ≡ Some s) where
@@ -120,6 +121,9 @@ module _ (credit : CreditSpec) (w : World) (x s : ℕ) (h : IsLawfulAt credit w)
       ∙ ap (λ b. b || waits_for (leave_link w x s) (link_at w j).receiver j) (end_current (link_at w j).receiver j apart)
       ∙ ap (λ b. is_current w (link_at w j).receiver j || b) (end_waits (link_at w j).receiver j)
 
+  pub end_grants : (j : ℕ) → (link_at (leave_link w x s) j).flow.grants ≡ (link_at w j).flow.grants
+  end_grants j = at_set (λ k a. a.flow.grants ≡ (link_at w k).flow.grants) w.links s j (finished (link_at w s)) no_link sl refl (λ _. refl)
+
   pub end_has_out : (j : ℕ) → has_out (leave_link w x s) j ≡ has_out w j
   end_has_out j = ap (λ y. is_place (member_at (leave_link w x s) y).out j) (end_sender j) ∙ ap (λ o. is_place o j) (end_outs (link_at w j).sender)
 
@@ -205,4 +209,6 @@ end_goes credit w by i d q q' loose h enabled found st (b, (n, rest, ends_link, 
       places = st.places;
       stand = end_steps credit w i s q st.places b h lt current st.stand eb;
       dropped = end_dropped credit w x s st.places h lt current st.met;
+      known = known_still credit.initial w w' q st.places st (length-set w.links s (finished (link_at w s)))
+          (λ j _ _. record { out = end_has_out credit w x s h lt current j; back = refl; grants = end_grants credit w x s h lt current j });
     })))

@@ -24,9 +24,10 @@ use Rattle.ring_cluster.specs.Standing.{Places, MemberStands, StandIn, Stand, St
 use Rattle.ring_cluster.specs.Acting.{GainsOut, Acts}
 use Rattle.ring_cluster.proofs.Lawful.{IsLawfulAt}
 use Rattle.ring_cluster.proofs.NamedLinks.{out_has, out_is_open}
-use Rattle.ring_cluster.proofs.Frames.{placed_here, placed_there, SameWays, link_ways, same_name, same_to, same_in, same_doors, carries_still, carries_same, Goes, goes_stands, stays_stands, one_steps}
+use Rattle.ring_cluster.proofs.Frames.{placed_here, placed_there, SameWays, link_ways, same_name, same_to, same_in, same_out, same_doors, carries_still, carries_same, Goes, goes_stands, stays_stands, one_steps}
 use Rattle.ring_cluster.proofs.PutGoes.{put_places}
 use Rattle.ring_cluster.proofs.OneEvent.{found_later, found_does, link_there, made_of, stands_at, held_but_door, dropped_still}
+use Rattle.ring_cluster.proofs.Known.{known_still, not_left}
 
 -- ---- one link
 
@@ -143,4 +144,11 @@ gain_goes credit w by i d q q' loose h enabled found st (b, (amount, o, o', ends
       dropped = dropped_still w w' p (put_places p s o') ways st.met (λ j _ _ lost r.
           let ne : j ≢ s = λ (same : j ≡ s). false≢true (sym lost ∙ ap (has_out w) same ∙ out_has credit w x s h is_out) in
           subst (λ t. HasRested t (p.ins j)) (sym (placed_there p.outs s j o' ne)) r);
+      known = known_still credit.initial w w' q (put_places p s o') st ways.many (λ j _ gone.
+          let ne : j ≢ s = not_left w j s (sym (same_in w w' j ways) ∙ gone) (out_is_open credit w x s h (ap runs_phase up) is_out) in
+          record {
+            out = same_out w w' j ways;
+            back = ap (λ (e : OutSeen). e.back) (placed_there p.outs s j o' ne);
+            grants = ap (λ (l : Link). l.flow.grants) (get_or-set_other w.links s j (regained_on w s) no_link ne);
+          });
     })))

@@ -25,6 +25,7 @@ use Rattle.ring_cluster.proofs.Lawful.{IsLawfulAt}
 use Rattle.ring_cluster.proofs.Writing.{placed, placed_same, placed_other, at_in}
 use Rattle.ring_cluster.proofs.Placing.{GoBetween, name_is_unique, name_found}
 use Rattle.ring_cluster.proofs.Showing.{shows_of, stands_of, with_outs, with_ins, out_shows, out_hidden, in_shows, in_posts}
+use Rattle.ring_cluster.proofs.Known.{known_met}
 use Rattle.ring_cluster.proofs.Meetings.{carries_fit, meets_carry, met_rests, found_at, found_posted, found_nowhere, posted_at, posted_place}
 
 -- ---- what holds of the ends of each link
@@ -78,7 +79,7 @@ out_placed w initial q p x o own st a l e = by_out (member_at w x).out refl (sym
 -- ---- a loose end
 
 pub loose_between : (initial : ℕ) (w : World) (q : Parties) → StandLoose initial w q None → StandBetween initial w q None
-loose_between initial w q l = record { places = l.places; stand = l.stand; dropped = l.dropped; fits = λ s o sl h e. cc }
+loose_between initial w q l = record { places = l.places; stand = l.stand; dropped = l.dropped; fits = λ s o sl h e. cc; known = l.known }
 
 -- of the loose end only one name is that
 pub first_same : (a b : LinkName × OutSeen) → Some a ≡ Some b → a.0 ≡ b.0
@@ -121,6 +122,7 @@ loose_met_at credit w q y place name o n o' n' g b a l named end m =
           (in_shows w q (with_outs p s o') y place s n' g.fit.good g.fit.own_ends a l sl its (out_hidden w q p s o' g.fit.own_ends fits.0 (shows_of credit.initial w q p b.stand)))
           (met_carry credit.initial w q p s o' n' b.stand meets);
       dropped = loose_dropped w p s name o o' n' g.fit.good sl f.2 m.met b.dropped;
+      known = known_met w p s o' n' k.1 b.known;
     }
 
 -- in the post
@@ -144,6 +146,7 @@ loose_met_posted credit w q j d name o n o' n' g go b l named end m =
           (in_posts w q (with_outs p s o') j s n' g.fit.own_ends go f.0 refl (out_hidden w q p s o' g.fit.own_ends fits.0 (shows_of credit.initial w q p b.stand)))
           (met_carry credit.initial w q p s o' n' b.stand meets);
       dropped = loose_dropped w p s name o o' n' g.fit.good sl its m.met b.dropped;
+      known = known_met w p s o' n' k.0 b.known;
     })
 
 -- its other end is nowhere
@@ -157,13 +160,14 @@ loose_gone credit w q name o g go b none = record {
       let is : name ≡ name_of w t = first_same (name, o) (name_of w t, b.places.outs t) e in
       absurd (false≢true (sym (found_nowhere credit w q b.places t g go b.stand l (subst (IsNowhere q) is none)) ∙ h)))
       (b.dropped t l h out);
+  known = b.known;
 }
 
 -- ---- the out ends of members, one after the other
 
 -- of members of ids up to 0 there is none
 pub loose_met : (credit : CreditSpec) (w : World) (q : Parties) → GoBetween w → StandLoose credit.initial w q None → StandMet 0 credit.initial w q
-loose_met credit w q go l = record { places = l.places; stand = l.stand; dropped = l.dropped; met = λ s sl h o le. absurd (omega (arith, le, (go.sender s sl).0)) }
+loose_met credit w q go l = record { places = l.places; stand = l.stand; dropped = l.dropped; met = λ s sl h o le. absurd (omega (arith, le, (go.sender s sl).0)); known = l.known }
 
 -- all have met
 pub met_all : (credit : CreditSpec) (w : World) (q : Parties) (k : ℕ) → GoBetween w → k + 1 ≡ size w → StandMet k credit.initial w q → Stand credit.initial w q
@@ -171,6 +175,7 @@ met_all credit w q k go many m = record {
   places = m.places;
   stand = m.stand;
   met = λ s sl h. by_out s sl h (has_out w s) refl;
+  known = m.known;
 }
   where
     by_out : (s : ℕ) → s < length w.links → has_in w s ≡ true → (b : Bool) → has_out w s ≡ b → HaveDone b (m.places.outs s) (m.places.ins s)
@@ -223,6 +228,7 @@ met_none credit w q k x is l none m = record {
       let both : None ≡ Some (m.places.outs t) = sym none ∙ mine.out ∙ ap (option_map m.places.outs) (ap (λ y. (member_at w y).out) (sym who) ∙ sends_it w t o) in
       cc)
       (cases_lt (link_at w t).sender (k + 1));
+  known = m.known;
 }
 
 -- one whose link has no other end
@@ -246,6 +252,7 @@ met_gone credit w q k x o name g go is l out named none m =
           let t_is : t ≡ s = cc in
           absurd (false≢true (sym gone ∙ ap (has_in w) (sym t_is) ∙ h)))
           (cases_lt (link_at w t).sender (k + 1));
+      known = m.known;
     }
 
 -- ---- one whose link has met its other end
@@ -282,6 +289,7 @@ met_at credit w q k x y place name o n o' n' g is xl out named a l found end m m
           (met_carry credit.initial w q p s o' n' met.stand meets);
       dropped = dropped_more w p s o' n' f.6 met.dropped;
       met = met_more w p k x s o' n' is f.1 m.met met.met;
+      known = known_met w p s o' n' c.1 met.known;
     }
 
 -- in the post
@@ -309,6 +317,7 @@ met_posted credit w q k x j d name o n o' n' g go is xl out named l found end m 
           (met_carry credit.initial w q p s o' n' met.stand meets);
       dropped = dropped_more w p s o' n' f.6 met.dropped;
       met = met_more w p k x s o' n' is f.1 m.met met.met;
+      known = known_met w p s o' n' c.0 met.known;
     })
 
 -- ---- the ends that are found are there, and may meet

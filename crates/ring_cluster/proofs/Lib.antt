@@ -27,6 +27,7 @@ pub mod Heard
 pub mod Holding
 pub mod IdleExamples
 pub mod Joining
+pub mod Known
 pub mod Lawful
 pub mod Links
 pub mod Lists

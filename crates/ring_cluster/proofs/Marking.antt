@@ -44,6 +44,7 @@ use Rattle.ring_cluster.specs.Standing.{Places, MemberStands, Stand, has_in}
 use Rattle.ring_cluster.specs.Loose.{StandBetween}
 use Rattle.ring_cluster.specs.Acting.{Loosens, looked_ends, first_sent, LooksAt, Acts, newest_of, viewing, posting, waits_at}
 use Rattle.ring_cluster.proofs.Lawful.{IsLawfulAt}
+use Rattle.ring_cluster.proofs.Known.{all_know}
 use Rattle.ring_cluster.proofs.Lookers.{whole_door, beholder, had_before, carries_same}
 use Rattle.ring_cluster.proofs.Refreshing.{IsLooking, looks_on, none_waits}
 use Rattle.ring_cluster.proofs.Opens.{opens_on}
@@ -174,6 +175,7 @@ view_stands initial w g q h own st = record {
     carry = λ s l i. carries_same initial w u (link_at w s) (p.outs s) (p.ins s) (λ y. refl) (st.stand.carry s l (had s l i));
   };
   met = λ s l i. st.met s l (had s l i);
+  known = λ s l _ o. all_know initial w q st s l o;
 }
   where
     p : Places

@@ -31,7 +31,7 @@ use Rattle.gm_member.proofs.OwnEnds.{OwnEnds}
 use Rattle.gm_member.proofs.RefreshStands.{current_lt, door_stays, refresh_stands}
 use Rattle.ring_cluster.specs.Ends.{OutSeen, InSeen, Sent, Carries, HasRested, packet_in, end_items, opened_out, fresh_in}
 use Rattle.ring_cluster.specs.Parties.{Shown, Posted, Parties, node_at, with_node}
-use Rattle.ring_cluster.specs.Standing.{Places, MemberStands, Stand, HaveDone, DroppedHaveMet, name_of, is_to, has_out, has_in}
+use Rattle.ring_cluster.specs.Standing.{Places, MemberStands, Stand, HaveDone, DroppedHaveMet, SendersKnow, name_of, is_to, has_out, has_in}
 use Rattle.ring_cluster.specs.Loose.{LooseFits, StandBetween}
 use Rattle.ring_cluster.specs.Acting.{EndsOut, Loosens, name_out, looked_ends, first_sent, sent_of, waits_at}
 use Rattle.ring_cluster.proofs.Writing.{placed, placed_same, placed_other}
@@ -39,6 +39,7 @@ use Rattle.ring_cluster.proofs.Placing.{name_is_unique}
 use Rattle.ring_cluster.proofs.Showing.{stands_of, each_set}
 use Rattle.ring_cluster.proofs.Meetings.{waiting_at}
 use Rattle.ring_cluster.proofs.Joining.{first_same}
+use Rattle.ring_cluster.proofs.Known.{Knows, all_know}
 use Rattle.ring_cluster.proofs.Collections.{map_agree}
 use Rattle.ring_cluster.proofs.Lookers.{filter_both, carries_same, lines_same, whole_door, looker, beholder}
 use Rattle.ring_cluster.proofs.Refreshing.{IsLooking, AfterLook, keeps_it, look_has, logs_set, none_waits}
@@ -230,6 +231,7 @@ opens_on initial u x v q b new loose k e st none eb en el = subst (λ w. StandBe
   }) carries;
   dropped = dropped;
   fits = fits;
+  known = known;
 })
   where
     p : Places
@@ -423,6 +425,24 @@ opens_on initial u x v q b new loose k e st none eb en el = subst (λ w. StandBe
             let no : (member_at u x).out ≡ Some s → ⊥ = λ t. false≢true (sym j ∙ ap (λ c. is_place c s) t ∙ nat_eq-same s) in
             let rested : HasRested (p.outs s) (p.ins s) = subst (λ c. HaveDone c (p.outs s) (p.ins s)) (had_none lt j) (st.met s lt (look_has u u' x v s k.own after lt i)) in
             inl (subst (λ t. HasRested t (p'.ins s)) (sym (outs_old s lt ∙ old.1.same s no)) (subst (HasRested (p.outs s)) (sym (ins_old s lt)) rested))
+
+    -- of an old link with its out end, which isn't that on which x sent
+    known_old : (s : ℕ) → s < n → has_out u' s ≡ true → Knows u' p' s
+    known_old s l o =
+        let ne : (link_at u s).sender ≢ x = λ (same : (link_at u s).sender ≡ x). false≢true (sym (has_none s l same) ∙ o) in
+        let no : (member_at u x).out ≡ Some s → ⊥ = λ t. ne (k.own.out x s t).1 in
+        let had : has_out u s ≡ true = sym (ap (λ y. is_place (member_at u' y).out s) (after.sender s l) ∙ ap (λ c. is_place c s) (after.out_other (link_at u s).sender ne)) ∙ o in
+        ap (λ (t : OutSeen). t.back) (outs_old s l ∙ old.1.same s no) ∙ all_know initial u q st s l had ∙ ap (λ (t : Link). t.flow.grants) (sym (link_was u x v s no l))
+
+    -- no grant was given on the new one
+    known_new : Knows u' p' n
+    known_new = ap (λ (t : OutSeen). t.back) (placed_same outs n o_new) ∙ ap (λ (t : Link). t.flow.grants) (sym (link_new u x v))
+
+    known : SendersKnow u' p'
+    known s l i o = ⊎_elim
+        (λ (lt : s < n). known_old s lt o)
+        (λ (ge : n ≤ s). let is : s ≡ n = omega (arith, l, more) in subst (Knows u' p') (sym is) known_new)
+        (cases_lt s n)
 
     fits : LooseFits u' p' loose
     fits s o l i c = by_out (member_at u x).out refl

@@ -33,6 +33,7 @@ use Rattle.ring_cluster.specs.Acting.{Acts}
 use Rattle.ring_cluster.proofs.Lawful.{IsLawfulAt}
 use Rattle.ring_cluster.proofs.Frames.{way, way_seen, same_filter, carries_same, stays_stands, one_steps}
 use Rattle.ring_cluster.proofs.OneEvent.{found_later, found_does, stands_at, met_rested}
+use Rattle.ring_cluster.proofs.Known.{known_still}
 
 -- ---- no link waits for a member at the registrar
 
@@ -227,6 +228,7 @@ pick_goes credit w by i d q q' loose h enabled found nobody st (b, (j, first, eb
       places = p;
       stand = pick_steps credit w i j q p b h lt none first_in nobody st.stand eb;
       dropped = λ t tl has lost. inl (met_rested (has_out w t) (p.outs t) (p.ins t) (sym (pick_has_out w x s lt none here t) ∙ lost) (st.met t tl (sym (pick_open w x s lt none here t) ∙ has)));
+      known = known_still credit.initial w w' q p st refl (λ t _ _. record { out = pick_has_out w x s lt none here t; back = refl; grants = refl });
     })))
   where
     no_current : (c : Option ℕ) → is_some c ≡ false → c ≡ None

@@ -11,6 +11,7 @@ use Rattle.ring_world.specs.declared.phase.Phase.TheVariants.{Up}
 use Rattle.ring_world.specs.Machine.{World, Packet, Link, no_link, member_at, link_at, runs, runs_phase}
 use Rattle.ring_world.specs.Step.{size, pushed, put_on}
 use Rattle.ring_world.specs.Event.{id_of, up_refusal, on_link, put_refusal, at_found, refusal, effect}
+use Rattle.ring_world.proofs.Lists.{at_set}
 use Rattle.ring_world.proofs.Enabled.{up_phase, up_later}
 use Rattle.ring_world.proofs.Refusals.{id_within}
 use Rattle.gm_member.specs.Parcels.{Parcel}
@@ -25,8 +26,9 @@ use Rattle.ring_cluster.specs.Standing.{Places, MemberStands, StandIn, Stand, St
 use Rattle.ring_cluster.specs.Acting.{sent_of, PutsOut, Acts}
 use Rattle.ring_cluster.proofs.Lawful.{IsLawfulAt}
 use Rattle.ring_cluster.proofs.NamedLinks.{out_unended, out_has}
-use Rattle.ring_cluster.proofs.Frames.{placed, placed_here, placed_there, SameWays, link_ways, same_name, same_to, same_in, same_doors, carries_still, carries_same, Goes, goes_stands, stays_stands, one_steps}
+use Rattle.ring_cluster.proofs.Frames.{placed, placed_here, placed_there, SameWays, link_ways, same_name, same_to, same_in, same_out, same_doors, carries_still, carries_same, Goes, goes_stands, stays_stands, one_steps}
 use Rattle.ring_cluster.proofs.OneEvent.{found_later, found_does, link_there, made_of, stands_at, held_but_door, dropped_still}
+use Rattle.ring_cluster.proofs.Known.{known_still, placed_back}
 
 -- ---- one link
 
@@ -148,7 +150,7 @@ put_goes credit w by i d q q' loose h enabled found st (b, (out, o, o', held_out
     let sl : s < length w.links = (h.fit.own_ends.out x s is_out).0 in
     let ways : SameWays w w' = link_ways w s (pushed (link_at w s) (leaving w x s)) sl refl in
     let same_held : (node_at q i).held ≡ record (held_in w x) { door = (node_at q i).held.door } = held_but_door w p x (node_at q i) a in
-    let same_out : outgoing_in w s ≡ out = made_of (outgoing_in w) (member_at w x).out s out is_out (sym (ap (λ (g : Held). g.out) same_held) ∙ held_out) in
+    let same_outgoing : outgoing_in w s ≡ out = made_of (outgoing_in w) (member_at w x).out s out is_out (sym (ap (λ (g : Held). g.out) same_held) ∙ held_out) in
     let same_end : p.outs s ≡ o = made_of p.outs (member_at w x).out s o is_out (sym a.out ∙ ends_out) in
     let does : effect w (Put by) ≡ w' = found_does (id_of w by) x w (λ y. at_found (member_at w y).out w (put_on w y)) found ∙ found_does (member_at w x).out s w (put_on w x) is_out in
     subst (λ v. StandLoose credit.initial v q' loose) (sym does)
@@ -157,9 +159,14 @@ put_goes credit w by i d q q' loose h enabled found st (b, (out, o, o', held_out
     (record {
       places = put_places p s o';
       stand = put_steps credit w i s q p b o' (sent_of (parcel_on (node_at q i).held.view.version (node_at q i).held.rows out)) h lt (ap runs_phase up) is_out st.stand
-          (put_sent w x s (node_at q i).held out h.fit (omega arith) lt same_held same_out)
+          (put_sent w x s (node_at q i).held out h.fit (omega arith) lt same_held same_outgoing)
           (subst (λ t. PutsOut t (sent_of (parcel_on (node_at q i).held.view.version (node_at q i).held.rows out)) o') (sym same_end) puts) eb;
       dropped = dropped_still w w' p (put_places p s o') ways st.met (λ j _ _ lost r.
           let ne : j ≢ s = λ (same : j ≡ s). false≢true (sym lost ∙ ap (has_out w) same ∙ out_has credit w x s h is_out) in
           subst (λ t. HasRested t (p.ins j)) (sym (placed_there p.outs s j o' ne)) r);
+      known = known_still credit.initial w w' q (put_places p s o') st ways.many (λ j _ _. record {
+        out = same_out w w' j ways;
+        back = placed_back p.outs s o' j (puts.back ∙ ap (λ (e : OutSeen). e.back) (sym same_end));
+        grants = at_set (λ k a. a.flow.grants ≡ (link_at w k).flow.grants) w.links s j (pushed (link_at w s) (leaving w x s)) no_link sl refl (λ _. refl);
+      });
     })))

@@ -28,9 +28,10 @@ use Rattle.ring_cluster.specs.Standing.{Places, MemberStands, StandIn, Stand, St
 use Rattle.ring_cluster.specs.Acting.{EndsOut, EndsIts, Acts}
 use Rattle.ring_cluster.proofs.Lawful.{IsLawfulAt}
 use Rattle.ring_cluster.proofs.NamedLinks.{out_unended, out_has}
-use Rattle.ring_cluster.proofs.Frames.{placed_here, placed_there, SameWays, link_ways, member_ways, ways_both, same_name, same_to, same_in, same_doors, same_packets, carries_still, carries_same, Goes, goes_stands, stays_stands, one_steps}
+use Rattle.ring_cluster.proofs.Frames.{placed_here, placed_there, SameWays, link_ways, member_ways, ways_both, same_name, same_to, same_in, same_out, same_doors, same_packets, carries_still, carries_same, Goes, goes_stands, stays_stands, one_steps}
 use Rattle.ring_cluster.proofs.PutGoes.{put_places}
 use Rattle.ring_cluster.proofs.OneEvent.{found_later, found_does, stands_at, held_but_door, dropped_still}
+use Rattle.ring_cluster.proofs.Known.{known_still, placed_back}
 
 -- ---- one link
 
@@ -85,6 +86,8 @@ record StopLeaves (credit : CreditSpec) (w w' : World) (x : ℕ) (p p' : Places)
   others : (y j : ℕ) → (member_at w y).out ≡ Some j → y ≢ x → p'.outs j ≡ p.outs j
   carry : (j : ℕ) → j < length w.links → Carries w credit.initial (link_at w j) (p.outs j) (p.ins j) → Carries w' credit.initial (link_at w' j) (p'.outs j) (p.ins j)
   rests : (j : ℕ) → has_out w j ≡ false → p'.outs j ≡ p.outs j
+  backs : (j : ℕ) → (p'.outs j).back ≡ (p.outs j).back
+  grants : (j : ℕ) → (link_at w' j).flow.grants ≡ (link_at w j).flow.grants
 
 -- the state in which x has stopped, and its out link has ended
 abbrev stopped_in : World → ℕ → Option ℕ → World
@@ -110,6 +113,8 @@ stop_leaves credit w x p None None out h lt run e eb ends = record {
   others = λ y j ey ne. refl;
   carry = λ j jl c. carries_same credit.initial w (stop_at w x) j (p.outs j) (p.ins j) (λ r. stop_logs w x r lt) refl c;
   rests = λ j _. refl;
+  backs = λ j. refl;
+  grants = λ j. refl;
 }
 stop_leaves credit w x p (Some s) None out h lt run e eb ends = cc
 stop_leaves credit w x p (Some s) (Some o) None h lt run e eb (o', ends, now) = cc
@@ -143,6 +148,8 @@ stop_leaves credit w x p (Some s) (Some o) (Some out) h lt run e eb (o', ends, n
           (carries_same credit.initial w w' j (p.outs j) (p.ins j) (λ r. stop_logs w x r lt) (get_or-set_other w.links s j l no_link ne) c))
           (cases_eq j s);
       rests = λ j lost. placed_there p.outs s j out (λ (same : j ≡ s). false≢true (sym lost ∙ ap (has_out w) same ∙ out_has credit w x s h e));
+      backs = λ j. placed_back p.outs s out j ends0.back;
+      grants = λ j. at_set (λ k a. a.flow.grants ≡ (link_at w k).flow.grants) w.links s j l no_link sl refl (λ _. refl);
     }
 
 -- who has stopped is told so, and nobody else
@@ -238,4 +245,5 @@ stop_goes credit w by i d q q' loose h enabled found st (b, (ends, eb), is, none
       stand = stop_steps credit w w' i q p p' b h lt refl left st.stand eb;
       dropped = dropped_still w w' p p' left.ways st.met (λ j _ _ lost r.
           subst (λ t. HasRested t (p'.ins j)) (sym (left.rests j lost)) (subst (HasRested (p.outs j)) (sym (ap (λ f. f j) left.same_ins)) r));
+      known = known_still credit.initial w w' q p' st left.ways.many (λ j _ _. record { out = same_out w w' j left.ways; back = left.backs j; grants = left.grants j });
     })))

@@ -32,8 +32,9 @@ use Rattle.ring_cluster.specs.Acting.{sent_of, due_of, TakesIn, Acts}
 use Rattle.ring_cluster.proofs.Grants.{append-with_grant}
 use Rattle.ring_cluster.proofs.Lawful.{IsLawfulAt}
 use Rattle.ring_cluster.proofs.NamedLinks.{current_has}
-use Rattle.ring_cluster.proofs.Frames.{placed, placed_here, placed_there, SameWays, link_ways, member_ways, ways_both, same_name, same_to, same_in, same_doors, same_packets, carries_still, carries_same, Goes, goes_stands, stays_stands, posted_waits, one_steps}
+use Rattle.ring_cluster.proofs.Frames.{placed, placed_here, placed_there, SameWays, link_ways, member_ways, ways_both, same_name, same_to, same_in, same_out, same_doors, same_packets, carries_still, carries_same, Goes, goes_stands, stays_stands, posted_waits, one_steps}
 use Rattle.ring_cluster.proofs.OneEvent.{found_later, found_does, link_there, made_of, stands_at, held_but_door, dropped_still}
+use Rattle.ring_cluster.proofs.Known.{known_still, not_left}
 
 -- ---- one link
 
@@ -222,4 +223,11 @@ take_goes credit w by i d q q' loose h enabled found st (b, (k, n, n', ends_link
           (subst (HasRested (p.outs s)) (sym (placed_here p.ins s n')) (take_rested (p.outs s) (p.ins s) n' (sent_of k) (due_of (node_at q i).held) takes0 r0)))
           (λ (ne : j ≢ s). subst (HasRested (p.outs j)) (sym (placed_there p.ins s j n' ne)) r)
           (cases_eq j s));
+      known = known_still credit.initial w w' q (take_places p s n') st ways.many (λ j _ gone.
+          let ne : j ≢ s = not_left w j s (sym (same_in w w' j ways) ∙ gone) (current_has credit w x s h current) in
+          record {
+            out = same_out w w' j ways;
+            back = refl;
+            grants = ap (λ (l : Link). l.flow.grants) (get_or-set_other w.links s j (popped (link_at w s)) no_link ne);
+          });
     })))

@@ -9,7 +9,7 @@ use Rattle.gm_member.specs.Shown.{in_name_of}
 use Rattle.ring_cluster.specs.Ends.{OutSeen}
 use Rattle.ring_cluster.specs.Parties.{Posted, Parties, node_at}
 use Rattle.ring_cluster.specs.Seen.{state}
-use Rattle.ring_cluster.specs.Standing.{Places, StandIn, DroppedHaveMet, IsJournal, name_of, has_out, has_in}
+use Rattle.ring_cluster.specs.Standing.{Places, StandIn, DroppedHaveMet, SendersKnow, IsJournal, name_of, has_out, has_in}
 
 -- of a link that its receiver may still take from
 abbrev pub LooseFits : World → Places → Option (LinkName × OutSeen) → Type 0
@@ -21,6 +21,7 @@ pub record StandBetween (initial : ℕ) (w : World) (q : Parties) (loose : Optio
   pub stand : StandIn initial w q places
   pub dropped : DroppedHaveMet w places loose
   pub fits : LooseFits w places loose
+  pub known : SendersKnow w places
 
 -- no link of that name stands at its receiver, or waits for it
 pub record IsNowhere (q : Parties) (name : LinkName) : Type 0 where

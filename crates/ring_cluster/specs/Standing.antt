@@ -73,11 +73,17 @@ HaveDone false o n = HasRested o n
 abbrev pub AllHaveMet : World → Places → Type 0
 AllHaveMet w p = (s : ℕ) → s < length w.links → has_in w s ≡ true → HaveDone (has_out w s) (p.outs s) (p.ins s)
 
+-- of each link that its receiver has left and its sender still has, the sender knows every grant that was given: each that hasn't become
+-- credit yet has come back to its out end
+abbrev pub SendersKnow : World → Places → Type 0
+SendersKnow w p = (s : ℕ) → s < length w.links → has_in w s ≡ false → has_out w s ≡ true → (p.outs s).back ≡ (link_at w s).flow.grants
+
 -- The parties stand in a state, and nothing waits in the ends of a link.
 pub record Stand (initial : ℕ) (w : World) (q : Parties) : Type 0 where
   pub places : Places
   pub stand : StandIn initial w q places
   pub met : AllHaveMet w places
+  pub known : SendersKnow w places
 
 -- ---- between an event and the meetings after it
 
@@ -91,6 +97,7 @@ pub record StandLoose (initial : ℕ) (w : World) (q : Parties) (loose : Option 
   pub places : Places
   pub stand : StandIn initial w q places
   pub dropped : DroppedHaveMet w places loose
+  pub known : SendersKnow w places
 
 -- The same, where the ends of links on which members of ids up to k send have met.
 pub record StandMet (k : ℕ) (initial : ℕ) (w : World) (q : Parties) : Type 0 where
@@ -98,6 +105,7 @@ pub record StandMet (k : ℕ) (initial : ℕ) (w : World) (q : Parties) : Type 0
   pub stand : StandIn initial w q places
   pub dropped : DroppedHaveMet w places None
   pub met : (s : ℕ) → s < length w.links → has_in w s ≡ true → has_out w s ≡ true → (link_at w s).sender ≤ k → HaveMet (places.outs s) (places.ins s)
+  pub known : SendersKnow w places
 
 -- ---- a cluster
 
