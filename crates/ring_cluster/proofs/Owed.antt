@@ -1,14 +1,10 @@
 -- What only differs in what is owed.
 use Rattle.std.proofs.Common.{◌≡◌, ◌+◌, ◌-◌, ◌^◌, Bool, true, min, refl, ap, ◌∙◌}
 use Rattle.ring_world.specs.declared.event.Event.{Event}
-use Rattle.ring_cluster.specs.Seen.{Seen, SameButOwed, MayHandOver, with_event, stepped}
+use Rattle.ring_cluster.specs.Seen.{Seen, SameButOwed, MayHandOver, owing, with_event, stepped}
 
 pub but_refl : (c : Seen) → SameButOwed c c
 but_refl c = (c.owes, refl)
-
--- c, but that it owes a link or nothing
-abbrev pub owing : Bool → Seen → Seen
-owing owes c = record c { owes = owes }
 
 pub but_trans : (c d e : Seen) → SameButOwed c d → SameButOwed d e → SameButOwed c e
 but_trans c d e a b = (b.0, b.1 ∙ ap (owing b.0) a.1)

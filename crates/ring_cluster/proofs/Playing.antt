@@ -13,9 +13,6 @@ use Rattle.ring_cluster.proofs.Lists.{flat_map-append, slice_get_within, slice_g
 
 -- ---- going on
 
-pub GoesOn-refl : (c : Seen) → GoesOn c c []
-GoesOn-refl c = record { credit = refl; names = refl; count = refl; events = sym (append-nil c.events); asked = λ name. refl }
-
 pub GoesOn-trans : (c d e : Seen) (xs ys : List Event) → GoesOn c d xs → GoesOn d e ys → GoesOn c e (xs ++ ys)
 GoesOn-trans c d e xs ys a b = record {
   credit = b.credit ∙ a.credit;
@@ -29,11 +26,11 @@ GoesOn-trans c d e xs ys a b = record {
       ∙ a.asked name;
 }
 
-pub HasGoneOn-refl : (c : Seen) → HasGoneOn c c
-HasGoneOn-refl c = ([], GoesOn-refl c)
-
 pub HasGoneOn-owing : (c : Seen) (owes : Bool) → HasGoneOn c (record c { owes = owes })
 HasGoneOn-owing c owes = ([], record { credit = refl; names = refl; count = refl; events = sym (append-nil c.events); asked = λ name. refl })
+
+pub HasGoneOn-refl : (c : Seen) → HasGoneOn c c
+HasGoneOn-refl c = HasGoneOn-owing c c.owes
 
 pub HasGoneOn-trans : (c d e : Seen) → HasGoneOn c d → HasGoneOn d e → HasGoneOn c e
 HasGoneOn-trans c d e a b = (a.0 ++ b.0, GoesOn-trans c d e a.0 b.0 a.1 b.1)

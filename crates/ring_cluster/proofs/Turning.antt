@@ -22,11 +22,11 @@ given_trans c d e a b = (b.0 ∙ a.0, b.1 ∙ a.1)
 
 -- ---- work
 
-pub works_refl : (c : Seen) → Works c c
-works_refl c = record { goes = HasGoneOn-refl c; given = given_refl c; names = refl; agendas = refl; phases = same_refl (state_of c) }
-
 pub works_same : (c d : Seen) → SameButOwed c d → Works c d
 works_same c d e = subst (Works c) (sym e.1) (record { goes = HasGoneOn-owing c e.0; given = (refl, refl); names = refl; agendas = refl; phases = same_refl (state_of c) })
+
+pub works_refl : (c : Seen) → Works c c
+works_refl c = works_same c c (but_refl c)
 
 pub works_trans : (c d e : Seen) → Works c d → Works d e → Works c e
 works_trans c d e a b = record { goes = HasGoneOn-trans c d e a.goes b.goes; given = given_trans c d e a.given b.given; names = b.names ∙ a.names; agendas = b.agendas ∙ a.agendas; phases = same_trans (state_of c) (state_of d) (state_of e) a.phases b.phases }
@@ -42,9 +42,6 @@ own_works c d e g l is = record {
 
 -- ---- turns
 
-pub turns_refl : (i : ℕ) (c : Seen) → TakesTurns i c c
-turns_refl i c = record { goes = HasGoneOn-refl c; given = given_refl c; names = refl; shrinks = omega arith; elsewhere = λ j ne. refl; phases = same_refl (state_of c) }
-
 pub works_turns : (i : ℕ) (c d : Seen) → Works c d → TakesTurns i c d
 works_turns i c d w = record {
   goes = w.goes;
@@ -57,6 +54,9 @@ works_turns i c d w = record {
 
 pub turns_same : (i : ℕ) (c d : Seen) → SameButOwed c d → TakesTurns i c d
 turns_same i c d e = works_turns i c d (works_same c d e)
+
+pub turns_refl : (i : ℕ) (c : Seen) → TakesTurns i c c
+turns_refl i c = turns_same i c c (but_refl c)
 
 pub turns_trans : (i : ℕ) (c d e : Seen) → TakesTurns i c d → TakesTurns i d e → TakesTurns i c e
 turns_trans i c d e a b = record {

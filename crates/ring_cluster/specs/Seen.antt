@@ -42,17 +42,17 @@ pub record IsGoing (c : Seen) : Type 0 where
   pub few : length c.events < 2 ^ 59
   pub agendas : length c.agendas ≡ length c.names
 
+-- c, but that it owes a link or nothing
+abbrev pub owing : Bool → Seen → Seen
+owing owes c = record c { owes = owes }
+
 -- d is c, but for what is owed
 abbrev pub SameButOwed : Seen → Seen → Type 0
-SameButOwed c d = (b : Bool) × (d ≡ record c { owes = b })
+SameButOwed c d = (b : Bool) × (d ≡ owing b c)
 
 -- d is c, but that it may have handed over what it owed
 abbrev pub MayHandOver : Seen → Seen → Type 0
-MayHandOver c d = (b : Bool) × (d ≡ record c { owes = b }) × (b ≡ true → c.owes ≡ true)
-
--- it owes nothing any more
-abbrev pub with_nothing_owed : Seen → Seen
-with_nothing_owed c = record c { owes = false }
+MayHandOver c d = (b : Bool) × (d ≡ owing b c) × (b ≡ true → c.owes ≡ true)
 
 -- one event has happened
 abbrev pub with_event : Seen → Event → Seen

@@ -73,7 +73,7 @@ impl Cluster {
     ghost use Rattle.gm_member.specs.Shown.{held_of};
     ghost use Rattle.ring_cluster.specs.Idle.{IsIdle, NobodyStopped, MarksNobody};
     ghost use Rattle.ring_cluster.specs.Holds.{HoldsOf};
-    ghost use Rattle.ring_cluster.specs.Seen.{Seen, IsGoing, SameButOwed, MayHandOver, state_of, opening_seen, with_event, with_nothing_owed, stepped};
+    ghost use Rattle.ring_cluster.specs.Seen.{Seen, IsGoing, SameButOwed, MayHandOver, state_of, opening_seen, with_event, owing, stepped};
     ghost use Rattle.ring_cluster.specs.declared.agenda.Task.{Task};
     ghost use Rattle.ring_cluster.specs.Plays.{PlaysSoFar, Plays, task_event, place_among, IsCommandTo, commanded, performed, agenda_at, GoesOn, HasGoneOn, HasBegun, HeadsAre, AgendasAreDone, AgendasAreEmpty};
     ghost use Rattle.ring_cluster.specs.Turns.{SamePhases, TakesRound};
@@ -164,10 +164,10 @@ impl Cluster {
         Ok(())
     }
 
-    /// The one event, where it is enabled; after it nothing is owed. Without memory all stands as it stood, but that
-    /// what was owed may have been handed over, or the event has happened and the cluster owes the registrar a link.
-    /// What it owes, and the collecting of the links that wait for the acting member, comes before the next event, and
-    /// without memory for it no event happens.
+    /// The one event, where it is enabled; after it nothing is owed. After a refusal all stands as it stood, but that
+    /// what was owed may have been handed over; or, for want of memory, the event has happened and the cluster owes the
+    /// registrar a link. What it owes, and the collecting of the links that wait for the acting member, comes before the
+    /// next event, and without memory for it no event happens.
     pub fn step(&mut self, event: &Event) -> Result<(), Refused>
         ensures enabled { OnOk result (refusal (state_of self.old) event.now ≡ None) }
         ensures ok { OnOk result (self.new ≡ stepped self.old event.now false) }
@@ -209,7 +209,7 @@ impl Cluster {
 
     /// Hands over what is owed to the registrar.
     pub(crate) fn deliver(&mut self) -> Result<(), OutOfMemory>
-        ensures ok { OnOk result (self.new ≡ with_nothing_owed self.old) }
+        ensures ok { OnOk result (self.new ≡ owing false self.old) }
         ensures err { OnErr result ((self.new ≡ self.old) × ((self.old).owes ≡ true)) }
     {
         hand_over(
