@@ -5,81 +5,82 @@ use Rattle.ring_script.specs.declared.fault.Kind.{Kind}
 use Rattle.ring_script.specs.declared.fault.Kind.TheVariants.{NoMembers}
 use Rattle.ring_script.specs.Words.{lines_of}
 use Rattle.ring_script.specs.Fault.{code_of}
+use Rattle.ring_script.specs.Line.{Grammar}
 use Rattle.ring_script.specs.Reading.{used_of, fault_at, AreRight, IsFaultAt, AreMissed, IsFirstFault, HasFault, IsRight}
 use Rattle.ring_script.proofs.Lines.{right_more}
 
 -- ---- right or wrong
 
 -- a fault stands among the first lines
-pub record IsWrongBefore (lines : List (List ℕ)) (end : ℕ) : Type 0 where
+pub record IsWrongBefore (grammar : Grammar) (lines : List (List ℕ)) (end : ℕ) : Type 0 where
   pub place : ℕ
   pub there : place < end
   pub kind : Kind
-  pub right : AreRight lines place
-  pub wrong : fault_at lines place ≡ Some kind
+  pub right : AreRight grammar lines place
+  pub wrong : fault_at grammar lines place ≡ Some kind
 
-at_line : (lines : List (List ℕ)) (n : ℕ) (o : Option Kind) → fault_at lines n ≡ o → AreRight lines n → AreRight lines (n + 1) ⊎ IsWrongBefore lines (n + 1)
-at_line lines n None e right = inl (right_more lines n right e)
-at_line lines n (Some kind) e right = inr (record { place = n; there = omega arith; kind = kind; right = right; wrong = e })
+at_line : (grammar : Grammar) (lines : List (List ℕ)) (n : ℕ) (o : Option Kind) → fault_at grammar lines n ≡ o → AreRight grammar lines n → AreRight grammar lines (n + 1) ⊎ IsWrongBefore grammar lines (n + 1)
+at_line grammar lines n None e right = inl (right_more grammar lines n right e)
+at_line grammar lines n (Some kind) e right = inr (record { place = n; there = omega arith; kind = kind; right = right; wrong = e })
 
-judged : (lines : List (List ℕ)) (n : ℕ) → AreRight lines n ⊎ IsWrongBefore lines n
-judged lines zero = inl (λ place l. absurd (omega arith))
-judged lines (suc n) =
+judged : (grammar : Grammar) (lines : List (List ℕ)) (n : ℕ) → AreRight grammar lines n ⊎ IsWrongBefore grammar lines n
+judged grammar lines zero = inl (λ place l. absurd (omega arith))
+judged grammar lines (suc n) =
     let further : n + 1 ≡ suc n = omega arith in
-    subst (λ k. AreRight lines k ⊎ IsWrongBefore lines k) further
-    (⊎_elim (λ (right : AreRight lines n). at_line lines n (fault_at lines n) refl right)
-    (λ (wrong : IsWrongBefore lines n). inr (record { place = wrong.place; there = omega (arith, wrong.there); kind = wrong.kind; right = wrong.right; wrong = wrong.wrong }))
-    (judged lines n))
+    subst (λ k. AreRight grammar lines k ⊎ IsWrongBefore grammar lines k) further
+    (⊎_elim (λ (right : AreRight grammar lines n). at_line grammar lines n (fault_at grammar lines n) refl right)
+    (λ (wrong : IsWrongBefore grammar lines n). inr (record { place = wrong.place; there = omega (arith, wrong.there); kind = wrong.kind; right = wrong.right; wrong = wrong.wrong }))
+    (judged grammar lines n))
 
-missed_by : (bytes : List ℕ) (used : List (ℕ × List ℕ)) → used_of (lines_of bytes) ≡ used → AreRight (lines_of bytes) (length (lines_of bytes)) → IsRight bytes ⊎ HasFault bytes
-missed_by bytes [] e right =
+missed_by : (grammar : Grammar) (bytes : List ℕ) (used : List (ℕ × List ℕ)) → used_of (lines_of bytes) ≡ used → AreRight grammar (lines_of bytes) (length (lines_of bytes)) → IsRight grammar bytes ⊎ HasFault grammar bytes
+missed_by grammar bytes [] e right =
     inr (length (lines_of bytes) + 1, code_of NoMembers, record { kind = NoMembers; is = refl; stands = inr (record { is = refl; right = right; nothing = e; members = refl }) })
-missed_by bytes (line ∷ used) e right = inl (record { lines = right; some = subst (λ xs. 0 < length xs) (sym e) (omega arith) })
+missed_by grammar bytes (line ∷ used) e right = inl (record { lines = right; some = subst (λ xs. 0 < length xs) (sym e) (omega arith) })
 
-pub right_or_wrong : (bytes : List ℕ) → IsRight bytes ⊎ HasFault bytes
-right_or_wrong bytes =
-    ⊎_elim (λ (right : AreRight (lines_of bytes) (length (lines_of bytes))). missed_by bytes (used_of (lines_of bytes)) refl right)
-    (λ (wrong : IsWrongBefore (lines_of bytes) (length (lines_of bytes))). inr (
+pub right_or_wrong : (grammar : Grammar) (bytes : List ℕ) → IsRight grammar bytes ⊎ HasFault grammar bytes
+right_or_wrong grammar bytes =
+    ⊎_elim (λ (right : AreRight grammar (lines_of bytes) (length (lines_of bytes))). missed_by grammar bytes (used_of (lines_of bytes)) refl right)
+    (λ (wrong : IsWrongBefore grammar (lines_of bytes) (length (lines_of bytes))). inr (
       wrong.place + 1,
       code_of wrong.kind,
       record { kind = wrong.kind; is = refl; stands = inl (record { place = wrong.place; is = refl; there = wrong.there; right = wrong.right; wrong = wrong.wrong }) },
     ))
-    (judged (lines_of bytes) (length (lines_of bytes)))
+    (judged grammar (lines_of bytes) (length (lines_of bytes)))
 
 -- ---- never both
 
-right_at : (lines : List (List ℕ)) (end place : ℕ) (kind : Kind) → AreRight lines end → place < end → fault_at lines place ≡ Some kind → ⊥
-right_at lines end place kind right l wrong = let both = sym (right place l) ∙ wrong in cc
+right_at : (grammar : Grammar) (lines : List (List ℕ)) (end place : ℕ) (kind : Kind) → AreRight grammar lines end → place < end → fault_at grammar lines place ≡ Some kind → ⊥
+right_at grammar lines end place kind right l wrong = let both = sym (right place l) ∙ wrong in cc
 
-pub right_has_no_fault : (bytes : List ℕ) (line code : ℕ) → IsRight bytes → IsFirstFault bytes line code → ⊥
-right_has_no_fault bytes line code right fault =
-    ⊎_elim (λ (at : IsFaultAt (lines_of bytes) line fault.kind). right_at (lines_of bytes) (length (lines_of bytes)) at.place fault.kind right.lines at.there at.wrong)
-    (λ (missed : AreMissed (lines_of bytes) line fault.kind). absurd (let none = ap length missed.nothing in let some = right.some in omega arith))
+pub right_has_no_fault : (grammar : Grammar) (bytes : List ℕ) (line code : ℕ) → IsRight grammar bytes → IsFirstFault grammar bytes line code → ⊥
+right_has_no_fault grammar bytes line code right fault =
+    ⊎_elim (λ (at : IsFaultAt grammar (lines_of bytes) line fault.kind). right_at grammar (lines_of bytes) (length (lines_of bytes)) at.place fault.kind right.lines at.there at.wrong)
+    (λ (missed : AreMissed grammar (lines_of bytes) line fault.kind). absurd (let none = ap length missed.nothing in let some = right.some in omega arith))
     fault.stands
 
 -- ---- one alone
 
-same_place : (lines : List (List ℕ)) (n m : ℕ) (a b : Kind) → IsFaultAt lines n a → IsFaultAt lines m b → (n ≡ m) × (a ≡ b)
-same_place lines n m a b f g =
+same_place : (grammar : Grammar) (lines : List (List ℕ)) (n m : ℕ) (a b : Kind) → IsFaultAt grammar lines n a → IsFaultAt grammar lines m b → (n ≡ m) × (a ≡ b)
+same_place grammar lines n m a b f g =
     ⊎_elim (λ (same : f.place ≡ g.place).
-    let kinds : Some a ≡ Some b = sym f.wrong ∙ ap (fault_at lines) same ∙ g.wrong in
+    let kinds : Some a ≡ Some b = sym f.wrong ∙ ap (fault_at grammar lines) same ∙ g.wrong in
     (f.is ∙ ap (λ k. k + 1) same ∙ sym g.is, cc))
     (λ (other : (f.place < g.place) ⊎ (g.place < f.place)). absurd (⊎_elim
-    (λ (l : f.place < g.place). right_at lines g.place f.place a g.right l f.wrong)
-    (λ (l : g.place < f.place). right_at lines f.place g.place b f.right l g.wrong) other))
+    (λ (l : f.place < g.place). right_at grammar lines g.place f.place a g.right l f.wrong)
+    (λ (l : g.place < f.place). right_at grammar lines f.place g.place b f.right l g.wrong) other))
     (cases_order f.place g.place)
 
-pub first_fault_is_one : (bytes : List ℕ) (line code line' code' : ℕ) → IsFirstFault bytes line code → IsFirstFault bytes line' code' → (line ≡ line') × (code ≡ code')
-first_fault_is_one bytes line code line' code' f g =
+pub first_fault_is_one : (grammar : Grammar) (bytes : List ℕ) (line code line' code' : ℕ) → IsFirstFault grammar bytes line code → IsFirstFault grammar bytes line' code' → (line ≡ line') × (code ≡ code')
+first_fault_is_one grammar bytes line code line' code' f g =
     let lines = lines_of bytes in
     let kinds : (line ≡ line') × (f.kind ≡ g.kind) =
-    ⊎_elim (λ (at : IsFaultAt lines line f.kind).
-    ⊎_elim (λ (at' : IsFaultAt lines line' g.kind). same_place lines line line' f.kind g.kind at at')
-    (λ (missed' : AreMissed lines line' g.kind). absurd (right_at lines (length lines) at.place f.kind missed'.right at.there at.wrong))
+    ⊎_elim (λ (at : IsFaultAt grammar lines line f.kind).
+    ⊎_elim (λ (at' : IsFaultAt grammar lines line' g.kind). same_place grammar lines line line' f.kind g.kind at at')
+    (λ (missed' : AreMissed grammar lines line' g.kind). absurd (right_at grammar lines (length lines) at.place f.kind missed'.right at.there at.wrong))
     g.stands)
-    (λ (missed : AreMissed lines line f.kind).
-    ⊎_elim (λ (at' : IsFaultAt lines line' g.kind). absurd (right_at lines (length lines) at'.place g.kind missed.right at'.there at'.wrong))
-    (λ (missed' : AreMissed lines line' g.kind). (missed.is ∙ sym missed'.is, missed.members ∙ sym missed'.members))
+    (λ (missed : AreMissed grammar lines line f.kind).
+    ⊎_elim (λ (at' : IsFaultAt grammar lines line' g.kind). absurd (right_at grammar lines (length lines) at'.place g.kind missed.right at'.there at'.wrong))
+    (λ (missed' : AreMissed grammar lines line' g.kind). (missed.is ∙ sym missed'.is, missed.members ∙ sym missed'.members))
     g.stands)
     f.stands in
     (kinds.0, f.is ∙ ap code_of kinds.1 ∙ sym g.is)

@@ -5,6 +5,7 @@ pub mod Bodies
 pub mod Taking
 pub mod Lines
 pub mod Walk
+pub mod Fitting
 pub mod Playable
 pub mod Names
 pub mod Exact

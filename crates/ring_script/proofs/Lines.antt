@@ -3,7 +3,7 @@ use Rattle.std.proofs.Common.{◌≡◌, ℕ, zero, suc, ◌+◌, ◌<◌, ◌�
 use Rattle.std.specs.List.{filter, enumerate_from}
 use Rattle.std.proofs.lemmas.Bool.{cases_lt}
 use Rattle.std.proofs.lemmas.List.Elements.{filter-append}
-use Rattle.ring_script.specs.Script.{is_skipped}
+use Rattle.ring_script.specs.Line.{Grammar, is_skipped}
 use Rattle.ring_script.specs.Reading.{used_of, fault_at, AreRight}
 use Rattle.ring_script.specs.Standing.{used_line}
 
@@ -64,8 +64,8 @@ all_lines (suc n) (first ∷ lines) e l = let deeper = all_lines n lines e (omeg
 -- ---- faults
 
 -- one right line more
-pub right_more : (lines : List (List ℕ)) (n : ℕ) → AreRight lines n → fault_at lines n ≡ None → AreRight lines (n + 1)
-right_more lines n right e place l =
+pub right_more : (grammar : Grammar) (lines : List (List ℕ)) (n : ℕ) → AreRight grammar lines n → fault_at grammar lines n ≡ None → AreRight grammar lines (n + 1)
+right_more grammar lines n right e place l =
     ⊎_elim (λ (lt : place < n). right place lt)
-    (λ (ge : n ≤ place). let same : place ≡ n = omega arith in subst (λ k. fault_at lines k ≡ None) (sym same) e)
+    (λ (ge : n ≤ place). let same : place ≡ n = omega arith in subst (λ k. fault_at grammar lines k ≡ None) (sym same) e)
     (cases_lt place n)

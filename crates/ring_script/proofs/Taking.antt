@@ -3,139 +3,122 @@ use Rattle.std.proofs.Common.{◌≡◌, ℕ, ◌<◌, Bool, true, false, List, 
 use Rattle.std.specs.List.{filter}
 use Rattle.std.proofs.lemmas.List.{map-append, append-nil}
 use Rattle.std.proofs.lemmas.List.Elements.{filter-append}
-use Rattle.ring_script.specs.declared.line.Keyword.{Keyword}
-use Rattle.ring_script.specs.declared.line.Keyword.TheVariants.{Members, Credit, Cast, Go, Settle}
+use Rattle.ring_script.specs.declared.fault.Kind.{Kind}
+use Rattle.ring_script.specs.declared.line.Head.{Head}
+use Rattle.ring_script.specs.declared.line.Head.TheVariants as head
 use Rattle.ring_script.specs.declared.line.Next.TheVariants as next
-use Rattle.ring_script.specs.Words.{words_of, behind_word}
-use Rattle.ring_script.specs.Script.{keyword_in, gives_credit, gives_command, fault_by, opening_fault, command_fault, members_fault, credit_in, command_in}
-use Rattle.ring_script.specs.Reading.{next_of, members_of, credit_of, commands_of}
+use Rattle.ring_script.specs.Words.{words_of, first_word, behind_word}
+use Rattle.ring_script.specs.Line.{Grammar, head_in, gives_credit, is_statement, members_fault, credit_in, fault_by}
+use Rattle.ring_script.specs.Reading.{next_of, members_of, credit_of, statements_of}
 
--- ---- commands
+-- what is wrong with a line behind these used ones, by what it begins
+abbrev pub fault_as : Grammar → List (ℕ × List ℕ) → List ℕ → Head → Option Kind
+fault_as grammar used line h = fault_by grammar (next_of used) h (members_of used) (first_word line) (behind_word line)
 
-commands_by : (number : ℕ) (line : List ℕ) (b : Bool) → gives_command (keyword_in line) ≡ b
-    → commands_of ((number, line) ∷ []) ≡ (if b then (number, command_in line) ∷ [] else [])
-commands_by number line true e = rw e
-commands_by number line false e = rw e
+-- ---- statements
 
-commands_append : (used more : List (ℕ × List ℕ)) → commands_of (used ++ more) ≡ commands_of used ++ commands_of more
-commands_append used more =
-    ap (map (λ line. (line.0, command_in line.1))) (filter-append (λ line. gives_command (keyword_in line.1)) used more)
-    ∙ map-append (λ line. (line.0, command_in line.1)) (filter (λ line. gives_command (keyword_in line.1)) used) (filter (λ line. gives_command (keyword_in line.1)) more)
+-- the statement of a line behind its number
+abbrev pub said_on : {X : Type 0} → (List ℕ → List ℕ → X) → ℕ × List ℕ → ℕ × X
+said_on says line = (line.0, says (first_word line.1) (behind_word line.1))
 
--- a line with a command adds it
-commands_more : (used : List (ℕ × List ℕ)) (number : ℕ) (line : List ℕ) → gives_command (keyword_in line) ≡ true
-    → commands_of (used ++ (number, line) ∷ []) ≡ commands_of used ++ (number, command_in line) ∷ []
-commands_more used number line e = commands_append used ((number, line) ∷ []) ∙ ap (λ xs. commands_of used ++ xs) (commands_by number line true e)
+statements_by : {X : Type 0} (says : List ℕ → List ℕ → X) (number : ℕ) (line : List ℕ) (b : Bool) → is_statement (head_in line) ≡ b
+    → statements_of says ((number, line) ∷ []) ≡ (if b then said_on says (number, line) ∷ [] else [])
+statements_by says number line true e = rw e
+statements_by says number line false e = rw e
 
--- another adds none
-commands_same : (used : List (ℕ × List ℕ)) (number : ℕ) (line : List ℕ) → gives_command (keyword_in line) ≡ false
-    → commands_of (used ++ (number, line) ∷ []) ≡ commands_of used
-commands_same used number line e =
-    commands_append used ((number, line) ∷ []) ∙ ap (λ xs. commands_of used ++ xs) (commands_by number line false e) ∙ append-nil (commands_of used)
+statements_append : {X : Type 0} (says : List ℕ → List ℕ → X) (used more : List (ℕ × List ℕ)) → statements_of says (used ++ more) ≡ statements_of says used ++ statements_of says more
+statements_append says used more =
+    ap (map (said_on says)) (filter-append (λ line. is_statement (head_in line.1)) used more)
+    ∙ map-append (said_on says) (filter (λ line. is_statement (head_in line.1)) used) (filter (λ line. is_statement (head_in line.1)) more)
 
--- ---- keywords
+-- a statement more
+statements_more : {X : Type 0} (says : List ℕ → List ℕ → X) (used : List (ℕ × List ℕ)) (number : ℕ) (line : List ℕ) → is_statement (head_in line) ≡ true
+    → statements_of says (used ++ (number, line) ∷ []) ≡ statements_of says used ++ said_on says (number, line) ∷ []
+statements_more says used number line e = statements_append says used ((number, line) ∷ []) ∙ ap (λ xs. statements_of says used ++ xs) (statements_by says number line true e)
 
-no_credit : (keyword : Option Keyword) → gives_command keyword ≡ true → gives_credit keyword ≡ false
-no_credit (Some Members) e = cc
-no_credit (Some Credit) e = cc
-no_credit (Some Cast) e = refl
-no_credit (Some Go) e = refl
-no_credit (Some Settle) e = refl
-no_credit None e = cc
+-- another line adds none
+statements_same : {X : Type 0} (says : List ℕ → List ℕ → X) (used : List (ℕ × List ℕ)) (number : ℕ) (line : List ℕ) → is_statement (head_in line) ≡ false
+    → statements_of says (used ++ (number, line) ∷ []) ≡ statements_of says used
+statements_same says used number line e =
+    statements_append says used ((number, line) ∷ []) ∙ ap (λ xs. statements_of says used ++ xs) (statements_by says number line false e) ∙ append-nil (statements_of says used)
 
-not_first : (keyword : Option Keyword) (rest : List ℕ) → gives_command keyword ≡ true → opening_fault keyword rest ≡ None → ⊥
-not_first (Some Members) rest g e = cc
-not_first (Some Credit) rest g e = cc
-not_first (Some Cast) rest g e = cc
-not_first (Some Go) rest g e = cc
-not_first (Some Settle) rest g e = cc
-not_first None rest g e = cc
+-- ---- a line with a statement
 
-second_command : (members : List (List ℕ)) (keyword : Option Keyword) (rest : List ℕ) → gives_command keyword ≡ true → fault_by next.Credit members keyword rest ≡ command_fault members keyword rest
-second_command members (Some Members) rest g = cc
-second_command members (Some Credit) rest g = cc
-second_command members (Some Cast) rest g = refl
-second_command members (Some Go) rest g = refl
-second_command members (Some Settle) rest g = refl
-second_command members None rest g = cc
-
--- ---- a line with a command
-
--- Behind a right line with a command only commands stand, and it adds the command.
-pub record AddsCommand (used : List (ℕ × List ℕ)) (number : ℕ) (line : List ℕ) : Type 0 where
-  pub next : next_of (used ++ (number, line) ∷ []) ≡ next.Command
+-- Behind a right line with a statement only statements stand, and it adds the statement.
+pub record AddsStatement {X : Type 0} (grammar : Grammar) (says : List ℕ → List ℕ → X) (used : List (ℕ × List ℕ)) (number : ℕ) (line : List ℕ) : Type 0 where
+  pub next : next_of (used ++ (number, line) ∷ []) ≡ next.Further
   pub members : members_of (used ++ (number, line) ∷ []) ≡ members_of used
   pub credit : credit_of (used ++ (number, line) ∷ []) ≡ credit_of used
-  pub commands : commands_of (used ++ (number, line) ∷ []) ≡ commands_of used ++ (number, command_in line) ∷ []
-  pub right : command_fault (members_of used) (keyword_in line) (behind_word line) ≡ None
+  pub lines : statements_of says (used ++ (number, line) ∷ []) ≡ statements_of says used ++ (number, says (first_word line) (behind_word line)) ∷ []
+  pub right : grammar (members_of used) (first_word line) (behind_word line) ≡ None
   pub some : 0 < length used
 
-pub command_taken : (used : List (ℕ × List ℕ)) (number : ℕ) (line : List ℕ) → gives_command (keyword_in line) ≡ true
-    → fault_by (next_of used) (members_of used) (keyword_in line) (behind_word line) ≡ None → AddsCommand used number line
-command_taken [] number line g e = absurd (not_first (keyword_in line) (behind_word line) g e)
-command_taken (opening ∷ []) number line g e = record {
-  next = refl;
-  members = refl;
-  credit = rw (no_credit (keyword_in line) g);
-  commands = commands_more (opening ∷ []) number line g;
-  right = sym (second_command (members_of (opening ∷ [])) (keyword_in line) (behind_word line) g) ∙ e;
-  some = omega arith;
-}
-command_taken (opening ∷ second ∷ further) number line g e = record {
+pub statement_taken : {X : Type 0} (grammar : Grammar) (says : List ℕ → List ℕ → X) (used : List (ℕ × List ℕ)) (number : ℕ) (line : List ℕ) → head_in line ≡ head.Statement
+    → fault_as grammar used line (head_in line) ≡ None → AddsStatement grammar says used number line
+statement_taken grammar says [] number line k e = let wrong = sym (ap (fault_as grammar [] line) k) ∙ e in cc
+statement_taken grammar says (opening ∷ []) number line k e =
+    let plain : gives_credit (head_in line) ≡ false = ap gives_credit k in
+    record {
+      next = refl;
+      members = refl;
+      credit = rw plain;
+      lines = statements_more says (opening ∷ []) number line (ap is_statement k);
+      right = sym (ap (fault_as grammar (opening ∷ []) line) k) ∙ e;
+      some = omega arith;
+    }
+statement_taken grammar says (opening ∷ second ∷ further) number line k e = record {
   next = refl;
   members = refl;
   credit = refl;
-  commands = commands_more (opening ∷ second ∷ further) number line g;
-  right = e;
+  lines = statements_more says (opening ∷ second ∷ further) number line (ap is_statement k);
+  right = sym (ap (fault_as grammar (opening ∷ second ∷ further) line) k) ∙ e;
   some = omega arith;
 }
 
 -- ---- the members
 
-pub record AddsMembers (used : List (ℕ × List ℕ)) (number : ℕ) (line : List ℕ) : Type 0 where
+pub record AddsMembers {X : Type 0} (says : List ℕ → List ℕ → X) (used : List (ℕ × List ℕ)) (number : ℕ) (line : List ℕ) : Type 0 where
   pub next : next_of (used ++ (number, line) ∷ []) ≡ next.Credit
   pub members : members_of (used ++ (number, line) ∷ []) ≡ words_of (behind_word line)
   pub credit : credit_of (used ++ (number, line) ∷ []) ≡ credit_of used
-  pub commands : commands_of (used ++ (number, line) ∷ []) ≡ commands_of used
+  pub lines : statements_of says (used ++ (number, line) ∷ []) ≡ statements_of says used
   pub first : used ≡ []
   pub right : members_fault (words_of (behind_word line)) ≡ None
 
 -- right members stand on the first used line
-pub members_taken : (used : List (ℕ × List ℕ)) (number : ℕ) (line : List ℕ) → keyword_in line ≡ Some Members
-    → fault_by (next_of used) (members_of used) (keyword_in line) (behind_word line) ≡ None → AddsMembers used number line
-members_taken [] number line k e = record {
+pub members_taken : {X : Type 0} (grammar : Grammar) (says : List ℕ → List ℕ → X) (used : List (ℕ × List ℕ)) (number : ℕ) (line : List ℕ) → head_in line ≡ head.Members
+    → fault_as grammar used line (head_in line) ≡ None → AddsMembers says used number line
+members_taken grammar says [] number line k e = record {
   next = refl;
   members = refl;
   credit = refl;
-  commands = commands_same [] number line (ap gives_command k);
+  lines = statements_same says [] number line (ap is_statement k);
   first = refl;
-  right = sym (ap (λ key. opening_fault key (behind_word line)) k) ∙ e;
+  right = sym (ap (fault_as grammar [] line) k) ∙ e;
 }
-members_taken (opening ∷ []) number line k e =
-    let wrong = sym (ap (λ key. fault_by next.Credit (members_of (opening ∷ [])) key (behind_word line)) k) ∙ e in cc
-members_taken (opening ∷ second ∷ further) number line k e =
-    let wrong = sym (ap (λ key. fault_by next.Command (members_of (opening ∷ second ∷ further)) key (behind_word line)) k) ∙ e in cc
+members_taken grammar says (opening ∷ []) number line k e = let wrong = sym (ap (fault_as grammar (opening ∷ []) line) k) ∙ e in cc
+members_taken grammar says (opening ∷ second ∷ further) number line k e = let wrong = sym (ap (fault_as grammar (opening ∷ second ∷ further) line) k) ∙ e in cc
 
 -- ---- the credit
 
-pub record AddsCredit (used : List (ℕ × List ℕ)) (number : ℕ) (line : List ℕ) : Type 0 where
-  pub next : next_of (used ++ (number, line) ∷ []) ≡ next.Command
+pub record AddsCredit {X : Type 0} (says : List ℕ → List ℕ → X) (used : List (ℕ × List ℕ)) (number : ℕ) (line : List ℕ) : Type 0 where
+  pub next : next_of (used ++ (number, line) ∷ []) ≡ next.Further
   pub members : members_of (used ++ (number, line) ∷ []) ≡ members_of used
   pub credit : credit_of (used ++ (number, line) ∷ []) ≡ credit_in (behind_word line)
-  pub commands : commands_of (used ++ (number, line) ∷ []) ≡ commands_of used
+  pub lines : statements_of says (used ++ (number, line) ∷ []) ≡ statements_of says used
   pub some : 0 < length used
 
 -- a right credit stands on the second
-pub credit_taken : (used : List (ℕ × List ℕ)) (number : ℕ) (line : List ℕ) → keyword_in line ≡ Some Credit
-    → fault_by (next_of used) (members_of used) (keyword_in line) (behind_word line) ≡ None → AddsCredit used number line
-credit_taken [] number line k e =
-    let wrong = sym (ap (λ key. fault_by next.Opening (members_of []) key (behind_word line)) k) ∙ e in cc
-credit_taken (opening ∷ []) number line k e = record {
-  next = refl;
-  members = refl;
-  credit = rw k;
-  commands = commands_same (opening ∷ []) number line (ap gives_command k);
-  some = omega arith;
-}
-credit_taken (opening ∷ second ∷ further) number line k e =
-    let wrong = sym (ap (λ key. fault_by next.Command (members_of (opening ∷ second ∷ further)) key (behind_word line)) k) ∙ e in cc
+pub credit_taken : {X : Type 0} (grammar : Grammar) (says : List ℕ → List ℕ → X) (used : List (ℕ × List ℕ)) (number : ℕ) (line : List ℕ) → head_in line ≡ head.Credit
+    → fault_as grammar used line (head_in line) ≡ None → AddsCredit says used number line
+credit_taken grammar says [] number line k e = let wrong = sym (ap (fault_as grammar [] line) k) ∙ e in cc
+credit_taken grammar says (opening ∷ []) number line k e =
+    let gives : gives_credit (head_in line) ≡ true = ap gives_credit k in
+    record {
+      next = refl;
+      members = refl;
+      credit = rw gives;
+      lines = statements_same says (opening ∷ []) number line (ap is_statement k);
+      some = omega arith;
+    }
+credit_taken grammar says (opening ∷ second ∷ further) number line k e = let wrong = sym (ap (fault_as grammar (opening ∷ second ∷ further) line) k) ∙ e in cc

@@ -1,6 +1,7 @@
--- What a text says as a script, or the first fault in it.
+-- What a text says as a script or a step file, or the first fault in it.
 use Rattle.std.specs.Prelude.{◌≡◌, ◌⊎◌, ℕ, ◌+◌, ◌<◌, ◌≤◌, not, if◌then◌else◌, Option, Some, None, List, [], ◌∷◌, length, take, map, All, Contains, ⊤}
 use Rattle.std.specs.List.{filter, enumerate_from, slice_index_or}
+use Rattle.ring_names.specs.declared.numbers.CreditSpec.{CreditSpec}
 use Rattle.ring_names.specs.Name.{IsName}
 use Rattle.ring_names.specs.Body.{IsBody}
 use Rattle.ring_world.specs.Rows.{AreOpeningNames}
@@ -11,9 +12,12 @@ use Rattle.ring_script.specs.declared.fault.Kind.TheVariants.{NoMembers}
 use Rattle.ring_script.specs.declared.line.Next.{Next}
 use Rattle.ring_script.specs.declared.line.Next.TheVariants as next
 use Rattle.ring_script.specs.declared.script.Script.{Script}
-use Rattle.ring_script.specs.Words.{lines_of, words_of, behind_word}
+use Rattle.ring_script.specs.declared.steps.Steps.{Steps}
+use Rattle.ring_script.specs.Words.{lines_of, words_of, first_word, behind_word}
 use Rattle.ring_script.specs.Fault.{code_of}
-use Rattle.ring_script.specs.Script.{is_skipped, gives_credit, gives_command, keyword_in, credit_in, command_in, fault_of, most_turns}
+use Rattle.ring_script.specs.Line.{Grammar, is_skipped, head_in, gives_credit, is_statement, credit_in, fault_of}
+use Rattle.ring_script.specs.Script.{script_grammar, command_of, most_turns}
+use Rattle.ring_script.specs.Steps.{step_grammar, event_of}
 
 -- ---- the used lines
 
@@ -25,7 +29,7 @@ used_of lines = filter (λ line. not (is_skipped line.1)) (enumerate_from 1 line
 abbrev pub next_of : List (ℕ × List ℕ) → Next
 next_of [] = next.Opening
 next_of (opening ∷ []) = next.Credit
-next_of (opening ∷ second ∷ further) = next.Command
+next_of (opening ∷ second ∷ further) = next.Further
 
 -- the names on the first
 abbrev pub members_of : List (ℕ × List ℕ) → List (List ℕ)
@@ -40,66 +44,78 @@ usual_credit = (8, 4)
 abbrev pub credit_of : List (ℕ × List ℕ) → ℕ × ℕ
 credit_of [] = usual_credit
 credit_of (opening ∷ []) = usual_credit
-credit_of (opening ∷ second ∷ further) = if gives_credit (keyword_in second.1) then credit_in (behind_word second.1) else usual_credit
+credit_of (opening ∷ second ∷ further) = if gives_credit (head_in second.1) then credit_in (behind_word second.1) else usual_credit
 
--- the commands, each behind the number of its line
-abbrev pub commands_of : List (ℕ × List ℕ) → List (ℕ × Command)
-commands_of used = map (λ line. (line.0, command_in line.1)) (filter (λ line. gives_command (keyword_in line.1)) used)
+-- the statements, each behind the number of its line
+abbrev pub statements_of : {X : Type 0} → (List ℕ → List ℕ → X) → List (ℕ × List ℕ) → List (ℕ × X)
+statements_of says used = map (λ line. (line.0, says (first_word line.1) (behind_word line.1))) (filter (λ line. is_statement (head_in line.1)) used)
 
 -- ---- faults
 
 -- what is wrong with a line behind these used ones
-abbrev pub fault_behind : List (ℕ × List ℕ) → List ℕ → Option Kind
-fault_behind used line = fault_of (next_of used) (members_of used) line
+abbrev pub fault_behind : Grammar → List (ℕ × List ℕ) → List ℕ → Option Kind
+fault_behind grammar used line = fault_of grammar (next_of used) (members_of used) line
 
 -- what is wrong with the line at a place, from 0, behind those before it
-abbrev pub fault_at : List (List ℕ) → ℕ → Option Kind
-fault_at lines place = fault_behind (used_of (take place lines)) (slice_index_or lines place [])
+abbrev pub fault_at : Grammar → List (List ℕ) → ℕ → Option Kind
+fault_at grammar lines place = fault_behind grammar (used_of (take place lines)) (slice_index_or lines place [])
 
 -- nothing is wrong with the lines before a place
-abbrev pub AreRight : List (List ℕ) → ℕ → Type 0
-AreRight lines end = (place : ℕ) → place < end → fault_at lines place ≡ None
+abbrev pub AreRight : Grammar → List (List ℕ) → ℕ → Type 0
+AreRight grammar lines end = (place : ℕ) → place < end → fault_at grammar lines place ≡ None
 
 -- the first fault is this one, on the line of this number
-pub record IsFaultAt (lines : List (List ℕ)) (number : ℕ) (kind : Kind) : Type 0 where
+pub record IsFaultAt (grammar : Grammar) (lines : List (List ℕ)) (number : ℕ) (kind : Kind) : Type 0 where
   pub place : ℕ
   pub is : number ≡ place + 1
   pub there : place < length lines
-  pub right : AreRight lines place
-  pub wrong : fault_at lines place ≡ Some kind
+  pub right : AreRight grammar lines place
+  pub wrong : fault_at grammar lines place ≡ Some kind
 
 -- no line has a fault and none is used: members are missed on the line behind the last
-pub record AreMissed (lines : List (List ℕ)) (number : ℕ) (kind : Kind) : Type 0 where
+pub record AreMissed (grammar : Grammar) (lines : List (List ℕ)) (number : ℕ) (kind : Kind) : Type 0 where
   pub is : number ≡ length lines + 1
-  pub right : AreRight lines (length lines)
+  pub right : AreRight grammar lines (length lines)
   pub nothing : used_of lines ≡ []
   pub members : kind ≡ NoMembers
 
 -- The first fault of a text stands on the line of this number and is of this kind.
-pub record IsFirstFault (bytes : List ℕ) (line code : ℕ) : Type 0 where
+pub record IsFirstFault (grammar : Grammar) (bytes : List ℕ) (line code : ℕ) : Type 0 where
   pub kind : Kind
   pub is : code ≡ code_of kind
-  pub stands : IsFaultAt (lines_of bytes) line kind ⊎ AreMissed (lines_of bytes) line kind
+  pub stands : IsFaultAt grammar (lines_of bytes) line kind ⊎ AreMissed grammar (lines_of bytes) line kind
 
 -- there is a first fault
-abbrev pub HasFault : List ℕ → Type 0
-HasFault bytes = (line : ℕ) × (code : ℕ) × IsFirstFault bytes line code
+abbrev pub HasFault : Grammar → List ℕ → Type 0
+HasFault grammar bytes = (line : ℕ) × (code : ℕ) × IsFirstFault grammar bytes line code
 
--- ---- scripts
+-- ---- right texts
 
 -- nothing is wrong with the lines of a text, and one is used
-pub record IsRight (bytes : List ℕ) : Type 0 where
-  pub lines : AreRight (lines_of bytes) (length (lines_of bytes))
+pub record IsRight (grammar : Grammar) (bytes : List ℕ) : Type 0 where
+  pub lines : AreRight grammar (lines_of bytes) (length (lines_of bytes))
   pub some : 0 < length (used_of (lines_of bytes))
 
--- a text spells this script: it is right, and its used lines name these members and give this credit and these commands
-pub record IsScriptOf (bytes : List ℕ) (script : Script) : Type 0 where
-  pub right : IsRight bytes
-  pub members : script.members ≡ members_of (used_of (lines_of bytes))
-  pub credit : (script.credit.initial, script.credit.more) ≡ credit_of (used_of (lines_of bytes))
-  pub lines : script.lines ≡ commands_of (used_of (lines_of bytes))
+-- a text spells this: it is right, and its used lines name these members, give this credit, and make these statements
+pub record Spells {X : Type 0} (grammar : Grammar) (says : List ℕ → List ℕ → X) (bytes : List ℕ) (names : List (List ℕ)) (given : CreditSpec) (statements : List (ℕ × X)) : Type 0 where
+  pub right : IsRight grammar bytes
+  pub members : names ≡ members_of (used_of (lines_of bytes))
+  pub credit : (given.initial, given.more) ≡ credit_of (used_of (lines_of bytes))
+  pub lines : statements ≡ statements_of says (used_of (lines_of bytes))
+
+-- a text spells this script
+abbrev pub IsScriptOf : List ℕ → Script → Type 0
+IsScriptOf bytes script = Spells script_grammar command_of bytes script.members script.credit script.lines
+
+-- or these steps
+abbrev pub AreStepsOf : List ℕ → Steps → Type 0
+AreStepsOf bytes steps = Spells step_grammar event_of bytes steps.members steps.credit steps.lines
 
 -- ---- what can be played
+
+-- a ring can open with these members, each of a fitting name
+abbrev pub CanOpen : List (List ℕ) → Type 0
+CanOpen names = AreOpeningNames names × All IsName names
 
 -- a command that the members of these names may be given
 abbrev pub IsCommandTo : List (List ℕ) → Command → Type 0

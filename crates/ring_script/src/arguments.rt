@@ -1,12 +1,11 @@
 //! The words behind the first of a line.
-ghost use Rattle.std.specs.Prelude.{◌≡◌, ◌∷◌, ◌<◌, ◌↔◌, true, false, not, Some, None, Ok, Err, IfOk, OnOk, IfSome, IfErr, is_some, unwrap_or, length, [], IsTrue};
+ghost use Rattle.std.specs.Prelude.{◌≡◌, ◌∷◌, ◌<◌, ◌↔◌, ℕ, List, Option, true, false, not, Some, None, Ok, Err, IfOk, OnOk, IfSome, IfErr, is_some, unwrap_or, length, [], IsTrue};
 ghost use Rattle.std.specs.List.{list_all, list_any, slice_index_or};
-ghost use Rattle.ring_script.specs.Words.{is_text_byte, words_of, number_of};
+ghost use Rattle.ring_script.specs.Words.{is_text_byte, words_of, first_word, behind_word, number_of};
 ghost use Rattle.ring_script.specs.Place.{left_in};
 ghost use Rattle.ring_script.specs.Fault.{Tells};
-ghost use Rattle.ring_script.specs.Script.{operand_in, body_in, credit_in, is_among, further_fault, names_fault, members_fault, are_credit, credit_fault, body_fault, cast_fault, go_fault, settle_fault, most_credit, most_turns};
+ghost use Rattle.ring_script.specs.Line.{credit_in, is_among, name_fault, known_fault, number_fault, further_fault, names_fault, members_fault, are_credit, credit_fault, body_fault, no_word, one_word, two_words, a_word, most_credit};
 
-use crate::command::Command;
 use crate::fault::{Kind, LineFault};
 use crate::words::{Words, number};
 use ring_names::{Body, BodyFault, CreditSpec, Name};
@@ -63,19 +62,12 @@ pub(crate) fn read_credit(rest: Words) -> Result<CreditSpec, LineFault>
     ensures fault { Tells (credit_fault (words_of (left_in rest.entry))) result }
     ensures credit { IfOk result (λ credit. (credit.initial, credit.more) ≡ credit_in (left_in rest.entry)) }
 {
-    let mut words = rest;
-    let Some(initial) = words.next_word() else {
-        return Err(LineFault::Wrong(Kind::MissingWord));
-    };
-    let Some(more) = words.next_word() else {
-        return Err(LineFault::Wrong(Kind::MissingWord));
-    };
-    if words.next_word().is_some() {
-        return Err(LineFault::Wrong(Kind::ExtraWord));
-    }
-    match credit_from(initial, more) {
-        Some(credit) => Ok(credit),
-        None => Err(LineFault::Wrong(Kind::BadNumber)),
+    match two_left(rest) {
+        Ok((initial, more)) => match credit_from(initial, more) {
+            Some(credit) => Ok(credit),
+            None => Err(LineFault::Wrong(Kind::BadNumber)),
+        },
+        Err(kind) => Err(LineFault::Wrong(kind)),
     }
 }
 
@@ -90,31 +82,87 @@ fn credit_from(initial: &[u8], more: &[u8]) -> Option<CreditSpec>
     CreditSpec::new(initial as u32, more as u32)
 }
 
-/// The cast of what is left on a line.
-pub(crate) fn read_cast(alloc: Global, members: &[Name], rest: Words) -> Result<Command, LineFault>
-    requires text { list_all is_text_byte (left_in rest) ≡ true }
-    ensures fault { Tells (cast_fault members.now (words_of (left_in rest.entry)) (body_in (left_in rest.entry))) result }
-    ensures cast { IfOk result (λ command. command
-        ≡ Command.Cast (operand_in (left_in rest.entry)) (body_in (left_in rest.entry))) }
+/// That nothing is left on a line.
+pub(crate) fn nothing_left(rest: Words) -> Result<(), Kind>
+    ensures none { OnOk result (words_of (left_in rest.entry) ≡ []) }
+    ensures fault { IfErr result (λ kind. no_word (words_of (left_in rest.entry)) ≡ Some kind) }
+{
+    let mut words = rest;
+    match words.next_word() {
+        Some(_) => Err(Kind::ExtraWord),
+        None => Ok(()),
+    }
+}
+
+/// The one word that is left on a line.
+pub(crate) fn one_left<'a>(rest: Words<'a>) -> Result<&'a [u8], Kind>
+    ensures word { IfOk result (λ word. words_of (left_in rest.entry) ≡ word.now ∷ []) }
+    ensures fault { IfErr result (λ kind. (judged : List ℕ → Option Kind) → one_word judged (words_of (left_in rest.entry)) ≡ Some kind) }
 {
     let mut words = rest;
     let Some(word) = words.next_word() else {
-        return Err(LineFault::Wrong(Kind::MissingWord));
+        return Err(Kind::MissingWord);
     };
-    let Ok(by) = Name::read(word) else {
-        return Err(LineFault::Wrong(Kind::BadName));
-    };
-    if !is_known(members, word) {
-        return Err(LineFault::Wrong(Kind::UnknownName));
+    match words.next_word() {
+        Some(_) => Err(Kind::ExtraWord),
+        None => Ok(word),
     }
-    match read_body(alloc, words.body()) {
-        Ok(body) => Ok(Command::Cast { by, body }),
-        Err(fault) => Err(fault),
+}
+
+/// The two words that are left on a line.
+pub(crate) fn two_left<'a>(rest: Words<'a>) -> Result<(&'a [u8], &'a [u8]), Kind>
+    ensures words { IfOk result (λ two. words_of (left_in rest.entry) ≡ two.0.now ∷ two.1.now ∷ []) }
+    ensures fault { IfErr result (λ kind. (judged : List ℕ → List ℕ → Option Kind) → two_words judged (words_of (left_in rest.entry)) ≡ Some kind) }
+{
+    let mut words = rest;
+    let Some(first) = words.next_word() else {
+        return Err(Kind::MissingWord);
+    };
+    let Some(second) = words.next_word() else {
+        return Err(Kind::MissingWord);
+    };
+    match words.next_word() {
+        Some(_) => Err(Kind::ExtraWord),
+        None => Ok((first, second)),
+    }
+}
+
+/// The word as a name.
+pub(crate) fn name_from(word: &[u8]) -> Result<Name, Kind>
+    ensures ok { IfOk result (λ name. (name ≡ word.now) × (name_fault word.now ≡ None)) }
+    ensures fault { IfErr result (λ kind. name_fault word.now ≡ Some kind) }
+{
+    match Name::read(word) {
+        Ok(name) => Ok(name),
+        Err(_) => Err(Kind::BadName),
+    }
+}
+
+/// The word as the name of one of these.
+pub(crate) fn known_name(names: &[Name], word: &[u8]) -> Result<Name, Kind>
+    ensures ok { IfOk result (λ name. (name ≡ word.now) × (known_fault names.now word.now ≡ None)) }
+    ensures fault { IfErr result (λ kind. known_fault names.now word.now ≡ Some kind) }
+{
+    let name = name_from(word)?;
+    if !is_known(names, word) {
+        return Err(Kind::UnknownName);
+    }
+    Ok(name)
+}
+
+/// The word as a number up to a limit.
+pub(crate) fn number_from(word: &[u8], most: u32) -> Result<u32, Kind>
+    ensures ok { IfOk result (λ n. (number_of most word.now ≡ Some n) × (number_fault most word.now ≡ None)) }
+    ensures fault { IfErr result (λ kind. number_fault most word.now ≡ Some kind) }
+{
+    match number(word, u64::from(most)) {
+        Some(value) => Ok(value as u32),
+        None => Err(Kind::BadNumber),
     }
 }
 
 /// The body that these bytes of text are.
-fn read_body(alloc: Global, bytes: &[u8]) -> Result<Body, LineFault>
+pub(crate) fn read_body(alloc: Global, bytes: &[u8]) -> Result<Body, LineFault>
     requires text { list_all is_text_byte bytes.now ≡ true }
     ensures fault { Tells (body_fault bytes.now) result }
     ensures body { IfOk result (λ body. body ≡ bytes.now) }
@@ -124,38 +172,5 @@ fn read_body(alloc: Global, bytes: &[u8]) -> Result<Body, LineFault>
         Err(BodyFault::TooLong) => Err(LineFault::Wrong(Kind::BodyTooLong)),
         Err(BodyFault::BadByte { .. }) => unreachable!(),
         Err(BodyFault::OutOfMemory) => Err(LineFault::OutOfMemory),
-    }
-}
-
-/// The turns that are left on a line.
-pub(crate) fn read_turns(rest: Words) -> Result<Command, LineFault>
-    ensures fault { Tells (go_fault (words_of (left_in rest.entry))) result }
-    ensures turns { IfOk result (λ command. command
-        ≡ Command.Go (unwrap_or (number_of most_turns (operand_in (left_in rest.entry))) 0)) }
-{
-    let mut words = rest;
-    let Some(word) = words.next_word() else {
-        return Err(LineFault::Wrong(Kind::MissingWord));
-    };
-    if words.next_word().is_some() {
-        return Err(LineFault::Wrong(Kind::ExtraWord));
-    }
-    match number(word, 1000) {
-        Some(turns) => Ok(Command::Go {
-            turns: turns as u32,
-        }),
-        None => Err(LineFault::Wrong(Kind::BadNumber)),
-    }
-}
-
-/// The settling, behind which nothing is left on a line.
-pub(crate) fn read_settle(rest: Words) -> Result<Command, LineFault>
-    ensures fault { Tells (settle_fault (words_of (left_in rest.entry))) result }
-    ensures settle { IfOk result (λ command. command ≡ Command.Settle) }
-{
-    let mut words = rest;
-    match words.next_word() {
-        Some(_) => Err(LineFault::Wrong(Kind::ExtraWord)),
-        None => Ok(Command::Settle),
     }
 }

@@ -1,5 +1,6 @@
 //! What can be wrong with a line.
 ghost use Rattle.std.specs.Prelude.{◌≡◌, OnErr};
+ghost use Rattle.ring_script.specs.declared.fault.LineFault.TheVariants.{Wrong};
 ghost use Rattle.ring_script.specs.Fault.{code_of, told_at};
 
 use ring_names::OutOfMemory;
@@ -59,14 +60,14 @@ impl Kind {
     }
 }
 
-/// Why a text is read as no script.
+/// Why a text is read as no script, or as no step file.
 #[derive(Clone, Copy, PartialEq, Eq, Debug, Error)]
 pub enum ScriptFault {
     /// The first bad line, from 1, and the number of its first fault. Where no line is used, this is the
     /// line behind the last.
     #[error("line {line}: fault {kind}")]
     At { line: u32, kind: u32 },
-    /// Memory for the script was not found.
+    /// Memory for what it says was not found.
     #[error("out of memory")]
     OutOfMemory,
 }
@@ -78,6 +79,14 @@ pub(crate) enum LineFault {
     Wrong(Kind),
     /// Memory was wanted and not found.
     OutOfMemory,
+}
+
+impl From<Kind> for LineFault {
+    ghost from_gives = { λ kind fault. fault ≡ Wrong kind };
+
+    fn from(kind: Kind) -> LineFault {
+        LineFault::Wrong(kind)
+    }
 }
 
 impl LineFault {

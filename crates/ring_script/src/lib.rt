@@ -1,5 +1,5 @@
-//! The commands of a script: what its clients ask of the members of a ring, and when the ring works and
-//! settles. Begin at `Command`.
+//! Scripts and step files. A script has what its clients ask of the members of a ring, and when the ring works
+//! and settles; a step file has single events of its members. Begin at `Command` and at `read_steps`.
 #![tactic(auto)]
 
 mod arguments;
@@ -8,11 +8,16 @@ mod fault;
 mod line;
 mod reader;
 mod script;
+mod statement;
+mod steps;
 #[cfg(test)]
 mod tests;
+mod text;
 mod words;
 
 pub use command::Command;
 pub use fault::{Kind, ScriptFault};
-pub use script::{Script, line_count, read_script};
+pub use script::{Script, read_script};
+pub use steps::{Steps, read_steps};
+pub use text::line_count;
 pub use words::{Words, number};

@@ -1,26 +1,27 @@
-//! One line of a script.
+//! One line of a script or a step file.
 ghost use Rattle.std.specs.Prelude.{◌≡◌, ◌==◌, true, IfOk};
 ghost use Rattle.std.specs.List.{list_all, slice_index};
 ghost use Rattle.ring_script.specs.Words.{is_text_byte, is_blank, words_of, first_word, behind_word};
 ghost use Rattle.ring_script.specs.Place.{left_in};
 ghost use Rattle.ring_script.specs.Fault.{Tells};
-ghost use Rattle.ring_script.specs.Script.{is_skipped, keyword_of, keyword_in, text_fault, opening_fault, command_fault, fault_by, Says};
+ghost use Rattle.ring_script.specs.Line.{is_skipped, head_of, head_in, text_fault, opening_fault, fault_by, Says};
 
-use crate::arguments::{read_cast, read_credit, read_members, read_settle, read_turns};
-use crate::command::Command;
+use crate::arguments::{read_credit, read_members};
 use crate::fault::{Kind, LineFault};
+use crate::statement::Statement;
 use crate::words::Words;
 use ring_names::{CreditSpec, Name};
 use std::alloc::Global;
 
-/// What the first word of a line asks for.
+/// What the first word of a line begins.
 #[derive(Clone, Copy, PartialEq, Eq, Debug)]
-pub(crate) enum Keyword {
+pub(crate) enum Head {
+    /// The names of the members.
     Members,
+    /// The credit of each link.
     Credit,
-    Cast,
-    Go,
-    Settle,
+    /// A statement, if the word is one of these.
+    Statement,
 }
 
 /// What the next used line may be.
@@ -28,44 +29,35 @@ pub(crate) enum Keyword {
 pub(crate) enum Next {
     /// It names the members.
     Opening,
-    /// It gives a credit, or a command.
+    /// It gives a credit, or is a statement.
     Credit,
-    /// It gives a command.
-    Command,
+    /// It is a statement.
+    Further,
 }
 
 /// What a line says.
 #[derive(Drop, Debug)]
-pub(crate) enum Said {
+pub(crate) enum Said<S> {
     /// These are the members.
     Members(Vec<Name>),
     /// Each link has this credit.
     Credit(CreditSpec),
-    /// The ring is given this command.
-    Command(Command),
+    /// A command, or an event.
+    Statement(S),
 }
 
-impl Keyword {
-    /// What this word asks for, if it does.
-    fn of(word: &[u8]) -> Option<Keyword>
-        ensures { result ≡ keyword_of word.now }
+impl Head {
+    /// What this word begins.
+    fn of(word: &[u8]) -> Head
+        ensures { result ≡ head_of word.now }
     {
         if word == b"members".as_slice() {
-            return Some(Keyword::Members);
+            return Head::Members;
         }
         if word == b"credit".as_slice() {
-            return Some(Keyword::Credit);
+            return Head::Credit;
         }
-        if word == b"cast".as_slice() {
-            return Some(Keyword::Cast);
-        }
-        if word == b"go".as_slice() {
-            return Some(Keyword::Go);
-        }
-        if word == b"settle".as_slice() {
-            return Some(Keyword::Settle);
-        }
-        None
+        Head::Statement
     }
 }
 
@@ -114,84 +106,79 @@ fn is_comment(line: &[u8]) -> bool
 }
 
 /// What a line says that isn't skipped.
-pub(crate) fn read_said(
+pub(crate) fn read_said<S: Statement>(
     alloc: Global,
     next: Next,
     members: &[Name],
     line: &[u8],
-) -> Result<Said, LineFault>
+) -> Result<Said<S>, LineFault>
     requires text { list_all is_text_byte line.now ≡ true }
-    ensures fault { Tells (fault_by next members.now (keyword_in line.now) (behind_word line.now)) result }
-    ensures says { IfOk result (Says (keyword_in line.now) (behind_word line.now)) }
+    ensures fault { Tells (fault_by S.grammar next (head_in line.now) members.now (first_word line.now) (behind_word line.now)) result }
+    ensures says { IfOk result (Says S.says (first_word line.now) (behind_word line.now)) }
 {
     let mut words = Words::of(line);
-    let keyword = match words.next_word() {
-        Some(word) => Keyword::of(word),
-        None => None,
-    };
+    let word = words.first();
     match next {
-        Next::Opening => read_opening(alloc, keyword, words),
-        Next::Credit => read_second(alloc, members, keyword, words),
-        Next::Command => read_command(alloc, members, keyword, words),
+        Next::Opening => read_opening(alloc, word, words),
+        Next::Credit => read_second(alloc, members, word, words),
+        Next::Further => read_further(alloc, members, word, words),
     }
 }
 
 /// What the first used line says.
-fn read_opening(alloc: Global, keyword: Option<Keyword>, rest: Words) -> Result<Said, LineFault>
-    ensures fault { Tells (opening_fault keyword (left_in rest.entry)) result }
-    ensures says { IfOk result (Says keyword (left_in rest.entry)) }
+fn read_opening<S: Statement>(alloc: Global, word: &[u8], rest: Words) -> Result<Said<S>, LineFault>
+    ensures fault { Tells (opening_fault (head_of word.now) (left_in rest.entry)) result }
+    ensures says { IfOk result (Says S.says word.now (left_in rest.entry)) }
 {
-    match keyword {
-        Some(Keyword::Members) => match read_members(alloc, rest) {
+    match Head::of(word) {
+        Head::Members => match read_members(alloc, rest) {
             Ok(names) => Ok(Said::Members(names)),
             Err(fault) => Err(fault),
         },
-        Some(Keyword::Credit | Keyword::Cast | Keyword::Go | Keyword::Settle) | None => {
-            Err(LineFault::Wrong(Kind::NoMembers))
-        }
+        Head::Credit | Head::Statement => Err(LineFault::Wrong(Kind::NoMembers)),
     }
 }
 
-/// What the second says: it gives a credit, or a command.
-fn read_second(
+/// What the second says: it gives a credit, or is a statement.
+fn read_second<S: Statement>(
     alloc: Global,
     members: &[Name],
-    keyword: Option<Keyword>,
+    word: &[u8],
     rest: Words,
-) -> Result<Said, LineFault>
+) -> Result<Said<S>, LineFault>
     requires text { list_all is_text_byte (left_in rest) ≡ true }
-    ensures fault { Tells (fault_by Next.Credit members.now keyword (left_in rest.entry)) result }
-    ensures says { IfOk result (Says keyword (left_in rest.entry)) }
+    ensures fault { Tells (fault_by S.grammar Next.Credit (head_of word.now) members.now word.now (left_in rest.entry)) result }
+    ensures says { IfOk result (Says S.says word.now (left_in rest.entry)) }
 {
-    match keyword {
-        Some(Keyword::Credit) => match read_credit(rest) {
+    match Head::of(word) {
+        Head::Members => Err(LineFault::Wrong(Kind::Misplaced)),
+        Head::Credit => match read_credit(rest) {
             Ok(credit) => Ok(Said::Credit(credit)),
             Err(fault) => Err(fault),
         },
-        _ => read_command(alloc, members, keyword, rest),
+        Head::Statement => match S::read(alloc, members, word, rest) {
+            Ok(statement) => Ok(Said::Statement(statement)),
+            Err(fault) => Err(fault),
+        },
     }
 }
 
-/// What a further line says: it gives a command.
-fn read_command(
+/// What a further line says: it is a statement.
+fn read_further<S: Statement>(
     alloc: Global,
     members: &[Name],
-    keyword: Option<Keyword>,
+    word: &[u8],
     rest: Words,
-) -> Result<Said, LineFault>
+) -> Result<Said<S>, LineFault>
     requires text { list_all is_text_byte (left_in rest) ≡ true }
-    ensures fault { Tells (command_fault members.now keyword (left_in rest.entry)) result }
-    ensures says { IfOk result (Says keyword (left_in rest.entry)) }
+    ensures fault { Tells (fault_by S.grammar Next.Further (head_of word.now) members.now word.now (left_in rest.entry)) result }
+    ensures says { IfOk result (Says S.says word.now (left_in rest.entry)) }
 {
-    let command = match keyword {
-        Some(Keyword::Cast) => read_cast(alloc, members, rest),
-        Some(Keyword::Go) => read_turns(rest),
-        Some(Keyword::Settle) => read_settle(rest),
-        Some(Keyword::Members | Keyword::Credit) => Err(LineFault::Wrong(Kind::Misplaced)),
-        None => Err(LineFault::Wrong(Kind::UnknownCommand)),
-    };
-    match command {
-        Ok(command) => Ok(Said::Command(command)),
-        Err(fault) => Err(fault),
+    match Head::of(word) {
+        Head::Members | Head::Credit => Err(LineFault::Wrong(Kind::Misplaced)),
+        Head::Statement => match S::read(alloc, members, word, rest) {
+            Ok(statement) => Ok(Said::Statement(statement)),
+            Err(fault) => Err(fault),
+        },
     }
 }

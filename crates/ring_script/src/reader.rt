@@ -1,32 +1,31 @@
-//! A script, line by line.
+//! A text, line by line.
 ghost use Rattle.std.specs.Prelude.{◌≡◌, ℕ, List, ◌∷◌, ◌++◌, [], Some, None, IfOk, OnOk, IfErr, OnErr, length, ◌<◌};
-ghost use Rattle.std.specs.List.{filter};
-ghost use Rattle.ring_script.specs.Words.{behind_word};
+ghost use Rattle.ring_script.specs.Words.{first_word, behind_word};
 ghost use Rattle.ring_script.specs.Fault.{Tells};
-ghost use Rattle.ring_script.specs.Script.{keyword_in, fault_by, Says};
-ghost use Rattle.ring_script.specs.Reading.{fault_behind, next_of, members_of, credit_of, commands_of};
+ghost use Rattle.ring_script.specs.Line.{head_in, fault_by, Says};
+ghost use Rattle.ring_script.specs.Reading.{fault_behind, next_of, members_of};
 ghost use Rattle.ring_script.specs.Standing.{HasRead, used_line};
 
-use crate::command::Command;
 use crate::fault::{Kind, LineFault};
 use crate::line::{Next, Said, is_skipped_line, judge_text, read_said};
-use crate::script::Script;
-use ring_names::{CreditSpec, Items, Name};
+use crate::statement::Statement;
+use crate::text::Text;
+use ring_names::{CreditSpec, Name};
 use std::alloc::Global;
 
-/// What is read of a script so far.
+/// What is read of a text so far.
 #[derive(Drop)]
-pub(crate) struct Reader {
+pub(crate) struct Reader<S> {
     next: Next,
     members: Vec<Name>,
     credit: CreditSpec,
-    lines: Vec<(u32, Command)>,
+    lines: Vec<(u32, S)>,
 }
 
-impl Reader {
-    /// Nothing is read. A script that gives no credit has 8 4.
-    pub(crate) fn opening(alloc: Global) -> Reader
-        ensures { HasRead [] result }
+impl<S: Statement> Reader<S> {
+    /// Nothing is read. A text that gives no credit has 8 4.
+    pub(crate) fn opening(alloc: Global) -> Reader<S>
+        ensures { HasRead S.says [] result }
     {
         let Some(credit) = CreditSpec::new(8, 4) else {
             unreachable!()
@@ -41,9 +40,9 @@ impl Reader {
 
     /// Reads the next line, which has this number.
     pub(crate) fn read(&mut self, alloc: Global, number: u32, line: &[u8]) -> Result<(), LineFault>
-        ensures fault { (used : List (ℕ × List ℕ)) → HasRead used self.old → Tells (fault_behind used line.now) result }
-        ensures read { (used : List (ℕ × List ℕ)) → HasRead used self.old
-            → OnOk result (HasRead (used ++ used_line number line.now) self.new) }
+        ensures fault { (used : List (ℕ × List ℕ)) → HasRead S.says used self.old → Tells (fault_behind S.grammar used line.now) result }
+        ensures read { (used : List (ℕ × List ℕ)) → HasRead S.says used self.old
+            → OnOk result (HasRead S.says (used ++ used_line number line.now) self.new) }
     {
         match judge_text(line) {
             Ok(()) => {}
@@ -59,11 +58,11 @@ impl Reader {
     }
 
     /// Takes what the line of this number says.
-    fn take(&mut self, number: u32, said: Said) -> Result<(), LineFault>
-        ensures taken { (used : List (ℕ × List ℕ)) → (line : List ℕ) → HasRead used self.old
-            → fault_by (next_of used) (members_of used) (keyword_in line) (behind_word line) ≡ None
-            → Says (keyword_in line) (behind_word line) said
-            → OnOk result (HasRead (used ++ (number, line) ∷ []) self.new) }
+    fn take(&mut self, number: u32, said: Said<S>) -> Result<(), LineFault>
+        ensures taken { (used : List (ℕ × List ℕ)) → (line : List ℕ) → HasRead S.says used self.old
+            → fault_by S.grammar (next_of used) (head_in line) (members_of used) (first_word line) (behind_word line) ≡ None
+            → Says S.says (first_word line) (behind_word line) said
+            → OnOk result (HasRead S.says (used ++ (number, line) ∷ []) self.new) }
         ensures full { IfErr result (λ fault. fault ≡ LineFault.OutOfMemory) }
     {
         match said {
@@ -74,45 +73,41 @@ impl Reader {
             }
             Said::Credit(credit) => {
                 self.credit = credit;
-                self.next = Next::Command;
+                self.next = Next::Further;
                 Ok(())
             }
-            Said::Command(command) => {
-                self.next = Next::Command;
-                push_line(&mut self.lines, number, command)
+            Said::Statement(statement) => {
+                self.next = Next::Further;
+                push_line(&mut self.lines, number, statement)
             }
         }
     }
 
-    /// The script, where its members are named.
-    pub(crate) fn finish(self) -> Result<Script, Kind>
-        ensures some { (used : List (ℕ × List ℕ)) → HasRead used self → OnOk result (0 < length used) }
-        ensures members { IfOk result (λ script. script.members ≡ self.members.items) }
-        ensures credit { IfOk result (λ script. script.credit ≡ self.credit) }
-        ensures lines { IfOk result (λ script. script.lines ≡ self.lines.items) }
-        ensures none { (used : List (ℕ × List ℕ)) → HasRead used self → IfErr result (λ kind. (used ≡ []) × (kind ≡ Kind.NoMembers)) }
+    /// The text, where its members are named.
+    pub(crate) fn finish(self) -> Result<Text<S>, Kind>
+        ensures some { (used : List (ℕ × List ℕ)) → HasRead S.says used self → OnOk result (0 < length used) }
+        ensures members { IfOk result (λ text. text.members.items ≡ self.members.items) }
+        ensures credit { IfOk result (λ text. text.credit ≡ self.credit) }
+        ensures lines { IfOk result (λ text. text.lines.items ≡ self.lines.items) }
+        ensures none { (used : List (ℕ × List ℕ)) → HasRead S.says used self → IfErr result (λ kind. (used ≡ []) × (kind ≡ Kind.NoMembers)) }
     {
         match self.next {
             Next::Opening => Err(Kind::NoMembers),
-            Next::Credit | Next::Command => Ok(Script {
-                members: Items::from_vec(self.members),
+            Next::Credit | Next::Further => Ok(Text {
+                members: self.members,
                 credit: self.credit,
-                lines: Items::from_vec(self.lines),
+                lines: self.lines,
             }),
         }
     }
 }
 
-/// A command more, behind the number of its line.
-fn push_line(
-    lines: &mut Vec<(u32, Command)>,
-    number: u32,
-    command: Command,
-) -> Result<(), LineFault>
-    ensures ok { OnOk result (lines.new.items ≡ lines.old.items ++ (number, command) ∷ []) }
+/// A statement more, behind the number of its line.
+fn push_line<S: Drop>(lines: &mut Vec<(u32, S)>, number: u32, statement: S) -> Result<(), LineFault>
+    ensures ok { OnOk result (lines.new.items ≡ lines.old.items ++ (number, statement) ∷ []) }
     ensures full { IfErr result (λ fault. fault ≡ LineFault.OutOfMemory) }
 {
-    match lines.push((number, command)) {
+    match lines.push((number, statement)) {
         Ok(()) => Ok(()),
         Err(_) => Err(LineFault::OutOfMemory),
     }

@@ -1,11 +1,19 @@
 //! Scripts.
-ghost use Rattle.std.specs.Prelude.{◌≡◌, ◌⊎◌, ℕ, List, ◌<◌, ◌∷◌, ◌==◌, Err, IfOk, IfSome, length, position};
-ghost use Rattle.ring_script.specs.Words.{lines_of};
+ghost use Rattle.std.specs.Prelude.{◌≡◌, ◌⊎◌, ℕ, List, true, Err, IfOk};
+ghost use Rattle.std.specs.List.{list_all};
+ghost use Rattle.ring_script.specs.Words.{is_text_byte, words_of};
+ghost use Rattle.ring_script.specs.Place.{left_in};
+ghost use Rattle.ring_script.specs.Fault.{Tells};
+ghost use Rattle.ring_script.specs.Line.{no_word, one_word, number_fault};
+ghost use Rattle.ring_script.specs.Script.{most_turns, keyword_of, script_grammar, command_fault, command_by, command_of};
 ghost use Rattle.ring_script.specs.Reading.{IsRight, IsScriptOf, IsFirstFault, HasFault, IsPlayable};
 
+use crate::arguments::{known_name, nothing_left, number_from, one_left, read_body};
 use crate::command::Command;
-use crate::fault::{LineFault, ScriptFault};
-use crate::reader::Reader;
+use crate::fault::{Kind, LineFault, ScriptFault};
+use crate::statement::Statement;
+use crate::text::read_text;
+use crate::words::Words;
 use ring_names::{CreditSpec, Items, Name};
 use std::alloc::Global;
 
@@ -20,6 +28,86 @@ pub struct Script {
     pub lines: Items<(u32, Command)>,
 }
 
+/// The command that the first word of a line begins.
+#[derive(Clone, Copy, PartialEq, Eq, Debug)]
+pub(crate) enum Keyword {
+    Cast,
+    Go,
+    Settle,
+}
+
+/// How many turns a round has at most.
+const MOST_TURNS: u32 = 1000;
+
+impl Keyword {
+    /// What this word begins, if it does.
+    fn of(word: &[u8]) -> Option<Keyword>
+        ensures { result ≡ keyword_of word.now }
+    {
+        if word == b"cast".as_slice() {
+            return Some(Keyword::Cast);
+        }
+        if word == b"go".as_slice() {
+            return Some(Keyword::Go);
+        }
+        if word == b"settle".as_slice() {
+            return Some(Keyword::Settle);
+        }
+        None
+    }
+}
+
+impl Statement for Command {
+    ghost grammar = { script_grammar };
+
+    ghost says = { command_of };
+
+    fn read(
+        alloc: Global,
+        members: &[Name],
+        word: &[u8],
+        rest: Words,
+    ) -> Result<Command, LineFault> {
+        match Keyword::of(word) {
+            Some(Keyword::Cast) => read_cast(alloc, members, rest),
+            Some(Keyword::Go) => read_go(rest),
+            Some(Keyword::Settle) => read_settle(rest),
+            None => Err(LineFault::Wrong(Kind::UnknownCommand)),
+        }
+    }
+}
+
+/// The cast of what is left on a line.
+fn read_cast(alloc: Global, members: &[Name], rest: Words) -> Result<Command, LineFault>
+    requires text { list_all is_text_byte (left_in rest) ≡ true }
+    ensures fault { Tells (command_fault members.now (Some Keyword.Cast) (left_in rest.entry)) result }
+    ensures cast { IfOk result (λ command. command ≡ command_by (Some Keyword.Cast) (left_in rest.entry)) }
+{
+    let mut words = rest;
+    let word = words.next_word().ok_or(Kind::MissingWord)?;
+    let by = known_name(members, word)?;
+    let body = read_body(alloc, words.body())?;
+    Ok(Command::Cast { by, body })
+}
+
+/// The round of what is left on a line.
+fn read_go(rest: Words) -> Result<Command, LineFault>
+    ensures fault { Tells (one_word (number_fault most_turns) (words_of (left_in rest.entry))) result }
+    ensures go { IfOk result (λ command. command ≡ command_by (Some Keyword.Go) (left_in rest.entry)) }
+{
+    let turns = number_from(one_left(rest)?, MOST_TURNS)?;
+    Ok(Command::Go { turns })
+}
+
+/// The settling, behind which nothing is left on a line.
+fn read_settle(rest: Words) -> Result<Command, LineFault>
+    ensures fault { Tells (no_word (words_of (left_in rest.entry))) result }
+    ensures settle { IfOk result (λ command. command ≡ command_by (Some Keyword.Settle) (left_in rest.entry)) }
+{
+    nothing_left(rest)?;
+    Ok(Command::Settle)
+}
+
 /// Reads the script that the bytes spell. Each line is judged behind those before it, and the first one
 /// that is wrong is told with its first fault. The time is in proportion to the bytes. Want of memory is
 /// answered also where the lines are too many to be numbered.
@@ -27,69 +115,20 @@ pub struct Script {
 pub fn read_script(alloc: Global, bytes: &[u8]) -> Result<Script, ScriptFault>
     ensures script { IfOk result (IsScriptOf bytes.now) }
     ensures playable { IfOk result IsPlayable }
-    ensures fault { (line kind : ℕ) → result ≡ Err (ScriptFault.At line kind) → IsFirstFault bytes.now line kind }
+    ensures fault { (line kind : ℕ) → result ≡ Err (ScriptFault.At line kind) → IsFirstFault script_grammar bytes.now line kind }
 
     // A text is right or has a first fault, never both, and has one first fault alone.
-    ensures either { (text : List ℕ) → IsRight text ⊎ HasFault text }
-    ensures never_both { (text : List ℕ) (line kind : ℕ) → IsRight text → IsFirstFault text line kind → ⊥ }
-    ensures one_fault { (text : List ℕ) (line kind line' kind' : ℕ) → IsFirstFault text line kind
-        → IsFirstFault text line' kind' → (line ≡ line') × (kind ≡ kind') }
+    ensures either { (text : List ℕ) → IsRight script_grammar text ⊎ HasFault script_grammar text }
+    ensures never_both { (text : List ℕ) (line kind : ℕ) → IsRight script_grammar text → IsFirstFault script_grammar text line kind → ⊥ }
+    ensures one_fault { (text : List ℕ) (line kind line' kind' : ℕ) → IsFirstFault script_grammar text line kind
+        → IsFirstFault script_grammar text line' kind' → (line ≡ line') × (kind ≡ kind') }
 {
-    let mut reader = Reader::opening(alloc);
-    let mut rest = bytes;
-    let mut number = 1;
-    'lines: while !rest.is_empty() {
-        let (line, behind) = next_line(rest);
-        match reader.read(alloc, number, line) {
-            Ok(()) => {}
-            Err(fault) => return Err(fault.at(number)),
-        }
-        number = match number.checked_add(1) {
-            Some(next) => next,
-            None => return Err(ScriptFault::OutOfMemory),
-        };
-        rest = behind;
-    }
-    match reader.finish() {
-        Ok(script) => Ok(script),
-        Err(kind) => Err(LineFault::Wrong(kind).at(number)),
-    }
-}
-
-/// How many lines the bytes have: a line feed ends a line, and a last run of bytes without one is a line
-/// too.
-pub fn line_count(bytes: &[u8]) -> u64
-    ensures { result ≡ length (lines_of bytes.now) }
-{
-    let mut count = 0;
-    let mut rest = bytes;
-    'lines: while !rest.is_empty() {
-        let (_, behind) = next_line(rest);
-        count += 1;
-        rest = behind;
-    }
-    count
-}
-
-/// The first line, and the text behind its line feed.
-#[tactic(auto, using(crate::proofs::FirstLine::lines_of_found, crate::proofs::FirstLine::lines_of_missed))]
-fn next_line(text: &[u8]) -> (&[u8], &[u8])
-    requires { 0 < length text.now }
-    ensures lines { lines_of text.now ≡ result.0.now ∷ lines_of result.1.now }
-    ensures shorter { length result.1.now < length text.now }
-{
-    match feed_place(text) {
-        Some(place) => (&text[..place], &text[place + 1..]),
-        None => (text, &[]),
-    }
-}
-
-/// The place of the first line feed.
-fn feed_place(text: &[u8]) -> Option<usize>
-    ensures place { result ≡ position (λ b. b == 10) text.now }
-    ensures within { IfSome result (λ place. place < length text.now) }
-{
-    text.iter().position(|byte| *byte == b'\n')
+    let text = read_text::<Command>(alloc, bytes)?;
+    Ok(Script {
+        members: Items::from_vec(text.members),
+        credit: text.credit,
+        lines: Items::from_vec(text.lines),
+    })
 }
 
 #[cfg(test)]

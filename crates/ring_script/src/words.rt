@@ -76,6 +76,18 @@ impl<'a> Words<'a> {
         Some(&self.line[start..end])
     }
 
+    /// The first word of a line, and no bytes where it has none. The line is then read to the end of that word.
+    pub(crate) fn first(&mut self) -> &'a [u8]
+        ensures line { line_in self.new ≡ line_in self.old }
+        ensures word { result.now ≡ first_word (left_in self.old) }
+        ensures left { left_in self.new ≡ behind_word (left_in self.old) }
+    {
+        match self.next_word() {
+            Some(word) => word,
+            None => b"",
+        }
+    }
+
     /// What stands behind the one space that follows the last word that was read, to the end of the line.
     pub(crate) fn body(&mut self) -> &'a [u8]
         ensures { result.now ≡ behind_space (left_in self.old) }

@@ -1,7 +1,7 @@
 use Rattle.std.proofs.Common.{◌≡◌, [], ◌++◌, length}
 use Rattle.ring_script.specs.Words.{words_of}
 use Rattle.ring_script.specs.Place.{left_in}
-use Rattle.ring_script.specs.Script.{names_fault}
+use Rattle.ring_script.specs.Line.{names_fault}
 use Rattle.ring_script.proofs.arguments.read_members.Given as goal
 
 abbrev pub invariant-names : goal.invariant-names

@@ -1,27 +1,14 @@
-use Rattle.std.proofs.Common.{◌≡◌, [], sym, subst, arith}
-use Rattle.std.proofs.lemmas.Grind.{common_steps}
-use Rattle.std.proofs.lemmas.List.{nil_from_length}
-use Rattle.ring_script.proofs.Walk.{IsReadUpTo, used_before, read_more, first_fault, script_read}
+use Rattle.ring_script.specs.Script.{script_grammar}
+use Rattle.ring_script.proofs.Exact.{right_or_wrong}
 use Rattle.ring_script.proofs.Playable.{script_playable}
 use Rattle.ring_script.proofs.script.read_script.Goals as goal
 
-pub returns-in-Err-clause-fault : goal.returns-in-Err-clause-fault
-returns-in-Err-clause-fault c = λ line kind same.
-    let told = rw c.at.ensures at same in
-    let wrong = rw c.in-Err.is at (c.read.ensures.fault (used_before c.lines.invariant) c.lines.invariant.read) in
-    first_fault c.lines.invariant c.next_line.result.0.now c.next_line.result.1.now c.in-Err.fault line kind c.next_line.ensures.lines wrong cc
+pub returns-in_err-text-clause-either : goal.returns-in_err-text-clause-either
+returns-in_err-text-clause-either c = right_or_wrong script_grammar
 
-pub lines-preserved : goal.lines-preserved
-lines-preserved c =
-    let right = rw c.in-Ok.is at (c.read.ensures.fault (used_before c.lines.invariant) c.lines.invariant.read) in
-    let read = rw c.in-Ok.is at (c.read.ensures.read (used_before c.lines.invariant) c.lines.invariant.read) in
-    subst (λ n. IsReadUpTo c.args.bytes.now c.next_line.result.1.now n c.read.new.self) (sym (c.in-Some.ensures.1))
-    (read_more c.lines.invariant c.next_line.result.0.now c.next_line.result.1.now c.read.new.self c.next_line.ensures.lines right read)
+pub returns-clause-either : goal.returns-clause-either
+returns-clause-either c = right_or_wrong script_grammar
 
-pub returns-in-Ok-finish-clause-script : goal.returns-in-Ok-finish-clause-script
-returns-in-Ok-finish-clause-script c =
-    let none : c.lines.rest.now ≡ [] = nil_from_length c.lines.rest.now (grind (arith, common_steps, c.is_empty.ensures, c.lines-test.false)) in
-    script_read c.lines.invariant c.in-Ok-finish.script none c.in-Ok-finish.ensures.some c.in-Ok-finish.ensures.members c.in-Ok-finish.ensures.credit c.in-Ok-finish.ensures.lines
-
-pub returns-in-Ok-finish-clause-playable : goal.returns-in-Ok-finish-clause-playable
-returns-in-Ok-finish-clause-playable c = script_playable c.args.bytes.now c.in-Ok-finish.script (returns-in-Ok-finish-clause-script c)
+pub returns-clause-playable : goal.returns-clause-playable
+returns-clause-playable c =
+    script_playable c.args.bytes.now _ (rw (c.from_vec.ensures, c.from_vec-2.ensures) c.in_ok-text.ensures.spells)

@@ -1,6 +1,6 @@
 use Rattle.std.proofs.Common.{◌≡◌, ◌+◌, ◌≤◌, length}
 use Rattle.ring_script.specs.Words.{lines_of}
-use Rattle.ring_script.proofs.script.line_count.Given as goal
+use Rattle.ring_script.proofs.text.line_count.Given as goal
 
 abbrev pub invariant-lines : goal.invariant-lines
 invariant-lines l = record {

@@ -1,0 +1,192 @@
+-- A line of a script or of a step file: its parts, its limits, and what is wrong with it.
+use Rattle.std.specs.Prelude.{◌≡◌, ℕ, Bool, true, false, ◌&&◌, ◌||◌, not, nat_le, nat_lt, ◌==◌, if◌then◌else◌, is_ok, Option, Some, None, unwrap_or, is_some, List, [], ◌∷◌, ◌++◌, length, codes, bytes_eq}
+use Rattle.std.specs.List.{list_all, list_any, slice_index, slice_index_or}
+use Rattle.std.specs.Option.{option_or}
+use Rattle.ring_names.specs.Name.{name_or_fault}
+use Rattle.ring_script.specs.declared.fault.Kind.{Kind}
+use Rattle.ring_script.specs.declared.fault.Kind.TheVariants.{NotText, LineTooLong, MissingWord, ExtraWord, BadNumber, BadName, UnknownName, NameTaken, TooManyMembers, BodyTooLong, NoMembers, Misplaced}
+use Rattle.ring_script.specs.declared.line.Head.{Head}
+use Rattle.ring_script.specs.declared.line.Head.TheVariants as head
+use Rattle.ring_script.specs.declared.line.Next.{Next}
+use Rattle.ring_script.specs.declared.line.Next.TheVariants as next
+use Rattle.ring_script.specs.declared.line.Said.{Said}
+use Rattle.ring_script.specs.declared.line.Said.TheVariants as said
+use Rattle.ring_script.specs.Words.{is_text_byte, is_blank, words_of, first_word, behind_word, behind_space, number_of}
+
+-- ---- the parts of a line
+
+-- a line without a word, and a comment
+abbrev pub is_skipped : List ℕ → Bool
+is_skipped line = is_blank line || (slice_index line 0 == 35)
+
+-- what the first word of a line begins: it names the members, gives a credit, or is a statement
+abbrev pub head_of : List ℕ → Head
+head_of word =
+    if bytes_eq word (codes "members") then head.Members
+    else (if bytes_eq word (codes "credit") then head.Credit
+    else head.Statement)
+
+abbrev pub head_in : List ℕ → Head
+head_in line = head_of (first_word line)
+
+-- a line gives a credit
+abbrev pub gives_credit : Head → Bool
+gives_credit head.Members = false
+gives_credit head.Credit = true
+gives_credit head.Statement = false
+
+-- a line is a statement
+abbrev pub is_statement : Head → Bool
+is_statement head.Members = false
+is_statement head.Credit = false
+is_statement head.Statement = true
+
+-- Behind its first word stands the rest of a line. The words of the rest:
+abbrev pub operand_in : List ℕ → List ℕ
+operand_in rest = slice_index_or (words_of rest) 0 []
+
+abbrev pub second_in : List ℕ → List ℕ
+second_in rest = slice_index_or (words_of rest) 1 []
+
+-- all that follows the one space behind its first word
+abbrev pub body_in : List ℕ → List ℕ
+body_in rest = behind_space (behind_word rest)
+
+-- ---- limits
+
+abbrev pub most_line_bytes : ℕ
+most_line_bytes = 2000
+
+abbrev pub most_names : ℕ
+most_names = 64
+
+abbrev pub most_body_bytes : ℕ
+most_body_bytes = 256
+
+abbrev pub most_credit : ℕ
+most_credit = 64
+
+-- ---- how many words
+
+-- no word is left
+abbrev pub no_word : List (List ℕ) → Option Kind
+no_word [] = None
+no_word (word ∷ words) = Some ExtraWord
+
+-- one word is left, and it is judged
+abbrev pub one_word : (List ℕ → Option Kind) → List (List ℕ) → Option Kind
+one_word fault [] = Some MissingWord
+one_word fault (word ∷ []) = fault word
+one_word fault (word ∷ other ∷ words) = Some ExtraWord
+
+-- two are left, and they are judged
+abbrev pub two_words : (List ℕ → List ℕ → Option Kind) → List (List ℕ) → Option Kind
+two_words fault [] = Some MissingWord
+two_words fault (first ∷ []) = Some MissingWord
+two_words fault (first ∷ second ∷ []) = fault first second
+two_words fault (first ∷ second ∷ other ∷ words) = Some ExtraWord
+
+-- one is left, and it is judged; anything may stand behind it
+abbrev pub a_word : (List ℕ → Option Kind) → List (List ℕ) → Option Kind
+a_word fault [] = Some MissingWord
+a_word fault (word ∷ words) = fault word
+
+-- ---- one word
+
+abbrev pub is_name : List ℕ → Bool
+is_name word = is_ok (name_or_fault word)
+
+abbrev pub is_among : List (List ℕ) → List ℕ → Bool
+is_among names name = list_any (λ other. bytes_eq other name) names
+
+-- what is wrong with a word as a name
+abbrev pub name_fault : List ℕ → Option Kind
+name_fault word = if is_name word then None else Some BadName
+
+-- as the name of one of these
+abbrev pub known_fault : List (List ℕ) → List ℕ → Option Kind
+known_fault names word = option_or (name_fault word) (if is_among names word then None else Some UnknownName)
+
+-- as a number up to a limit
+abbrev pub number_fault : ℕ → List ℕ → Option Kind
+number_fault most word = if is_some (number_of most word) then None else Some BadNumber
+
+-- what is wrong with bytes of text as a body
+abbrev pub body_fault : List ℕ → Option Kind
+body_fault body = if nat_lt most_body_bytes (length body) then Some BodyTooLong else None
+
+-- ---- the opening
+
+-- what is wrong with a word as a further name behind these
+abbrev pub further_fault : List (List ℕ) → List ℕ → Option Kind
+further_fault names word =
+    if not (is_name word) then Some BadName
+    else (if is_among names word then Some NameTaken
+    else (if nat_le most_names (length names) then Some TooManyMembers
+    else None))
+
+-- the first fault among words as further names behind these
+abbrev pub names_fault : List (List ℕ) → List (List ℕ) → Option Kind
+names_fault names [] = None
+names_fault names (word ∷ words) = option_or (further_fault names word) (names_fault (names ++ word ∷ []) words)
+
+-- `members` has one name at least
+abbrev pub members_fault : List (List ℕ) → Option Kind
+members_fault [] = Some MissingWord
+members_fault (word ∷ words) = names_fault [] (word ∷ words)
+
+-- an initial credit up to the limit, and a further one from 1 up to that
+abbrev pub are_credit : Option ℕ → Option ℕ → Bool
+are_credit (Some initial) (Some more) = nat_le 1 more && (nat_le more initial && nat_le initial most_credit)
+are_credit initial more = false
+
+-- `credit` has the two
+abbrev pub credit_fault : List (List ℕ) → Option Kind
+credit_fault words = two_words (λ initial more. if are_credit (number_of most_credit initial) (number_of most_credit more) then None else Some BadNumber) words
+
+-- the credit that the rest of a line gives: the initial one and the further one
+abbrev pub credit_in : List ℕ → ℕ × ℕ
+credit_in rest = (unwrap_or (number_of most_credit (operand_in rest)) 0, unwrap_or (number_of most_credit (second_in rest)) 0)
+
+-- ---- a line
+
+-- what is wrong with a statement, by the members named before it, its first word and its rest
+abbrev pub Grammar : Type 0
+Grammar = List (List ℕ) → List ℕ → List ℕ → Option Kind
+
+-- what is wrong with the first used line: it names the members
+abbrev pub opening_fault : Head → List ℕ → Option Kind
+opening_fault head.Members rest = members_fault (words_of rest)
+opening_fault head.Credit rest = Some NoMembers
+opening_fault head.Statement rest = Some NoMembers
+
+-- what is wrong with a line that has a word: behind the first used one the next may give a credit, and each further one is
+-- a statement
+abbrev pub fault_by : Grammar → Next → Head → List (List ℕ) → List ℕ → List ℕ → Option Kind
+fault_by grammar next.Opening begins members word rest = opening_fault begins rest
+fault_by grammar next.Credit head.Members members word rest = Some Misplaced
+fault_by grammar next.Credit head.Credit members word rest = credit_fault (words_of rest)
+fault_by grammar next.Credit head.Statement members word rest = grammar members word rest
+fault_by grammar next.Further head.Members members word rest = Some Misplaced
+fault_by grammar next.Further head.Credit members word rest = Some Misplaced
+fault_by grammar next.Further head.Statement members word rest = grammar members word rest
+
+-- what is wrong with a line before its words are read
+abbrev pub text_fault : List ℕ → Option Kind
+text_fault line =
+    if nat_lt most_line_bytes (length line) then Some LineTooLong
+    else (if not (list_all is_text_byte line) then Some NotText
+    else None)
+
+-- what is wrong with a line: its length is judged, then its bytes, and then what it says, if it isn't skipped
+abbrev pub fault_of : Grammar → Next → List (List ℕ) → List ℕ → Option Kind
+fault_of grammar next members line =
+    option_or (text_fault line) (if is_skipped line then None else fault_by grammar next (head_in line) members (first_word line) (behind_word line))
+
+-- ---- what is read of a line
+
+-- this is what a line says with this first word and this rest
+abbrev pub Says : {X : Type 0} → (List ℕ → List ℕ → X) → List ℕ → List ℕ → Said X → Type 0
+Says says word rest (said.Members names) = (head_of word ≡ head.Members) × (names.items ≡ words_of rest)
+Says says word rest (said.Credit credit) = (head_of word ≡ head.Credit) × ((credit.initial, credit.more) ≡ credit_in rest)
+Says says word rest (said.Statement statement) = (head_of word ≡ head.Statement) × (statement ≡ says word rest)

@@ -1,0 +1,69 @@
+-- What a line of a step file says behind the opening ones, and what is wrong with it. Its names need only be names: who
+-- plays the event says whether they are the ring's.
+use Rattle.std.specs.Prelude.{◌≡◌, ℕ, if◌then◌else◌, Option, Some, None, unwrap_or, option_map, List, codes, bytes_eq}
+use Rattle.std.specs.Option.{option_or}
+use Rattle.ring_script.specs.declared.fault.Kind.{Kind}
+use Rattle.ring_script.specs.declared.fault.Kind.TheVariants.{UnknownCommand}
+use Rattle.ring_script.specs.declared.steps.EventWord.{EventWord}
+use Rattle.ring_script.specs.declared.steps.EventWord.TheVariants as begins
+use Rattle.ring_script.specs.declared.steps.OwnStep.{OwnStep}
+use Rattle.ring_script.specs.declared.steps.OwnStep.TheVariants as own
+use Rattle.ring_script.specs.Words.{words_of, number_of}
+use Rattle.ring_script.specs.Line.{operand_in, second_in, body_in, one_word, two_words, a_word, name_fault, number_fault, body_fault}
+use Rattle.ring_world.specs.declared.event.Event.{Event}
+use Rattle.ring_world.specs.declared.event.Event.TheVariants as event
+
+-- the step that a word names, of those that need no further word than their member's name
+abbrev pub own_step_of : List ℕ → Option OwnStep
+own_step_of word =
+    if bytes_eq word (codes "put") then Some own.Put
+    else (if bytes_eq word (codes "take") then Some own.Take
+    else (if bytes_eq word (codes "takeend") then Some own.TakeEnd
+    else (if bytes_eq word (codes "gain") then Some own.Gain
+    else (if bytes_eq word (codes "stop") then Some own.Stop
+    else (if bytes_eq word (codes "pick") then Some own.Pick
+    else None)))))
+
+-- the event that a word begins
+abbrev pub event_word_of : List ℕ → Option EventWord
+event_word_of word =
+    if bytes_eq word (codes "cast") then Some begins.Cast
+    else (if bytes_eq word (codes "mark") then Some begins.Mark
+    else (if bytes_eq word (codes "refresh") then Some begins.Refresh
+    else option_map begins.Own (own_step_of word)))
+
+abbrev pub most_version : ℕ
+most_version = 1000000
+
+-- `cast` has a name and a body; `mark` has two names; `refresh` has a name and a version; each other has a name
+abbrev pub event_fault : Option EventWord → List ℕ → Option Kind
+event_fault (Some begins.Cast) rest = a_word (λ by. option_or (name_fault by) (body_fault (body_in rest))) (words_of rest)
+event_fault (Some begins.Mark) rest = two_words (λ by dead. option_or (name_fault by) (name_fault dead)) (words_of rest)
+event_fault (Some begins.Refresh) rest = two_words (λ by version. option_or (name_fault by) (number_fault most_version version)) (words_of rest)
+event_fault (Some (begins.Own which)) rest = one_word name_fault (words_of rest)
+event_fault None rest = Some UnknownCommand
+
+-- what is wrong with an event, by its first word and its rest
+abbrev pub step_grammar : List (List ℕ) → List ℕ → List ℕ → Option Kind
+step_grammar members word rest = event_fault (event_word_of word) rest
+
+-- such a step of the member of this name
+abbrev pub own_event : OwnStep → List ℕ → Event
+own_event own.Put by = event.Put by
+own_event own.Take by = event.Take by
+own_event own.TakeEnd by = event.TakeEnd by
+own_event own.Gain by = event.Gain by
+own_event own.Stop by = event.Stop by
+own_event own.Pick by = event.Pick by
+
+-- the event that a line tells, by its word and its rest
+abbrev pub event_by : Option EventWord → List ℕ → Event
+event_by (Some begins.Cast) rest = event.Cast (operand_in rest) (body_in rest)
+event_by (Some begins.Mark) rest = event.Mark (operand_in rest) (second_in rest)
+event_by (Some begins.Refresh) rest = event.Refresh (operand_in rest) (unwrap_or (number_of most_version (second_in rest)) 0)
+event_by (Some (begins.Own which)) rest = own_event which (operand_in rest)
+event_by None rest = event.Put (operand_in rest)
+
+-- by its first word and its rest
+abbrev pub event_of : List ℕ → List ℕ → Event
+event_of word rest = event_by (event_word_of word) rest

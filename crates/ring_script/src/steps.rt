@@ -1,0 +1,202 @@
+//! Step files.
+ghost use Rattle.std.specs.Prelude.{◌≡◌, ◌⊎◌, ℕ, List, true, Err, IfOk};
+ghost use Rattle.std.specs.List.{list_all};
+ghost use Rattle.ring_script.specs.Words.{is_text_byte};
+ghost use Rattle.ring_script.specs.Place.{left_in};
+ghost use Rattle.ring_script.specs.Fault.{Tells};
+ghost use Rattle.ring_script.specs.Steps.{own_step_of, event_word_of, step_grammar, event_fault, own_event, event_by, event_of};
+ghost use Rattle.ring_script.specs.Reading.{IsRight, AreStepsOf, IsFirstFault, HasFault, CanOpen};
+
+use crate::arguments::{name_from, number_from, one_left, read_body, two_left};
+use crate::fault::{Kind, LineFault, ScriptFault};
+use crate::statement::Statement;
+use crate::text::read_text;
+use crate::words::Words;
+use ring_names::{CreditSpec, Items, Name};
+use ring_world::Event;
+use std::alloc::Global;
+
+/// What a step file says.
+#[derive(Drop, Debug)]
+pub struct Steps {
+    /// The members with which the ring opens, in their order.
+    pub members: Items<Name>,
+    /// The credit of each link.
+    pub credit: CreditSpec,
+    /// The events that are then tried, in order, each behind the number of its line. They name whom they
+    /// like: the ring refuses an event of a member that it hasn't.
+    pub lines: Items<(u32, Event)>,
+}
+
+/// The event that the first word of a line begins.
+#[derive(Clone, Copy, PartialEq, Eq, Debug)]
+pub(crate) enum EventWord {
+    /// A member multicasts a body.
+    Cast,
+    /// A member has another marked dead.
+    Mark,
+    /// A member reads the view of a version.
+    Refresh,
+    /// A member takes a step that nothing more is said of.
+    Own(OwnStep),
+}
+
+/// A step of a member that its name alone tells.
+#[derive(Clone, Copy, PartialEq, Eq, Debug)]
+pub(crate) enum OwnStep {
+    Put,
+    Take,
+    TakeEnd,
+    Gain,
+    Stop,
+    Pick,
+}
+
+/// The greatest version that a line may name.
+const MOST_VERSION: u32 = 1_000_000;
+
+impl EventWord {
+    /// What this word begins, if it does.
+    fn of(word: &[u8]) -> Option<EventWord>
+        ensures { result ≡ event_word_of word.now }
+    {
+        if word == b"cast".as_slice() {
+            return Some(EventWord::Cast);
+        }
+        if word == b"mark".as_slice() {
+            return Some(EventWord::Mark);
+        }
+        if word == b"refresh".as_slice() {
+            return Some(EventWord::Refresh);
+        }
+        match OwnStep::of(word) {
+            Some(step) => Some(EventWord::Own(step)),
+            None => None,
+        }
+    }
+}
+
+impl OwnStep {
+    /// The step that this word names, if it does.
+    fn of(word: &[u8]) -> Option<OwnStep>
+        ensures { result ≡ own_step_of word.now }
+    {
+        if word == b"put".as_slice() {
+            return Some(OwnStep::Put);
+        }
+        if word == b"take".as_slice() {
+            return Some(OwnStep::Take);
+        }
+        if word == b"takeend".as_slice() {
+            return Some(OwnStep::TakeEnd);
+        }
+        if word == b"gain".as_slice() {
+            return Some(OwnStep::Gain);
+        }
+        if word == b"stop".as_slice() {
+            return Some(OwnStep::Stop);
+        }
+        if word == b"pick".as_slice() {
+            return Some(OwnStep::Pick);
+        }
+        None
+    }
+
+    /// The step as an event of the member of this name.
+    fn event(self, by: Name) -> Event
+        ensures { result ≡ own_event self by }
+    {
+        match self {
+            OwnStep::Put => Event::Put { by },
+            OwnStep::Take => Event::Take { by },
+            OwnStep::TakeEnd => Event::TakeEnd { by },
+            OwnStep::Gain => Event::Gain { by },
+            OwnStep::Stop => Event::Stop { by },
+            OwnStep::Pick => Event::Pick { by },
+        }
+    }
+}
+
+impl Statement for Event {
+    ghost grammar = { step_grammar };
+
+    ghost says = { event_of };
+
+    fn read(alloc: Global, members: &[Name], word: &[u8], rest: Words) -> Result<Event, LineFault> {
+        let _ = members;
+        match EventWord::of(word) {
+            Some(EventWord::Cast) => read_cast(alloc, rest),
+            Some(EventWord::Mark) => read_mark(rest),
+            Some(EventWord::Refresh) => read_refresh(rest),
+            Some(EventWord::Own(step)) => read_own(step, rest),
+            None => Err(LineFault::Wrong(Kind::UnknownCommand)),
+        }
+    }
+}
+
+/// The cast of what is left on a line.
+fn read_cast(alloc: Global, rest: Words) -> Result<Event, LineFault>
+    requires text { list_all is_text_byte (left_in rest) ≡ true }
+    ensures fault { Tells (event_fault (Some EventWord.Cast) (left_in rest.entry)) result }
+    ensures cast { IfOk result (λ event. event ≡ event_by (Some EventWord.Cast) (left_in rest.entry)) }
+{
+    let mut words = rest;
+    let word = words.next_word().ok_or(Kind::MissingWord)?;
+    let by = name_from(word)?;
+    let body = read_body(alloc, words.body())?;
+    Ok(Event::Cast { by, body })
+}
+
+/// The mark of what is left on a line.
+fn read_mark(rest: Words) -> Result<Event, LineFault>
+    ensures fault { Tells (event_fault (Some EventWord.Mark) (left_in rest.entry)) result }
+    ensures mark { IfOk result (λ event. event ≡ event_by (Some EventWord.Mark) (left_in rest.entry)) }
+{
+    let (by, dead) = two_left(rest)?;
+    let by = name_from(by)?;
+    let dead = name_from(dead)?;
+    Ok(Event::Mark { by, dead })
+}
+
+/// The refreshing of what is left on a line.
+fn read_refresh(rest: Words) -> Result<Event, LineFault>
+    ensures fault { Tells (event_fault (Some EventWord.Refresh) (left_in rest.entry)) result }
+    ensures refresh { IfOk result (λ event. event ≡ event_by (Some EventWord.Refresh) (left_in rest.entry)) }
+{
+    let (by, version) = two_left(rest)?;
+    let by = name_from(by)?;
+    let view = number_from(version, MOST_VERSION)?;
+    Ok(Event::Refresh { by, view })
+}
+
+/// The step of the one whose name is left on a line.
+fn read_own(step: OwnStep, rest: Words) -> Result<Event, LineFault>
+    ensures fault { Tells (event_fault (Some (EventWord.Own step)) (left_in rest.entry)) result }
+    ensures own { IfOk result (λ event. event ≡ event_by (Some (EventWord.Own step)) (left_in rest.entry)) }
+{
+    let by = name_from(one_left(rest)?)?;
+    Ok(step.event(by))
+}
+
+/// Reads the steps that the bytes spell, exactly as `read_script` reads a script: each line is judged behind
+/// those before it, and the first one that is wrong is told with its first fault. The word of an event that the
+/// ring hasn't is no command.
+#[tactic(auto, using(crate::proofs::Exact::right_or_wrong, crate::proofs::Exact::right_has_no_fault, crate::proofs::Exact::first_fault_is_one))]
+pub fn read_steps(alloc: Global, bytes: &[u8]) -> Result<Steps, ScriptFault>
+    ensures steps { IfOk result (AreStepsOf bytes.now) }
+    ensures opens { IfOk result (λ steps. CanOpen steps.members) }
+    ensures fault { (line kind : ℕ) → result ≡ Err (ScriptFault.At line kind) → IsFirstFault step_grammar bytes.now line kind }
+
+    // A text is right or has a first fault, never both, and has one first fault alone.
+    ensures either { (text : List ℕ) → IsRight step_grammar text ⊎ HasFault step_grammar text }
+    ensures never_both { (text : List ℕ) (line kind : ℕ) → IsRight step_grammar text → IsFirstFault step_grammar text line kind → ⊥ }
+    ensures one_fault { (text : List ℕ) (line kind line' kind' : ℕ) → IsFirstFault step_grammar text line kind
+        → IsFirstFault step_grammar text line' kind' → (line ≡ line') × (kind ≡ kind') }
+{
+    let text = read_text::<Event>(alloc, bytes)?;
+    Ok(Steps {
+        members: Items::from_vec(text.members),
+        credit: text.credit,
+        lines: Items::from_vec(text.lines),
+    })
+}
