@@ -1,10 +1,16 @@
-//! Small rings, with values from the rules of the ring, and each public call once.
+//! Small rings, played from texts, in which each line is an event or a question: `cast a BODY`, `put a`, `take a`,
+//! `take_end a`, `gain a`, `stop a`, `mark a DEAD`, `refresh a VERSION`, `pick a`; `view`, `quiet`, `member a`, `state a`,
+//! `counts a`, `walk a`, `heard BY OF`. Behind its arrow stands the answer that the rules of the ring want. An event that
+//! has no arrow happens.
+mod answers;
 mod deaths;
+mod events;
 mod steady;
 mod walks;
 
 use crate::*;
-use ring_names::{Body, CreditSpec, Message, Name};
+use answers::answer;
+use ring_names::{CreditSpec, Name};
 use std::alloc::Global;
 use std::process::Abort;
 use std::test::Fail;
@@ -13,132 +19,71 @@ fn name(text: &str) -> Result<Name, Fail> {
     Ok(Name::read(text.as_bytes())?)
 }
 
-/// The ring of these members, with credit for so many packets, of which so many bring a grant.
+/// The names that a line lists.
+fn names(alloc: Global, line: &str) -> Result<Vec<Name>, Fail> {
+    let mut members = Vec::new(alloc);
+    for text in line.split_whitespace() {
+        members.push(name(text)?)?;
+    }
+    Ok(members)
+}
+
+/// The ring of these members, with credit for so many packets, of which each so many bring a grant.
 fn ring(
-    rt: &impl Abort,
-    alloc: Global,
-    names: &[&str],
+    rt: &(impl Abort + AllocGlobal),
+    members: &str,
     initial: u32,
     more: u32,
 ) -> Result<World, Fail> {
-    let mut members = Vec::new(alloc);
-    for text in names {
-        members.push(name(text)?)?;
-    }
+    let members = names(rt.alloc(), members)?;
     assert!(rt; are_opening_names(&members));
-    match CreditSpec::new(initial, more) {
-        Some(credit) => Ok(World::opening(alloc, &members, credit)?),
-        None => panic!(rt; "no credit {initial} {more}"),
-    }
+    let credit = CreditSpec::new(initial, more).ok_or("no credit")?;
+    Ok(World::opening(rt.alloc(), &members, credit)?)
 }
 
-fn cast(alloc: Global, by: &str, text: &str) -> Result<Event, Fail> {
-    Ok(Event::Cast {
-        by: name(by)?,
-        body: Body::read(alloc, text.as_bytes())?,
-    })
-}
-
-fn put(by: &str) -> Result<Event, Fail> {
-    Ok(Event::Put { by: name(by)? })
-}
-
-fn take(by: &str) -> Result<Event, Fail> {
-    Ok(Event::Take { by: name(by)? })
-}
-
-fn take_end(by: &str) -> Result<Event, Fail> {
-    Ok(Event::TakeEnd { by: name(by)? })
-}
-
-fn stop(by: &str) -> Result<Event, Fail> {
-    Ok(Event::Stop { by: name(by)? })
-}
-
-fn mark(by: &str, dead: &str) -> Result<Event, Fail> {
-    Ok(Event::Mark {
-        by: name(by)?,
-        dead: name(dead)?,
-    })
-}
-
-fn refresh(by: &str, version: u32) -> Result<Event, Fail> {
-    Ok(Event::Refresh {
-        by: name(by)?,
-        view: version,
-    })
-}
-
-fn pick(by: &str) -> Result<Event, Fail> {
-    Ok(Event::Pick { by: name(by)? })
-}
-
-fn gain(by: &str) -> Result<Event, Fail> {
-    Ok(Event::Gain { by: name(by)? })
-}
-
-/// That the event is refused with this number, and changes nothing that was counted.
-fn expect_refused(
-    rt: &impl Abort,
+/// The ring answers a line with what stands behind its arrow.
+fn expect_answer(
+    rt: &(impl Abort + AllocGlobal),
     world: &mut World,
-    event: &Event,
-    code: u32,
+    line: &str,
 ) -> Result<(), Fail> {
-    match world.enabled(event) {
-        Ok(()) => assert!(rt; false, "enabled, for {code}"),
-        Err(reason) => {
-            assert_eq!(rt; reason.code(), code);
-            assert_eq!(rt; world.apply(event), Err(Refused::NotEnabled(reason)));
-        }
+    let (said, wanted) = line.split_once("->").unwrap_or((line, ""));
+    let told = answer(rt, world, said.trim())?;
+    assert_eq!(rt; told.as_str().trim(), wanted.trim(), "at {line}");
+    Ok(())
+}
+
+/// The ring answers so each line of a text.
+fn go_on(rt: &(impl Abort + AllocGlobal), world: &mut World, text: &str) -> Result<(), Fail> {
+    for line in text.trim().lines() {
+        expect_answer(rt, world, line.trim())?;
     }
     Ok(())
 }
 
-/// That a member has heard these messages of another.
-fn expect_heard(
-    rt: &impl Abort,
-    world: &World,
-    by: &str,
-    of: &str,
-    want: &[&str],
+/// So does a ring that opens with these members and credit for eight packets, of which each four bring a grant.
+fn play(rt: &(impl Abort + AllocGlobal), members: &str, text: &str) -> Result<(), Fail> {
+    let mut world = ring(rt, members, 8, 4)?;
+    go_on(rt, &mut world, text)
+}
+
+/// The ring does so with the same text so many times.
+fn repeat(
+    rt: &(impl Abort + AllocGlobal),
+    world: &mut World,
+    times: u32,
+    text: &str,
 ) -> Result<(), Fail> {
-    let by = name(by)?;
-    let of = name(of)?;
-    assert!(rt; world.member(&by).is_some());
-    assert!(rt; world.member(&of).is_some());
-    let heard = world.heard(&by, &of)?;
-    assert_eq!(rt; heard.len(), want.len());
-    for (message, text) in heard.iter().zip(want) {
-        let Message::Cast(body) = message;
-        assert_eq!(rt; body.bytes(), text.as_bytes());
+    for _time in 0..times {
+        go_on(rt, world, text)?;
     }
     Ok(())
 }
 
-/// That so many casts of a member stand in its log, and so many are confirmed.
-fn expect_counts(
-    rt: &impl Abort,
-    world: &World,
-    by: &str,
-    casts: u64,
-    casts_confirmed: u64,
-) -> Result<(), Fail> {
-    let by = name(by)?;
-    assert!(rt; world.member(&by).is_some());
-    let want = Counts {
-        casts,
-        casts_confirmed,
-        publishes: 0,
-        publishes_confirmed: 0,
-    };
-    assert_eq!(rt; world.counts(&by), want);
-    Ok(())
-}
-
-/// Where a member stands.
-fn expect_state(rt: &impl Abort, world: &World, of: &str, want: MemberState) -> Result<(), Fail> {
-    let of = name(of)?;
-    assert!(rt; world.member(&of).is_some());
-    assert_eq!(rt; world.state(&of), want);
+/// Each event of a text happens where it is enabled.
+fn attempt(rt: &(impl Abort + AllocGlobal), world: &mut World, text: &str) -> Result<(), Fail> {
+    for line in text.trim().lines() {
+        let _told = answer(rt, world, line.trim())?;
+    }
     Ok(())
 }

@@ -1,127 +1,147 @@
 //! Rings in which members stop: the others mark them dead, send past them, and hear all.
-use super::*;
-use ring_names::Reason;
+use super::play;
+use std::test::Fail;
 
 #[test]
 fn a_ring_goes_on_without_one_that_stopped(rt: HostRuntime) -> Result<(), Fail> {
-    let mut world = ring(&rt, rt.alloc(), &["a", "b", "c"], 8, 4)?;
-    world.apply(&cast(rt.alloc(), "a", "x")?)?;
-    world.apply(&put("a")?)?;
-    world.apply(&take("b")?)?;
-    expect_refused(&rt, &mut world, &mark("a", "b")?, 20)?;
-    world.apply(&stop("b")?)?;
-    expect_refused(&rt, &mut world, &put("b")?, 12)?;
-    expect_refused(&rt, &mut world, &mark("c", "b")?, 22)?;
-    expect_refused(&rt, &mut world, &refresh("c", 2)?, 25)?;
-    world.apply(&mark("a", "b")?)?;
-    expect_refused(&rt, &mut world, &mark("a", "b")?, 21)?;
-    expect_refused(&rt, &mut world, &put("a")?, 16)?;
-    expect_refused(&rt, &mut world, &take("c")?, 40)?;
-    expect_refused(&rt, &mut world, &pick("c")?, 43)?;
-    world.apply(&take_end("c")?)?;
-    expect_refused(&rt, &mut world, &take("c")?, 39)?;
-    expect_refused(&rt, &mut world, &pick("c")?, 18)?;
-    expect_refused(&rt, &mut world, &mark("c", "b")?, 7)?;
-    world.apply(&refresh("c", 2)?)?;
-    world.apply(&pick("c")?)?;
-    expect_refused(&rt, &mut world, &take_end("c")?, 42)?;
-    world.apply(&take("c")?)?;
-    world.apply(&put("c")?)?;
-    world.apply(&take("a")?)?;
-    world.apply(&put("a")?)?;
-    expect_refused(&rt, &mut world, &put("a")?, 16)?;
-    world.apply(&take("c")?)?;
-    world.apply(&put("c")?)?;
-    world.apply(&take("a")?)?;
-    expect_refused(&rt, &mut world, &take("a")?, 17)?;
-    expect_refused(&rt, &mut world, &put("c")?, 16)
+    play(
+        &rt,
+        "a b c",
+        "
+        cast a x
+        put a
+        take b
+        mark a b -> refused 20 NotStopped
+        stop b
+        put b -> refused 12 Stopped
+        mark c b -> refused 22 LinkNotEnded
+        refresh c 2 -> refused 25 ViewOutOfRange { asked: 2, held: 1, newest: 1 }
+        mark a b
+        mark a b -> refused 21 NotNeighbour
+        put a -> refused 16 NothingNew
+        take c -> refused 40 EndNext
+        pick c -> refused 43 HasCurrentLink
+        take_end c
+        take c -> refused 39 NoCurrentLink
+        pick c -> refused 18 NoLinkAtDoor
+        mark c b -> refused 7 AlreadyDead
+        refresh c 2
+        pick c
+        take_end c -> refused 42 PacketNext
+        take c
+        put c
+        take a
+        put a
+        put a -> refused 16 NothingNew
+        take c
+        put c
+        take a
+        take a -> refused 17 NothingToTake
+        put c -> refused 16 NothingNew
+        ",
+    )
 }
 
 #[test]
 fn the_last_one_sends_to_itself(rt: HostRuntime) -> Result<(), Fail> {
-    let mut world = ring(&rt, rt.alloc(), &["a", "b"], 8, 4)?;
-    world.apply(&stop("b")?)?;
-    world.apply(&take_end("a")?)?;
-    world.apply(&mark("a", "b")?)?;
-    world.apply(&pick("a")?)?;
-    world.apply(&take("a")?)?;
-    world.apply(&cast(rt.alloc(), "a", "alone")?)?;
-    world.apply(&put("a")?)?;
-    world.apply(&take("a")?)?;
-    expect_refused(&rt, &mut world, &take("a")?, 17)
+    play(
+        &rt,
+        "a b",
+        "
+        stop b
+        take_end a
+        mark a b
+        pick a
+        take a
+        cast a alone
+        put a
+        take a
+        take a -> refused 17 NothingToTake
+        ",
+    )
 }
 
 #[test]
 fn the_door_and_the_range_of_views(rt: HostRuntime) -> Result<(), Fail> {
-    let mut world = ring(&rt, rt.alloc(), &["a", "b", "c"], 8, 4)?;
-    world.apply(&stop("a")?)?;
-    world.apply(&mark("c", "a")?)?;
-    expect_refused(&rt, &mut world, &pick("b")?, 43)?;
-    world.apply(&take_end("b")?)?;
-    expect_refused(&rt, &mut world, &pick("b")?, 18)?;
-    match world.enabled(&refresh("b", 3)?) {
-        Err(reason) => assert_eq!(rt;
-            reason,
-            Reason::ViewOutOfRange {
-                asked: 3,
-                held: 1,
-                newest: 2
-            }
-        ),
-        Ok(()) => assert!(rt; false, "refreshed"),
-    }
-    world.apply(&refresh("b", 2)?)?;
-    world.apply(&pick("b")?)?;
-    world.apply(&take("b")?)?;
-    expect_refused(&rt, &mut world, &put("b")?, 16)?;
-    assert_eq!(rt; world.view().version, 2);
-    expect_state(&rt, &world, "a", MemberState::Stopped)?;
-    for by in ["a", "b", "c"] {
-        expect_counts(&rt, &world, by, 0, 0)?;
-    }
-    expect_state(&rt, &world, "b", MemberState::Up { missing: Some(0) })?;
-    expect_state(&rt, &world, "c", MemberState::Up { missing: Some(0) })
+    play(
+        &rt,
+        "a b c",
+        "
+        stop a
+        mark c a
+        pick b -> refused 43 HasCurrentLink
+        take_end b
+        pick b -> refused 18 NoLinkAtDoor
+        refresh b 3 -> refused 25 ViewOutOfRange { asked: 3, held: 1, newest: 2 }
+        refresh b 2
+        pick b
+        take b
+        put b -> refused 16 NothingNew
+        view -> 2
+        state a -> Stopped
+        counts a -> casts 0 confirmed 0 publishes 0 confirmed 0
+        counts b -> casts 0 confirmed 0 publishes 0 confirmed 0
+        counts c -> casts 0 confirmed 0 publishes 0 confirmed 0
+        state b -> Up { missing: Some(0) }
+        state c -> Up { missing: Some(0) }
+        ",
+    )
 }
 
 #[test]
 fn what_a_publisher_sent_outlives_it(rt: HostRuntime) -> Result<(), Fail> {
-    let mut world = ring(&rt, rt.alloc(), &["a", "b"], 8, 4)?;
-    world.apply(&cast(rt.alloc(), "a", "x")?)?;
-    world.apply(&put("a")?)?;
-    world.apply(&take("b")?)?;
-    world.apply(&stop("a")?.copy()?)?;
-    expect_heard(&rt, &world, "b", "a", &["x"])?;
-    expect_heard(&rt, &world, "b", "b", &[])?;
-    expect_counts(&rt, &world, "a", 1, 0)
+    play(
+        &rt,
+        "a b",
+        "
+        cast a x
+        put a
+        take b
+        stop a
+        heard b a -> x
+        heard b b ->
+        counts a -> casts 1 confirmed 0 publishes 0 confirmed 0
+        ",
+    )
 }
 
+/// The ring is not quiet while who stopped is live, while a view is old and while a packet stands at a door, and
+/// then as who died is not erased.
 #[test]
 fn a_ring_with_a_dead_member_is_not_quiet(rt: HostRuntime) -> Result<(), Fail> {
-    let mut world = ring(&rt, rt.alloc(), &["a", "b", "c"], 8, 4)?;
-    assert!(rt; world.quiet());
-    world.apply(&stop("b")?)?;
-    assert!(rt; !world.quiet(), "who stopped is live");
-    world.apply(&take_end("c")?)?;
-    world.apply(&mark("a", "b")?.copy()?)?;
-    assert!(rt; !world.quiet(), "an old view");
-    world.apply(&refresh("c", 2)?.copy()?)?;
-    assert!(rt; !world.quiet(), "a packet at the door");
-    world.apply(&pick("c")?.copy()?)?;
-    world.apply(&take("c")?)?;
-    assert!(rt; !world.quiet(), "who died is not erased");
-    Ok(())
+    play(
+        &rt,
+        "a b c",
+        "
+        quiet -> true
+        stop b
+        quiet -> false
+        take_end c
+        mark a b
+        quiet -> false
+        refresh c 2
+        quiet -> false
+        pick c
+        take c
+        quiet -> false
+        ",
+    )
 }
 
+/// Nobody walks then.
 #[test]
 fn a_ring_in_which_all_have_stopped_is_quiet(rt: HostRuntime) -> Result<(), Fail> {
-    let mut world = ring(&rt, rt.alloc(), &["a", "b"], 8, 4)?;
-    world.apply(&cast(rt.alloc(), "a", "x")?)?;
-    world.apply(&put("a")?)?;
-    world.apply(&stop("a")?)?;
-    assert!(rt; !world.quiet());
-    world.apply(&stop("b")?)?;
-    assert!(rt; world.quiet());
-    let walk = world.walk(&name("a")?)?;
-    assert!(rt; walk.is_empty(), "nobody walks");
-    Ok(())
+    play(
+        &rt,
+        "a b",
+        "
+        cast a x
+        put a
+        stop a
+        quiet -> false
+        stop b
+        quiet -> true
+        walk a -> []
+        ",
+    )
 }

@@ -1,136 +1,188 @@
 //! Rings in which nobody stops.
-use super::*;
-use ring_names::MemberId;
+use super::{attempt, go_on, names, play, repeat, ring};
+use crate::are_opening_names;
+use std::process::Abort;
+use std::test::Fail;
 
 #[test]
 fn a_ring_of_one_hears_itself(rt: HostRuntime) -> Result<(), Fail> {
-    let mut world = ring(&rt, rt.alloc(), &["a"], 8, 4)?;
-    world.apply(&cast(rt.alloc(), "a", "hi")?)?;
-    expect_counts(&rt, &world, "a", 1, 0)?;
-    world.apply(&put("a")?)?;
-    world.apply(&take("a")?.copy()?)?;
-    expect_counts(&rt, &world, "a", 1, 1)?;
-    expect_heard(&rt, &world, "a", "a", &["hi"])
+    play(
+        &rt,
+        "a",
+        "
+        cast a hi
+        counts a -> casts 1 confirmed 0 publishes 0 confirmed 0
+        put a
+        take a
+        counts a -> casts 1 confirmed 1 publishes 0 confirmed 0
+        heard a a -> hi
+        ",
+    )
 }
 
 #[test]
 fn a_ring_of_three_hears_all(rt: HostRuntime) -> Result<(), Fail> {
-    let mut world = ring(&rt, rt.alloc(), &["a", "b", "c"], 8, 4)?;
-    for (by, text) in [
-        ("a", "a1"),
-        ("b", "b1"),
-        ("a", "a2"),
-        ("b", "b2"),
-        ("a", "a3"),
-    ] {
-        world.apply(&cast(rt.alloc(), by, text)?)?;
-    }
-    expect_heard(&rt, &world, "c", "a", &[])?;
+    let mut world = ring(&rt, "a b c", 8, 4)?;
+    go_on(
+        &rt,
+        &mut world,
+        "
+        cast a a1
+        cast b b1
+        cast a a2
+        cast b b2
+        cast a a3
+        heard c a ->
+        ",
+    )?;
     for _pass in 0..10 {
-        for by in ["a", "b", "c"] {
-            for event in [put(by)?, take(by)?] {
-                if world.enabled(&event).is_ok() {
-                    world.apply(&event)?;
-                }
-            }
-        }
+        attempt(
+            &rt,
+            &mut world,
+            "put a\ntake a\nput b\ntake b\nput c\ntake c",
+        )?;
     }
-    for by in ["a", "b", "c"] {
-        assert!(rt; world.enabled(&put(by)?).is_err());
-        assert!(rt; world.enabled(&take(by)?).is_err());
-        expect_heard(&rt, &world, by, "a", &["a1", "a2", "a3"])?;
-        expect_heard(&rt, &world, by, "b", &["b1", "b2"])?;
-        expect_heard(&rt, &world, by, "c", &[])?;
-    }
-    expect_counts(&rt, &world, "a", 3, 3)?;
-    expect_counts(&rt, &world, "b", 2, 2)?;
-    expect_counts(&rt, &world, "c", 0, 0)
+    go_on(
+        &rt,
+        &mut world,
+        "
+        put a -> refused 16 NothingNew
+        take a -> refused 17 NothingToTake
+        heard a a -> a1 a2 a3
+        heard a b -> b1 b2
+        heard a c ->
+        put b -> refused 16 NothingNew
+        take b -> refused 17 NothingToTake
+        heard b a -> a1 a2 a3
+        heard b b -> b1 b2
+        heard b c ->
+        put c -> refused 16 NothingNew
+        take c -> refused 17 NothingToTake
+        heard c a -> a1 a2 a3
+        heard c b -> b1 b2
+        heard c c ->
+        counts a -> casts 3 confirmed 3 publishes 0 confirmed 0
+        counts b -> casts 2 confirmed 2 publishes 0 confirmed 0
+        counts c -> casts 0 confirmed 0 publishes 0 confirmed 0
+        ",
+    )
 }
 
 #[test]
 fn refusals_change_nothing(rt: HostRuntime) -> Result<(), Fail> {
-    let mut world = ring(&rt, rt.alloc(), &["a", "b"], 8, 4)?;
-    for (event, code) in [
-        (cast(rt.alloc(), "z", "x")?, 6),
-        (put("z")?, 6),
-        (gain("z")?, 6),
-        (put("a")?, 16),
-        (take("b")?, 17),
-        (gain("a")?, 37),
-    ] {
-        expect_refused(&rt, &mut world, &event, code)?;
-    }
-    expect_counts(&rt, &world, "a", 0, 0)?;
-    expect_heard(&rt, &world, "b", "a", &[])
+    play(
+        &rt,
+        "a b",
+        "
+        cast z x -> refused 6 UnknownMember
+        put z -> refused 6 UnknownMember
+        gain z -> refused 6 UnknownMember
+        put a -> refused 16 NothingNew
+        take b -> refused 17 NothingToTake
+        gain a -> refused 37 NoGrant
+        counts a -> casts 0 confirmed 0 publishes 0 confirmed 0
+        heard b a ->
+        ",
+    )
 }
 
 #[test]
 fn members_have_ids_and_states(rt: HostRuntime) -> Result<(), Fail> {
-    let world = ring(&rt, rt.alloc(), &["a", "b"], 8, 4)?;
-    let second = name("b")?;
-    assert_eq!(rt; world.member(&name("a")?), Some(MemberId(1)));
-    assert_eq!(rt; world.member(&second), Some(MemberId(2)));
-    assert_eq!(rt; world.member(&name("c")?), None);
-    assert!(rt; world.member(&second).is_some());
-    assert_eq!(rt; world.state(&second), MemberState::Up { missing: Some(0) });
-    assert!(rt; !are_opening_names(&[second, second]));
-    Ok(())
+    assert!(rt; !are_opening_names(&names(rt.alloc(), "b b")?));
+    play(
+        &rt,
+        "a b",
+        "
+        member a -> Some(MemberId(1))
+        member b -> Some(MemberId(2))
+        member c -> None
+        state b -> Up { missing: Some(0) }
+        ",
+    )
 }
 
 #[test]
 fn a_link_without_credit_blocks_its_sender(rt: HostRuntime) -> Result<(), Fail> {
-    let mut world = ring(&rt, rt.alloc(), &["a", "b"], 1, 1)?;
-    world.apply(&cast(rt.alloc(), "a", "x")?)?;
-    world.apply(&put("a")?)?;
-    world.apply(&cast(rt.alloc(), "a", "y")?)?;
-    expect_refused(&rt, &mut world, &put("a")?, 15)?;
-    expect_refused(&rt, &mut world, &gain("a")?, 37)?;
-    world.apply(&take("b")?)?;
-    expect_heard(&rt, &world, "b", "a", &["x"])?;
-    world.apply(&gain("a")?.copy()?)?;
-    world.apply(&put("a")?)?;
-    world.apply(&take("b")?)?;
-    expect_heard(&rt, &world, "a", "a", &["x", "y"])?;
-    expect_heard(&rt, &world, "b", "a", &["x", "y"])?;
-    expect_counts(&rt, &world, "a", 2, 0)?;
-    expect_counts(&rt, &world, "b", 0, 0)?;
-    assert!(rt; !world.quiet());
-    Ok(())
+    let mut world = ring(&rt, "a b", 1, 1)?;
+    go_on(
+        &rt,
+        &mut world,
+        "
+        cast a x
+        put a
+        cast a y
+        put a -> refused 15 NoCredit
+        gain a -> refused 37 NoGrant
+        take b
+        heard b a -> x
+        gain a
+        put a
+        take b
+        heard a a -> x y
+        heard b a -> x y
+        counts a -> casts 2 confirmed 0 publishes 0 confirmed 0
+        counts b -> casts 0 confirmed 0 publishes 0 confirmed 0
+        quiet -> false
+        ",
+    )
+}
+
+/// A link carries what its credit covers and no more, and each so many packets that are taken bring one grant.
+fn expect_credit_back(
+    rt: &(impl Abort + AllocGlobal),
+    initial: u32,
+    more: u32,
+) -> Result<(), Fail> {
+    let mut world = ring(rt, "a b", initial, more)?;
+    repeat(rt, &mut world, initial, "cast a x\nput a")?;
+    go_on(rt, &mut world, "cast a last\nput a -> refused 15 NoCredit")?;
+    let packets = more.saturating_sub(1);
+    repeat(
+        rt,
+        &mut world,
+        packets,
+        "take b\ngain a -> refused 37 NoGrant",
+    )?;
+    go_on(
+        rt,
+        &mut world,
+        "take b\ngain a\ngain a -> refused 37 NoGrant\nput a",
+    )
 }
 
 #[test]
 fn credit_comes_back_at_each_so_many_packets(rt: HostRuntime) -> Result<(), Fail> {
     for (initial, more) in [(1, 1), (64, 1), (64, 64)] {
-        let mut world = ring(&rt, rt.alloc(), &["a", "b"], initial, more)?;
-        for _packet in 0..initial {
-            world.apply(&cast(rt.alloc(), "a", "x")?)?;
-            world.apply(&put("a")?)?;
-        }
-        world.apply(&cast(rt.alloc(), "a", "last")?)?;
-        expect_refused(&rt, &mut world, &put("a")?, 15)?;
-        for _packet in 1..more {
-            world.apply(&take("b")?)?;
-            expect_refused(&rt, &mut world, &gain("a")?, 37)?;
-        }
-        world.apply(&take("b")?)?;
-        world.apply(&gain("a")?)?;
-        expect_refused(&rt, &mut world, &gain("a")?, 37)?;
-        world.apply(&put("a")?)?;
+        expect_credit_back(&rt, initial, more)?;
     }
     Ok(())
 }
 
 #[test]
 fn a_ring_is_quiet_when_all_has_come_round(rt: HostRuntime) -> Result<(), Fail> {
-    let mut world = ring(&rt, rt.alloc(), &["a", "b"], 8, 4)?;
-    assert!(rt; world.quiet());
-    world.apply(&cast(rt.alloc(), "a", "x")?)?;
-    for (by, from) in [("b", "a"), ("a", "b"), ("b", "a"), ("a", "b")] {
-        assert!(rt; !world.quiet());
-        world.apply(&put(from)?)?;
-        assert!(rt; !world.quiet());
-        world.apply(&take(by)?)?;
-    }
-    assert!(rt; world.quiet());
-    Ok(())
+    play(
+        &rt,
+        "a b",
+        "
+        quiet -> true
+        cast a x
+        quiet -> false
+        put a
+        quiet -> false
+        take b
+        quiet -> false
+        put b
+        quiet -> false
+        take a
+        quiet -> false
+        put a
+        quiet -> false
+        take b
+        quiet -> false
+        put b
+        quiet -> false
+        take a
+        quiet -> true
+        ",
+    )
 }
