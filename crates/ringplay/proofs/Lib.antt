@@ -1,3 +1,4 @@
 pub mod Playing
+pub mod Stepping
 pub mod Reports
 pub mod Dues

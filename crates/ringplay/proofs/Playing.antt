@@ -1,9 +1,10 @@
 -- What the journal of a played script has.
-use Rattle.std.proofs.Common.{◌≡◌, ℕ, zero, suc, ◌+◌, ◌<◌, ◌≤◌, Bool, true, false, cond, nat_lt, not, List, [], ◌∷◌, ◌++◌, length, take, drop, get_or, Some, None, IsSome, bytes_eq, refl, sym, ap, subst, ◌∙◌, arith}
+use Rattle.std.proofs.Common.{◌≡◌, ℕ, zero, suc, ◌+◌, ◌<◌, ◌≤◌, ◌^◌, Bool, true, false, cond, nat_lt, not, List, [], ◌∷◌, ◌++◌, length, take, drop, get_or, Some, None, IsSome, bytes_eq, refl, sym, ap, subst, ◌∙◌, arith}
 use Rattle.std.specs.Prelude.{Contains}
 use Rattle.std.specs.List.{position, prefix_len}
 use Rattle.std.proofs.lemmas.Bool.Decides.{nat_tests}
 use Rattle.std.proofs.lemmas.List.{take-take, take-append-drop}
+use Rattle.ring_names.specs.declared.numbers.CreditSpec.{CreditSpec}
 use Rattle.ring_script.specs.declared.command.Command.{Command}
 use Rattle.ring_script.specs.declared.command.Command.TheVariants as command
 use Rattle.group_view.specs.Change.{AreOpeningNames}
@@ -25,7 +26,7 @@ use Rattle.ring_cluster.proofs.Heard.{run_quiet_has_heard}
 use Rattle.ring_script.specs.declared.script.Script.{Script}
 use Rattle.ring_script.specs.Reading.{IsCommandTo}
 use Rattle.ringplay.specs.Report.{report_of}
-use Rattle.ringplay.specs.Call.{state_after, SameRing, commands_on, given_of, IsPlayedBy}
+use Rattle.ringplay.specs.Call.{state_after, IsLawfulRun, SameRing, commands_on, given_of, IsPlayedBy}
 
 -- ---- a name that the ring has, has a place
 
@@ -73,28 +74,46 @@ whole_run w k events = sym (last_append w (take k events) (drop k events)) ∙ a
 
 -- ---- the laws after each prefix
 
-module _ (script : Script) (journal : List Event) (are : AreOpeningNames script.members) (run : IsRun (opening script.credit script.members) journal) where
+module _ (credit : CreditSpec) (names : List (List ℕ)) (journal : List Event) (are : AreOpeningNames names) (run : IsRun (opening credit names) journal) where
   -- the ring as it opened
   abbrev opened : World
-  opened = opening script.credit script.members
+  opened = opening credit names
 
-  pub lawful_after : (k : ℕ) → IsLawful script.credit.initial (state_after script journal k)
-  lawful_after k = every_state_lawful script.credit script.members (take k journal) are (run_front opened k journal run)
+  lawful_after : (k : ℕ) → IsLawful credit.initial (state_after credit names journal k)
+  lawful_after k = every_state_lawful credit names (take k journal) are (run_front opened k journal run)
 
   -- nobody had stopped before where nobody has at the end
-  pub alive_after : NobodyStopped (last opened journal) → (k : ℕ) → NobodyStopped (state_after script journal k)
+  pub alive_after : NobodyStopped (last opened journal) → (k : ℕ) → NobodyStopped (state_after credit names journal k)
   alive_after up k =
-      nobody_stopped_before script.credit script.members (take k journal) (drop k journal) are (run_front opened k journal run) (run_back opened k journal run)
+      nobody_stopped_before credit names (take k journal) (drop k journal) are (run_front opened k journal run) (run_back opened k journal run)
       (subst NobodyStopped (sym (whole_run opened k journal)) up)
 
-  pub goes_on_after : (j k : ℕ) → j ≤ k → GoesOn (state_after script journal j) (state_after script journal k)
+  goes_on_after : (j k : ℕ) → j ≤ k → GoesOn (state_after credit names journal j) (state_after credit names journal k)
   goes_on_after j k l =
       let first : List Event = take k journal in
       let r : IsRun opened first = run_front opened k journal run in
       let same : take j first ≡ take j journal = take-take j k journal l in
       subst (λ es. GoesOn (last opened es) (last opened first)) same
       (subst (GoesOn (last opened (take j first))) (whole_run opened j first)
-      (every_run_goes_on script.credit script.members (take j first) (drop j first) are (run_front opened j first r) (run_back opened j first r)))
+      (every_run_goes_on credit names (take j first) (drop j first) are (run_front opened j first r) (run_back opened j first r)))
+
+  -- each run is lawful
+  pub lawful_run : length journal < 2 ^ 59 → IsLawfulRun credit names journal
+  lawful_run few = record { run = run; few = few; lawful = lawful_after; goes_on = goes_on_after }
+
+-- ---- a cluster and what happened in it
+
+-- What a cluster has that opened with this credit and these members and in which these events have happened.
+pub record HasRun (credit : CreditSpec) (names : List (List ℕ)) (journal : List Event) (c : Seen) : Type 0 where
+  pub are : AreOpeningNames names
+  pub run : IsLawfulRun credit names journal
+  pub state : state_of c ≡ last (opening credit names) journal
+
+pub has_run : (credit : CreditSpec) (names : List (List ℕ)) (journal : List Event) (c : Seen) → c.credit ≡ credit → c.names ≡ names → journal ≡ c.events → IsGoing c → HasRun credit names journal c
+has_run credit names journal c ec en ej going =
+    let are : AreOpeningNames names = subst AreOpeningNames en going.are in
+    let run : IsRun (opening credit names) journal = rw (sym ec, sym en, ej) going.run in
+    record { are = are; run = lawful_run credit names journal are run (rw ej going.few); state = rw (ec, en, sym ej) refl }
 
 -- ---- a played script
 
@@ -103,21 +122,16 @@ pub played_by : (script : Script) (c : Seen) (journal : List Event) (text : List
     → IsGoing c → NobodyStopped (state_of c) → IsQuiet (state_of c) → AgendasAreEmpty c → Plays c.credit c.names c.events c.given → journal ≡ c.events → text ≡ report_of (state_of c)
     → IsPlayedBy script journal text (Some c)
 played_by script c journal text ec en eg going up quiet empty plays ej et =
-    let are : AreOpeningNames script.members = subst AreOpeningNames en going.are in
-    let run : IsRun (opening script.credit script.members) journal = rw (sym ec, sym en, ej) going.run in
-    let quiet' : IsQuiet (last (opening script.credit script.members) journal) = rw (sym ec, sym en, ej) quiet in
-    let up' : NobodyStopped (last (opening script.credit script.members) journal) = rw (sym ec, sym en, ej) up in
+    let ran = has_run script.credit script.members journal c ec en ej going in
+    let quiet' : IsQuiet (last (opening script.credit script.members) journal) = subst IsQuiet ran.state quiet in
     record {
       played = record {
-        run = run;
-        few = rw ej going.few;
+        run = ran.run;
         plays = rw (sym ec, sym en, ej, sym eg) plays;
-        alive = alive_after script journal are run up';
-        lawful = lawful_after script journal are run;
-        goes_on = goes_on_after script journal are run;
+        alive = alive_after script.credit script.members journal ran.are ran.run.run (subst NobodyStopped ran.state up);
         quiet = quiet';
-        heard_all = run_quiet_has_heard script.credit script.members journal are run quiet';
-        report = rw (sym ec, sym en, ej) et;
+        heard_all = run_quiet_has_heard script.credit script.members journal ran.are ran.run.run quiet';
+        report = et ∙ ap report_of ran.state;
       };
       by = record { seen = c; is = refl; names = en; credit = ec; events = sym ej; given = eg; empty = empty };
     }

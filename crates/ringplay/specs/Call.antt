@@ -3,9 +3,14 @@ use Rattle.std.specs.Prelude.{◌≡◌, ◌⊎◌, ℕ, ◌<◌, ◌≤◌, ◌
 use Rattle.std.specs.Fmt.{decimal}
 use Rattle.ring_script.specs.declared.command.Command.{Command}
 use Rattle.ring_script.specs.declared.command.Command.TheVariants.{Settle}
+use Rattle.ring_names.specs.declared.numbers.CreditSpec.{CreditSpec}
 use Rattle.ring_script.specs.declared.script.Script.{Script}
+use Rattle.ring_script.specs.declared.steps.Steps.{Steps}
 use Rattle.ring_script.specs.Words.{lines_of}
-use Rattle.ring_script.specs.Reading.{IsScriptOf, IsFirstFault}
+use Rattle.ring_script.specs.Line.{Grammar}
+use Rattle.ring_script.specs.Script.{script_grammar}
+use Rattle.ring_script.specs.Steps.{step_grammar}
+use Rattle.ring_script.specs.Reading.{IsScriptOf, AreStepsOf, IsFirstFault}
 use Rattle.ring_world.specs.declared.event.Event.{Event}
 use Rattle.ring_world.specs.Machine.{World}
 use Rattle.ring_world.specs.Step.{opening}
@@ -19,18 +24,42 @@ use Rattle.ring_cluster.specs.Plays.{Plays, AgendasAreEmpty}
 use Rattle.ringplay.specs.declared.call.Cause.{Cause}
 use Rattle.ringplay.specs.declared.call.Cause.TheVariants as causes
 use Rattle.ringplay.specs.declared.call.Ended.{Ended}
-use Rattle.ringplay.specs.Words.{IsPlay}
+use Rattle.ringplay.specs.declared.word.Mode.{Mode}
+use Rattle.ringplay.specs.declared.word.Mode.TheVariants.{Play, Step}
+use Rattle.ringplay.specs.Words.{Asks, AsksNothing}
 use Rattle.ringplay.specs.Report.{newline, report_of}
+use Rattle.ringplay.specs.Step.{enabled_of, refused_lines}
 
--- ---- what is played
+-- ---- what has happened
 
--- the state after the first k events of a journal, in a ring with the script's members and credit
-abbrev pub state_after : Script → List Event → ℕ → World
-state_after script journal k = last (opening script.credit script.members) (take k journal)
+-- the state after the first k events of a journal, in a ring that opened with these members and this credit
+abbrev pub state_after : CreditSpec → List (List ℕ) → List Event → ℕ → World
+state_after credit names journal k = last (opening credit names) (take k journal)
+
+-- The journal is a run of the ring from these members and this credit. The laws hold after each of its prefixes, and from
+-- each to each longer one nothing falls.
+pub record IsLawfulRun (credit : CreditSpec) (names : List (List ℕ)) (journal : List Event) : Type 0 where
+  pub run : IsRun (opening credit names) journal
+  pub few : length journal < 2 ^ 59
+  pub lawful : (k : ℕ) → IsLawful credit.initial (state_after credit names journal k)
+  pub goes_on : (j k : ℕ) → j ≤ k → GoesOn (state_after credit names journal j) (state_after credit names journal k)
+
+-- It happened in this cluster: its ring opened with these members and this credit, it was given these commands and nothing
+-- else, its journal is this one, and nobody has anything left to do.
+pub record HappenedIn (initial : CreditSpec) (members : List (List ℕ)) (commands : List Command) (journal : List Event) (cluster : Option Seen) : Type 0 where
+  pub seen : Seen
+  pub is : cluster ≡ Some seen
+  pub names : seen.names ≡ members
+  pub credit : seen.credit ≡ initial
+  pub events : seen.events ≡ journal
+  pub given : seen.given ≡ commands
+  pub empty : AgendasAreEmpty seen
 
 -- the cluster's ring opened with the same members and credit
 abbrev pub SameRing : Seen → Seen → Type 0
 SameRing c d = (d.names ≡ c.names) × (d.credit ≡ c.credit)
+
+-- ---- what is played
 
 -- the commands of lines, each behind its number
 abbrev pub commands_on : List (ℕ × Command) → List Command
@@ -40,37 +69,35 @@ commands_on lines = map (λ line. line.1) lines
 abbrev pub given_of : Script → List Command
 given_of script = commands_on script.lines ++ Settle ∷ []
 
--- The journal is a run of the ring from the script's members and credit. Each member's client events in it are
--- its commands, and at each settling all earlier commands were done and the ring was quiet. After each of its
--- prefixes every member is up and the laws hold, and from each prefix to the next nothing falls. Its last state is
--- quiet, each message is confirmed there and every member has heard all, and the text is the report of it.
+-- The journal is a lawful run. Each member's client events in it are its commands, and at each settling all earlier
+-- commands were done and the ring was quiet. After each of its prefixes every member is up. Its last state is quiet, each
+-- message is confirmed there and every member has heard all, and the text is the report of it.
 pub record IsPlayed (script : Script) (journal : List Event) (text : List ℕ) : Type 0 where
-  pub run : IsRun (opening script.credit script.members) journal
-  pub few : length journal < 2 ^ 59
+  pub run : IsLawfulRun script.credit script.members journal
   pub plays : Plays script.credit script.members journal (given_of script)
-  pub alive : (k : ℕ) → NobodyStopped (state_after script journal k)
-  pub lawful : (k : ℕ) → IsLawful script.credit.initial (state_after script journal k)
-  pub goes_on : (j k : ℕ) → j ≤ k → GoesOn (state_after script journal j) (state_after script journal k)
+  pub alive : (k : ℕ) → NobodyStopped (state_after script.credit script.members journal k)
   pub quiet : IsQuiet (last (opening script.credit script.members) journal)
   pub heard_all : HasHeardAll (last (opening script.credit script.members) journal)
   pub report : text ≡ report_of (last (opening script.credit script.members) journal)
 
--- The cluster played it: its ring opened with the script's members and credit, it was given the commands of the
--- script and the settling at its end and nothing else, its journal is this one, and nobody has anything left to
--- do.
-pub record HasPlayed (script : Script) (journal : List Event) (cluster : Option Seen) : Type 0 where
-  pub seen : Seen
-  pub is : cluster ≡ Some seen
-  pub names : seen.names ≡ script.members
-  pub credit : seen.credit ≡ script.credit
-  pub events : seen.events ≡ journal
-  pub given : seen.given ≡ given_of script
-  pub empty : AgendasAreEmpty seen
-
 -- the script was played, by this cluster
 pub record IsPlayedBy (script : Script) (journal : List Event) (text : List ℕ) (cluster : Option Seen) : Type 0 where
   pub played : IsPlayed script journal text
-  pub by : HasPlayed script journal cluster
+  pub by : HappenedIn script.credit script.members (given_of script) journal cluster
+
+-- ---- what is stepped
+
+-- The journal is a lawful run, of the lines' events that were enabled, each after the earlier ones. The text has a line for
+-- each that was refused, and then the report of the last state.
+pub record AreStepped (steps : Steps) (journal : List Event) (text : List ℕ) : Type 0 where
+  pub run : IsLawfulRun steps.credit steps.members journal
+  pub enabled : journal ≡ enabled_of (opening steps.credit steps.members) steps.lines
+  pub report : text ≡ refused_lines (opening steps.credit steps.members) steps.lines ++ report_of (last (opening steps.credit steps.members) journal)
+
+-- the steps were taken, by this cluster, which was given nothing
+pub record AreSteppedBy (steps : Steps) (journal : List Event) (text : List ℕ) (cluster : Option Seen) : Type 0 where
+  pub stepped : AreStepped steps journal text
+  pub by : HappenedIn steps.credit steps.members [] journal cluster
 
 -- ---- what is read
 
@@ -95,19 +122,35 @@ pub record IsInput (told : Option (List ℕ)) (bytes : List ℕ) : Type 0 where
   pub is : IfSome told (λ all. bytes ≡ all)
   pub within : IsWithin bytes
 
--- the input spells a script, and this cluster played it
-pub record IsDone (told : Option (List ℕ)) (journal : List Event) (text : List ℕ) (cluster : Option Seen) : Type 0 where
-  pub bytes : List ℕ
-  pub input : IsInput told bytes
-  pub script : Script
-  pub says : IsScriptOf bytes script
-  pub played : IsPlayedBy script journal text cluster
+-- the grammar of what is read
+abbrev pub grammar_of : Mode → Grammar
+grammar_of Play = script_grammar
+grammar_of Step = step_grammar
 
--- the first fault of the input is this one
-pub record IsFaulty (told : Option (List ℕ)) (line kind : ℕ) : Type 0 where
+-- bytes spell what was asked for, and this cluster did it
+abbrev pub WasDone : Mode → List ℕ → List Event → List ℕ → Option Seen → Type 0
+WasDone Play bytes journal text cluster = (script : Script) × IsScriptOf bytes script × IsPlayedBy script journal text cluster
+WasDone Step bytes journal text cluster = (steps : Steps) × AreStepsOf bytes steps × AreSteppedBy steps journal text cluster
+
+-- the words ask for something, and it was done as the input says
+pub record IsDone (words : List (List ℕ)) (told : Option (List ℕ)) (journal : List Event) (text : List ℕ) (cluster : Option Seen) : Type 0 where
+  pub mode : Mode
+  pub asks : Asks words mode
   pub bytes : List ℕ
   pub input : IsInput told bytes
-  pub fault : IsFirstFault bytes line kind
+  pub done : WasDone mode bytes journal text cluster
+
+-- the words ask for something, and this is the first fault of the input
+pub record IsFaulty (words : List (List ℕ)) (told : Option (List ℕ)) (line kind : ℕ) : Type 0 where
+  pub mode : Mode
+  pub asks : Asks words mode
+  pub bytes : List ℕ
+  pub input : IsInput told bytes
+  pub fault : IsFirstFault (grammar_of mode) bytes line kind
+
+-- the same, as far as the source tells its bytes
+abbrev pub IsRefused : List (List ℕ) → Option (List ℕ) → ℕ → ℕ → Type 0
+IsRefused words told line kind = (mode : Mode) × Asks words mode × IfSome told (λ all. IsWithin all × IsFirstFault (grammar_of mode) all line kind)
 
 -- how it is told
 abbrev pub fault_line : ℕ → ℕ → List ℕ
@@ -125,26 +168,30 @@ status_of causes.WriteFault = 4
 status_of causes.OutOfMemory = 5
 status_of causes.TooLarge = 6
 
--- why an answer other than a played script has this journal, this line and no cluster
+-- why an answer other than what was done has this journal, this line and no cluster
 pub record SaysOnly (why : Type 0) (journal : List Event) (text : List ℕ) (cluster : Option Seen) (line : List ℕ) : Type 0 where
   pub because : why
   pub nothing : journal ≡ []
   pub nobody : cluster ≡ None
   pub says : text ≡ line
 
+-- the words ask for something
+abbrev pub AsksSome : List (List ℕ) → Type 0
+AsksSome words = (mode : Mode) × Asks words mode
+
 -- What is due before anything is written. Want of memory alone is free. `told` is what the source tells of
 -- its bytes, and `rose` says that its count of faults rose.
 abbrev pub IsDue : List (List ℕ) → Option (List ℕ) → Type 0 → Cause → List Event → List ℕ → Option Seen → Type 0
-IsDue words told rose causes.Done journal text cluster = IsPlay words × IsDone told journal text cluster
+IsDue words told rose causes.Done journal text cluster = IsDone words told journal text cluster
 IsDue words told rose causes.Usage journal text cluster =
-    SaysOnly (IsPlay words → ⊥) journal text cluster (codes "usage" ++ newline)
+    SaysOnly (AsksNothing words) journal text cluster (codes "usage" ++ newline)
 IsDue words told rose (causes.Script line kind) journal text cluster =
-    SaysOnly (IsPlay words × IsFaulty told line kind) journal text cluster (fault_line line kind)
-IsDue words told rose causes.ReadFault journal text cluster = SaysOnly (IsPlay words × rose) journal text cluster []
+    SaysOnly (IsFaulty words told line kind) journal text cluster (fault_line line kind)
+IsDue words told rose causes.ReadFault journal text cluster = SaysOnly (AsksSome words × rose) journal text cluster []
 IsDue words told rose causes.WriteFault journal text cluster = ⊥
 IsDue words told rose causes.OutOfMemory journal text cluster = SaysOnly (Unit {0}) journal text cluster []
 IsDue words told rose causes.TooLarge journal text cluster =
-    SaysOnly (IsPlay words × IfSome told IsTooLarge) journal text cluster (codes "too large" ++ newline)
+    SaysOnly (AsksSome words × IfSome told IsTooLarge) journal text cluster (codes "too large" ++ newline)
 
 -- The answer: what was due was written whole, or the sink failed (`rose`) and has gained the first bytes of it.
 pub record Answers (words : List (List ℕ)) (told : Option (List ℕ)) (read_rose : Type 0) (gains : List ℕ → Type 0) (write_rose : Type 0) (ended : Ended) : Type 0 where

@@ -4,36 +4,32 @@ use Rattle.ringplay.specs.declared.call.Cause.{Cause}
 use Rattle.ringplay.specs.declared.call.Cause.TheVariants as causes
 use Rattle.ringplay.specs.declared.call.Due.{Due}
 use Rattle.ringplay.specs.declared.call.Ended.{Ended}
-use Rattle.ring_script.specs.declared.script.Script.{Script}
+use Rattle.ringplay.specs.declared.word.Mode.{Mode}
 use Rattle.ring_script.specs.Words.{lines_of}
-use Rattle.ring_script.specs.Reading.{IsScriptOf, IsFirstFault}
+use Rattle.ring_script.specs.Reading.{IsFirstFault}
 use Rattle.ringplay.specs.Report.{newline}
-use Rattle.ringplay.specs.Call.{IsPlayedBy, fault_line, most_lines}
+use Rattle.ringplay.specs.Call.{WasDone, grammar_of, fault_line, most_lines}
 
 -- a line, no journal and no cluster, or want of memory
 abbrev pub IsLineDue : Cause → List ℕ → Due → Type 0
 IsLineDue cause line due = (due.journal.items ≡ []) × (due.cluster ≡ None) × (((due.cause ≡ cause) × (due.text.items ≡ line)) ⊎ ((due.cause ≡ causes.OutOfMemory) × (due.text.items ≡ [])))
 
--- the script was played, by this cluster
-abbrev pub IsPlayDue : Script → Due → Type 0
-IsPlayDue script due = (due.cause ≡ causes.Done) × IsPlayedBy script due.journal.items due.text.items due.cluster
-
--- the bytes spell a script, and it was played
-abbrev pub IsScriptDue : List ℕ → Due → Type 0
-IsScriptDue bytes due = (script : Script) × IsScriptOf bytes script × IsPlayDue script due
+-- the bytes spell what was asked for, and it was done
+abbrev pub IsDoneDue : Mode → List ℕ → Due → Type 0
+IsDoneDue mode bytes due = (due.cause ≡ causes.Done) × WasDone mode bytes due.journal.items due.text.items due.cluster
 
 -- the bytes are refused, by their first fault
-abbrev pub IsFaultDue : List ℕ → Due → Type 0
-IsFaultDue bytes due = (line : ℕ) × (kind : ℕ) × IsFirstFault bytes line kind × IsLineDue (causes.Script line kind) (fault_line line kind) due
+abbrev pub IsFaultDue : Mode → List ℕ → Due → Type 0
+IsFaultDue mode bytes due = (line : ℕ) × (kind : ℕ) × IsFirstFault (grammar_of mode) bytes line kind × IsLineDue (causes.Script line kind) (fault_line line kind) due
 
 -- the bytes have too many lines
 abbrev pub IsLargeDue : List ℕ → Due → Type 0
 IsLargeDue bytes due = (most_lines < length (lines_of bytes)) × IsLineDue causes.TooLarge (codes "too large" ++ newline) due
 
--- the lines are not too many, and the script was played or the first fault told; or they are; or memory was wanted
-abbrev pub IsDueToInput : List ℕ → Due → Type 0
-IsDueToInput bytes due =
-    ((length (lines_of bytes) ≤ most_lines) × (IsScriptDue bytes due ⊎ IsFaultDue bytes due)) ⊎ (IsLargeDue bytes due ⊎ IsLineDue causes.OutOfMemory [] due)
+-- the lines are not too many, and what they ask for was done or the first fault told; or they are; or memory was wanted
+abbrev pub IsDueToInput : Mode → List ℕ → Due → Type 0
+IsDueToInput mode bytes due =
+    ((length (lines_of bytes) ≤ most_lines) × (IsDoneDue mode bytes due ⊎ IsFaultDue mode bytes due)) ⊎ (IsLargeDue bytes due ⊎ IsLineDue causes.OutOfMemory [] due)
 
 -- what was due was written whole, or its first bytes and the sink failed
 abbrev pub IsWritten : Due → (List ℕ → Type 0) → Type 0 → Ended → Type 0

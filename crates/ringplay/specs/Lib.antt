@@ -1,4 +1,5 @@
 pub mod Words
 pub mod Report
+pub mod Step
 pub mod Call
 pub mod Due

@@ -1,18 +1,21 @@
 //! The top call: all that the program does, over any source and sink.
-ghost use Rattle.std.specs.Prelude.{◌≡◌, ◌⊎◌, ℕ, List, [], Some, IfSome, IfOk};
+ghost use Rattle.std.specs.Prelude.{◌≡◌, ◌⊎◌, ℕ, List, [], Some, Err, IfSome, IfOk};
+ghost use Rattle.std.specs.Io.KnownBytes.{IsAtEnd};
 ghost use Rattle.ring_io.specs.Contents.{Gains};
 ghost use Rattle.ring_io.specs.Count.{Rose};
-ghost use Rattle.ringplay.specs.Words.{IsPlay};
-ghost use Rattle.ring_script.specs.Reading.{IsRight, IsFirstFault, IsPlayable};
-ghost use Rattle.ringplay.specs.Due.{IsLineDue, IsPlayDue, IsDueToInput, IsWritten};
-ghost use Rattle.ringplay.specs.Call.{Answers, IsDue, IsUnlessFailed, IsWithin, IsTooLarge, fault_line, status_of};
+ghost use Rattle.ringplay.specs.declared.word.Mode.{Mode};
+ghost use Rattle.ringplay.specs.Words.{Asks, AsksNothing};
+ghost use Rattle.ring_script.specs.Reading.{IsRight, IsFirstFault};
+ghost use Rattle.ringplay.specs.Due.{IsLineDue, IsDueToInput, IsWritten};
+ghost use Rattle.ringplay.specs.Call.{Answers, IsDue, IsUnlessFailed, IsWithin, IsTooLarge, IsRefused, WasDone, grammar_of, fault_line, status_of};
 
-use crate::play::play;
-use crate::word::{Word, is_play};
+use crate::play::{Played, play};
+use crate::step::step;
+use crate::word::{Mode, Word, mode_of};
 use ring_cluster::Cluster;
 use ring_io::{Gate, ReadEnd, Sink, Source, read_all, write_all};
 use ring_names::{Items, OutOfMemory};
-use ring_script::{Script, ScriptFault, line_count, read_script};
+use ring_script::{ScriptFault, line_count, read_script, read_steps};
 use ring_world::Event;
 use std::alloc::Global;
 use std::thread::Threads;
@@ -24,7 +27,7 @@ pub enum Cause {
     Done,
     /// The words are none that the program takes.
     Usage,
-    /// The input is no script: its first bad line, and what is wrong with it.
+    /// The input is no script, or no step file: its first bad line, and what is wrong with it.
     Script { line: u32, kind: u32 },
     /// The source failed.
     ReadFault,
@@ -42,9 +45,9 @@ pub struct Ended {
     /// The status with which the program ends, by the cause.
     pub status: u8,
     pub cause: Cause,
-    /// What has happened in the ring, where a script was played.
+    /// What has happened in the ring, where a script was played or steps were taken.
     pub journal: Items<Event>,
-    /// The cluster that played it, where a script was played.
+    /// The cluster in which it happened.
     pub cluster: Option<Cluster>,
     /// How many bytes the sink took.
     pub written: u64,
@@ -104,38 +107,77 @@ fn line_due(alloc: Global, cause: Cause, line: &[u8]) -> Due
 }
 
 /// What the bytes of an input ask for.
-fn due_to_input<T: Threads, G: Gate>(threads: &T, alloc: Global, bytes: Vec<u8>, gate: &G) -> Due
-    ensures { IsDueToInput bytes.items result }
+fn due_to_input<T: Threads, G: Gate>(
+    threads: &T,
+    alloc: Global,
+    mode: Mode,
+    bytes: Vec<u8>,
+    gate: &G,
+) -> Due
+    ensures { IsDueToInput mode bytes.items result }
 {
     if line_count(&bytes) > MOST_LINES {
         return line_due(alloc, Cause::TooLarge, b"too large\n");
     }
-    let read = read_script(alloc, &bytes);
-    drop(bytes);
-    match read {
-        Ok(script) => due_to_script(threads, alloc, script, gate),
-        Err(ScriptFault::At { line, kind }) => fault_due(alloc, line, kind),
-        Err(ScriptFault::OutOfMemory) => line_due(alloc, Cause::OutOfMemory, b""),
-    }
-}
-
-/// A script that is played.
-fn due_to_script<T: Threads, G: Gate>(threads: &T, alloc: Global, script: Script, gate: &G) -> Due
-    requires { IsPlayable script }
-    ensures { IsPlayDue script result ⊎ IsLineDue Cause.OutOfMemory [] result }
-{
-    match play(threads, alloc, script, gate) {
+    match done(threads, alloc, mode, bytes, gate) {
         Ok(played) => Due {
             cause: Cause::Done,
             journal: played.journal,
             text: played.text,
             cluster: Some(played.cluster),
         },
-        Err(OutOfMemory) => line_due(alloc, Cause::OutOfMemory, b""),
+        Err(ScriptFault::At { line, kind }) => fault_due(alloc, line, kind),
+        Err(ScriptFault::OutOfMemory) => line_due(alloc, Cause::OutOfMemory, b""),
     }
 }
 
-/// The first fault of an input that is no script.
+/// Does what the bytes of an input ask for, if they spell it.
+fn done<T: Threads, G: Gate>(
+    threads: &T,
+    alloc: Global,
+    mode: Mode,
+    bytes: Vec<u8>,
+    gate: &G,
+) -> Result<Played, ScriptFault>
+    ensures ok { IfOk result (λ played. WasDone mode bytes.items played.journal.items played.text.items (Some played.cluster)) }
+    ensures fault { (line kind : ℕ) → result ≡ Err (ScriptFault.At line kind) → IsFirstFault (grammar_of mode) bytes.items line kind }
+{
+    match mode {
+        Mode::Play => done_by_script(threads, alloc, bytes, gate),
+        Mode::Step => done_by_steps(alloc, bytes),
+    }
+}
+
+fn done_by_script<T: Threads, G: Gate>(
+    threads: &T,
+    alloc: Global,
+    bytes: Vec<u8>,
+    gate: &G,
+) -> Result<Played, ScriptFault>
+    ensures ok { IfOk result (λ played. WasDone Mode.Play bytes.items played.journal.items played.text.items (Some played.cluster)) }
+    ensures fault { (line kind : ℕ) → result ≡ Err (ScriptFault.At line kind) → IsFirstFault (grammar_of Mode.Play) bytes.items line kind }
+{
+    let script = read_script(alloc, &bytes)?;
+    drop(bytes);
+    match play(threads, alloc, script, gate) {
+        Ok(played) => Ok(played),
+        Err(OutOfMemory) => Err(ScriptFault::OutOfMemory),
+    }
+}
+
+fn done_by_steps(alloc: Global, bytes: Vec<u8>) -> Result<Played, ScriptFault>
+    ensures ok { IfOk result (λ played. WasDone Mode.Step bytes.items played.journal.items played.text.items (Some played.cluster)) }
+    ensures fault { (line kind : ℕ) → result ≡ Err (ScriptFault.At line kind) → IsFirstFault (grammar_of Mode.Step) bytes.items line kind }
+{
+    let steps = read_steps(alloc, &bytes)?;
+    drop(bytes);
+    match step(alloc, steps) {
+        Ok(played) => Ok(played),
+        Err(OutOfMemory) => Err(ScriptFault::OutOfMemory),
+    }
+}
+
+/// The first fault of an input that is no script, or no step file.
 fn fault_due(alloc: Global, line: u32, kind: u32) -> Due
     ensures { IsLineDue (Cause.Script line kind) (fault_line line kind) result }
 {
@@ -155,22 +197,24 @@ fn due_for<T: Threads, S: Source, G: Gate>(
 ) -> Due
     ensures due { IsDue words.now (S.remaining source.old) (Rose (S.faults source.old) (S.faults source.new))
         result.cause result.journal.items result.text.items result.cluster }
-    ensures unread { (IsPlay words.now → ⊥) → source.new ≡ source.old }
+    ensures unread { AsksNothing words.now → source.new ≡ source.old }
+    ensures whole { result.cause ≡ Cause.Done → IsAtEnd (S.remaining source.new) }
 {
-    if !is_play(words) {
+    let Some(mode) = mode_of(words) else {
         return line_due(alloc, Cause::Usage, b"usage\n");
-    }
+    };
     match read_all(alloc, source, MOST_BYTES) {
-        Ok(bytes) => due_to_input(threads, alloc, bytes, gate),
+        Ok(bytes) => due_to_input(threads, alloc, mode, bytes, gate),
         Err(ReadEnd::Fault) => line_due(alloc, Cause::ReadFault, b""),
         Err(ReadEnd::TooLarge) => line_due(alloc, Cause::TooLarge, b"too large\n"),
         Err(ReadEnd::OutOfMemory) => line_due(alloc, Cause::OutOfMemory, b""),
     }
 }
 
-/// Does what the words ask for: `play` alone plays the script that the source gives, and writes the
-/// report of the ring's last state to the sink. The whole text stands before its first byte is written.
-/// The cluster runs its rounds with the thread handle and the gate.
+/// Does what the words ask for: `play` alone plays the script that the source gives, and writes the report of the ring's
+/// last state to the sink; `step` alone tries the events of the step file that it gives, one by one, and writes a line for
+/// each that is refused, and then the report. The whole text stands before its first byte is written. The cluster runs its
+/// rounds with the thread handle and the gate.
 pub fn ring_call<T: Threads, S: Source, K: Sink, G: Gate>(
     threads: &T,
     alloc: Global,
@@ -181,28 +225,30 @@ pub fn ring_call<T: Threads, S: Source, K: Sink, G: Gate>(
 ) -> Ended
     ensures status { result.status ≡ status_of result.cause }
 
-    // What is answered, why, and what was written; and of a played script the cluster that took its commands.
+    // What is answered, why, and what was written; and the cluster in which it happened.
     ensures answers { Answers words.now (S.remaining source.old) (Rose (S.faults source.old) (S.faults source.new))
         (Gains K.may_lose_track (K.contents sink.old) (K.contents sink.new)) (Rose (K.faults sink.old) (K.faults sink.new)) result }
 
-    // Refused words leave the source unread.
-    ensures unread { (IsPlay words.now → ⊥) → source.new ≡ source.old }
+    // Refused words leave the source unread, and what was done was read to its end.
+    ensures unread { AsksNothing words.now → source.new ≡ source.old }
+    ensures whole { result.cause ≡ Cause.Done → IsAtEnd (S.remaining source.new) }
 
     // Each cause, exactly.
-    ensures usage_only { result.cause ≡ Cause.Usage → IsPlay words.now → ⊥ }
-    ensures usage { (IsPlay words.now → ⊥) → IsUnlessFailed result.cause Cause.Usage }
+    ensures usage_only { result.cause ≡ Cause.Usage → AsksNothing words.now }
+    ensures usage { AsksNothing words.now → IsUnlessFailed result.cause Cause.Usage }
     ensures read_fault_only { result.cause ≡ Cause.ReadFault → Rose (S.faults source.old) (S.faults source.new) }
     ensures write_fault_only { result.cause ≡ Cause.WriteFault → Rose (K.faults sink.old) (K.faults sink.new) }
     ensures too_large_only { result.cause ≡ Cause.TooLarge → IfSome (S.remaining source.old) IsTooLarge }
-    ensures too_large { (all : List ℕ) → IsPlay words.now → S.remaining source.old ≡ Some all → IsTooLarge all
+    ensures too_large { (mode : Mode) (all : List ℕ) → Asks words.now mode → S.remaining source.old ≡ Some all → IsTooLarge all
         → (Rose (S.faults source.old) (S.faults source.new) → ⊥) → IsUnlessFailed result.cause Cause.TooLarge }
-    ensures script_only { (line kind : ℕ) → result.cause ≡ Cause.Script line kind
-        → IfSome (S.remaining source.old) (λ all. IsWithin all × IsFirstFault all line kind) }
-    ensures script { (all : List ℕ) (line kind : ℕ) → IsPlay words.now → S.remaining source.old ≡ Some all → IsWithin all → IsFirstFault all line kind
+    ensures script_only { (line kind : ℕ) → result.cause ≡ Cause.Script line kind → IsRefused words.now (S.remaining source.old) line kind }
+    ensures script { (mode : Mode) (all : List ℕ) (line kind : ℕ) → Asks words.now mode → S.remaining source.old ≡ Some all → IsWithin all
+        → IsFirstFault (grammar_of mode) all line kind
         → (Rose (S.faults source.old) (S.faults source.new) → ⊥) → IsUnlessFailed result.cause (Cause.Script line kind) }
 
-    // With words and input in the grammar and within the limits, and no fault, the script is played.
-    ensures complete { (all : List ℕ) → IsPlay words.now → S.remaining source.old ≡ Some all → IsWithin all → IsRight all
+    // With words and input in the grammar and within the limits, and no fault, it is done.
+    ensures complete { (mode : Mode) (all : List ℕ) → Asks words.now mode → S.remaining source.old ≡ Some all → IsWithin all
+        → IsRight (grammar_of mode) all
         → (Rose (S.faults source.old) (S.faults source.new) → ⊥) → (Rose (K.faults sink.old) (K.faults sink.new) → ⊥)
         → (result.cause ≡ Cause.Done) ⊎ (result.cause ≡ Cause.OutOfMemory) }
 {

@@ -13,9 +13,6 @@ ghost use Rattle.gm_member.specs.Stands.{held_in};
 ghost use Rattle.ring_cluster.specs.Seen.{state_of};
 ghost use Rattle.ringplay.specs.Report.{report_of, newline, ring_line, master_name, state_text as the_state_text, up_text as the_up_text, stopped_text as the_stopped_text, member_line, counts_lines, heard_line, heard_lines, while_up, lines_of_member};
 
-#[cfg(test)]
-mod tests;
-
 use group_view::{Entry, Mark, View};
 use ring_cluster::{Cluster, Node};
 use ring_names::{MemberId, Message, Name, OutOfMemory};
@@ -36,15 +33,32 @@ pub(crate) fn report(
     requires { names.now ≡ (cluster.now).names }
     ensures { IfOk result (λ text. text.items ≡ report_of (state_of cluster.now)) }
 {
+    let room = names
+        .len()
+        .saturating_mul(heard)
+        .saturating_mul(SHORTEST_HEARD);
+    let mut text = Vec::with_capacity(alloc, room)?;
+    push_report(alloc, &mut text, names, cluster)?;
+    Ok(text)
+}
+
+/// The report of the state in which the cluster's members stand, whose ring opened with these names.
+pub(crate) fn push_report(
+    alloc: Global,
+    out: &mut Vec<u8>,
+    names: &[Name],
+    cluster: &Cluster,
+) -> Result<(), OutOfMemory>
+    requires { names.now ≡ (cluster.now).names }
+    ensures { OnOk result (out.new.items ≡ out.old.items ++ report_of (state_of cluster.now)) }
+{
     cluster.is_going();
     let count = names.len();
-    let room = count.saturating_mul(heard).saturating_mul(SHORTEST_HEARD);
-    let mut text = Vec::with_capacity(alloc, room)?;
-    push_ring(alloc, &mut text, cluster.view())?;
+    push_ring(alloc, out, cluster.view())?;
     for place in 0..count {
-        push_member(alloc, &mut text, cluster, count, place)?;
+        push_member(alloc, out, cluster, count, place)?;
     }
-    Ok(text)
+    Ok(())
 }
 
 /// The member at a place, whose id is one more. The last state of the journal has as many as the ring opened with.

@@ -1,233 +1,353 @@
-//! The worked rows: what a script's report is, byte for byte, and how each fault ends.
+//! The worked rows: what is written of scripts and of step files, byte for byte, and how each fault ends. In a row's
+//! texts ` / ` stands between lines, and `zeros` for the two lines of a member that has published nothing.
 ghost use Rattle.std.specs.Prelude.{◌<◌};
 
-use crate::call::{Cause, ring_call};
+use crate::call::{Cause, Ended, ring_call};
 use crate::word::Word;
 use ring_io::{MemorySink, MemorySource, ShutGate, SureSink, SureSource};
 use ring_world::Event;
+use std::alloc::Global;
 use std::process::Abort;
 use std::test::Fail;
 use std::thread::Threads;
 
-/// Plays a script and compares the report.
-fn reports<R: Threads + Abort + AllocGlobal>(
-    rt: &R,
-    script: &str,
-    report: &str,
-) -> Result<(), Fail> {
-    let words = [Word::new(rt.alloc(), "play")?];
-    let mut source = SureSource::new(script.as_bytes().to_vec(rt.alloc())?);
-    let mut sink = SureSink::new(rt.alloc(), 1_048_576)?;
-    let ended = ring_call(rt, rt.alloc(), &words, &mut source, &mut sink, &ShutGate);
-    assert_eq!(rt; ended.cause, Cause::Done);
-    assert_eq!(rt; ended.status, 0);
-    assert_eq!(rt; sink.bytes(), report.as_bytes());
-    assert_eq!(rt; ended.written, report.len() as u64);
-    Ok(())
+/// The bytes of a row's text.
+fn bytes_of(alloc: Global, row: &str) -> Result<Vec<u8>, Fail> {
+    let mut bytes = Vec::new(alloc);
+    for line in row.split(" / ") {
+        let line = match line {
+            "zeros" => "casts 0 confirmed 0\npublishes 0 confirmed 0",
+            line => line,
+        };
+        bytes.extend_from_slice(line.as_bytes())?;
+        bytes.push(b'\n')?;
+    }
+    Ok(bytes)
 }
 
-#[test]
-fn plays_the_worked_scripts(rt: HostRuntime) -> Result<(), Fail> {
-    // The sole member is its own neighbour.
-    reports(
-        &rt,
-        "members a\ncast a hi\nsettle\n",
-        "ring view=1 term=1 master=a\nmember a up synced\ncasts 1 confirmed 1\npublishes 0 confirmed 0\nheard a hi\n",
-    )?;
-    // Nobody publishes.
-    reports(
-        &rt,
-        "members a b\n",
-        "ring view=1 term=1 master=a\nmember a up synced\ncasts 0 confirmed 0\npublishes 0 confirmed 0\nmember b up synced\ncasts 0 confirmed 0\npublishes 0 confirmed 0\n",
-    )?;
-    // Two publish in a ring of three, and the script has no line feed at its end.
-    reports(
-        &rt,
-        "members a b c\ncast a a1\ncast b b1\ncast a a2\ncast b b2\ncast a a3\nsettle",
-        "ring view=1 term=1 master=a\nmember a up synced\ncasts 3 confirmed 3\npublishes 0 confirmed 0\nheard a a1\nheard a a2\nheard a a3\nheard b b1\nheard b b2\nmember b up synced\ncasts 2 confirmed 2\npublishes 0 confirmed 0\nheard a a1\nheard a a2\nheard a a3\nheard b b1\nheard b b2\nmember c up synced\ncasts 0 confirmed 0\npublishes 0 confirmed 0\nheard a a1\nheard a a2\nheard a a3\nheard b b1\nheard b b2\n",
-    )?;
-    // The end of the script settles, and an empty body leaves its space.
-    reports(
-        &rt,
-        "members a b\ncast b\n",
-        "ring view=1 term=1 master=a\nmember a up synced\ncasts 0 confirmed 0\npublishes 0 confirmed 0\nheard b \nmember b up synced\ncasts 1 confirmed 1\npublishes 0 confirmed 0\nheard b \n",
-    )?;
-    // Links of credit 1, rounds, a comment, and a body with spaces.
-    reports(
-        &rt,
-        "# two members\nmembers a b\ncredit 1 1\ngo 2\n  cast  a  one  \n\ngo 1000\ncast b two\ngo 1",
-        "ring view=1 term=1 master=a\nmember a up synced\ncasts 1 confirmed 1\npublishes 0 confirmed 0\nheard a  one  \nheard b two\nmember b up synced\ncasts 1 confirmed 1\npublishes 0 confirmed 0\nheard a  one  \nheard b two\n",
-    )
+/// How a call ended, and what it wrote.
+#[derive(Drop)]
+struct Called {
+    ended: Ended,
+    sink: SureSink,
 }
 
-/// A `go` is one round of the cluster, and each settling at least another.
-#[test]
-fn goes_one_round(rt: HostRuntime) -> Result<(), Fail> {
-    let words = [Word::new(rt.alloc(), "play")?];
-    let mut source = SureSource::new(b"members a\ngo 3\ngo 1000\n".to_vec(rt.alloc())?);
-    let mut sink = SureSink::new(rt.alloc(), 1_048_576)?;
-    let ended = ring_call(&rt, rt.alloc(), &words, &mut source, &mut sink, &ShutGate);
-    assert_eq!(rt; ended.cause, Cause::Done);
-    assert!(rt; ended.journal.as_slice().is_empty());
-    let Some(cluster) = &ended.cluster else {
-        panic!(rt; "no cluster");
-    };
-    assert!(rt; 2 <= cluster.rounds() && cluster.rounds() <= 2 + 129);
-    Ok(())
-}
-
-/// Ends with one line and an empty journal, which the whole of the line's bytes says.
-fn says<R: Threads + Abort + AllocGlobal>(
-    rt: &R,
-    words: &[&str],
-    input: &[u8],
-    cause: Cause,
-    line: &str,
-) -> Result<(), Fail> {
+/// The call of these words on this input.
+fn call<R: Threads + AllocGlobal>(rt: &R, words: &[&str], input: Vec<u8>) -> Result<Called, Fail> {
     let mut given = Vec::new(rt.alloc());
     for word in words {
         given.push(Word::new(rt.alloc(), word)?)?;
     }
-    let mut source = SureSource::new(input.to_vec(rt.alloc())?);
+    let mut source = SureSource::new(input);
     let mut sink = SureSink::new(rt.alloc(), 1_048_576)?;
     let ended = ring_call(rt, rt.alloc(), &given, &mut source, &mut sink, &ShutGate);
-    assert_eq!(rt; ended.cause, cause);
-    assert_eq!(rt; ended.status, cause.status());
-    assert_eq!(rt; sink.bytes(), line.as_bytes());
-    assert!(rt; ended.journal.as_slice().is_empty());
+    Ok(Called { ended, sink })
+}
+
+/// That a call ended so, and wrote this and no more.
+fn expect_written(rt: &impl Abort, called: &Called, cause: Cause, text: &[u8], row: &str) {
+    let Called { ended, sink } = called;
+    assert_eq!(rt; ended.cause, cause, "at {row}");
+    assert_eq!(rt; ended.status, cause.status(), "at {row}");
+    assert_eq!(rt; sink.bytes(), text, "at {row}");
+    assert_eq!(rt; ended.written, text.len() as u64, "at {row}");
+}
+
+/// How many events happen where the input of a row gives its report.
+fn reports<R: Threads + Abort + AllocGlobal>(
+    rt: &R,
+    word: &str,
+    input: &str,
+    report: &str,
+) -> Result<usize, Fail> {
+    let called = call(rt, &[word], bytes_of(rt.alloc(), input)?)?;
+    let text = bytes_of(rt.alloc(), report)?;
+    expect_written(rt, &called, Cause::Done, &text, input);
+    assert!(rt; called.ended.cluster.is_some(), "at {input}");
+    Ok(called.ended.journal.as_slice().len())
+}
+
+#[test]
+fn plays_the_worked_scripts(rt: HostRuntime) -> Result<(), Fail> {
+    for (script, report) in [
+        // The sole member is its own neighbour.
+        (
+            "members a / cast a hi / settle",
+            "ring view=1 term=1 master=a / member a up synced / casts 1 confirmed 1 / publishes 0 confirmed 0 / heard a hi",
+        ),
+        // Nobody publishes.
+        (
+            "members a b",
+            "ring view=1 term=1 master=a / member a up synced / zeros / member b up synced / zeros",
+        ),
+        // Two publish in a ring of three.
+        (
+            "members a b c / cast a a1 / cast b b1 / cast a a2 / cast b b2 / cast a a3 / settle",
+            "ring view=1 term=1 master=a / member a up synced / casts 3 confirmed 3 / publishes 0 confirmed 0 / heard a a1 / heard a a2 / heard a a3 / heard b b1 / heard b b2 / member b up synced / casts 2 confirmed 2 / publishes 0 confirmed 0 / heard a a1 / heard a a2 / heard a a3 / heard b b1 / heard b b2 / member c up synced / zeros / heard a a1 / heard a a2 / heard a a3 / heard b b1 / heard b b2",
+        ),
+        // The end of the script settles, and an empty body leaves its space.
+        (
+            "members a b / cast b",
+            "ring view=1 term=1 master=a / member a up synced / zeros / heard b  / member b up synced / casts 1 confirmed 1 / publishes 0 confirmed 0 / heard b ",
+        ),
+        // Links of credit 1, rounds, a comment, and a body with spaces.
+        (
+            "# two members / members a b / credit 1 1 / go 2 /   cast  a  one   /  / go 1000 / cast b two / go 1",
+            "ring view=1 term=1 master=a / member a up synced / casts 1 confirmed 1 / publishes 0 confirmed 0 / heard a  one   / heard b two / member b up synced / casts 1 confirmed 1 / publishes 0 confirmed 0 / heard a  one   / heard b two",
+        ),
+    ] {
+        reports(&rt, "play", script, report)?;
+    }
     Ok(())
 }
 
+#[test]
+fn takes_the_worked_steps(rt: HostRuntime) -> Result<(), Fail> {
+    for (steps, events, report) in [
+        // The door and the range of views.
+        (
+            "members a b c / stop a / mark c a / pick b / takeend b / pick b / refresh b 3 / refresh b 2 / pick b / take b / put b",
+            6,
+            "line 4 refused 43 / line 6 refused 18 / line 7 refused 25 asked=3 held=1 newest=2 / line 11 refused 16 / ring view=2 term=1 master=a / member a stopped / zeros / member b up synced / zeros / member c up synced / zeros",
+        ),
+        // Credit 1 1.
+        (
+            "members a b / credit 1 1 / cast a x / put a / cast a y / put a / take b / gain a / put a / take b",
+            7,
+            "line 6 refused 15 / ring view=1 term=1 master=a / member a up synced / casts 2 confirmed 0 / publishes 0 confirmed 0 / heard a x / heard a y / member b up synced / zeros / heard a x / heard a y",
+        ),
+        // The publisher stops when only its right neighbour has the message.
+        (
+            "members a b c / cast a x / put a / take b / stop a / takeend b / mark b a / put b / take c / refresh c 2 / take c / pick b / take b / put c / take b / put b / take c / put c / take b",
+            17,
+            "line 9 refused 14 need=2 have=1 / ring view=2 term=1 master=a / member a stopped / casts 1 confirmed 0 / publishes 0 confirmed 0 / member b up synced / zeros / heard a x / member c up synced / zeros / heard a x",
+        ),
+        // The publisher stops before its put.
+        (
+            "members a b c / cast a x / stop a / mark c a / take b / refresh b 2",
+            4,
+            "line 5 refused 40 / ring view=2 term=1 master=a / member a stopped / casts 1 confirmed 0 / publishes 0 confirmed 0 / member b up synced / zeros / member c up synced / zeros",
+        ),
+        // Two neighbours stop before either is marked.
+        (
+            "members a b c d / cast a x / put a / take b / put b / take c / stop a / stop b / takeend c / mark c b / mark c a / put c / refresh d 3 / take d / pick c / take c / put d / take c / put c / take d / put d / take c",
+            21,
+            "ring view=3 term=1 master=a / member a stopped / casts 1 confirmed 0 / publishes 0 confirmed 0 / member b stopped / zeros / member c up synced / zeros / heard a x / member d up synced / zeros / heard a x",
+        ),
+        // Two neighbours of five stop, the second with a message that nobody else has.
+        (
+            "members a b c d e / cast a x / put a / take b / cast c y / stop b / stop c / put b / mark a c / mark d c / takeend d / mark d c / pick d / mark d b / mark a b / refresh a 3 / pick d / take d / put d / take e / refresh e 3 / take e / put e / take a",
+            17,
+            "line 8 refused 12 / line 9 refused 21 / line 10 refused 22 / line 13 refused 18 / line 15 refused 7 / line 20 refused 14 need=3 have=1 / ring view=3 term=1 master=a / member a up synced / casts 1 confirmed 1 / publishes 0 confirmed 0 / heard a x / member b stopped / zeros / member c stopped / casts 1 confirmed 0 / publishes 0 confirmed 0 / member d up synced / zeros / heard a x / member e up synced / zeros / heard a x",
+        ),
+        // A stop is found and repaired.
+        (
+            "members a b c / stop a / put a / mark c b / mark b a / take b / takeend b / mark c a / mark b a / refresh b 2 / pick b / take b",
+            6,
+            "line 3 refused 12 / line 4 refused 20 / line 5 refused 22 / line 6 refused 40 / line 9 refused 7 / ring view=2 term=1 master=a / member a stopped / zeros / member b up synced / zeros / member c up synced / zeros",
+        ),
+        // What the sole member puts comes round at once.
+        (
+            "members a / cast a hi / cast a / put a / take a",
+            4,
+            "ring view=1 term=1 master=a / member a up synced / casts 2 confirmed 2 / publishes 0 confirmed 0 / heard a hi / heard a ",
+        ),
+        // What has not come round is not confirmed.
+        (
+            "members a b2 / cast a one / cast b2 two / put a / take b2",
+            4,
+            "ring view=1 term=1 master=a / member a up synced / casts 1 confirmed 0 / publishes 0 confirmed 0 / heard a one / member b2 up synced / casts 1 confirmed 0 / publishes 0 confirmed 0 / heard a one / heard b2 two",
+        ),
+        // Names that the ring hasn't; blank lines and comments count.
+        (
+            "members a /  / put z / # a comment / mark a z / cast z",
+            0,
+            "line 3 refused 6 / line 5 refused 6 / line 6 refused 6 / ring view=1 term=1 master=a / member a up synced / zeros",
+        ),
+    ] {
+        assert_eq!(rt; reports(&rt, "step", steps, report)?, events, "at {steps}");
+    }
+    Ok(())
+}
+
+/// The call ends with one line, and without a journal or a cluster.
+fn says<R: Threads + Abort + AllocGlobal>(
+    rt: &R,
+    words: &[&str],
+    input: Vec<u8>,
+    cause: Cause,
+    line: &str,
+) -> Result<(), Fail> {
+    let called = call(rt, words, input)?;
+    expect_written(rt, &called, cause, line.as_bytes(), line);
+    assert!(rt; called.ended.journal.as_slice().is_empty());
+    assert!(rt; called.ended.cluster.is_none());
+    Ok(())
+}
+
+#[test]
+fn refuses_other_words(rt: HostRuntime) -> Result<(), Fail> {
+    for words in [
+        [].as_slice(),
+        ["fly"].as_slice(),
+        ["play", "x"].as_slice(),
+        ["step", "play"].as_slice(),
+    ] {
+        let script = bytes_of(rt.alloc(), "members a")?;
+        says(&rt, words, script, Cause::Usage, "usage\n")?;
+    }
+    Ok(())
+}
+
+#[test]
+fn tells_the_first_fault(rt: HostRuntime) -> Result<(), Fail> {
+    for (word, input, line, kind) in [
+        ("play", "", 2, 61),
+        ("play", "members a a", 1, 58),
+        ("play", "members a / credit 2 3", 2, 55),
+        ("play", "members abcdefghijklmnopq", 1, 56),
+        (
+            "play",
+            "members a / cast a x / cast a x / cast a x / cast a x / cast a x / cast z x",
+            7,
+            57,
+        ),
+        (
+            "play",
+            "members a /  / # all that follows is wrong / publish a x / fly",
+            4,
+            52,
+        ),
+        ("play", "members a / cast a \u{7}", 2, 50),
+        ("play", "members a / put a", 2, 52),
+        ("step", "", 2, 61),
+        ("step", "members a / put a / settle", 3, 52),
+        ("step", "members a b / stop a / erase b a", 3, 52),
+        ("step", "members a / mark a", 2, 53),
+        ("step", "members a / refresh a 0", 2, 55),
+        ("step", "members a / refresh a 1000001", 2, 55),
+    ] {
+        let told = format!(in rt.alloc(); "script {line} {kind}\n")?;
+        let input = bytes_of(rt.alloc(), input)?;
+        says(
+            &rt,
+            &[word],
+            input,
+            Cause::Script { line, kind },
+            told.as_str(),
+        )?;
+    }
+    let empty = Vec::new(rt.alloc());
+    let missed = Cause::Script { line: 1, kind: 61 };
+    says(&rt, &["play"], empty, missed, "script 1 61\n")
+}
+
 /// A line of so many bytes, without its end.
-fn endless_line(rt: &impl AllocGlobal, len: usize) -> Result<Vec<u8>, Fail> {
-    let mut line = Vec::new(rt.alloc());
+fn endless_line(alloc: Global, len: usize) -> Result<Vec<u8>, Fail> {
+    let mut line = Vec::new(alloc);
     for _place in 0..len {
         line.push(b'x')?;
     }
     Ok(line)
 }
 
-#[test]
-fn names_each_fault_of_words_and_input(rt: HostRuntime) -> Result<(), Fail> {
-    let script = b"members a\n".as_slice();
-    says(&rt, &[], script, Cause::Usage, "usage\n")?;
-    says(&rt, &["fly"], script, Cause::Usage, "usage\n")?;
-    says(&rt, &["play", "x"], script, Cause::Usage, "usage\n")?;
-    for (len, cause, line) in [
-        (2_000, Cause::Script { line: 1, kind: 61 }, "script 1 61\n"),
-        (2_001, Cause::Script { line: 1, kind: 51 }, "script 1 51\n"),
-        (
-            1_048_576,
-            Cause::Script { line: 1, kind: 51 },
-            "script 1 51\n",
-        ),
-        (1_048_577, Cause::TooLarge, "too large\n"),
-    ] {
-        let endless = endless_line(&rt, len)?;
-        says(&rt, &["play"], &endless, cause, line)?;
-    }
-    Ok(())
-}
-
-/// The input is refused with this line and kind, and the one line that tells them.
-fn refuses<R: Threads + Abort + AllocGlobal>(
-    rt: &R,
-    input: &[u8],
-    line: u32,
-    kind: u32,
-) -> Result<(), Fail> {
-    let told = format!(in rt.alloc(); "script {line} {kind}\n")?;
-    says(
-        rt,
-        &["play"],
-        input,
-        Cause::Script { line, kind },
-        told.as_str(),
-    )
-}
-
-#[test]
-fn tells_the_first_fault_of_a_script(rt: HostRuntime) -> Result<(), Fail> {
-    for (input, line, kind) in [
-        ("", 1, 61),
-        ("members a a", 1, 58),
-        ("members a\ncredit 2 3", 2, 55),
-        ("members abcdefghijklmnopq", 1, 56),
-        (
-            "members a\ncast a x\ncast a x\ncast a x\ncast a x\ncast a x\ncast z x",
-            7,
-            57,
-        ),
-        (
-            "members a\n\n# all that follows is wrong\npublish a x\nfly",
-            4,
-            52,
-        ),
-        ("members a\ncast a \u{7}\n", 2, 50),
-    ] {
-        refuses(&rt, input.as_bytes(), line, kind)?;
-    }
-    Ok(())
-}
-
-/// A script of one member and so many lines, of which only the first is used.
-fn long_script(rt: &impl AllocGlobal, lines: u32) -> Result<Vec<u8>, Fail> {
-    let mut script = b"members a\n".to_vec(rt.alloc())?;
+/// A text of one member and so many lines, of which only the first is used.
+fn long_text(alloc: Global, lines: u32) -> Result<Vec<u8>, Fail> {
+    let mut text = b"members a\n".to_vec(alloc)?;
     for _line in 1..lines {
-        script.push(b'\n')?;
+        text.push(b'\n')?;
     }
-    Ok(script)
-}
-
-/// How the call ends that plays this input.
-fn cause_of<R: Threads + AllocGlobal>(rt: &R, input: Vec<u8>) -> Result<Cause, Fail> {
-    let words = [Word::new(rt.alloc(), "play")?];
-    let mut source = SureSource::new(input);
-    let mut sink = SureSink::new(rt.alloc(), 1_048_576)?;
-    let ended = ring_call(rt, rt.alloc(), &words, &mut source, &mut sink, &ShutGate);
-    Ok(ended.cause)
+    Ok(text)
 }
 
 #[test]
-fn takes_twenty_thousand_lines(rt: HostRuntime) -> Result<(), Fail> {
-    assert_eq!(rt; cause_of(&rt, long_script(&rt, 20_000)?)?, Cause::Done);
-    assert_eq!(rt; cause_of(&rt, long_script(&rt, 20_001)?)?, Cause::TooLarge);
+fn ends_at_the_limits(rt: HostRuntime) -> Result<(), Fail> {
+    for word in ["play", "step"] {
+        for (len, cause, line) in [
+            (2_000, Cause::Script { line: 1, kind: 61 }, "script 1 61\n"),
+            (2_001, Cause::Script { line: 1, kind: 51 }, "script 1 51\n"),
+            (
+                1_048_576,
+                Cause::Script { line: 1, kind: 51 },
+                "script 1 51\n",
+            ),
+            (1_048_577, Cause::TooLarge, "too large\n"),
+        ] {
+            says(&rt, &[word], endless_line(rt.alloc(), len)?, cause, line)?;
+        }
+        let most = call(&rt, &[word], long_text(rt.alloc(), 20_000)?)?;
+        assert_eq!(rt; most.ended.cause, Cause::Done);
+        let more = long_text(rt.alloc(), 20_001)?;
+        says(&rt, &[word], more, Cause::TooLarge, "too large\n")?;
+    }
     Ok(())
+}
+
+/// How a call ends whose source and sink fail at these calls.
+fn faulty<R: Threads + AllocGlobal>(
+    rt: &R,
+    word: &str,
+    input: &str,
+    read_fails: u32,
+    write_fails: u32,
+) -> Result<(Ended, MemorySink), Fail> {
+    let alloc = rt.alloc();
+    let words = [Word::new(alloc, word)?];
+    let input = bytes_of(alloc, input)?;
+    let mut source = MemorySource::new(input, 8, vec![in alloc; read_fails]?);
+    let mut sink = MemorySink::new(alloc, 1_048_576, 8, vec![in alloc; write_fails]?)?;
+    let ended = ring_call(rt, alloc, &words, &mut source, &mut sink, &ShutGate);
+    Ok((ended, sink))
 }
 
 #[test]
 fn ends_at_a_fault_of_the_source(rt: HostRuntime) -> Result<(), Fail> {
-    for call in [1u32, 2, 4] {
-        let words = [Word::new(rt.alloc(), "play")?];
-        let script = b"members a\ncast a hi\n".to_vec(rt.alloc())?;
-        let mut source = MemorySource::new(script, 8, vec![in rt.alloc(); call]?);
-        let mut sink = MemorySink::new(rt.alloc(), 1_048_576, 64, Vec::new(rt.alloc()))?;
-        let ended = ring_call(&rt, rt.alloc(), &words, &mut source, &mut sink, &ShutGate);
-        assert_eq!(rt; ended.cause, Cause::ReadFault);
-        assert_eq!(rt; ended.status, 3);
-        assert_eq!(rt; ended.written, 0);
-        assert!(rt; sink.bytes().is_empty());
+    for word in ["play", "step"] {
+        for call in [1, 2, 4] {
+            let (ended, sink) = faulty(&rt, word, "members a / cast a hi", call, 0)?;
+            assert_eq!(rt; ended.cause, Cause::ReadFault);
+            assert_eq!(rt; ended.status, 3);
+            assert_eq!(rt; ended.written, 0);
+            assert!(rt; sink.bytes().is_empty());
+        }
     }
     Ok(())
 }
 
 #[test]
 fn ends_at_a_fault_of_the_sink(rt: HostRuntime) -> Result<(), Fail> {
-    let report =
-        "ring view=1 term=1 master=a\nmember a up synced\ncasts 1 confirmed 1\npublishes 0 confirmed 0\nheard a hi\n";
-    for call in 1u32..=12 {
-        let words = [Word::new(rt.alloc(), "play")?];
-        let script = b"members a\ncast a hi\n".to_vec(rt.alloc())?;
-        let mut source = SureSource::new(script);
-        let mut sink = MemorySink::new(rt.alloc(), 1_048_576, 8, vec![in rt.alloc(); call]?)?;
-        let ended = ring_call(&rt, rt.alloc(), &words, &mut source, &mut sink, &ShutGate);
-        assert_eq!(rt; ended.cause, Cause::WriteFault);
-        assert_eq!(rt; ended.status, 4);
-        assert_eq!(rt; ended.written, u64::from(call - 1) * 8);
-        assert!(rt; report.as_bytes().starts_with(sink.bytes()));
-        assert_eq!(rt; sink.bytes().len() as u64, ended.written);
-        assert_eq!(rt; ended.journal.as_slice().len(), 5);
+    let report = bytes_of(
+        rt.alloc(),
+        "ring view=1 term=1 master=a / member a up synced / casts 1 confirmed 1 / publishes 0 confirmed 0 / heard a hi",
+    )?;
+    for (word, input, events) in [
+        ("play", "members a / cast a hi", 5),
+        ("step", "members a / cast a hi / put a / take a", 3),
+    ] {
+        for call in 1..=12 {
+            let (ended, sink) = faulty(&rt, word, input, 0, call)?;
+            assert_eq!(rt; ended.cause, Cause::WriteFault);
+            assert_eq!(rt; ended.status, 4);
+            assert_eq!(rt; ended.written, u64::from(call - 1) * 8);
+            assert!(rt; report.starts_with(sink.bytes()));
+            assert_eq!(rt; sink.bytes().len() as u64, ended.written);
+            assert_eq!(rt; ended.journal.as_slice().len(), events);
+        }
     }
+    Ok(())
+}
+
+/// A `go` is one round of the cluster, and each settling at least another.
+#[test]
+fn goes_one_round(rt: HostRuntime) -> Result<(), Fail> {
+    let script = bytes_of(rt.alloc(), "members a / go 3 / go 1000")?;
+    let ended = call(&rt, &["play"], script)?.ended;
+    assert_eq!(rt; ended.cause, Cause::Done);
+    assert!(rt; ended.journal.as_slice().is_empty());
+    let Some(cluster) = &ended.cluster else {
+        panic!(rt; "no cluster");
+    };
+    assert!(rt; 2 <= cluster.rounds() && cluster.rounds() <= 2 + 129);
     Ok(())
 }
 
@@ -239,14 +359,11 @@ fn is_gain(event: &Event) -> bool {
 /// so that a link that opened with 8 carries 12.
 #[test]
 fn gains_what_each_fourth_packet_grants(rt: HostRuntime) -> Result<(), Fail> {
-    let words = [Word::new(rt.alloc(), "play")?];
-    let script =
-        b"members a\ncast a u\nsettle\ncast a v\nsettle\ncast a w\nsettle\ncast a x\nsettle\ncast a y\nsettle\ncast a z\n".to_vec(
-            rt.alloc(),
-        )?;
-    let mut source = SureSource::new(script);
-    let mut sink = SureSink::new(rt.alloc(), 1_048_576)?;
-    let ended = ring_call(&rt, rt.alloc(), &words, &mut source, &mut sink, &ShutGate);
+    let script = bytes_of(
+        rt.alloc(),
+        "members a / cast a u / settle / cast a v / settle / cast a w / settle / cast a x / settle / cast a y / settle / cast a z",
+    )?;
+    let ended = call(&rt, &["play"], script)?.ended;
     assert_eq!(rt; ended.cause, Cause::Done);
     let journal = ended.journal.as_slice();
     assert_eq!(rt; journal.len(), 33);
@@ -258,21 +375,21 @@ fn gains_what_each_fourth_packet_grants(rt: HostRuntime) -> Result<(), Fail> {
 }
 
 /// A script in which so many members, m0 and on, cast so many short bodies in turn, and settle.
-fn busy_script(rt: &impl AllocGlobal, members: u32, casts: u32) -> Result<String, Fail>
+fn busy_script(alloc: Global, members: u32, casts: u32) -> Result<Vec<u8>, Fail>
     requires { 0 < members }
 {
-    let mut text = String::from_str(rt.alloc(), "members")?;
+    let mut text = String::from_str(alloc, "members")?;
     for place in 0..members {
-        let name = format!(in rt.alloc(); " m{place}")?;
+        let name = format!(in alloc; " m{place}")?;
         text.push_str(name.as_str())?;
     }
     for turn in 0..casts {
         let by = turn % members;
-        let line = format!(in rt.alloc(); "\ncast m{by} x{turn}")?;
+        let line = format!(in alloc; "\ncast m{by} x{turn}")?;
         text.push_str(line.as_str())?;
     }
     text.push_str("\nsettle\n")?;
-    Ok(text)
+    Ok(text.as_bytes().to_vec(alloc)?)
 }
 
 /// Whether a line that begins so ends in the same number twice.
@@ -288,13 +405,9 @@ fn confirms_all(line: &str, beginning: &str) -> bool {
 
 #[test]
 fn settles_a_full_ring(rt: HostRuntime) -> Result<(), Fail> {
-    let words = [Word::new(rt.alloc(), "play")?];
-    let script = busy_script(&rt, 64, 500)?;
-    let mut source = SureSource::new(script.as_bytes().to_vec(rt.alloc())?);
-    let mut sink = SureSink::new(rt.alloc(), 1_048_576)?;
-    let ended = ring_call(&rt, rt.alloc(), &words, &mut source, &mut sink, &ShutGate);
-    assert_eq!(rt; ended.cause, Cause::Done);
-    let Ok(report) = str::from_utf8(sink.bytes()) else {
+    let called = call(&rt, &["play"], busy_script(rt.alloc(), 64, 500)?)?;
+    assert_eq!(rt; called.ended.cause, Cause::Done);
+    let Ok(report) = str::from_utf8(called.sink.bytes()) else {
         panic!(rt; "the report is no text");
     };
     let mut heard = 0u32;
@@ -304,9 +417,5 @@ fn settles_a_full_ring(rt: HostRuntime) -> Result<(), Fail> {
         heard = heard.saturating_add(u32::from(line.starts_with("heard ")));
     }
     assert_eq!(rt; heard, 64 * 500);
-    let Some(cluster) = &ended.cluster else {
-        panic!(rt; "no cluster");
-    };
-    assert!(rt; cluster.rounds() > 0);
     Ok(())
 }

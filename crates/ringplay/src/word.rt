@@ -1,6 +1,6 @@
 //! The words of the command line.
-ghost use Rattle.std.specs.Prelude.{◌≡◌, ◌↔◌, IsTrue, IfOk};
-ghost use Rattle.ringplay.specs.Words.{IsPlay};
+ghost use Rattle.std.specs.Prelude.{◌≡◌, ◌↔◌, IsTrue, IfOk, IfSome, IfNone};
+ghost use Rattle.ringplay.specs.Words.{Asks, AsksNothing};
 
 use ring_names::OutOfMemory;
 use std::alloc::Global;
@@ -18,6 +18,15 @@ impl Model for Word {
     ghost Value = { List ℕ };
 
     ghost view = { λ w. string_bytes w.text };
+}
+
+/// What the program does.
+#[derive(Clone, Copy, PartialEq, Eq, Debug)]
+pub enum Mode {
+    /// It plays a script.
+    Play,
+    /// It tries the events of a step file, one by one.
+    Step,
 }
 
 impl Word {
@@ -38,14 +47,21 @@ impl Word {
     }
 }
 
-/// Whether the words ask to play: the word `play`, and no other.
-pub(crate) fn is_play(words: &[Word]) -> bool
-    ensures { IsTrue result ↔ IsPlay words.now }
+/// What the words ask for, if they ask for something: one word, and no other.
+pub(crate) fn mode_of(words: &[Word]) -> Option<Mode>
+    ensures asks { IfSome result (Asks words.now) }
+    ensures nothing { IfNone result (AsksNothing words.now) }
 {
-    match words {
-        [word] => word.is("play"),
-        _ => false,
+    let [word] = words else {
+        return None;
+    };
+    if word.is("play") {
+        return Some(Mode::Play);
     }
+    if word.is("step") {
+        return Some(Mode::Step);
+    }
+    None
 }
 
 #[cfg(test)]
@@ -53,20 +69,22 @@ mod tests {
     use super::*;
     use std::test::Fail;
 
-    fn asks_to_play(rt: &HostRuntime, texts: &[&str]) -> Result<bool, Fail> {
-        let mut words = Vec::new(rt.alloc());
-        for text in texts {
-            words.push(Word::new(rt.alloc(), text)?)?;
-        }
-        Ok(is_play(&words))
-    }
-
     #[test]
-    fn plays_at_one_word_alone(rt: HostRuntime) -> Result<(), Fail> {
-        assert!(rt; asks_to_play(&rt, &["play"])?);
-        assert!(rt; !asks_to_play(&rt, &[])?);
-        assert!(rt; !asks_to_play(&rt, &["fly"])?);
-        assert!(rt; !asks_to_play(&rt, &["play", "x"])?);
+    fn takes_each_word_alone(rt: HostRuntime) -> Result<(), Fail> {
+        for (texts, mode) in [
+            ([].as_slice(), None),
+            (["fly"].as_slice(), None),
+            (["play"].as_slice(), Some(Mode::Play)),
+            (["step"].as_slice(), Some(Mode::Step)),
+            (["play", "x"].as_slice(), None),
+            (["step", "play"].as_slice(), None),
+        ] {
+            let mut words = Vec::new(rt.alloc());
+            for text in texts {
+                words.push(Word::new(rt.alloc(), text)?)?;
+            }
+            assert_eq!(rt; mode_of(&words), mode);
+        }
         Ok(())
     }
 }

@@ -1,0 +1,109 @@
+-- What has become of the lines of a step file, one more after another.
+use Rattle.std.proofs.Common.{◌≡◌, ℕ, zero, suc, ◌+◌, ◌<◌, ◌≤◌, List, [], ◌∷◌, ◌++◌, length, drop, get_or, replicate, Some, refl, sym, ap, subst, ◌∙◌, arith}
+use Rattle.std.proofs.lemmas.List.{append-nil, append_assoc}
+use Rattle.ring_names.specs.declared.numbers.CreditSpec.{CreditSpec}
+use Rattle.ring_script.specs.declared.steps.Steps.{Steps}
+use Rattle.ring_world.specs.declared.event.Event.{Event}
+use Rattle.ring_world.specs.Machine.{World}
+use Rattle.ring_world.specs.Step.{opening}
+use Rattle.ring_world.specs.Event.{refusal, last}
+use Rattle.ring_world.proofs.InOrder.{last_append}
+use Rattle.ring_cluster.specs.declared.agenda.Task.{Task}
+use Rattle.ring_cluster.specs.Seen.{Seen, IsGoing, state_of, opening_seen}
+use Rattle.ring_cluster.specs.Plays.{agenda_at, AgendasAreEmpty}
+use Rattle.ringplay.specs.Report.{report_of}
+use Rattle.ringplay.specs.Step.{happens, enabled_of, if_refused, refused_lines, HasStepped}
+use Rattle.ringplay.specs.Call.{AreSteppedBy}
+use Rattle.ringplay.proofs.Playing.{has_run}
+
+-- ---- events that have happened
+
+stepped_none : (c : Seen) → HasStepped c c []
+stepped_none c = record { credit = refl; names = refl; events = sym (append-nil c.events); agendas = refl; given = refl }
+
+stepped_on : {c d e : Seen} {first second : List Event} → HasStepped c d first → HasStepped d e second → HasStepped c e (first ++ second)
+stepped_on {c} {d} {e} {first} {second} f s = record {
+  credit = s.credit ∙ f.credit;
+  names = s.names ∙ f.names;
+  events = s.events ∙ ap (λ es. es ++ second) f.events ∙ append_assoc c.events first second;
+  agendas = s.agendas ∙ f.agendas;
+  given = s.given ∙ f.given;
+}
+
+-- the state that they leave
+stepped_state : {c d : Seen} {more : List Event} → HasStepped c d more → state_of d ≡ last (state_of c) more
+stepped_state {c} {d} {more} h =
+    ap (λ credit. last (opening credit d.names) d.events) h.credit ∙ ap (λ names. last (opening c.credit names) d.events) h.names
+    ∙ ap (last (opening c.credit c.names)) h.events ∙ last_append (opening c.credit c.names) c.events more
+
+-- ---- lines that were tried
+
+-- Of the lines the first k were tried: what has happened and what is told of them, followed by what is left of the others, is
+-- what becomes of all.
+pub record HasTried (c d : Seen) (before told : List ℕ) (lines : List (ℕ × Event)) (k : ℕ) : Type 0 where
+  pub events : List Event
+  pub stepped : HasStepped c d events
+  pub left : enabled_of (state_of c) lines ≡ events ++ enabled_of (state_of d) (drop k lines)
+  pub says : before ++ refused_lines (state_of c) lines ≡ told ++ refused_lines (state_of d) (drop k lines)
+
+-- none was
+pub tried_none : (c : Seen) (before : List ℕ) (lines : List (ℕ × Event)) → HasTried c c before before lines 0
+tried_none c before lines = record { events = []; stepped = stepped_none c; left = refl; says = refl }
+
+-- one more
+pub tried_more : {c d e : Seen} {before told : List ℕ} {lines : List (ℕ × Event)} {k : ℕ} → HasTried c d before told lines k
+    → (line : ℕ × Event) (rest : List (ℕ × Event)) (more : List ℕ) → drop k lines ≡ line ∷ rest → drop (k + 1) lines ≡ rest
+    → HasStepped d e (happens (state_of d) line.1) → more ≡ told ++ if_refused line.0 (refusal (state_of d) line.1) → HasTried c e before more lines (k + 1)
+tried_more {c} {d} {e} {before} {told} {lines} {k} h line rest more here after step says =
+    let w = state_of d in
+    let did = happens w line.1 in
+    let state : last w did ≡ state_of e = sym (stepped_state step) in
+    record {
+      events = h.events ++ did;
+      stepped = stepped_on h.stepped step;
+      left = h.left ∙ ap (λ ls. h.events ++ enabled_of w ls) here ∙ ap (λ v. h.events ++ (did ++ enabled_of v rest)) state
+          ∙ sym (append_assoc h.events did (enabled_of (state_of e) rest)) ∙ ap (λ ls. (h.events ++ did) ++ enabled_of (state_of e) ls) (sym after);
+      says = h.says ∙ ap (λ ls. told ++ refused_lines w ls) here ∙ ap (λ v. told ++ (if_refused line.0 (refusal w line.1) ++ refused_lines v rest)) state
+          ∙ sym (append_assoc told (if_refused line.0 (refusal w line.1)) (refused_lines (state_of e) rest))
+          ∙ ap (λ t. t ++ refused_lines (state_of e) rest) (sym says) ∙ ap (λ ls. more ++ refused_lines (state_of e) ls) (sym after);
+    }
+
+-- all were
+pub tried_all : {c d : Seen} {before told : List ℕ} {lines : List (ℕ × Event)} {k : ℕ} → HasTried c d before told lines k → drop k lines ≡ []
+    → HasStepped c d (enabled_of (state_of c) lines) × (told ≡ before ++ refused_lines (state_of c) lines)
+tried_all {c} {d} {before} {told} {lines} {k} h none =
+    let events : enabled_of (state_of c) lines ≡ h.events = h.left ∙ ap (λ ls. h.events ++ enabled_of (state_of d) ls) none ∙ append-nil h.events in
+    (subst (HasStepped c d) (sym events) h.stepped, sym (h.says ∙ ap (λ ls. told ++ refused_lines (state_of d) ls) none ∙ append-nil told))
+
+-- ---- a step file
+
+nothing_at : (n i : ℕ) → agenda_at (replicate n []) i ≡ []
+nothing_at zero i = refl
+nothing_at (suc n) zero = refl
+nothing_at (suc n) (suc i) = nothing_at n i
+
+-- a cluster that opened as a and in which the lines' events have happened to b
+pub stepped_all : (steps : Steps) (a b : Seen) (journal : List Event) (text told : List ℕ) → a ≡ opening_seen steps.credit steps.members → IsGoing b
+    → HasStepped a b (enabled_of (state_of a) steps.lines) → told ≡ refused_lines (state_of a) steps.lines → text ≡ told ++ report_of (state_of b) → journal ≡ b.events
+    → AreSteppedBy steps journal text (Some b)
+stepped_all steps a b journal text told ea going h et er ej =
+    let opens : state_of a ≡ opening steps.credit steps.members = ap state_of ea in
+    let credit : b.credit ≡ steps.credit = h.credit ∙ ap (λ s. s.credit) ea in
+    let names : b.names ≡ steps.members = h.names ∙ ap (λ s. s.names) ea in
+    let ran = has_run steps.credit steps.members journal b credit names ej going in
+    record {
+      stepped = record {
+        run = ran.run;
+        enabled = ej ∙ h.events ∙ ap (λ s. s.events ++ enabled_of (state_of a) steps.lines) ea ∙ ap (λ w. enabled_of w steps.lines) opens;
+        report = er ∙ ap (λ t. t ++ report_of (state_of b)) (et ∙ ap (λ w. refused_lines w steps.lines) opens) ∙ ap (λ w. refused_lines (opening steps.credit steps.members) steps.lines ++ report_of w) ran.state;
+      };
+      by = record {
+        seen = b;
+        is = refl;
+        names = names;
+        credit = credit;
+        events = sym ej;
+        given = h.given ∙ ap (λ s. s.given) ea;
+        empty = λ i l. ap (λ all. agenda_at all i) (h.agendas ∙ ap (λ s. s.agendas) ea) ∙ nothing_at (length steps.members) i;
+      };
+    }

@@ -1,0 +1,24 @@
+use Rattle.std.proofs.Common.{◌≡◌, ◌-◌, ◌+◌, ◌++◌, ◌∙◌, ap, length, arith, append_assoc}
+use Rattle.std.specs.List.{flat_map, range_with_len}
+use Rattle.ring_world.specs.Step.{size}
+use Rattle.ring_cluster.specs.Seen.{state_of}
+use Rattle.ring_cluster.proofs.Named.{going_many}
+use Rattle.ringplay.specs.Report.{ring_line, lines_of_member}
+use Rattle.ringplay.proofs.Reports.{ids_more}
+use Rattle.ringplay.proofs.report.push_report.Goals as goal
+
+pub loop-place-preserved : goal.loop-place-preserved
+loop-place-preserved c =
+    let w = state_of c.args.cluster.now in
+    let place = c.loop-place.place in
+    c.in_ok-push_member.ensures ∙ ap (λ xs. xs ++ lines_of_member w (place + 1)) c.loop-place.invariant ∙ ids_more (lines_of_member w) c.push_ring.new.out.items place
+
+pub returns : goal.returns
+returns c =
+    let k = c.args.cluster.now in
+    let w = state_of k in
+    let same : length c.args.names.now ≡ length k.names = ap length c.requires in
+    let all : c.loop-place.place ≡ size w - 1 = omega (arith, going_many k c.is_going.ensures) in
+    let told = flat_map (lines_of_member w) (range_with_len 1 (size w - 1)) in
+    c.loop-place.invariant ∙ ap (λ n. c.push_ring.new.out.items ++ flat_map (lines_of_member w) (range_with_len 1 n)) all ∙ ap (λ xs. xs ++ told) c.in_ok-push_ring.ensures
+    ∙ append_assoc c.args.out.now.items (ring_line c.view.result.now) told ∙ ap (λ v. c.args.out.now.items ++ (ring_line v ++ told)) c.view.ensures
