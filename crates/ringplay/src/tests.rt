@@ -32,12 +32,20 @@ struct Called {
     sink: SureSink,
 }
 
-/// The call of these words on this input.
-fn call<R: Threads + AllocGlobal>(rt: &R, words: &[&str], input: Vec<u8>) -> Result<Called, Fail> {
-    let mut given = Vec::new(rt.alloc());
-    for word in words {
-        given.push(Word::new(rt.alloc(), word)?)?;
+/// The words of a command line.
+fn words_of(alloc: Global, line: &str) -> Result<Vec<Word>, Fail> {
+    let mut words = Vec::new(alloc);
+    for word in line.split(' ') {
+        if !word.is_empty() {
+            words.push(Word::new(alloc, word)?)?;
+        }
     }
+    Ok(words)
+}
+
+/// The call of these words on this input.
+fn call<R: Threads + AllocGlobal>(rt: &R, words: &str, input: Vec<u8>) -> Result<Called, Fail> {
+    let given = words_of(rt.alloc(), words)?;
     let mut source = SureSource::new(input);
     let mut sink = SureSink::new(rt.alloc(), 1_048_576)?;
     let ended = ring_call(rt, rt.alloc(), &given, &mut source, &mut sink, &ShutGate);
@@ -60,7 +68,7 @@ fn reports<R: Threads + Abort + AllocGlobal>(
     input: &str,
     report: &str,
 ) -> Result<usize, Fail> {
-    let called = call(rt, &[word], bytes_of(rt.alloc(), input)?)?;
+    let called = call(rt, word, bytes_of(rt.alloc(), input)?)?;
     let text = bytes_of(rt.alloc(), report)?;
     expect_written(rt, &called, Cause::Done, &text, input);
     assert!(rt; called.ended.cluster.is_some(), "at {input}");
@@ -173,7 +181,7 @@ fn takes_the_worked_steps(rt: HostRuntime) -> Result<(), Fail> {
 /// The call ends with one line, and without a journal or a cluster.
 fn says<R: Threads + Abort + AllocGlobal>(
     rt: &R,
-    words: &[&str],
+    words: &str,
     input: Vec<u8>,
     cause: Cause,
     line: &str,
@@ -187,12 +195,7 @@ fn says<R: Threads + Abort + AllocGlobal>(
 
 #[test]
 fn refuses_other_words(rt: HostRuntime) -> Result<(), Fail> {
-    for words in [
-        [].as_slice(),
-        ["fly"].as_slice(),
-        ["play", "x"].as_slice(),
-        ["step", "play"].as_slice(),
-    ] {
+    for words in ["", "fly", "play x", "step play"] {
         let script = bytes_of(rt.alloc(), "members a")?;
         says(&rt, words, script, Cause::Usage, "usage\n")?;
     }
@@ -231,7 +234,7 @@ fn tells_the_first_fault(rt: HostRuntime) -> Result<(), Fail> {
         let input = bytes_of(rt.alloc(), input)?;
         says(
             &rt,
-            &[word],
+            word,
             input,
             Cause::Script { line, kind },
             told.as_str(),
@@ -239,7 +242,7 @@ fn tells_the_first_fault(rt: HostRuntime) -> Result<(), Fail> {
     }
     let empty = Vec::new(rt.alloc());
     let missed = Cause::Script { line: 1, kind: 61 };
-    says(&rt, &["play"], empty, missed, "script 1 61\n")
+    says(&rt, "play", empty, missed, "script 1 61\n")
 }
 
 /// A line of so many bytes, without its end.
@@ -273,12 +276,12 @@ fn ends_at_the_limits(rt: HostRuntime) -> Result<(), Fail> {
             ),
             (1_048_577, Cause::TooLarge, "too large\n"),
         ] {
-            says(&rt, &[word], endless_line(rt.alloc(), len)?, cause, line)?;
+            says(&rt, word, endless_line(rt.alloc(), len)?, cause, line)?;
         }
-        let most = call(&rt, &[word], long_text(rt.alloc(), 20_000)?)?;
+        let most = call(&rt, word, long_text(rt.alloc(), 20_000)?)?;
         assert_eq!(rt; most.ended.cause, Cause::Done);
         let more = long_text(rt.alloc(), 20_001)?;
-        says(&rt, &[word], more, Cause::TooLarge, "too large\n")?;
+        says(&rt, word, more, Cause::TooLarge, "too large\n")?;
     }
     Ok(())
 }
@@ -341,7 +344,7 @@ fn ends_at_a_fault_of_the_sink(rt: HostRuntime) -> Result<(), Fail> {
 #[test]
 fn goes_one_round(rt: HostRuntime) -> Result<(), Fail> {
     let script = bytes_of(rt.alloc(), "members a / go 3 / go 1000")?;
-    let ended = call(&rt, &["play"], script)?.ended;
+    let ended = call(&rt, "play", script)?.ended;
     assert_eq!(rt; ended.cause, Cause::Done);
     assert!(rt; ended.journal.as_slice().is_empty());
     let Some(cluster) = &ended.cluster else {
@@ -363,7 +366,7 @@ fn gains_what_each_fourth_packet_grants(rt: HostRuntime) -> Result<(), Fail> {
         rt.alloc(),
         "members a / cast a u / settle / cast a v / settle / cast a w / settle / cast a x / settle / cast a y / settle / cast a z",
     )?;
-    let ended = call(&rt, &["play"], script)?.ended;
+    let ended = call(&rt, "play", script)?.ended;
     assert_eq!(rt; ended.cause, Cause::Done);
     let journal = ended.journal.as_slice();
     assert_eq!(rt; journal.len(), 33);
@@ -405,7 +408,7 @@ fn confirms_all(line: &str, beginning: &str) -> bool {
 
 #[test]
 fn settles_a_full_ring(rt: HostRuntime) -> Result<(), Fail> {
-    let called = call(&rt, &["play"], busy_script(rt.alloc(), 64, 500)?)?;
+    let called = call(&rt, "play", busy_script(rt.alloc(), 64, 500)?)?;
     assert_eq!(rt; called.ended.cause, Cause::Done);
     let Ok(report) = str::from_utf8(called.sink.bytes()) else {
         panic!(rt; "the report is no text");
