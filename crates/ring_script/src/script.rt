@@ -130,6 +130,3 @@ pub fn read_script(alloc: Global, bytes: &[u8]) -> Result<Script, ScriptFault>
         lines: Items::from_vec(text.lines),
     })
 }
-
-#[cfg(test)]
-mod tests;
