@@ -1,11 +1,9 @@
 -- What the members and the statements of a right text have: a ring can open with the members, and each statement fits them.
-use Rattle.std.proofs.Common.{◌≡◌, ℕ, zero, suc, ◌+◌, ◌<◌, ◌≤◌, Bool, true, false, not, nat_lt, List, [], ◌∷◌, ◌++◌, Option, Some, None, length, take, drop, drop-cons, get_or, refl, sym, ap, subst, ◌∙◌, if◌then◌else◌, arith}
+use Rattle.std.proofs.Common.{◌≡◌, ℕ, zero, suc, ◌+◌, ◌<◌, ◌≤◌, Bool, true, false, not, nat_lt, List, [], ◌∷◌, ◌++◌, Some, None, length, take, drop, drop-cons, get_or, refl, sym, ap, subst, ◌∙◌, if◌then◌else◌, arith}
 use Rattle.std.specs.List.{list_all, All}
 use Rattle.std.proofs.lemmas.List.{append-nil, take_all}
 use Rattle.std.proofs.lemmas.List.Elements.{All-append, All-cons, All-nil}
 use Rattle.ring_names.specs.Name.{IsName}
-use Rattle.ring_world.specs.Rows.{AreOpeningNames}
-use Rattle.ring_script.specs.declared.fault.Kind.{Kind}
 use Rattle.ring_script.specs.declared.fault.Kind.TheVariants.{NotText, LineTooLong}
 use Rattle.ring_script.specs.declared.line.Head.{Head}
 use Rattle.ring_script.specs.declared.line.Head.TheVariants as head

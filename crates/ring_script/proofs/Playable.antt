@@ -1,5 +1,5 @@
 -- What a text spells as a script can be played, and a ring can open with the members of a step file.
-use Rattle.std.proofs.Common.{◌≡◌, ℕ, ◌+◌, ◌*◌, ◌<◌, ◌≤◌, Bool, true, false, ◌&&◌, ◌==◌, not, nat_le, nat_lt, is_some, unwrap_or, List, [], ◌∷◌, Option, Some, None, length, get_or, refl, sym, subst, if◌then◌else◌, arith}
+use Rattle.std.proofs.Common.{◌≡◌, ℕ, ◌+◌, ◌*◌, ◌≤◌, Bool, true, false, ◌&&◌, ◌==◌, not, nat_le, nat_lt, is_some, unwrap_or, List, [], ◌∷◌, Option, Some, None, length, get_or, refl, sym, subst, if◌then◌else◌, arith}
 use Rattle.std.specs.Prelude.{⊤}
 use Rattle.std.specs.List.{list_all, All, Contains}
 use Rattle.std.specs.Option.{option_or}

@@ -1,5 +1,5 @@
 -- What a line of a script says behind the opening ones, and what is wrong with it.
-use Rattle.std.specs.Prelude.{◌≡◌, ℕ, if◌then◌else◌, Option, Some, None, unwrap_or, List, codes, bytes_eq}
+use Rattle.std.specs.Prelude.{ℕ, if◌then◌else◌, Option, Some, None, unwrap_or, List, codes, bytes_eq}
 use Rattle.std.specs.Option.{option_or}
 use Rattle.ring_script.specs.declared.command.Command.{Command}
 use Rattle.ring_script.specs.declared.command.Command.TheVariants as command

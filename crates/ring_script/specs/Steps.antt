@@ -1,6 +1,6 @@
 -- What a line of a step file says behind the opening ones, and what is wrong with it. Its names need only be names: who
 -- plays the event says whether they are the ring's.
-use Rattle.std.specs.Prelude.{◌≡◌, ℕ, if◌then◌else◌, Option, Some, None, unwrap_or, option_map, List, codes, bytes_eq}
+use Rattle.std.specs.Prelude.{ℕ, if◌then◌else◌, Option, Some, None, unwrap_or, option_map, List, codes, bytes_eq}
 use Rattle.std.specs.Option.{option_or}
 use Rattle.ring_script.specs.declared.fault.Kind.{Kind}
 use Rattle.ring_script.specs.declared.fault.Kind.TheVariants.{UnknownCommand}
