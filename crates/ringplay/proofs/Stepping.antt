@@ -1,16 +1,13 @@
 -- What has become of the lines of a step file, one more after another.
-use Rattle.std.proofs.Common.{◌≡◌, ℕ, zero, suc, ◌+◌, ◌<◌, ◌≤◌, List, [], ◌∷◌, ◌++◌, length, drop, get_or, replicate, Some, refl, sym, ap, subst, ◌∙◌, arith}
+use Rattle.std.proofs.Common.{◌≡◌, ℕ, zero, suc, ◌+◌, List, [], ◌∷◌, ◌++◌, length, drop, replicate, Some, refl, sym, ap, subst, ◌∙◌}
 use Rattle.std.proofs.lemmas.List.{append-nil, append_assoc}
-use Rattle.ring_names.specs.declared.numbers.CreditSpec.{CreditSpec}
 use Rattle.ring_script.specs.declared.steps.Steps.{Steps}
 use Rattle.ring_world.specs.declared.event.Event.{Event}
-use Rattle.ring_world.specs.Machine.{World}
 use Rattle.ring_world.specs.Step.{opening}
 use Rattle.ring_world.specs.Event.{refusal, last}
 use Rattle.ring_world.proofs.InOrder.{last_append}
-use Rattle.ring_cluster.specs.declared.agenda.Task.{Task}
 use Rattle.ring_cluster.specs.Seen.{Seen, IsGoing, state_of, opening_seen}
-use Rattle.ring_cluster.specs.Plays.{agenda_at, AgendasAreEmpty}
+use Rattle.ring_cluster.specs.Plays.{agenda_at}
 use Rattle.ringplay.specs.Report.{report_of}
 use Rattle.ringplay.specs.Step.{happens, enabled_of, if_refused, refused_lines, HasStepped}
 use Rattle.ringplay.specs.Call.{AreSteppedBy}

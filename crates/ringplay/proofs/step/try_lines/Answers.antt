@@ -1,5 +1,5 @@
 use Rattle.std.proofs.Common.{◌≡◌, ◌+◌, ◌∷◌, ◌∙◌, suc, drop, drop-cons, refl, sym, ap, arith}
-use Rattle.ringplay.proofs.Stepping.{tried_more, tried_all}
+use Rattle.ringplay.proofs.Stepping.{tried_more}
 use Rattle.ringplay.proofs.step.try_lines.Goals as goal
 
 pub loop-number-preserved : goal.loop-number-preserved
