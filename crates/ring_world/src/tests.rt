@@ -28,16 +28,11 @@ fn names(alloc: Global, line: &str) -> Result<Vec<Name>, Fail> {
     Ok(members)
 }
 
-/// The ring of these members, with credit for so many packets, of which each so many bring a grant.
-fn ring(
-    rt: &(impl Abort + AllocGlobal),
-    members: &str,
-    initial: u32,
-    more: u32,
-) -> Result<World, Fail> {
+/// The ring of these members, with credit for eight packets on each link, of which each four bring a grant.
+fn ring(rt: &(impl Abort + AllocGlobal), members: &str) -> Result<World, Fail> {
     let members = names(rt.alloc(), members)?;
     assert!(rt; are_opening_names(&members));
-    let credit = CreditSpec::new(initial, more).ok_or("no credit")?;
+    let credit = CreditSpec::new(8, 4).ok_or("no credit")?;
     Ok(World::opening(rt.alloc(), &members, credit)?)
 }
 
@@ -53,37 +48,11 @@ fn expect_answer(
     Ok(())
 }
 
-/// The ring answers so each line of a text.
-fn go_on(rt: &(impl Abort + AllocGlobal), world: &mut World, text: &str) -> Result<(), Fail> {
-    for line in text.trim().lines() {
-        expect_answer(rt, world, line.trim())?;
-    }
-    Ok(())
-}
-
-/// So does a ring that opens with these members and credit for eight packets, of which each four bring a grant.
+/// The ring that opens with these members answers so each line of a text.
 fn play(rt: &(impl Abort + AllocGlobal), members: &str, text: &str) -> Result<(), Fail> {
-    let mut world = ring(rt, members, 8, 4)?;
-    go_on(rt, &mut world, text)
-}
-
-/// The ring does so with the same text so many times.
-fn repeat(
-    rt: &(impl Abort + AllocGlobal),
-    world: &mut World,
-    times: u32,
-    text: &str,
-) -> Result<(), Fail> {
-    for _time in 0..times {
-        go_on(rt, world, text)?;
-    }
-    Ok(())
-}
-
-/// Each event of a text happens where it is enabled.
-fn attempt(rt: &(impl Abort + AllocGlobal), world: &mut World, text: &str) -> Result<(), Fail> {
+    let mut world = ring(rt, members)?;
     for line in text.trim().lines() {
-        let _told = answer(rt, world, line.trim())?;
+        expect_answer(rt, &mut world, line.trim())?;
     }
     Ok(())
 }

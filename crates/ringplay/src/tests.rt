@@ -118,6 +118,24 @@ fn takes_the_worked_steps(rt: HostRuntime) -> Result<(), Fail> {
             6,
             "line 4 refused 43 / line 6 refused 18 / line 7 refused 25 asked=3 held=1 newest=2 / line 11 refused 16 / ring view=2 term=1 master=a / member a stopped / zeros / member b up synced / zeros / member c up synced / zeros",
         ),
+        // A ring goes on without one that stopped.
+        (
+            "members a b c / cast a x / put a / take b / mark a b / stop b / put b / mark c b / refresh c 2 / mark a b / mark a b / put a / take c / pick c / takeend c / take c / pick c / mark c b / refresh c 2 / pick c / takeend c / take c / put c / take a / put a / put a / take c / put c / take a / take a / put c",
+            15,
+            "line 5 refused 20 / line 7 refused 12 / line 8 refused 22 / line 9 refused 25 asked=2 held=1 newest=1 / line 11 refused 21 / line 12 refused 16 / line 13 refused 40 / line 14 refused 43 / line 16 refused 39 / line 17 refused 18 / line 18 refused 7 / line 21 refused 42 / line 26 refused 16 / line 30 refused 17 / line 31 refused 16 / ring view=2 term=1 master=a / member a up synced / casts 1 confirmed 1 / publishes 0 confirmed 0 / heard a x / member b stopped / zeros / member c up synced / zeros / heard a x",
+        ),
+        // The last one sends to itself.
+        (
+            "members a b / stop b / takeend a / mark a b / pick a / take a / cast a alone / put a / take a / take a",
+            8,
+            "line 10 refused 17 / ring view=2 term=1 master=a / member a up synced / casts 1 confirmed 1 / publishes 0 confirmed 0 / heard a alone / member b stopped / zeros",
+        ),
+        // Credit comes back with each second packet.
+        (
+            "members a b / credit 2 2 / cast a x / put a / cast a y / put a / cast a z / put a / take b / gain a / take b / gain a / gain a / put a / take b",
+            10,
+            "line 8 refused 15 / line 10 refused 37 / line 13 refused 37 / ring view=1 term=1 master=a / member a up synced / casts 3 confirmed 0 / publishes 0 confirmed 0 / heard a x / heard a y / heard a z / member b up synced / zeros / heard a x / heard a y / heard a z",
+        ),
         // Credit 1 1.
         (
             "members a b / credit 1 1 / cast a x / put a / cast a y / put a / take b / gain a / put a / take b",

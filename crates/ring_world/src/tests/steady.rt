@@ -1,7 +1,6 @@
-//! Rings in which nobody stops.
-use super::{attempt, go_on, names, play, repeat, ring};
+//! What a ring answers in which nobody stops.
+use super::{names, play};
 use crate::are_opening_names;
-use std::process::Abort;
 use std::test::Fail;
 
 #[test]
@@ -16,54 +15,6 @@ fn a_ring_of_one_hears_itself(rt: HostRuntime) -> Result<(), Fail> {
         take a
         counts a -> casts 1 confirmed 1 publishes 0 confirmed 0
         heard a a -> hi
-        ",
-    )
-}
-
-#[test]
-fn a_ring_of_three_hears_all(rt: HostRuntime) -> Result<(), Fail> {
-    let mut world = ring(&rt, "a b c", 8, 4)?;
-    go_on(
-        &rt,
-        &mut world,
-        "
-        cast a a1
-        cast b b1
-        cast a a2
-        cast b b2
-        cast a a3
-        heard c a ->
-        ",
-    )?;
-    for _pass in 0..10 {
-        attempt(
-            &rt,
-            &mut world,
-            "put a\ntake a\nput b\ntake b\nput c\ntake c",
-        )?;
-    }
-    go_on(
-        &rt,
-        &mut world,
-        "
-        put a -> refused 16 NothingNew
-        take a -> refused 17 NothingToTake
-        heard a a -> a1 a2 a3
-        heard a b -> b1 b2
-        heard a c ->
-        put b -> refused 16 NothingNew
-        take b -> refused 17 NothingToTake
-        heard b a -> a1 a2 a3
-        heard b b -> b1 b2
-        heard b c ->
-        put c -> refused 16 NothingNew
-        take c -> refused 17 NothingToTake
-        heard c a -> a1 a2 a3
-        heard c b -> b1 b2
-        heard c c ->
-        counts a -> casts 3 confirmed 3 publishes 0 confirmed 0
-        counts b -> casts 2 confirmed 2 publishes 0 confirmed 0
-        counts c -> casts 0 confirmed 0 publishes 0 confirmed 0
         ",
     )
 }
@@ -99,63 +50,6 @@ fn members_have_ids_and_states(rt: HostRuntime) -> Result<(), Fail> {
         state b -> Up { missing: Some(0) }
         ",
     )
-}
-
-#[test]
-fn a_link_without_credit_blocks_its_sender(rt: HostRuntime) -> Result<(), Fail> {
-    let mut world = ring(&rt, "a b", 1, 1)?;
-    go_on(
-        &rt,
-        &mut world,
-        "
-        cast a x
-        put a
-        cast a y
-        put a -> refused 15 NoCredit
-        gain a -> refused 37 NoGrant
-        take b
-        heard b a -> x
-        gain a
-        put a
-        take b
-        heard a a -> x y
-        heard b a -> x y
-        counts a -> casts 2 confirmed 0 publishes 0 confirmed 0
-        counts b -> casts 0 confirmed 0 publishes 0 confirmed 0
-        quiet -> false
-        ",
-    )
-}
-
-/// A link carries what its credit covers and no more, and each so many packets that are taken bring one grant.
-fn expect_credit_back(
-    rt: &(impl Abort + AllocGlobal),
-    initial: u32,
-    more: u32,
-) -> Result<(), Fail> {
-    let mut world = ring(rt, "a b", initial, more)?;
-    repeat(rt, &mut world, initial, "cast a x\nput a")?;
-    go_on(rt, &mut world, "cast a last\nput a -> refused 15 NoCredit")?;
-    let packets = more.saturating_sub(1);
-    repeat(
-        rt,
-        &mut world,
-        packets,
-        "take b\ngain a -> refused 37 NoGrant",
-    )?;
-    go_on(
-        rt,
-        &mut world,
-        "take b\ngain a\ngain a -> refused 37 NoGrant\nput a",
-    )
-}
-
-#[test]
-fn credit_comes_back_at_each_so_many_packets(rt: HostRuntime) -> Result<(), Fail> {
-    for (initial, more) in [(1, 1), (64, 1), (64, 64)] {
-        expect_credit_back(&rt, initial, more)?;
-    }
-    Ok(())
 }
 
 #[test]
