@@ -26,6 +26,7 @@ head_of word =
     else (if bytes_eq word (codes "credit") then head.Credit
     else head.Statement)
 
+-- what a line begins
 abbrev pub head_in : List ℕ → Head
 head_in line = head_of (first_word line)
 
@@ -41,10 +42,13 @@ is_statement head.Members = false
 is_statement head.Credit = false
 is_statement head.Statement = true
 
--- Behind its first word stands the rest of a line. The words of the rest:
+-- Behind its first word stands the rest of a line.
+
+-- the first word of the rest
 abbrev pub operand_in : List ℕ → List ℕ
 operand_in rest = slice_index_or (words_of rest) 0 []
 
+-- the second word of the rest
 abbrev pub second_in : List ℕ → List ℕ
 second_in rest = slice_index_or (words_of rest) 1 []
 
@@ -54,15 +58,19 @@ body_in rest = behind_space (behind_word rest)
 
 -- ---- limits
 
+-- the bytes of a line
 abbrev pub most_line_bytes : ℕ
 most_line_bytes = 2000
 
+-- the members
 abbrev pub most_names : ℕ
 most_names = 64
 
+-- the bytes of a body
 abbrev pub most_body_bytes : ℕ
 most_body_bytes = 256
 
+-- the initial credit of a link, in packets
 abbrev pub most_credit : ℕ
 most_credit = 64
 
@@ -93,9 +101,11 @@ a_word fault (word ∷ words) = fault word
 
 -- ---- one word
 
+-- a word is a name
 abbrev pub is_name : List ℕ → Bool
 is_name word = is_ok (name_or_fault word)
 
+-- a name is one of these
 abbrev pub is_among : List (List ℕ) → List ℕ → Bool
 is_among names name = list_any (λ other. bytes_eq other name) names
 

@@ -18,6 +18,7 @@ keyword_of word =
     else (if bytes_eq word (codes "settle") then Some Settle
     else None))
 
+-- the turns of a round
 abbrev pub most_turns : ℕ
 most_turns = 1000
 

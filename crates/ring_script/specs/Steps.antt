@@ -32,6 +32,7 @@ event_word_of word =
     else (if bytes_eq word (codes "refresh") then Some begins.Refresh
     else option_map begins.Own (own_step_of word)))
 
+-- the version that a line can name
 abbrev pub most_version : ℕ
 most_version = 1000000
 

@@ -28,6 +28,7 @@ enabled_of w (line ∷ lines) = happens w line.1 ++ enabled_of (last w (happens 
 
 -- ---- the lines that are refused
 
+-- how many messages a mirror is known to lack
 abbrev pub missing_text : Option ℕ → List ℕ
 missing_text None = codes "?"
 missing_text (Some n) = decimal n
@@ -44,6 +45,7 @@ kept_text r = []
 abbrev pub refused_line : ℕ → Reason → List ℕ
 refused_line number r = codes "line " ++ decimal number ++ codes " refused " ++ decimal (code_of r) ++ kept_text r ++ newline
 
+-- the line of this number, where something refuses its event
 abbrev pub if_refused : ℕ → Option Reason → List ℕ
 if_refused number None = []
 if_refused number (Some r) = refused_line number r
