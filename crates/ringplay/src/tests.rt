@@ -1,5 +1,7 @@
 //! Inputs, and what is written of them, byte for byte, and how each fault ends. In a table each row begins with `====` and
 //! its title; then come the words of the command line, the input, and behind `=>` the cause, the status and what is written.
+ghost use Rattle.std.specs.Prelude.{◌<◌};
+
 use crate::call::{Cause, Ended, ring_call};
 use crate::word::Word;
 use ring_io::{MemorySink, MemorySource, ShutGate};
