@@ -1,5 +1,45 @@
 //! The ring as a plain machine: its state, its events, and what each event does, as `gm` has it for a ring whose
 //! members may stop. Begin at `World`, and at specs/Machine.antt for what a state is.
+//!
+//! Members stand in a ring. Each sends on one link, to its right neighbour, and takes from one link, from its left
+//! neighbour.
+//!
+//! A member that publishes (`Cast`) adds the message to its own log, and counts as having received it. A packet
+//! (`Put`) has the version of its sender's view and, of each publisher (the origin of its messages), three numbers:
+//! `got`, up to which the sender has received the origin's messages; `forgot`, up to which it has forgotten them; and
+//! `lo`, after which the packet brings messages. Who takes it (`Take`) receives what it lacks, and passes that on in a
+//! packet of its own.
+//!
+//! So a message comes round to its publisher, which doesn't receive it again: there the packet's `got` becomes the
+//! publisher's `forgot`. The message is now at every member that is up, and is confirmed. The publisher's next packet
+//! says so. As this acknowledgement passes a member, the message is forgotten there; when it has come round too, the
+//! publisher's `retired` rises, and of the message nothing is left to say. Going round from the publisher past members
+//! and the packets on the links between them, `got` never rises, then `forgot`, then `retired`: that is the walk
+//! (`World::walk`).
+//!
+//! A link is under credit. Each packet takes one. The receiver counts what it takes, and at each so many a grant goes
+//! back, which the sender gains by an event of its own (`Gain`). Without credit nothing is put.
+//!
+//! Where a member stops (`Stop`), the link on which it sends ends behind the packets that are on it. Its right
+//! neighbour takes these, and then the end (`TakeEnd`). A neighbour has it marked dead (`Mark`): the left one when it
+//! likes, the right one only where it takes from no link and none stands at its door. A mark makes the next version of
+//! the view, which the marker has from then on. The others read it later (`Refresh`), but each before it takes a
+//! packet that was put under it.
+//!
+//! Who finds another right neighbour in its new view ends its link and opens one to that neighbour. The first packet
+//! there begins at what the sender forgot, so it brings all that may be missing. The link stands at the receiver's
+//! door until that one takes from no link, has a view as new as the link, and picks it (`Pick`). A refresh leaves the
+//! link from which a member takes, where it doesn't come from the left neighbour any more, or was opened before that
+//! one became it. Who takes from beyond dead members answers for them: of itself and of those between the sender and
+//! itself in its view it receives nothing, but learns how far messages and acknowledgements have come round.
+//!
+//! `every_state_is_lawful` and `nothing_falls_through_deaths` are the laws of every run. docs/PROTOCOL.md plays a cast
+//! and a death with all numbers.
+//!
+//! Not built: nobody joins, so nobody waits (`Phase::Waiting` has its rules, and no event leads there). The dead
+//! aren't erased, so a ring with a dead member isn't quiet while a member runs. There is no queue, so all messages are
+//! casts. This machine's packets have numbers alone, and messages are read from their publisher's log; those of
+//! gm_member carry the messages.
 #![tactic(auto)]
 
 mod arms;
