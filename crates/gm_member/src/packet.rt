@@ -18,7 +18,8 @@ pub struct Line {
 }
 
 /// A packet: the version of its sender's view, whether it is the first on its link, and a line for
-/// each origin that a ring may have, in order of their ids. Only `Member::put` makes one.
+/// each origin that a ring may have, in order of their ids. `Member::put` makes one, and a link that is ready to
+/// open has its first one.
 #[derive(Drop, Debug)]
 pub struct Packet {
     pub(crate) view: u32,

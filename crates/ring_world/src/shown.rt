@@ -5,7 +5,7 @@ ghost use Rattle.ring_world.specs.Shown.{is_cast as cast_is, is_publish as publi
 use ring_names::Message;
 
 /// How many messages of its own a member has published, by kind, and how many of them have come
-/// round, so that every member has them.
+/// round, so that every member that is up has them.
 #[derive(Clone, Copy, PartialEq, Eq, Debug)]
 pub struct Counts {
     pub casts: u64,

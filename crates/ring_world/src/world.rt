@@ -126,8 +126,8 @@ impl World {
         }
     }
 
-    /// What a member has published, and how much of it every member is known to have. It wants no
-    /// memory.
+    /// What a member has published, and how much of it has come round to it, so that every member that is up
+    /// has it. It wants no memory.
     pub fn counts(&self, by: &Name) -> Counts
         requires { IsSome (id_of self.now by.now) }
         ensures { result ≡ counts_at self.now (id_of self.now by.now) }

@@ -31,6 +31,20 @@ fn the_walk_while_a_publisher_stops_and_its_ring_is_mended(rt: HostRuntime) -> R
         walk a -> [1, 1, 0, 0, 0, 0, 0]
         pick b
         walk a -> [1, 1, 0, 0, 0, 0, 0]
+        take b
+        walk a -> [1, 1, 0, 0, 0]
+        put c
+        walk a -> [1, 1, 1, 0, 0, 0, 0]
+        take b
+        walk a -> [1, 1, 1, 0, 0]
+        put b
+        walk a -> [1, 1, 1, 1, 1, 0, 0]
+        take c
+        walk a -> [1, 1, 1, 1, 0]
+        put c
+        walk a -> [1, 1, 1, 1, 1, 1, 0]
+        take b
+        walk a -> [1, 1, 1, 1, 1]
         ",
     )
 }
