@@ -11,9 +11,6 @@ use std::alloc::Global;
 use std::process::Abort;
 use std::test::Fail;
 
-/// The ids and names of a ring in its order, as admissions may have left it. A smaller ring lacks the higher ids.
-const RING: [(u32, &str); 5] = [(4, "a"), (2, "b"), (5, "c"), (1, "d"), (3, "e")];
-
 fn name(text: &str) -> Result<Name, Fail> {
     Ok(Name::read(text.as_bytes())?)
 }
@@ -154,11 +151,11 @@ fn has_neighbours(view: &View, place: usize) -> bool {
 /// Whether its owner is.
 fn has_owner(view: &View, place: usize) -> bool {
     let entries = view.entries.as_slice();
-    let owner = match view.owner_of(at(entries, place).0) {
-        Some(owner) => owner.0,
-        None => 0,
-    };
-    owner == slow_owner(entries, place)
+    let slow = slow_owner(entries, place);
+    match view.owner_of(at(entries, place).0) {
+        Some(owner) => owner.0 > 0 && owner.0 == slow,
+        None => slow == 0,
+    }
 }
 
 /// Whether its aliases are.
@@ -190,29 +187,49 @@ fn knows_nobody(view: &View) -> Result<bool, Fail> {
     Ok(alone && view.aliases_of(nobody)?.is_empty())
 }
 
-/// That a view answers as the slow reading does, of each place and each two and three.
-fn expect_read(rt: &impl Abort, alloc: Global, view: &View) -> Result<(), Fail> {
+/// Whether a view answers as the slow reading does, of each place and each two and three.
+fn is_read(alloc: Global, view: &View) -> Result<bool, Fail> {
     for place in 0..view.entries.as_slice().len() {
         let read = has_neighbours(view, place)
             && has_owner(view, place)
             && has_between(view, place)
             && has_aliases(alloc, view, place)?;
-        assert!(rt; read, "place {place} of {view:?}");
+        if !read {
+            return Ok(false);
+        }
     }
-    assert!(rt; knows_nobody(view)?, "nobody in {view:?}");
-    Ok(())
+    knows_nobody(view)
 }
 
-/// The entries of a ring of that size, marked by the digits of a number to the base of 3.
+fn mark_of(digit: u32) -> Mark {
+    match digit {
+        0 => Mark::Live,
+        1 => Mark::Dead,
+        _ => Mark::Erased,
+    }
+}
+
+fn name_of(id: u32) -> Result<Name, Fail> {
+    name(match id {
+        1 => "a",
+        2 => "b",
+        3 => "c",
+        4 => "d",
+        _ => "e",
+    })
+}
+
+/// The entries of a ring of that size, marked by the digits of a number to the base of 3. Its ids stand as
+/// admissions may have left them.
 fn entries_of(alloc: Global, size: u32, marking: u32) -> Result<Vec<Entry>, Fail> {
     let mut entries = Vec::new(alloc);
     let mut left = marking;
-    for (id, text) in RING {
+    for id in [4, 2, 5, 1, 3] {
         if id <= size {
             entries.push(Entry {
                 id: MemberId(id),
-                name: name(text)?,
-                mark: [Mark::Live, Mark::Dead, Mark::Erased][left as usize % 3],
+                name: name_of(id)?,
+                mark: mark_of(left % 3),
                 synced: true,
                 joined: 1,
                 since: 1,
@@ -223,12 +240,23 @@ fn entries_of(alloc: Global, size: u32, marking: u32) -> Result<Vec<Entry>, Fail
     Ok(entries)
 }
 
+/// Whether the view of that size and marking is read.
+fn is_ring_read(alloc: Global, size: u32, marking: u32) -> Result<bool, Fail> {
+    match view_of(entries_of(alloc, size, marking)?) {
+        Some(view) => is_read(alloc, &view),
+        None => Ok(false),
+    }
+}
+
+/// All markings of five entries, of which a smaller ring takes the first ones.
 #[test]
 fn answers_for_all_small_rings(rt: HostRuntime) -> Result<(), Fail> {
-    for (size, markings) in [(1, 3), (2, 9), (3, 27), (4, 81), (5, 243)] {
-        for marking in 0..markings {
-            let view = view_of(entries_of(rt.alloc(), size, marking)?).ok_or("no view")?;
-            expect_read(&rt, rt.alloc(), &view)?;
+    for size in 1..6 {
+        for marking in 0..243 {
+            assert!(rt;
+                is_ring_read(rt.alloc(), size, marking)?,
+                "at {size} {marking}"
+            );
         }
     }
     Ok(())
@@ -276,14 +304,9 @@ fn marks(views: &mut Vec<View>, view: &mut View, dead: MemberId) -> Result<bool,
     }
 }
 
-/// Marks members in the order that the digits of a number tell, some of them twice, and reads each view.
-fn mark_in_order(
-    rt: &impl Abort,
-    alloc: Global,
-    view: &mut View,
-    size: u32,
-    order: u32,
-) -> Result<(), Fail>
+/// Whether members can be marked in the order that the digits of a number tell, some of them twice, and each
+/// view is dated and the last one read.
+fn marks_in_order(alloc: Global, view: &mut View, size: u32, order: u32) -> Result<bool, Fail>
     requires { 0 < size }
 {
     let mut views = Vec::new(alloc);
@@ -292,24 +315,34 @@ fn mark_in_order(
     for _step in 0..size {
         let dead = MemberId(left % size + 1);
         left /= size;
-        assert!(rt; marks(&mut views, view, dead)?, "at {dead:?} of {order}");
-        assert!(rt; has_since(&views, view), "since at {dead:?} of {order}");
+        if !marks(&mut views, view, dead)? || !has_since(&views, view) {
+            return Ok(false);
+        }
     }
-    expect_read(rt, alloc, view)
+    is_read(alloc, view)
+}
+
+/// The members of a group of that size, with the number of orders in which so many may be marked.
+fn group_of(size: u32) -> (&'static str, u32) {
+    match size {
+        1 => ("a", 1),
+        2 => ("a b", 4),
+        3 => ("a b c", 27),
+        4 => ("a b c d", 256),
+        _ => ("a b c d e", 3125),
+    }
 }
 
 #[test]
 fn dates_neighbours_over_all_orders_of_death(rt: HostRuntime) -> Result<(), Fail> {
-    for (names, size, orders) in [
-        ("a", 1, 1),
-        ("a b", 2, 4),
-        ("a b c", 3, 27),
-        ("a b c d", 4, 256),
-        ("a b c d e", 5, 3125),
-    ] {
+    for size in 1..6 {
+        let (names, orders) = group_of(size);
         for order in 0..orders {
             let mut view = opened(rt.alloc(), names)?;
-            mark_in_order(&rt, rt.alloc(), &mut view, size, order)?;
+            assert!(rt;
+                marks_in_order(rt.alloc(), &mut view, size, order)?,
+                "at {size} {order}"
+            );
         }
     }
     Ok(())
@@ -334,38 +367,37 @@ fn opens(view: &View) -> bool {
     last == 3 && first && view.version == 1 && view.term == 1 && view.next_id == 4
 }
 
-/// The id that a view finds by a name, or 0.
-fn found(view: &View, text: &str) -> Result<u32, Fail> {
+/// Whether a view finds this id by a name or, where it is 0, none.
+fn finds(view: &View, text: &str, id: u32) -> Result<bool, Fail> {
     match view.find(&name(text)?) {
-        Some(id) => Ok(id.0),
-        None => Ok(0),
+        Some(found) => Ok(id > 0 && found.0 == id),
+        None => Ok(id == 0),
     }
 }
 
 #[test]
 fn opens_with_all_live_and_finds_by_name(rt: HostRuntime) -> Result<(), Fail> {
     let view = opened(rt.alloc(), "a b c")?;
-    assert!(rt; opens(&view), "{view:?}");
-    for (text, id) in [("b", 2), ("e", 0)] {
-        assert!(rt; found(&view, text)? == id, "at {text}");
-    }
+    assert!(rt; opens(&view) && finds(&view, "b", 2)? && finds(&view, "e", 0)?);
     Ok(())
 }
 
-/// The number of the refusal of a mark, or 0.
-fn refusal(view: &mut View, id: u32) -> u32 {
-    match view.mark_dead(MemberId(id)) {
+/// A mark is refused with that number or, where it is 0, happens.
+fn expect_refusal(rt: &impl Abort, view: &mut View, id: u32, want: u32) {
+    let code = match view.mark_dead(MemberId(id)) {
         Ok(()) => 0,
         Err(reason) => reason.code(),
-    }
+    };
+    assert_eq!(rt; code, want, "at {id}");
 }
 
 #[test]
 fn refuses_marks_with_their_numbers(rt: HostRuntime) -> Result<(), Fail> {
     let mut view = opened(rt.alloc(), "a b c")?;
-    for (id, want) in [(4, 6), (2, 0), (2, 7), (0, 6)] {
-        assert!(rt; refusal(&mut view, id) == want, "at {id}");
-    }
+    expect_refusal(&rt, &mut view, 4, 6);
+    expect_refusal(&rt, &mut view, 2, 0);
+    expect_refusal(&rt, &mut view, 2, 7);
+    expect_refusal(&rt, &mut view, 0, 6);
     assert!(rt; view.version == 2);
     Ok(())
 }
@@ -378,46 +410,48 @@ fn copies_as_equal(rt: HostRuntime) -> Result<(), Fail> {
     Ok(())
 }
 
+/// Whether a group may open with the names of a line.
+fn may_open(alloc: Global, line: &str) -> Result<bool, Fail> {
+    Ok(are_opening_names(&names(alloc, line)?))
+}
+
 #[test]
 fn takes_different_names_alone(rt: HostRuntime) -> Result<(), Fail> {
-    for line in ["a a", ""] {
-        assert!(rt; !are_opening_names(&names(rt.alloc(), line)?), "at {line}");
-    }
+    assert!(rt; !may_open(rt.alloc(), "a a")? && !may_open(rt.alloc(), "")?);
     Ok(())
+}
+
+/// Whether a request to deposit a link keeps its receiver and its version.
+fn asks(link: &Deposited<u8>) -> bool {
+    let ask = Request::Deposit {
+        by: link.from,
+        to: MemberId(2),
+        view: link.view,
+        kind: link.kind,
+        link: link.link,
+    };
+    match ask {
+        Request::Deposit { to, view, .. } => to.0 == 2 && view == 3,
+        _ => false,
+    }
+}
+
+/// Whether an answer keeps its one link.
+fn answers(links: Vec<Deposited<u8>>) -> bool {
+    match Answer::Links(Items::from_vec(links)) {
+        Answer::Links(links) => links.as_slice().len() == 1,
+        _ => false,
+    }
 }
 
 #[test]
 fn asks_and_answers(rt: HostRuntime) -> Result<(), Fail> {
-    let (from, view, kind, link) = (MemberId(1), 3, LinkKind::Ring, 7u8);
-    let ask = Request::Deposit {
-        by: from,
-        to: MemberId(2),
-        view,
-        kind,
-        link,
+    let link = Deposited {
+        from: MemberId(1),
+        view: 3,
+        kind: LinkKind::Ring,
+        link: 7u8,
     };
-    assert!(rt;
-        matches!(
-            ask,
-            Request::Deposit {
-                to: MemberId(2),
-                view: 3,
-                ..
-            }
-        )
-    );
-    let links = vec![in rt.alloc();
-        Deposited {
-            from,
-            view,
-            kind,
-            link
-        },
-    ]?;
-    if let Answer::Links(links) = Answer::Links(Items::from_vec(links)) {
-        assert!(rt; links.as_slice().len() == 1);
-    } else {
-        panic!(rt; "another answer");
-    }
+    assert!(rt; asks(&link) && answers(vec![in rt.alloc(); link]?));
     Ok(())
 }
