@@ -1,66 +1,36 @@
 //! Small rings against a slow reading of what a view says, and each public call once, with ample memory.
-ghost use Rattle.std.specs.Prelude.{◌≡◌, true, nat_lt};
+ghost use Rattle.std.specs.Prelude.{◌≡◌, true, nat_lt, ◌<◌};
 ghost use Rattle.std.specs.Bool.{OnTrue};
 ghost use Rattle.std.specs.List.{list_all};
 ghost use Rattle.group_view.specs.View.{ids};
 ghost use Rattle.group_view.specs.Ring.{AreDistinct};
 
 use crate::*;
-use ring_names::{Items, MemberId, Name, Reason};
+use ring_names::{Items, MemberId, Name};
 use std::alloc::Global;
 use std::process::Abort;
 use std::test::Fail;
-
-/// Powers of three: how many markings a ring of so many entries has.
-const MARKINGS: [u32; 6] = [1, 3, 9, 27, 81, 243];
-
-/// The ids of a ring in its order, as admissions may have left it.
-const IDS: [u32; 5] = [4, 2, 5, 1, 3];
-
-/// How many lists of so many ids of so many members there are.
-const ORDERS: [u32; 6] = [1, 1, 4, 27, 256, 3125];
 
 fn name(text: &str) -> Result<Name, Fail> {
     Ok(Name::read(text.as_bytes())?)
 }
 
-fn names(alloc: Global, size: usize) -> Result<Vec<Name>, Fail> {
-    let mut all = Vec::new(alloc);
-    for text in ["a", "b", "c", "d", "e"].iter().take(size) {
-        all.push(name(text)?)?;
+/// The names that a line lists.
+fn names(alloc: Global, line: &str) -> Result<Vec<Name>, Fail> {
+    let mut names = Vec::new(alloc);
+    for text in line.split_whitespace() {
+        names.push(name(text)?)?;
     }
-    Ok(all)
+    Ok(names)
 }
 
-/// The id at a place of a ring of that size: ids go up to it.
-fn id_in(size: usize, place: usize) -> u32 {
-    let mut left = place;
-    for id in IDS {
-        if id as usize <= size {
-            if left == 0 {
-                return id;
-            }
-            left -= 1;
-        }
+/// The opening view of these members.
+fn opened(alloc: Global, line: &str) -> Result<View, Fail> {
+    let names = names(alloc, line)?;
+    if !are_opening_names(&names) {
+        return Err(Fail::new("no opening"));
     }
-    0
-}
-
-/// The digit at a place of a number to a base, or 0.
-fn digit(number: u32, base: u32, place: usize) -> u32 {
-    let mut left = number;
-    for _ in 0..place {
-        left = left.checked_div(base).unwrap_or(0);
-    }
-    left.checked_rem(base).unwrap_or(0)
-}
-
-fn mark_of(digit: u32) -> Mark {
-    match digit {
-        0 => Mark::Live,
-        1 => Mark::Dead,
-        _ => Mark::Erased,
-    }
+    Ok(View::opening(alloc, &names)?)
 }
 
 /// Whether the ids are different, and below the next one.
@@ -98,11 +68,11 @@ fn view_of(entries: Vec<Entry>) -> Option<View> {
     })
 }
 
-fn opened(alloc: Global, names: &[Name]) -> Result<Option<View>, Fail> {
-    if are_opening_names(names) {
-        Ok(Some(View::opening(alloc, names)?))
-    } else {
-        Ok(None)
+/// The id and the mark at a place.
+fn at(entries: &[Entry], place: usize) -> (MemberId, Mark) {
+    match entries.get(place) {
+        Some(entry) => (entry.id, entry.mark),
+        None => (MemberId(0), Mark::Erased),
     }
 }
 
@@ -118,289 +88,360 @@ fn next_to(size: usize, place: usize, right: bool) -> usize {
     }
 }
 
-fn is_live_at(entries: &[Entry], place: usize) -> bool {
-    matches!(entries.get(place).map(|entry| entry.mark), Some(Mark::Live))
-}
-
-fn is_dead_at(entries: &[Entry], place: usize) -> bool {
-    matches!(entries.get(place).map(|entry| entry.mark), Some(Mark::Dead))
-}
-
-fn id_at(entries: &[Entry], place: usize) -> MemberId {
-    entries.get(place).map_or(MemberId(0), |entry| entry.id)
-}
-
 /// The neighbour, by going from place to place.
 fn slow_neighbour(entries: &[Entry], place: usize, right: bool) -> MemberId {
-    let mut at = place;
-    for _ in 1..entries.len() {
-        at = next_to(entries.len(), at, right);
-        if is_live_at(entries, at) {
-            return id_at(entries, at);
+    let mut there = place;
+    for _step in 1..entries.len() {
+        there = next_to(entries.len(), there, right);
+        if let (id, Mark::Live) = at(entries, there) {
+            return id;
         }
     }
-    id_at(entries, place)
+    at(entries, place).0
 }
 
-/// The owner, by going right.
-fn slow_owner(entries: &[Entry], place: usize) -> Option<MemberId> {
-    let mut at = place;
-    for _ in 0..entries.len() {
-        if is_live_at(entries, at) {
-            return Some(id_at(entries, at));
+/// The number of the owner: that of the first live entry, going right. It is 0 where nobody lives.
+fn slow_owner(entries: &[Entry], place: usize) -> u32 {
+    let mut there = place;
+    for _entry in entries {
+        if let (id, Mark::Live) = at(entries, there) {
+            return id.0;
         }
-        at = next_to(entries.len(), at, true);
+        there = next_to(entries.len(), there, true);
     }
-    None
+    0
 }
 
 /// Whether one comes on the way right from one place to another.
 fn slow_between(entries: &[Entry], from: usize, x: usize, to: usize) -> bool {
-    let mut at = from;
-    for _ in 1..entries.len() {
-        at = next_to(entries.len(), at, true);
-        if at == to {
-            return false;
-        }
-        if at == x {
-            return true;
+    let mut there = from;
+    for _step in 1..entries.len() {
+        there = next_to(entries.len(), there, true);
+        if there == to || there == x {
+            return there != to;
         }
     }
     false
 }
 
-/// That the neighbours and the owner of the entry at a place are those of the slow reading.
-fn expect_neighbours(rt: &impl Abort, view: &View, place: usize) {
-    let entries = view.entries.as_slice();
-    let id = id_at(entries, place);
-    assert_eq!(rt; view.left_of(id), slow_neighbour(entries, place, false));
-    assert_eq!(rt; view.right_of(id), slow_neighbour(entries, place, true));
-    assert_eq!(rt; view.owner_of(id), slow_owner(entries, place));
-}
-
 /// The aliases, by going left and asking for each owner.
 fn slow_aliases(alloc: Global, entries: &[Entry], place: usize) -> Result<Vec<MemberId>, Fail> {
-    let id = id_at(entries, place);
+    let (of, _) = at(entries, place);
     let mut aliases = Vec::new(alloc);
-    let mut at = place;
-    for _ in 1..entries.len() {
-        at = next_to(entries.len(), at, false);
-        if is_dead_at(entries, at) && slow_owner(entries, at) == Some(id) {
-            aliases.push(id_at(entries, at))?;
+    let mut there = place;
+    for _step in 1..entries.len() {
+        there = next_to(entries.len(), there, false);
+        if let (id, Mark::Dead) = at(entries, there)
+            && slow_owner(entries, there) == of.0
+        {
+            aliases.push(id)?;
         }
     }
     Ok(aliases)
 }
 
-fn expect_aliases(rt: &impl Abort, alloc: Global, view: &View, place: usize) -> Result<(), Fail> {
+/// Whether the neighbours of the entry at a place are those of the slow reading.
+fn has_neighbours(view: &View, place: usize) -> bool {
     let entries = view.entries.as_slice();
-    let aliases = view.aliases_of(id_at(entries, place))?;
-    let want = slow_aliases(alloc, entries, place)?;
-    assert_eq!(rt; aliases.as_slice(), want.as_slice());
-    Ok(())
+    let (id, _) = at(entries, place);
+    view.left_of(id).0 == slow_neighbour(entries, place, false).0
+        && view.right_of(id).0 == slow_neighbour(entries, place, true).0
 }
 
-fn expect_between(rt: &impl Abort, view: &View, from: usize, x: usize, to: usize) {
+/// Whether its owner is.
+fn has_owner(view: &View, place: usize) -> bool {
     let entries = view.entries.as_slice();
-    let found = view.is_between(id_at(entries, from), id_at(entries, x), id_at(entries, to));
-    assert_eq!(rt; found, slow_between(entries, from, x, to));
+    let slow = slow_owner(entries, place);
+    match view.owner_of(at(entries, place).0) {
+        Some(owner) => owner.0 > 0 && owner.0 == slow,
+        None => slow == 0,
+    }
 }
 
-fn expect_nobody(rt: &impl Abort, view: &View) -> Result<(), Fail> {
-    let nobody = MemberId(9);
-    assert_eq!(rt; view.left_of(nobody), nobody);
-    assert_eq!(rt; view.right_of(nobody), nobody);
-    assert!(rt; view.aliases_of(nobody)?.is_empty());
-    Ok(())
+/// Whether its aliases are.
+fn has_aliases(alloc: Global, view: &View, place: usize) -> Result<bool, Fail> {
+    let entries = view.entries.as_slice();
+    let aliases = view.aliases_of(at(entries, place).0)?;
+    Ok(aliases.as_slice() == slow_aliases(alloc, entries, place)?.as_slice())
 }
 
-/// That a view answers as the slow reading does, of each place and each two and three.
-fn expect_read(rt: &impl Abort, alloc: Global, view: &View) -> Result<(), Fail> {
-    let size = view.entries.as_slice().len();
-    for place in 0..size {
-        expect_neighbours(rt, view, place);
-        expect_aliases(rt, alloc, view, place)?;
-        for x in 0..size {
-            for to in 0..size {
-                expect_between(rt, view, place, x, to);
+/// Whether what stands between it and each other is.
+fn has_between(view: &View, from: usize) -> bool {
+    let entries = view.entries.as_slice();
+    let (id, _) = at(entries, from);
+    for x in 0..entries.len() {
+        for to in 0..entries.len() {
+            let found = view.is_between(id, at(entries, x).0, at(entries, to).0);
+            if found != slow_between(entries, from, x, to) {
+                return false;
             }
         }
     }
-    expect_nobody(rt, view)
+    true
 }
 
-/// The entries of a ring of that size, with one marking.
-fn entries_of(
-    alloc: Global,
-    names: &[Name],
-    size: usize,
-    marking: u32,
-) -> Result<Vec<Entry>, Fail> {
+/// Whether an id without an entry is its own neighbour, and nobody's owner.
+fn knows_nobody(view: &View) -> Result<bool, Fail> {
+    let nobody = MemberId(9);
+    let alone = view.left_of(nobody).0 == 9 && view.right_of(nobody).0 == 9;
+    Ok(alone && view.aliases_of(nobody)?.is_empty())
+}
+
+/// Whether a view answers as the slow reading does, of each place and each two and three.
+fn is_read(alloc: Global, view: &View) -> Result<bool, Fail> {
+    for place in 0..view.entries.as_slice().len() {
+        let read = has_neighbours(view, place)
+            && has_owner(view, place)
+            && has_between(view, place)
+            && has_aliases(alloc, view, place)?;
+        if !read {
+            return Ok(false);
+        }
+    }
+    knows_nobody(view)
+}
+
+fn mark_of(digit: u32) -> Mark {
+    match digit {
+        0 => Mark::Live,
+        1 => Mark::Dead,
+        _ => Mark::Erased,
+    }
+}
+
+fn name_of(id: u32) -> Result<Name, Fail> {
+    name(match id {
+        1 => "a",
+        2 => "b",
+        3 => "c",
+        4 => "d",
+        _ => "e",
+    })
+}
+
+/// The entries of a ring of that size, marked by the digits of a number to the base of 3. Its ids stand as
+/// admissions may have left them.
+fn entries_of(alloc: Global, size: u32, marking: u32) -> Result<Vec<Entry>, Fail> {
     let mut entries = Vec::new(alloc);
-    for (place, name) in names.iter().enumerate().take(size) {
-        entries.push(Entry {
-            id: MemberId(id_in(size, place)),
-            name: *name,
-            mark: mark_of(digit(marking, 3, place)),
-            synced: true,
-            joined: 1,
-            since: 1,
-        })?;
+    let mut left = marking;
+    for id in [4, 2, 5, 1, 3] {
+        if id <= size {
+            entries.push(Entry {
+                id: MemberId(id),
+                name: name_of(id)?,
+                mark: mark_of(left % 3),
+                synced: true,
+                joined: 1,
+                since: 1,
+            })?;
+            left /= 3;
+        }
     }
     Ok(entries)
 }
 
+/// Whether the view of that size and marking is read.
+fn is_ring_read(alloc: Global, size: u32, marking: u32) -> Result<bool, Fail> {
+    match view_of(entries_of(alloc, size, marking)?) {
+        Some(view) => is_read(alloc, &view),
+        None => Ok(false),
+    }
+}
+
+/// All markings of five entries, of which a smaller ring takes the first ones.
 #[test]
 fn answers_for_all_small_rings(rt: HostRuntime) -> Result<(), Fail> {
-    let all = names(rt.alloc(), 5)?;
-    for size in 1..6usize {
-        for marking in 0..MARKINGS.get(size).copied().unwrap_or(0) {
-            match view_of(entries_of(rt.alloc(), &all, size, marking)?) {
-                Some(view) => expect_read(&rt, rt.alloc(), &view)?,
-                None => panic!(rt; "no view at {size} {marking}"),
-            }
+    for size in 1..6 {
+        for marking in 0..243 {
+            assert!(rt;
+                is_ring_read(rt.alloc(), size, marking)?,
+                "at {size} {marking}"
+            );
         }
     }
     Ok(())
 }
 
-/// The version from which the left neighbour has been the present one, by all views so far, of which the
-/// last is the present one.
+/// The version from which the left neighbour has been the present one, by all views so far.
 fn slow_since(views: &[View], id: MemberId) -> u32 {
-    let Some(last) = views.last() else {
-        return 0;
-    };
-    let left = last.left_of(id);
-    let mut since = last.version;
-    for view in views.iter().rev() {
-        if view.left_of(id) != left {
-            break;
+    let mut left = 0;
+    let mut since = 0;
+    for view in views {
+        let now = view.left_of(id).0;
+        if now != left {
+            left = now;
+            since = view.version;
         }
-        since = view.version;
     }
     since
 }
 
-/// Marks a member dead, and notes the view where it was done; where it was refused nothing has changed.
-fn mark(
-    rt: &impl Abort,
-    views: &mut Vec<View>,
-    view: &mut View,
-    dead: MemberId,
-) -> Result<(), Fail> {
+/// Whether each entry has the version of the slow reading.
+fn has_since(views: &[View], view: &View) -> bool {
+    for entry in view.entries.as_slice() {
+        if entry.since != slow_since(views, entry.id) {
+            return false;
+        }
+    }
+    true
+}
+
+fn is_same(one: &View, other: &View) -> bool {
+    one.version == other.version
+        && one.master == other.master
+        && one.entries.as_slice() == other.entries.as_slice()
+}
+
+/// Whether a member is marked dead in the next version, which is noted; or it is refused as dead, and nothing changes.
+fn marks(views: &mut Vec<View>, view: &mut View, dead: MemberId) -> Result<bool, Fail> {
     let was = view.copy()?;
     match view.mark_dead(dead) {
         Ok(()) => {
-            assert_eq!(rt; u64::from(view.version), u64::from(was.version) + 1);
             views.push(view.copy()?)?;
+            Ok(view.version > was.version && view.version - was.version == 1)
         }
-        Err(reason) => {
-            assert_eq!(rt; reason.code(), 7);
-            assert_eq!(rt; view.version, was.version);
-            assert_eq!(rt; view.entries.as_slice(), was.entries.as_slice());
-        }
-    }
-    Ok(())
-}
-
-fn expect_since(rt: &impl Abort, views: &[View], view: &View) {
-    for entry in view.entries.as_slice() {
-        assert_eq!(rt; entry.since, slow_since(views, entry.id));
+        Err(reason) => Ok(reason.code() == 7 && is_same(view, &was)),
     }
 }
 
-/// Marks members in an order, some of them twice, and reads each view.
-fn mark_in_order(
-    rt: &impl Abort,
-    alloc: Global,
-    view: &mut View,
-    size: u32,
-    order: u32,
-) -> Result<(), Fail> {
+/// Whether members can be marked in the order that the digits of a number tell, some of them twice, and each
+/// view is dated and the last one read.
+fn marks_in_order(alloc: Global, view: &mut View, size: u32, order: u32) -> Result<bool, Fail>
+    requires { 0 < size }
+{
     let mut views = Vec::new(alloc);
     views.push(view.copy()?)?;
-    for step in 0..size {
-        let dead = MemberId(digit(order, size, step as usize).saturating_add(1));
-        mark(rt, &mut views, view, dead)?;
-        expect_since(rt, &views, view);
+    let mut left = order;
+    for _step in 0..size {
+        let dead = MemberId(left % size + 1);
+        left /= size;
+        if !marks(&mut views, view, dead)? || !has_since(&views, view) {
+            return Ok(false);
+        }
     }
-    expect_read(rt, alloc, view)
+    is_read(alloc, view)
+}
+
+/// The members of a group of that size, with the number of orders in which so many may be marked.
+fn group_of(size: u32) -> (&'static str, u32) {
+    match size {
+        1 => ("a", 1),
+        2 => ("a b", 4),
+        3 => ("a b c", 27),
+        4 => ("a b c d", 256),
+        _ => ("a b c d e", 3125),
+    }
 }
 
 #[test]
 fn dates_neighbours_over_all_orders_of_death(rt: HostRuntime) -> Result<(), Fail> {
-    for size in 1..6u32 {
-        let all = names(rt.alloc(), size as usize)?;
-        for order in 0..ORDERS.get(size as usize).copied().unwrap_or(0) {
-            match opened(rt.alloc(), &all)? {
-                Some(mut view) => mark_in_order(&rt, rt.alloc(), &mut view, size, order)?,
-                None => panic!(rt; "no opening of {size}"),
-            }
+    for size in 1..6 {
+        let (names, orders) = group_of(size);
+        for order in 0..orders {
+            let mut view = opened(rt.alloc(), names)?;
+            assert!(rt;
+                marks_in_order(rt.alloc(), &mut view, size, order)?,
+                "at {size} {order}"
+            );
         }
     }
     Ok(())
 }
 
-fn three(rt: &impl Abort, alloc: Global) -> Result<View, Fail> {
-    let all = names(alloc, 3)?;
-    match opened(alloc, &all)? {
-        Some(view) => Ok(view),
-        None => panic!(rt; "no opening"),
+/// Whether an entry is of the opening view of a group.
+fn is_opening(entry: &Entry) -> bool {
+    entry.mark.is_live() && entry.synced && entry.joined == 1 && entry.since == 1
+}
+
+/// Whether a view opens as one of three members, of which the first is the master.
+fn opens(view: &View) -> bool {
+    let mut last = 0;
+    for entry in view.entries.as_slice() {
+        let id = entry.id.0;
+        if !is_opening(entry) || id <= last || id - last > 1 {
+            return false;
+        }
+        last = id;
+    }
+    let first = matches!(view.master, Some(MemberId(1)));
+    last == 3 && first && view.version == 1 && view.term == 1 && view.next_id == 4
+}
+
+/// Whether a view finds this id by a name or, where it is 0, none.
+fn finds(view: &View, text: &str, id: u32) -> Result<bool, Fail> {
+    match view.find(&name(text)?) {
+        Some(found) => Ok(id > 0 && found.0 == id),
+        None => Ok(id == 0),
     }
 }
 
 #[test]
-fn opens_with_all_live(rt: HostRuntime) -> Result<(), Fail> {
-    let view = three(&rt, rt.alloc())?;
-    assert_eq!(rt; (view.version, view.term, view.next_id), (1, 1, 4));
-    assert_eq!(rt; view.master, Some(MemberId(1)));
-    for (place, entry) in view.entries.as_slice().iter().enumerate() {
-        assert_eq!(rt; entry.id.0 as usize, place + 1);
-        assert_eq!(rt; (entry.joined, entry.since), (1, 1));
-        assert!(rt; entry.synced && entry.mark == Mark::Live);
-    }
+fn opens_with_all_live_and_finds_by_name(rt: HostRuntime) -> Result<(), Fail> {
+    let view = opened(rt.alloc(), "a b c")?;
+    assert!(rt; opens(&view) && finds(&view, "b", 2)? && finds(&view, "e", 0)?);
     Ok(())
 }
 
-#[test]
-fn finds_by_name(rt: HostRuntime) -> Result<(), Fail> {
-    let view = three(&rt, rt.alloc())?;
-    assert_eq!(rt; view.find(&name("b")?), Some(MemberId(2)));
-    assert_eq!(rt; view.find(&name("e")?), None);
-    Ok(())
+/// A mark is refused with that number or, where it is 0, happens.
+fn expect_refusal(rt: &impl Abort, view: &mut View, id: u32, want: u32) {
+    let code = match view.mark_dead(MemberId(id)) {
+        Ok(()) => 0,
+        Err(reason) => reason.code(),
+    };
+    assert_eq!(rt; code, want, "at {id}");
 }
 
 #[test]
 fn refuses_marks_with_their_numbers(rt: HostRuntime) -> Result<(), Fail> {
-    let mut view = three(&rt, rt.alloc())?;
-    for (id, want) in [(4, 6), (2, 0), (2, 7), (0, 6)] {
-        let code = view
-            .mark_dead(MemberId(id))
-            .err()
-            .map_or(0, |reason| reason.code());
-        assert_eq!(rt; code, want, "at {id}");
-    }
-    assert_eq!(rt; view.version, 2);
+    let mut view = opened(rt.alloc(), "a b c")?;
+    expect_refusal(&rt, &mut view, 4, 6);
+    expect_refusal(&rt, &mut view, 2, 0);
+    expect_refusal(&rt, &mut view, 2, 7);
+    expect_refusal(&rt, &mut view, 0, 6);
+    assert!(rt; view.version == 2);
     Ok(())
 }
 
 #[test]
 fn copies_as_equal(rt: HostRuntime) -> Result<(), Fail> {
-    let view = three(&rt, rt.alloc())?;
+    let view = opened(rt.alloc(), "a b c")?;
     let copy = view.copy()?;
-    assert_eq!(rt; copy.entries.as_slice(), view.entries.as_slice());
-    assert_eq!(rt; (copy.version, copy.master), (view.version, view.master));
-    let entries = copy.entries.into_vec();
-    assert_eq!(rt; entries.len(), 3);
+    assert!(rt; is_same(&copy, &view) && copy.entries.into_vec().len() == 3);
     Ok(())
+}
+
+/// Whether a group may open with the names of a line.
+fn may_open(alloc: Global, line: &str) -> Result<bool, Fail> {
+    Ok(are_opening_names(&names(alloc, line)?))
 }
 
 #[test]
 fn takes_different_names_alone(rt: HostRuntime) -> Result<(), Fail> {
-    let twice = [name("a")?, name("a")?];
-    assert!(rt; !are_opening_names(&twice));
-    assert!(rt; !are_opening_names(&[]));
+    assert!(rt; !may_open(rt.alloc(), "a a")? && !may_open(rt.alloc(), "")?);
     Ok(())
+}
+
+/// Whether a request to deposit a link keeps its receiver and its version.
+fn asks(link: &Deposited<u8>) -> bool {
+    let ask = Request::Deposit {
+        by: link.from,
+        to: MemberId(2),
+        view: link.view,
+        kind: link.kind,
+        link: link.link,
+    };
+    match ask {
+        Request::Deposit { to, view, .. } => to.0 == 2 && view == 3,
+        _ => false,
+    }
+}
+
+/// Whether an answer keeps its one link.
+fn answers(links: Vec<Deposited<u8>>) -> bool {
+    match Answer::Links(Items::from_vec(links)) {
+        Answer::Links(links) => links.as_slice().len() == 1,
+        _ => false,
+    }
 }
 
 #[test]
@@ -411,23 +452,6 @@ fn asks_and_answers(rt: HostRuntime) -> Result<(), Fail> {
         kind: LinkKind::Ring,
         link: 7u8,
     };
-    let ask = Request::Deposit {
-        by: link.from,
-        to: MemberId(2),
-        view: link.view,
-        kind: link.kind,
-        link: link.link,
-    };
-    if let Request::Deposit { to, view, .. } = ask {
-        assert_eq!(rt; (to, view), (MemberId(2), 3));
-    } else {
-        panic!(rt; "another request");
-    }
-    let answer = Answer::Links(Items::from_vec(vec![in rt.alloc(); link]?));
-    if let Answer::Links(links) = answer {
-        assert_eq!(rt; links.as_slice().len(), 1);
-    } else {
-        panic!(rt; "another answer");
-    }
+    assert!(rt; asks(&link) && answers(vec![in rt.alloc(); link]?));
     Ok(())
 }

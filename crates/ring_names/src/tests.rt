@@ -1,81 +1,106 @@
 //! The grammars at their limits, and each call that wants memory, with ample memory.
 use crate::*;
+use std::alloc::Global;
+use std::process::Abort;
 use std::test::Fail;
 
-#[test]
-fn reads_names(rt: HostRuntime) {
-    for (text, want) in [
-        ("a", None),
-        ("abcdefghijklmnop", None),
-        ("m0", None),
-        ("", Some(NameFault::Empty)),
-        ("abcdefghijklmnopq", Some(NameFault::TooLong)),
-        ("aB!", Some(NameFault::BadByte { at: 1 })),
-        ("ab{", Some(NameFault::BadByte { at: 2 })),
-        ("a b", Some(NameFault::BadByte { at: 1 })),
-    ] {
-        match Name::read(text.as_bytes()) {
-            Ok(name) => {
-                assert!(rt; want.is_none(), "at {text}");
-                assert_eq!(rt; name.bytes(), text.as_bytes());
-            }
-            Err(fault) => assert_eq!(rt; Some(fault), want, "at {text}"),
-        }
+/// What is told of a text that is read as a name.
+fn name_told(text: &str) -> &str {
+    match Name::read(text.as_bytes()) {
+        Ok(name) if name.bytes() == text.as_bytes() => "a name",
+        Ok(_) => "another name",
+        Err(NameFault::Empty) => "empty",
+        Err(NameFault::TooLong) => "too long",
+        Err(NameFault::BadByte { at: 1 }) => "bad byte 1",
+        Err(NameFault::BadByte { at: 2 }) => "bad byte 2",
+        Err(_) => "another fault",
     }
 }
 
+fn expect_name(rt: &impl Abort, text: &str, want: &str) {
+    assert_eq!(rt; name_told(text), want, "at {text}");
+}
+
 #[test]
-fn reads_and_copies_bodies(rt: HostRuntime) -> Result<(), Fail> {
-    let body = Body::read(rt.alloc(), b"a ~1")?;
-    assert_eq!(rt; body.bytes(), b"a ~1".as_slice());
-    let copied = Message::Cast(body).copy()?;
-    let Message::Cast(copy) = copied;
-    assert_eq!(rt; copy.copy()?.bytes(), b"a ~1".as_slice());
-    let long = [b'x'; 257];
-    assert!(rt; Body::read(rt.alloc(), &long[..256]).is_ok());
-    for (bytes, want) in [
-        (long.as_slice(), BodyFault::TooLong),
-        (b"a\n", BodyFault::BadByte { at: 1 }),
-        (b"\x7f", BodyFault::BadByte { at: 0 }),
-    ] {
-        match Body::read(rt.alloc(), bytes) {
-            Ok(_) => assert!(rt; false, "no body"),
-            Err(fault) => assert_eq!(rt; fault, want),
-        }
+fn reads_names(rt: HostRuntime) {
+    expect_name(&rt, "a", "a name");
+    expect_name(&rt, "abcdefghijklmnop", "a name");
+    expect_name(&rt, "m0", "a name");
+    expect_name(&rt, "", "empty");
+    expect_name(&rt, "abcdefghijklmnopq", "too long");
+    expect_name(&rt, "aB!", "bad byte 1");
+    expect_name(&rt, "ab{", "bad byte 2");
+    expect_name(&rt, "a b", "bad byte 1");
+}
+
+/// A copy of the copy of its message.
+fn copy_of(body: Body) -> Result<Body, OutOfMemory> {
+    let Message::Cast(copy) = Message::Cast(body).copy()?;
+    copy.copy()
+}
+
+/// What is told of bytes that are read as a body, and copied.
+fn body_told(alloc: Global, bytes: &[u8]) -> &str {
+    match Body::read(alloc, bytes) {
+        Ok(body) if body.bytes() == bytes => match copy_of(body) {
+            Ok(copy) if copy.bytes() == bytes => "a body",
+            _ => "another copy",
+        },
+        Ok(_) => "another body",
+        Err(BodyFault::TooLong) => "too long",
+        Err(BodyFault::BadByte { at: 0 }) => "bad byte 0",
+        Err(BodyFault::BadByte { at: 1 }) => "bad byte 1",
+        Err(_) => "another fault",
     }
-    Ok(())
+}
+
+fn expect_body(rt: &(impl Abort + AllocGlobal), bytes: &[u8], want: &str) {
+    assert_eq!(rt; body_told(rt.alloc(), bytes), want);
+}
+
+#[test]
+fn reads_and_copies_bodies(rt: HostRuntime) {
+    let long = [b'x'; 257];
+    expect_body(&rt, b"a ~1", "a body");
+    expect_body(&rt, &long[..256], "a body");
+    expect_body(&rt, &long, "too long");
+    expect_body(&rt, b"a\n", "bad byte 1");
+    expect_body(&rt, b"\x7f", "bad byte 0");
+}
+
+fn expect_credit(rt: &impl Abort, initial: u32, more: u32, want: bool) {
+    assert!(rt;
+        CreditSpec::new(initial, more).is_some() == want,
+        "at {initial} {more}"
+    );
 }
 
 #[test]
 fn takes_credit_in_its_range(rt: HostRuntime) {
-    for (initial, more, want) in [
-        (1, 1, true),
-        (64, 64, true),
-        (8, 4, true),
-        (65, 1, false),
-        (2, 3, false),
-        (4, 0, false),
-        (0, 0, false),
-    ] {
-        assert_eq!(rt;
-            CreditSpec::new(initial, more).is_some(),
-            want,
-            "at {initial} {more}"
-        );
-    }
+    expect_credit(&rt, 1, 1, true);
+    expect_credit(&rt, 64, 64, true);
+    expect_credit(&rt, 8, 4, true);
+    expect_credit(&rt, 65, 1, false);
+    expect_credit(&rt, 2, 3, false);
+    expect_credit(&rt, 4, 0, false);
+    expect_credit(&rt, 0, 0, false);
+}
+
+fn expect_code(rt: &impl Abort, reason: Reason, want: u32) {
+    assert!(rt; reason.code() == want, "not {want}");
 }
 
 #[test]
 fn numbers_its_refusals(rt: HostRuntime) {
-    assert_eq!(rt; Reason::UnknownMember.code(), 6);
-    assert_eq!(rt; Reason::NotRetired { got: 3, retired: 2 }.code(), 24);
-    assert_eq!(rt; Reason::NotRefused.code(), 44);
+    expect_code(&rt, Reason::UnknownMember, 6);
+    expect_code(&rt, Reason::NotRetired { got: 3, retired: 2 }, 24);
+    expect_code(&rt, Reason::NotRefused, 44);
 }
 
 #[test]
 fn keeps_items_in_order(rt: HostRuntime) -> Result<(), Fail> {
     let items = Items::from_vec(vec![in rt.alloc(); 3u32, 1, 2]?);
-    assert_eq!(rt; items.as_slice(), [3, 1, 2].as_slice());
-    assert_eq!(rt; items.into_vec().as_slice(), [3, 1, 2].as_slice());
+    assert!(rt; matches!(items.as_slice(), [3, 1, 2]));
+    assert!(rt; matches!(items.into_vec().as_slice(), [3, 1, 2]));
     Ok(())
 }
