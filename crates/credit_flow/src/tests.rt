@@ -1,55 +1,85 @@
-//! Credit at its limits, and what is held back.
+//! Credit at its limits, and what is held back: lines of what the ends of a link do. Behind `=` stands what an end tells
+//! then, if it tells a number: of a grant how much it is, of `blocked` 1 or 0.
 use crate::*;
 use ring_names::CreditSpec;
+use std::process::Abort;
+use std::test::Fail;
 
-#[test]
-fn spends_and_gains_one(rt: HostRuntime) {
-    let Some(spec) = CreditSpec::new(1, 1) else {
-        assert!(rt; false, "no specification");
-        return;
-    };
+/// What a sender tells once it does what a word says.
+fn send(sender: &mut CreditOut, word: &str) -> Option<u32> {
+    let blocked = sender.blocked();
+    match word {
+        "send" if !blocked => sender.send(),
+        "gain" => sender.gain(1),
+        "peer_down" => sender.peer_down(),
+        _ => return Some(blocked as u32),
+    }
+    None
+}
+
+/// What the ends tell once one of them does what a word says.
+fn act(sender: &mut CreditOut, receiver: &mut CreditIn, word: &str) -> Option<u32> {
+    match word {
+        "took" => receiver.took(),
+        "release" => Some(receiver.release()),
+        "hold" => {
+            receiver.hold();
+            None
+        }
+        _ => send(sender, word),
+    }
+}
+
+/// The ends of a new link do so many times what a line says, and tell what stands there.
+fn play(rt: &impl Abort, spec: Option<CreditSpec>, times: u32, line: &str) -> Result<(), Fail> {
+    let spec = spec.ok_or("no specification")?;
     let mut sender = CreditOut::new(spec);
     let mut receiver = CreditIn::new(spec);
-    assert!(rt; !sender.blocked());
-    sender.send();
-    assert!(rt; sender.blocked());
-    assert_eq!(rt; receiver.took(), Some(1));
-    sender.gain(1);
-    assert!(rt; !sender.blocked());
-    sender.send();
-    sender.peer_down();
-    assert!(rt; !sender.blocked());
-}
-
-#[test]
-fn grants_at_each_so_many_loads(rt: HostRuntime) {
-    for (initial, more) in [(8, 4), (64, 1), (64, 64)] {
-        let Some(spec) = CreditSpec::new(initial, more) else {
-            assert!(rt; false, "no specification");
-            return;
-        };
-        let mut receiver = CreditIn::new(spec);
-        for load in 1..129u32 {
-            let due = if load % more == 0 { Some(more) } else { None };
-            assert_eq!(rt; receiver.took(), due, "at {initial} {more}, load {load}");
+    for time in 0..times {
+        for word in line.split(' ') {
+            let (done, wanted) = word.split_once('=').unwrap_or((word, ""));
+            let told = act(&mut sender, &mut receiver, done);
+            assert_eq!(rt;
+                told,
+                wanted.parse::<u32>().ok(),
+                "at {word} of {line}, time {time}"
+            );
         }
     }
+    Ok(())
 }
 
 #[test]
-fn holds_grants_back(rt: HostRuntime) {
-    let Some(spec) = CreditSpec::new(8, 4) else {
-        assert!(rt; false, "no specification");
-        return;
-    };
-    let mut receiver = CreditIn::new(spec);
-    receiver.hold();
-    for _ in 0..8 {
-        assert_eq!(rt; receiver.took(), None);
-    }
-    assert_eq!(rt; receiver.release(), 8);
-    assert_eq!(rt; receiver.release(), 0);
-    for load in 1..5 {
-        assert_eq!(rt; receiver.took().is_some(), load == 4);
-    }
+fn spends_and_gains_one(rt: HostRuntime) -> Result<(), Fail> {
+    play(
+        &rt,
+        CreditSpec::new(1, 1),
+        1,
+        "blocked=0 send blocked=1 took=1 gain blocked=0 send peer_down blocked=0",
+    )
+}
+
+#[test]
+fn grants_at_each_so_many_loads(rt: HostRuntime) -> Result<(), Fail> {
+    play(&rt, CreditSpec::new(8, 4), 32, "took took took took=4")?;
+    play(&rt, CreditSpec::new(64, 1), 128, "took=1")?;
+    play(
+        &rt,
+        CreditSpec::new(64, 64),
+        2,
+        "took took took took took took took took took took took took took took took took \
+         took took took took took took took took took took took took took took took took \
+         took took took took took took took took took took took took took took took took \
+         took took took took took took took took took took took took took took took took=64",
+    )
+}
+
+#[test]
+fn holds_grants_back(rt: HostRuntime) -> Result<(), Fail> {
+    play(
+        &rt,
+        CreditSpec::new(8, 4),
+        1,
+        "hold took took took took took took took took release=8 release=0 took took took took=4",
+    )
 }

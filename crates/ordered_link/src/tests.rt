@@ -1,5 +1,5 @@
-//! A pair with credit for one load, through the traits.
-ghost use Rattle.std.specs.Prelude.{◌≡◌, ◌<◌, ◌↔◌, IfNone, IfSome, IsErr, IsSome, OnOk, OnErr, None, false, vec_len};
+//! A pair with credit for one load, through the traits: what it tells at each step, beside what is wanted.
+ghost use Rattle.std.specs.Prelude.{◌≡◌, ◌<◌, ◌↔◌, IsErr, IsSome, OnOk, OnErr, None, false, vec_len};
 ghost use Rattle.ordered_link.specs.Steps.{HaveMet, PlainPuts};
 ghost use Rattle.ordered_link.specs.declared.item.Item.{Item};
 
@@ -7,15 +7,10 @@ use crate::*;
 use ring_names::CreditSpec;
 use std::test::Fail;
 
-// Puts a load, and gives the load that was handed back.
-fn put<O: LinkOut<u32>>(out: &mut O, load: u32) -> Option<u32>
-    requires { O.ended out.old ≡ false }
-    ensures put { IfNone result (O.puts out.old (Item.Load load) out.new) }
-    ensures full { IfSome result (λ back. O.looked out.old out.new) }
-    ensures open { O.ended out.new ≡ false }
-{
-    out.put(load).err()
-}
+const ONE: CreditSpec = CreditSpec {
+    initial: 1,
+    more: 1,
+};
 
 // A put is refused exactly where the link holds as many loads as it may.
 fn put_where_met(out: &mut PlainOut<u32>, link: &PlainIn<u32>, load: u32) -> Result<(), u32>
@@ -48,64 +43,51 @@ fn take<I: LinkIn<u32>>(link: &mut I) -> Option<u32> {
     }
 }
 
-// Sends a grant, and tells whether it waits.
-fn grant<I: LinkIn<u32>>(link: &mut I, amount: u32) -> bool
-    requires { I.waiting link.old ≡ None }
-    ensures { I.sends link.old amount link.new }
-{
-    link.grant(amount);
-    link.waits()
-}
-
 #[test]
 fn carries_a_load_and_then_end(rt: HostRuntime) -> Result<(), Fail> {
-    let spec = CreditSpec {
-        initial: 1,
-        more: 1,
-    };
-    let (mut out, mut link) = plain_pair::<u32>(rt.alloc(), spec)?;
-    assert_eq!(rt; put(&mut out, 7), None);
-    assert_eq!(rt; put(&mut out, 8), Some(8));
+    let (mut out, mut link) = plain_pair::<u32>(rt.alloc(), ONE)?;
+    let first = out.put(7).err();
+    let second = out.put(8).err();
     out.end(EndReason::Moved);
-    assert!(rt; link.peek().is_none());
+    let early = link.peek().is_some();
     meet(&mut out, &mut link);
-    assert!(rt; matches!(link.peek(), Some(Item::Load(7))));
-    assert_eq!(rt; take(&mut link), Some(7));
-    assert_eq!(rt; take(&mut link), Some(101));
-    assert_eq!(rt; take(&mut link), None);
+    let shown = matches!(link.peek(), Some(Item::Load(7)));
+    let told = [
+        first,
+        second,
+        take(&mut link),
+        take(&mut link),
+        take(&mut link),
+    ];
+    assert!(rt; !early && shown && told == [None, Some(8), Some(7), Some(101), None]);
     Ok(())
 }
 
 #[test]
 fn answers_exactly_where_the_ends_met(rt: HostRuntime) -> Result<(), Fail> {
-    let spec = CreditSpec {
-        initial: 1,
-        more: 1,
-    };
-    let (mut out, mut link) = plain_pair::<u32>(rt.alloc(), spec)?;
-    assert!(rt; put_where_met(&mut out, &link, 7).is_ok());
+    let (mut out, mut link) = plain_pair::<u32>(rt.alloc(), ONE)?;
+    let first = put_where_met(&mut out, &link, 7).is_ok();
     meet(&mut out, &mut link);
-    assert!(rt; put_where_met(&mut out, &link, 8).is_err());
-    assert!(rt; take_where_met(&out, &mut link).is_some());
+    let second = put_where_met(&mut out, &link, 8).is_ok();
+    let taken = take_where_met(&out, &mut link).is_some();
+    assert!(rt; [first, second, taken] == [true, false, true]);
     Ok(())
 }
 
 #[test]
 fn gives_a_grant_back_once(rt: HostRuntime) -> Result<(), Fail> {
-    let spec = CreditSpec {
-        initial: 1,
-        more: 1,
-    };
-    let (mut out, mut link) = plain_pair::<u32>(rt.alloc(), spec)?;
-    assert!(rt; !grant(&mut link, 3));
-    assert!(rt; grant(&mut link, 4));
-    assert!(rt; !out.has_grant());
+    let (mut out, mut link) = plain_pair::<u32>(rt.alloc(), ONE)?;
+    link.grant(3);
+    let first = link.waits();
+    link.grant(4);
+    let second = link.waits();
+    let early = out.has_grant();
     meet(&mut out, &mut link);
-    assert!(rt; out.has_grant());
-    assert_eq!(rt; out.granted(), Some(3));
-    assert_eq!(rt; out.granted(), None);
+    let came = out.has_grant();
+    let granted = [out.granted(), out.granted()];
     meet(&mut out, &mut link);
-    assert!(rt; link.take().is_none());
-    assert!(rt; !link.waits());
+    let taken = link.take().is_some();
+    let told = [first, second, early, came, taken, link.waits()];
+    assert!(rt; granted == [Some(3), None] && told == [false, true, false, true, false, false]);
     Ok(())
 }

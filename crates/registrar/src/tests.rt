@@ -1,200 +1,129 @@
-//! Small groups, with values from the rules of the ring: tables of what is asked, each with the answer that is wanted. A
-//! request is asked again where an allocation failed.
+//! Small groups, with values from the rules of the ring: rows of what is asked, and behind a space the answer that is
+//! wanted. Of the members `A` is the first, `@` stands for none and `I` for nobody. `mAB1+` marks: by whom, who, the
+//! asker's version, and `+` where the asker has a link to take from. `rA` refreshes, `sA` has stopped, `cA` collects, and
+//! `dAB1r7` deposits: from whom, to whom, the sender's version, a link of the ring or a copy, and the link. Wanted is `n`
+//! with the number of a refusal, `ok`, `v` with the version of a view, or `l` with just the links that come. A request is
+//! asked again where an allocation failed.
 ghost use Rattle.std.specs.Prelude.{IfOk};
 ghost use Rattle.registrar.specs.Registry.{AreHere};
 
 use crate::*;
 use group_view::{Answer, Deposited, LinkKind, LinkName, Mark, Request, are_opening_names};
-use ring_names::{MemberId, Name, OutOfMemory};
+use ring_names::{MemberId, Name, OutOfMemory, Reason};
 use std::alloc::Global;
 use std::process::Abort;
 use std::test::Fail;
 
-const A: MemberId = MemberId(1);
-
-const B: MemberId = MemberId(2);
-
-const C: MemberId = MemberId(3);
-
-const D: MemberId = MemberId(4);
-
-const NOBODY: MemberId = MemberId(9);
-
-/// What a line of a table asks.
-#[derive(Clone, Copy)]
-enum Asked {
-    /// By whom, who is to be marked, the asker's version, and whether the asker has a link to take from.
-    Mark(MemberId, MemberId, u32, bool),
-    Refresh(MemberId),
-    Stopped(MemberId),
-    /// From whom, to whom, the sender's version, the kind, and the link.
-    Deposit(MemberId, MemberId, u32, LinkKind, u32),
-    Collect(MemberId),
-}
-
-/// What a line wants to be answered.
-#[derive(Clone, Copy)]
-enum Wanted {
-    /// A refusal with this number.
-    No(u32),
-    Noted,
-    /// A view of this version.
-    Viewed(u32),
-    /// Just these links.
-    Links(&'static [u32]),
-}
-
-/// What is asked, and what is wanted.
-type Line = (Asked, Wanted);
-
-/// What a registrar of a group of so many is asked, line after line.
-#[derive(Clone, Copy)]
-struct Table {
-    name: &'static str,
-    members: usize,
-    lines: &'static [Line],
-}
-
 /// The first marks the second, which gave notice.
-const A_MARKS_B: Table = Table {
-    name: "a marks b",
-    members: 3,
-    lines: &[
-        (Asked::Refresh(C), Wanted::Viewed(1)),
-        (Asked::Mark(A, B, 1, true), Wanted::No(20)),
-        (Asked::Stopped(B), Wanted::Noted),
-        (Asked::Stopped(B), Wanted::No(12)),
-        (Asked::Mark(A, B, 1, true), Wanted::Viewed(2)),
-        (Asked::Refresh(B), Wanted::Viewed(2)),
-        (Asked::Mark(C, B, 1, false), Wanted::No(7)),
-        (Asked::Mark(C, B, 2, false), Wanted::No(21)),
-    ],
-};
+const A_MARKS_B: &str = "\
+rC v1
+mAB1+ n20
+sB ok
+sB n12
+mAB1+ v2
+rB v2
+mCB1- n07
+mCB2- n21";
 
 /// Whoever has no entry is unknown.
-const KNOWS_ITS_MEMBERS: Table = Table {
-    name: "knows its members",
-    members: 3,
-    lines: &[
-        (Asked::Mark(D, A, 1, false), Wanted::No(6)),
-        (Asked::Mark(A, MemberId(0), 1, false), Wanted::No(6)),
-        (Asked::Refresh(D), Wanted::No(6)),
-        (Asked::Stopped(NOBODY), Wanted::No(6)),
-        (Asked::Collect(D), Wanted::No(6)),
-        (Asked::Deposit(D, A, 1, LinkKind::Ring, 7), Wanted::No(6)),
-        (Asked::Deposit(A, D, 1, LinkKind::Ring, 7), Wanted::No(6)),
-    ],
-};
+const KNOWS_ITS_MEMBERS: &str = "\
+mDA1- n06
+mA@1- n06
+rD n06
+sI n06
+cD n06
+dDA1r7 n06
+dAD1r7 n06";
 
 /// Who is a neighbour is judged by the view of the asker.
-const JUDGES_BY_THE_VIEW_OF_THE_ASKER: Table = Table {
-    name: "judges by the view of the asker",
-    members: 4,
-    lines: &[
-        (Asked::Mark(A, C, 1, false), Wanted::No(21)),
-        (Asked::Mark(A, B, 0, false), Wanted::No(21)),
-        (Asked::Mark(A, B, 2, false), Wanted::No(21)),
-        (Asked::Stopped(B), Wanted::Noted),
-        (Asked::Mark(C, B, 1, false), Wanted::Viewed(2)),
-        (Asked::Mark(A, C, 1, false), Wanted::No(21)),
-        (Asked::Mark(A, C, 2, false), Wanted::No(20)),
-        (Asked::Mark(B, A, 1, false), Wanted::No(20)),
-        (Asked::Mark(B, A, 2, false), Wanted::No(21)),
-    ],
-};
+const JUDGES_BY_THE_VIEW_OF_THE_ASKER: &str = "\
+mAC1- n21
+mAB0- n21
+mAB2- n21
+sB ok
+mCB1- v2
+mAC1- n21
+mAC2- n20
+mBA1- n20
+mBA2- n21";
 
 /// The right neighbour marks once it has every ring link of the one that stopped.
-const WAITS_FOR_THE_END_OF_A_LINK: Table = Table {
-    name: "waits for the end of a link",
-    members: 3,
-    lines: &[
-        (Asked::Stopped(B), Wanted::Noted),
-        (Asked::Mark(C, B, 1, true), Wanted::No(22)),
-        (Asked::Deposit(B, C, 1, LinkKind::Copy, 5), Wanted::Noted),
-        (Asked::Deposit(B, A, 1, LinkKind::Ring, 6), Wanted::Noted),
-        (Asked::Deposit(A, C, 1, LinkKind::Ring, 7), Wanted::Noted),
-        (Asked::Deposit(B, C, 1, LinkKind::Ring, 8), Wanted::Noted),
-        (Asked::Mark(C, B, 1, false), Wanted::No(22)),
-        (Asked::Collect(C), Wanted::Links(&[5, 7, 8])),
-        (Asked::Mark(C, B, 1, false), Wanted::Viewed(2)),
-    ],
-};
+const WAITS_FOR_THE_END_OF_A_LINK: &str = "\
+sB ok
+mCB1+ n22
+dBC1c5 ok
+dBA1r6 ok
+dAC1r7 ok
+dBC1r8 ok
+mCB1- n22
+cC l578
+mCB1- v2";
 
 /// A link from before the two were neighbours doesn't count.
-const COUNTS_NO_LINK_FROM_BEFORE: Table = Table {
-    name: "counts no link from before",
-    members: 3,
-    lines: &[
-        (Asked::Stopped(B), Wanted::Noted),
-        (Asked::Mark(C, B, 1, false), Wanted::Viewed(2)),
-        (Asked::Stopped(A), Wanted::Noted),
-        (Asked::Deposit(A, C, 2, LinkKind::Ring, 7), Wanted::Noted),
-        (Asked::Mark(C, A, 2, false), Wanted::No(22)),
-        (Asked::Collect(C), Wanted::Links(&[7])),
-        (Asked::Deposit(A, C, 1, LinkKind::Ring, 8), Wanted::Noted),
-        (Asked::Mark(C, A, 2, false), Wanted::Viewed(3)),
-    ],
-};
+const COUNTS_NO_LINK_FROM_BEFORE: &str = "\
+sB ok
+mCB1- v2
+sA ok
+dAC2r7 ok
+mCA2- n22
+cC l7
+dAC1r8 ok
+mCA2- v3";
 
 /// Each gets its links once, in the order of their deposits.
-const GIVES_LINKS_ONCE_AND_IN_ORDER: Table = Table {
-    name: "gives links once and in order",
-    members: 3,
-    lines: &[
-        (Asked::Collect(B), Wanted::Links(&[])),
-        (Asked::Deposit(A, B, 1, LinkKind::Ring, 7), Wanted::Noted),
-        (Asked::Deposit(A, C, 1, LinkKind::Copy, 8), Wanted::Noted),
-        (Asked::Deposit(C, B, 1, LinkKind::Ring, 9), Wanted::Noted),
-        (Asked::Collect(B), Wanted::Links(&[7, 9])),
-        (Asked::Collect(B), Wanted::Links(&[])),
-        (Asked::Collect(C), Wanted::Links(&[8])),
-        (Asked::Collect(C), Wanted::Links(&[])),
-    ],
-};
+const GIVES_LINKS_ONCE_AND_IN_ORDER: &str = "\
+cB l
+dAB1r7 ok
+dAC1c8 ok
+dCB1r9 ok
+cB l79
+cB l
+cC l8
+cC l";
 
 /// A link waits for the second.
-const A_LINK_WAITS: Table = Table {
-    name: "a link waits",
-    members: 2,
-    lines: &[(Asked::Deposit(A, B, 1, LinkKind::Ring, 7), Wanted::Noted)],
-};
+const A_LINK_WAITS: &str = "dAB1r7 ok";
 
 /// The name of that link.
 const A_TO_B: LinkName = LinkName {
-    from: A,
-    to: B,
+    from: MemberId(1),
+    to: MemberId(2),
     view: 1,
     kind: LinkKind::Ring,
 };
 
-/// The tables that need nothing more than to be played.
-const TABLES: [Table; 5] = [
-    KNOWS_ITS_MEMBERS,
-    JUDGES_BY_THE_VIEW_OF_THE_ASKER,
-    WAITS_FOR_THE_END_OF_A_LINK,
-    COUNTS_NO_LINK_FROM_BEFORE,
-    GIVES_LINKS_ONCE_AND_IN_ORDER,
-];
+fn digit(byte: u8) -> u32 {
+    u32::from(byte.saturating_sub(b'0'))
+}
 
-/// The request that a line asks.
-fn request_of(asked: Asked) -> Request<u32> {
+fn id(byte: u8) -> MemberId {
+    MemberId(u32::from(byte.saturating_sub(b'@')))
+}
+
+/// The request that a row asks.
+fn request_of(asked: &[u8]) -> Option<Request<u32>> {
     match asked {
-        Asked::Mark(by, dead, view, has_current) => Request::Mark {
-            by,
-            dead,
-            view,
-            has_current,
-        },
-        Asked::Refresh(by) => Request::Refresh { by },
-        Asked::Stopped(by) => Request::Stopped { by },
-        Asked::Deposit(by, to, view, kind, link) => Request::Deposit {
-            by,
-            to,
-            view,
-            kind,
-            link,
-        },
-        Asked::Collect(by) => Request::Collect { by },
+        [b'm', by, dead, view, current] => Some(Request::Mark {
+            by: id(*by),
+            dead: id(*dead),
+            view: digit(*view),
+            has_current: *current == b'+',
+        }),
+        [b'r', by] => Some(Request::Refresh { by: id(*by) }),
+        [b's', by] => Some(Request::Stopped { by: id(*by) }),
+        [b'd', by, to, view, kind, link] => Some(Request::Deposit {
+            by: id(*by),
+            to: id(*to),
+            view: digit(*view),
+            kind: if *kind == b'r' {
+                LinkKind::Ring
+            } else {
+                LinkKind::Copy
+            },
+            link: digit(*link),
+        }),
+        [b'c', by] => Some(Request::Collect { by: id(*by) }),
+        _ => None,
     }
 }
 
@@ -213,49 +142,52 @@ fn answer_to(
 }
 
 /// Whether just these links come.
-fn are_links(links: &[Deposited<u32>], want: &[u32]) -> bool {
+fn are_links(links: &[Deposited<u32>], want: &[u8]) -> bool {
     links.len() == want.len()
         && links
             .iter()
             .zip(want)
-            .all(|(given, link)| given.link == *link)
+            .all(|(given, link)| given.link == digit(*link))
+}
+
+/// Whether a refusal with this reason is wanted.
+fn is_refusal(reason: Reason, wanted: &[u8]) -> bool {
+    let code = reason.code();
+    matches!(wanted, [b'n', tens, ones] if digit(*tens) == code / 10 && digit(*ones) == code % 10)
 }
 
 /// Whether an answer is the one that is wanted.
-fn is_wanted(answer: &Answer<u32>, wanted: Wanted) -> bool {
+fn is_wanted(answer: &Answer<u32>, wanted: &[u8]) -> bool {
     match answer {
-        Answer::No(reason) => matches!(wanted, Wanted::No(code) if code == reason.code()),
-        Answer::Noted => matches!(wanted, Wanted::Noted),
+        Answer::No(reason) => is_refusal(*reason, wanted),
+        Answer::Noted => matches!(wanted, [b'o', b'k']),
         Answer::Viewed(view) =>
-            matches!(wanted, Wanted::Viewed(version) if version == view.version),
-        Answer::Links(links) => match wanted {
-            Wanted::Links(want) => are_links(links.as_slice(), want),
-            _ => false,
-        },
+            matches!(wanted, [b'v', version] if digit(*version) == view.version),
+        Answer::Links(links) =>
+            matches!(wanted, [b'l', want @ ..] if are_links(links.as_slice(), want)),
     }
 }
 
-/// Whether a request will be refused, and with which number, is told before as it is wanted.
-fn is_foreseen(registrar: &Registrar<u32>, line: Line) -> bool {
-    let (asked, wanted) = line;
-    match registrar.refusal(&request_of(asked)) {
-        Some(reason) => matches!(wanted, Wanted::No(code) if code == reason.code()),
-        None => !matches!(wanted, Wanted::No(_)),
+/// Whether it is told before as it is wanted whether a request will be refused, and why.
+fn is_foreseen(refusal: Option<Reason>, wanted: &[u8]) -> bool {
+    match refusal {
+        Some(reason) => is_refusal(reason, wanted),
+        None => !matches!(wanted, [b'n', ..]),
     }
 }
 
 /// Whether so many links as are wanted wait for a member that collects.
-fn is_counted(registrar: &Registrar<u32>, line: Line) -> bool {
-    match line {
-        (Asked::Collect(by), Wanted::Links(want)) => registrar.waiting_for(by) == want.len(),
+fn is_counted(registrar: &Registrar<u32>, asked: &[u8], wanted: &[u8]) -> bool {
+    match (asked, wanted) {
+        ([b'c', by], [b'l', want @ ..]) => registrar.waiting_for(id(*by)) == want.len(),
         _ => true,
     }
 }
 
 /// The version of the newest view, once a request is answered so.
-fn version_after(registrar: &Registrar<u32>, wanted: Wanted) -> u32 {
+fn version_after(registrar: &Registrar<u32>, wanted: &[u8]) -> u32 {
     match wanted {
-        Wanted::Viewed(version) => version,
+        [b'v', version] => digit(*version),
         _ => registrar.view().version,
     }
 }
@@ -268,67 +200,71 @@ fn is_newest(registrar: &Registrar<u32>, version: u32) -> bool {
     }
 }
 
-/// Whether the answer to a request, which is asked again where an allocation failed, is the one that is wanted.
-fn is_answered(registrar: &mut Registrar<u32>, line: Line) -> bool
+/// Whether a row is answered as it wants, and as was told before.
+fn step(registrar: &mut Registrar<u32>, row: &str) -> bool
     requires { AreHere registrar.old.links }
     ensures { AreHere registrar.new.links }
 {
-    let (asked, wanted) = line;
-    match answer_to(registrar, request_of(asked)) {
+    let (asked, wanted) = row.split_once(' ').unwrap_or((row, ""));
+    let asked = asked.as_bytes();
+    let wanted = wanted.as_bytes();
+    let Some(request) = request_of(asked) else {
+        return false;
+    };
+    let version = version_after(registrar, wanted);
+    let foreseen = is_foreseen(registrar.refusal(&request), wanted);
+    let counted = is_counted(registrar, asked, wanted);
+    let answered = match answer_to(registrar, request) {
         Ok(answer) => is_wanted(&answer, wanted),
         Err(_) => false,
-    }
+    };
+    foreseen && counted && answered && is_newest(registrar, version)
 }
 
-/// Whether a line is answered as it wants, and as was told before.
-fn step(registrar: &mut Registrar<u32>, line: Line) -> bool
-    requires { AreHere registrar.old.links }
-    ensures { AreHere registrar.new.links }
-{
-    let version = version_after(registrar, line.1);
-    let told = is_foreseen(registrar, line) && is_counted(registrar, line);
-    is_answered(registrar, line) && told && is_newest(registrar, version)
-}
-
-/// The name of this text.
-fn name(text: &str) -> Result<Name, Fail> {
-    Ok(Name::read(text.as_bytes())?)
-}
-
-/// The first of `a`, `b`, `c` and `d`.
-fn names(alloc: Global, size: usize) -> Result<Vec<Name>, Fail> {
+/// The names of these members.
+fn names(alloc: Global, members: &str) -> Result<Vec<Name>, Fail> {
     let mut names = Vec::new(alloc);
-    for text in ["a", "b", "c", "d"].iter().take(size) {
-        names.push(name(text)?)?;
+    for text in members.split(' ') {
+        names.push(Name::read(text.as_bytes())?)?;
     }
     Ok(names)
 }
 
-/// The registrar of a group of so many, whose links are numbers.
-fn group_of(rt: &impl Abort, alloc: Global, size: usize) -> Result<Registrar<u32>, Fail>
+/// The registrar of their group, whose links are numbers.
+fn group_of(rt: &impl Abort, alloc: Global, members: &str) -> Result<Registrar<u32>, Fail>
     ensures { IfOk result (λ r. AreHere r.links) }
 {
-    let names = names(alloc, size)?;
+    let names = names(alloc, members)?;
     assert!(rt; are_opening_names(&names));
     Ok(Registrar::opening(alloc, &names)?)
 }
 
-/// The registrar of a table's group, once it has answered each line as the line wants.
-fn played(rt: &impl Abort, alloc: Global, table: &Table) -> Result<Registrar<u32>, Fail>
+/// The registrar of a group, once it has answered each row of a table as the row wants.
+fn played(
+    rt: &impl Abort,
+    alloc: Global,
+    members: &str,
+    table: &str,
+) -> Result<Registrar<u32>, Fail>
     ensures { IfOk result (λ r. AreHere r.links) }
 {
-    let name = table.name;
-    let mut registrar = group_of(rt, alloc, table.members)?;
-    for (place, line) in table.lines.iter().enumerate() {
-        assert!(rt; step(&mut registrar, *line), "{name}, at {place}");
+    let mut registrar = group_of(rt, alloc, members)?;
+    for (place, row) in table.lines().enumerate() {
+        assert!(rt; step(&mut registrar, row), "{row}, at {place} of {table}");
     }
     Ok(registrar)
 }
 
 #[test]
 fn answers_as_the_tables_want(rt: HostRuntime) -> Result<(), Fail> {
-    for table in &TABLES {
-        played(&rt, rt.alloc(), table)?;
+    for (members, table) in [
+        ("a b c", KNOWS_ITS_MEMBERS),
+        ("a b c d", JUDGES_BY_THE_VIEW_OF_THE_ASKER),
+        ("a b c", WAITS_FOR_THE_END_OF_A_LINK),
+        ("a b c", COUNTS_NO_LINK_FROM_BEFORE),
+        ("a b c", GIVES_LINKS_ONCE_AND_IN_ORDER),
+    ] {
+        played(&rt, rt.alloc(), members, table)?;
     }
     Ok(())
 }
@@ -343,9 +279,9 @@ fn has_mark(registrar: &Registrar<u32>, place: usize, mark: Mark) -> bool {
 
 #[test]
 fn marks_who_gave_notice(rt: HostRuntime) -> Result<(), Fail> {
-    let registrar = played(&rt, rt.alloc(), &A_MARKS_B)?;
-    assert!(rt; has_mark(&registrar, 0, Mark::Live));
-    assert!(rt; has_mark(&registrar, 1, Mark::Dead));
+    let registrar = played(&rt, rt.alloc(), "a b c", A_MARKS_B)?;
+    assert!(rt; has_mark(&registrar, 0, Mark::Live) && has_mark(&registrar, 1, Mark::Dead));
+    assert!(rt; registrar.in_name(0).is_none() && registrar.name_at(0).is_none());
     Ok(())
 }
 
@@ -369,18 +305,33 @@ fn exchange(rt: &impl Abort, registrar: &mut Registrar<u32>, link: u32) -> u32
     lent
 }
 
+/// The same by the calls for any place.
+fn exchange_at(rt: &impl Abort, registrar: &mut Registrar<u32>, link: u32) -> u32
+    requires { AreHere registrar.old.links }
+    ensures { AreHere registrar.new.links }
+{
+    let Some(lent) = registrar.lend_at(0) else {
+        panic!(rt; "no link");
+    };
+    registrar.give_at(0, link);
+    lent
+}
+
 #[test]
 fn lends_what_waits(rt: HostRuntime) -> Result<(), Fail> {
-    let mut registrar = played(&rt, rt.alloc(), &A_LINK_WAITS)?;
-    assert_eq!(rt; exchange(&rt, &mut registrar, 70), 7);
-    assert!(rt; waits_alone(&registrar));
-    assert!(rt; is_answered(&mut registrar, (Asked::Collect(B), Wanted::Links(&[70]))));
+    let mut registrar = played(&rt, rt.alloc(), "a b", A_LINK_WAITS)?;
+    let lent = [
+        exchange(&rt, &mut registrar, 6),
+        exchange_at(&rt, &mut registrar, 5),
+    ];
+    assert!(rt; lent == [7, 6] && waits_alone(&registrar));
+    assert!(rt; step(&mut registrar, "cB l5"));
     Ok(())
 }
 
 #[test]
 fn lends_nothing_else(rt: HostRuntime) -> Result<(), Fail> {
-    let mut registrar = played(&rt, rt.alloc(), &A_LINK_WAITS)?;
-    assert_eq!(rt; registrar.lend_in(1), None);
+    let mut registrar = played(&rt, rt.alloc(), "a b", A_LINK_WAITS)?;
+    assert!(rt; registrar.lend_in(1).is_none());
     Ok(())
 }

@@ -1,116 +1,107 @@
-//! Each public function once, a fault at the first call and in mid-stream, and the limits.
+//! Each source and sink once, over `abcdefghij`: tables of what is read and written where calls fail, and at the limits.
 use crate::*;
-use ring_names::{MemberId, OutOfMemory};
+use ring_names::MemberId;
 use std::alloc::Global;
 use std::test::Fail;
 
 const TEXT: &[u8] = b"abcdefghij";
 
-fn source(alloc: Global, most: usize, fails: &[u32]) -> Result<MemorySource, OutOfMemory> {
-    let bytes = Vec::from_slice(alloc, TEXT)?;
-    Ok(MemorySource::new(bytes, most, Vec::from_slice(alloc, fails)?))
+/// Whether a read within a limit gives this text, or says this of why it ended.
+fn reads<S: Source>(alloc: Global, source: &mut S, limit: u64, wanted: &str) -> bool {
+    match read_all(alloc, source, limit) {
+        Ok(bytes) => bytes.as_slice() == wanted.as_bytes(),
+        Err(end) => match end.to_string(alloc) {
+            Ok(text) => text.as_str() == wanted,
+            Err(_) => false,
+        },
+    }
 }
 
-fn sink(alloc: Global, room: usize, most: usize, fails: &[u32]) -> Result<MemorySink, OutOfMemory> {
-    MemorySink::new(alloc, room, most, Vec::from_slice(alloc, fails)?)
+/// How much of a text is written where a write fails.
+fn short_of<K: Sink>(sink: &mut K, text: &[u8]) -> Option<u64> {
+    match write_all(sink, text) {
+        Ok(()) => None,
+        Err(short) => Some(short.written),
+    }
 }
 
 #[test]
-fn reads_to_the_end(rt: HostRuntime) -> Result<(), Fail> {
-    for most in [0, 3, 10, 20] {
-        let mut source = source(rt.alloc(), most, &[])?;
-        assert_eq!(rt;
-            read_all(rt.alloc(), &mut source, 10)?.as_slice(),
-            TEXT,
-            "at {most}"
-        );
-        assert_eq!(rt; read_all(rt.alloc(), &mut source, 0)?.len(), 0);
+fn reads_to_the_end_or_until_it_fails(rt: HostRuntime) -> Result<(), Fail> {
+    let fault = "a read failed";
+    let large = "the input is too large";
+    // The most bytes of a call, the call that fails, and two reads with their limits.
+    for (most, fails, limit, first, next_limit, second) in [
+        (0, 0, 10, "abcdefghij", 0, ""),
+        (3, 0, 10, "abcdefghij", 0, ""),
+        (10, 0, 10, "abcdefghij", 0, ""),
+        (20, 0, 10, "abcdefghij", 0, ""),
+        (3, 1, 10, fault, 10, "abcdefghij"),
+        (3, 3, 10, fault, 10, "ghij"),
+        (3, 3, 5, large, 10, fault),
+        (3, 6, 10, "abcdefghij", 10, fault),
+        (10, 9, 10, "abcdefghij", 10, ""),
+        (10, 9, 9, large, 10, ""),
+    ] {
+        let bytes = Vec::from_slice(rt.alloc(), TEXT)?;
+        let mut source = MemorySource::new(bytes, most, Vec::from_slice(rt.alloc(), &[fails])?);
+        let told = reads(rt.alloc(), &mut source, limit, first)
+            && reads(rt.alloc(), &mut source, next_limit, second);
+        assert!(rt; told, "at {most} {fails} {limit}");
     }
+    Ok(())
+}
+
+#[test]
+fn reads_what_never_fails(rt: HostRuntime) -> Result<(), Fail> {
     let mut sure = SureSource::new(Vec::from_slice(rt.alloc(), TEXT)?);
-    assert_eq!(rt; read_all(rt.alloc(), &mut sure, 10)?.as_slice(), TEXT);
     let mut reader = ReadSource::new(TEXT);
-    assert_eq!(rt; read_all(rt.alloc(), &mut reader, 10)?.as_slice(), TEXT);
+    let told = reads(rt.alloc(), &mut sure, 10, "abcdefghij")
+        && reads(rt.alloc(), &mut reader, 10, "abcdefghij");
+    assert!(rt; told);
     Ok(())
 }
 
 #[test]
-fn reads_until_it_fails(rt: HostRuntime) -> Result<(), Fail> {
-    for (most, fails, limit, want) in [
-        (3, 1, 10, Err(ReadEnd::Fault)),
-        (3, 3, 10, Err(ReadEnd::Fault)),
-        (3, 3, 5, Err(ReadEnd::TooLarge)),
-        (3, 6, 10, Ok(10)),
-        (10, 9, 10, Ok(10)),
-        (10, 9, 9, Err(ReadEnd::TooLarge)),
+fn writes_all_or_until_it_fails(rt: HostRuntime) -> Result<(), Fail> {
+    // The room, the most bytes of a call, the call that fails, what is written of the text where it is short, what is
+    // held then, and the same of `k`.
+    for (room, most, fails, short, held, next_short) in [
+        (10, 0, 0, None, "abcdefghij", Some(0)),
+        (10, 3, 1, Some(0), "", None),
+        (10, 3, 2, Some(3), "abc", None),
+        (10, 3, 3, Some(6), "abcdef", None),
+        (10, 3, 4, Some(9), "abcdefghi", None),
+        (10, 3, 5, None, "abcdefghij", Some(0)),
+        (7, 3, 9, Some(7), "abcdefg", Some(0)),
+        (0, 3, 9, Some(0), "", Some(0)),
     ] {
-        let mut source = source(rt.alloc(), most, &[fails])?;
-        let got = match read_all(rt.alloc(), &mut source, limit) {
-            Ok(bytes) => Ok(bytes.len()),
-            Err(end) => Err(end),
-        };
-        assert_eq!(rt; got, want, "at {most} {fails} {limit}");
+        let fails = Vec::from_slice(rt.alloc(), &[fails])?;
+        let mut sink = MemorySink::new(rt.alloc(), room, most, fails)?;
+        let told = short_of(&mut sink, b"").is_none()
+            && short_of(&mut sink, TEXT) == short
+            && sink.bytes() == held.as_bytes()
+            && short_of(&mut sink, b"k") == next_short;
+        assert!(rt; told, "at {room} {most} {held}");
     }
-    let text = ReadEnd::TooLarge.to_string(rt.alloc())?;
-    assert_eq!(rt; text.as_str(), "the input is too large");
     Ok(())
 }
 
 #[test]
-fn reads_on_after_a_fault(rt: HostRuntime) -> Result<(), Fail> {
-    let mut source = source(rt.alloc(), 3, &[3])?;
-    assert_eq!(rt; read_all(rt.alloc(), &mut source, 10).is_err(), true);
-    assert_eq!(rt;
-        read_all(rt.alloc(), &mut source, 10)?.as_slice(),
-        b"ghij".as_slice()
-    );
+fn counts_what_there_is_no_room_for(rt: HostRuntime) -> Result<(), Fail> {
+    let mut sink = SureSink::new(rt.alloc(), 4)?;
+    let told = short_of(&mut sink, TEXT).is_none()
+        && sink.bytes() == b"abcd".as_slice()
+        && sink.lost() == 6;
+    assert!(rt; told);
     Ok(())
 }
 
 #[test]
-fn writes_all(rt: HostRuntime) -> Result<(), Fail> {
-    let mut sink = sink(rt.alloc(), 10, 0, &[])?;
-    assert_eq!(rt; write_all(&mut sink, b""), Ok(()));
-    assert_eq!(rt; write_all(&mut sink, TEXT), Ok(()));
-    assert_eq!(rt; sink.bytes(), TEXT);
-    assert_eq!(rt; write_all(&mut sink, b"k"), Err(Short { written: 0 }));
+fn writes_to_a_writer(rt: HostRuntime) {
     let mut kept = Vec::new(rt.alloc());
-    let mut writer = WriteSink::new(&mut kept);
-    assert_eq!(rt; write_all(&mut writer, TEXT), Ok(()));
-    drop(writer);
-    assert_eq!(rt; kept.as_slice(), TEXT);
-    let mut sure = SureSink::new(rt.alloc(), 4)?;
-    assert_eq!(rt; write_all(&mut sure, TEXT), Ok(()));
-    assert_eq!(rt; sure.bytes(), b"abcd".as_slice());
-    assert_eq!(rt; sure.lost(), 6);
-    Ok(())
-}
-
-#[test]
-fn writes_until_it_fails(rt: HostRuntime) -> Result<(), Fail> {
-    for (room, fails, want) in [
-        (10, 1, 0),
-        (10, 2, 3),
-        (10, 3, 6),
-        (10, 4, 9),
-        (10, 5, 10),
-        (7, 9, 7),
-        (0, 9, 0),
-    ] {
-        let mut sink = sink(rt.alloc(), room, 3, &[fails])?;
-        let written = match write_all(&mut sink, TEXT) {
-            Ok(()) => 10,
-            Err(short) => short.written,
-        };
-        assert_eq!(rt; written, want, "at {room} {fails}");
-        assert_eq!(rt; sink.bytes().len() as u64, want, "at {room} {fails}");
-    }
-    Ok(())
-}
-
-#[test]
-fn counts_faults_of_a_writer(rt: HostRuntime) {
     let mut room = [0; 4];
-    let mut writer = WriteSink::new(room.as_mut_slice());
-    assert_eq!(rt; write_all(&mut writer, TEXT), Err(Short { written: 4 }));
+    let told = short_of(&mut WriteSink::new(&mut kept), TEXT).is_none()
+        && short_of(&mut WriteSink::new(room.as_mut_slice()), TEXT) == Some(4);
+    assert!(rt; told && kept.as_slice() == TEXT);
     ShutGate.pass(MemberId(1), 1);
 }
