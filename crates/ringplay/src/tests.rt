@@ -124,6 +124,37 @@ member a up synced
 casts 1 confirmed 1
 publishes 0 confirmed 0
 heard a xxxxxxxxxxxxxxxxxxxxxxxxxxxxxxxxxxxxxxxxxxxxxxxxxxxxxxxxxxxxxxxxxxxxxxxxxxxxxxxxxxxxxxxxxxxxxxxxxxxxxxxxxxxxxxxxxxxxxxxxxxxxxxxxxxxxxxxxxxxxxxxxxxxxxxxxxxxxxxxxxxxxxxxxxxxxxxxxxxxxxxxxxxxxxxxxxxxxxxxxxxxxxxxxxxxxxxxxxxxxxxxxxxxxxxxxxxxxxxxxxxxxxxxxxxxxxxxx
+==== examples/slow_links.script
+play
+# Each link takes one packet, and is granted the next when that one is read.
+members a b c
+credit 1 1
+
+cast a first
+cast c  two words 
+go 3
+cast b
+settle
+=> Done, status 0
+ring view=1 term=1 master=a
+member a up synced
+casts 1 confirmed 1
+publishes 0 confirmed 0
+heard a first
+heard b 
+heard c  two words 
+member b up synced
+casts 1 confirmed 1
+publishes 0 confirmed 0
+heard a first
+heard b 
+heard c  two words 
+member c up synced
+casts 1 confirmed 1
+publishes 0 confirmed 0
+heard a first
+heard b 
+heard c  two words 
 ";
 
 /// What is written of step files. A title begins with the number of the events that happen.
@@ -522,6 +553,86 @@ ring view=1 term=1 master=a
 member a up synced
 casts 0 confirmed 0
 publishes 0 confirmed 0
+==== 7 events: examples/no_credit.steps
+step
+# A link that takes one packet, and the next one when the grant for it has come back.
+members a b
+credit 1 1
+
+cast a x
+put a
+cast a y
+# The link has no credit.
+put a
+take b
+# b has read the packet, so a grant is under way.
+gain a
+put a
+take b
+=> Done, status 0
+line 9 refused 15
+ring view=1 term=1 master=a
+member a up synced
+casts 2 confirmed 0
+publishes 0 confirmed 0
+heard a x
+heard a y
+member b up synced
+casts 0 confirmed 0
+publishes 0 confirmed 0
+heard a x
+heard a y
+==== 21 events: examples/two_neighbours.steps
+step
+# Two neighbours stop before either is marked dead.
+members a b c d
+
+# b and c have a's message, d hasn't.
+cast a x
+put a
+take b
+put b
+take c
+stop a
+stop b
+
+# c takes b's link to its end, and has both marked dead.
+takeend c
+mark c b
+mark c a
+put c
+
+# What c sends is of version 3: d reads that view first.
+take d
+refresh d 3
+take d
+
+# d is c's left neighbour now, and the message goes round the two.
+pick c
+take c
+put d
+take c
+put c
+take d
+put d
+take c
+=> Done, status 0
+line 20 refused 14 need=3 have=1
+ring view=3 term=1 master=a
+member a stopped
+casts 1 confirmed 0
+publishes 0 confirmed 0
+member b stopped
+casts 0 confirmed 0
+publishes 0 confirmed 0
+member c up synced
+casts 0 confirmed 0
+publishes 0 confirmed 0
+heard a x
+member d up synced
+casts 0 confirmed 0
+publishes 0 confirmed 0
+heard a x
 ";
 
 /// What is written of other words, and of inputs with a fault.
@@ -665,6 +776,13 @@ members a
 cast a xxxxxxxxxxxxxxxxxxxxxxxxxxxxxxxxxxxxxxxxxxxxxxxxxxxxxxxxxxxxxxxxxxxxxxxxxxxxxxxxxxxxxxxxxxxxxxxxxxxxxxxxxxxxxxxxxxxxxxxxxxxxxxxxxxxxxxxxxxxxxxxxxxxxxxxxxxxxxxxxxxxxxxxxxxxxxxxxxxxxxxxxxxxxxxxxxxxxxxxxxxxxxxxxxxxxxxxxxxxxxxxxxxxxxxxxxxxxxxxxxxxxxxxxxxxxxxxxx
 => Script { line: 2, kind: 60 }, status 2
 script 2 60
+==== examples/unknown_name.script
+play
+members rabbit hare
+cast rabbit hello
+cast fox hello
+=> Script { line: 3, kind: 57 }, status 2
+script 3 57
 ";
 
 /// The streams of a call: how many bytes they move at once, and the calls of the source and of the sink that fail, or 0.
