@@ -94,6 +94,7 @@ impl Packet {
 /// What stands on a link.
 #[derive(Drop, Debug)]
 pub enum Load {
+    /// What its sender has of each origin.
     Packet(Packet),
 }
 

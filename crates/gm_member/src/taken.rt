@@ -4,7 +4,10 @@ use ring_names::{MemberId, Message};
 /// A message that a packet brought: its origin, and its number in the origin's log, from 1.
 #[derive(Drop, Debug)]
 pub struct Taken {
+    /// Who published it.
     pub origin: MemberId,
+    /// Its number in the origin's log, from 1.
     pub number: u64,
+    /// The message.
     pub message: Message,
 }

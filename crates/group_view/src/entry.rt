@@ -27,8 +27,11 @@ impl Mark {
 /// A member as a view has it.
 #[derive(Clone, Copy, PartialEq, Eq, Debug)]
 pub struct Entry {
+    /// Its id, which no other entry has.
     pub id: MemberId,
+    /// The name under which clients know it.
     pub name: Name,
+    /// Whether it lives, as far as the group knows.
     pub mark: Mark,
     /// Whether its mirror is registered as synchronised with the master.
     pub synced: bool,

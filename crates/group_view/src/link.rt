@@ -14,8 +14,12 @@ pub enum LinkKind {
 /// links of a run have one name.
 #[derive(Clone, Copy, PartialEq, Eq, Debug)]
 pub struct LinkName {
+    /// Who sends on it.
     pub from: MemberId,
+    /// Who receives from it.
     pub to: MemberId,
+    /// The version of the view that its sender had when it was opened.
     pub view: u32,
+    /// What it is for.
     pub kind: LinkKind,
 }

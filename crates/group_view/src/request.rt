@@ -41,9 +41,13 @@ pub enum Request<I> {
 /// The receiving end of a link that waits at the registrar, and what it is named by beside its receiver.
 #[derive(Drop, Debug)]
 pub struct Deposited<I> {
+    /// Who sends on the link.
     pub from: MemberId,
+    /// The version of the view that its sender had when it was opened.
     pub view: u32,
+    /// What the link is for.
     pub kind: LinkKind,
+    /// Its receiving end.
     pub link: I,
 }
 

@@ -13,7 +13,9 @@ use std::marker::Model;
 /// at most 256.
 #[derive(Drop, Debug)]
 pub struct View {
+    /// Its number, from 1; each change makes the next.
     pub version: u32,
+    /// The members, the dead among them, in ring order, 1 to 64.
     pub entries: Entries,
     /// Whose operations the queue's mirrors follow.
     pub master: Option<MemberId>,

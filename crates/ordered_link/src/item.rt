@@ -12,6 +12,8 @@ pub enum EndReason {
 /// What stands on a link: loads, and after the last of them the end of the link.
 #[derive(Drop, Debug)]
 pub enum Item<T> {
+    /// What was put.
     Load(T),
+    /// Nothing more comes.
     End(EndReason),
 }

@@ -10,7 +10,9 @@ use ring_names::MemberId;
 /// is away while it is lent.
 #[derive(Drop, Debug)]
 pub struct Standing<I> {
+    /// Which link it is.
     pub name: LinkName,
+    /// Its receiving end, or None while that is lent.
     pub link: Option<I>,
 }
 

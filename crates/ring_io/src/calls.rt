@@ -25,6 +25,7 @@ impl Model for Calls {
 }
 
 impl Calls {
+    /// No call was made yet. A call moves `most` bytes at most, 1 at least; those whose numbers, from 1, are in `fails` fail.
     pub fn new(most: usize, fails: Vec<u32>) -> Calls
         ensures { result ≡ no_calls most fails.items }
     {
@@ -44,6 +45,7 @@ impl Calls {
         self.most
     }
 
+    /// Whether the next call fails.
     pub fn is_next_listed(&self) -> bool
         ensures { result ≡ is_next_listed self.now }
     {
@@ -51,12 +53,14 @@ impl Calls {
         self.fails.iter().any(|number| u64::from(*number) == next)
     }
 
+    /// A call was made.
     pub fn count(&mut self)
         ensures { self.new ≡ one_more self.old }
     {
         self.made = self.made.saturating_add(1);
     }
 
+    /// A call was made that failed.
     pub fn count_fault(&mut self)
         ensures counted { self.new ≡ one_failed self.old }
         ensures never_falls { (self.old).faults ≤ (self.new).faults }

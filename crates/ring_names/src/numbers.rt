@@ -13,8 +13,11 @@ pub struct Position(pub u64);
 /// Party 0 is the registrar, the others are members by their ids.
 #[derive(Clone, Copy, PartialEq, Eq, Debug)]
 pub struct Stamp {
+    /// The number of the round, from 1.
     pub round: u32,
+    /// The party's clock in that round.
     pub time: u32,
+    /// 0 for the registrar, else a member's id.
     pub party: u32,
 }
 
@@ -22,7 +25,9 @@ pub struct Stamp {
 /// grants `more` after each `more` messages. At most 64.
 #[derive(Clone, Copy, PartialEq, Eq, Debug)]
 pub struct CreditSpec {
+    /// The messages that a sender may send before the first grant.
     pub initial: u32,
+    /// The messages that a grant is for, and after which it comes.
     pub more: u32,
     ghost positive: { 1 ≤ more },
     ghost covered: { more ≤ initial },

@@ -6,8 +6,11 @@ ghost use Rattle.ring_world.specs.Rows.{no_numbers};
 /// `got`, and its sender has forgotten those up to `forgot`, as their acknowledgement has passed.
 #[derive(Clone, Copy, PartialEq, Eq, Debug)]
 pub struct Numbers {
+    /// The number of the message before the first that the packet brings.
     pub lo: u64,
+    /// The number of the last message that the sender has received.
     pub got: u64,
+    /// The number of the last message that the sender has forgotten.
     pub forgot: u64,
 }
 

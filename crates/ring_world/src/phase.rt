@@ -11,15 +11,20 @@ use ring_names::Reason;
 /// A member waits for its first packet, or is up, or has stopped.
 #[derive(Clone, Copy, PartialEq, Eq, Debug)]
 pub enum Phase {
+    /// It was admitted, and has no state yet.
     Waiting,
+    /// It takes part.
     Up,
+    /// It does nothing any more.
     Stopped,
 }
 
 /// Why a link ends: its sender sends on another, or has stopped.
 #[derive(Clone, Copy, PartialEq, Eq, Debug)]
 pub enum Ending {
+    /// Its sender sends on another.
     Moved,
+    /// Its sender has stopped.
     Halted,
 }
 

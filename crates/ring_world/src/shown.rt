@@ -8,9 +8,13 @@ use ring_names::Message;
 /// round, so that every member that is up has them.
 #[derive(Clone, Copy, PartialEq, Eq, Debug)]
 pub struct Counts {
+    /// The casts in its log.
     pub casts: u64,
+    /// Those of them that have come round to it.
     pub casts_confirmed: u64,
+    /// The messages to the queue in its log.
     pub publishes: u64,
+    /// Those of them that have come round to it.
     pub publishes_confirmed: u64,
 }
 

@@ -44,6 +44,7 @@ pub enum Cause {
 pub struct Ended {
     /// The status with which the program ends, by the cause.
     pub status: u8,
+    /// Why it ended.
     pub cause: Cause,
     /// What has happened in the ring, where a script was played or steps were taken.
     pub journal: Items<Event>,
