@@ -375,11 +375,10 @@ fn finds(view: &View, text: &str, id: u32) -> Result<bool, Fail> {
     }
 }
 
-#[test]
-fn opens_with_all_live_and_finds_by_name(rt: HostRuntime) -> Result<(), Fail> {
-    let view = opened(rt.alloc(), "a b c")?;
-    assert!(rt; opens(&view) && finds(&view, "b", 2)? && finds(&view, "e", 0)?);
-    Ok(())
+/// Whether a copy is equal, and its entries come as a vector.
+fn copies(view: &View) -> Result<bool, Fail> {
+    let copy = view.copy()?;
+    Ok(is_same(&copy, view) && copy.entries.into_vec().len() == 3)
 }
 
 /// A mark is refused with that number or, where it is 0, happens.
@@ -392,21 +391,14 @@ fn expect_refusal(rt: &impl Abort, view: &mut View, id: u32, want: u32) {
 }
 
 #[test]
-fn refuses_marks_with_their_numbers(rt: HostRuntime) -> Result<(), Fail> {
+fn opens_and_refuses_marks_with_their_numbers(rt: HostRuntime) -> Result<(), Fail> {
     let mut view = opened(rt.alloc(), "a b c")?;
+    assert!(rt; opens(&view) && finds(&view, "b", 2)? && finds(&view, "e", 0)? && copies(&view)?);
     expect_refusal(&rt, &mut view, 4, 6);
     expect_refusal(&rt, &mut view, 2, 0);
     expect_refusal(&rt, &mut view, 2, 7);
     expect_refusal(&rt, &mut view, 0, 6);
     assert!(rt; view.version == 2);
-    Ok(())
-}
-
-#[test]
-fn copies_as_equal(rt: HostRuntime) -> Result<(), Fail> {
-    let view = opened(rt.alloc(), "a b c")?;
-    let copy = view.copy()?;
-    assert!(rt; is_same(&copy, &view) && copy.entries.into_vec().len() == 3);
     Ok(())
 }
 
