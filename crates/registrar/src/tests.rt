@@ -1,9 +1,7 @@
-//! Small groups, with values from the rules of the ring: rows of what is asked, and behind a space the answer that is
-//! wanted. Of the members `A` is the first, `@` stands for none and `I` for nobody. `mAB1+` marks: by whom, who, the
-//! asker's version, and `+` where the asker has a link to take from. `rA` refreshes, `sA` has stopped, `cA` collects, and
-//! `dAB1r7` deposits: from whom, to whom, the sender's version, a link of the ring or a copy, and the link. Wanted is `n`
-//! with the number of a refusal, `ok`, `v` with the version of a view, or `l` with just the links that come. A request is
-//! asked again where an allocation failed.
+//! Small groups, with values from the rules of the ring: rows of what is asked, and behind `=` the answer that is wanted.
+//! `mark a b 1 linked`: by whom, who, the asker's version, and whether the asker has a link to take from; `refresh a`,
+//! `stopped a`, `collect a`; `deposit a b 1 ring 7`: from whom, to whom, the sender's version, the kind, and the link. A
+//! request is asked again where an allocation failed.
 ghost use Rattle.std.specs.Prelude.{IfOk};
 ghost use Rattle.registrar.specs.Registry.{AreHere};
 
@@ -16,73 +14,73 @@ use std::test::Fail;
 
 /// The first marks the second, which gave notice.
 const A_MARKS_B: &str = "\
-rC v1
-mAB1+ n20
-sB ok
-sB n12
-mAB1+ v2
-rB v2
-mCB1- n07
-mCB2- n21";
+refresh c = view 1
+mark a b 1 linked = refused 20
+stopped b = noted
+stopped b = refused 12
+mark a b 1 linked = view 2
+refresh b = view 2
+mark c b 1 alone = refused 7
+mark c b 2 alone = refused 21";
 
 /// Whoever has no entry is unknown.
 const KNOWS_ITS_MEMBERS: &str = "\
-mDA1- n06
-mA@1- n06
-rD n06
-sI n06
-cD n06
-dDA1r7 n06
-dAD1r7 n06";
+mark d a 1 alone = refused 6
+mark a none 1 alone = refused 6
+refresh d = refused 6
+stopped nobody = refused 6
+collect d = refused 6
+deposit d a 1 ring 7 = refused 6
+deposit a d 1 ring 7 = refused 6";
 
 /// Who is a neighbour is judged by the view of the asker.
 const JUDGES_BY_THE_VIEW_OF_THE_ASKER: &str = "\
-mAC1- n21
-mAB0- n21
-mAB2- n21
-sB ok
-mCB1- v2
-mAC1- n21
-mAC2- n20
-mBA1- n20
-mBA2- n21";
+mark a c 1 alone = refused 21
+mark a b 0 alone = refused 21
+mark a b 2 alone = refused 21
+stopped b = noted
+mark c b 1 alone = view 2
+mark a c 1 alone = refused 21
+mark a c 2 alone = refused 20
+mark b a 1 alone = refused 20
+mark b a 2 alone = refused 21";
 
 /// The right neighbour marks once it has every ring link of the one that stopped.
 const WAITS_FOR_THE_END_OF_A_LINK: &str = "\
-sB ok
-mCB1+ n22
-dBC1c5 ok
-dBA1r6 ok
-dAC1r7 ok
-dBC1r8 ok
-mCB1- n22
-cC l578
-mCB1- v2";
+stopped b = noted
+mark c b 1 linked = refused 22
+deposit b c 1 copy 5 = noted
+deposit b a 1 ring 6 = noted
+deposit a c 1 ring 7 = noted
+deposit b c 1 ring 8 = noted
+mark c b 1 alone = refused 22
+collect c = links 5 7 8
+mark c b 1 alone = view 2";
 
 /// A link from before the two were neighbours doesn't count.
 const COUNTS_NO_LINK_FROM_BEFORE: &str = "\
-sB ok
-mCB1- v2
-sA ok
-dAC2r7 ok
-mCA2- n22
-cC l7
-dAC1r8 ok
-mCA2- v3";
+stopped b = noted
+mark c b 1 alone = view 2
+stopped a = noted
+deposit a c 2 ring 7 = noted
+mark c a 2 alone = refused 22
+collect c = links 7
+deposit a c 1 ring 8 = noted
+mark c a 2 alone = view 3";
 
 /// Each gets its links once, in the order of their deposits.
 const GIVES_LINKS_ONCE_AND_IN_ORDER: &str = "\
-cB l
-dAB1r7 ok
-dAC1c8 ok
-dCB1r9 ok
-cB l79
-cB l
-cC l8
-cC l";
+collect b = links
+deposit a b 1 ring 7 = noted
+deposit a c 1 copy 8 = noted
+deposit c b 1 ring 9 = noted
+collect b = links 7 9
+collect b = links
+collect c = links 8
+collect c = links";
 
 /// A link waits for the second.
-const A_LINK_WAITS: &str = "dAB1r7 ok";
+const A_LINK_WAITS: &str = "deposit a b 1 ring 7 = noted";
 
 /// The name of that link.
 const A_TO_B: LinkName = LinkName {
@@ -92,37 +90,66 @@ const A_TO_B: LinkName = LinkName {
     kind: LinkKind::Ring,
 };
 
-fn digit(byte: u8) -> u32 {
-    u32::from(byte.saturating_sub(b'0'))
+/// The word that a line begins with, and what follows it.
+fn first_word(line: &str) -> (&str, &str) {
+    line.split_once(' ').unwrap_or((line, ""))
 }
 
-fn id(byte: u8) -> MemberId {
-    MemberId(u32::from(byte.saturating_sub(b'@')))
+fn number(text: &str) -> u32 {
+    text.parse::<u32>().unwrap_or(0)
+}
+
+/// The id of a member; of `none` and of `nobody` one that no member has.
+fn id(text: &str) -> MemberId {
+    MemberId(match text {
+        "a" => 1,
+        "b" => 2,
+        "c" => 3,
+        "d" => 4,
+        "nobody" => 9,
+        _ => 0,
+    })
+}
+
+fn mark_by(by: MemberId, rest: &str) -> Request<u32> {
+    let (dead, rest) = first_word(rest);
+    let (view, link) = first_word(rest);
+    Request::Mark {
+        by,
+        dead: id(dead),
+        view: number(view),
+        has_current: link == "linked",
+    }
+}
+
+fn deposit_by(by: MemberId, rest: &str) -> Request<u32> {
+    let (to, rest) = first_word(rest);
+    let (view, rest) = first_word(rest);
+    let (kind, link) = first_word(rest);
+    Request::Deposit {
+        by,
+        to: id(to),
+        view: number(view),
+        kind: if kind == "ring" {
+            LinkKind::Ring
+        } else {
+            LinkKind::Copy
+        },
+        link: number(link),
+    }
 }
 
 /// The request that a row asks.
-fn request_of(asked: &[u8]) -> Option<Request<u32>> {
-    match asked {
-        [b'm', by, dead, view, current] => Some(Request::Mark {
-            by: id(*by),
-            dead: id(*dead),
-            view: digit(*view),
-            has_current: *current == b'+',
-        }),
-        [b'r', by] => Some(Request::Refresh { by: id(*by) }),
-        [b's', by] => Some(Request::Stopped { by: id(*by) }),
-        [b'd', by, to, view, kind, link] => Some(Request::Deposit {
-            by: id(*by),
-            to: id(*to),
-            view: digit(*view),
-            kind: if *kind == b'r' {
-                LinkKind::Ring
-            } else {
-                LinkKind::Copy
-            },
-            link: digit(*link),
-        }),
-        [b'c', by] => Some(Request::Collect { by: id(*by) }),
+fn request_of(asked: &str) -> Option<Request<u32>> {
+    let (verb, rest) = first_word(asked);
+    let (by, rest) = first_word(rest);
+    let by = id(by);
+    match verb {
+        "mark" => Some(mark_by(by, rest)),
+        "refresh" => Some(Request::Refresh { by }),
+        "stopped" => Some(Request::Stopped { by }),
+        "deposit" => Some(deposit_by(by, rest)),
+        "collect" => Some(Request::Collect { by }),
         _ => None,
     }
 }
@@ -142,52 +169,57 @@ fn answer_to(
 }
 
 /// Whether just these links come.
-fn are_links(links: &[Deposited<u32>], want: &[u8]) -> bool {
-    links.len() == want.len()
-        && links
-            .iter()
-            .zip(want)
-            .all(|(given, link)| given.link == digit(*link))
+fn are_links(links: &[Deposited<u32>], want: &str) -> bool {
+    let mut links = links.iter();
+    for link in want.split_whitespace() {
+        match links.next() {
+            Some(given) if given.link == number(link) => {}
+            _ => return false,
+        }
+    }
+    links.next().is_none()
 }
 
 /// Whether a refusal with this reason is wanted.
-fn is_refusal(reason: Reason, wanted: &[u8]) -> bool {
-    let code = reason.code();
-    matches!(wanted, [b'n', tens, ones] if digit(*tens) == code / 10 && digit(*ones) == code % 10)
+fn is_refusal(reason: Reason, wanted: &str) -> bool {
+    let (word, code) = first_word(wanted);
+    word == "refused" && number(code) == reason.code()
 }
 
 /// Whether an answer is the one that is wanted.
-fn is_wanted(answer: &Answer<u32>, wanted: &[u8]) -> bool {
+fn is_wanted(answer: &Answer<u32>, wanted: &str) -> bool {
+    let (word, rest) = first_word(wanted);
     match answer {
         Answer::No(reason) => is_refusal(*reason, wanted),
-        Answer::Noted => matches!(wanted, [b'o', b'k']),
-        Answer::Viewed(view) =>
-            matches!(wanted, [b'v', version] if digit(*version) == view.version),
-        Answer::Links(links) =>
-            matches!(wanted, [b'l', want @ ..] if are_links(links.as_slice(), want)),
+        Answer::Noted => word == "noted",
+        Answer::Viewed(view) => word == "view" && number(rest) == view.version,
+        Answer::Links(links) => word == "links" && are_links(links.as_slice(), rest),
     }
 }
 
 /// Whether it is told before as it is wanted whether a request will be refused, and why.
-fn is_foreseen(refusal: Option<Reason>, wanted: &[u8]) -> bool {
+fn is_foreseen(refusal: Option<Reason>, wanted: &str) -> bool {
     match refusal {
         Some(reason) => is_refusal(reason, wanted),
-        None => !matches!(wanted, [b'n', ..]),
+        None => first_word(wanted).0 != "refused",
     }
 }
 
 /// Whether so many links as are wanted wait for a member that collects.
-fn is_counted(registrar: &Registrar<u32>, asked: &[u8], wanted: &[u8]) -> bool {
-    match (asked, wanted) {
-        ([b'c', by], [b'l', want @ ..]) => registrar.waiting_for(id(*by)) == want.len(),
-        _ => true,
+fn is_counted(registrar: &Registrar<u32>, asked: &str, wanted: &str) -> bool {
+    let (verb, by) = first_word(asked);
+    let (_, links) = first_word(wanted);
+    let mut count = 0;
+    for _link in links.split_whitespace() {
+        count = usize::saturating_add(count, 1);
     }
+    verb != "collect" || first_word(wanted).0 != "links" || registrar.waiting_for(id(by)) == count
 }
 
 /// The version of the newest view, once a request is answered so.
-fn version_after(registrar: &Registrar<u32>, wanted: &[u8]) -> u32 {
-    match wanted {
-        [b'v', version] => digit(*version),
+fn version_after(registrar: &Registrar<u32>, wanted: &str) -> u32 {
+    match first_word(wanted) {
+        ("view", version) => number(version),
         _ => registrar.view().version,
     }
 }
@@ -205,9 +237,7 @@ fn step(registrar: &mut Registrar<u32>, row: &str) -> bool
     requires { AreHere registrar.old.links }
     ensures { AreHere registrar.new.links }
 {
-    let (asked, wanted) = row.split_once(' ').unwrap_or((row, ""));
-    let asked = asked.as_bytes();
-    let wanted = wanted.as_bytes();
+    let (asked, wanted) = row.split_once(" = ").unwrap_or((row, ""));
     let Some(request) = request_of(asked) else {
         return false;
     };
@@ -325,7 +355,7 @@ fn lends_what_waits(rt: HostRuntime) -> Result<(), Fail> {
         exchange_at(&rt, &mut registrar, 5),
     ];
     assert!(rt; lent == [7, 6] && waits_alone(&registrar));
-    assert!(rt; step(&mut registrar, "cB l5"));
+    assert!(rt; step(&mut registrar, "collect b = links 5"));
     Ok(())
 }
 
