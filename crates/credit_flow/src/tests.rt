@@ -1,5 +1,5 @@
-//! Credit at its limits, and what is held back: lines of what the ends of a link do. Behind `=` stands what an end tells
-//! then, if it tells a number: of a grant how much it is, of `blocked` 1 or 0.
+//! Credit at its limits, and what is held back: lines of what the ends of a link do. Behind `=` stands what an end
+//! tells then, if it tells a number: of a grant how much it is, of `blocked` 1 or 0.
 use crate::*;
 use ring_names::CreditSpec;
 use std::process::Abort;

@@ -23,8 +23,10 @@ fn arrive<I: Drop>(
     requires stands { is_in id.0 (ids view.now) ≡ true }
     requires room { vec_len door.old < vec_capacity door.old }
     requires room_left { vec_len left.old < vec_capacity left.old }
-    ensures door { door.new.items ≡ door.old.items ++ cond (joins view.now id.0 given) (arrived_link credit given ∷ []) [] }
-    ensures left { left.new.items ≡ left.old.items ++ cond (not (joins view.now id.0 given)) (arrived_end id.0 given ∷ []) [] }
+    ensures door { door.new.items ≡ door.old.items
+        ++ cond (joins view.now id.0 given) (arrived_link credit given ∷ []) [] }
+    ensures left { left.new.items ≡ left.old.items
+        ++ cond (not (joins view.now id.0 given)) (arrived_end id.0 given ∷ []) [] }
     ensures more { vec_len left.new + vec_len door.new ≡ vec_len left.old + vec_len door.old + 1 }
     ensures door_len { vec_len door.new ≤ vec_len door.old + 1 }
     ensures left_len { vec_len left.new ≤ vec_len left.old + 1 }

@@ -1,5 +1,6 @@
 //! The links at a member's door.
-ghost use Rattle.std.specs.Prelude.{◌≡◌, ◌+◌, ◌<◌, ◌≤◌, ◌∷◌, ◌++◌, ◌&&◌, ◌||◌, List, true, nat_eq, nat_le, nat_lt, length, map, position, vec_len, vec_capacity, IfSome};
+ghost use Rattle.std.specs.Prelude.{◌≡◌, ◌+◌, ◌<◌, ◌≤◌, ◌∷◌, ◌++◌, ◌&&◌, ◌||◌, List, true, nat_eq, nat_le, nat_lt};
+ghost use Rattle.std.specs.Prelude.{length, map, position, vec_len, vec_capacity, IfSome};
 ghost use Rattle.group_view.specs.Ring.{is_in};
 ghost use Rattle.group_view.specs.declared.link.LinkName.{LinkName as Name};
 ghost use Rattle.ring_world.specs.View.{ids};
@@ -55,7 +56,8 @@ fn judge<I: Drop>(
     requires some { 0 < vec_len door.old }
     requires room { vec_len left.old < vec_capacity left.old }
     ensures judged { (first : Link I) (rest : List (Link I)) → door.old.items ≡ first ∷ rest
-        → (door.new.items ≡ rest ++ kept_one view.now id.0 first) × (left.new.items ≡ left.old.items ++ left_one view.now id.0 first) }
+        → (door.new.items ≡ rest ++ kept_one view.now id.0 first)
+        × (left.new.items ≡ left.old.items ++ left_one view.now id.0 first) }
     ensures fewer { vec_len left.new + vec_len door.new ≤ vec_len left.old + vec_len door.old }
     ensures room { vec_capacity left.old ≤ vec_capacity left.new }
 {

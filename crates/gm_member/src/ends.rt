@@ -7,13 +7,14 @@ use group_view::LinkName;
 use ordered_link::{LinkIn, LinkPair};
 
 impl<O: LinkPair<Load, In = I>, I: LinkIn<Load> + Drop> Member<O, I> {
-    ghost use Rattle.std.specs.Prelude.{◌≡◌, ◌<◌, ◌∷◌, ◌-◌, [], ℕ, suc, zero, List, length, drop, None, Some, IfSome, IfNone, IsSome, slice_set, slice_index_or, nat_lt, is_some, true};
+    ghost use Rattle.std.specs.Prelude.{◌≡◌, ◌<◌, ◌∷◌, ◌-◌, [], ℕ, suc, zero, List, length, drop, None, Some, IfSome};
+    ghost use Rattle.std.specs.Prelude.{IfNone, IsSome, slice_set, slice_index_or, nat_lt, is_some, true};
     ghost use Rattle.group_view.specs.declared.link.LinkName.{LinkName};
     ghost use Rattle.gm_member.specs.Shown.{held_of, ends_of, in_name_of, in_end, with_in, has_in, KeepsSpare};
 
-    /// Lends the end of a link to the member: of the one from which it takes at place 0, of those at its door, the oldest
-    /// first, from place 1 on. None where no such link is there, or its end is lent. The caller gives it back to the
-    /// same place before any other call. It wants no memory.
+    /// Lends the end of a link to the member: of the one from which it takes at place 0, of those at its door, the
+    /// oldest first, from place 1 on. None where no such link is there, or its end is lent. The caller gives it back
+    /// to the same place before any other call. It wants no memory.
     pub fn lend_in(&mut self, place: u32) -> Option<I>
         ensures lent { result ≡ in_end (ends_of self.old) place }
         ensures ends { ends_of self.new ≡ with_in (ends_of self.old) place None }
@@ -88,11 +89,12 @@ impl<O: LinkPair<Load, In = I>, I: LinkIn<Load> + Drop> Member<O, I> {
         }
     }
 
-    /// Lends the end of the link at a place of the member's door, from 0: none where no link stands there, or its end is
-    /// lent.
+    /// Lends the end of the link at a place of the member's door, from 0: none where no link stands there, or its end
+    /// is lent.
     fn lend_at_door(&mut self, place: usize) -> Option<I>
         ensures lent { result ≡ slice_index_or (ends_of self.old).door place None }
-        ensures ends { ends_of self.new ≡ record (ends_of self.old) { door = slice_set (ends_of self.old).door place None } }
+        ensures ends { ends_of self.new ≡ record (ends_of self.old)
+            { door = slice_set (ends_of self.old).door place None } }
         ensures held { held_of self.new ≡ held_of self.old }
         ensures kept { KeepsSpare self.old self.new }
     {
@@ -107,7 +109,8 @@ impl<O: LinkPair<Load, In = I>, I: LinkIn<Load> + Drop> Member<O, I> {
     fn give_at_door(&mut self, place: usize, link: I)
         requires there { nat_lt place (length (held_of self.old).door) ≡ true }
         requires lent { slice_index_or (ends_of self.old).door place None ≡ None }
-        ensures ends { ends_of self.new ≡ record (ends_of self.old) { door = slice_set (ends_of self.old).door place (Some link) } }
+        ensures ends { ends_of self.new ≡ record (ends_of self.old)
+            { door = slice_set (ends_of self.old).door place (Some link) } }
         ensures held { held_of self.new ≡ held_of self.old }
         ensures kept { KeepsSpare self.old self.new }
     {
@@ -141,8 +144,8 @@ impl<O: LinkPair<Load, In = I>, I: LinkIn<Load> + Drop> Member<O, I> {
         }
     }
 
-    /// The oldest of the ends that the member has replaced, with the name of its link: none exactly where there is none.
-    /// It is given up.
+    /// The oldest of the ends that the member has replaced, with the name of its link: none exactly where there is
+    /// none. It is given up.
     pub fn old_out(&mut self) -> Option<(LinkName, O)>
         ensures some { IfSome result (λ old. (ends_of self.old).old_outs ≡ old ∷ (ends_of self.new).old_outs) }
         ensures none { IfNone result ((ends_of self.old).old_outs ≡ []) }

@@ -1,5 +1,6 @@
 //! What a member keeps of each origin.
-ghost use Rattle.std.specs.Prelude.{◌≡◌, ℕ, ◌<◌, ◌≤◌, ◌+◌, ◌-◌, ◌^◌, IfOk, OnOk, OnErr, IfErr, length, map, nat_eq, slice_index_or, slice_set};
+ghost use Rattle.std.specs.Prelude.{◌≡◌, ℕ, ◌<◌, ◌≤◌, ◌+◌, ◌-◌, ◌^◌, IfOk, OnOk, OnErr, IfErr, length, map, nat_eq};
+ghost use Rattle.std.specs.Prelude.{slice_index_or, slice_set};
 ghost use Rattle.std.specs.List.{range_with_len, list_all};
 ghost use Rattle.ring_world.specs.Rows.{no_row, no_numbers, published_row, is_sent as sent_is, lo_of, next_numbers};
 ghost use Rattle.gm_member.specs.Parcels.{carried_now, accepted_row, carried_at, no_carried};
@@ -75,7 +76,8 @@ pub(crate) fn nothing_sent(alloc: Global, n: usize) -> Result<Vec<Numbers>, OutO
 #[tactic(auto, using(crate::proofs::RowViews::published_rows, crate::proofs::RowViews::rewrite_row, crate::proofs::RowViews::read_row))]
 pub(crate) fn push_at(known: &mut [Known], i: usize, message: Message) -> Result<u64, Message>
     requires { i < length known.old }
-    ensures ok { OnOk result (map row_of known.new ≡ slice_set (map row_of known.old) i (published_row (known_at (map row_of known.old) i) message)) }
+    ensures ok { OnOk result (map row_of known.new
+        ≡ slice_set (map row_of known.old) i (published_row (known_at (map row_of known.old) i) message)) }
     ensures number { IfOk result (λ n. n ≡ (known_at (map row_of known.old) i).got + 1) }
     ensures err { OnErr result (map row_of known.new ≡ map row_of known.old) }
     ensures back { IfErr result (λ m. m ≡ message) }
@@ -121,7 +123,8 @@ fn is_sent(known: &[Known], sent: &[Numbers], p: usize) -> bool
 
 /// Whether the numbers of each origin equal those last sent.
 pub(crate) fn has_nothing_new(known: &[Known], sent: &[Numbers]) -> bool
-    ensures { result ≡ list_all (λ p. sent_is (known_at (map row_of known.now) p) (numbers_of sent.now p)) (range_with_len 0 (length known.now)) }
+    ensures { result ≡ list_all (λ p. sent_is (known_at (map row_of known.now) p) (numbers_of sent.now p))
+        (range_with_len 0 (length known.now)) }
 {
     (0..known.len()).all(|p| is_sent(known, sent, p))
 }
@@ -141,7 +144,9 @@ pub(crate) fn next_of_all(
     known: &[Known],
     sent: &[Numbers],
 ) -> Result<Vec<Numbers>, OutOfMemory>
-    ensures { IfOk result (λ v. v.items ≡ map (λ p. next_numbers fresh (known_at (map row_of known.now) p) (numbers_of sent.now p)) (range_with_len 0 (length known.now))) }
+    ensures { IfOk result (λ v. v.items
+        ≡ map (λ p. next_numbers fresh (known_at (map row_of known.now) p) (numbers_of sent.now p))
+        (range_with_len 0 (length known.now))) }
 {
     match (0..known.len())
         .map(|p| next_at(fresh, known, sent, p))
@@ -162,7 +167,8 @@ fn line_for(
 ) -> Result<Line, OutOfMemory>
     requires within { p < length known.now }
     requires id { p < 2 ^ 32 - 1 }
-    ensures { IfOk result (λ l. carried_of l ≡ carried_now fresh p (known_at (map row_of known.now) p) (numbers_of sent.now p)) }
+    ensures { IfOk result (λ l. carried_of l ≡ carried_now fresh p (known_at (map row_of known.now) p)
+        (numbers_of sent.now p)) }
 {
     let numbers = next_at(fresh, known, sent, p);
     let all = copied(alloc, &known[p].all)?;
@@ -182,7 +188,9 @@ pub(crate) fn next_lines(
     sent: &[Numbers],
 ) -> Result<Vec<Line>, OutOfMemory>
     requires { length known.now < 2 ^ 32 - 1 }
-    ensures { IfOk result (λ v. map carried_of v.items ≡ map (λ p. carried_now fresh p (known_at (map row_of known.now) p) (numbers_of sent.now p)) (range_with_len 0 (length known.now))) }
+    ensures { IfOk result (λ v. map carried_of v.items
+        ≡ map (λ p. carried_now fresh p (known_at (map row_of known.now) p) (numbers_of sent.now p))
+        (range_with_len 0 (length known.now))) }
 {
     let mut lines = Vec::new(alloc);
     for p in 0..known.len() {

@@ -119,7 +119,8 @@ impl<O: LinkOut<Load>> OutLink<O> {
         requires open { MatchOption self.old.end ⊥ (λ o. O.ended o ≡ false) }
         requires enabled { out_refused (map row_of known.now) (out_of self.old) ≡ None }
         ensures ok { OnOk result (out_of self.new ≡ put_on (map row_of known.now) (out_of self.old)) }
-        ensures packet { OnOk result (EndPuts O.puts (parcel_on version (map row_of known.now) (out_of self.old)) self.old.end self.new.end) }
+        ensures packet { OnOk result (EndPuts O.puts (parcel_on version (map row_of known.now) (out_of self.old))
+            self.old.end self.new.end) }
         ensures kept { self.new.kept ≡ self.old.kept }
         ensures err { OnErr result (out_of self.new ≡ out_of self.old) }
         ensures looks { OnErr result (EndLooks O.looked self.old.end self.new.end) }
@@ -147,7 +148,8 @@ impl<O: LinkOut<Load>> OutLink<O> {
 }
 
 impl<O: LinkOut<Load> + Drop> OutLink<O> {
-    ghost use Rattle.std.specs.Prelude.{◌≡◌, ◌↔◌, ◌⊎◌, ◌<◌, [], false, true, length, IsTrue, IfSome, IfNone, IsSome, None, Some, MatchOption, ⊤, ℕ};
+    ghost use Rattle.std.specs.Prelude.{◌≡◌, ◌↔◌, ◌⊎◌, ◌<◌, [], false, true, length, IsTrue, IfSome, IfNone, IsSome};
+    ghost use Rattle.std.specs.Prelude.{None, Some, MatchOption, ⊤, ℕ};
     ghost use Rattle.gm_member.specs.View.{out_of};
     ghost use Rattle.gm_member.specs.Ends.{EndGets, EndLooks};
 
@@ -183,7 +185,8 @@ impl<O: LinkOut<Load> + Drop> OutLink<O> {
         ensures same { out_of self.new ≡ out_of self.old }
         ensures kept { self.new.kept ≡ self.old.kept }
         ensures looks { EndLooks O.looked self.old.end self.new.end }
-        ensures some { result ≡ true → IsSome self.new.kept ⊎ MatchOption self.new.end ⊥ (λ o. 0 < length (O.grants o)) }
+        ensures some { result ≡ true → IsSome self.new.kept
+            ⊎ MatchOption self.new.end ⊥ (λ o. 0 < length (O.grants o)) }
         ensures none { result ≡ false → (self.new.kept ≡ None) × MatchOption self.new.end ⊤ (λ o. O.grants o ≡ []) }
         ensures open { MatchOption self.new.end ⊥ (λ o. O.ended o ≡ false) }
     {
@@ -202,7 +205,8 @@ impl<O: LinkOut<Load> + Drop> OutLink<O> {
         ensures same { out_of self.new ≡ out_of self.old }
         ensures some { IfSome result (λ amount. (self.new.kept ≡ Some amount)
             × (((self.old.kept ≡ Some amount) × (self.new.end ≡ self.old.end))
-            ⊎ (self.old.kept ≡ None) × (o : O) × (p : O) × (self.old.end ≡ Some o) × (self.new.end ≡ Some p) × O.gains o amount p)) }
+            ⊎ (self.old.kept ≡ None) × (o : O) × (p : O) × (self.old.end ≡ Some o) × (self.new.end ≡ Some p)
+            × O.gains o amount p)) }
         ensures none { IfNone result ((self.old.kept ≡ None) × (self.new.kept ≡ None)
             × EndLooks O.looked self.old.end self.new.end × MatchOption self.new.end ⊤ (λ o. O.grants o ≡ [])) }
         ensures open { MatchOption self.new.end ⊥ (λ o. O.ended o ≡ false) }
@@ -235,13 +239,15 @@ impl<I> InLink<I> {
 }
 
 impl<I: LinkIn<Load>> InLink<I> {
-    ghost use Rattle.std.specs.Prelude.{◌≡◌, ◌≤◌, ◌+◌, map, length, OnOk, OnErr, IfOk, IfErr, IfSome, IfNone, None, Some, IsSome, MatchOption, Option};
+    ghost use Rattle.std.specs.Prelude.{◌≡◌, ◌≤◌, ◌+◌, map, length, OnOk, OnErr, IfOk, IfErr, IfSome, IfNone, None};
+    ghost use Rattle.std.specs.Prelude.{Some, IsSome, MatchOption, Option};
     ghost use Rattle.credit_flow.specs.Credit.{grant_due};
     ghost use Rattle.ring_world.specs.Step.{is_owned};
     ghost use Rattle.gm_member.specs.Held.{counted_in};
     ghost use Rattle.gm_member.specs.News.{news_below};
     ghost use Rattle.gm_member.specs.View.{in_of, row_of};
-    ghost use Rattle.gm_member.specs.Ends.{EndLooks, EndTakes, EndTook, EndEnds, PacketIsNext, EndIsNext, IsTakeRefusal, IsEndRefusal, IsTakeFault};
+    ghost use Rattle.gm_member.specs.Ends.{EndLooks, EndTakes, EndTook, EndEnds, PacketIsNext, EndIsNext};
+    ghost use Rattle.gm_member.specs.Ends.{IsTakeRefusal, IsEndRefusal, IsTakeFault};
     ghost use Rattle.gm_member.specs.Loads.{parcel_in, GrantsIf};
 
     /// Why no packet may be taken, by a member whose view is of this version: `NothingToTake` where the end gives no
@@ -297,7 +303,8 @@ impl<I: LinkIn<Load>> InLink<I> {
         ensures ok { IfOk result (λ r. EndTakes I.waiting I.takes I.looked r.1 self.old.end self.new.end) }
         ensures version { IfOk result (λ r. (parcel_in r.1).view ≤ view.now.version) }
         ensures news { IfOk result (λ r. r.0.items
-            ≡ news_below 64 (λ p. is_owned view.now id.0 self.old.from.0 (p + 1)) (map row_of known.now) (parcel_in r.1).lines) }
+            ≡ news_below 64 (λ p. is_owned view.now id.0 self.old.from.0 (p + 1)) (map row_of known.now)
+            (parcel_in r.1).lines) }
         ensures fault { IfErr result (λ fault. IsTakeFault I.known I.waiting view.now.version fault self.new.end) }
         ensures looks { OnErr result (EndLooks I.looked self.old.end self.new.end) }
     {
@@ -328,7 +335,8 @@ impl<I: LinkIn<Load>> InLink<I> {
     fn count(&mut self)
         requires { MatchOption self.old.end ⊥ (λ i. I.waiting i ≡ None) }
         ensures counted { in_of self.new ≡ counted_in (in_of self.old) }
-        ensures grants { (i : I) → self.old.end ≡ Some i → (j : I) × (self.new.end ≡ Some j) × GrantsIf (grant_due self.old.counted) I.sends i j }
+        ensures grants { (i : I) → self.old.end ≡ Some i → (j : I) × (self.new.end ≡ Some j)
+            × GrantsIf (grant_due self.old.counted) I.sends i j }
     {
         let Some(end) = &mut self.end else {
             unreachable!()
@@ -349,7 +357,8 @@ impl<I: LinkIn<Load>> InLink<I> {
         requires known { length known.now ≡ 64 }
         requires there { IsSome self.old.end }
         ensures counted { OnOk result (in_of self.new ≡ counted_in (in_of self.old)) }
-        ensures took { IfOk result (λ r. EndTook I.waiting I.takes I.looked I.sends (grant_due self.old.counted) r.1 self.old.end self.new.end) }
+        ensures took { IfOk result (λ r. EndTook I.waiting I.takes I.looked I.sends (grant_due self.old.counted) r.1
+            self.old.end self.new.end) }
         ensures version { IfOk result (λ r. r.1.view ≤ view.now.version) }
         ensures news { IfOk result (λ r. r.0.items
             ≡ news_below 64 (λ p. is_owned view.now id.0 self.old.from.0 (p + 1)) (map row_of known.now) r.1.lines) }

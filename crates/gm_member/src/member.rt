@@ -52,27 +52,39 @@ pub struct Member<O, I> {
 }
 
 impl<O: LinkPair<Load, In = I>, I: LinkIn<Load> + Drop> Member<O, I> {
-    ghost use Rattle.std.specs.Prelude.{◌≡◌, ◌⊎◌, ◌+◌, ◌-◌, ◌<◌, ◌≤◌, ℕ, ◌∷◌, [], OnOk, OnErr, IfOk, IfErr, IfSome, IfNone, IsErrOf, IsSome, None, Some, Ok, Err, length, false, true, Option, MatchOption, ⊤, ◌++◌};
+    ghost use Rattle.std.specs.Prelude.{◌≡◌, ◌⊎◌, ◌+◌, ◌-◌, ◌<◌, ◌≤◌, ℕ, ◌∷◌, [], OnOk, OnErr, IfOk, IfErr, IfSome};
+    ghost use Rattle.std.specs.Prelude.{IfNone, IsErrOf, IsSome, None, Some, Ok, Err, length, false, true, Option};
+    ghost use Rattle.std.specs.Prelude.{MatchOption, ⊤, ◌++◌};
     ghost use Rattle.ring_names.specs.declared.reason.Reason.{Reason};
     ghost use Rattle.ring_world.specs.Rows.{most_members};
     ghost use Rattle.ring_world.specs.declared.event.Event.TheVariants.{Put, Take, TakeEnd, Gain, Stop, Pick, Refresh};
     ghost use Rattle.ring_world.specs.Machine.{member_at, view_at, newest};
     ghost use Rattle.ring_world.specs.Step.{log_of};
-    ghost use Rattle.ring_world.specs.Event.{refusal, take_refusal as the_take_refusal, end_refusal as the_end_refusal, gain_refusal as the_gain_refusal};
+    ghost use Rattle.ring_world.specs.Event.{refusal, take_refusal as the_take_refusal};
+    ghost use Rattle.ring_world.specs.Event.{end_refusal as the_end_refusal, gain_refusal as the_gain_refusal};
     ghost use Rattle.ring_world.specs.View.{ids};
     ghost use Rattle.group_view.specs.Ring.{is_in};
     ghost use Rattle.gm_member.specs.Parcels.{Parcel};
     ghost use Rattle.gm_member.specs.View.{ring_link, left_end, kept_link, left_current};
     ghost use Rattle.gm_member.specs.Ends.{IsPutFault, IsTakeFault, IsEndRefusal};
-    ghost use Rattle.gm_member.specs.Held.{founded, known_at, active_refused, up_refused, published_held, put_refused, put_held, take_refused, took_held, ended_held, stopped_held, gain_refused, gained_held, kept_in, looked_held, sends_to as sends_to_it, first_out, refresh_refused, refreshed_held, first_at_door as the_first_at_door, pick_refused, picked_held, picked_at, Outgoing, parcel_on};
-    ghost use Rattle.gm_member.specs.Stands.{WhereItStands, StepsTo, with_own_link, publishing, IsPutPacket, IsNextPacket, IsNextGrant, IsNextEnd, taken_in};
+    ghost use Rattle.gm_member.specs.Held.{founded, known_at, active_refused, up_refused, published_held};
+    ghost use Rattle.gm_member.specs.Held.{put_refused, put_held, take_refused, took_held, ended_held, stopped_held};
+    ghost use Rattle.gm_member.specs.Held.{gain_refused, gained_held, kept_in, looked_held, sends_to as sends_to_it};
+    ghost use Rattle.gm_member.specs.Held.{first_out, refresh_refused, refreshed_held};
+    ghost use Rattle.gm_member.specs.Held.{first_at_door as the_first_at_door, pick_refused, picked_held, picked_at};
+    ghost use Rattle.gm_member.specs.Held.{Outgoing, parcel_on};
+    ghost use Rattle.gm_member.specs.Stands.{WhereItStands, StepsTo, with_own_link, publishing, IsPutPacket};
+    ghost use Rattle.gm_member.specs.Stands.{IsNextPacket, IsNextGrant, IsNextEnd, taken_in};
     ghost use Rattle.gm_member.specs.News.{news_of};
-    ghost use Rattle.gm_member.specs.Shown.{Ends, held_of, ends_of, out_name_of, OutIsReady, InIsReady, PutsOn, LooksOut, LooksIn, TookOn, LeavesOn, EndsOn, KeepsGrant, NoGrantBack, GrantIsBack, LooksBy, MovesOn, IsReadyToMove, SendsOn, MovesTo, PicksOn, KeepsSpare};
+    ghost use Rattle.gm_member.specs.Shown.{Ends, held_of, ends_of, out_name_of, OutIsReady, InIsReady, PutsOn};
+    ghost use Rattle.gm_member.specs.Shown.{LooksOut, LooksIn, TookOn, LeavesOn, EndsOn, KeepsGrant, NoGrantBack};
+    ghost use Rattle.gm_member.specs.Shown.{GrantIsBack, LooksBy, MovesOn, IsReadyToMove, SendsOn, MovesTo, PicksOn};
+    ghost use Rattle.gm_member.specs.Shown.{KeepsSpare};
 
-    /// A member of the ring's opening, which has published and heard nothing. The caller gives its id in the ring, the
-    /// view in which the ring opens, the credit of the ring's links, the end of the link to its right neighbour and
-    /// the end of the link from its left neighbour. Without memory the ends are dropped. As `gm:start_link` of those with
-    /// whom a group opens.
+    /// A member of the ring's opening, which has published and heard nothing. The caller gives its id in the ring,
+    /// the view in which the ring opens, the credit of the ring's links, the end of the link to its right neighbour
+    /// and the end of the link from its left neighbour. Without memory the ends are dropped. As `gm:start_link` of
+    /// those with whom a group opens.
     pub fn founding(
         alloc: Global,
         name: Name,
@@ -323,11 +335,13 @@ impl<O: LinkPair<Load, In = I>, I: LinkIn<Load> + Drop> Member<O, I> {
         ensures looks { OnErr result (LooksOut O.looked self.old self.new) }
         ensures ready { OutIsReady O.ended self.new }
 
-        // Wherever the member stands in a state of a run, this is the ring's event, and the packet is the one that it puts.
+        // Wherever the member stands in a state of a run, this is the ring's event, and the packet is the one that it
+        // puts.
         ensures steps { OnOk result (WhereItStands (held_of self.old) (λ w x.
             StepsTo w x (Put (held_of self.old).name) (held_of self.new))) }
         ensures put { OnOk result ((o : Outgoing) × ((held_of self.old).out ≡ Some o)
-            × WhereItStands (held_of self.old) (λ w x. IsPutPacket w x (parcel_on (held_of self.old).view.version (held_of self.old).rows o))) }
+            × WhereItStands (held_of self.old) (λ w x. IsPutPacket w x
+            (parcel_on (held_of self.old).view.version (held_of self.old).rows o))) }
         ensures not_enabled { WhereItStands (held_of self.old) (λ w x. (r : Reason)
             → refusal w (Put (held_of self.old).name) ≡ Some r → result ≡ Err (MemberFault.Refused r)) }
     {
@@ -376,11 +390,11 @@ impl<O: LinkPair<Load, In = I>, I: LinkIn<Load> + Drop> Member<O, I> {
         None
     }
 
-    /// Takes the oldest packet of the link from which the member takes, and grants credit where that is due. The answer
-    /// is what the packet brings, in order of origin and number. Refused with `Stopped`, `AwaitingAnswer`,
-    /// `NoCurrentLink`; then with `NothingToTake` where the end of the link gives no item in this call, `EndNext` where
-    /// the next item is the end of the link, and `ViewTooOld` where it is a packet of a newer version than the member's. As
-    /// `gm:handle_msg` of an activity.
+    /// Takes the oldest packet of the link from which the member takes, and grants credit where that is due. The
+    /// answer is what the packet brings, in order of origin and number. Refused with `Stopped`, `AwaitingAnswer`,
+    /// `NoCurrentLink`; then with `NothingToTake` where the end of the link gives no item in this call, `EndNext`
+    /// where the next item is the end of the link, and `ViewTooOld` where it is a packet of a newer version than the
+    /// member's. As `gm:handle_msg` of an activity.
     pub fn take(&mut self) -> Result<Vec<Taken>, MemberFault>
         requires { InIsReady self.old }
         ensures enabled { OnOk result (take_refused (held_of self.old) None ≡ None) }
@@ -394,12 +408,13 @@ impl<O: LinkPair<Load, In = I>, I: LinkIn<Load> + Drop> Member<O, I> {
         ensures fault { IfErr result (λ fault.
             ((r : Reason) × (fault ≡ MemberFault.Refused r) × (take_refused (held_of self.old) None ≡ Some r))
             ⊎ ((take_refused (held_of self.old) None ≡ None)
-            × MatchOption self.new.current ⊥ (λ l. IsTakeFault I.known I.waiting (held_of self.old).view.version fault l.end))) }
+            × MatchOption self.new.current ⊥ (λ l. IsTakeFault I.known I.waiting (held_of self.old).view.version
+            fault l.end))) }
         ensures err { OnErr result (held_of self.new ≡ held_of self.old) }
         ensures looks { OnErr result (LooksIn I.looked self.old self.new) }
 
-        // Wherever the member stands in a state of a run and the packet is the oldest on its link, this is the ring's event, and
-        // the messages are those of the logs.
+        // Wherever the member stands in a state of a run and the packet is the oldest on its link, this is the ring's
+        // event, and the messages are those of the logs.
         ensures steps { IfOk result (λ taken. (k : Parcel)
             × TookOn I.waiting I.takes I.looked I.sends k self.old self.new
             × WhereItStands (held_of self.old) (λ w x. IsNextPacket w x k
@@ -429,7 +444,8 @@ impl<O: LinkPair<Load, In = I>, I: LinkIn<Load> + Drop> Member<O, I> {
         ensures fault { IfErr result (λ fault.
             ((r : Reason) × (fault ≡ MemberFault.Refused r) × (take_refused (held_of self.old) None ≡ Some r))
             ⊎ ((take_refused (held_of self.old) None ≡ None)
-            × MatchOption self.new.current ⊥ (λ l. IsTakeFault I.known I.waiting (held_of self.old).view.version fault l.end))) }
+            × MatchOption self.new.current ⊥ (λ l. IsTakeFault I.known I.waiting (held_of self.old).view.version
+            fault l.end))) }
         ensures err { OnErr result (held_of self.new ≡ held_of self.old) }
         ensures looks { OnErr result (LooksIn I.looked self.old self.new) }
     {
@@ -448,9 +464,10 @@ impl<O: LinkPair<Load, In = I>, I: LinkIn<Load> + Drop> Member<O, I> {
         Ok(news)
     }
 
-    /// Takes the end of the link from which the member takes, and leaves it. Refused with `Stopped`, `AwaitingAnswer`,
-    /// `NoCurrentLink`; then with `NothingToTake` where the end of the link gives no item in this call, and `PacketNext`
-    /// where the next item is a packet. It wants no memory. As `gm` where its left neighbour goes down.
+    /// Takes the end of the link from which the member takes, and leaves it. Refused with `Stopped`,
+    /// `AwaitingAnswer`, `NoCurrentLink`; then with `NothingToTake` where the end of the link gives no item in this
+    /// call, and `PacketNext` where the next item is a packet. It wants no memory. As `gm` where its left neighbour
+    /// goes down.
     pub fn take_end(&mut self) -> Result<EndReason, MemberFault>
         requires { InIsReady self.old }
         ensures enabled { OnOk result (take_refused (held_of self.old) None ≡ None) }
@@ -470,7 +487,8 @@ impl<O: LinkPair<Load, In = I>, I: LinkIn<Load> + Drop> Member<O, I> {
             → StepsTo w x (TakeEnd (held_of self.old).name) (held_of self.new))) }
         ensures not_enabled { WhereItStands (held_of self.old) (λ w x.
             ((s : ℕ) → (member_at w x).current ≡ Some s → the_end_refusal w s ≡ None)
-            → (r : Reason) → refusal w (TakeEnd (held_of self.old).name) ≡ Some r → result ≡ Err (MemberFault.Refused r)) }
+            → (r : Reason) → refusal w (TakeEnd (held_of self.old).name) ≡ Some r → result
+            ≡ Err (MemberFault.Refused r)) }
     {
         match self.take_end_next() {
             Ok(reason) => Ok(reason),
@@ -511,10 +529,13 @@ impl<O: LinkPair<Load, In = I>, I: LinkIn<Load> + Drop> Member<O, I> {
     fn leave_current(&mut self)
         ensures held { held_of self.new ≡ ended_held (held_of self.old) }
         ensures left { MatchOption self.old.current (self.new.old_ins.items ≡ self.old.old_ins.items) (λ l.
-            self.new.old_ins.items ≡ self.old.old_ins.items ++ left_end (ring_link l.from.0 self.old.id.0 l.opened) l.end) }
+            self.new.old_ins.items
+            ≡ self.old.old_ins.items ++ left_end (ring_link l.from.0 self.old.id.0 l.opened) l.end) }
         ensures current { self.new.current ≡ None }
-        ensures same { (self.new.id ≡ self.old.id) × (self.new.credit ≡ self.old.credit) × (self.new.known ≡ self.old.known) }
-        ensures others { (self.new.out ≡ self.old.out) × (self.new.door ≡ self.old.door) × (self.new.old_outs ≡ self.old.old_outs) }
+        ensures same { (self.new.id ≡ self.old.id) × (self.new.credit ≡ self.old.credit)
+            × (self.new.known ≡ self.old.known) }
+        ensures others { (self.new.out ≡ self.old.out) × (self.new.door ≡ self.old.door)
+            × (self.new.old_outs ≡ self.old.old_outs) }
         ensures kept { self.new.spare ≡ self.old.spare }
     {
         let Some(link) = self.current.take() else {
@@ -585,8 +606,8 @@ impl<O: LinkPair<Load, In = I>, I: LinkIn<Load> + Drop> Member<O, I> {
         link.finish(reason);
     }
 
-    /// Why the member may gain no credit: `Stopped`, `Waiting`, `AwaitingAnswer`; `NoOutLink` where it sends on no link;
-    /// `NoGrant` where none has come back that the end of its link knows. It wants no memory.
+    /// Why the member may gain no credit: `Stopped`, `Waiting`, `AwaitingAnswer`; `NoOutLink` where it sends on no
+    /// link; `NoGrant` where none has come back that the end of its link knows. It wants no memory.
     pub fn gain_refusal(&mut self) -> Option<Reason>
         requires { OutIsReady O.ended self.old }
         ensures held { held_of self.new ≡ held_of self.old }
@@ -611,8 +632,9 @@ impl<O: LinkPair<Load, In = I>, I: LinkIn<Load> + Drop> Member<O, I> {
         }
     }
 
-    /// The oldest grant that came back on the link on which a running member sends, for `gain`: none only where the end
-    /// of the link knew none. It stays with the member until `gain`, and is answered again till then. It wants no memory.
+    /// The oldest grant that came back on the link on which a running member sends, for `gain`: none only where the
+    /// end of the link knew none. It stays with the member until `gain`, and is answered again till then. It wants no
+    /// memory.
     pub fn granted(&mut self) -> Option<u32>
         requires runs { self.old.phase ≡ Phase.Up }
         requires ready { OutIsReady O.ended self.old }
@@ -640,7 +662,8 @@ impl<O: LinkPair<Load, In = I>, I: LinkIn<Load> + Drop> Member<O, I> {
             (r : Reason) × (fault ≡ MemberFault.Refused r) × (gain_refused (held_of self.old) ≡ Some r)) }
         ensures err { OnErr result (self.new ≡ self.old) }
 
-        // Wherever the member stands in a state of a run and the grant is the oldest on its way back, this is the ring's event.
+        // Wherever the member stands in a state of a run and the grant is the oldest on its way back, this is the
+        // ring's event.
         ensures steps { OnOk result (WhereItStands (held_of self.old) (λ w x. IsNextGrant w x amount
             → StepsTo w x (Gain (held_of self.old).name) (held_of self.new))) }
         ensures not_enabled { WhereItStands (held_of self.old) (λ w x.
@@ -680,11 +703,15 @@ impl<O: LinkPair<Load, In = I>, I: LinkIn<Load> + Drop> Member<O, I> {
     /// What stays of the link from which the member takes, with another view.
     fn keep_current(&mut self, view: &View)
         requires { is_in self.old.id.0 (ids view.now) ≡ true }
-        ensures held { held_of self.new ≡ record (held_of self.old) { current = kept_in view.now self.old.id.0 (held_of self.old).current } }
+        ensures held { held_of self.new ≡ record (held_of self.old)
+            { current = kept_in view.now self.old.id.0 (held_of self.old).current } }
         ensures current { self.new.current ≡ kept_link view.now self.old.id.0 self.old.current }
-        ensures left { self.new.old_ins.items ≡ self.old.old_ins.items ++ left_current view.now self.old.id.0 self.old.current }
-        ensures same { (self.new.id ≡ self.old.id) × (self.new.credit ≡ self.old.credit) × (self.new.known ≡ self.old.known) }
-        ensures others { (self.new.out ≡ self.old.out) × (self.new.door ≡ self.old.door) × (self.new.old_outs ≡ self.old.old_outs) }
+        ensures left { self.new.old_ins.items ≡ self.old.old_ins.items
+            ++ left_current view.now self.old.id.0 self.old.current }
+        ensures same { (self.new.id ≡ self.old.id) × (self.new.credit ≡ self.old.credit)
+            × (self.new.known ≡ self.old.known) }
+        ensures others { (self.new.out ≡ self.old.out) × (self.new.door ≡ self.old.door)
+            × (self.new.old_outs ≡ self.old.old_outs) }
         ensures kept { self.new.spare ≡ self.old.spare }
     {
         let Some(link) = &self.current else {
@@ -702,7 +729,8 @@ impl<O: LinkPair<Load, In = I>, I: LinkIn<Load> + Drop> Member<O, I> {
         ensures held { held_of self.new ≡ looked_held (held_of self.old) view }
         ensures links { LooksBy view self.old self.new }
         ensures others { (self.new.out ≡ self.old.out) × (self.new.old_outs ≡ self.old.old_outs) }
-        ensures same { (self.new.id ≡ self.old.id) × (self.new.credit ≡ self.old.credit) × (self.new.known ≡ self.old.known) × (self.new.view ≡ view) }
+        ensures same { (self.new.id ≡ self.old.id) × (self.new.credit ≡ self.old.credit)
+            × (self.new.known ≡ self.old.known) × (self.new.view ≡ view) }
         ensures kept { self.new.spare ≡ self.old.spare }
     {
         self.keep_current(&view);
@@ -715,8 +743,10 @@ impl<O: LinkPair<Load, In = I>, I: LinkIn<Load> + Drop> Member<O, I> {
         requires { MatchOption self.old.out ⊤ (λ l. MatchOption l.end ⊥ (λ o. O.ended o ≡ false)) }
         ensures held { held_of self.new ≡ record (held_of self.old) { out = None } }
         ensures moves { MovesOn O.puts self.old self.new }
-        ensures same { (self.new.id ≡ self.old.id) × (self.new.view ≡ self.old.view) × (self.new.credit ≡ self.old.credit) }
-        ensures others { (self.new.current ≡ self.old.current) × (self.new.door ≡ self.old.door) × (self.new.old_ins ≡ self.old.old_ins) }
+        ensures same { (self.new.id ≡ self.old.id) × (self.new.view ≡ self.old.view)
+            × (self.new.credit ≡ self.old.credit) }
+        ensures others { (self.new.current ≡ self.old.current) × (self.new.door ≡ self.old.door)
+            × (self.new.old_ins ≡ self.old.old_ins) }
         ensures room { vec_capacity self.old.old_outs ≤ vec_capacity self.new.old_outs }
         ensures len { vec_len self.new.old_outs ≤ vec_len self.old.old_outs + 1 }
         ensures kept { self.new.spare ≡ self.old.spare }
@@ -742,9 +772,11 @@ impl<O: LinkPair<Load, In = I>, I: LinkIn<Load> + Drop> Member<O, I> {
     /// A link that is ready to open, with room for the end of the one that it replaces.
     pub(crate) fn prepare(&mut self) -> Result<Spare<O, I>, OutOfMemory>
         ensures held { held_of self.new ≡ held_of self.old }
-        ensures ends { (self.new.out ≡ self.old.out) × (self.new.current ≡ self.old.current) × (self.new.door ≡ self.old.door)
+        ensures ends { (self.new.out ≡ self.old.out) × (self.new.current ≡ self.old.current)
+            × (self.new.door ≡ self.old.door)
             × (self.new.old_outs.items ≡ self.old.old_outs.items) × (self.new.old_ins ≡ self.old.old_ins) }
-        ensures same { (self.new.id ≡ self.old.id) × (self.new.credit ≡ self.old.credit) × (self.new.known ≡ self.old.known) }
+        ensures same { (self.new.id ≡ self.old.id) × (self.new.credit ≡ self.old.credit)
+            × (self.new.known ≡ self.old.known) }
         ensures kept { self.new.spare ≡ self.old.spare }
         ensures ready { IfOk result (λ spare. IsReadyToMove O.are_fresh O.free O.ended self.new spare) }
     {
@@ -760,8 +792,10 @@ impl<O: LinkPair<Load, In = I>, I: LinkIn<Load> + Drop> Member<O, I> {
         requires ready { IsReadyToMove O.are_fresh O.free O.ended self.old spare }
         requires out { MatchOption self.old.out ⊤ (λ l. MatchOption l.end ⊥ (λ o. O.ended o ≡ false)) }
         ensures held { held_of self.new ≡ record (held_of self.old) { out = Some (first_out (held_of self.old) to.0) } }
-        ensures sends { SendsOn O.are_fresh O.free O.ended O.puts self.old.view.version to self.old self.new result.items }
-        ensures others { (self.new.current ≡ self.old.current) × (self.new.door ≡ self.old.door) × (self.new.old_ins ≡ self.old.old_ins) }
+        ensures sends { SendsOn O.are_fresh O.free O.ended O.puts self.old.view.version to self.old self.new
+            result.items }
+        ensures others { (self.new.current ≡ self.old.current) × (self.new.door ≡ self.old.door)
+            × (self.new.old_ins ≡ self.old.old_ins) }
         ensures kept { self.new.spare ≡ self.old.spare }
     {
         self.move_on();
@@ -794,7 +828,8 @@ impl<O: LinkPair<Load, In = I>, I: LinkIn<Load> + Drop> Member<O, I> {
         requires stands { is_in self.old.id.0 (ids view) ≡ true }
         requires ready { IsReadyToMove O.are_fresh O.free O.ended self.old spare }
         requires out { MatchOption self.old.out ⊤ (λ l. MatchOption l.end ⊥ (λ o. O.ended o ≡ false)) }
-        ensures held { held_of self.new ≡ record (looked_held (held_of self.old) view) { out = Some (first_out (looked_held (held_of self.old) view) to.0) } }
+        ensures held { held_of self.new ≡ record (looked_held (held_of self.old) view)
+            { out = Some (first_out (looked_held (held_of self.old) view) to.0) } }
         ensures links { LooksBy view self.old self.new }
         ensures sends { SendsOn O.are_fresh O.free O.ended O.puts view.version to self.old self.new result.items }
         ensures kept { self.new.spare ≡ self.old.spare }
@@ -804,28 +839,32 @@ impl<O: LinkPair<Load, In = I>, I: LinkIn<Load> + Drop> Member<O, I> {
     }
 
     /// The member reads a view of the ring in which it stands, as `gm:check_neighbours`: it goes on taking from its
-    /// left neighbour where that is the same, and sends to its right one, on a new link where that is another. Refused
-    /// as `refresh_refusal` says. The answer is what is to be asked of the registrar then: that it hands on the receiving
-    /// end of a link that has opened.
+    /// left neighbour where that is the same, and sends to its right one, on a new link where that is another.
+    /// Refused as `refresh_refusal` says. The answer is what is to be asked of the registrar then: that it hands on
+    /// the receiving end of a link that has opened.
     pub fn refresh(&mut self, view: View) -> Result<Vec<Request<I>>, (View, MemberFault)>
         requires stands { is_in self.old.id.0 (ids view) ≡ true }
         requires ready { OutIsReady O.ended self.old }
         ensures enabled { OnOk result (refresh_refused (held_of self.old) view.version ≡ None) }
         ensures ok { OnOk result (held_of self.new ≡ refreshed_held (held_of self.old) view) }
         ensures links { OnOk result (LooksBy view self.old self.new) }
-        ensures moves { IfOk result (λ requests. MovesTo O.are_fresh O.free O.ended O.puts view self.old self.new requests.items) }
+        ensures moves { IfOk result (λ requests. MovesTo O.are_fresh O.free O.ended O.puts view self.old self.new
+            requests.items) }
         ensures refused { (r : Reason) → refresh_refused (held_of self.old) view.version ≡ Some r
             → result ≡ Err (view, MemberFault.Refused r) }
-        ensures fault { IfErr result (λ e. (e.0 ≡ view) × (((e.1 ≡ MemberFault.OutOfMemory) × (refresh_refused (held_of self.old) view.version ≡ None))
-            ⊎ (r : Reason) × (e.1 ≡ MemberFault.Refused r) × (refresh_refused (held_of self.old) view.version ≡ Some r))) }
+        ensures fault { IfErr result (λ e. (e.0 ≡ view)
+            × (((e.1 ≡ MemberFault.OutOfMemory) × (refresh_refused (held_of self.old) view.version ≡ None))
+            ⊎ (r : Reason) × (e.1 ≡ MemberFault.Refused r)
+            × (refresh_refused (held_of self.old) view.version ≡ Some r))) }
         ensures err { OnErr result (held_of self.new ≡ held_of self.old) }
         ensures err_ends { OnErr result (ends_of self.new ≡ ends_of self.old) }
 
-        // Wherever the member stands in a state of a run, and the view is one of the ring's, this is the ring's event. A
-        // member that is left alone stands there once the link that it opens to itself has come to its door.
+        // Wherever the member stands in a state of a run, and the view is one of the ring's, this is the ring's
+        // event. A member that is left alone stands there once the link that it opens to itself has come to its door.
         ensures steps { OnOk result (WhereItStands (held_of self.old) (λ w x. view.version ≤ newest w
             → view ≡ view_at w view.version
-            → StepsTo w x (Refresh (held_of self.old).name view.version) (with_own_link (held_of self.old) view (held_of self.new)))) }
+            → StepsTo w x (Refresh (held_of self.old).name view.version)
+            (with_own_link (held_of self.old) view (held_of self.new)))) }
     {
         match self.refresh_next(view) {
             Ok(requests) => Ok(requests),
@@ -840,11 +879,14 @@ impl<O: LinkPair<Load, In = I>, I: LinkIn<Load> + Drop> Member<O, I> {
         ensures enabled { OnOk result (refresh_refused (held_of self.old) view.version ≡ None) }
         ensures ok { OnOk result (held_of self.new ≡ refreshed_held (held_of self.old) view) }
         ensures links { OnOk result (LooksBy view self.old self.new) }
-        ensures moves { IfOk result (λ requests. MovesTo O.are_fresh O.free O.ended O.puts view self.old self.new requests.items) }
+        ensures moves { IfOk result (λ requests. MovesTo O.are_fresh O.free O.ended O.puts view self.old self.new
+            requests.items) }
         ensures refused { (r : Reason) → refresh_refused (held_of self.old) view.version ≡ Some r
             → result ≡ Err (view, MemberFault.Refused r) }
-        ensures fault { IfErr result (λ e. (e.0 ≡ view) × (((e.1 ≡ MemberFault.OutOfMemory) × (refresh_refused (held_of self.old) view.version ≡ None))
-            ⊎ (r : Reason) × (e.1 ≡ MemberFault.Refused r) × (refresh_refused (held_of self.old) view.version ≡ Some r))) }
+        ensures fault { IfErr result (λ e. (e.0 ≡ view)
+            × (((e.1 ≡ MemberFault.OutOfMemory) × (refresh_refused (held_of self.old) view.version ≡ None))
+            ⊎ (r : Reason) × (e.1 ≡ MemberFault.Refused r)
+            × (refresh_refused (held_of self.old) view.version ≡ Some r))) }
         ensures err { OnErr result (held_of self.new ≡ held_of self.old) }
         ensures err_ends { OnErr result (ends_of self.new ≡ ends_of self.old) }
     {
@@ -898,11 +940,13 @@ impl<O: LinkPair<Load, In = I>, I: LinkIn<Load> + Drop> Member<O, I> {
     }
 
     /// The member takes from now on from the first link at its door that comes from its left neighbour. Refused as
-    /// `pick_refusal` says. It wants no memory. As `gm` that gets its first message, a `catchup`, from a new left neighbour.
+    /// `pick_refusal` says. It wants no memory. As `gm` that gets its first message, a `catchup`, from a new left
+    /// neighbour.
     pub fn pick(&mut self) -> Result<(), MemberFault>
         ensures enabled { OnOk result (pick_refused (held_of self.old) ≡ None) }
         ensures ok { OnOk result (held_of self.new ≡ picked_held (held_of self.old)) }
-        ensures picks { OnOk result ((i : ℕ) × (the_first_at_door (held_of self.old) ≡ Some i) × PicksOn i self.old self.new) }
+        ensures picks { OnOk result ((i : ℕ) × (the_first_at_door (held_of self.old) ≡ Some i)
+            × PicksOn i self.old self.new) }
         ensures refused { (r : Reason) → pick_refused (held_of self.old) ≡ Some r
             → result ≡ Err (MemberFault.Refused r) }
         ensures fault { IfErr result (λ fault.
@@ -925,7 +969,8 @@ impl<O: LinkPair<Load, In = I>, I: LinkIn<Load> + Drop> Member<O, I> {
     fn pick_next(&mut self) -> Result<(), MemberFault>
         ensures enabled { OnOk result (pick_refused (held_of self.old) ≡ None) }
         ensures ok { OnOk result (held_of self.new ≡ picked_held (held_of self.old)) }
-        ensures picks { OnOk result ((i : ℕ) × (the_first_at_door (held_of self.old) ≡ Some i) × PicksOn i self.old self.new) }
+        ensures picks { OnOk result ((i : ℕ) × (the_first_at_door (held_of self.old) ≡ Some i)
+            × PicksOn i self.old self.new) }
         ensures refused { (r : Reason) → pick_refused (held_of self.old) ≡ Some r
             → result ≡ Err (MemberFault.Refused r) }
         ensures fault { IfErr result (λ fault.

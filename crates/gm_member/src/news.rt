@@ -1,5 +1,6 @@
 //! What a line of a packet brings, as copies.
-ghost use Rattle.std.specs.Prelude.{◌≡◌, ℕ, ◌+◌, ◌-◌, ◌^◌, ◌<◌, ◌≤◌, ◌++◌, ◌∷◌, [], OnOk, IfOk, length, map, max, nat_eq};
+ghost use Rattle.std.specs.Prelude.{◌≡◌, ℕ, ◌+◌, ◌-◌, ◌^◌, ◌<◌, ◌≤◌, ◌++◌, ◌∷◌, [], OnOk, IfOk, length, map, max};
+ghost use Rattle.std.specs.Prelude.{nat_eq};
 ghost use Rattle.gm_member.specs.Parcels.{carried_at};
 ghost use Rattle.gm_member.specs.View.{row_of, known_at, carried_of};
 ghost use Rattle.gm_member.specs.News.{line_news as news_of_line, taken_between, taken_at};

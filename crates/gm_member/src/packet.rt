@@ -84,7 +84,8 @@ impl Packet {
     ) -> Result<Vec<Taken>, OutOfMemory>
         requires { length known.now ≡ most_members }
         ensures { IfOk result (λ v. v.items
-            ≡ news_below most_members (λ p. is_owned view.now id.0 from.0 (p + 1)) (map row_of known.now) (self.now).lines) }
+            ≡ news_below most_members (λ p. is_owned view.now id.0 from.0 (p + 1)) (map row_of known.now)
+            (self.now).lines) }
     {
         let news = rows::all_news(alloc, known, view, id, from, &self.lines)?;
         Ok(news)
@@ -128,7 +129,8 @@ impl Load {
     ) -> Result<Vec<Taken>, OutOfMemory>
         requires { length known.now ≡ most_members }
         ensures { IfOk result (λ v. v.items
-            ≡ news_below most_members (λ p. is_owned view.now id.0 from.0 (p + 1)) (map row_of known.now) (parcel_in self.now).lines) }
+            ≡ news_below most_members (λ p. is_owned view.now id.0 from.0 (p + 1)) (map row_of known.now)
+            (parcel_in self.now).lines) }
     {
         match self {
             Load::Packet(packet) => packet.news_from(alloc, known, view, id, from),

@@ -23,7 +23,9 @@ pub enum Ask {
 }
 
 impl<O: LinkPair<Load, In = I>, I: LinkIn<Load> + Drop> Member<O, I> {
-    ghost use Rattle.std.specs.Prelude.{◌≡◌, ◌⊎◌, ◌+◌, ◌<◌, ◌≤◌, ◌∷◌, ◌^◌, ◌||◌, ℕ, [], OnOk, OnErr, IfOk, IfErr, IfSome, IfNone, IsOk, IsSome, None, Some, Ok, Err, length, false, true, is_some, MatchOption, vec_len, vec_capacity};
+    ghost use Rattle.std.specs.Prelude.{◌≡◌, ◌⊎◌, ◌+◌, ◌<◌, ◌≤◌, ◌∷◌, ◌^◌, ◌||◌, ℕ, [], OnOk, OnErr, IfOk, IfErr};
+    ghost use Rattle.std.specs.Prelude.{IfSome, IfNone, IsOk, IsSome, None, Some, Ok, Err, length, false, true};
+    ghost use Rattle.std.specs.Prelude.{is_some, MatchOption, vec_len, vec_capacity};
     ghost use Rattle.ring_names.specs.declared.reason.Reason.{Reason};
     ghost use Rattle.group_view.specs.Ring.{is_in};
     ghost use Rattle.ring_world.specs.declared.event.Event.TheVariants.{Refresh as TheRefresh};
@@ -32,9 +34,11 @@ impl<O: LinkPair<Load, In = I>, I: LinkIn<Load> + Drop> Member<O, I> {
     ghost use Rattle.gm_member.specs.View.{count_of};
     ghost use Rattle.gm_member.specs.Held.{ask_refused, asking_held, answered_held, collected_held, refreshed_held};
     ghost use Rattle.gm_member.specs.Stands.{WhereItStands, StepsTo, with_own_link};
-    ghost use Rattle.gm_member.specs.Shown.{When, held_of, ends_of, OutIsReady, LooksBy, MovesTo, IsReadyToMove, SpareIsReady, SpareIsSound, HasRoom};
+    ghost use Rattle.gm_member.specs.Shown.{When, held_of, ends_of, OutIsReady, LooksBy, MovesTo, IsReadyToMove};
+    ghost use Rattle.gm_member.specs.Shown.{SpareIsReady, SpareIsSound, HasRoom};
     ghost use Rattle.gm_member.specs.Arrivals.{incoming_of, with_arrived};
-    ghost use Rattle.gm_member.specs.Questions.{may_bring_view, has_link as has_a_link, asked_for, OfView, OfLinks, OfWord, answered_by};
+    ghost use Rattle.gm_member.specs.Questions.{may_bring_view, has_link as has_a_link, asked_for, OfView, OfLinks};
+    ghost use Rattle.gm_member.specs.Questions.{OfWord, answered_by};
 
     /// Makes room at the member's door for so many links that the registrar may hand it, and for their ends among
     /// those that it has left. Only want of memory refuses it, and then too all stands as before.
@@ -44,7 +48,8 @@ impl<O: LinkPair<Load, In = I>, I: LinkIn<Load> + Drop> Member<O, I> {
         ensures room { OnOk result (HasRoom links self.new) }
         ensures memory { HasRoom links self.old → IsOk result }
         ensures out { (self.new.out ≡ self.old.out) × (self.new.old_outs ≡ self.old.old_outs) }
-        ensures same { (self.new.id ≡ self.old.id) × (self.new.credit ≡ self.old.credit) × (self.new.known ≡ self.old.known) × (self.new.spare ≡ self.old.spare) }
+        ensures same { (self.new.id ≡ self.old.id) × (self.new.credit ≡ self.old.credit)
+            × (self.new.known ≡ self.old.known) × (self.new.spare ≡ self.old.spare) }
     {
         let Some(ends) = self.ends_with(links) else {
             return Err(OutOfMemory);
@@ -80,7 +85,8 @@ impl<O: LinkPair<Load, In = I>, I: LinkIn<Load> + Drop> Member<O, I> {
         ensures request { IfOk result (λ r. r ≡ asked_for (held_of self.old) what) }
         ensures refused { (r : Reason) → ask_refused (held_of self.old) ≡ Some r
             → result ≡ Err (MemberFault.Refused r) }
-        ensures fault { IfErr result (λ fault. ((fault ≡ MemberFault.OutOfMemory) × (ask_refused (held_of self.old) ≡ None))
+        ensures fault { IfErr result (λ fault. ((fault ≡ MemberFault.OutOfMemory)
+            × (ask_refused (held_of self.old) ≡ None))
             ⊎ (r : Reason) × (fault ≡ MemberFault.Refused r) × (ask_refused (held_of self.old) ≡ Some r)) }
         ensures err { OnErr result (held_of self.new ≡ held_of self.old) }
         ensures ends { ends_of self.new ≡ ends_of self.old }
@@ -102,7 +108,8 @@ impl<O: LinkPair<Load, In = I>, I: LinkIn<Load> + Drop> Member<O, I> {
     fn make_ready(&mut self, what: Ask) -> Result<(), OutOfMemory>
         ensures held { held_of self.new ≡ held_of self.old }
         ensures ends { ends_of self.new ≡ ends_of self.old }
-        ensures ins { (self.new.current ≡ self.old.current) × (self.new.door ≡ self.old.door) × (self.new.old_ins ≡ self.old.old_ins) }
+        ensures ins { (self.new.current ≡ self.old.current) × (self.new.door ≡ self.old.door)
+            × (self.new.old_ins ≡ self.old.old_ins) }
         ensures same { (self.new.phase ≡ self.old.phase) × (self.new.id ≡ self.old.id) }
         ensures spare { OnOk result (When (may_bring_view what) (SpareIsReady O.are_fresh O.free O.ended self.new)) }
         ensures sound { OnOk result (SpareIsSound O.are_fresh O.free O.ended self.new) }
@@ -140,10 +147,10 @@ impl<O: LinkPair<Load, In = I>, I: LinkIn<Load> + Drop> Member<O, I> {
         }
     }
 
-    /// The registrar's answer closes the member's question. A view is read as by `refresh`; links come to the door in their
-    /// order where they may yet be taken from, and the ends of the others join those that the member has left; else
-    /// nothing more is done. The answer is what is to be asked of the registrar then. Want of memory leaves all as it stood, and
-    /// comes only of a view where no link is ready, and of links for which there is no room.
+    /// The registrar's answer closes the member's question. A view is read as by `refresh`; links come to the door in
+    /// their order where they may yet be taken from, and the ends of the others join those that the member has left;
+    /// else nothing more is done. The answer is what is to be asked of the registrar then. Want of memory leaves all
+    /// as it stood, and comes only of a view where no link is ready, and of links for which there is no room.
     pub fn answer(&mut self, answer: Answer<I>) -> Result<Vec<Request<I>>, (Answer<I>, OutOfMemory)>
         requires open { (held_of self.old).asks ≡ true }
         requires stands { OfView answer (λ v. is_in self.old.id.0 (ids v) ≡ true) }
@@ -151,8 +158,10 @@ impl<O: LinkPair<Load, In = I>, I: LinkIn<Load> + Drop> Member<O, I> {
         requires sound { SpareIsSound O.are_fresh O.free O.ended self.old }
         ensures ok { OnOk result (held_of self.new ≡ answered_by (held_of self.old) answer) }
         ensures links { OnOk result (OfView answer (λ v. LooksBy v self.old self.new)) }
-        ensures moves { IfOk result (λ requests. OfView answer (λ v. MovesTo O.are_fresh O.free O.ended O.puts v self.old self.new requests.items)) }
-        ensures arrived { OnOk result (OfLinks answer (λ links. ends_of self.new ≡ with_arrived (held_of self.old) (ends_of self.old) links)) }
+        ensures moves { IfOk result (λ requests. OfView answer
+            (λ v. MovesTo O.are_fresh O.free O.ended O.puts v self.old self.new requests.items)) }
+        ensures arrived { OnOk result (OfLinks answer (λ links. ends_of self.new
+            ≡ with_arrived (held_of self.old) (ends_of self.old) links)) }
         ensures arrived_none { IfOk result (λ requests. OfLinks answer (λ _. requests.items ≡ [])) }
         ensures told { OnOk result (OfWord answer (ends_of self.new ≡ ends_of self.old)) }
         ensures told_none { IfOk result (λ requests. OfWord answer (requests.items ≡ [])) }
@@ -165,10 +174,13 @@ impl<O: LinkPair<Load, In = I>, I: LinkIn<Load> + Drop> Member<O, I> {
         ensures roomy { OfLinks answer (λ links. HasRoom (length links) self.old → IsOk result) }
         ensures told_ok { OfWord answer (IsOk result) }
 
-        // Wherever the member, its question closed, stands in a state of a run, and the view is the ring's newest, this is the
-        // ring's event. A member that is left alone stands there once the link that it opens to itself has come to its door.
-        ensures steps { OnOk result (OfView answer (λ v. WhereItStands (answered_held (held_of self.old)) (λ w x. v ≡ view_at w (newest w)
-            → StepsTo w x (TheRefresh (held_of self.old).name v.version) (with_own_link (held_of self.old) v (held_of self.new))))) }
+        // Wherever the member, its question closed, stands in a state of a run, and the view is the ring's newest,
+        // this is the ring's event. A member that is left alone stands there once the link that it opens to itself
+        // has come to its door.
+        ensures steps { OnOk result (OfView answer (λ v. WhereItStands (answered_held (held_of self.old)) (λ w x. v
+            ≡ view_at w (newest w)
+            → StepsTo w x (TheRefresh (held_of self.old).name v.version)
+            (with_own_link (held_of self.old) v (held_of self.new))))) }
     {
         match answer {
             Answer::Viewed(view) => match self.read_answer(view) {
@@ -190,9 +202,11 @@ impl<O: LinkPair<Load, In = I>, I: LinkIn<Load> + Drop> Member<O, I> {
     fn close(&mut self)
         ensures held { held_of self.new ≡ answered_held (held_of self.old) }
         ensures ends { ends_of self.new ≡ ends_of self.old }
-        ensures ins { (self.new.current ≡ self.old.current) × (self.new.door ≡ self.old.door) × (self.new.old_ins ≡ self.old.old_ins) }
+        ensures ins { (self.new.current ≡ self.old.current) × (self.new.door ≡ self.old.door)
+            × (self.new.old_ins ≡ self.old.old_ins) }
         ensures outs { (self.new.out ≡ self.old.out) × (self.new.old_outs ≡ self.old.old_outs) }
-        ensures same { (self.new.id ≡ self.old.id) × (self.new.credit ≡ self.old.credit) × (self.new.known ≡ self.old.known) }
+        ensures same { (self.new.id ≡ self.old.id) × (self.new.credit ≡ self.old.credit)
+            × (self.new.known ≡ self.old.known) }
         ensures spare { self.new.spare ≡ None }
     {
         self.asked = false;
@@ -203,9 +217,11 @@ impl<O: LinkPair<Load, In = I>, I: LinkIn<Load> + Drop> Member<O, I> {
     fn take_spare(&mut self) -> Result<Spare<O, I>, OutOfMemory>
         requires { SpareIsSound O.are_fresh O.free O.ended self.old }
         ensures held { held_of self.new ≡ held_of self.old }
-        ensures ends { (self.new.out ≡ self.old.out) × (self.new.current ≡ self.old.current) × (self.new.door ≡ self.old.door)
+        ensures ends { (self.new.out ≡ self.old.out) × (self.new.current ≡ self.old.current)
+            × (self.new.door ≡ self.old.door)
             × (self.new.old_outs.items ≡ self.old.old_outs.items) × (self.new.old_ins ≡ self.old.old_ins) }
-        ensures same { (self.new.id ≡ self.old.id) × (self.new.credit ≡ self.old.credit) × (self.new.known ≡ self.old.known) }
+        ensures same { (self.new.id ≡ self.old.id) × (self.new.credit ≡ self.old.credit)
+            × (self.new.known ≡ self.old.known) }
         ensures taken { self.new.spare ≡ None }
         ensures ready { IfOk result (λ spare. IsReadyToMove O.are_fresh O.free O.ended self.new spare) }
         ensures memory { IsSome self.old.spare → IsOk result }
@@ -224,7 +240,8 @@ impl<O: LinkPair<Load, In = I>, I: LinkIn<Load> + Drop> Member<O, I> {
         requires sound { SpareIsSound O.are_fresh O.free O.ended self.old }
         ensures ok { OnOk result (held_of self.new ≡ refreshed_held (answered_held (held_of self.old)) view) }
         ensures links { OnOk result (LooksBy view self.old self.new) }
-        ensures moves { IfOk result (λ requests. MovesTo O.are_fresh O.free O.ended O.puts view self.old self.new requests.items) }
+        ensures moves { IfOk result (λ requests. MovesTo O.are_fresh O.free O.ended O.puts view self.old self.new
+            requests.items) }
         ensures dropped { OnOk result (self.new.spare ≡ None) }
         ensures err { OnErr result (held_of self.new ≡ held_of self.old) }
         ensures err_ends { OnErr result (ends_of self.new ≡ ends_of self.old) }
@@ -247,12 +264,15 @@ impl<O: LinkPair<Load, In = I>, I: LinkIn<Load> + Drop> Member<O, I> {
 
     /// Links close the question, and come to the door.
     fn collect(&mut self, links: Vec<Deposited<I>>) -> Result<(), (Vec<Deposited<I>>, OutOfMemory)>
-        ensures ok { OnOk result (held_of self.new ≡ collected_held (answered_held (held_of self.old)) (incoming_of (held_of self.old) links.items)) }
-        ensures arrived { OnOk result (ends_of self.new ≡ with_arrived (held_of self.old) (ends_of self.old) links.items) }
+        ensures ok { OnOk result (held_of self.new ≡ collected_held (answered_held (held_of self.old))
+            (incoming_of (held_of self.old) links.items)) }
+        ensures arrived { OnOk result (ends_of self.new
+            ≡ with_arrived (held_of self.old) (ends_of self.old) links.items) }
         ensures dropped { OnOk result (self.new.spare ≡ None) }
         ensures err { OnErr result (held_of self.new ≡ held_of self.old) }
         ensures err_ends { OnErr result (ends_of self.new ≡ ends_of self.old) }
-        ensures err_same { OnErr result ((self.new.id ≡ self.old.id) × (self.new.credit ≡ self.old.credit) × (self.new.known ≡ self.old.known)
+        ensures err_same { OnErr result ((self.new.id ≡ self.old.id) × (self.new.credit ≡ self.old.credit)
+            × (self.new.known ≡ self.old.known)
             × (self.new.spare ≡ self.old.spare) × (self.new.old_outs ≡ self.old.old_outs)) }
         ensures back { IfErr result (λ e. e.0 ≡ links) }
         ensures memory { HasRoom (length links.items) self.old → IsOk result }
@@ -268,7 +288,8 @@ impl<O: LinkPair<Load, In = I>, I: LinkIn<Load> + Drop> Member<O, I> {
     /// Links come to the door, for which there is room.
     fn welcome(&mut self, links: Vec<Deposited<I>>)
         requires { HasRoom (length links.items) self.old }
-        ensures held { held_of self.new ≡ collected_held (held_of self.old) (incoming_of (held_of self.old) links.items) }
+        ensures held { held_of self.new ≡ collected_held (held_of self.old)
+            (incoming_of (held_of self.old) links.items) }
         ensures ends { ends_of self.new ≡ with_arrived (held_of self.old) (ends_of self.old) links.items }
     {
         arrive_all(

@@ -27,7 +27,8 @@ pub(crate) fn accept_all(
     requires same { length known.old ≡ length lines.old }
     requires few { length known.old ≡ 64 }
     ensures { map row_of known.new
-        ≡ map (λ p. accepted_row (is_owned view.now id.0 from.0 (p + 1)) (known_at (map row_of known.old) p) (carried_at (map carried_of lines.old) p)) (range_with_len 0 (length known.old)) }
+        ≡ map (λ p. accepted_row (is_owned view.now id.0 from.0 (p + 1)) (known_at (map row_of known.old) p)
+        (carried_at (map carried_of lines.old) p)) (range_with_len 0 (length known.old)) }
 {
     for k in 0..known.len() {
         accept_line(&mut known[k], owns(view, id, from, k), &mut lines[k]);
@@ -46,7 +47,8 @@ pub(crate) fn all_news(
     requires same { length known.now ≡ length lines.now }
     requires few { length known.now ≡ 64 }
     ensures { IfOk result (λ v. v.items
-        ≡ news_below (length known.now) (λ p. is_owned view.now id.0 from.0 (p + 1)) (map row_of known.now) (map carried_of lines.now)) }
+        ≡ news_below (length known.now) (λ p. is_owned view.now id.0 from.0 (p + 1)) (map row_of known.now)
+        (map carried_of lines.now)) }
 {
     let mut out = Vec::new(alloc);
     for p in 0..known.len() {

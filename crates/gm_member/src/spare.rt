@@ -39,7 +39,8 @@ impl<O: LinkPair<Load, In = I>, I: Drop> Spare<O, I> {
         known: &[Known],
     ) -> Result<Spare<O, I>, OutOfMemory>
         requires { length known.now ≡ 64 }
-        ensures { IfOk result (λ spare. IsSpareFor O.are_fresh O.free O.ended credit.initial (map row_of known.now) spare) }
+        ensures { IfOk result (λ spare. IsSpareFor O.are_fresh O.free O.ended credit.initial (map row_of known.now)
+            spare) }
     {
         let (out, link) = O::pair(alloc, credit)?;
         let fresh: OutLink<O> = OutLink {

@@ -1,9 +1,9 @@
-//! A member over the ends of plain pairs, played from texts. A tale begins with its name, the member's id, the names of
-//! its ring and, where its view has one, the dead. In each further line a word says what the member does or what is read
-//! of it, and behind the arrow stands what is wanted to be seen then; no arrow stands where a call is only done, or a
-//! refusal isn't there. The first of them may want the end on which the member sends as it was founded; later ones that
-//! want it, `put` and `granted`, give the member a new link first. Want of memory ends a test with that error, but where
-//! it tries again.
+//! A member over the ends of plain pairs, played from texts. A tale begins with its name, the member's id, the names
+//! of its ring and, where its view has one, the dead. In each further line a word says what the member does or what
+//! is read of it, and behind the arrow stands what is wanted to be seen then; no arrow stands where a call is only
+//! done, or a refusal isn't there. The first of them may want the end on which the member sends as it was founded;
+//! later ones that want it, `put` and `granted`, give the member a new link first. Want of memory ends a test with
+//! that error, but where it tries again.
 ghost use Rattle.std.specs.Prelude.{◌≡◌, false, true, nat_eq, map, IfOk, OnOk, Some, MatchOption};
 ghost use Rattle.std.specs.Bool.{OnTrue};
 ghost use Rattle.std.specs.List.{list_any};

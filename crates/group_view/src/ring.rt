@@ -1,7 +1,10 @@
 //! Entries in ring order, as slices.
-ghost use Rattle.std.specs.Prelude.{◌≡◌, ◌&&◌, ◌++◌, reverse, filter, position, nat_eq, ◌<◌, ◌≤◌, ◌+◌, ℕ, length, take, drop, map, option_map, IfOk, OnOk, IfSome};
+ghost use Rattle.std.specs.Prelude.{◌≡◌, ◌&&◌, ◌++◌, reverse, filter, position, nat_eq, ◌<◌, ◌≤◌, ◌+◌, ℕ, length};
+ghost use Rattle.std.specs.Prelude.{take, drop, map, option_map, IfOk, OnOk, IfSome};
 ghost use Rattle.group_view.specs.declared.entry.Mark.TheVariants.{Dead};
-ghost use Rattle.group_view.specs.View.{ids, number, as_id, left_of as the_left, right_of as the_right, owner_of as the_owner, is_between as the_test, aliases_of as the_aliases, id_named as the_id, owns, is_alias as is_the_alias, is_dead_mark};
+ghost use Rattle.group_view.specs.View.{ids, number, as_id, left_of as the_left, right_of as the_right};
+ghost use Rattle.group_view.specs.View.{owner_of as the_owner, is_between as the_test, aliases_of as the_aliases};
+ghost use Rattle.group_view.specs.View.{id_named as the_id, owns, is_alias as is_the_alias, is_dead_mark};
 ghost use Rattle.group_view.specs.Change.{dated, with_mark, opening_entries};
 ghost use Rattle.group_view.specs.Ring.{AreDistinct, first, is_in};
 ghost use Rattle.group_view.specs.Parts.{place_of as the_place, live_ids, last, comes_before, mark_in, AreFound};

@@ -1,6 +1,8 @@
 //! A view of the group.
 ghost use Rattle.std.specs.Prelude.{◌≡◌, map, option_map, IfOk, OnOk, OnErr};
-ghost use Rattle.group_view.specs.View.{number, as_id, left_of as the_left, right_of as the_right, owner_of as the_owner, is_between as the_test, aliases_of as the_aliases, id_named};
+ghost use Rattle.group_view.specs.View.{number, as_id, left_of as the_left, right_of as the_right};
+ghost use Rattle.group_view.specs.View.{owner_of as the_owner, is_between as the_test, aliases_of as the_aliases};
+ghost use Rattle.group_view.specs.View.{id_named};
 ghost use Rattle.group_view.specs.Change.{AreOpeningNames, opening, marked, mark_refusal, answer_of};
 
 use crate::entries::Entries;

@@ -2,7 +2,9 @@
 //! and its way back has `initial` slots for grants. What an end knows of the other's steps may be
 //! old: an item may stand on the link before its receiver knows it, and a slot may be free before its
 //! sender does.
-ghost use Rattle.std.specs.Prelude.{◌≡◌, ℕ, ◌+◌, ◌<◌, ◌≤◌, Bool, true, false, List, [], ◌∷◌, ◌++◌, length, IfOk, OnOk, IfErr, IsOk, IfSome, IfNone, IsSome, Some, None, Option, MatchOption, IsTrue, ◌↔◌, ⊤};
+ghost use Rattle.std.specs.Prelude.{◌≡◌, ℕ, ◌+◌, ◌<◌, ◌≤◌, Bool, true, false, List, [], ◌∷◌, ◌++◌, length, IfOk};
+ghost use Rattle.std.specs.Prelude.{OnOk, IfErr, IsOk, IfSome, IfNone, IsSome, Some, None, Option, MatchOption};
+ghost use Rattle.std.specs.Prelude.{IsTrue, ◌↔◌, ⊤};
 ghost use Rattle.std.specs.Borrow.{sem};
 ghost use denote.Follow.{follows_so};
 ghost use mathlib.Core.Option.{none};

@@ -5,7 +5,8 @@ ghost use Rattle.group_view.specs.Parts.{mark_in};
 ghost use Rattle.group_view.specs.Ring.{is_in};
 ghost use Rattle.group_view.specs.Since.{no_group, view_at};
 ghost use Rattle.group_view.specs.View.{ids, is_live as the_life, is_live_mark as the_life_of};
-ghost use Rattle.registrar.specs.Asked.{is_left as the_left, is_beside as the_neighbours, since_in as the_since, waits_from as the_waiting, has_more as the_rest};
+ghost use Rattle.registrar.specs.Asked.{is_left as the_left, is_beside as the_neighbours, since_in as the_since};
+ghost use Rattle.registrar.specs.Asked.{waits_from as the_waiting, has_more as the_rest};
 
 use crate::standing::Standing;
 use group_view::{Mark, View};

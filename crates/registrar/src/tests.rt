@@ -1,7 +1,7 @@
-//! Small groups, with values from the rules of the ring: rows of what is asked, and behind `=` the answer that is wanted.
-//! `mark a b 1 linked`: by whom, who, the asker's version, and whether the asker has a link to take from; `refresh a`,
-//! `stopped a`, `collect a`; `deposit a b 1 ring 7`: from whom, to whom, the sender's version, the kind, and the link. A
-//! request is asked again where an allocation failed.
+//! Small groups, with values from the rules of the ring: rows of what is asked, and behind `=` the answer that is
+//! wanted. `mark a b 1 linked`: by whom, who, the asker's version, and whether the asker has a link to take from;
+//! `refresh a`, `stopped a`, `collect a`; `deposit a b 1 ring 7`: from whom, to whom, the sender's version, the kind,
+//! and the link. A request is asked again where an allocation failed.
 ghost use Rattle.std.specs.Prelude.{IfOk};
 ghost use Rattle.registrar.specs.Registry.{AreHere};
 

@@ -1,5 +1,7 @@
 //! An event of a member of the cluster.
-ghost use Rattle.std.specs.Prelude.{◌≡◌, ◌+◌, ◌-◌, ◌<◌, ◌≤◌, ℕ, List, [], true, false, IfSome, IfErr, IfOk, OnOk, OnErr, Some, None, Err, map, length, position, bytes_eq, slice_set, slice_index_or, option_map};
+ghost use Rattle.std.specs.Prelude.{◌≡◌, ◌+◌, ◌-◌, ◌<◌, ◌≤◌, ℕ, List, [], true, false, IfSome, IfErr, IfOk, OnOk};
+ghost use Rattle.std.specs.Prelude.{OnErr, Some, None, Err, map, length, position, bytes_eq, slice_set};
+ghost use Rattle.std.specs.Prelude.{slice_index_or, option_map};
 ghost use Rattle.ring_names.specs.declared.reason.Reason.{Reason};
 ghost use Rattle.group_view.specs.Change.{marked};
 ghost use Rattle.group_view.specs.Since.{view_at};
@@ -79,8 +81,10 @@ pub(crate) fn alone_at(nodes: &mut [Node], i: usize, event: &Event) -> Result<()
     requires within { i < length nodes.old }
     requires alone { the_alone event.now ≡ true }
     requires ready { IsReady (slice_index_or (map shown_of nodes.old) i no_shown) }
-    ensures enabled { OnOk result (alone_refused event.now (slice_index_or (map shown_of nodes.old) i no_shown) ≡ None) }
-    ensures ok { OnOk result (DoesAlone event.now (slice_index_or (map shown_of nodes.old) i no_shown) (slice_index_or (map shown_of nodes.new) i no_shown)) }
+    ensures enabled { OnOk result (alone_refused event.now (slice_index_or (map shown_of nodes.old) i no_shown)
+        ≡ None) }
+    ensures ok { OnOk result (DoesAlone event.now (slice_index_or (map shown_of nodes.old) i no_shown)
+        (slice_index_or (map shown_of nodes.new) i no_shown)) }
     ensures nodes { OnOk result (map shown_of nodes.new
         ≡ slice_set (map shown_of nodes.old) i (slice_index_or (map shown_of nodes.new) i no_shown)) }
     ensures reason { IfErr result (λ e. (r : Reason) → e ≡ Refused.NotEnabled r
@@ -137,7 +141,8 @@ pub(crate) fn stop_at(
     requires unheard { stop_refused (slice_index_or (map shown_of nodes.old) i no_shown) ≡ None
         → stop_refusal registrar.old (i + 1) ≡ None }
     ensures enabled { OnOk result (stop_refused (slice_index_or (map shown_of nodes.old) i no_shown) ≡ None) }
-    ensures ok { OnOk result (Stops (slice_index_or (map shown_of nodes.old) i no_shown) (slice_index_or (map shown_of nodes.new) i no_shown)) }
+    ensures ok { OnOk result (Stops (slice_index_or (map shown_of nodes.old) i no_shown)
+        (slice_index_or (map shown_of nodes.new) i no_shown)) }
     ensures nodes { OnOk result (map shown_of nodes.new
         ≡ slice_set (map shown_of nodes.old) i (slice_index_or (map shown_of nodes.new) i no_shown)) }
     ensures registrar { OnOk result (registrar.new ≡ with_stopped registrar.old (i + 1)) }
@@ -194,7 +199,8 @@ fn look_at(nodes: &mut [Node], i: usize, view: View) -> Result<Looked, Refused>
     requires within { i < length nodes.old }
     requires ready { IsReady (slice_index_or (map shown_of nodes.old) i no_shown) }
     requires can { CanLook view (slice_index_or (map shown_of nodes.old) i no_shown) }
-    ensures ok { IfOk result (λ l. HasLooked view (slice_index_or (map shown_of nodes.old) i no_shown) (slice_index_or (map shown_of nodes.new) i no_shown)
+    ensures ok { IfOk result (λ l. HasLooked view (slice_index_or (map shown_of nodes.old) i no_shown)
+        (slice_index_or (map shown_of nodes.new) i no_shown)
         (kept_post l.opened) (loose_seen l.loose)) }
     ensures nodes { OnOk result (map shown_of nodes.new
         ≡ slice_set (map shown_of nodes.old) i (slice_index_or (map shown_of nodes.new) i no_shown)) }
@@ -236,15 +242,20 @@ pub(crate) fn refresh_at(
     requires within { i < length nodes.old }
     requires free { (slice_index_or (map shown_of nodes.old) i no_shown).held.asks ≡ false }
     requires ready { IsReady (slice_index_or (map shown_of nodes.old) i no_shown) }
-    requires stands { look_refused (newest registrar.now).version (slice_index_or (map shown_of nodes.old) i no_shown) version ≡ None
-        → IsPublished registrar.now version × CanLook (view_at (registrar.now).views version) (slice_index_or (map shown_of nodes.old) i no_shown) }
-    ensures enabled { OnOk result (look_refused (newest registrar.now).version (slice_index_or (map shown_of nodes.old) i no_shown) version ≡ None) }
-    ensures ok { IfOk result (λ l. HasLooked (view_at (registrar.now).views version) (slice_index_or (map shown_of nodes.old) i no_shown) (slice_index_or (map shown_of nodes.new) i no_shown)
+    requires stands { look_refused (newest registrar.now).version
+        (slice_index_or (map shown_of nodes.old) i no_shown) version ≡ None
+        → IsPublished registrar.now version × CanLook (view_at (registrar.now).views version)
+        (slice_index_or (map shown_of nodes.old) i no_shown) }
+    ensures enabled { OnOk result (look_refused (newest registrar.now).version
+        (slice_index_or (map shown_of nodes.old) i no_shown) version ≡ None) }
+    ensures ok { IfOk result (λ l. HasLooked (view_at (registrar.now).views version)
+        (slice_index_or (map shown_of nodes.old) i no_shown) (slice_index_or (map shown_of nodes.new) i no_shown)
         (kept_post l.opened) (loose_seen l.loose)) }
     ensures nodes { OnOk result (map shown_of nodes.new
         ≡ slice_set (map shown_of nodes.old) i (slice_index_or (map shown_of nodes.new) i no_shown)) }
     ensures reason { IfErr result (λ e. (r : Reason) → e ≡ Refused.NotEnabled r
-        → look_refused (newest registrar.now).version (slice_index_or (map shown_of nodes.old) i no_shown) version ≡ Some r) }
+        → look_refused (newest registrar.now).version (slice_index_or (map shown_of nodes.old) i no_shown) version
+        ≡ Some r) }
     ensures err { OnErr result (map shown_of nodes.new ≡ map shown_of nodes.old) }
 {
     if let Some(reason) = look_refusal_at(nodes, i, registrar.view().version, version) {
@@ -280,8 +291,10 @@ fn mark_of(
     requires within { i < length nodes.old }
     requires ready { IsReady (slice_index_or (map shown_of nodes.old) i no_shown) }
     requires here { AreHere (registrar.old).links }
-    ensures enabled { OnOk result (mark_refused registrar.old (slice_index_or (map shown_of nodes.old) i no_shown) (Some dead.0) ≡ None) }
-    ensures ok { IfOk result (λ l. HasLooked (marked (newest registrar.old) dead.0) (slice_index_or (map shown_of nodes.old) i no_shown) (slice_index_or (map shown_of nodes.new) i no_shown)
+    ensures enabled { OnOk result (mark_refused registrar.old (slice_index_or (map shown_of nodes.old) i no_shown)
+        (Some dead.0) ≡ None) }
+    ensures ok { IfOk result (λ l. HasLooked (marked (newest registrar.old) dead.0)
+        (slice_index_or (map shown_of nodes.old) i no_shown) (slice_index_or (map shown_of nodes.new) i no_shown)
         (kept_post l.opened) (loose_seen l.loose)) }
     ensures nodes { OnOk result (map shown_of nodes.new
         ≡ slice_set (map shown_of nodes.old) i (slice_index_or (map shown_of nodes.new) i no_shown)) }
@@ -301,7 +314,8 @@ fn mark_of(
 fn unknown_at(nodes: &[Node], i: usize) -> Reason
     requires within { i < length nodes.now }
     requires free { (slice_index_or (map shown_of nodes.now) i no_shown).held.asks ≡ false }
-    ensures { (r : Registry (In Loaded)) → mark_refused r (slice_index_or (map shown_of nodes.now) i no_shown) None ≡ Some result }
+    ensures { (r : Registry (In Loaded)) → mark_refused r (slice_index_or (map shown_of nodes.now) i no_shown) None
+        ≡ Some result }
 {
     unknown(&nodes[i])
 }
@@ -328,15 +342,18 @@ pub(crate) fn mark_at(
     requires free { (slice_index_or (map shown_of nodes.old) i no_shown).held.asks ≡ false }
     requires ready { IsReady (slice_index_or (map shown_of nodes.old) i no_shown) }
     requires here { AreHere (registrar.old).links }
-    ensures enabled { OnOk result (mark_refused registrar.old (slice_index_or (map shown_of nodes.old) i no_shown) (id_of_name (map shown_of nodes.old) dead.now) ≡ None) }
+    ensures enabled { OnOk result (mark_refused registrar.old (slice_index_or (map shown_of nodes.old) i no_shown)
+        (id_of_name (map shown_of nodes.old) dead.now) ≡ None) }
     ensures ok { IfOk result (λ l. (d : ℕ) × (id_of_name (map shown_of nodes.old) dead.now ≡ Some d)
-        × HasLooked (marked (newest registrar.old) d) (slice_index_or (map shown_of nodes.old) i no_shown) (slice_index_or (map shown_of nodes.new) i no_shown)
+        × HasLooked (marked (newest registrar.old) d) (slice_index_or (map shown_of nodes.old) i no_shown)
+        (slice_index_or (map shown_of nodes.new) i no_shown)
         (kept_post l.opened) (loose_seen l.loose)
         × (registrar.new ≡ with_view registrar.old (marked (newest registrar.old) d))) }
     ensures nodes { OnOk result (map shown_of nodes.new
         ≡ slice_set (map shown_of nodes.old) i (slice_index_or (map shown_of nodes.new) i no_shown)) }
     ensures reason { IfErr result (λ e. (r : Reason) → e ≡ Refused.NotEnabled r
-        → mark_refused registrar.old (slice_index_or (map shown_of nodes.old) i no_shown) (id_of_name (map shown_of nodes.old) dead.now) ≡ Some r) }
+        → mark_refused registrar.old (slice_index_or (map shown_of nodes.old) i no_shown)
+        (id_of_name (map shown_of nodes.old) dead.now) ≡ Some r) }
     ensures err { OnErr result ((map shown_of nodes.new ≡ map shown_of nodes.old) × (registrar.new ≡ registrar.old)) }
 {
     let Some(place) = place_named(nodes, dead) else {
@@ -421,13 +438,18 @@ fn act_refresh(
     requires within { i < length nodes.old }
     requires free { (slice_index_or (map shown_of nodes.old) i no_shown).held.asks ≡ false }
     requires ready { IsReady (slice_index_or (map shown_of nodes.old) i no_shown) }
-    requires stands { look_refused (newest registrar.now).version (slice_index_or (map shown_of nodes.old) i no_shown) version ≡ None
-        → IsPublished registrar.now version × CanLook (view_at (registrar.now).views version) (slice_index_or (map shown_of nodes.old) i no_shown) }
-    ensures enabled { OnOk result (look_refused (newest registrar.now).version (slice_index_or (map shown_of nodes.old) i no_shown) version ≡ None) }
-    ensures ok { IfOk result (λ l. LooksAt (view_at (registrar.now).views version) i (parties nodes.old registrar.now [])
+    requires stands { look_refused (newest registrar.now).version
+        (slice_index_or (map shown_of nodes.old) i no_shown) version ≡ None
+        → IsPublished registrar.now version × CanLook (view_at (registrar.now).views version)
+        (slice_index_or (map shown_of nodes.old) i no_shown) }
+    ensures enabled { OnOk result (look_refused (newest registrar.now).version
+        (slice_index_or (map shown_of nodes.old) i no_shown) version ≡ None) }
+    ensures ok { IfOk result (λ l. LooksAt (view_at (registrar.now).views version) i
+        (parties nodes.old registrar.now [])
         (parties nodes.new registrar.now (behind l.opened)) (loose_seen l.loose)) }
     ensures reason { IfErr result (λ e. (r : Reason) → e ≡ Refused.NotEnabled r
-        → look_refused (newest registrar.now).version (slice_index_or (map shown_of nodes.old) i no_shown) version ≡ Some r) }
+        → look_refused (newest registrar.now).version (slice_index_or (map shown_of nodes.old) i no_shown) version
+        ≡ Some r) }
     ensures err { OnErr result (parties nodes.new registrar.now [] ≡ parties nodes.old registrar.now []) }
 {
     match refresh_at(nodes, registrar, i, version) {
@@ -448,11 +470,14 @@ fn act_mark(
     requires free { (slice_index_or (map shown_of nodes.old) i no_shown).held.asks ≡ false }
     requires ready { IsReady (slice_index_or (map shown_of nodes.old) i no_shown) }
     requires here { AreHere (registrar.old).links }
-    ensures enabled { OnOk result (mark_refused registrar.old (slice_index_or (map shown_of nodes.old) i no_shown) (id_of_name (map shown_of nodes.old) dead.now) ≡ None) }
-    ensures ok { IfOk result (λ l. (by : List ℕ) → Acts (Mark by dead.now) i (marked_in (Mark by dead.now) (parties nodes.old registrar.old [])) (parties nodes.old registrar.old [])
+    ensures enabled { OnOk result (mark_refused registrar.old (slice_index_or (map shown_of nodes.old) i no_shown)
+        (id_of_name (map shown_of nodes.old) dead.now) ≡ None) }
+    ensures ok { IfOk result (λ l. (by : List ℕ) → Acts (Mark by dead.now) i
+        (marked_in (Mark by dead.now) (parties nodes.old registrar.old [])) (parties nodes.old registrar.old [])
         (parties nodes.new registrar.new (behind l.opened)) (loose_seen l.loose)) }
     ensures reason { IfErr result (λ e. (r : Reason) → e ≡ Refused.NotEnabled r
-        → mark_refused registrar.old (slice_index_or (map shown_of nodes.old) i no_shown) (id_of_name (map shown_of nodes.old) dead.now) ≡ Some r) }
+        → mark_refused registrar.old (slice_index_or (map shown_of nodes.old) i no_shown)
+        (id_of_name (map shown_of nodes.old) dead.now) ≡ Some r) }
     ensures err { OnErr result (parties nodes.new registrar.new [] ≡ parties nodes.old registrar.old []) }
 {
     match mark_at(nodes, registrar, i, dead) {
@@ -475,10 +500,13 @@ pub(crate) fn act(
     requires here { AreHere (registrar.old).links }
     requires unheard { stop_refused (slice_index_or (map shown_of nodes.old) i no_shown) ≡ None
         → stop_refusal registrar.old (i + 1) ≡ None }
-    requires stands { (version : ℕ) → look_refused (newest registrar.old).version (slice_index_or (map shown_of nodes.old) i no_shown) version ≡ None
-        → IsPublished registrar.old version × CanLook (view_at (registrar.old).views version) (slice_index_or (map shown_of nodes.old) i no_shown) }
+    requires stands { (version : ℕ) → look_refused (newest registrar.old).version
+        (slice_index_or (map shown_of nodes.old) i no_shown) version ≡ None
+        → IsPublished registrar.old version × CanLook (view_at (registrar.old).views version)
+        (slice_index_or (map shown_of nodes.old) i no_shown) }
     ensures enabled { OnOk result (act_refused event.now i registrar.old (parties nodes.old registrar.old []) ≡ None) }
-    ensures ok { IfOk result (λ l. Acts event.now i (marked_in event.now (parties nodes.old registrar.old [])) (parties nodes.old registrar.old [])
+    ensures ok { IfOk result (λ l. Acts event.now i (marked_in event.now (parties nodes.old registrar.old []))
+        (parties nodes.old registrar.old [])
         (parties nodes.new registrar.new (behind l.opened)) (loose_seen l.loose)) }
     ensures reason { IfErr result (λ e. (r : Reason) → e ≡ Refused.NotEnabled r
         → act_refused event.now i registrar.old (parties nodes.old registrar.old []) ≡ Some r) }

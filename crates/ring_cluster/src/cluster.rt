@@ -1,5 +1,7 @@
 //! The cluster.
-ghost use Rattle.std.specs.Prelude.{◌≡◌, ◌<◌, ◌∷◌, ◌++◌, [], ◌↔◌, ◌≤◌, ◌-◌, List, true, false, IsSome, MatchOption, drop, slice_set, IfOk, IfSome, OnOk, OnErr, bytes_eq, length, map, slice_index_or, replicate, vec_len, vec_capacity};
+ghost use Rattle.std.specs.Prelude.{◌≡◌, ◌<◌, ◌∷◌, ◌++◌, [], ◌↔◌, ◌≤◌, ◌-◌, List, true, false, IsSome, MatchOption};
+ghost use Rattle.std.specs.Prelude.{drop, slice_set, IfOk, IfSome, OnOk, OnErr, bytes_eq, length, map};
+ghost use Rattle.std.specs.Prelude.{slice_index_or, replicate, vec_len, vec_capacity};
 ghost use Rattle.ring_cluster.specs.Parties.{parties, shown_of, no_shown};
 ghost use Rattle.ring_cluster.specs.Behind.{behind};
 ghost use Rattle.ring_cluster.specs.declared.agenda.Task.{Task};
@@ -60,7 +62,9 @@ impl Model for Cluster {
 }
 
 impl Cluster {
-    ghost use Rattle.std.specs.Prelude.{◌≡◌, ◌↔◌, ◌≢◌, ◌⊎◌, ℕ, ◌+◌, ◌-◌, ◌<◌, ◌≤◌, ◌^◌, ◌∷◌, ◌++◌, [], List, true, false, Some, None, Err, IsTrue, IsSome, MatchOption, IfSome, IfOk, IfErr, OnOk, OnErr, length, map, replicate, min, drop, slice_set, slice_index_or};
+    ghost use Rattle.std.specs.Prelude.{◌≡◌, ◌↔◌, ◌≢◌, ◌⊎◌, ℕ, ◌+◌, ◌-◌, ◌<◌, ◌≤◌, ◌^◌, ◌∷◌, ◌++◌, [], List, true};
+    ghost use Rattle.std.specs.Prelude.{false, Some, None, Err, IsTrue, IsSome, MatchOption, IfSome, IfOk, IfErr};
+    ghost use Rattle.std.specs.Prelude.{OnOk, OnErr, length, map, replicate, min, drop, slice_set, slice_index_or};
     ghost use Rattle.ring_names.specs.declared.reason.Reason.{Reason};
     ghost use Rattle.ring_script.specs.declared.command.Command.{Command};
     ghost use Rattle.ring_script.specs.declared.command.Command.TheVariants as command;
@@ -73,9 +77,12 @@ impl Cluster {
     ghost use Rattle.gm_member.specs.Shown.{held_of};
     ghost use Rattle.ring_cluster.specs.Idle.{IsIdle, NobodyStopped, MarksNobody};
     ghost use Rattle.ring_cluster.specs.Holds.{HoldsOf};
-    ghost use Rattle.ring_cluster.specs.Seen.{Seen, IsGoing, SameButOwed, MayHandOver, state_of, opening_seen, with_event, owing, stepped};
+    ghost use Rattle.ring_cluster.specs.Seen.{Seen, IsGoing, SameButOwed, MayHandOver, state_of, opening_seen};
+    ghost use Rattle.ring_cluster.specs.Seen.{with_event, owing, stepped};
     ghost use Rattle.ring_cluster.specs.declared.agenda.Task.{Task};
-    ghost use Rattle.ring_cluster.specs.Plays.{PlaysSoFar, Plays, task_event, place_among, IsCommandTo, commanded, performed, agenda_at, GoesOn, HasGoneOn, HasBegun, HeadsAre, AgendasAreDone, AgendasAreEmpty};
+    ghost use Rattle.ring_cluster.specs.Plays.{PlaysSoFar, Plays, task_event, place_among, IsCommandTo, commanded};
+    ghost use Rattle.ring_cluster.specs.Plays.{performed, agenda_at, GoesOn, HasGoneOn, HasBegun, HeadsAre};
+    ghost use Rattle.ring_cluster.specs.Plays.{AgendasAreDone, AgendasAreEmpty};
     ghost use Rattle.ring_cluster.specs.Turns.{SamePhases, TakesRound};
 
     /// The cluster of a ring that has just opened with these members, in ring order: nobody has anything
@@ -165,9 +172,9 @@ impl Cluster {
     }
 
     /// The one event, where it is enabled; after it nothing is owed. After a refusal all stands as it stood, but that
-    /// what was owed may have been handed over; or, for want of memory, the event has happened and the cluster owes the
-    /// registrar a link. What it owes, and the collecting of the links that wait for the acting member, comes before the
-    /// next event, and without memory for it no event happens.
+    /// what was owed may have been handed over; or, for want of memory, the event has happened and the cluster owes
+    /// the registrar a link. What it owes, and the collecting of the links that wait for the acting member, comes
+    /// before the next event, and without memory for it no event happens.
     pub fn step(&mut self, event: &Event) -> Result<(), Refused>
         ensures enabled { OnOk result (refusal (state_of self.old) event.now ≡ None) }
         ensures ok { OnOk result (self.new ≡ stepped self.old event.now false) }
@@ -176,7 +183,8 @@ impl Cluster {
         ensures reason { IfErr result (λ e. (r : Reason) → e ≡ Refused.NotEnabled r
             → refusal (state_of self.old) event.now ≡ Some r) }
         ensures err { IfErr result (λ e. MayHandOver self.old self.new
-            ⊎ ((e ≡ Refused.OutOfMemory) × (refusal (state_of self.old) event.now ≡ None) × (self.new ≡ stepped self.old event.now true))) }
+            ⊎ ((e ≡ Refused.OutOfMemory) × (refusal (state_of self.old) event.now ≡ None)
+            × (self.new ≡ stepped self.old event.now true))) }
     {
         self.happen(event)?;
         self.number_round();
@@ -295,8 +303,8 @@ impl Cluster {
         self.journal.len()
     }
 
-    /// One round: each member takes at least one and at most so many turns, the first of which does the
-    /// head of its agenda, where it has one and hasn't stopped; after it nothing is owed. Want of memory leaves what has
+    /// One round: each member takes at least one and at most so many turns, the first of which does the head of its
+    /// agenda, where it has one and hasn't stopped; after it nothing is owed. Want of memory leaves what has
     /// happened.
     pub fn go<T: Threads, G: Gate>(
         &mut self,
@@ -340,15 +348,16 @@ impl Cluster {
         Ok(())
     }
 
-    /// Rounds of 16 turns until one does nothing, 64 at most, and then a drain: each member that runs does
-    /// all of its agenda, and the ring works and repairs itself until no member has anything left to do. Where nobody has
+    /// Rounds of 16 turns until one does nothing, 64 at most, and then a drain: each member that runs does all of its
+    /// agenda, and the ring works and repairs itself until no member has anything left to do. Where nobody has
     /// stopped it is quiet then. After it nothing is owed. Want of memory leaves what has happened.
     pub fn settle<T: Threads, G: Gate>(&mut self, threads: &T, gate: &G) -> Result<(), OutOfMemory>
         ensures goes { HasGoneOn self.old self.new }
         ensures alive { NobodyStopped (state_of self.old) → NobodyStopped (state_of self.new) }
         ensures done { OnOk result (AgendasAreDone self.new) }
         ensures idle { OnOk result (IsIdle (state_of self.new) × MarksNobody (state_of self.new)) }
-        ensures quiet { OnOk result (NobodyStopped (state_of self.old) → IsQuiet (state_of self.new) × AgendasAreEmpty self.new) }
+        ensures quiet { OnOk result (NobodyStopped (state_of self.old) → IsQuiet (state_of self.new)
+            × AgendasAreEmpty self.new) }
         ensures given { OnOk result ((self.new).given ≡ (self.old).given ++ command.Settle ∷ []) }
         ensures not_given { OnErr result ((self.new).given ≡ (self.old).given) }
         ensures rounds { (self.new).rounds ≤ (self.old).rounds + 129 }

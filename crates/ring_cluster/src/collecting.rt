@@ -1,5 +1,6 @@
 //! A member collects the links that wait for it at the registrar.
-ghost use Rattle.std.specs.Prelude.{◌≡◌, ◌+◌, ◌<◌, [], true, false, OnOk, OnErr, IfOk, None, List, length, map, slice_index_or, slice_set};
+ghost use Rattle.std.specs.Prelude.{◌≡◌, ◌+◌, ◌<◌, [], true, false, OnOk, OnErr, IfOk, None, List, length, map};
+ghost use Rattle.std.specs.Prelude.{slice_index_or, slice_set};
 ghost use Rattle.std.specs.List.{filter};
 ghost use Rattle.ordered_link.specs.declared.plain.PlainOut.{PlainOut as Out};
 ghost use Rattle.ordered_link.specs.declared.plain.PlainIn.{PlainIn as In};
@@ -63,11 +64,14 @@ fn collect_of(
     requires here { AreHere (registrar.old).links }
     requires ring { AreOfRing (registrar.old).links }
     requires known { is_known registrar.old (slice_index_or (map shown_of nodes.old) i no_shown).held.id ≡ true }
-    ensures ok { OnOk result (Collects (slice_index_or (map shown_of nodes.old) i no_shown) (slice_index_or (map shown_of nodes.new) i no_shown)
-        (filter (waits_at (slice_index_or (map shown_of nodes.old) i no_shown).held.id) (map posted (registrar.old).links))) }
+    ensures ok { OnOk result (Collects (slice_index_or (map shown_of nodes.old) i no_shown)
+        (slice_index_or (map shown_of nodes.new) i no_shown)
+        (filter (waits_at (slice_index_or (map shown_of nodes.old) i no_shown).held.id)
+        (map posted (registrar.old).links))) }
     ensures nodes { OnOk result (map shown_of nodes.new
         ≡ slice_set (map shown_of nodes.old) i (slice_index_or (map shown_of nodes.new) i no_shown)) }
-    ensures registrar { OnOk result (registrar.new ≡ without_links registrar.old (slice_index_or (map shown_of nodes.old) i no_shown).held.id) }
+    ensures registrar { OnOk result (registrar.new
+        ≡ without_links registrar.old (slice_index_or (map shown_of nodes.old) i no_shown).held.id) }
     ensures err { OnErr result ((map shown_of nodes.new ≡ map shown_of nodes.old) × (registrar.new ≡ registrar.old)) }
 {
     collect(&mut nodes[i], registrar)?;
@@ -112,7 +116,8 @@ fn ask_to_collect(node: &mut Node, waiting: usize) -> Result<Request<PlainIn<Loa
     ensures ends { OnOk result (ends_of node.new ≡ ends_of node.old) }
     ensures request { IfOk result (λ r. r ≡ asked_for (held_of node.old) Ask.Collect) }
     ensures room { OnOk result (HasRoom waiting node.new) }
-    ensures sound { OnOk result (SpareIsSound (λ n o i. IsFreshPair n o i) (λ (o : Out Loaded). o.free) (λ (o : Out Loaded). o.ended) node.new) }
+    ensures sound { OnOk result (SpareIsSound (λ n o i. IsFreshPair n o i) (λ (o : Out Loaded). o.free)
+        (λ (o : Out Loaded). o.ended) node.new) }
     ensures err { OnErr result (shown_of node.new ≡ shown_of node.old) }
 {
     node.make_room(waiting)?;
@@ -147,7 +152,8 @@ fn ask_for_links(
 fn receive(node: &mut Node, links: Items<Deposited<PlainIn<Load>>>)
     requires open { (shown_of node.old).held.asks ≡ true }
     requires room { HasRoom (length links) node.old }
-    requires sound { SpareIsSound (λ n o i. IsFreshPair n o i) (λ (o : Out Loaded). o.free) (λ (o : Out Loaded). o.ended) node.old }
+    requires sound { SpareIsSound (λ n o i. IsFreshPair n o i) (λ (o : Out Loaded). o.free)
+        (λ (o : Out Loaded). o.ended) node.old }
     ensures { shown_of node.new ≡ given_links node.old links }
 {
     match node.answer(Answer::Links(links)) {

@@ -1,11 +1,13 @@
 //! The turns of the members: rounds, and the drain that ends when nothing is left to do.
-ghost use Rattle.std.specs.Prelude.{◌≡◌, ◌≢◌, ℕ, ◌+◌, ◌-◌, ◌<◌, ◌≤◌, ◌∷◌, ◌++◌, ◌||◌, [], true, false, length, IfOk, OnOk, OnErr, None};
+ghost use Rattle.std.specs.Prelude.{◌≡◌, ◌≢◌, ℕ, ◌+◌, ◌-◌, ◌<◌, ◌≤◌, ◌∷◌, ◌++◌, ◌||◌, [], true, false, length, IfOk};
+ghost use Rattle.std.specs.Prelude.{OnOk, OnErr, None};
 ghost use Rattle.ring_world.specs.Machine.{member_at, newest as the_newest, right as the_right, runs as runs_at};
 ghost use Rattle.ring_world.specs.Event.{refusal};
 ghost use Rattle.ring_cluster.specs.Idle.{IsIdle, MarksNobody};
 ghost use Rattle.ring_cluster.specs.Seen.{Seen, state_of, IsGoing, SameButOwed};
 ghost use Rattle.ring_cluster.specs.Plays.{agenda_at, HasBegun, AgendasAreDone};
-ghost use Rattle.ring_cluster.specs.Turns.{is_own_event, step_event, Works, TakesTurns, TakesRound, IsDoneAt, MayStep, MayStepNowhere, MarksNoneAt, RestsAt};
+ghost use Rattle.ring_cluster.specs.Turns.{is_own_event, step_event, Works, TakesTurns, TakesRound, IsDoneAt};
+ghost use Rattle.ring_cluster.specs.Turns.{MayStep, MayStepNowhere, MarksNoneAt, RestsAt};
 ghost use Rattle.ring_cluster.specs.Work.{work, is_stale as the_staleness, LeavesLess};
 
 use crate::cluster::Cluster;

@@ -17,7 +17,8 @@ ghost use Rattle.ring_world.specs.View.{ids};
 ghost use Rattle.gm_member.specs.Held.{refresh_refused};
 ghost use Rattle.ring_cluster.specs.Parties.{shown_of};
 ghost use Rattle.ring_cluster.specs.Acting.{IsReady};
-ghost use Rattle.ring_cluster.specs.Looking.{first_of, to_post, kept_post, loose_seen, tidied, without_question, HasLooked};
+ghost use Rattle.ring_cluster.specs.Looking.{first_of, to_post, kept_post, loose_seen, tidied, without_question};
+ghost use Rattle.ring_cluster.specs.Looking.{HasLooked};
 
 use crate::node::{Node, drop_old_ins};
 use crate::undelivered::Undelivered;
@@ -40,7 +41,8 @@ pub(crate) fn look(node: &mut Node, view: View) -> Result<Looked, OutOfMemory>
     requires ready { IsReady (shown_of node.old) }
     requires stands { is_in (shown_of node.old).held.id (ids view) ≡ true }
     requires allowed { refresh_refused (shown_of node.old).held view.version ≡ None }
-    ensures ok { IfOk result (λ l. HasLooked view (shown_of node.old) (shown_of node.new) (kept_post l.opened) (loose_seen l.loose)) }
+    ensures ok { IfOk result (λ l. HasLooked view (shown_of node.old) (shown_of node.new) (kept_post l.opened)
+        (loose_seen l.loose)) }
     ensures err { OnErr result (shown_of node.new ≡ shown_of node.old) }
 {
     match node.refresh(view) {
@@ -58,7 +60,8 @@ pub(crate) fn mark(
     requires ready { IsReady (shown_of node.old) }
     requires here { AreHere (registrar.old).links }
     ensures enabled { OnOk result (mark_refused registrar.old (shown_of node.old) (Some dead.0) ≡ None) }
-    ensures ok { IfOk result (λ l. HasLooked (marked (newest registrar.old) dead.0) (shown_of node.old) (shown_of node.new) (kept_post l.opened) (loose_seen l.loose)) }
+    ensures ok { IfOk result (λ l. HasLooked (marked (newest registrar.old) dead.0) (shown_of node.old)
+        (shown_of node.new) (kept_post l.opened) (loose_seen l.loose)) }
     ensures registrar { OnOk result (registrar.new ≡ with_view registrar.old (marked (newest registrar.old) dead.0)) }
     ensures reason { IfErr result (λ e. (r : Reason) → e ≡ Refused.NotEnabled r
         → mark_refused registrar.old (shown_of node.old) (Some dead.0) ≡ Some r) }
@@ -109,8 +112,10 @@ fn read_answer(node: &mut Node, view: View) -> Looked
     requires open { (shown_of node.old).held.asks ≡ true }
     requires ready { IsReady (shown_of node.old) }
     requires stands { is_in (shown_of node.old).held.id (ids view) ≡ true }
-    requires spare { SpareIsReady (λ n o i. IsFreshPair n o i) (λ (o : Out Loaded). o.free) (λ (o : Out Loaded). o.ended) node.old }
-    ensures { HasLooked view (without_question (shown_of node.old)) (shown_of node.new) (kept_post result.opened) (loose_seen result.loose) }
+    requires spare { SpareIsReady (λ n o i. IsFreshPair n o i) (λ (o : Out Loaded). o.free)
+        (λ (o : Out Loaded). o.ended) node.old }
+    ensures { HasLooked view (without_question (shown_of node.old)) (shown_of node.new) (kept_post result.opened)
+        (loose_seen result.loose) }
 {
     match node.answer(Answer::Viewed(view)) {
         Ok(requests) => hand_on(node, requests),
@@ -121,7 +126,8 @@ fn read_answer(node: &mut Node, view: View) -> Looked
 /// The member's question is closed, unanswered.
 pub(crate) fn close(node: &mut Node)
     requires open { (shown_of node.old).held.asks ≡ true }
-    requires sound { SpareIsSound (λ n o i. IsFreshPair n o i) (λ (o : Out Loaded). o.free) (λ (o : Out Loaded). o.ended) node.old }
+    requires sound { SpareIsSound (λ n o i. IsFreshPair n o i) (λ (o : Out Loaded). o.free)
+        (λ (o : Out Loaded). o.ended) node.old }
     ensures { shown_of node.new ≡ without_question (shown_of node.old) }
 {
     match node.answer(Answer::No(Reason::AwaitingAnswer)) {

@@ -1,12 +1,16 @@
 //! The ends of each link meet.
-ghost use Rattle.std.specs.Prelude.{◌≡◌, ◌-◌, ◌≤◌, ◌<◌, ℕ, true, false, map, length, IfSome, IfNone, IsSome, List, None, Some, option_map, slice_index_or, slice_set};
+ghost use Rattle.std.specs.Prelude.{◌≡◌, ◌-◌, ◌≤◌, ◌<◌, ℕ, true, false, map, length, IfSome, IfNone, IsSome, List};
+ghost use Rattle.std.specs.Prelude.{None, Some, option_map, slice_index_or, slice_set};
 ghost use Rattle.group_view.specs.declared.link.LinkName.{LinkName};
 ghost use Rattle.registrar.specs.Registry.{name_in, end_in};
 ghost use Rattle.gm_member.specs.Shown.{in_name_of, out_name_of};
 ghost use Rattle.ring_cluster.specs.Ends.{Fits, Meets, InSeen};
-ghost use Rattle.ring_cluster.specs.Parties.{shown_of, out_seen, in_seen, in_end_at, with_in, with_out, posted, no_shown, parties};
+ghost use Rattle.ring_cluster.specs.Parties.{shown_of, out_seen, in_seen, in_end_at, with_in, with_out, posted};
+ghost use Rattle.ring_cluster.specs.Parties.{no_shown, parties};
 ghost use Rattle.ring_cluster.specs.Behind.{behind};
-ghost use Rattle.ring_cluster.specs.Meeting.{IsToMeet, MeetsEnd, HasNone, NodeMayMeet, NodeMeets, PostMayMeet, PostMeets, NoneIsPosted, MayMeet, MeetsIn, MayMeetOut, MeetsOut, LooseAfter, lent_out};
+ghost use Rattle.ring_cluster.specs.Meeting.{IsToMeet, MeetsEnd, HasNone, NodeMayMeet, NodeMeets, PostMayMeet};
+ghost use Rattle.ring_cluster.specs.Meeting.{PostMeets, NoneIsPosted, MayMeet, MeetsIn, MayMeetOut, MeetsOut};
+ghost use Rattle.ring_cluster.specs.Meeting.{LooseAfter, lent_out};
 ghost use Rattle.ring_cluster.specs.Standing.{StandAfter};
 ghost use Rattle.ring_names.specs.declared.numbers.CreditSpec.{CreditSpec};
 ghost use Rattle.ring_world.specs.declared.event.Event.{Event};
@@ -273,7 +277,8 @@ pub(crate) fn meet_out(
     give_out(&mut nodes[i], out);
 }
 
-/// Lets the ends of each link meet, where the parties stand in a state of the ring in which they have to. It takes no memory.
+/// Lets the ends of each link meet, where the parties stand in a state of the ring in which they have to. It takes no
+/// memory.
 pub(crate) fn meet_all(
     nodes: &mut [Node],
     registrar: &mut Registrar<PlainIn<Load>>,

@@ -4,7 +4,9 @@ ghost use Rattle.ring_names.specs.declared.reason.Reason.{Reason};
 ghost use Rattle.ring_names.specs.declared.message.Message.TheVariants as message;
 ghost use Rattle.gm_member.specs.Held.{put_refused, pick_refused};
 ghost use Rattle.ring_cluster.specs.Parties.{shown_of};
-ghost use Rattle.ring_cluster.specs.Acting.{IsReady, cast_refused, packet_refused, link_end_refused, grant_refused, stop_refused, Casts, PutsPacket, TakesPacket, TakesEnd, Gains, Stops, Picks};
+ghost use Rattle.ring_cluster.specs.Acting.{IsReady, cast_refused, packet_refused, link_end_refused, grant_refused};
+ghost use Rattle.ring_cluster.specs.Acting.{stop_refused, Casts, PutsPacket, TakesPacket, TakesEnd, Gains, Stops};
+ghost use Rattle.ring_cluster.specs.Acting.{Picks};
 
 use gm_member::{Load, Member, MemberFault};
 use ordered_link::{PlainIn, PlainOut};

@@ -1,5 +1,6 @@
 //! The opening of a cluster.
-ghost use Rattle.std.specs.Prelude.{◌≡◌, ℕ, ◌+◌, ◌<◌, ◌≤◌, ◌++◌, ◌∷◌, IfOk, OnOk, [], None, true, length, map, slice_index_or};
+ghost use Rattle.std.specs.Prelude.{◌≡◌, ℕ, ◌+◌, ◌<◌, ◌≤◌, ◌++◌, ◌∷◌, IfOk, OnOk, [], None, true, length, map};
+ghost use Rattle.std.specs.Prelude.{slice_index_or};
 ghost use Rattle.std.specs.List.{range_with_len};
 ghost use Rattle.group_view.specs.Change.{AreOpeningNames, opening as opening_group};
 ghost use Rattle.group_view.specs.Ring.{is_in};
@@ -36,7 +37,8 @@ fn opening_node(
 ) -> Result<Node, OutOfMemory>
     requires few { k < most_members }
     requires stands { is_in (k + 1) (ids view.now) ≡ true }
-    ensures { IfOk result (λ m. shown_of m ≡ record { held = founded credit name (k + 1) view.now; ends = opened_ends credit }) }
+    ensures { IfOk result (λ m. shown_of m ≡ record
+        { held = founded credit name (k + 1) view.now; ends = opened_ends credit }) }
 {
     let (out, link) = plain_pair(alloc, credit)?;
     let view = view.copy()?;
@@ -53,7 +55,8 @@ fn opening_nodes(
 ) -> Result<Vec<Node>, OutOfMemory>
     requires few { length names.now ≤ most_members }
     requires view { view.now ≡ opening_group names.now }
-    ensures { IfOk result (λ v. map shown_of v.items ≡ map (opened_at credit names.now) (range_with_len 0 (length names.now))) }
+    ensures { IfOk result (λ v. map shown_of v.items
+        ≡ map (opened_at credit names.now) (range_with_len 0 (length names.now))) }
 {
     let mut nodes = Vec::new(alloc);
     for k in 0..names.len() {

@@ -1,5 +1,7 @@
 //! One event of a cluster.
-ghost use Rattle.std.specs.Prelude.{◌≡◌, ◌⊎◌, ◌∷◌, ◌++◌, ◌+◌, ◌<◌, ◌≤◌, ◌^◌, ℕ, List, [], true, map, length, OnOk, OnErr, IfOk, IfErr, IfSome, IsSome, is_some, Some, None, Err, vec_len, vec_capacity, slice_index_or};
+ghost use Rattle.std.specs.Prelude.{◌≡◌, ◌⊎◌, ◌∷◌, ◌++◌, ◌+◌, ◌<◌, ◌≤◌, ◌^◌, ℕ, List, [], true, map, length, OnOk};
+ghost use Rattle.std.specs.Prelude.{OnErr, IfOk, IfErr, IfSome, IsSome, is_some, Some, None, Err, vec_len};
+ghost use Rattle.std.specs.Prelude.{vec_capacity, slice_index_or};
 ghost use Rattle.ring_names.specs.declared.numbers.CreditSpec.{CreditSpec};
 ghost use Rattle.ring_names.specs.declared.reason.Reason.{Reason};
 ghost use Rattle.ring_world.specs.declared.event.Event.{Event};
@@ -141,7 +143,8 @@ fn meet_loose(
     meet_in(nodes, registrar, late, &mut out, &name);
 }
 
-/// The event of the member at a place happens, where it is enabled, and then the ends of each link meet: the link that it opens.
+/// The event of the member at a place happens, where it is enabled, and then the ends of each link meet: the link
+/// that it opens.
 fn happen(
     credit: CreditSpec,
     names: &[Name],
@@ -174,7 +177,8 @@ fn happen(
     Ok(late)
 }
 
-/// The event happens, where it is enabled, and joins the journal, where nothing waits to be handed to the registrar: the link that it opens.
+/// The event happens, where it is enabled, and joins the journal, where nothing waits to be handed to the registrar:
+/// the link that it opens.
 fn step_on(
     credit: CreditSpec,
     names: &[Name],
@@ -211,8 +215,9 @@ fn step_on(
     }
 }
 
-/// The event happens, where it is enabled, and joins the journal. Before it what waits to be handed to the registrar goes there, and the
-/// acting member collects the links that wait for it; without memory for that nothing happens, whatever the event.
+/// The event happens, where it is enabled, and joins the journal. Before it what waits to be handed to the registrar
+/// goes there, and the acting member collects the links that wait for it; without memory for that nothing happens,
+/// whatever the event.
 pub(crate) fn step(
     credit: CreditSpec,
     names: &[Name],
@@ -223,7 +228,8 @@ pub(crate) fn step(
     event: &Event,
 ) -> Result<(), Refused>
     requires { StandAfter credit names.now journal.old.items (parties nodes.old registrar.old (behind late.old)) }
-    ensures standing { StandAfter credit names.now journal.new.items (parties nodes.new registrar.new (behind late.new)) }
+    ensures standing { StandAfter credit names.now journal.new.items
+        (parties nodes.new registrar.new (behind late.new)) }
     ensures enabled { OnOk result (refusal (state credit names.now journal.old.items) event.now ≡ None) }
     ensures ok { OnOk result (journal.new.items ≡ journal.old.items ++ event.now ∷ []) }
     ensures refused { (r : Reason) → refusal (state credit names.now journal.old.items) event.now ≡ Some r

@@ -25,7 +25,8 @@ impl Model for Calls {
 }
 
 impl Calls {
-    /// No call was made yet. A call moves `most` bytes at most, 1 at least; those whose numbers, from 1, are in `fails` fail.
+    /// No call was made yet. A call moves `most` bytes at most, 1 at least; those whose numbers, from 1, are in
+    /// `fails` fail.
     pub fn new(most: usize, fails: Vec<u32>) -> Calls
         ensures { result ≡ no_calls most fails.items }
     {

@@ -1,10 +1,12 @@
 //! A source and a sink over memory, whose calls move few bytes and fail where they are told to.
-ghost use Rattle.std.specs.Prelude.{◌≡◌, ℕ, ◌+◌, ◌-◌, ◌<◌, ◌≤◌, ◌↔◌, ◌++◌, List, [], length, take, drop, min, Some, false, IsErr, IsTrue, IfOk, OnErr, MatchResult};
+ghost use Rattle.std.specs.Prelude.{◌≡◌, ℕ, ◌+◌, ◌-◌, ◌<◌, ◌≤◌, ◌↔◌, ◌++◌, List, [], length, take, drop, min, Some};
+ghost use Rattle.std.specs.Prelude.{false, IsErr, IsTrue, IfOk, OnErr, MatchResult};
 ghost use Rattle.std.specs.Io.{ReadsAtMost};
 ghost use Rattle.std.specs.Io.KnownBytes.{ReadConsumes};
 ghost use Rattle.ring_io.specs.Contents.{Gains};
 ghost use Rattle.ring_io.specs.Count.{Rose};
-ghost use Rattle.ring_io.specs.Memory.{given_count, is_next_listed, is_next_refused, no_calls, one_failed, one_more, taken_count};
+ghost use Rattle.ring_io.specs.Memory.{given_count, is_next_listed, is_next_refused, no_calls, one_failed, one_more};
+ghost use Rattle.ring_io.specs.Memory.{taken_count};
 
 use crate::calls::Calls;
 use crate::front::read_front;

@@ -1,4 +1,5 @@
-//! Each source and sink once, over `abcdefghij`: tables of what is read and written where calls fail, and at the limits.
+//! Each source and sink once, over `abcdefghij`: tables of what is read and written where calls fail, and at the
+//! limits.
 use crate::*;
 use ring_names::MemberId;
 use std::alloc::Global;

@@ -1,5 +1,6 @@
 //! Reading a source to its end, and writing a whole text.
-ghost use Rattle.std.specs.Prelude.{◌≡◌, ℕ, ◌+◌, ◌<◌, ◌≤◌, List, length, take, IfOk, IfErr, OnOk, OnErr, IfSome, vec_len};
+ghost use Rattle.std.specs.Prelude.{◌≡◌, ℕ, ◌+◌, ◌<◌, ◌≤◌, List, length, take, IfOk, IfErr, OnOk, OnErr, IfSome};
+ghost use Rattle.std.specs.Prelude.{vec_len};
 ghost use Rattle.std.specs.Io.KnownBytes.{Consumes, IsAtEnd};
 ghost use Rattle.ring_io.specs.Contents.{Gains};
 ghost use Rattle.ring_io.specs.Count.{Rose};

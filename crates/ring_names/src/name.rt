@@ -32,7 +32,8 @@ impl Model for Name {
 
     ghost view = { λ n. take n.len n.bytes };
 
-    ghost invariant = { λ n. (n.len ≤ 16) × (length n.bytes ≡ 16) × (drop n.len n.bytes ≡ replicate (16 - n.len) 0) × IsName (take n.len n.bytes) };
+    ghost invariant = { λ n. (n.len ≤ 16) × (length n.bytes ≡ 16) × (drop n.len n.bytes ≡ replicate (16 - n.len) 0)
+        × IsName (take n.len n.bytes) };
 
     ghost inverse = { λ v. record { bytes = v ++ replicate (16 - length v) 0; len = length v } };
 

@@ -1,10 +1,13 @@
 //! The words behind the first of a line.
-ghost use Rattle.std.specs.Prelude.{◌≡◌, ◌∷◌, ◌<◌, ◌↔◌, ℕ, List, Option, true, false, not, Some, None, Ok, Err, IfOk, OnOk, IfSome, IfErr, is_some, unwrap_or, length, [], IsTrue};
+ghost use Rattle.std.specs.Prelude.{◌≡◌, ◌∷◌, ◌<◌, ◌↔◌, ℕ, List, Option, true, false, not, Some, None, Ok, Err, IfOk};
+ghost use Rattle.std.specs.Prelude.{OnOk, IfSome, IfErr, is_some, unwrap_or, length, [], IsTrue};
 ghost use Rattle.std.specs.List.{list_all, list_any, slice_index_or};
 ghost use Rattle.ring_script.specs.Words.{is_text_byte, words_of, first_word, behind_word, number_of};
 ghost use Rattle.ring_script.specs.Place.{left_in};
 ghost use Rattle.ring_script.specs.Fault.{Tells};
-ghost use Rattle.ring_script.specs.Line.{credit_in, is_among, name_fault, known_fault, number_fault, further_fault, names_fault, members_fault, are_credit, credit_fault, body_fault, no_word, one_word, two_words, a_word, most_credit};
+ghost use Rattle.ring_script.specs.Line.{credit_in, is_among, name_fault, known_fault, number_fault, further_fault};
+ghost use Rattle.ring_script.specs.Line.{names_fault, members_fault, are_credit, credit_fault, body_fault, no_word};
+ghost use Rattle.ring_script.specs.Line.{one_word, two_words, a_word, most_credit};
 
 use crate::fault::{Kind, LineFault};
 use crate::words::{Words, number};
@@ -97,7 +100,8 @@ pub(crate) fn nothing_left(rest: Words) -> Result<(), Kind>
 /// The one word that is left on a line.
 pub(crate) fn one_left<'a>(rest: Words<'a>) -> Result<&'a [u8], Kind>
     ensures word { IfOk result (λ word. words_of (left_in rest.entry) ≡ word.now ∷ []) }
-    ensures fault { IfErr result (λ kind. (judged : List ℕ → Option Kind) → one_word judged (words_of (left_in rest.entry)) ≡ Some kind) }
+    ensures fault { IfErr result (λ kind. (judged : List ℕ → Option Kind)
+        → one_word judged (words_of (left_in rest.entry)) ≡ Some kind) }
 {
     let mut words = rest;
     let Some(word) = words.next_word() else {
@@ -112,7 +116,8 @@ pub(crate) fn one_left<'a>(rest: Words<'a>) -> Result<&'a [u8], Kind>
 /// The two words that are left on a line.
 pub(crate) fn two_left<'a>(rest: Words<'a>) -> Result<(&'a [u8], &'a [u8]), Kind>
     ensures words { IfOk result (λ two. words_of (left_in rest.entry) ≡ two.0.now ∷ two.1.now ∷ []) }
-    ensures fault { IfErr result (λ kind. (judged : List ℕ → List ℕ → Option Kind) → two_words judged (words_of (left_in rest.entry)) ≡ Some kind) }
+    ensures fault { IfErr result (λ kind. (judged : List ℕ → List ℕ → Option Kind)
+        → two_words judged (words_of (left_in rest.entry)) ≡ Some kind) }
 {
     let mut words = rest;
     let Some(first) = words.next_word() else {

@@ -113,7 +113,8 @@ pub(crate) fn read_said<S: Statement>(
     line: &[u8],
 ) -> Result<Said<S>, LineFault>
     requires text { list_all is_text_byte line.now ≡ true }
-    ensures fault { Tells (fault_by S.grammar next (head_in line.now) members.now (first_word line.now) (behind_word line.now)) result }
+    ensures fault { Tells (fault_by S.grammar next (head_in line.now) members.now (first_word line.now)
+        (behind_word line.now)) result }
     ensures says { IfOk result (Says S.says (first_word line.now) (behind_word line.now)) }
 {
     let mut words = Words::of(line);
@@ -147,7 +148,8 @@ fn read_second<S: Statement>(
     rest: Words,
 ) -> Result<Said<S>, LineFault>
     requires text { list_all is_text_byte (left_in rest) ≡ true }
-    ensures fault { Tells (fault_by S.grammar Next.Credit (head_of word.now) members.now word.now (left_in rest.entry)) result }
+    ensures fault { Tells (fault_by S.grammar Next.Credit (head_of word.now) members.now word.now
+        (left_in rest.entry)) result }
     ensures says { IfOk result (Says S.says word.now (left_in rest.entry)) }
 {
     match Head::of(word) {
@@ -171,7 +173,8 @@ fn read_further<S: Statement>(
     rest: Words,
 ) -> Result<Said<S>, LineFault>
     requires text { list_all is_text_byte (left_in rest) ≡ true }
-    ensures fault { Tells (fault_by S.grammar Next.Further (head_of word.now) members.now word.now (left_in rest.entry)) result }
+    ensures fault { Tells (fault_by S.grammar Next.Further (head_of word.now) members.now word.now
+        (left_in rest.entry)) result }
     ensures says { IfOk result (Says S.says word.now (left_in rest.entry)) }
 {
     match Head::of(word) {

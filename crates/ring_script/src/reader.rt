@@ -40,7 +40,8 @@ impl<S: Statement> Reader<S> {
 
     /// Reads the next line, which has this number.
     pub(crate) fn read(&mut self, alloc: Global, number: u32, line: &[u8]) -> Result<(), LineFault>
-        ensures fault { (used : List (ℕ × List ℕ)) → HasRead S.says used self.old → Tells (fault_behind S.grammar used line.now) result }
+        ensures fault { (used : List (ℕ × List ℕ)) → HasRead S.says used self.old
+            → Tells (fault_behind S.grammar used line.now) result }
         ensures read { (used : List (ℕ × List ℕ)) → HasRead S.says used self.old
             → OnOk result (HasRead S.says (used ++ used_line number line.now) self.new) }
     {
@@ -60,7 +61,8 @@ impl<S: Statement> Reader<S> {
     /// Takes what the line of this number says.
     fn take(&mut self, number: u32, said: Said<S>) -> Result<(), LineFault>
         ensures taken { (used : List (ℕ × List ℕ)) → (line : List ℕ) → HasRead S.says used self.old
-            → fault_by S.grammar (next_of used) (head_in line) (members_of used) (first_word line) (behind_word line) ≡ None
+            → fault_by S.grammar (next_of used) (head_in line) (members_of used) (first_word line) (behind_word line)
+            ≡ None
             → Says S.says (first_word line) (behind_word line) said
             → OnOk result (HasRead S.says (used ++ (number, line) ∷ []) self.new) }
         ensures full { IfErr result (λ fault. fault ≡ LineFault.OutOfMemory) }
@@ -89,7 +91,8 @@ impl<S: Statement> Reader<S> {
         ensures members { IfOk result (λ text. text.members.items ≡ self.members.items) }
         ensures credit { IfOk result (λ text. text.credit ≡ self.credit) }
         ensures lines { IfOk result (λ text. text.lines.items ≡ self.lines.items) }
-        ensures none { (used : List (ℕ × List ℕ)) → HasRead S.says used self → IfErr result (λ kind. (used ≡ []) × (kind ≡ Kind.NoMembers)) }
+        ensures none { (used : List (ℕ × List ℕ)) → HasRead S.says used self
+            → IfErr result (λ kind. (used ≡ []) × (kind ≡ Kind.NoMembers)) }
     {
         match self.next {
             Next::Opening => Err(Kind::NoMembers),

@@ -5,7 +5,8 @@ ghost use Rattle.ring_script.specs.Words.{is_text_byte, words_of};
 ghost use Rattle.ring_script.specs.Place.{left_in};
 ghost use Rattle.ring_script.specs.Fault.{Tells};
 ghost use Rattle.ring_script.specs.Line.{no_word, one_word, number_fault};
-ghost use Rattle.ring_script.specs.Script.{most_turns, keyword_of, script_grammar, command_fault, command_by, command_of};
+ghost use Rattle.ring_script.specs.Script.{most_turns, keyword_of, script_grammar, command_fault, command_by};
+ghost use Rattle.ring_script.specs.Script.{command_of};
 ghost use Rattle.ring_script.specs.Reading.{IsRight, IsScriptOf, IsFirstFault, HasFault, IsPlayable};
 
 use crate::arguments::{known_name, nothing_left, number_from, one_left, read_body};
@@ -115,11 +116,13 @@ fn read_settle(rest: Words) -> Result<Command, LineFault>
 pub fn read_script(alloc: Global, bytes: &[u8]) -> Result<Script, ScriptFault>
     ensures script { IfOk result (IsScriptOf bytes.now) }
     ensures playable { IfOk result IsPlayable }
-    ensures fault { (line kind : ℕ) → result ≡ Err (ScriptFault.At line kind) → IsFirstFault script_grammar bytes.now line kind }
+    ensures fault { (line kind : ℕ) → result ≡ Err (ScriptFault.At line kind)
+        → IsFirstFault script_grammar bytes.now line kind }
 
     // A text is right or has a first fault, never both, and has one first fault alone.
     ensures either { (text : List ℕ) → IsRight script_grammar text ⊎ HasFault script_grammar text }
-    ensures never_both { (text : List ℕ) (line kind : ℕ) → IsRight script_grammar text → IsFirstFault script_grammar text line kind → ⊥ }
+    ensures never_both { (text : List ℕ) (line kind : ℕ) → IsRight script_grammar text
+        → IsFirstFault script_grammar text line kind → ⊥ }
     ensures one_fault { (text : List ℕ) (line kind line' kind' : ℕ) → IsFirstFault script_grammar text line kind
         → IsFirstFault script_grammar text line' kind' → (line ≡ line') × (kind ≡ kind') }
 {

@@ -4,7 +4,8 @@ ghost use Rattle.std.specs.List.{list_all};
 ghost use Rattle.ring_script.specs.Words.{is_text_byte};
 ghost use Rattle.ring_script.specs.Place.{left_in};
 ghost use Rattle.ring_script.specs.Fault.{Tells};
-ghost use Rattle.ring_script.specs.Steps.{own_step_of, event_word_of, step_grammar, event_fault, own_event, event_by, event_of};
+ghost use Rattle.ring_script.specs.Steps.{own_step_of, event_word_of, step_grammar, event_fault, own_event, event_by};
+ghost use Rattle.ring_script.specs.Steps.{event_of};
 ghost use Rattle.ring_script.specs.Reading.{IsRight, AreStepsOf, IsFirstFault, HasFault, CanOpen};
 
 use crate::arguments::{name_from, number_from, one_left, read_body, two_left};
@@ -185,11 +186,13 @@ fn read_own(step: OwnStep, rest: Words) -> Result<Event, LineFault>
 pub fn read_steps(alloc: Global, bytes: &[u8]) -> Result<Steps, ScriptFault>
     ensures steps { IfOk result (AreStepsOf bytes.now) }
     ensures opens { IfOk result (λ steps. CanOpen steps.members) }
-    ensures fault { (line kind : ℕ) → result ≡ Err (ScriptFault.At line kind) → IsFirstFault step_grammar bytes.now line kind }
+    ensures fault { (line kind : ℕ) → result ≡ Err (ScriptFault.At line kind)
+        → IsFirstFault step_grammar bytes.now line kind }
 
     // A text is right or has a first fault, never both, and has one first fault alone.
     ensures either { (text : List ℕ) → IsRight step_grammar text ⊎ HasFault step_grammar text }
-    ensures never_both { (text : List ℕ) (line kind : ℕ) → IsRight step_grammar text → IsFirstFault step_grammar text line kind → ⊥ }
+    ensures never_both { (text : List ℕ) (line kind : ℕ) → IsRight step_grammar text
+        → IsFirstFault step_grammar text line kind → ⊥ }
     ensures one_fault { (text : List ℕ) (line kind line' kind' : ℕ) → IsFirstFault step_grammar text line kind
         → IsFirstFault step_grammar text line' kind' → (line ≡ line') × (kind ≡ kind') }
 {

@@ -23,8 +23,10 @@ pub(crate) struct Text<S> {
 /// Reads what the bytes spell. Each line is judged behind those before it, and the first one that is wrong is
 /// told with its first fault.
 pub(crate) fn read_text<S: Statement>(alloc: Global, bytes: &[u8]) -> Result<Text<S>, ScriptFault>
-    ensures spells { IfOk result (λ text. Spells S.grammar S.says bytes.now text.members.items text.credit text.lines.items) }
-    ensures fault { (line kind : ℕ) → result ≡ Err (ScriptFault.At line kind) → IsFirstFault S.grammar bytes.now line kind }
+    ensures spells { IfOk result (λ text. Spells S.grammar S.says bytes.now text.members.items text.credit
+        text.lines.items) }
+    ensures fault { (line kind : ℕ) → result ≡ Err (ScriptFault.At line kind)
+        → IsFirstFault S.grammar bytes.now line kind }
 {
     let mut reader = Reader::opening(alloc);
     let mut rest = bytes;

@@ -1,7 +1,8 @@
 //! The words of a line, one after another, and numbers.
 ghost use Rattle.std.specs.Prelude.{◌≡◌, ◌≤◌, [], ◌∷◌, length, IfSome, IfNone};
 ghost use Rattle.std.specs.List.{list_all, prefix_len, slice_range};
-ghost use Rattle.ring_script.specs.Words.{is_space, is_inner, words_of, first_word, behind_word, behind_space, IsNextWord, body_start, is_digit, is_number, number_of};
+ghost use Rattle.ring_script.specs.Words.{is_space, is_inner, words_of, first_word, behind_word, behind_space};
+ghost use Rattle.ring_script.specs.Words.{IsNextWord, body_start, is_digit, is_number, number_of};
 
 /// The words of a line, one after another. They take no memory. Words are separated by one or more spaces;
 /// spaces at the start of the line and behind its last word belong to none.

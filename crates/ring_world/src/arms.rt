@@ -8,8 +8,11 @@ ghost use Rattle.ring_world.specs.declared.phase.Phase.TheVariants as phase;
 ghost use Rattle.ring_world.specs.declared.phase.Ending.TheVariants as ending;
 ghost use Rattle.ring_world.specs.View.{is_live};
 ghost use Rattle.ring_world.specs.Machine.{member_at, view_at, newest as the_newest};
-ghost use Rattle.ring_world.specs.Step.{publish_at, put_on, gain_on, stop_at, end_out, current_is, leave_link, with_view};
-ghost use Rattle.ring_world.specs.Event.{up_refusal, running_refusal, on_link, put_refusal, take_refusal, end_refusal, gain_refusal, pick_refusal, mark_refusal, at_found, taken_by, at_door as the_door, refreshed};
+ghost use Rattle.ring_world.specs.Step.{publish_at, put_on, gain_on, stop_at, end_out, current_is, leave_link};
+ghost use Rattle.ring_world.specs.Step.{with_view};
+ghost use Rattle.ring_world.specs.Event.{up_refusal, running_refusal, on_link, put_refusal, take_refusal};
+ghost use Rattle.ring_world.specs.Event.{end_refusal, gain_refusal, pick_refusal, mark_refusal, at_found, taken_by};
+ghost use Rattle.ring_world.specs.Event.{at_door as the_door, refreshed};
 ghost use Rattle.ring_world.specs.Placed.{IsPlaced};
 ghost use Rattle.ring_world.specs.Shows.{world_of};
 

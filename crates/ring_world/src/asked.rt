@@ -1,7 +1,8 @@
 //! What is asked of a state.
 ghost use Rattle.std.specs.Prelude.{◌≡◌, ◌<◌, suc, length, Option, Some, IsSome, IfOk};
 ghost use Rattle.ring_world.specs.Machine.{row_at, member_at};
-ghost use Rattle.ring_world.specs.Asked.{heard_at as the_heard, id_at as the_id_at, state_of as the_state, counts_of as the_counts};
+ghost use Rattle.ring_world.specs.Asked.{heard_at as the_heard, id_at as the_id_at, state_of as the_state};
+ghost use Rattle.ring_world.specs.Asked.{counts_of as the_counts};
 ghost use Rattle.ring_world.specs.Event.{id_of as the_id};
 ghost use Rattle.ring_world.specs.Placed.{IsPlaced};
 ghost use Rattle.ring_world.specs.Shows.{world_of, member_of, member_in};
@@ -72,7 +73,8 @@ pub(crate) fn heard_named(
     requires placed { IsPlaced (world_of ring.now) }
     requires by { IsSome (the_id (world_of ring.now) by.now) }
     requires of { IsSome (the_id (world_of ring.now) of.now) }
-    ensures { IfOk result (λ v. v.items ≡ the_heard (world_of ring.now) (the_id (world_of ring.now) by.now) (the_id (world_of ring.now) of.now)) }
+    ensures { IfOk result (λ v. v.items ≡ the_heard (world_of ring.now) (the_id (world_of ring.now) by.now)
+        (the_id (world_of ring.now) of.now)) }
 {
     let Some(place) = place_in(ring, by) else {
         unreachable!()

@@ -3,7 +3,8 @@ ghost use Rattle.std.specs.Prelude.{◌≡◌, ◌<◌, suc, true, length, Some,
 ghost use Rattle.ring_names.specs.declared.reason.Reason.TheVariants as reason;
 ghost use Rattle.ring_world.specs.Refusal.{answer_of};
 ghost use Rattle.ring_world.specs.Machine.{member_at, runs as runs_at};
-ghost use Rattle.ring_world.specs.Event.{up_refusal, running_refusal, on_link, put_refusal, take_refusal, end_refusal, gain_refusal, version_refusal};
+ghost use Rattle.ring_world.specs.Event.{up_refusal, running_refusal, on_link, put_refusal, take_refusal};
+ghost use Rattle.ring_world.specs.Event.{end_refusal, gain_refusal, version_refusal};
 ghost use Rattle.ring_world.specs.Placed.{IsPlaced};
 ghost use Rattle.ring_world.specs.Shows.{world_of};
 

@@ -4,7 +4,8 @@ ghost use Rattle.ring_names.specs.declared.reason.Reason.TheVariants as reason;
 ghost use Rattle.ring_world.specs.Refusal.{answer_of, refuse_if, or_else};
 ghost use Rattle.ring_world.specs.declared.phase.Phase.TheVariants as phase;
 ghost use Rattle.ring_world.specs.Machine.{member_at};
-ghost use Rattle.ring_world.specs.Event.{id_of as the_id, of_member, up_refusal, pick_refusal, mark_refusal, refresh_refusal, is_still_taken as still_taken};
+ghost use Rattle.ring_world.specs.Event.{id_of as the_id, of_member, up_refusal, pick_refusal, mark_refusal};
+ghost use Rattle.ring_world.specs.Event.{refresh_refusal, is_still_taken as still_taken};
 ghost use Rattle.ring_world.specs.Placed.{IsPlaced};
 ghost use Rattle.ring_world.specs.Shows.{world_of};
 

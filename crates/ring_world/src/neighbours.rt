@@ -1,12 +1,14 @@
 //! What a member's view says, and what stands at its door.
-ghost use Rattle.std.specs.Prelude.{ℕ, ◌≡◌, ◌<◌, ◌≤◌, ◌&&◌, suc, ◌∷◌, true, not, nat_eq, nat_le, length, position, IfSome, slice_index_or};
+ghost use Rattle.std.specs.Prelude.{ℕ, ◌≡◌, ◌<◌, ◌≤◌, ◌&&◌, suc, ◌∷◌, true, not, nat_eq, nat_le, length, position};
+ghost use Rattle.std.specs.Prelude.{IfSome, slice_index_or};
 ghost use Rattle.ring_world.specs.declared.phase.Phase.TheVariants as phase;
 ghost use Rattle.group_view.specs.View.{entry_in};
 ghost use Rattle.group_view.specs.Ring.{is_in};
 ghost use Rattle.group_view.specs.Since.{no_group};
 ghost use Rattle.ring_world.specs.View.{ids, is_live as lives_in, left_of as the_left, right_of as the_right};
 ghost use Rattle.ring_world.specs.Machine.{member_at, view_at, is_kept_of, newest as the_newest, runs as runs_at};
-ghost use Rattle.ring_world.specs.Event.{left_neighbour as the_left_neighbour, since as the_since, is_neighbour as neighbours, at_door as the_door};
+ghost use Rattle.ring_world.specs.Event.{left_neighbour as the_left_neighbour, since as the_since};
+ghost use Rattle.ring_world.specs.Event.{is_neighbour as neighbours, at_door as the_door};
 ghost use Rattle.ring_world.specs.Placed.{IsPlaced};
 ghost use Rattle.ring_world.specs.Shows.{world_of, link_of, stands_at_door};
 

@@ -1,10 +1,12 @@
 //! A member reads a view, and sends to its right neighbour in it.
-ghost use Rattle.std.specs.Prelude.{◌≡◌, ◌<◌, ◌≤◌, ◌++◌, ◌∷◌, [], suc, length, map, nat_eq, Option, Some, None, vec_len, vec_capacity, OnOk, OnErr, IfSome};
+ghost use Rattle.std.specs.Prelude.{◌≡◌, ◌<◌, ◌≤◌, ◌++◌, ◌∷◌, [], suc, length, map, nat_eq, Option, Some, None};
+ghost use Rattle.std.specs.Prelude.{vec_len, vec_capacity, OnOk, OnErr, IfSome};
 ghost use Rattle.ring_world.specs.declared.phase.Phase.TheVariants as phase;
 ghost use Rattle.ring_world.specs.declared.phase.Ending.TheVariants as ending;
 ghost use Rattle.ring_world.specs.View.{right_of};
 ghost use Rattle.ring_world.specs.Machine.{member_at, link_at, view_at, newest as the_newest, is_kept as the_kept};
-ghost use Rattle.ring_world.specs.Step.{look_at, kept_current as the_kept_current, moved_to, end_out, open_to, opened_link};
+ghost use Rattle.ring_world.specs.Step.{look_at, kept_current as the_kept_current, moved_to, end_out, open_to};
+ghost use Rattle.ring_world.specs.Step.{opened_link};
 ghost use Rattle.ring_world.specs.Event.{refreshed};
 ghost use Rattle.ring_world.specs.Placed.{IsPlaced};
 ghost use Rattle.ring_world.specs.Shows.{world_of, link_of, link_opened, sends_to as the_sends_to};

@@ -1,5 +1,6 @@
 //! A member takes the oldest packet from the link that it takes from.
-ghost use Rattle.std.specs.Prelude.{◌≡◌, ◌<◌, ◌≤◌, ◌+◌, ◌∷◌, suc, false, length, map, slice_set, slice_index_or, IfOk, OnOk, OnErr};
+ghost use Rattle.std.specs.Prelude.{◌≡◌, ◌<◌, ◌≤◌, ◌+◌, ◌∷◌, suc, false, length, map, slice_set, slice_index_or};
+ghost use Rattle.std.specs.Prelude.{IfOk, OnOk, OnErr};
 ghost use Rattle.std.specs.List.{range_with_len};
 ghost use Rattle.ring_world.specs.Refusal.{is_empty};
 ghost use Rattle.ring_world.specs.declared.phase.Phase.TheVariants as phase;
@@ -7,7 +8,8 @@ ghost use Rattle.ring_world.specs.Machine.{member_at, link_at, no_member, row_at
 ghost use Rattle.ring_world.specs.Walk.{oldest};
 ghost use Rattle.ring_world.specs.Step.{is_owned as owned_is, brought, taken, popped, take_from};
 ghost use Rattle.ring_world.specs.Placed.{IsPlaced};
-ghost use Rattle.ring_world.specs.Shows.{world_of, member_of, member_in, link_of, packet_of, news_of as the_news, news_at};
+ghost use Rattle.ring_world.specs.Shows.{world_of, member_of, member_in, link_of, packet_of, news_of as the_news};
+ghost use Rattle.ring_world.specs.Shows.{news_at};
 
 use crate::log::messages_between;
 use crate::neighbours::{id_at, view_of};

@@ -1,7 +1,7 @@
 //! Small rings, played from texts, in which each line is an event or a question: `cast a BODY`, `put a`, `take a`,
-//! `take_end a`, `gain a`, `stop a`, `mark a DEAD`, `refresh a VERSION`, `pick a`; `view`, `quiet`, `member a`, `state a`,
-//! `counts a`, `walk a`, `heard BY OF`. Behind its arrow stands the answer that the rules of the ring want. An event that
-//! has no arrow happens.
+//! `take_end a`, `gain a`, `stop a`, `mark a DEAD`, `refresh a VERSION`, `pick a`; `view`, `quiet`, `member a`,
+//! `state a`, `counts a`, `walk a`, `heard BY OF`. Behind its arrow stands the answer that the rules of the ring
+//! want. An event that has no arrow happens.
 mod answers;
 mod deaths;
 mod events;

@@ -1,13 +1,19 @@
 //! The walk of an origin round the ring.
-ghost use Rattle.std.specs.Prelude.{◌≡◌, ◌<◌, ◌≤◌, ◌+◌, ◌++◌, ◌∷◌, [], suc, true, false, ◌&&◌, ◌||◌, not, nat_eq, nat_le, length, map, reverse, take, drop, position, Option, Some, None, option_map, IfSome, IfNone, IfOk, OnOk, All};
+ghost use Rattle.std.specs.Prelude.{◌≡◌, ◌<◌, ◌≤◌, ◌+◌, ◌++◌, ◌∷◌, [], suc, true, false, ◌&&◌, ◌||◌, not, nat_eq};
+ghost use Rattle.std.specs.Prelude.{nat_le, length, map, reverse, take, drop, position, Option, Some, None};
+ghost use Rattle.std.specs.Prelude.{option_map, IfSome, IfNone, IfOk, OnOk, All};
 ghost use Rattle.std.specs.List.{filter, flat_map};
 ghost use Rattle.group_view.specs.Ring.{is_in, rotated};
 ghost use Rattle.group_view.specs.View.{ids as ids_of};
 ghost use Rattle.group_view.specs.Parts.{place_of as the_place};
 ghost use Rattle.ring_world.specs.View.{ids, between};
-ghost use Rattle.ring_world.specs.Machine.{numbers_at as the_numbers, row_at, member_at, link_at, view_at, runs as runs_at, newest as the_newest, is_waiting, ring as ring_ids};
+ghost use Rattle.ring_world.specs.Machine.{numbers_at as the_numbers, row_at, member_at, link_at, view_at};
+ghost use Rattle.ring_world.specs.Machine.{runs as runs_at, newest as the_newest, is_waiting, ring as ring_ids};
 ghost use Rattle.ring_world.specs.Walk.{number as the_number, oldest as the_oldest};
-ghost use Rattle.ring_world.specs.OpenLinks.{is_late as late_is, is_open as open_is, passes as the_test, is_place as place_is, packets_of as the_packets, round_trip, running_on as all_running_on, owner as the_owner, the_walk, walk_of as the_walk_of, walk_named};
+ghost use Rattle.ring_world.specs.OpenLinks.{is_late as late_is, is_open as open_is, passes as the_test};
+ghost use Rattle.ring_world.specs.OpenLinks.{is_place as place_is, packets_of as the_packets, round_trip};
+ghost use Rattle.ring_world.specs.OpenLinks.{running_on as all_running_on, owner as the_owner, the_walk};
+ghost use Rattle.ring_world.specs.OpenLinks.{walk_of as the_walk_of, walk_named};
 ghost use Rattle.ring_world.specs.Event.{id_of as the_id};
 ghost use Rattle.ring_world.specs.Placed.{IsPlaced};
 ghost use Rattle.ring_world.specs.declared.walk.Part.TheVariants as part;
@@ -282,7 +288,8 @@ fn push_stops(
     requires within { All (λ place. place < length ring.now.seats.items) further.now }
     requires running { All (λ place. runs_at (world_of ring.now) (suc place) ≡ true) further.now }
     ensures { OnOk result (walk.new.items
-        ≡ walk.old.items ++ flat_map (λ place. stop_at round part.Every (world_of ring.now) origin (suc place)) further.now) }
+        ≡ walk.old.items ++ flat_map (λ place. stop_at round part.Every (world_of ring.now) origin (suc place))
+        further.now) }
 {
     for place in further {
         push_stop(walk, ring, round, Part::Every, origin, *place)?;
@@ -418,7 +425,8 @@ fn push_rounds(
     requires within { All (λ place. place < length ring.now.seats.items) stops.now }
     requires running { All (λ place. runs_at (world_of ring.now) (suc place) ≡ true) stops.now }
     ensures { OnOk result (walk.new.items
-        ≡ walk.old.items ++ (round_trip (reads kind.Got) (reads_row kind.Got) (world_of ring.now) origin (map suc stops.now)
+        ≡ walk.old.items ++ (round_trip (reads kind.Got) (reads_row kind.Got) (world_of ring.now) origin
+        (map suc stops.now)
         ++ (round_trip (reads kind.Forgot) (reads_row kind.Forgot) (world_of ring.now) origin (map suc stops.now)
         ++ (row_at (member_at (world_of ring.now) (suc owner)) origin).retired ∷ []))) }
 {

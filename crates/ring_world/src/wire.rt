@@ -1,12 +1,14 @@
 //! A link of the machine.
-ghost use Rattle.std.specs.Prelude.{◌≡◌, ◌<◌, ◌+◌, ◌&&◌, false, not, is_some, length, map, slice_index_or, IfOk, OnOk, OnErr, vec_len, vec_capacity};
+ghost use Rattle.std.specs.Prelude.{◌≡◌, ◌<◌, ◌+◌, ◌&&◌, false, not, is_some, length, map, slice_index_or, IfOk};
+ghost use Rattle.std.specs.Prelude.{OnOk, OnErr, vec_len, vec_capacity};
 ghost use Rattle.std.specs.List.{range_with_len};
 ghost use Rattle.credit_flow.specs.Credit.{is_blocked as blocked_is};
 ghost use Rattle.ring_world.specs.Rows.{no_numbers, next_numbers as the_next_numbers, is_sent as sent_is};
 ghost use Rattle.ring_world.specs.Refusal.{is_empty as empty_is};
 ghost use Rattle.ring_world.specs.Machine.{row_at, numbers_at as the_numbers};
 ghost use Rattle.ring_world.specs.Walk.{oldest as the_oldest};
-ghost use Rattle.ring_world.specs.Step.{next_packet as the_next_packet, next_lines, pushed, popped, finished, ended as is_ended};
+ghost use Rattle.ring_world.specs.Step.{next_packet as the_next_packet, next_lines, pushed, popped, finished};
+ghost use Rattle.ring_world.specs.Step.{ended as is_ended};
 ghost use Rattle.ring_world.specs.Event.{has_nothing_new as nothing_is_new, holds_nothing as nothing_is_held};
 ghost use Rattle.ring_world.specs.Shows.{member_of, link_of, packet_of, gained_on, link_opened, link_at_first};
 

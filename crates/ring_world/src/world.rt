@@ -1,5 +1,6 @@
 //! The machine.
-ghost use Rattle.std.specs.Prelude.{◌≡◌, ◌↔◌, IsTrue, Some, None, Result, Ok, Err, take, IsSome, IfOk, IfErr, OnOk, OnErr};
+ghost use Rattle.std.specs.Prelude.{◌≡◌, ◌↔◌, IsTrue, Some, None, Result, Ok, Err, take, IsSome, IfOk, IfErr, OnOk};
+ghost use Rattle.std.specs.Prelude.{OnErr};
 ghost use Rattle.ring_names.specs.declared.reason.Reason.{Reason};
 ghost use Rattle.ring_world.specs.Refusal.{answer_of};
 ghost use Rattle.group_view.specs.Change.{AreOpeningNames};
@@ -83,10 +84,10 @@ impl World {
         newest_view(&self.ring)
     }
 
-    /// The walk of an origin round the ring, from its owner on: what the early packets to the owner, the owner,
-    /// and each further running member with the packets open to it say that they got, and the late packets; the
-    /// same of what was forgotten; and how much the owner has retired. It is empty where every member has stopped, and for a name
-    /// that nobody has.
+    /// The walk of an origin round the ring, from its owner on: what the early packets to the owner, the owner, and
+    /// each further running member with the packets open to it say that they got, and the late packets; the same of
+    /// what was forgotten; and how much the owner has retired. It is empty where every member has stopped, and for a
+    /// name that nobody has.
     #[tactic(auto, using(crate::proofs::Running::running_placed, crate::proofs::HeldLaws::named_falls))]
     pub fn walk(&self, of: &Name) -> Result<Vec<u64>, OutOfMemory>
         ensures walk { IfOk result (λ walk. walk.items ≡ walk_named self.now (id_of self.now of.now)) }

@@ -7,7 +7,8 @@ ghost use Rattle.ringplay.specs.declared.word.Mode.{Mode};
 ghost use Rattle.ringplay.specs.Words.{Asks, AsksNothing};
 ghost use Rattle.ring_script.specs.Reading.{IsRight, IsFirstFault};
 ghost use Rattle.ringplay.specs.Due.{IsLineDue, IsDueToInput, IsWritten};
-ghost use Rattle.ringplay.specs.Call.{Answers, IsDue, IsUnlessFailed, IsWithin, IsTooLarge, IsRefused, WasDone, grammar_of, fault_line, status_of};
+ghost use Rattle.ringplay.specs.Call.{Answers, IsDue, IsUnlessFailed, IsWithin, IsTooLarge, IsRefused, WasDone};
+ghost use Rattle.ringplay.specs.Call.{grammar_of, fault_line, status_of};
 
 use crate::play::{Played, play};
 use crate::step::step;
@@ -140,8 +141,10 @@ fn done<T: Threads, G: Gate>(
     bytes: Vec<u8>,
     gate: &G,
 ) -> Result<Played, ScriptFault>
-    ensures ok { IfOk result (λ played. WasDone mode bytes.items played.journal.items played.text.items (Some played.cluster)) }
-    ensures fault { (line kind : ℕ) → result ≡ Err (ScriptFault.At line kind) → IsFirstFault (grammar_of mode) bytes.items line kind }
+    ensures ok { IfOk result (λ played. WasDone mode bytes.items played.journal.items played.text.items
+        (Some played.cluster)) }
+    ensures fault { (line kind : ℕ) → result ≡ Err (ScriptFault.At line kind)
+        → IsFirstFault (grammar_of mode) bytes.items line kind }
 {
     match mode {
         Mode::Play => done_by_script(threads, alloc, bytes, gate),
@@ -155,8 +158,10 @@ fn done_by_script<T: Threads, G: Gate>(
     bytes: Vec<u8>,
     gate: &G,
 ) -> Result<Played, ScriptFault>
-    ensures ok { IfOk result (λ played. WasDone Mode.Play bytes.items played.journal.items played.text.items (Some played.cluster)) }
-    ensures fault { (line kind : ℕ) → result ≡ Err (ScriptFault.At line kind) → IsFirstFault (grammar_of Mode.Play) bytes.items line kind }
+    ensures ok { IfOk result (λ played. WasDone Mode.Play bytes.items played.journal.items played.text.items
+        (Some played.cluster)) }
+    ensures fault { (line kind : ℕ) → result ≡ Err (ScriptFault.At line kind)
+        → IsFirstFault (grammar_of Mode.Play) bytes.items line kind }
 {
     let script = read_script(alloc, &bytes)?;
     drop(bytes);
@@ -167,8 +172,10 @@ fn done_by_script<T: Threads, G: Gate>(
 }
 
 fn done_by_steps(alloc: Global, bytes: Vec<u8>) -> Result<Played, ScriptFault>
-    ensures ok { IfOk result (λ played. WasDone Mode.Step bytes.items played.journal.items played.text.items (Some played.cluster)) }
-    ensures fault { (line kind : ℕ) → result ≡ Err (ScriptFault.At line kind) → IsFirstFault (grammar_of Mode.Step) bytes.items line kind }
+    ensures ok { IfOk result (λ played. WasDone Mode.Step bytes.items played.journal.items played.text.items
+        (Some played.cluster)) }
+    ensures fault { (line kind : ℕ) → result ≡ Err (ScriptFault.At line kind)
+        → IsFirstFault (grammar_of Mode.Step) bytes.items line kind }
 {
     let steps = read_steps(alloc, &bytes)?;
     drop(bytes);
@@ -212,10 +219,10 @@ fn due_for<T: Threads, S: Source, G: Gate>(
     }
 }
 
-/// Does what the words ask for: `play` alone plays the script that the source gives, and writes the report of the ring's
-/// last state to the sink; `step` alone tries the events of the step file that it gives, one by one, and writes a line for
-/// each that is refused, and then the report. The whole text stands before its first byte is written. The cluster runs its
-/// rounds with the thread handle and the gate.
+/// Does what the words ask for: `play` alone plays the script that the source gives, and writes the report of the
+/// ring's last state to the sink; `step` alone tries the events of the step file that it gives, one by one, and
+/// writes a line for each that is refused, and then the report. The whole text stands before its first byte is
+/// written. The cluster runs its rounds with the thread handle and the gate.
 pub fn ring_call<T: Threads, S: Source, K: Sink, G: Gate>(
     threads: &T,
     alloc: Global,
@@ -228,7 +235,8 @@ pub fn ring_call<T: Threads, S: Source, K: Sink, G: Gate>(
 
     // What is answered, why, and what was written; and the cluster in which it happened.
     ensures answers { Answers words.now (S.remaining source.old) (Rose (S.faults source.old) (S.faults source.new))
-        (Gains K.may_lose_track (K.contents sink.old) (K.contents sink.new)) (Rose (K.faults sink.old) (K.faults sink.new)) result }
+        (Gains K.may_lose_track (K.contents sink.old) (K.contents sink.new))
+        (Rose (K.faults sink.old) (K.faults sink.new)) result }
 
     // Refused words leave the source unread, and what was done was read to its end.
     ensures unread { AsksNothing words.now → source.new ≡ source.old }
@@ -240,15 +248,20 @@ pub fn ring_call<T: Threads, S: Source, K: Sink, G: Gate>(
     ensures read_fault_only { result.cause ≡ Cause.ReadFault → Rose (S.faults source.old) (S.faults source.new) }
     ensures write_fault_only { result.cause ≡ Cause.WriteFault → Rose (K.faults sink.old) (K.faults sink.new) }
     ensures too_large_only { result.cause ≡ Cause.TooLarge → IfSome (S.remaining source.old) IsTooLarge }
-    ensures too_large { (mode : Mode) (all : List ℕ) → Asks words.now mode → S.remaining source.old ≡ Some all → IsTooLarge all
+    ensures too_large { (mode : Mode) (all : List ℕ) → Asks words.now mode → S.remaining source.old ≡ Some all
+        → IsTooLarge all
         → (Rose (S.faults source.old) (S.faults source.new) → ⊥) → IsUnlessFailed result.cause Cause.TooLarge }
-    ensures script_only { (line kind : ℕ) → result.cause ≡ Cause.Script line kind → IsRefused words.now (S.remaining source.old) line kind }
-    ensures script { (mode : Mode) (all : List ℕ) (line kind : ℕ) → Asks words.now mode → S.remaining source.old ≡ Some all → IsWithin all
+    ensures script_only { (line kind : ℕ) → result.cause ≡ Cause.Script line kind
+        → IsRefused words.now (S.remaining source.old) line kind }
+    ensures script { (mode : Mode) (all : List ℕ) (line kind : ℕ) → Asks words.now mode → S.remaining source.old
+        ≡ Some all → IsWithin all
         → IsFirstFault (grammar_of mode) all line kind
-        → (Rose (S.faults source.old) (S.faults source.new) → ⊥) → IsUnlessFailed result.cause (Cause.Script line kind) }
+        → (Rose (S.faults source.old) (S.faults source.new) → ⊥)
+        → IsUnlessFailed result.cause (Cause.Script line kind) }
 
     // With words and input in the grammar and within the limits, and no fault, it is done.
-    ensures complete { (mode : Mode) (all : List ℕ) → Asks words.now mode → S.remaining source.old ≡ Some all → IsWithin all
+    ensures complete { (mode : Mode) (all : List ℕ) → Asks words.now mode → S.remaining source.old ≡ Some all
+        → IsWithin all
         → IsRight (grammar_of mode) all
         → (Rose (S.faults source.old) (S.faults source.new) → ⊥) → (Rose (K.faults sink.old) (K.faults sink.new) → ⊥)
         → (result.cause ≡ Cause.Done) ⊎ (result.cause ≡ Cause.OutOfMemory) }
@@ -262,7 +275,8 @@ fn written<K: Sink>(sink: &mut K, due: Due) -> Ended
     ensures status { result.status ≡ status_of result.cause }
     ensures journal { result.journal ≡ due.journal.items }
     ensures cluster { result.cluster ≡ due.cluster }
-    ensures written { IsWritten due (Gains K.may_lose_track (K.contents sink.old) (K.contents sink.new)) (Rose (K.faults sink.old) (K.faults sink.new)) result }
+    ensures written { IsWritten due (Gains K.may_lose_track (K.contents sink.old) (K.contents sink.new))
+        (Rose (K.faults sink.old) (K.faults sink.new)) result }
 {
     let len = due.text.len() as u64;
     let cause = due.cause;

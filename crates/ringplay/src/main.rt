@@ -1,6 +1,6 @@
 //! Plays a ring of members that multicast to one another as RabbitMQ's `gm` does, by a script or event by event:
-//! reads that from standard input and writes the report of the ring's last state to standard output. Begin at `call`, whose
-//! `ring_call` does all that the program does, and at specs/Call.antt for what it answers.
+//! reads that from standard input and writes the report of the ring's last state to standard output. Begin at `call`,
+//! whose `ring_call` does all that the program does, and at specs/Call.antt for what it answers.
 #![tactic(auto)]
 
 mod call;

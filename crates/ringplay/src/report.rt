@@ -1,5 +1,6 @@
 //! The report: the ring, and of each member what it has published and what it has received.
-ghost use Rattle.std.specs.Prelude.{◌≡◌, ℕ, ◌+◌, ◌-◌, ◌<◌, ◌≤◌, ◌++◌, IfOk, OnOk, MatchOption, codes, count_by, length, nat_eq, take};
+ghost use Rattle.std.specs.Prelude.{◌≡◌, ℕ, ◌+◌, ◌-◌, ◌<◌, ◌≤◌, ◌++◌, IfOk, OnOk, MatchOption, codes, count_by};
+ghost use Rattle.std.specs.Prelude.{length, nat_eq, take};
 ghost use Rattle.std.specs.Fmt.{decimal};
 ghost use Rattle.std.specs.List.{flat_map};
 ghost use Rattle.group_view.specs.View.{entry_in, no_entry};
@@ -11,7 +12,9 @@ ghost use Rattle.gm_member.specs.Held.{known_at};
 ghost use Rattle.gm_member.specs.Shown.{held_of};
 ghost use Rattle.gm_member.specs.Stands.{held_in};
 ghost use Rattle.ring_cluster.specs.Seen.{state_of};
-ghost use Rattle.ringplay.specs.Report.{report_of, newline, ring_line, master_name, state_text as the_state_text, up_text as the_up_text, stopped_text as the_stopped_text, member_line, counts_lines, heard_line, heard_lines, while_up, lines_of_member};
+ghost use Rattle.ringplay.specs.Report.{report_of, newline, ring_line, master_name, state_text as the_state_text};
+ghost use Rattle.ringplay.specs.Report.{up_text as the_up_text, stopped_text as the_stopped_text, member_line};
+ghost use Rattle.ringplay.specs.Report.{counts_lines, heard_line, heard_lines, while_up, lines_of_member};
 
 use group_view::{Entry, Mark, View};
 use ring_cluster::{Cluster, Node};
@@ -83,7 +86,8 @@ fn has_id(entry: &Entry, id: MemberId) -> bool
 
 /// The entry of an id.
 fn entry_of(entries: &[Entry], id: MemberId) -> Option<&Entry>
-    ensures { MatchOption result (entry_in entries.now id.0 ≡ no_entry) (λ entry. entry.now ≡ entry_in entries.now id.0) }
+    ensures { MatchOption result (entry_in entries.now id.0 ≡ no_entry) (λ entry. entry.now
+        ≡ entry_in entries.now id.0) }
 {
     for entry in entries {
         if has_id(entry, id) {
@@ -164,7 +168,8 @@ fn push_member(
 
 fn push_state(out: &mut Vec<u8>, member: &Node, view: &View) -> Result<(), OutOfMemory>
     ensures { OnOk result (out.new.items ≡ out.old.items
-        ++ member_line (held_of member.now).name (held_of member.now).phase (entry_in (view.now).entries (held_of member.now).id)) }
+        ++ member_line (held_of member.now).name (held_of member.now).phase
+        (entry_in (view.now).entries (held_of member.now).id)) }
 {
     out.extend_from_slice(b"member ")?;
     out.extend_from_slice(member.name().bytes())?;
@@ -282,7 +287,8 @@ fn push_count(
     published: u64,
     confirmed: u64,
 ) -> Result<(), OutOfMemory>
-    ensures { OnOk result (out.new.items ≡ out.old.items ++ (kind.now ++ codes " " ++ decimal published ++ codes " confirmed " ++ decimal confirmed ++ newline)) }
+    ensures { OnOk result (out.new.items ≡ out.old.items
+        ++ (kind.now ++ codes " " ++ decimal published ++ codes " confirmed " ++ decimal confirmed ++ newline)) }
 {
     let line = format!(in alloc; "{kind} {published} confirmed {confirmed}\n")?;
     out.extend_from_slice(line.as_bytes())?;
@@ -299,7 +305,8 @@ fn push_heard_while_up(
     requires count { count ≡ length (cluster.now).names }
     requires within { place < count }
     ensures { OnOk result (out.new.items ≡ out.old.items
-        ++ while_up (the_member (state_of cluster.now) (place + 1)).phase (heard_lines (state_of cluster.now) (place + 1))) }
+        ++ while_up (the_member (state_of cluster.now) (place + 1)).phase
+        (heard_lines (state_of cluster.now) (place + 1))) }
 {
     match member_at(cluster, place).phase() {
         Phase::Up => push_heard(out, cluster, count, place),

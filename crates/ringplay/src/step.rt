@@ -5,7 +5,9 @@ ghost use Rattle.ring_script.specs.Reading.{CanOpen};
 ghost use Rattle.ring_world.specs.Event.{refusal};
 ghost use Rattle.ring_cluster.specs.Seen.{state_of};
 ghost use Rattle.ringplay.specs.Report.{newline};
-ghost use Rattle.ringplay.specs.Step.{happens, enabled_of, kept_text as the_kept_text, missing_text as the_missing_text, refused_line, if_refused, refused_lines, HasStepped};
+ghost use Rattle.ringplay.specs.Step.{happens, enabled_of, kept_text as the_kept_text};
+ghost use Rattle.ringplay.specs.Step.{missing_text as the_missing_text, refused_line, if_refused, refused_lines};
+ghost use Rattle.ringplay.specs.Step.{HasStepped};
 ghost use Rattle.ringplay.specs.Call.{AreSteppedBy};
 
 use crate::play::Played;
@@ -16,8 +18,8 @@ use ring_script::Steps;
 use ring_world::{Event, Refused};
 use std::alloc::Global;
 
-/// Takes the steps: each line's event is tried among the members of a cluster, where the earlier ones leave it. A line that
-/// is refused changes nothing and is told, and the next one follows.
+/// Takes the steps: each line's event is tried among the members of a cluster, where the earlier ones leave it. A
+/// line that is refused changes nothing and is told, and the next one follows.
 pub(crate) fn step(alloc: Global, steps: Steps) -> Result<Played, OutOfMemory>
     requires { CanOpen steps.members }
     ensures { IfOk result (λ played. AreSteppedBy steps played.journal.items played.text.items (Some played.cluster)) }
@@ -66,7 +68,8 @@ fn try_line(
     text: &mut Vec<u8>,
 ) -> Result<(), OutOfMemory>
     ensures stepped { OnOk result (HasStepped cluster.old cluster.new (happens (state_of cluster.old) event.now)) }
-    ensures told { OnOk result (text.new.items ≡ text.old.items ++ if_refused number (refusal (state_of cluster.old) event.now)) }
+    ensures told { OnOk result (text.new.items ≡ text.old.items
+        ++ if_refused number (refusal (state_of cluster.old) event.now)) }
 {
     match cluster.step(event) {
         Ok(()) => Ok(()),

@@ -1,5 +1,6 @@
-//! Inputs, and what is written of them, byte for byte, and how each fault ends. In a table each row begins with `====` and
-//! its title; then come the words of the command line, the input, and behind `=>` the cause, the status and what is written.
+//! Inputs, and what is written of them, byte for byte, and how each fault ends. In a table each row begins with
+//! `====` and its title; then come the words of the command line, the input, and behind `=>` the cause, the status
+//! and what is written.
 ghost use Rattle.std.specs.Prelude.{◌<◌};
 
 use crate::call::{Cause, Ended, ring_call};
@@ -785,7 +786,8 @@ cast fox hello
 script 3 57
 ";
 
-/// The streams of a call: how many bytes they move at once, and the calls of the source and of the sink that fail, or 0.
+/// The streams of a call: how many bytes they move at once, and the calls of the source and of the sink that fail, or
+/// 0.
 #[derive(Clone, Copy)]
 struct Streams {
     most: usize,
