@@ -544,20 +544,33 @@ fn show(rt: &impl Abort, alloc: Global, node: &mut Node, line: &str) -> Result<S
         ("take", _) => take(rt, alloc, node),
         ("take_end", _) => take_end(rt, alloc, node),
         ("put", _) => put(rt, alloc, node),
-        ("sent", text) => be_sent(rt, alloc, node, text),
-        ("ended", _) => be_ended(rt, alloc, node),
-        ("granted", _) => granted(alloc, node),
         ("make_room", links) => make_room(alloc, node, links),
         ("ask", what) => told(alloc, node.ask(question(what)?)),
         ("denied", what) => be_denied(alloc, node, what),
         ("collect", link) => collect(alloc, node, link),
+        (what, rest) => show_ends(rt, alloc, node, what, rest),
+    }
+}
+
+/// What it shows when something is done to the ends of its links.
+fn show_ends(
+    rt: &impl Abort,
+    alloc: Global,
+    node: &mut Node,
+    what: &str,
+    rest: &str,
+) -> Result<String, Fail> {
+    match what {
+        "sent" => be_sent(rt, alloc, node, rest),
+        "ended" => be_ended(rt, alloc, node),
+        "granted" => granted(alloc, node),
         // The end of the link from which it takes is lent, and given back.
-        ("lend_and_give", _) => seen(alloc, &lend_and_give(node)),
+        "lend_and_give" => seen(alloc, &lend_and_give(node)),
         // The end at that place is lent, and stays away.
-        ("lend", place) => seen(alloc, &node.lend_in(place.parse::<u32>()?).is_some()),
-        ("old_out", _) => seen(alloc, &node.old_out().map(|(name, _)| name)),
-        ("old_in", _) => seen(alloc, &node.old_in().map(|(name, _)| name)),
-        (what, rest) => read(alloc, node, what, rest),
+        "lend" => seen(alloc, &node.lend_in(rest.parse::<u32>()?).is_some()),
+        "old_out" => seen(alloc, &node.old_out().map(|(name, _)| name)),
+        "old_in" => seen(alloc, &node.old_in().map(|(name, _)| name)),
+        _ => read(alloc, node, what, rest),
     }
 }
 
