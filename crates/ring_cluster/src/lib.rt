@@ -16,8 +16,6 @@ mod meeting;
 mod node;
 mod opening;
 mod stepping;
-#[cfg(test)]
-mod tests;
 mod undelivered;
 
 pub use agenda::Task;

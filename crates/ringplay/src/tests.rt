@@ -3,6 +3,8 @@
 //! and what is written.
 ghost use Rattle.std.specs.Prelude.{◌<◌};
 
+mod cluster;
+
 use crate::call::{Cause, Ended, ring_call};
 use crate::word::Word;
 use ring_io::{MemorySink, MemorySource, ShutGate};

@@ -1,6 +1,6 @@
-//! Small rings of which some stop, also where an allocation fails: tables of what is asked of them, with what is wanted
-//! to be seen then. What changes a ring is tried once more where it wants memory, but for a plain round.
-use crate::Cluster;
+//! Clusters of which some members stop, also where an allocation fails: tables of what is asked of them, with what is
+//! wanted to be seen then. What changes a ring is tried once more where it wants memory, but for a plain round.
+use ring_cluster::Cluster;
 use ring_io::ShutGate;
 use ring_names::{Body, MemberId, Message, Name, OutOfMemory};
 use ring_script::{Command, ScriptFault, Steps, read_steps};
@@ -44,13 +44,28 @@ fn steps(alloc: Global, text: &str) -> Result<Steps, ScriptFault> {
     }
 }
 
-/// What is answered of an event, which is given again where memory was wanted and it hasn't happened.
-fn stepped(cluster: &mut Cluster, event: &Event) -> Result<(), Refused> {
-    let before = cluster.happened();
+/// How many events have happened, counted again where memory was wanted.
+fn happened(cluster: &Cluster) -> Result<usize, OutOfMemory> {
+    match cluster.journal() {
+        Ok(journal) => Ok(journal.len()),
+        Err(OutOfMemory) => Ok(cluster.journal()?.len()),
+    }
+}
+
+/// An event happens where the ring lets it.
+fn step(cluster: &mut Cluster, event: &Event) -> Result<(), OutOfMemory> {
     match cluster.step(event) {
-        Err(Refused::OutOfMemory) if cluster.happened() == before => cluster.step(event),
-        Err(Refused::OutOfMemory) => Ok(()),
-        answer => answer,
+        Err(Refused::OutOfMemory) => Err(OutOfMemory),
+        _ => Ok(()),
+    }
+}
+
+/// The same, again where memory was wanted and it hasn't happened.
+fn step_again(cluster: &mut Cluster, event: &Event) -> Result<(), OutOfMemory> {
+    let before = happened(cluster)?;
+    match step(cluster, event) {
+        Err(OutOfMemory) if happened(cluster)? == before => step(cluster, event),
+        _ => Ok(()),
     }
 }
 
@@ -59,10 +74,7 @@ fn attempt(alloc: Global, cluster: &mut Cluster, text: &str, times: u32) -> Resu
     let steps = steps(alloc, text)?;
     for _time in 0..times {
         for (_number, event) in steps.lines.as_slice() {
-            match stepped(cluster, event) {
-                Ok(()) | Err(Refused::NotEnabled(_)) => {}
-                Err(Refused::OutOfMemory) => Err(OutOfMemory)?,
-            }
+            step_again(cluster, event)?;
         }
     }
     Ok(())
@@ -167,7 +179,7 @@ fn is_so<R: Threads + Abort + AllocGlobal>(
         Line::Heard(by, of, bodies) => return Ok(has_heard(cluster, by, of, bodies)),
         Line::Confirmed(by, count) => return Ok(confirmed(cluster, by) == count),
         Line::View(version) => return Ok(cluster.view().version == version),
-        Line::Events(count) => return Ok(cluster.journal()?.len() == count),
+        Line::Events(count) => return Ok(happened(cluster)? == count),
         Line::Rounds(count) => return Ok(cluster.rounds() == count),
     }
     Ok(true)
