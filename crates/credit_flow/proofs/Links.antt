@@ -4,11 +4,15 @@ use Rattle.std.proofs.lemmas.Bool.Decides.{nat_tests}
 use Rattle.std.proofs.lemmas.Grind.{common_steps}
 use Rattle.credit_flow.specs.Link.{Link, Call, Send, Take, Hold, Release, Gain, CanCall, IsCalls, KeepsCredit, after, after_call, new_link, oldest}
 
+-- the sender's and the receiver's numbers are those with which the link was made
+pub record AreNumbers (initial more sender_initial receiver_initial receiver_more : ℕ) : Type 0 where
+  pub sender : sender_initial ≡ initial
+  pub receiver : receiver_initial ≡ initial
+  pub counts : receiver_more ≡ more
+
 -- the credit is kept, and so are the numbers of both ends
 pub record IsKept (initial more : ℕ) (l : Link) : Type 0 where
-  pub sender_initial : l.sender.initial ≡ initial
-  pub receiver_initial : l.receiver.initial ≡ initial
-  pub receiver_more : l.receiver.more ≡ more
+  pub numbers : AreNumbers initial more l.sender.initial l.receiver.initial l.receiver.more
   pub below : l.receiver.taken < more
   pub none : l.receiver.holding ≡ false → l.receiver.held ≡ 0
   pub kept : l.sender.credit + l.loads + l.receiver.taken + sum l.grants + l.receiver.held ≡ initial
@@ -26,9 +30,7 @@ is_held false held none some = absurd (omega (arith, none refl))
 -- an opening keeps it
 pub new_keeps : (initial more : ℕ) → 1 ≤ more → IsKept initial more (new_link initial more)
 new_keeps initial more positive = record {
-  sender_initial = refl;
-  receiver_initial = refl;
-  receiver_more = refl;
+  numbers = record { sender = refl; receiver = refl; counts = refl };
   below = positive;
   none = λ _. refl;
   kept = omega arith;
@@ -37,9 +39,7 @@ new_keeps initial more positive = record {
 -- and so does each call
 pub send_keeps : (initial more : ℕ) (l : Link) → CanCall l Send → IsKept initial more l → IsKept initial more (after_call l Send)
 send_keeps initial more l can h = record {
-  sender_initial = h.sender_initial;
-  receiver_initial = h.receiver_initial;
-  receiver_more = h.receiver_more;
+  numbers = h.numbers;
   below = h.below;
   none = h.none;
   kept = grind (arith, common_steps, h.kept);
@@ -47,19 +47,15 @@ send_keeps initial more l can h = record {
 
 pub take_keeps : (initial more : ℕ) (l : Link) → 1 ≤ more → CanCall l Take → IsKept initial more l → IsKept initial more (after_call l Take)
 take_keeps initial more l positive can h = record {
-  sender_initial = h.sender_initial;
-  receiver_initial = h.receiver_initial;
-  receiver_more = h.receiver_more;
+  numbers = h.numbers;
   below = grind (arith, common_steps, h.below);
   none = grind (arith, common_steps, h.none);
-  kept = grind (arith, common_steps, h.kept, h.none, h.receiver_more, h.receiver_initial);
+  kept = grind (arith, common_steps, h.kept, h.none, h.numbers.counts, h.numbers.receiver);
 }
 
 pub hold_keeps : (initial more : ℕ) (l : Link) → IsKept initial more l → IsKept initial more (after_call l Hold)
 hold_keeps initial more l h = record {
-  sender_initial = h.sender_initial;
-  receiver_initial = h.receiver_initial;
-  receiver_more = h.receiver_more;
+  numbers = h.numbers;
   below = h.below;
   none = grind arith;
   kept = h.kept;
@@ -67,9 +63,7 @@ hold_keeps initial more l h = record {
 
 pub release_keeps : (initial more : ℕ) (l : Link) → IsKept initial more l → IsKept initial more (after_call l Release)
 release_keeps initial more l h = record {
-  sender_initial = h.sender_initial;
-  receiver_initial = h.receiver_initial;
-  receiver_more = h.receiver_more;
+  numbers = h.numbers;
   below = h.below;
   none = λ _. refl;
   kept = grind (arith, common_steps, h.kept);
@@ -77,12 +71,10 @@ release_keeps initial more l h = record {
 
 pub gain_keeps : (initial more : ℕ) (l : Link) → CanCall l Gain → IsKept initial more l → IsKept initial more (after_call l Gain)
 gain_keeps initial more l can h = record {
-  sender_initial = h.sender_initial;
-  receiver_initial = h.receiver_initial;
-  receiver_more = h.receiver_more;
+  numbers = h.numbers;
   below = h.below;
   none = h.none;
-  kept = omega (arith, h.kept, h.sender_initial, sum-oldest l.grants);
+  kept = omega (arith, h.kept, h.numbers.sender, sum-oldest l.grants);
 }
 
 -- any call
@@ -105,8 +97,8 @@ kept_law initial more l covered h = record {
   kept = h.kept;
   few = omega (arith, h.kept);
   within = omega (arith, h.kept, sum-oldest l.grants);
-  whole = omega (arith, h.kept, h.sender_initial, sum-oldest l.grants);
-  held_whole = grind (arith, common_steps, h.kept, h.receiver_more);
+  whole = omega (arith, h.kept, h.numbers.sender, sum-oldest l.grants);
+  held_whole = grind (arith, common_steps, h.kept, h.numbers.counts);
   waits = λ blocked none empty.
       let spent : l.sender.credit ≡ 0 = grind (arith, nat_tests, blocked) in
       let held : 0 < l.receiver.held = omega (arith, h.kept, h.below, ap sum empty) in

@@ -1,5 +1,6 @@
 -- A member that is answered the newest view.
 use Rattle.std.proofs.Common.{◌≡◌, ℕ, ◌≤◌, Bool, true, false, nat_lt, None, refl, sym, ap, subst, ◌∙◌, arith}
+use Rattle.std.proofs.lemmas.Bool.{le-ltb}
 use Rattle.ring_names.specs.declared.reason.Reason.{Reason}
 use Rattle.ring_names.specs.declared.reason.Reason.TheVariants as reason
 use Rattle.group_view.specs.View.{Group}
@@ -34,9 +35,6 @@ answered_enabled h version up newer =
     ap (λ p. or_else (refuse_if (is_stopped p) reason.Stopped) (or_else (refuse_if (is_waiting p) reason.Waiting) (refuse_if (nat_lt version h.view.version) older))) up
     ∙ ap (λ b. refuse_if b older) newer
 
-not_older : (a b : ℕ) → b ≤ a → nat_lt a b ≡ false
-not_older a b l = grind arith
-
 -- the newest view is read as the ring's event
 pub answer_lifts : (h h' : Held) (v : Group) → h.phase ≡ Up → h' ≡ refreshed_held (answered_held h) v
     → WhereItStands (answered_held h) (λ w x. v ≡ view_at w (newest w) → StepsTo w x (event.Refresh h.name v.version) (with_own_link h v h'))
@@ -46,7 +44,7 @@ answer_lifts h h' v up e credit names events x are r some l s is =
     let numbered : v.version ≡ newest w = ap (λ (u : Group). u.version) is ∙ view_version w (newest w) fit.good (omega arith) in
     let within : (member_at w x).version ≤ newest w = fit.good.inv.is_ring.held x in
     let own : h.view.version ≡ (member_at w x).version = ap (λ (k : Held). k.view.version) s ∙ view_version w (member_at w x).version fit.good within in
-    let newer : nat_lt v.version h.view.version ≡ false = not_older v.version h.view.version (omega (arith, numbered, within, own)) in
+    let newer : nat_lt v.version h.view.version ≡ false = le-ltb v.version h.view.version (omega (arith, numbered, within, own)) in
     refresh_lifts reached_fit (answered_held h) h' v (answered_enabled h v.version up newer) e credit names events x are r some l s
     (omega (arith, numbered)) (is ∙ ap (view_at w) (sym numbered))
 

@@ -1,7 +1,7 @@
 -- What the calls of a member need of what it holds.
-use Rattle.std.proofs.Common.{◌≡◌, ◌<◌, Bool, true, false, List, Option, Some, None, refl, sym, subst, arith}
+use Rattle.std.proofs.Common.{◌≡◌, ◌⊎◌, ◌<◌, Bool, true, false, List, Option, Some, None, inl, inr, sym, subst, ◌∙◌, ⊎_elim, arith}
 use Rattle.std.proofs.lemmas.Bool.Decides.{nat_tests}
-use Rattle.std.specs.Prelude.{Result, Ok, Err, OnOk, OnErr, IfSome, IfNone, MatchOption}
+use Rattle.std.specs.Prelude.{Result, Ok, Err, OnOk, IfOk, IfNone, MatchOption}
 use Rattle.ring_names.specs.declared.reason.Reason.{Reason}
 use Rattle.ring_names.specs.declared.reason.Reason.TheVariants.{Stopped, Waiting, AwaitingAnswer, NoOutLink, NoCredit, NothingNew}
 use Rattle.credit_flow.specs.Credit.{is_blocked}
@@ -9,36 +9,48 @@ use Rattle.ring_world.specs.Rows.{Row}
 use Rattle.ring_world.specs.Refusal.{or_else, refuse_if}
 use Rattle.ring_world.specs.Machine.{is_waiting}
 use Rattle.ring_world.specs.Event.{is_stopped}
+use Rattle.ring_world.proofs.Refusals.{none_of}
+use Rattle.gm_member.specs.declared.fault.MemberFault.{MemberFault}
+use Rattle.gm_member.specs.declared.fault.MemberFault.TheVariants as faults
 use Rattle.gm_member.specs.Held.{Held, Outgoing, up_refused, on_some, put_refused, out_refused, has_nothing_new}
+use Rattle.gm_member.specs.Calls.{IsRefusal}
+use Rattle.gm_member.proofs.DoorParts.{up_refused_none}
 
 -- something may be put only where there is credit
-may_send_by : (blocked nothing : Bool) → or_else (refuse_if blocked NoCredit) (refuse_if nothing NothingNew) ≡ None → blocked ≡ false
-may_send_by true nothing e = cc
-may_send_by false nothing e = refl
-
 pub may_send : (rows : List Row) (o : Outgoing) → out_refused rows o ≡ None → 0 < o.credit.credit
 may_send rows o e =
-    let open_credit : is_blocked o.credit ≡ false = may_send_by (is_blocked o.credit) (has_nothing_new rows o) e in
+    let open_credit : is_blocked o.credit ≡ false = (none_of (is_blocked o.credit) NoCredit (refuse_if (has_nothing_new rows o) NothingNew) e).0 in
     grind (arith, nat_tests)
 
--- what follows from what holds where a call is done, or isn't
-pub on_ok_map : {A E : Type 0} {P Q : Type 0} (r : Result A E) → (P → Q) → OnOk r P → OnOk r Q
-on_ok_map (Ok a) f p = f p
-on_ok_map (Err e) f p = tt
+-- ---- what a call comes to
 
-pub on_err_map : {A E : Type 0} {P Q : Type 0} (r : Result A E) → (P → Q) → OnErr r P → OnErr r Q
-on_err_map (Ok a) f p = tt
-on_err_map (Err e) f p = f p
+-- what follows from two facts that hold where it is done
+pub on_ok_both : {A E P Q R : Type 0} (r : Result A E) → (P → Q → R) → OnOk r P → OnOk r Q → OnOk r R
+on_ok_both (Ok a) f p q = f p q
+on_ok_both (Err e) f p q = tt
+
+-- where the second is one of its value
+pub if_ok_both : {A E P : Type 0} {Q R : A → Type 0} (r : Result A E) → ((a : A) → P → Q a → R a) → OnOk r P → IfOk r Q → IfOk r R
+if_ok_both (Ok a) f p q = f a p q
+if_ok_both (Err e) f p q = tt
+
+-- why one failed that hands back what it was given
+pub handed_fault : {X : Type 0} (failing : Option Reason) (given : X) (e : X × MemberFault) → (e.0 ≡ given) × (((e.1 ≡ faults.OutOfMemory) × (failing ≡ None)) ⊎ IsRefusal failing e.1)
+    → (e.0 ≡ given) × ((e.1 ≡ faults.OutOfMemory) ⊎ IsRefusal failing e.1)
+handed_fault failing given e p = (p.0, ⊎_elim (λ (k : (e.1 ≡ faults.OutOfMemory) × (failing ≡ None)). inl k.0) (λ (k : IsRefusal failing e.1). inr k) p.1)
+
+-- and where memory was wanted, no condition fails
+pub handed_memory : {X : Type 0} (failing : Option Reason) (given : X) (e : X × MemberFault) → (e.0 ≡ given) × (((e.1 ≡ faults.OutOfMemory) × (failing ≡ None)) ⊎ IsRefusal failing e.1)
+    → e.1 ≡ faults.OutOfMemory → failing ≡ None
+handed_memory failing given e p memory =
+    ⊎_elim (λ (k : (e.1 ≡ faults.OutOfMemory) × (failing ≡ None)). k.1)
+    (λ (k : IsRefusal failing e.1). let clash : faults.OutOfMemory ≡ faults.Refused k.0 = sym memory ∙ k.1 in cc) p.1
 
 -- ---- conditions
 
--- the condition behind others that hold
-behind : (b : Bool) (r : Reason) (later : Option Reason) → or_else (refuse_if b r) later ≡ None → later ≡ None
-behind true r later e = cc
-behind false r later e = e
-
+-- the conditions behind others that hold
 pub up_later : (h : Held) (later : Option Reason) → up_refused h later ≡ None → later ≡ None
-up_later h later e = behind h.asks AwaitingAnswer later (behind (is_waiting h.phase) Waiting _ (behind (is_stopped h.phase) Stopped _ e))
+up_later h later e = (up_refused_none h later e).2
 
 pub some_later : {A : Type 0} (o : Option A) (missing : Reason) (later : A → Option Reason) (a : A) → o ≡ Some a → on_some o missing later ≡ None → later a ≡ None
 some_later o missing later a is e = subst (λ p. on_some p missing later ≡ None) is e
@@ -58,10 +70,6 @@ none_is_some r T e = cc
 pub first_refusal : (h : Held) (later : Option Reason) (r r' : Reason) → up_refused h None ≡ Some r → up_refused h later ≡ Some r' → r ≡ r'
 first_refusal h later r r' =
     first_of (is_stopped h.phase) Stopped _ _ r r' (first_of (is_waiting h.phase) Waiting _ _ r r' (first_of h.asks AwaitingAnswer None later r r' (λ e _. none_is_some r (r ≡ r') e)))
-
-pub if_some_map : {A : Type 0} {P Q : A → Type 0} (o : Option A) → ((a : A) → P a → Q a) → IfSome o P → IfSome o Q
-if_some_map None f p = tt
-if_some_map (Some a) f p = f a p
 
 pub if_none_map : {A : Type 0} {P Q : Type 0} (o : Option A) → (P → Q) → IfNone o P → IfNone o Q
 if_none_map None f p = f p

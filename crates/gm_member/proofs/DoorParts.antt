@@ -1,42 +1,17 @@
--- The parts of a state that make up what a member holds.
-use Rattle.std.proofs.Common.{◌≡◌, ◌≢◌, ℕ, ◌+◌, ◌<◌, Bool, false, not, nat_eq, List, map, max, Option, None, refl, ap, ◌∙◌}
+-- Links that wait for a member, members that are written, and a member's conditions.
+use Rattle.std.proofs.Common.{◌≡◌, ◌≢◌, ℕ, ◌+◌, ◌<◌, Bool, false, not, nat_eq, List, map, max, Option, None, refl}
 use Rattle.std.specs.Prelude.{◌&&◌}
 use Rattle.std.proofs.lemmas.List.{get_or-set_same, get_or-set_other, map-append, take-map, drop-map}
 use Rattle.ring_names.specs.declared.reason.Reason.{Reason}
 use Rattle.ring_names.specs.declared.reason.Reason.TheVariants as reason
-use Rattle.group_view.specs.View.{Group}
 use Rattle.ring_world.specs.Refusal.{refuse_if, or_else}
 use Rattle.ring_world.specs.declared.phase.Phase.TheVariants.{Up}
-use Rattle.ring_world.specs.Machine.{World, Member, no_member, row_at, member_at, link_at, is_waiting}
+use Rattle.ring_world.specs.Machine.{World, Member, no_member, member_at, link_at, is_waiting}
 use Rattle.ring_world.specs.OpenLinks.{comes_from_left, is_place}
 use Rattle.ring_world.specs.Step.{size, with_member}
 use Rattle.ring_world.specs.Event.{is_stopped}
 use Rattle.ring_world.proofs.Refusals.{none_of, up_from}
-use Rattle.gm_member.specs.Parcels.{places}
-use Rattle.gm_member.specs.Held.{Held, Outgoing, Incoming, up_refused, without}
-
--- what a member holds that is y in the ring, of these views and links
-abbrev pub held_from : ℕ → Member → Group → Option Outgoing → Option Incoming → List Incoming → ℕ → ℕ → Held
-held_from x y v out current door initial more = record {
-  id = x;
-  name = y.name;
-  phase = y.phase;
-  view = v;
-  rows = map (λ p. row_at y (p + 1)) places;
-  out = out;
-  current = current;
-  door = door;
-  asks = false;
-  initial = initial;
-  more = more;
-}
-
-pub held_same : (x : ℕ) (y : Member) (v v' : Group) (out out' : Option Outgoing) (current current' : Option Incoming) (door door' : List Incoming) (initial more : ℕ) → v ≡ v' → out ≡ out' → current ≡ current' → door ≡ door' → held_from x y v out current door initial more ≡ held_from x y v' out' current' door' initial more
-held_same x y v v' out out' current current' door door' initial more ev eo ec ed =
-    ap (λ k. held_from x y k out current door initial more) ev
-    ∙ ap (λ k. held_from x y v' k current door initial more) eo
-    ∙ ap (λ k. held_from x y v' out' k door initial more) ec
-    ∙ ap (λ k. held_from x y v' out' current' k initial more) ed
+use Rattle.gm_member.specs.Held.{Held, up_refused, without}
 
 -- whether a link waits for x, by where x takes from and the version of its view
 abbrev pub waits_by : World → ℕ → Option ℕ → ℕ → ℕ → Bool

@@ -1,7 +1,8 @@
 -- What stands at a member's door: the test by the member's view, and the ring's.
 use Rattle.std.proofs.Common.{◌≡◌, ℕ, zero, suc, ◌<◌, ◌≤◌, Bool, true, false, not, nat_eq, nat_lt, nat_le, List, length, get_or, max, refl, sym, ap, subst, ◌∙◌, ⊎_elim, arith}
 use Rattle.std.specs.Prelude.{◌&&◌, ◌||◌}
-use Rattle.std.proofs.lemmas.Bool.{and_parts, false≢true, leb-true, le-leb, lt-ltb, le-ltb, cases_lt}
+use Rattle.std.specs.Cmp.{both_ways}
+use Rattle.std.proofs.lemmas.Bool.{and_from, and_parts, false≢true, leb-true, le-leb, lt-ltb, le-ltb, cases_lt}
 use Rattle.group_view.specs.Ring.{is_in}
 use Rattle.group_view.specs.View.{Group, entry_in}
 use Rattle.group_view.specs.Since as group
@@ -17,23 +18,13 @@ use Rattle.ring_world.proofs.Refresh.{kept_less}
 use Rattle.ring_world.proofs.Happens.{IsGood}
 use Rattle.gm_member.specs.Held.{Incoming, is_for, stays}
 use Rattle.gm_member.specs.Stands.{incoming_in, waits_for}
+use Rattle.gm_member.proofs.Facts.{version_of_view}
 
 -- ---- views and tests
 
 -- the view of a version has its number
 pub view_version : (w : World) (v : ℕ) → IsGood w → v ≤ newest w → (view_at w v).version ≡ v
-view_version w zero h l = ap (λ vs. (get_or vs 0 no_group).version) h.views.is
-view_version w (suc v) h l = ap (λ vs. (get_or vs (suc v) no_group).version) h.views.is ∙ h.views.ends.history.numbered (suc v) (omega arith) (omega (arith, ap length h.views.is, h.inv.is_ring.some))
-
--- tests that imply each other give the same
-same_test : (a b : Bool) → (a ≡ true → b ≡ true) → (b ≡ true → a ≡ true) → a ≡ b
-same_test true b f g = sym (f refl)
-same_test false true f g = absurd (false≢true (g refl))
-same_test false false f g = refl
-
--- two tests that pass
-both : (a b : Bool) → a ≡ true → b ≡ true → (a && b) ≡ true
-both a b e k = rw e k
+view_version w v h l = version_of_view w v h.views l
 
 -- ---- a link and a view
 
@@ -64,7 +55,7 @@ nobody_first w h (suc u) y i = omega arith
 
 -- a link that passes the test in a view
 comes : (w : World) (y u : ℕ) (l : Link) → l.sender ≡ left w u y → since_in w u y ≤ l.opened → comes_from_left w y l u ≡ true
-comes w y u l e le = both (nat_eq l.sender (left w u y)) (nat_le (since_in w u y) l.opened) (subst (λ q. nat_eq l.sender q ≡ true) e (nat_eq-same l.sender)) (le-leb (since_in w u y) l.opened le)
+comes w y u l e le = and_from (nat_eq l.sender (left w u y)) (nat_le (since_in w u y) l.opened) (subst (λ q. nat_eq l.sender q ≡ true) e (nat_eq-same l.sender)) (le-leb (since_in w u y) l.opened le)
 
 -- and the other way
 came : (w : World) (y u : ℕ) (l : Link) → comes_from_left w y l u ≡ true → (l.sender ≡ left w u y) × (since_in w u y ≤ l.opened)
@@ -81,7 +72,7 @@ comes_is w l v h o upto =
     ∙ comes w y l.opened l (sym o.from_left) (let d : IsSince groups y l.opened (since_in w l.opened y) = dated l.opened (omega arith) o.upto in d.upto)
     ∙ sym (kept_true w l v (λ k a b. absurd (omega arith))))
     (λ (older : l.opened ≤ v).
-    ap (comes_from_left w y l) (let is : max v l.opened ≡ v = omega arith in is) ∙ same_test (comes_from_left w y l v) (is_kept w l v) (λ e. kept_true w l v (goes_on older (came w y v l e))) (λ e. seen older (true_kept w l v e)))
+    ap (comes_from_left w y l) (let is : max v l.opened ≡ v = omega arith in is) ∙ both_ways (comes_from_left w y l v) (is_kept w l v) (λ e. kept_true w l v (goes_on older (came w y v l e))) (λ e. seen older (true_kept w l v e)))
     (cases_lt v l.opened)
   where
     y : ℕ

@@ -6,19 +6,14 @@ use Rattle.group_view.specs.Since.{no_group}
 use Rattle.group_view.specs.View.{Group, entry_in}
 use Rattle.ring_world.specs.View.{left_at}
 use Rattle.ring_world.specs.Machine.{World, Member, Link, no_link, no_member, member_at, link_at}
-use Rattle.ring_world.specs.Step.{size, with_current, finished, leave_link}
-use Rattle.ring_world.proofs.Lists.{at_set}
+use Rattle.ring_world.specs.Step.{size, with_current, current_is, finished, leave_link}
 use Rattle.ring_world.proofs.Rounds.{nat_eq-not}
 use Rattle.gm_member.specs.Held.{Held, ended_held}
 use Rattle.gm_member.specs.Stands.{held_in, outgoing_in}
 use Rattle.gm_member.proofs.Fit.{IsFit}
-use Rattle.gm_member.proofs.Parts.{held_is, seen, Seen, waits_seen, incoming_seen, outgoing_of, there_same, door_but, current_waits_not, over_waits_not}
+use Rattle.gm_member.proofs.Parts.{held_is, seen, Seen, waits_seen, incoming_seen, outgoing_same, there_same, door_but, current_waits_not, over_waits_not}
 
--- the end leaves each link to its sender as it was
-pub end_outgoing : (w : World) (x s j : ℕ) → s < length w.links → outgoing_in (leave_link w x s) j ≡ outgoing_in w j
-end_outgoing w x s j sl = at_set (λ i a. outgoing_of a ≡ outgoing_of (link_at w i)) w.links s j (finished (link_at w s)) no_link sl refl (λ _. refl)
-
--- and each other link
+-- the end leaves each other link as it was
 pub end_other : (w : World) (x s j : ℕ) → j ≢ s → link_at (leave_link w x s) j ≡ link_at w j
 end_other w x s j ne = get_or-set_other w.links s j (finished (link_at w s)) no_link ne
 
@@ -36,7 +31,7 @@ end_stands w x s f lt is =
     let sl : s < length w.links = (f.own_ends.current x s is).0 in
     let now : member_at w' x ≡ with_current None y = get_or-set_same w.members x (with_current None y) no_member lt in
     sym (held_is w' x (with_current None y) h.out None h.door now
-    (there_same (outgoing_in w') (outgoing_in w) y.out (λ j _. end_outgoing w x s j sl))
+    (there_same (outgoing_in w') (outgoing_in w) y.out (λ j _. outgoing_same (current_is w x None) s j (finished (link_at w s)) sl refl))
     refl
     (door_but w w' x s (length-set w.links s (finished (link_at w s))) (current_waits_not w x s is)
     (over_waits_not w' x s (ap (λ (l : Link). l.over) (get_or-set_same w.links s (finished (link_at w s)) no_link sl)))

@@ -11,6 +11,7 @@ use Rattle.ring_world.specs.Walk.{oldest}
 use Rattle.ring_world.specs.Step.{size, log_of, next_lines, next_packet}
 use Rattle.ring_world.specs.Lawful.{row_of, NumbersAreWithin, PacketsAreWithin}
 use Rattle.ring_world.proofs.Happens.{HasViews}
+use Rattle.ring_world.proofs.Sent.{next_line_at}
 use Rattle.gm_member.specs.Held.{known_at, numbers_of}
 use Rattle.gm_member.specs.Stands.{held_in, outgoing_in}
 use Rattle.gm_member.proofs.Places.{tabled_at}
@@ -83,13 +84,6 @@ version_is w x f = version_of_view w (member_at w x).version f.good.views (f.goo
 
 -- ---- packets
 
-lines_at : (fresh : Bool) (rows : List Row) (last : List Numbers) (p : ℕ) → p < length rows → get_or (next_lines fresh rows last) p no_numbers ≡ next_numbers fresh (get_or rows p no_row) (get_or last p no_numbers)
-lines_at fresh [] last p l = absurd (omega arith)
-lines_at fresh (r ∷ rows) [] zero l = refl
-lines_at fresh (r ∷ rows) (k ∷ last) zero l = refl
-lines_at fresh (r ∷ rows) [] (suc p) l = lines_at fresh rows [] p (omega arith)
-lines_at fresh (r ∷ rows) (k ∷ last) (suc p) l = lines_at fresh rows last p (omega arith)
-
 lines_past : (fresh : Bool) (rows : List Row) (last : List Numbers) (p : ℕ) → length rows ≤ p → get_or (next_lines fresh rows last) p no_numbers ≡ no_numbers
 lines_past fresh [] last p l = refl
 lines_past fresh (r ∷ rows) last zero l = absurd (omega arith)
@@ -98,7 +92,7 @@ lines_past fresh (r ∷ rows) (k ∷ last) (suc p) l = lines_past fresh rows las
 
 -- the numbers of the next packet, of an origin with a row
 pub next_at : (y : Member) (s : Sending) (p : ℕ) → p < length y.rows → numbers_at (next_packet y s) p ≡ next_numbers s.fresh (row_at y p) (numbers_at s.sent p)
-next_at y s p l = lines_at s.fresh y.rows s.sent.numbers p l
+next_at y s p l = next_line_at s.fresh y.rows s.sent.numbers p l
 
 -- and of one without
 pub next_past : (y : Member) (s : Sending) (p : ℕ) → length y.rows ≤ p → numbers_at (next_packet y s) p ≡ no_numbers

@@ -7,8 +7,9 @@ use Rattle.ring_world.specs.Machine.{World, member_at}
 use Rattle.ring_world.specs.Step.{size, log_of, opening}
 use Rattle.ring_world.specs.Event.{id_of, refusal, effect, IsRun, last}
 use Rattle.ring_world.specs.Laws.{IsLawful, GoesOn}
-use Rattle.ring_world.proofs.Happens.{IsGood, event_good, opening_good, reached_good}
-use Rattle.ring_world.proofs.Ended.{EndsRight, ends_run, opening_ends}
+use Rattle.ring_world.proofs.Happens.{IsGood, run_events, opening_good, reached_good}
+use Rattle.ring_world.proofs.Ended.{EndsRight}
+use Rattle.ring_world.proofs.OpenWalk.{reached_ends}
 use Rattle.ring_world.proofs.AllRuns.{every_state_lawful, every_run_goes_on}
 use Rattle.ring_world.proofs.LinkCredit.{run_credited}
 use Rattle.ring_world.proofs.Sized.{IsSized, opening_sized, event_sized}
@@ -30,21 +31,17 @@ pub record IsFit (w : World) : Type 0 where
   -- nobody stands at id 0
   pub nobody : log_of w 0 ≡ []
 
-run_sized : (w : World) (es : List Event) → IsGood w → IsSized w → IsRun w es → IsSized (last w es)
-run_sized w [] g h r = h
-run_sized w (e ∷ es) g h r = run_sized (effect w e) es (event_good w e g r.0) (event_sized w e g.none_waits h) r.1
-
 -- it holds in every state of every run
 pub reached_fit : (credit : CreditSpec) (names : List (List ℕ)) (events : List Event) → AreOpeningNames names → IsRun (opening credit names) events → IsFit (last (opening credit names) events)
 reached_fit credit names events are r =
     let w : World = last (opening credit names) events in
     record {
       good = reached_good credit names events are r;
-      ends = ends_run (opening credit names) events (opening_ends credit names) r;
+      ends = reached_ends credit names events are r;
       lawful = subst (λ n. IsLawful n w) (sym (run_credited credit names events are r).initial_is) (every_state_lawful credit names events are r);
       named = λ x some lt. reached_named credit names events x are r some lt;
       goes = λ e k. every_run_goes_on credit names events (e ∷ []) are r (k, tt);
-      sized = run_sized (opening credit names) events (opening_good credit names are) (opening_sized credit names are) r;
+      sized = run_events IsSized event_sized (opening credit names) events (opening_good credit names are) r (opening_sized credit names are);
       own_ends = reached_owns credit names events are r;
       nobody = reached_nobody credit names events are r;
     }

@@ -6,7 +6,6 @@ pub mod DoorLists
 pub mod DoorParts
 pub mod Doors
 pub mod EndStands
-pub mod Entries
 pub mod Facts
 pub mod Fit
 pub mod Fresh

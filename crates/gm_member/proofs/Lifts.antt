@@ -79,19 +79,27 @@ takes_of w x k s f some lt up is l n = record {
   version = omega (arith, l, version_is w x f, n.1.view);
 }
 
-pub take_steps : (w : World) (x : ℕ) (k : Parcel) → IsFit w → 1 ≤ x → x < size w → take_refused (held_in w x) None ≡ None → k.view ≤ (held_in w x).view.version → IsNextPacket w x k → StepsTo w x (event.Take (member_at w x).name) (took_held (held_in w x) k)
-take_steps w x k f some lt e l n = by_current (member_at w x).current refl (running_later w x (on_link (member_at w x).current reason.NoCurrentLink (λ _. None)) acts)
-  where
-    acts : running_refusal w x (on_link (member_at w x).current reason.NoCurrentLink (λ _. None)) ≡ None
-    acts = sym (take_refuses w x None) ∙ e
+-- who may take is up, and has a link
+pub record MayTake (w : World) (x : ℕ) : Type 0 where
+  pub up : (member_at w x).phase ≡ Up
+  pub there : on_link (member_at w x).current reason.NoCurrentLink (λ _. None) ≡ None
 
-    up : (member_at w x).phase ≡ Up
-    up = running_phase w x (on_link (member_at w x).current reason.NoCurrentLink (λ _. None)) (f.good.none_waits x) acts
+may_take : (w : World) (x : ℕ) → IsFit w → take_refused (held_in w x) None ≡ None → MayTake w x
+may_take w x f e =
+    let later : Option Reason = on_link (member_at w x).current reason.NoCurrentLink (λ _. None) in
+    let acts : running_refusal w x later ≡ None = sym (take_refuses w x None) ∙ e in
+    record { up = running_phase w x later (f.good.none_waits x) acts; there = running_later w x later acts }
+
+pub take_steps : (w : World) (x : ℕ) (k : Parcel) → IsFit w → 1 ≤ x → x < size w → take_refused (held_in w x) None ≡ None → k.view ≤ (held_in w x).view.version → IsNextPacket w x k → StepsTo w x (event.Take (member_at w x).name) (took_held (held_in w x) k)
+take_steps w x k f some lt e l n = by_current (member_at w x).current refl may.there
+  where
+    may : MayTake w x
+    may = may_take w x f e
 
     by_current : (c : Option ℕ) → (member_at w x).current ≡ c → on_link c reason.NoCurrentLink (λ _. None) ≡ None → StepsTo w x (event.Take (member_at w x).name) (took_held (held_in w x) k)
     by_current None is m = cc
     by_current (Some s) is m =
-        let t : TakesFrom w x s = takes_of w x k s f some lt up is l (n s is) in
+        let t : TakesFrom w x s = takes_of w x k s f some lt may.up is l (n s is) in
         (take_enabled w x s f t, take_stands w x s k f t (n s is).1.lines ∙ ap (λ v. held_in v x) (sym (take_does w x s f t)))
 
 pub gain_steps : (w : World) (x amount : ℕ) → IsFit w → 1 ≤ x → x < size w → gain_refused (held_in w x) ≡ None → IsNextGrant w x amount → StepsTo w x (event.Gain (member_at w x).name) (gained_held (held_in w x) amount)
@@ -123,20 +131,14 @@ gain_steps w x amount f some lt e n = (
 pub end_steps : (w : World) (x : ℕ) → IsFit w → 1 ≤ x → x < size w → take_refused (held_in w x) None ≡ None → IsNextEnd w x → StepsTo w x (event.TakeEnd (member_at w x).name) (ended_held (held_in w x))
 end_steps w x f some lt e n = (
   ap (λ o. of_member o (λ y. running_refusal w y (on_link (member_at w y).current reason.NoCurrentLink (end_refusal w)))) (f.named x some lt)
-      ∙ running_is w x (on_link (member_at w x).current reason.NoCurrentLink (end_refusal w)) up
-      ∙ refused (member_at w x).current n there,
-  by_current (member_at w x).current refl there
+      ∙ running_is w x (on_link (member_at w x).current reason.NoCurrentLink (end_refusal w)) may.up
+      ∙ refused (member_at w x).current n may.there,
+  by_current (member_at w x).current refl may.there
       ∙ ap (λ o. held_in (at_found o w (λ y. at_found (member_at w y).current w (leave_link w y))) x) (sym (f.named x some lt)),
 )
   where
-    acts : running_refusal w x (on_link (member_at w x).current reason.NoCurrentLink (λ _. None)) ≡ None
-    acts = sym (take_refuses w x None) ∙ e
-
-    up : (member_at w x).phase ≡ Up
-    up = running_phase w x (on_link (member_at w x).current reason.NoCurrentLink (λ _. None)) (f.good.none_waits x) acts
-
-    there : on_link (member_at w x).current reason.NoCurrentLink (λ _. None) ≡ None
-    there = running_later w x (on_link (member_at w x).current reason.NoCurrentLink (λ _. None)) acts
+    may : MayTake w x
+    may = may_take w x f e
 
     refused : (c : Option ℕ) → ((s : ℕ) → c ≡ Some s → ((link_at w s).packets ≡ []) × ((link_at w s).ending ≡ None → ⊥)) → on_link c reason.NoCurrentLink (λ _. None) ≡ None → on_link c reason.NoCurrentLink (end_refusal w) ≡ None
     refused None m k = k

@@ -1,25 +1,18 @@
 -- A member that has another marked dead stands where the ring's mark leaves it.
-use Rattle.std.proofs.Common.{◌≡◌, ℕ, ◌+◌, ◌<◌, true, nat_eq, nat_le, [], ◌∷◌, ◌++◌, length, map, max, None, refl, sym, ap, subst, ◌∙◌, arith}
+use Rattle.std.proofs.Common.{◌≡◌, ℕ, ◌+◌, ◌<◌, nat_eq, nat_le, [], ◌∷◌, ◌++◌, length, map, max, refl, sym, ap, ◌∙◌, arith}
 use Rattle.std.specs.Prelude.{◌&&◌}
 use Rattle.std.proofs.lemmas.List.{length_push}
 use Rattle.group_view.specs.View.{Group, entry_in}
 use Rattle.group_view.specs.Change.{marked}
-use Rattle.group_view.proofs.History.{Ends, mark_goes_on}
-use Rattle.group_view.proofs.Passing.{live_in}
-use Rattle.ring_world.specs.declared.phase.Phase.TheVariants.{Up, Stopped}
-use Rattle.ring_world.specs.View.{is_live}
-use Rattle.ring_world.specs.Machine.{Link, World, member_at, link_at, view_at, newest, left, runs_phase}
+use Rattle.ring_world.specs.Machine.{Link, World, member_at, link_at, view_at, newest, left}
 use Rattle.ring_world.specs.OpenLinks.{version_of, since_in, comes_from_left, is_door_link}
-use Rattle.ring_world.specs.Step.{size, with_view}
-use Rattle.ring_world.specs.Event.{mark_refusal}
-use Rattle.ring_world.proofs.WhatRefuses.{MayLook}
+use Rattle.ring_world.specs.Step.{with_view}
+use Rattle.ring_world.proofs.WhatRefuses.{MayLook, MayMark}
 use Rattle.ring_world.proofs.Views.{view_old, view_new, left_old}
-use Rattle.ring_world.proofs.KeptMore.{mark_keeps}
-use Rattle.ring_world.proofs.Happens.{IsGood}
-use Rattle.ring_world.proofs.Enabled.{mark_lives, mark_stops}
+use Rattle.ring_world.proofs.Happens.{IsGood, mark_view_good}
 use Rattle.gm_member.specs.Stands.{incoming_in, waits_for, door_in, held_in}
 use Rattle.gm_member.proofs.DoorLists.{filter_agree}
-use Rattle.gm_member.proofs.DoorParts.{held_same}
+use Rattle.gm_member.proofs.Parts.{held_same}
 
 -- ---- one more view
 
@@ -43,17 +36,6 @@ view_held w g x h =
 
 -- ---- a mark
 
--- x may have d marked dead
-pub record MayMark (w : World) (x d : ℕ) : Type 0 where
-  pub is_member : x < size w
-  pub up : (member_at w x).phase ≡ Up
-  pub rests : (member_at w d).phase ≡ Stopped
-  pub lives : is_live (view_at w (newest w)) d ≡ true
-
--- by the ring's conditions
-pub may_mark : (w : World) (x d : ℕ) → x < size w → (member_at w x).phase ≡ Up → mark_refusal w x d ≡ None → MayMark w x d
-may_mark w x d l up r = record { is_member = l; up = up; rests = mark_stops w x d r; lives = mark_lives w x d r }
-
 -- the view that the mark makes, and the state that has it
 abbrev pub mark_view : World → ℕ → Group
 mark_view w d = marked (view_at w (newest w)) d
@@ -63,21 +45,7 @@ mark_world w d = with_view w (mark_view w d)
 
 -- that state is one in which everything holds
 pub mark_good : (w : World) (x d : ℕ) → MayMark w x d → IsGood w → IsGood (mark_world w d)
-mark_good w x d m h =
-    let g = view_at w (newest w) in
-    let v' = marked g d in
-    let more : length (w.views ++ v' ∷ []) ≡ length w.views + 1 = length_push w.views v' in
-    let some : 0 < length w.views = h.inv.is_ring.some in
-    record {
-      inv = mark_keeps w d (ap runs_phase m.rests) h.inv;
-      none_waits = h.none_waits;
-      views = record {
-        groups = h.views.groups ++ v' ∷ [];
-        is = ap (λ vs. vs ++ v' ∷ []) h.views.is;
-        ends = subst (Ends (h.views.groups ++ v' ∷ [])) (sym (view_new w v' (newest (with_view w v')) (omega arith)))
-            (mark_goes_on h.views.groups g d h.views.ends (record { there = live_in g.entries d m.lives; lives = m.lives }));
-      };
-    }
+mark_good w x d m h = mark_view_good w d m.rests m.lives h
 
 -- x may look at that view
 pub mark_look : (w : World) (x d : ℕ) → MayMark w x d → IsGood w → MayLook (mark_world w d) x (newest w + 1)

@@ -2,7 +2,7 @@
 use Rattle.std.specs.List.{remove}
 use Rattle.std.proofs.Common.{◌≡◌, ℕ, suc, arith, ◌+◌, ◌<◌, length, get_or, take, drop, Bool, false, not, cond, ◌∷◌, ◌++◌, [], List, Some, map, sym, ap, subst, ◌∙◌}
 use Rattle.std.specs.Prelude.{MatchOption}
-use Rattle.std.proofs.lemmas.List.{take-map, drop-map, map-append, get_or-map}
+use Rattle.std.proofs.lemmas.List.{get_or-map}
 use Rattle.ring_names.specs.declared.numbers.MemberId.{MemberId}
 use Rattle.group_view.specs.View.{Group}
 use Rattle.group_view.specs.declared.request.Request.{Request}
@@ -50,11 +50,7 @@ module _ {O I : Type 0} where
 pub when_not : (b : Bool) (P Q : Type 0) → b ≡ false → Q → When b P × When (not b) Q
 when_not b P Q e q = subst (λ c. When c P × When (not c) Q) (sym e) (tt, q)
 
--- what is shown of the links of a door without one of them
-pub without_seen : {A B : Type 0} (f : A → B) (i : ℕ) (xs : List A) → map f (without i xs) ≡ without i (map f xs)
-without_seen f i xs = map-append f (take i xs) (drop (i + 1) xs) ∙ ap (λ zs. zs ++ map f (drop (i + 1) xs)) (sym (take-map f i xs)) ∙ ap (λ zs. take i (map f xs) ++ zs) (sym (drop-map f (i + 1) xs))
-
--- and of the one
+-- what is shown of a link of a door
 pub door_seen_at : {I : Type 0} (l : InLink I) (links : List (InLink I)) (i : ℕ) → i < length links → l ≡ get_or links i l → in_of l ≡ door_at (map in_of links) i
 door_seen_at l links i lt e = ap in_of e ∙ sym (get_or-map in_of links i l no_incoming lt)
 

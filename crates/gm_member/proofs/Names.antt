@@ -1,5 +1,5 @@
 -- The names of the members stay, and different names find their members; nobody stands at id 0.
-use Rattle.std.proofs.Common.{◌≡◌, ℕ, zero, suc, ◌+◌, ◌<◌, ◌≤◌, Bool, true, false, bytes_eq, nat_eq, List, [], ◌∷◌, length, map, drop, get_or, set, Option, Some, None, if◌then◌else◌, refl, sym, ap, ◌∙◌, arith}
+use Rattle.std.proofs.Common.{◌≡◌, ℕ, zero, suc, ◌+◌, ◌<◌, ◌≤◌, bytes_eq, List, [], ◌∷◌, length, map, drop, get_or, set, Some, None, refl, sym, ap, ◌∙◌, arith}
 use Rattle.std.specs.Prelude.{position, option_map}
 use Rattle.std.specs.List.{range_with_len}
 use Rattle.std.proofs.Math.Seq.{map-set_same}
@@ -7,17 +7,16 @@ use Rattle.std.proofs.lemmas.List.{length-map, get_or-map, get_or-set_other}
 use Rattle.ring_names.specs.declared.numbers.CreditSpec.{CreditSpec}
 use Rattle.group_view.specs.Change.{AreDifferent, AreOpeningNames, marked}
 use Rattle.ring_world.specs.declared.event.Event.{Event}
-use Rattle.ring_world.specs.declared.phase.Ending.{Ending}
-use Rattle.ring_world.specs.declared.phase.Ending.TheVariants.{Moved, Halted}
-use Rattle.ring_world.specs.View.{right_of}
-use Rattle.ring_world.specs.Machine.{Member, World, no_member, member_at, link_at, view_at, newest}
-use Rattle.ring_world.specs.Step.{size, log_of, published, taker, with_current, ended, stop_at, stopped, end_out, with_member, with_link, with_view, look_at, moved_to, open_to, opening, opening_member}
-use Rattle.ring_world.specs.Event.{id_of, send_to, refreshed, refusal, effect, IsRun, last}
+use Rattle.ring_world.specs.declared.phase.Ending.TheVariants.{Halted}
+use Rattle.ring_world.specs.Machine.{Member, World, no_member, member_at, view_at, newest}
+use Rattle.ring_world.specs.Step.{size, log_of, published, taker, with_current, stop_at, stopped, with_member, with_view, moved_to, opening, opening_member}
+use Rattle.ring_world.specs.Event.{id_of, refreshed, refusal, effect, IsRun, last}
 use Rattle.ring_world.proofs.Names.{same_bytes, own_bytes, found_at}
 use Rattle.ring_world.proofs.Lists.{at_set}
 use Rattle.ring_world.proofs.Cases.{Cases, each_event}
+use Rattle.ring_world.proofs.Composed.{end_composed, refresh_composed}
 use Rattle.ring_world.proofs.Parts.{Part, cast_part, put_part, take_part, gain_part, stop_part, open_part, still_part, run_keeps}
-use Rattle.ring_world.proofs.Happens.{IsGood, event_good, opening_good}
+use Rattle.ring_world.proofs.Happens.{IsGood, run_events, opening_good}
 
 -- ---- the names stay
 
@@ -29,38 +28,27 @@ NamesAre names w = map (λ (m : Member). m.name) w.members ≡ [] ∷ names
 set_names : (names : List (List ℕ)) (w : World) (x : ℕ) (y : Member) → y.name ≡ (member_at w x).name → NamesAre names w → NamesAre names (with_member w x y)
 set_names names w x y e h = map-set_same (λ (m : Member). m.name) w.members x y no_member e ∙ h
 
-end_names : (names : List (List ℕ)) (why : Ending) (w : World) (o : Option ℕ) → NamesAre names w → NamesAre names (end_out why w o)
-end_names names why w None h = h
-end_names names why w (Some o) h = h
-
-send_names : (names : List (List ℕ)) (w : World) (x z : ℕ) (o : Option ℕ) → NamesAre names w → NamesAre names (send_to w x z o)
-send_names names w x z None h = set_names names w x (record (member_at w x) { out = Some (length w.links) }) refl h
-send_names names w x z (Some o) h = by_test (nat_eq (link_at w o).receiver z)
-  where
-    w1 : World
-    w1 = with_link w o (ended Moved (link_at w o))
-
-    by_test : (b : Bool) → NamesAre names (if b then w else open_to (with_link w o (ended Moved (link_at w o))) x z)
-    by_test true = h
-    by_test false = set_names names w1 x (record (member_at w x) { out = Some (length w1.links) }) refl h
-
+-- a refresh
 refreshed_names : (names : List (List ℕ)) (w : World) (x v : ℕ) → NamesAre names w → NamesAre names (refreshed w x v)
-refreshed_names names w x v h = send_names names (look_at w x v) x (right_of (view_at w v) x) (member_at w x).out (set_names names w x (moved_to w x v) refl h)
+refreshed_names names w x v h = refresh_composed (NamesAre names) w x v
+    (λ k _ g. g)
+    (λ u _ g. set_names names u x (record (member_at u x) { out = Some (length u.links) }) refl g)
+    (set_names names w x (moved_to w x v) refl h)
 
 event_names : (names : List (List ℕ)) (w : World) (e : Event) → IsGood w → refusal w e ≡ None → NamesAre names w → NamesAre names (effect w e)
 event_names names w e g r h = each_event (NamesAre names) w e g.none_waits cases r
   where
     cases : Cases (NamesAre names) w
     cases = record {
-      casts = λ x m lt up. set_names names w x (published x m (member_at w x)) refl h;
-      puts = λ x o lt up is. h;
-      takes = λ y s m. set_names names w y (taker w y s) refl h;
-      leaves = λ y s lt up is. set_names names w y (with_current None (member_at w y)) refl h;
-      gains = λ x o lt up is. h;
-      stops = λ x lt up. end_names names Halted (stop_at w x) (member_at w x).out (set_names names w x (stopped (member_at w x)) refl h);
-      marks = λ x d lt up rests. refreshed_names names (with_view w (marked (view_at w (newest w)) d)) x (newest w + 1) h;
-      refreshes = λ x v m. refreshed_names names w x v h;
-      picks = λ y s lt up none at upto. set_names names w y (with_current (Some s) (member_at w y)) refl h;
+      casts = λ x m u. set_names names w x (published x m (member_at w x)) refl h;
+      puts = λ x o u is k. h;
+      takes = λ y s u m. set_names names w y (taker w y s) refl h;
+      leaves = λ y s u is k. set_names names w y (with_current None (member_at w y)) refl h;
+      gains = λ x o u is k. h;
+      stops = λ x u. end_composed (NamesAre names) Halted (stop_at w x) (member_at w x).out (λ k _ g. g) (set_names names w x (stopped (member_at w x)) refl h);
+      marks = λ x d u m. refreshed_names names (with_view w (marked (view_at w (newest w)) d)) x (newest w + 1) h;
+      refreshes = λ x v u m. refreshed_names names w x v h;
+      picks = λ y s u none at upto. set_names names w y (with_current (Some s) (member_at w y)) refl h;
     }
 
 names_from : (names all : List (List ℕ)) (a : ℕ) → ((k : ℕ) → k < length names → get_or all (a + k) [] ≡ get_or names k []) → map (λ (m : Member). m.name) (map (λ i. record no_member { name = get_or all i [] }) (range_with_len a (length names))) ≡ names
@@ -81,8 +69,7 @@ opening_names credit names =
     ∙ names_from names ([] ∷ names) 1 (λ k l. let next : 1 + k ≡ suc k = omega arith in ap (λ n. get_or ([] ∷ names) n []) next))
 
 run_names : (names : List (List ℕ)) (w : World) (es : List Event) → IsGood w → IsRun w es → NamesAre names w → NamesAre names (last w es)
-run_names names w [] g r h = h
-run_names names w (e ∷ es) g r h = run_names names (effect w e) es (event_good w e g r.0) r.1 (event_names names w e g r.0 h)
+run_names names = run_events (NamesAre names) (event_names names)
 
 -- in every state of every run
 pub reached_names : (credit : CreditSpec) (names : List (List ℕ)) (events : List Event) → AreOpeningNames names → IsRun (opening credit names) events → NamesAre names (last (opening credit names) events)

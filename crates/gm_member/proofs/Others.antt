@@ -4,14 +4,12 @@ use Rattle.std.proofs.lemmas.List.{length-set, get_or-set_same, get_or-set_other
 use Rattle.ring_names.specs.declared.message.Message.{Message}
 use Rattle.ring_world.specs.declared.phase.Ending.TheVariants.{Halted}
 use Rattle.ring_world.specs.Machine.{World, Member, Link, no_link, no_member, member_at, link_at}
-use Rattle.ring_world.specs.Step.{publish_at, published, put_on as put_in, pushed, gain_on, take_from, taker, popped, leave_link, with_current, finished, stop_at, stopped, ended, end_out}
+use Rattle.ring_world.specs.Step.{with_member, with_link, publish_at, published, put_on as put_in, pushed, gain_on, take_from, taker, popped, leave_link, with_current, finished, stop_at, stopped, ended, end_out}
 use Rattle.gm_member.specs.Stands.{held_in, outgoing_in, incoming_in}
 use Rattle.gm_member.proofs.Fit.{IsFit}
-use Rattle.gm_member.proofs.Parts.{held_is, seen, incoming_seen, outgoing_of, there_same, current_same, waits_same, door_still, door_but, other_waits_not}
-use Rattle.gm_member.proofs.PutStands.{leaving, put_seen}
-use Rattle.gm_member.proofs.GainStands.{regained_on, gain_seen}
-use Rattle.gm_member.proofs.TakeStands.{take_outgoing, take_other}
-use Rattle.gm_member.proofs.EndStands.{end_outgoing, end_other}
+use Rattle.gm_member.proofs.Parts.{held_is, seen, seen_same, incoming_seen, outgoing_of, outgoing_same, there_same, current_same, waits_same, door_still, door_but, other_waits_not}
+use Rattle.gm_member.proofs.PutStands.{leaving}
+use Rattle.gm_member.proofs.GainStands.{regained_on}
 use Rattle.gm_member.proofs.StopStands.{ShowSame, end_shows, all_show, stopped_with}
 
 -- ---- whose a link is
@@ -38,60 +36,49 @@ publish_others w x y m ne =
     sym (held_is w' y (member_at w y) h.out h.current h.door same refl refl
     (door_still w w' y refl refl (ap (λ (z : Member). z.current) same) (ap (λ (z : Member). z.version) same) (λ j. refl)))
 
-pub put_others : (w : World) (x o y : ℕ) → IsFit w → (member_at w x).out ≡ Some o → y ≢ x → held_in w y ≡ held_in (put_in w x o) y
-put_others w x o y f is ne =
-    let w' : World = put_in w x o in
+-- the link on which x sends is written, and shows its receiver the same
+out_others : (w : World) (x o y : ℕ) (l : Link) → IsFit w → (member_at w x).out ≡ Some o → y ≢ x → seen l ≡ seen (link_at w o) → held_in w y ≡ held_in (with_link w o l) y
+out_others w x o y l f is ne shows =
+    let w' : World = with_link w o l in
     let h = held_in w y in
-    let l : Link = pushed (link_at w o) (leaving w x o) in
     let ol : o < length w.links = (f.own_ends.out x o is).0 in
+    let same : (j : ℕ) → seen (link_at w' j) ≡ seen (link_at w j) = λ j. seen_same w o j l ol shows in
     sym (held_is w' y (member_at w y) h.out h.current h.door refl
     (there_same (outgoing_in w') (outgoing_in w) (member_at w y).out (λ j e. ap outgoing_of (get_or-set_other w.links o j l no_link (other_out w x y o j f is e ne))))
-    (current_same w w' (member_at w y).current (λ j. put_seen w x o j ol))
-    (door_still w w' y (length-set w.links o l) refl refl refl (λ j. put_seen w x o j ol)))
+    (current_same w w' (member_at w y).current same)
+    (door_still w w' y (length-set w.links o l) refl refl refl same))
+
+pub put_others : (w : World) (x o y : ℕ) → IsFit w → (member_at w x).out ≡ Some o → y ≢ x → held_in w y ≡ held_in (put_in w x o) y
+put_others w x o y f is ne = out_others w x o y (pushed (link_at w o) (leaving w x o)) f is ne refl
 
 pub gain_others : (w : World) (x o y : ℕ) → IsFit w → (member_at w x).out ≡ Some o → y ≢ x → held_in w y ≡ held_in (gain_on w o) y
-gain_others w x o y f is ne =
-    let w' : World = gain_on w o in
+gain_others w x o y f is ne = out_others w x o y (regained_on w o) f is ne refl
+
+-- x and the link from which it takes are written, and the link shows its sender the same
+current_others : (w : World) (x s y : ℕ) (m : Member) (l : Link) → IsFit w → (member_at w x).current ≡ Some s → y ≢ x → l.receiver ≡ (link_at w s).receiver → outgoing_of l ≡ outgoing_of (link_at w s)
+    → held_in w y ≡ held_in (with_link (with_member w x m) s l) y
+current_others w x s y m l f is ne to shows =
+    let w' : World = with_link (with_member w x m) s l in
     let h = held_in w y in
-    let ol : o < length w.links = (f.own_ends.out x o is).0 in
-    sym (held_is w' y (member_at w y) h.out h.current h.door refl
-    (there_same (outgoing_in w') (outgoing_in w) (member_at w y).out (λ j e. ap outgoing_of (get_or-set_other w.links o j (regained_on w o) no_link (other_out w x y o j f is e ne))))
-    (current_same w w' (member_at w y).current (λ j. gain_seen w o j ol))
-    (door_still w w' y (length-set w.links o (regained_on w o)) refl refl refl (λ j. gain_seen w o j ol)))
+    let sl : s < length w.links = (f.own_ends.current x s is).0 in
+    let same : member_at w' y ≡ member_at w y = get_or-set_other w.members x y m no_member ne in
+    let other : (j : ℕ) → j ≢ s → link_at w' j ≡ link_at w j = λ j no. get_or-set_other w.links s j l no_link no in
+    let apart : (link_at w s).receiver ≢ y = other_door w x y s f is ne in
+    sym (held_is w' y (member_at w y) h.out h.current h.door same
+    (there_same (outgoing_in w') (outgoing_in w) (member_at w y).out (λ j _. outgoing_same (with_member w x m) s j l sl shows))
+    (there_same (incoming_in w') (incoming_in w) (member_at w y).current (λ j e. ap (λ k. incoming_seen (seen k)) (other j (other_current w x y s j f is e ne))))
+    (door_but w w' y s (length-set w.links s l) (other_waits_not w y s apart)
+    (other_waits_not w' y s (λ e. apart (sym to ∙ sym (ap (λ (k : Link). k.receiver) (get_or-set_same w.links s l no_link sl)) ∙ e)))
+    (λ j no. (
+      waits_same w w' y j refl (ap (λ (z : Member). z.current) same) (ap (λ (z : Member). z.version) same) (ap seen (other j no)),
+      ap (λ k. incoming_seen (seen k)) (other j no),
+    ))))
 
 pub take_others : (w : World) (x s y : ℕ) → IsFit w → (member_at w x).current ≡ Some s → y ≢ x → held_in w y ≡ held_in (take_from w x s) y
-take_others w x s y f is ne =
-    let w' : World = take_from w x s in
-    let h = held_in w y in
-    let sl : s < length w.links = (f.own_ends.current x s is).0 in
-    let same : member_at w' y ≡ member_at w y = get_or-set_other w.members x y (taker w x s) no_member ne in
-    let apart : (link_at w s).receiver ≢ y = other_door w x y s f is ne in
-    sym (held_is w' y (member_at w y) h.out h.current h.door same
-    (there_same (outgoing_in w') (outgoing_in w) (member_at w y).out (λ j _. take_outgoing w x s j sl))
-    (there_same (incoming_in w') (incoming_in w) (member_at w y).current (λ j e. ap (λ l. incoming_seen (seen l)) (take_other w x s j (other_current w x y s j f is e ne))))
-    (door_but w w' y s (length-set w.links s (popped (link_at w s))) (other_waits_not w y s apart)
-    (other_waits_not w' y s (λ e. apart (sym (ap (λ (l : Link). l.receiver) (get_or-set_same w.links s (popped (link_at w s)) no_link sl)) ∙ e)))
-    (λ j no. (
-      waits_same w w' y j refl (ap (λ (z : Member). z.current) same) (ap (λ (z : Member). z.version) same) (ap seen (take_other w x s j no)),
-      ap (λ l. incoming_seen (seen l)) (take_other w x s j no),
-    ))))
+take_others w x s y f is ne = current_others w x s y (taker w x s) (popped (link_at w s)) f is ne refl refl
 
 pub end_others : (w : World) (x s y : ℕ) → IsFit w → (member_at w x).current ≡ Some s → y ≢ x → held_in w y ≡ held_in (leave_link w x s) y
-end_others w x s y f is ne =
-    let w' : World = leave_link w x s in
-    let h = held_in w y in
-    let sl : s < length w.links = (f.own_ends.current x s is).0 in
-    let same : member_at w' y ≡ member_at w y = get_or-set_other w.members x y (with_current None (member_at w x)) no_member ne in
-    let apart : (link_at w s).receiver ≢ y = other_door w x y s f is ne in
-    sym (held_is w' y (member_at w y) h.out h.current h.door same
-    (there_same (outgoing_in w') (outgoing_in w) (member_at w y).out (λ j _. end_outgoing w x s j sl))
-    (there_same (incoming_in w') (incoming_in w) (member_at w y).current (λ j e. ap (λ l. incoming_seen (seen l)) (end_other w x s j (other_current w x y s j f is e ne))))
-    (door_but w w' y s (length-set w.links s (finished (link_at w s))) (other_waits_not w y s apart)
-    (other_waits_not w' y s (λ e. apart (sym (ap (λ (l : Link). l.receiver) (get_or-set_same w.links s (finished (link_at w s)) no_link sl)) ∙ e)))
-    (λ j no. (
-      waits_same w w' y j refl (ap (λ (z : Member). z.current) same) (ap (λ (z : Member). z.version) same) (ap seen (end_other w x s j no)),
-      ap (λ l. incoming_seen (seen l)) (end_other w x s j no),
-    ))))
+end_others w x s y f is ne = current_others w x s y (with_current None (member_at w x)) (finished (link_at w s)) f is ne refl refl
 
 shows_others : (w : World) (x y : ℕ) (ls : List Link) → y ≢ x → ShowSame w ls → held_in w y ≡ held_in (stopped_with w x ls) y
 shows_others w x y ls ne e =

@@ -11,7 +11,8 @@ use Rattle.ring_world.proofs.WhatRefuses.{MayLook}
 use Rattle.ring_world.proofs.Happens.{IsGood}
 use Rattle.gm_member.specs.Held.{fresh_in}
 use Rattle.gm_member.specs.Stands.{incoming_in, outgoing_in, waits_for, door_in, held_in}
-use Rattle.gm_member.proofs.DoorParts.{held_from, held_same, waits_by, member_other}
+use Rattle.gm_member.proofs.Parts.{held_by, held_same}
+use Rattle.gm_member.proofs.DoorParts.{waits_by, member_other}
 use Rattle.gm_member.proofs.OpenDoors.{sends_right, arriving, sending_member, opened_world, old_links, refresh_looks, refresh_opens, incoming_old, outgoing_old, door_after}
 use Rattle.gm_member.proofs.RefreshStands.{current_lt, nothing_opens}
 use Rattle.gm_member.proofs.WithinLinks.{IsWithin}
@@ -20,7 +21,7 @@ use Rattle.gm_member.proofs.WithinLinks.{IsWithin}
 
 pub member_others : (w : World) (x y : ℕ) (m : Member) → y ≢ x → held_in (with_member w x m) y ≡ held_in w y
 member_others w x y m ne =
-    ap (λ k. held_from y k (view_at w k.version) (option_map (outgoing_in w) k.out) (option_map (incoming_in w) k.current) (map (incoming_in w) (filter (waits_by w y k.current k.version) (range_with_len 0 (length w.links)))) w.initial w.more) (member_other w x y m ne)
+    ap (λ k. held_by y k (view_at w k.version) (option_map (outgoing_in w) k.out) (option_map (incoming_in w) k.current) (map (incoming_in w) (filter (waits_by w y k.current k.version) (range_with_len 0 (length w.links)))) w.initial w.more) (member_other w x y m ne)
 
 -- a pick
 pub pick_others : (w : World) (x y : ℕ) (c : Option ℕ) → y ≢ x → held_in (current_is w x c) y ≡ held_in w y
@@ -33,7 +34,7 @@ opens_others : (w : World) (x v y : ℕ) → MayLook w x v → IsGood w → IsWi
 opens_others w x v y m h i ne =
     let w' : World = opened_world w x v (old_links w x) in
     let k : Member = member_at w y in
-    ap (λ k. held_from y k (view_at w k.version) (option_map (outgoing_in w') k.out) (option_map (incoming_in w') k.current) (map (incoming_in w') (filter (waits_by w' y k.current k.version) (range_with_len 0 (length w'.links)))) w.initial w.more) (member_other w x y (sending_member w x v (length w.links)) ne)
+    ap (λ k. held_by y k (view_at w k.version) (option_map (outgoing_in w') k.out) (option_map (incoming_in w') k.current) (map (incoming_in w') (filter (waits_by w' y k.current k.version) (range_with_len 0 (length w'.links)))) w.initial w.more) (member_other w x y (sending_member w x v (length w.links)) ne)
     ∙ held_same y k (view_at w k.version) (view_at w k.version) (option_map (outgoing_in w') k.out) (option_map (outgoing_in w) k.out) (option_map (incoming_in w') k.current) (option_map (incoming_in w) k.current)
     (map (incoming_in w') (filter (waits_by w' y k.current k.version) (range_with_len 0 (length w'.links)))) (door_in w y ++ cond (nat_eq (right_of (view_at w v) x) y) (fresh_in w.initial w.more x v ∷ []) []) w.initial w.more
     refl

@@ -1,5 +1,5 @@
 -- The link on which a member sends has it as its sender, and the one from which it takes has it as its receiver, also where it has stopped.
-use Rattle.std.proofs.Common.{◌≡◌, ℕ, zero, suc, ◌+◌, ◌<◌, ◌≤◌, Bool, true, false, cond, nat_eq, List, [], ◌∷◌, ◌++◌, length, map, Option, Some, None, if◌then◌else◌, refl, sym, ap, subst, ◌∙◌, ⊎_elim, arith}
+use Rattle.std.proofs.Common.{◌≡◌, ℕ, zero, suc, ◌+◌, ◌<◌, ◌≤◌, true, nat_eq, List, [], ◌∷◌, ◌++◌, length, map, Some, None, refl, sym, ap, subst, ◌∙◌, ⊎_elim, arith}
 use Rattle.std.specs.List.{range_with_len}
 use Rattle.std.proofs.lemmas.Bool.{cases_lt, and_parts}
 use Rattle.std.proofs.lemmas.List.{length-set, length_push, get_or_append_left, get_or_push}
@@ -9,16 +9,17 @@ use Rattle.ring_names.specs.declared.numbers.CreditSpec.{CreditSpec}
 use Rattle.group_view.specs.Change.{AreOpeningNames, marked}
 use Rattle.ring_world.specs.declared.event.Event.{Event}
 use Rattle.ring_world.specs.View.{right_of}
-use Rattle.ring_world.specs.declared.phase.Ending.{Ending}
 use Rattle.ring_world.specs.declared.phase.Ending.TheVariants.{Moved, Halted}
 use Rattle.ring_world.specs.Machine.{Member, Link, World, no_link, no_member, member_at, link_at, view_at, newest, runs, runs_phase, is_kept}
-use Rattle.ring_world.specs.Step.{size, published, taker, popped, pushed, next_packet, current_is, with_current, finished, ended, stop_at, stopped, end_out, with_member, with_link, with_view, look_at, moved_to, kept_current, open_to, opened_link, opening, opening_member}
-use Rattle.ring_world.specs.Event.{at_door, is_at_door, send_to, refreshed, refusal, effect, IsRun, last}
+use Rattle.ring_world.specs.Step.{size, published, taker, popped, pushed, next_packet, current_is, with_current, finished, ended, stop_at, stopped, with_member, with_link, with_view, look_at, moved_to, open_to, opened_link, opening, opening_member}
+use Rattle.ring_world.specs.Event.{at_door, is_at_door, refreshed, refusal, effect, IsRun, last}
 use Rattle.ring_world.proofs.Lists.{at_set, get_or_beyond}
 use Rattle.ring_world.proofs.Rounds.{nat_eq-is}
 use Rattle.ring_world.proofs.Cases.{Cases, each_event}
+use Rattle.ring_world.proofs.Composed.{end_composed, refresh_composed}
+use Rattle.ring_world.proofs.KeptLook.{kept_current-Some}
 use Rattle.ring_world.proofs.Opening.{opening_inv}
-use Rattle.ring_world.proofs.Happens.{IsGood, event_good, opening_good}
+use Rattle.ring_world.proofs.Happens.{IsGood, run_events, opening_good}
 
 pub record OwnEnds (w : World) : Type 0 where
   pub out : (x o : ℕ) → (member_at w x).out ≡ Some o → (o < length w.links) × ((link_at w o).sender ≡ x)
@@ -47,11 +48,6 @@ link_owns w s l lt from to h = record {
   current = λ x j e. let k = h.current x j e in (omega (arith, length-set w.links s l, k.0), at_set (λ i a. a.receiver ≡ (link_at w i).receiver) w.links s j l no_link lt to (λ _. refl) ∙ k.1);
 }
 
--- the end of the out link
-end_owns : (why : Ending) (w : World) (o : Option ℕ) → ((k : ℕ) → o ≡ Some k → k < length w.links) → OwnEnds w → OwnEnds (end_out why w o)
-end_owns why w None l h = h
-end_owns why w (Some o) l h = link_owns w o (ended why (link_at w o)) (l o refl) refl refl h
-
 -- a link that opens
 open_owns : (w : World) (x z : ℕ) → x < size w → OwnEnds w → OwnEnds (open_to w x z)
 open_owns w x z lt h =
@@ -69,32 +65,15 @@ open_owns w x z lt h =
       current = h1.current x;
     }) h1
 
--- where it must, behind the end of another
-send_owns : (w : World) (x z : ℕ) (o : Option ℕ) → x < size w → ((k : ℕ) → o ≡ Some k → k < length w.links) → OwnEnds w → OwnEnds (send_to w x z o)
-send_owns w x z None lt l h = open_owns w x z lt h
-send_owns w x z (Some o) lt l h = by_test (nat_eq (link_at w o).receiver z)
-  where
-    by_test : (b : Bool) → OwnEnds (if b then w else open_to (with_link w o (ended Moved (link_at w o))) x z)
-    by_test true = h
-    by_test false = open_owns (with_link w o (ended Moved (link_at w o))) x z lt (link_owns w o (ended Moved (link_at w o)) (l o refl) refl refl h)
-
--- what stays of the current link is that one
-kept_some : (kept : ℕ → Bool) (c : Option ℕ) (s : ℕ) → kept_current kept c ≡ Some s → c ≡ Some s
-kept_some kept None s e = cc
-kept_some kept (Some t) s e = by_test (kept t) e
-  where
-    by_test : (b : Bool) → cond b (Some t) None ≡ Some s → Some t ≡ Some s
-    by_test true k = k
-    by_test false k = cc
-
 -- a refresh
 refreshed_owns : (w : World) (x v : ℕ) → x < size w → OwnEnds w → OwnEnds (refreshed w x v)
 refreshed_owns w x v lt h =
     let w1 : World = look_at w x v in
     let many : length w1.members ≡ length w.members = length-set w.members x (moved_to w x v) in
-    let h1 : OwnEnds w1 = set_owns w x (moved_to w x v) lt
-    (record { out = h.out x; current = λ s e. h.current x s (kept_some (λ t. is_kept w (link_at w t) v) (member_at w x).current s e) }) h in
-    send_owns w1 x (right_of (view_at w v) x) (member_at w x).out (omega arith) (λ k e. (h.out x k e).0) h1
+    refresh_composed OwnEnds w x v
+    (λ k e g. link_owns w1 k (ended Moved (link_at w1 k)) (h.out x k e).0 refl refl g)
+    (λ u same g. open_owns u x (right_of (view_at w v) x) (omega (arith, lt, many, ap length same)) g)
+    (set_owns w x (moved_to w x v) lt (record { out = h.out x; current = λ s e. h.current x s (kept_current-Some (λ t. is_kept w (link_at w t) v) (member_at w x).current s e).0 }) h)
 
 -- ---- events
 
@@ -111,17 +90,17 @@ event_owns w e g r h = each_event OwnEnds w e g.none_waits cases r
 
     cases : Cases OwnEnds w
     cases = record {
-      casts = λ x m lt up. set_owns w x (published x m (member_at w x)) lt (same_member x (published x m (member_at w x)) refl refl) h;
-      puts = λ x o lt up is. link_owns w o (pushed (link_at w o) (next_packet (member_at w x) (link_at w o).sending)) (h.out x o is).0 refl refl h;
-      takes = λ y s m. link_owns (with_member w y (taker w y s)) s (popped (link_at w s)) (h.current y s m.current).0 refl refl (set_owns w y (taker w y s) m.is_member (same_member y (taker w y s) refl refl) h);
-      leaves = λ y s lt up is. link_owns (current_is w y None) s (finished (link_at w s)) (h.current y s is).0 refl refl
-          (set_owns w y (with_current None (member_at w y)) lt (record { out = h.out y; current = λ k e. cc }) h);
-      gains = λ x o lt up is. link_owns w o _ (h.out x o is).0 refl refl h;
-      stops = λ x lt up. end_owns Halted (stop_at w x) (member_at w x).out (λ k e. (h.out x k e).0) (set_owns w x (stopped (member_at w x)) lt (same_member x (stopped (member_at w x)) refl refl) h);
-      marks = λ x d lt up rests. refreshed_owns (with_view w (marked (view_at w (newest w)) d)) x (newest w + 1) lt (record { out = h.out; current = h.current });
-      refreshes = λ x v m. refreshed_owns w x v m.is_member h;
-      picks = λ y s lt up none at upto. set_owns w y (with_current (Some s) (member_at w y)) lt
-          (record { out = h.out y; current = λ k e. let is : s ≡ k = cc in subst (λ j. (j < length w.links) × ((link_at w j).receiver ≡ y)) is (picked_to y s at) }) h;
+      casts = λ x m u. set_owns w x (published x m (member_at w x)) u.lt (same_member x (published x m (member_at w x)) refl refl) h;
+      puts = λ x o u is k. link_owns w o (pushed (link_at w o) (next_packet (member_at w x) (link_at w o).sending)) (h.out x o is).0 refl refl h;
+      takes = λ y s u m. link_owns (with_member w y (taker w y s)) s (popped (link_at w s)) (h.current y s m.current).0 refl refl (set_owns w y (taker w y s) m.is_member (same_member y (taker w y s) refl refl) h);
+      leaves = λ y s u is k. link_owns (current_is w y None) s (finished (link_at w s)) (h.current y s is).0 refl refl
+          (set_owns w y (with_current None (member_at w y)) u.lt (record { out = h.out y; current = λ k e. cc }) h);
+      gains = λ x o u is k. link_owns w o _ (h.out x o is).0 refl refl h;
+      stops = λ x u. end_composed OwnEnds Halted (stop_at w x) (member_at w x).out (λ k e. link_owns (stop_at w x) k (ended Halted (link_at w k)) (h.out x k e).0 refl refl) (set_owns w x (stopped (member_at w x)) u.lt (same_member x (stopped (member_at w x)) refl refl) h);
+      marks = λ x d u m. refreshed_owns (with_view w (marked (view_at w (newest w)) d)) x (newest w + 1) u.lt (record { out = h.out; current = h.current });
+      refreshes = λ x v u m. refreshed_owns w x v m.is_member h;
+      picks = λ y s u none at upto. set_owns w y (with_current (Some s) (member_at w y)) u.lt
+          (record { out = h.out y; current = λ j e. let is : s ≡ j = cc in subst (λ j. (j < length w.links) × ((link_at w j).receiver ≡ y)) is (picked_to y s at) }) h;
     }
 
 -- ---- runs
@@ -152,8 +131,7 @@ opening_owns credit names = record { out = λ x. (each x).out; current = λ x. (
         (cases_lt k (length names))
 
 run_owns : (w : World) (es : List Event) → IsGood w → IsRun w es → OwnEnds w → OwnEnds (last w es)
-run_owns w [] g r h = h
-run_owns w (e ∷ es) g r h = run_owns (effect w e) es (event_good w e g r.0) r.1 (event_owns w e g r.0 h)
+run_owns = run_events OwnEnds event_owns
 
 -- in every state of every run
 pub reached_owns : (credit : CreditSpec) (names : List (List ℕ)) (events : List Event) → AreOpeningNames names → IsRun (opening credit names) events → OwnEnds (last (opening credit names) events)

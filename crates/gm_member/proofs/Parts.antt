@@ -38,14 +38,24 @@ held_from x name phase view rows out current door initial more = record {
   more = more;
 }
 
+-- of one that is y in the ring
+abbrev pub held_by : ℕ → Member → Group → Option Outgoing → Option Incoming → List Incoming → ℕ → ℕ → Held
+held_by x y v out current door initial more = held_from x y.name y.phase v (rows_of y) out current door initial more
+
+-- by its view, its links and its door
+pub held_same : (x : ℕ) (y : Member) (v v' : Group) (out out' : Option Outgoing) (current current' : Option Incoming) (door door' : List Incoming) (initial more : ℕ) → v ≡ v' → out ≡ out' → current ≡ current' → door ≡ door' → held_by x y v out current door initial more ≡ held_by x y v' out' current' door' initial more
+held_same x y v v' out out' current current' door door' initial more ev eo ec ed =
+    ap (λ k. held_by x y k out current door initial more) ev
+    ∙ ap (λ k. held_by x y v' k current door initial more) eo
+    ∙ ap (λ k. held_by x y v' out' k door initial more) ec
+    ∙ ap (λ k. held_by x y v' out' current' k initial more) ed
+
 -- by what stands at its id, on its links and at its door
 pub held_is : (w : World) (x : ℕ) (y : Member) (out : Option Outgoing) (current : Option Incoming) (door : List Incoming) → member_at w x ≡ y → option_map (outgoing_in w) y.out ≡ out → option_map (incoming_in w) y.current ≡ current → door_in w x ≡ door
     → held_in w x ≡ held_from x y.name y.phase (view_at w y.version) (rows_of y) out current door w.initial w.more
 held_is w x y out current door ey eo ec ed =
-    ap (λ (z : Member). held_from x z.name z.phase (view_at w z.version) (rows_of z) (option_map (outgoing_in w) z.out) (option_map (incoming_in w) z.current) (door_in w x) w.initial w.more) ey
-    ∙ ap (λ o. held_from x y.name y.phase (view_at w y.version) (rows_of y) o (option_map (incoming_in w) y.current) (door_in w x) w.initial w.more) eo
-    ∙ ap (λ c. held_from x y.name y.phase (view_at w y.version) (rows_of y) out c (door_in w x) w.initial w.more) ec
-    ∙ ap (λ d. held_from x y.name y.phase (view_at w y.version) (rows_of y) out current d w.initial w.more) ed
+    ap (λ (z : Member). held_by x z (view_at w z.version) (option_map (outgoing_in w) z.out) (option_map (incoming_in w) z.current) (door_in w x) w.initial w.more) ey
+    ∙ held_same x y (view_at w y.version) (view_at w y.version) (option_map (outgoing_in w) y.out) out (option_map (incoming_in w) y.current) current (door_in w x) door w.initial w.more refl eo ec ed
 
 -- ---- what a link shows its receiver
 
@@ -162,3 +172,7 @@ outgoing_of l = record {
   sent = map (λ p. numbers_at l.sending.sent (p + 1)) places;
   credit = l.flow.sender;
 }
+
+-- a written link shows the same
+pub outgoing_same : (w : World) (s j : ℕ) (l : Link) → s < length w.links → outgoing_of l ≡ outgoing_of (link_at w s) → outgoing_of (link_at (with_link w s l) j) ≡ outgoing_of (link_at w j)
+outgoing_same w s j l lt e = at_set (λ i a. outgoing_of a ≡ outgoing_of (link_at w i)) w.links s j l no_link lt e (λ _. refl)

@@ -2,6 +2,7 @@
 use Rattle.std.proofs.Common.{◌≡◌, ℕ, ◌<◌, Bool, true, false, not, nat_eq, length, get_or, map, Option, Some, None, is_some, refl, sym, ap, ◌∙◌, arith}
 use Rattle.std.specs.Prelude.{◌&&◌, option_map}
 use Rattle.std.specs.List.{range_with_len}
+use Rattle.std.proofs.Math.Bool.{and-true, and-false}
 use Rattle.std.proofs.lemmas.List.{length-map, get_or-map}
 use Rattle.std.proofs.lemmas.List.Quantifiers.{position-Some}
 use Rattle.ring_names.specs.declared.reason.Reason.{Reason}
@@ -18,7 +19,8 @@ use Rattle.gm_member.specs.Held.{Incoming, no_incoming, door_at, is_for, on_some
 use Rattle.gm_member.specs.Stands.{incoming_in, outgoing_in, waits_for, door_links, door_in, held_in}
 use Rattle.gm_member.proofs.DoorLists.{filter_agree, find_both, find_agree, find_position, position_finds, filter_without}
 use Rattle.gm_member.proofs.Doors.{view_version, door_test}
-use Rattle.gm_member.proofs.DoorParts.{held_from, held_same, waits_by, member_same, without_made, up_refused_none}
+use Rattle.gm_member.proofs.Parts.{held_by, held_same}
+use Rattle.gm_member.proofs.DoorParts.{waits_by, member_same, without_made, up_refused_none}
 
 -- ---- the link that is picked
 
@@ -89,16 +91,8 @@ picked_waits w x s l none k =
   where
     tests : (r b o p : Bool) → ((r && (not b && not o)) && p) ≡ (((r && (not false && not o)) && p) && not b)
     tests false b o p = refl
-    tests true true o p = nothing (not o && p)
-      where
-        nothing : (a : Bool) → false ≡ (a && false)
-        nothing true = refl
-        nothing false = refl
-    tests true false o p = all (not o && p)
-      where
-        all : (a : Bool) → a ≡ (a && true)
-        all true = refl
-        all false = refl
+    tests true true o p = sym (and-false (not o && p))
+    tests true false o p = sym (and-true (not o && p))
 
 pub pick_stands : (w : World) (x i : ℕ) → x < size w → IsGood w → (member_at w x).current ≡ None → first_at_door (held_in w x) ≡ Some i → picked_held (held_in w x) ≡ held_in (current_is w x (Some (door_link w x i))) x
 pick_stands w x i l h none e =
@@ -111,7 +105,7 @@ pick_stands w x i l h none e =
     refl refl (ap Some p.is)
     (without_made (incoming_in w) i (door_links w x)
     ∙ ap (map (incoming_in w)) (sym (filter_without (waits_for w x) s 0 (length w.links) i p.there refl) ∙ sym (filter_agree (waits_for w' x) (λ k. waits_for w x k && not (nat_eq s k)) 0 (length w.links) (λ k _ _. picked_waits w x s l none k))))
-    ∙ sym (ap (λ m. held_from x m (view_at w m.version) (option_map (outgoing_in w) m.out) (option_map (incoming_in w) m.current) (door_in w' x) w.initial w.more) (member_same w x (with_current (Some s) (member_at w x)) l))
+    ∙ sym (ap (λ m. held_by x m (view_at w m.version) (option_map (outgoing_in w) m.out) (option_map (incoming_in w) m.current) (door_in w' x) w.initial w.more) (member_same w x (with_current (Some s) (member_at w x)) l))
 
 -- a pick that isn't refused: from no link, and the first at the door
 pub record MayPick (w : World) (x : ℕ) : Type 0 where

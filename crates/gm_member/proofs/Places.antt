@@ -6,10 +6,6 @@ use Rattle.std.proofs.lemmas.List.FromFn.{fill_by_all, get_or-map-range_with_len
 use Rattle.ring_world.proofs.Writes.{at_set}
 pub use Rattle.ring_world.proofs.Maps.{map-range_same_from, map-range_same}
 
-pub all-range_same_from : (p q : ℕ → Bool) (a n : ℕ) → ((k : ℕ) → a ≤ k → k < a + n → p k ≡ q k) → list_all p (range_with_len a n) ≡ list_all q (range_with_len a n)
-all-range_same_from p q a zero h = refl
-all-range_same_from p q a (suc n) h = ap (λ x. x && list_all p (range_with_len (a + 1) n)) (h a (omega arith) (omega arith)) ∙ ap (λ x. q a && x) (all-range_same_from p q (a + 1) n (λ k l m. h k (omega arith) (omega arith)))
-
 -- what passes each test past n passes all where it passes those below n
 pub all-range_longer_from : (p : ℕ → Bool) (a n d : ℕ) → ((k : ℕ) → a + n ≤ k → p k ≡ true) → list_all p (range_with_len a (n + d)) ≡ list_all p (range_with_len a n)
 all-range_longer_from p a zero zero h = refl

@@ -13,11 +13,12 @@ use Rattle.ring_world.specs.Machine.{World, Packet, Member, no_link, numbers_at,
 use Rattle.ring_world.specs.Step.{size, log_of, next_packet, pushed, put_on as put_in}
 use Rattle.ring_world.specs.Event.{on_link, up_refusal, put_refusal, has_nothing_new as nothing_new_in}
 use Rattle.ring_world.specs.Lawful.{row_of}
+use Rattle.group_view.proofs.Lists.{all_range_agree}
 use Rattle.gm_member.specs.Parcels.{places, carried_now}
 use Rattle.gm_member.specs.News.{carried_in}
 use Rattle.gm_member.specs.Held.{known_at, numbers_of, on_some, put_refused, has_nothing_new, next_sent, put_on, put_held, lines_on, parcel_on}
 use Rattle.gm_member.specs.Stands.{held_in, outgoing_in, lines_in, StandsFor}
-use Rattle.gm_member.proofs.Places.{map-range_same, all-range_same_from, all-range_longer}
+use Rattle.gm_member.proofs.Places.{map-range_same, all-range_longer}
 use Rattle.gm_member.proofs.Parcels.{next_numbers-nothing, carried_same}
 use Rattle.gm_member.proofs.Fit.{IsFit}
 use Rattle.gm_member.proofs.Facts.{log_past, row_past, got_zero, forgot_zero, sent_nothing, held_row, held_sent, version_is, next_at, next_past}
@@ -64,7 +65,7 @@ all_from_one t n e = all_next t 0 n ∙ sym (ap (λ b. b && list_all t (range_wi
 pub nothing_new : (w : World) (x o : ℕ) → IsFit w → has_nothing_new (held_in w x).rows (outgoing_in w o) ≡ nothing_new_in (size w) (member_at w x) (link_at w o).sending
 nothing_new w x o f =
     let t : ℕ → Bool = λ p. is_sent (row_of w x p) (numbers_at (link_at w o).sending.sent p) in
-    all-range_same_from (λ p. is_sent (known_at (held_in w x).rows p) (numbers_of (outgoing_in w o).sent p)) (λ p. t (p + 1)) 0 64
+    all_range_agree (λ p. is_sent (known_at (held_in w x).rows p) (numbers_of (outgoing_in w o).sent p)) (λ p. t (p + 1)) 0 64
     (λ p _ l. let lt : p < 64 = omega arith in ap (λ r. is_sent r (numbers_of (outgoing_in w o).sent p)) (held_row w x p lt) ∙ ap (is_sent (row_of w x (p + 1))) (held_sent w o p lt))
     ∙ all_from_one t 64 (silent_is_sent w x o 0 f f.nobody)
     ∙ all-range_longer t (size w) 65 f.sized.few (λ p ge. silent_is_sent w x o p f (log_past w p ge))

@@ -2,6 +2,7 @@
 use Rattle.std.proofs.Common.{◌≡◌, ℕ, zero, suc, ◌+◌, ◌<◌, ◌≤◌, Bool, true, false, cond, not, nat_eq, nat_lt, List, [], ◌∷◌, ◌++◌, length, get_or, map, max, Option, Some, None, is_some, refl, sym, ap, ◌∙◌, arith}
 use Rattle.std.specs.Prelude.{◌&&◌, ◌||◌, option_map}
 use Rattle.std.specs.List.{filter, range_with_len}
+use Rattle.std.proofs.Math.Bool.{and-true, and-false, or-false}
 use Rattle.std.proofs.lemmas.Bool.{le-ltb}
 use Rattle.std.proofs.lemmas.List.{append-nil}
 use Rattle.ring_names.specs.declared.reason.Reason.{Reason}
@@ -23,7 +24,8 @@ use Rattle.gm_member.specs.Stands.{incoming_in, outgoing_in, waits_for, door_in,
 use Rattle.gm_member.proofs.Places.{tabled_at}
 use Rattle.gm_member.proofs.DoorLists.{filter_agree, filter_made}
 use Rattle.gm_member.proofs.Doors.{view_version, comes_stays, passes_stays, stays_kept, stays_less, stays_for}
-use Rattle.gm_member.proofs.DoorParts.{held_from, held_same, waits_by, member_same}
+use Rattle.gm_member.proofs.Parts.{held_by, held_same}
+use Rattle.gm_member.proofs.DoorParts.{waits_by, member_same}
 use Rattle.gm_member.proofs.OpenDoors.{sends_right, arriving, new_link, sending_member, opened_world, old_links, refresh_looks, refresh_opens, link_new, incoming_old, door_after}
 
 -- ---- the conditions
@@ -33,7 +35,7 @@ pub refresh_refuses : (w : World) (x v : ℕ) → IsGood w → v ≤ newest w
     → up_refusal w x (refresh_refusal w x v) ≡ up_refused (held_in w x) (refuse_if (nat_lt v (held_in w x).view.version) (reason.ViewOutOfRange v (held_in w x).view.version (newest w)))
 refresh_refuses w x v h upto =
     ap (λ b. all (refuse_if (nat_lt v u || b) (reason.ViewOutOfRange v u (newest w)))) (le-ltb (newest w) v upto)
-    ∙ ap (λ b. all (refuse_if b (reason.ViewOutOfRange v u (newest w)))) (or_nothing (nat_lt v u))
+    ∙ ap (λ b. all (refuse_if b (reason.ViewOutOfRange v u (newest w)))) (or-false (nat_lt v u))
     ∙ sym (ap (λ n. all (refuse_if (nat_lt v n) (reason.ViewOutOfRange v n (newest w)))) (view_version w u h (h.inv.is_ring.held x)))
   where
     u : ℕ
@@ -41,10 +43,6 @@ refresh_refuses w x v h upto =
 
     all : Option Reason → Option Reason
     all later = or_else (refuse_if (is_stopped (member_at w x).phase) reason.Stopped) (or_else (refuse_if (is_waiting (member_at w x).phase) reason.Waiting) later)
-
-    or_nothing : (b : Bool) → (b || false) ≡ b
-    or_nothing true = refl
-    or_nothing false = refl
 
 -- so of a view that is there both refuse, or neither
 pub refresh_refuses_too : (w : World) (x v : ℕ) → IsGood w → v ≤ newest w → is_some (refresh_refused (held_in w x) v) ≡ is_some (up_refusal w x (refresh_refusal w x v))
@@ -97,7 +95,7 @@ pub current_lt : (w : World) (x n : ℕ) (c : Option ℕ) → ((s : ℕ) → c �
 current_lt w x n None h = refl
 current_lt w x n (Some s) h = nat_eq-not s n (λ (same : s ≡ n). omega (arith, h s refl))
 
-kept_lt : (n : ℕ) (kept : ℕ → Bool) (c : Option ℕ) → is_place c n ≡ false → is_place (kept_current kept c) n ≡ false
+pub kept_lt : (n : ℕ) (kept : ℕ → Bool) (c : Option ℕ) → is_place c n ≡ false → is_place (kept_current kept c) n ≡ false
 kept_lt n kept None e = refl
 kept_lt n kept (Some s) e = by_test (kept s)
   where
@@ -135,16 +133,8 @@ door_stays w x v s m h there = by_receiver (nat_eq (link_at w s).receiver x) ref
     q = stays (view_at w v) x (incoming_in w s)
 
     tests : (b c o p r : Bool) → (r ≡ true → p ≡ true) → (r ≡ true → b ≡ c) → ((not b && not o) && r) ≡ (((not c && not o) && p) && r)
-    tests b c o p false i j = nothing (not b && not o) ∙ sym (nothing ((not c && not o) && p))
-      where
-        nothing : (a : Bool) → (a && false) ≡ false
-        nothing true = refl
-        nothing false = refl
-    tests b c o p true i j = rw (i refl, j refl) (all (not c && not o))
-      where
-        all : (a : Bool) → (a && true) ≡ ((a && true) && true)
-        all true = refl
-        all false = refl
+    tests b c o p false i j = and-false (not b && not o) ∙ sym (and-false ((not c && not o) && p))
+    tests b c o p true i j = rw (i refl, j refl) (sym (and-true ((not c && not o) && true)))
 
     by_receiver : (b : Bool) → nat_eq (link_at w s).receiver x ≡ b → ((b && (not (is_place later s) && not (link_at w s).over)) && comes_from_left w x (link_at w s) (max v (link_at w s).opened)) ≡ (((b && (not (is_current w x s) && not (link_at w s).over)) && passes w x (link_at w s)) && q)
     by_receiver false e = refl
@@ -158,7 +148,7 @@ door_stays w x v s m h there = by_receiver (nat_eq (link_at w s).receiver x) ref
 -- ---- the link that opens
 
 -- the lines of a first packet
-first_lines : (rows : List Row) (p : ℕ) → get_or (next_lines true rows []) p no_numbers ≡ next_numbers true (get_or rows p no_row) no_numbers
+pub first_lines : (rows : List Row) (p : ℕ) → get_or (next_lines true rows []) p no_numbers ≡ next_numbers true (get_or rows p no_row) no_numbers
 first_lines [] p = refl
 first_lines (r ∷ rows) zero = refl
 first_lines (r ∷ rows) (suc p) = first_lines rows p
@@ -198,7 +188,7 @@ looks_stands w x v m h e =
     ∙ filter_made (stays (view_at w v) x) (incoming_in w) (waits_for w x) (range_with_len 0 n)
     ∙ ap (map (incoming_in w)) (filter_agree (λ s. waits_for w x s && stays (view_at w v) x (incoming_in w s)) (waits_for w' x) 0 n
     (λ s a b. sym (door_stays w x v s m h (omega arith)) ∙ sym (ap (λ k. waits_by w x k.current k.version s) (member_same w x (moved_to w x v) m.is_member)))))
-    ∙ sym (ap (λ k. held_from x k (view_at w k.version) (option_map (outgoing_in w) k.out) (option_map (incoming_in w) k.current) (door_in w' x) w.initial w.more) (member_same w x (moved_to w x v) m.is_member))
+    ∙ sym (ap (λ k. held_by x k (view_at w k.version) (option_map (outgoing_in w) k.out) (option_map (incoming_in w) k.current) (door_in w' x) w.initial w.more) (member_same w x (moved_to w x v) m.is_member))
 
 -- where a link opens
 opens_stands : (w : World) (x v : ℕ) → MayLook w x v → IsGood w → sends_right w x v ≡ false → record (refreshed_held (held_in w x) (view_at w v)) { door = kept_door (view_at w v) x (door_in w x) ++ arriving w x v x } ≡ held_in (opened_world w x v (old_links w x)) x
@@ -218,7 +208,7 @@ opens_stands w x v m h e =
     ∙ ap (λ ls. ls ++ cond (nat_eq (right_of (view_at w v) x) x) (fresh_in w.initial w.more x v ∷ []) []) (filter_made (stays (view_at w v) x) (incoming_in w) (waits_for w x) (range_with_len 0 n))
     ∙ sym (door_after w x v x (λ s. waits_for w x s && stays (view_at w v) x (incoming_in w s)) (kept_current kept y.current) v m h m.upto (kept_lt n kept y.current none) (λ s l. door_stays w x v s m h l))
     ∙ sym (ap (λ k. map (incoming_in w') (filter (waits_by w' x k.current k.version) (range_with_len 0 (length w'.links)))) here))
-    ∙ sym (ap (λ k. held_from x k (view_at w k.version) (option_map (outgoing_in w') k.out) (option_map (incoming_in w') k.current) (door_in w' x) w.initial w.more) here)
+    ∙ sym (ap (λ k. held_by x k (view_at w k.version) (option_map (outgoing_in w') k.out) (option_map (incoming_in w') k.current) (door_in w' x) w.initial w.more) here)
   where
     same_current : (w : World) (x v : ℕ) → MayLook w x v → IsGood w → option_map (incoming_in w) (kept_current (λ s. is_kept w (link_at w s) v) (member_at w x).current) ≡ option_map (incoming_in (opened_world w x v (old_links w x))) (kept_current (λ s. is_kept w (link_at w s) v) (member_at w x).current)
     same_current w x v m h = by_current (member_at w x).current refl

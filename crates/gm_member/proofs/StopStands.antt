@@ -4,11 +4,10 @@ use Rattle.std.proofs.lemmas.List.{length-set, get_or-set_same}
 use Rattle.ring_world.specs.declared.phase.Ending.TheVariants.{Halted}
 use Rattle.ring_world.specs.Machine.{World, Member, Link, no_link, no_member, member_at, link_at}
 use Rattle.ring_world.specs.Step.{size, stop_at, stopped, ended, end_out}
-use Rattle.ring_world.proofs.Lists.{at_set}
 use Rattle.gm_member.specs.Held.{Held, stopped_held}
 use Rattle.gm_member.specs.Stands.{held_in, outgoing_in}
 use Rattle.gm_member.proofs.Fit.{IsFit}
-use Rattle.gm_member.proofs.Parts.{held_is, seen, current_same, door_still, outgoing_of, there_same}
+use Rattle.gm_member.proofs.Parts.{held_is, seen, seen_same, current_same, door_still, outgoing_of, outgoing_same, there_same}
 
 -- links that show the same at both ends
 pub record ShowSame (w : World) (ls : List Link) : Type 0 where
@@ -20,8 +19,8 @@ pub record ShowSame (w : World) (ls : List Link) : Type 0 where
 pub end_shows : (w : World) (o : ℕ) → o < length w.links → ShowSame w (set w.links o (ended Halted (link_at w o)))
 end_shows w o lt = record {
   many = length-set w.links o (ended Halted (link_at w o));
-  seen_by = λ j. at_set (λ i l. seen l ≡ seen (link_at w i)) w.links o j (ended Halted (link_at w o)) no_link lt refl (λ _. refl);
-  out_of = λ j. at_set (λ i l. outgoing_of l ≡ outgoing_of (link_at w i)) w.links o j (ended Halted (link_at w o)) no_link lt refl (λ _. refl);
+  seen_by = λ j. seen_same w o j (ended Halted (link_at w o)) lt refl;
+  out_of = λ j. outgoing_same w o j (ended Halted (link_at w o)) lt refl;
 }
 
 -- all as they were

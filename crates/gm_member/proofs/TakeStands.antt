@@ -16,7 +16,7 @@ use Rattle.ring_world.specs.Rows.{Row, no_row, no_numbers}
 use Rattle.ring_world.specs.Refusal.{refuse_if, or_else, is_empty}
 use Rattle.ring_world.specs.Machine.{World, Packet, Member, no_link, no_member, row_at, numbers_at, member_at, link_at, view_at}
 use Rattle.ring_world.specs.Walk.{oldest}
-use Rattle.ring_world.specs.Step.{size, log_of, is_owned, taken_row, taker, popped, take_from}
+use Rattle.ring_world.specs.Step.{size, with_member, log_of, is_owned, taken_row, taker, popped, take_from}
 use Rattle.ring_world.specs.Event.{of_member, on_link, is_stopped, running_refusal, take_refusal, end_refusal, version_refusal, refusal, at_found, taken_by, effect}
 use Rattle.ring_world.specs.Lawful.{row_of}
 use Rattle.ring_world.proofs.Take.{row_at-taker, take_row}
@@ -29,9 +29,8 @@ use Rattle.gm_member.proofs.Places.{map-range_same, tabled_at}
 use Rattle.gm_member.proofs.Parcels.{accepted_row-own, accepted_row-other, line_news_is}
 use Rattle.gm_member.proofs.Fit.{IsFit}
 use Rattle.gm_member.proofs.Facts.{log_past, row_past, oldest_within, oldest_nothing, held_row}
-use Rattle.gm_member.proofs.Parts.{held_is, rows_of, seen, incoming_seen, outgoing_of, there_same, waits_same, door_but, current_waits_not}
+use Rattle.gm_member.proofs.Parts.{held_is, rows_of, seen, incoming_seen, outgoing_same, there_same, waits_same, door_but, current_waits_not}
 use Rattle.gm_member.proofs.PutStands.{on_some_link}
-use Rattle.ring_world.proofs.Lists.{at_set}
 
 -- ---- the refusal
 
@@ -171,11 +170,7 @@ accepted_rows_are w x s lines f t e =
     ∙ ap (accepted_row (owned w x s (p + 1)) (row_of w x (p + 1))) (line_at w (oldest (link_at w s)) p pl)
     ∙ accepted_at w x s p (p + 1) f t (omega arith))
 
--- a take leaves each link to its sender as it was
-pub take_outgoing : (w : World) (x s j : ℕ) → s < length w.links → outgoing_in (take_from w x s) j ≡ outgoing_in w j
-take_outgoing w x s j sl = at_set (λ i a. outgoing_of a ≡ outgoing_of (link_at w i)) w.links s j (popped (link_at w s)) no_link sl refl (λ _. refl)
-
--- and each other link
+-- a take leaves each other link as it was
 pub take_other : (w : World) (x s j : ℕ) → j ≢ s → link_at (take_from w x s) j ≡ link_at w j
 take_other w x s j ne = get_or-set_other w.links s j (popped (link_at w s)) no_link ne
 
@@ -188,7 +183,7 @@ take_stands w x s k f t e =
     ap (λ c. at_some (option_map (incoming_in w) c) h (took_from h k)) t.current
     ∙ ap (λ rs. record h { rows = rs; current = Some (counted_in (incoming_in w s)) }) (accepted_rows_are w x s k.lines f t e)
     ∙ sym (held_is w' x (taker w x s) h.out (Some (counted_in (incoming_in w s))) h.door now
-    (there_same (outgoing_in w') (outgoing_in w) (member_at w x).out (λ j _. take_outgoing w x s j sl))
+    (there_same (outgoing_in w') (outgoing_in w) (member_at w x).out (λ j _. outgoing_same (with_member w x (taker w x s)) s j (popped (link_at w s)) sl refl))
     (ap (option_map (incoming_in w')) t.current ∙ ap (λ l. Some (incoming_seen (seen l))) (get_or-set_same w.links s (popped (link_at w s)) no_link sl))
     (door_but w w' x s (length-set w.links s (popped (link_at w s))) (current_waits_not w x s t.current) (current_waits_not w' x s (ap (λ (y : Member). y.current) now ∙ t.current))
     (λ j ne. (

@@ -1,5 +1,5 @@
 -- What is done to an end of a link that a member has.
-use Rattle.std.specs.Prelude.{◌≡◌, ◌⊎◌, ◌<◌, ◌≤◌, ℕ, List, [], ◌∷◌, ⊤, Option, None, Some, MatchOption}
+use Rattle.std.specs.Prelude.{◌≡◌, ◌⊎◌, ◌<◌, ◌≤◌, ℕ, Bool, false, List, [], ◌∷◌, ⊤, Option, None, Some, MatchOption}
 use mathlib.Core.List.{IsPrefix}
 use Rattle.ring_names.specs.declared.reason.Reason.{Reason}
 use Rattle.ring_names.specs.declared.reason.Reason.TheVariants.{LinkFull, NothingToTake, EndNext, PacketNext, ViewTooOld}
@@ -13,6 +13,10 @@ use Rattle.gm_member.specs.Parcels.{Parcel}
 use Rattle.gm_member.specs.Loads.{parcel_in, on_link, GrantsIf}
 
 module _ {O : Type 0} where
+  -- the end is there, and hasn't ended
+  abbrev pub EndIsOpen : (O → Bool) → Option O → Type 0
+  EndIsOpen ended a = MatchOption a ⊥ (λ o. ended o ≡ false)
+
   -- the packet was put on the end
   abbrev pub EndPuts : (O → Item Load → O → Type 0) → Parcel → Option O → Option O → Type 0
   EndPuts puts k a b = (o : O) × (p : O) × (a ≡ Some o) × (b ≡ Some p) × puts o (on_link k) p

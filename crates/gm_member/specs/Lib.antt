@@ -1,4 +1,5 @@
 pub mod Arrivals
+pub mod Calls
 pub mod Ends
 pub mod Held
 pub mod Loads

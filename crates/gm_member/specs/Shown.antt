@@ -20,7 +20,7 @@ use Rattle.gm_member.specs.Spares.{IsSpareFor, OpensOn}
 use Rattle.gm_member.specs.View.{row_of, out_of, in_of, end_of, count_of, ring_link, kept_link, kept_links, left_current, left_links}
 use Rattle.gm_member.specs.Parcels.{Parcel}
 use Rattle.gm_member.specs.Held.{Held, at_some, parcel_on, without, sends_to}
-use Rattle.gm_member.specs.Ends.{EndPuts, EndGets, EndLooks, EndTook, EndEnds}
+use Rattle.gm_member.specs.Ends.{EndIsOpen, EndPuts, EndGets, EndLooks, EndTook, EndEnds}
 
 -- The ends that a member has: of the link on which it sends, with the grant that it keeps of it; of the one from which it takes; of
 -- those at its door; and those that it has replaced or left, the oldest first. An end that is lent isn't there.
@@ -87,9 +87,13 @@ When true P = P
 When false P = ⊤
 
 module _ {O I : Type 0} where
-  -- the end of the link on which a running member sends is there, and hasn't ended
+  -- the end of the link on which a member sends, where it sends on one, is there, and hasn't ended
+  abbrev pub OutIsOpen : (O → Bool) → Member O I → Type 0
+  OutIsOpen ended m = MatchOption m.out ⊤ (λ l. EndIsOpen ended l.end)
+
+  -- so it is for a running member
   abbrev pub OutIsReady : (O → Bool) → Member O I → Type 0
-  OutIsReady ended m = When (runs_phase m.phase) (MatchOption m.out ⊤ (λ l. MatchOption l.end ⊥ (λ o. ended o ≡ false)))
+  OutIsReady ended m = When (runs_phase m.phase) (OutIsOpen ended m)
 
   -- the end of the link from which it takes is there
   abbrev pub InIsReady : Member O I → Type 0

@@ -1,5 +1,8 @@
 //! Why a call of a member is not done.
-use ring_names::Reason;
+ghost use Rattle.std.specs.Prelude.{◌≡◌};
+ghost use Rattle.gm_member.specs.declared.fault.MemberFault.TheVariants as faults;
+
+use ring_names::{OutOfMemory, Reason};
 
 /// Why a call of a member is not done. The member is then as before.
 #[derive(Clone, Copy, PartialEq, Eq, Debug)]
@@ -8,4 +11,20 @@ pub enum MemberFault {
     Refused(Reason),
     /// Memory was wanted and not found.
     OutOfMemory,
+}
+
+impl From<Reason> for MemberFault {
+    ghost from_gives = { λ reason fault. fault ≡ faults.Refused reason };
+
+    fn from(reason: Reason) -> MemberFault {
+        MemberFault::Refused(reason)
+    }
+}
+
+impl From<OutOfMemory> for MemberFault {
+    ghost from_gives = { λ _ fault. fault ≡ faults.OutOfMemory };
+
+    fn from(_error: OutOfMemory) -> MemberFault {
+        MemberFault::OutOfMemory
+    }
 }

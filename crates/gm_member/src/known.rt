@@ -1,9 +1,8 @@
 //! What a member keeps of each origin.
-ghost use Rattle.std.specs.Prelude.{◌≡◌, ℕ, ◌<◌, ◌≤◌, ◌+◌, ◌-◌, ◌^◌, IfOk, OnOk, OnErr, IfErr, length, map, nat_eq};
-ghost use Rattle.std.specs.Prelude.{slice_index_or, slice_set};
+ghost use Rattle.std.specs.Prelude.{◌≡◌, ℕ, ◌<◌, ◌+◌, ◌-◌, ◌^◌, IfOk, OnOk, OnErr, IfErr, length, map, slice_set};
 ghost use Rattle.std.specs.List.{range_with_len, list_all};
-ghost use Rattle.ring_world.specs.Rows.{no_row, no_numbers, published_row, is_sent as sent_is, lo_of, next_numbers};
-ghost use Rattle.gm_member.specs.Parcels.{carried_now, accepted_row, carried_at, no_carried};
+ghost use Rattle.ring_world.specs.Rows.{no_row, no_numbers, published_row, is_sent as sent_is, next_numbers};
+ghost use Rattle.gm_member.specs.Parcels.{carried_now, accepted_row};
 ghost use Rattle.gm_member.specs.View.{row_of, known_at, numbers_of, carried_of};
 
 use crate::packet::Line;
@@ -24,14 +23,10 @@ pub struct Known {
 fn copied(alloc: Global, messages: &[Message]) -> Result<Vec<Message>, OutOfMemory>
     ensures { IfOk result (λ v. v.items ≡ messages.now) }
 {
-    let Ok(mut all) = Vec::with_capacity(alloc, messages.len()) else {
-        return Err(OutOfMemory);
-    };
+    let mut all = Vec::with_capacity(alloc, messages.len())?;
     for message in messages {
         let message = message.copy()?;
-        if all.push(message).is_err() {
-            return Err(OutOfMemory);
-        }
+        all.push(message)?;
     }
     Ok(all)
 }
@@ -48,9 +43,7 @@ pub(crate) fn nothing_known(alloc: Global, n: usize) -> Result<Vec<Known>, OutOf
             forgot: 0,
             retired: 0,
         };
-        if known.push(row).is_err() {
-            return Err(OutOfMemory);
-        }
+        known.push(row)?;
     }
     Ok(known)
 }
@@ -59,17 +52,14 @@ pub(crate) fn nothing_known(alloc: Global, n: usize) -> Result<Vec<Known>, OutOf
 pub(crate) fn nothing_sent(alloc: Global, n: usize) -> Result<Vec<Numbers>, OutOfMemory>
     ensures { IfOk result (λ v. v.items ≡ map (λ (_ : ℕ). no_numbers) (range_with_len 0 n)) }
 {
-    match (0..n)
+    let sent = (0..n)
         .map(|_p| Numbers {
             lo: 0,
             got: 0,
             forgot: 0,
         })
-        .collect(alloc)
-    {
-        Ok(sent) => Ok(sent),
-        Err(_) => Err(OutOfMemory),
-    }
+        .collect(alloc)?;
+    Ok(sent)
 }
 
 /// A message joins the list at a place, and its number there is answered.
@@ -148,13 +138,10 @@ pub(crate) fn next_of_all(
         ≡ map (λ p. next_numbers fresh (known_at (map row_of known.now) p) (numbers_of sent.now p))
         (range_with_len 0 (length known.now))) }
 {
-    match (0..known.len())
+    let numbers = (0..known.len())
         .map(|p| next_at(fresh, known, sent, p))
-        .collect(alloc)
-    {
-        Ok(numbers) => Ok(numbers),
-        Err(_) => Err(OutOfMemory),
-    }
+        .collect(alloc)?;
+    Ok(numbers)
 }
 
 #[tactic(auto, using(crate::proofs::RowViews::read_row))]
@@ -195,9 +182,7 @@ pub(crate) fn next_lines(
     let mut lines = Vec::new(alloc);
     for p in 0..known.len() {
         let line = line_for(alloc, fresh, known, sent, p)?;
-        if lines.push(line).is_err() {
-            return Err(OutOfMemory);
-        }
+        lines.push(line)?;
     }
     Ok(lines)
 }

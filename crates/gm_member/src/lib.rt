@@ -18,8 +18,6 @@ mod questions;
 mod rows;
 mod spare;
 mod taken;
-#[cfg(test)]
-mod tests;
 mod views;
 
 pub use fault::MemberFault;

@@ -39,7 +39,7 @@ pub struct InLink<I> {
 }
 
 impl<O> OutLink<O> {
-    ghost use Rattle.std.specs.Prelude.{◌≡◌, map, length, IfOk, IfSome, IfNone, Option};
+    ghost use Rattle.std.specs.Prelude.{◌≡◌, map, length, IfOk, Option};
     ghost use Rattle.ring_names.specs.declared.reason.Reason.{Reason};
     ghost use Rattle.gm_member.specs.Held.{out_refused, parcel_on, next_sent};
     ghost use Rattle.gm_member.specs.View.{out_of, row_of};
@@ -102,11 +102,11 @@ impl<O> OutLink<O> {
 }
 
 impl<O: LinkOut<Load>> OutLink<O> {
-    ghost use Rattle.std.specs.Prelude.{◌≡◌, ◌≤◌, false, map, length, OnOk, OnErr, IfErr, None, Some, MatchOption};
+    ghost use Rattle.std.specs.Prelude.{◌≡◌, false, map, length, OnOk, OnErr, IfErr, None, Some};
     ghost use Rattle.ring_names.specs.declared.reason.Reason.{Reason};
     ghost use Rattle.gm_member.specs.Held.{out_refused, parcel_on, put_on};
     ghost use Rattle.gm_member.specs.View.{out_of, row_of};
-    ghost use Rattle.gm_member.specs.Ends.{EndPuts, EndLooks, IsPutFault};
+    ghost use Rattle.gm_member.specs.Ends.{EndIsOpen, EndPuts, EndLooks, IsPutFault};
 
     /// The next packet of these rows goes on the link, of a sender whose view is of this version.
     pub(crate) fn put(
@@ -116,7 +116,7 @@ impl<O: LinkOut<Load>> OutLink<O> {
         known: &[Known],
     ) -> Result<(), MemberFault>
         requires known { length known.now ≡ 64 }
-        requires open { MatchOption self.old.end ⊥ (λ o. O.ended o ≡ false) }
+        requires open { EndIsOpen O.ended self.old.end }
         requires enabled { out_refused (map row_of known.now) (out_of self.old) ≡ None }
         ensures ok { OnOk result (out_of self.new ≡ put_on (map row_of known.now) (out_of self.old)) }
         ensures packet { OnOk result (EndPuts O.puts (parcel_on version (map row_of known.now) (out_of self.old))
@@ -125,14 +125,10 @@ impl<O: LinkOut<Load>> OutLink<O> {
         ensures err { OnErr result (out_of self.new ≡ out_of self.old) }
         ensures looks { OnErr result (EndLooks O.looked self.old.end self.new.end) }
         ensures fault { IfErr result (λ fault. IsPutFault O.free fault self.new.end) }
-        ensures open { MatchOption self.new.end ⊥ (λ o. O.ended o ≡ false) }
+        ensures open { EndIsOpen O.ended self.new.end }
     {
-        let Ok(packet) = self.packet(alloc, version, known) else {
-            return Err(MemberFault::OutOfMemory);
-        };
-        let Ok(sent) = self.numbers(alloc, known) else {
-            return Err(MemberFault::OutOfMemory);
-        };
+        let packet = self.packet(alloc, version, known)?;
+        let sent = self.numbers(alloc, known)?;
         let Some(end) = &mut self.end else {
             unreachable!()
         };
@@ -148,14 +144,14 @@ impl<O: LinkOut<Load>> OutLink<O> {
 }
 
 impl<O: LinkOut<Load> + Drop> OutLink<O> {
-    ghost use Rattle.std.specs.Prelude.{◌≡◌, ◌↔◌, ◌⊎◌, ◌<◌, [], false, true, length, IsTrue, IfSome, IfNone, IsSome};
-    ghost use Rattle.std.specs.Prelude.{None, Some, MatchOption, ⊤, ℕ};
+    ghost use Rattle.std.specs.Prelude.{◌≡◌, ◌⊎◌, ◌<◌, [], false, true, length, IfSome, IfNone, IsSome};
+    ghost use Rattle.std.specs.Prelude.{None, Some, MatchOption, ⊤};
     ghost use Rattle.gm_member.specs.View.{out_of};
-    ghost use Rattle.gm_member.specs.Ends.{EndGets, EndLooks};
+    ghost use Rattle.gm_member.specs.Ends.{EndIsOpen, EndGets, EndLooks};
 
     /// The link ends.
     pub(crate) fn finish(&mut self, reason: EndReason)
-        requires { MatchOption self.old.end ⊥ (λ o. O.ended o ≡ false) }
+        requires { EndIsOpen O.ended self.old.end }
         ensures same { out_of self.new ≡ out_of self.old }
         ensures ends { EndGets O.puts reason self.old.end self.new.end }
         ensures kept { self.new.kept ≡ self.old.kept }
@@ -168,7 +164,7 @@ impl<O: LinkOut<Load> + Drop> OutLink<O> {
 
     /// The end of the link, on which its end was put.
     pub(crate) fn into_ended(self, reason: EndReason) -> O
-        requires { MatchOption self.end ⊥ (λ o. O.ended o ≡ false) }
+        requires { EndIsOpen O.ended self.end }
         ensures { EndGets O.puts reason self.end (Some result) }
     {
         let mut link = self;
@@ -181,14 +177,14 @@ impl<O: LinkOut<Load> + Drop> OutLink<O> {
 
     /// Whether a grant is kept, or has come back.
     pub(crate) fn has_grant(&mut self) -> bool
-        requires { MatchOption self.old.end ⊥ (λ o. O.ended o ≡ false) }
+        requires { EndIsOpen O.ended self.old.end }
         ensures same { out_of self.new ≡ out_of self.old }
         ensures kept { self.new.kept ≡ self.old.kept }
         ensures looks { EndLooks O.looked self.old.end self.new.end }
         ensures some { result ≡ true → IsSome self.new.kept
             ⊎ MatchOption self.new.end ⊥ (λ o. 0 < length (O.grants o)) }
         ensures none { result ≡ false → (self.new.kept ≡ None) × MatchOption self.new.end ⊤ (λ o. O.grants o ≡ []) }
-        ensures open { MatchOption self.new.end ⊥ (λ o. O.ended o ≡ false) }
+        ensures open { EndIsOpen O.ended self.new.end }
     {
         if self.kept.is_some() {
             return true;
@@ -201,7 +197,7 @@ impl<O: LinkOut<Load> + Drop> OutLink<O> {
 
     /// The grant that is kept, or the oldest that has come back, which is kept from now on.
     pub(crate) fn granted(&mut self) -> Option<u32>
-        requires { MatchOption self.old.end ⊥ (λ o. O.ended o ≡ false) }
+        requires { EndIsOpen O.ended self.old.end }
         ensures same { out_of self.new ≡ out_of self.old }
         ensures some { IfSome result (λ amount. (self.new.kept ≡ Some amount)
             × (((self.old.kept ≡ Some amount) × (self.new.end ≡ self.old.end))
@@ -209,7 +205,7 @@ impl<O: LinkOut<Load> + Drop> OutLink<O> {
             × O.gains o amount p)) }
         ensures none { IfNone result ((self.old.kept ≡ None) × (self.new.kept ≡ None)
             × EndLooks O.looked self.old.end self.new.end × MatchOption self.new.end ⊤ (λ o. O.grants o ≡ [])) }
-        ensures open { MatchOption self.new.end ⊥ (λ o. O.ended o ≡ false) }
+        ensures open { EndIsOpen O.ended self.new.end }
     {
         if self.kept.is_some() {
             return self.kept;
@@ -239,55 +235,15 @@ impl<I> InLink<I> {
 }
 
 impl<I: LinkIn<Load>> InLink<I> {
-    ghost use Rattle.std.specs.Prelude.{◌≡◌, ◌≤◌, ◌+◌, map, length, OnOk, OnErr, IfOk, IfErr, IfSome, IfNone, None};
-    ghost use Rattle.std.specs.Prelude.{Some, IsSome, MatchOption, Option};
+    ghost use Rattle.std.specs.Prelude.{◌≡◌, ◌≤◌, ◌+◌, map, length, OnOk, OnErr, IfOk, IfErr, None, Some, IsSome};
+    ghost use Rattle.std.specs.Prelude.{MatchOption};
     ghost use Rattle.credit_flow.specs.Credit.{grant_due};
     ghost use Rattle.ring_world.specs.Step.{is_owned};
     ghost use Rattle.gm_member.specs.Held.{counted_in};
     ghost use Rattle.gm_member.specs.News.{news_below};
     ghost use Rattle.gm_member.specs.View.{in_of, row_of};
-    ghost use Rattle.gm_member.specs.Ends.{EndLooks, EndTakes, EndTook, EndEnds, PacketIsNext, EndIsNext};
-    ghost use Rattle.gm_member.specs.Ends.{IsTakeRefusal, IsEndRefusal, IsTakeFault};
+    ghost use Rattle.gm_member.specs.Ends.{EndLooks, EndTakes, EndTook, EndEnds, IsEndRefusal, IsTakeFault};
     ghost use Rattle.gm_member.specs.Loads.{parcel_in, GrantsIf};
-
-    /// Why no packet may be taken, by a member whose view is of this version: `NothingToTake` where the end gives no
-    /// item in this call, `EndNext` where the next item is the end of the link, `ViewTooOld` where it is a packet of a
-    /// newer version.
-    pub(crate) fn take_refusal(&mut self, version: u32) -> Option<Reason>
-        requires { IsSome self.old.end }
-        ensures same { in_of self.new ≡ in_of self.old }
-        ensures looks { EndLooks I.looked self.old.end self.new.end }
-        ensures some { IfSome result (λ r. IsTakeRefusal I.known I.waiting version r self.new.end) }
-        ensures none { IfNone result (PacketIsNext I.known (λ k. k.view ≤ version) self.new.end) }
-    {
-        let Some(end) = &mut self.end else {
-            unreachable!()
-        };
-        match end.peek() {
-            Some(Item::Load(load)) => load.view_refusal(version),
-            Some(Item::End(_)) => Some(Reason::EndNext),
-            None => Some(Reason::NothingToTake),
-        }
-    }
-
-    /// Why its end may not be taken: `NothingToTake` where the end gives no item in this call, `PacketNext` where the
-    /// next item is a packet.
-    pub(crate) fn end_refusal(&mut self) -> Option<Reason>
-        requires { IsSome self.old.end }
-        ensures same { in_of self.new ≡ in_of self.old }
-        ensures looks { EndLooks I.looked self.old.end self.new.end }
-        ensures some { IfSome result (λ r. IsEndRefusal I.known I.waiting r self.new.end) }
-        ensures none { IfNone result (EndIsNext I.known self.new.end) }
-    {
-        let Some(end) = &mut self.end else {
-            unreachable!()
-        };
-        match end.peek() {
-            Some(Item::Load(_)) => Some(Reason::PacketNext),
-            Some(Item::End(_)) => None,
-            None => Some(Reason::NothingToTake),
-        }
-    }
 
     /// The oldest packet, and copies of the messages that it brings to a member with these rows and this view.
     fn take_load(
@@ -314,16 +270,14 @@ impl<I: LinkIn<Load>> InLink<I> {
         };
         let news = match end.peek() {
             Some(Item::Load(load)) => {
-                if let Some(reason) = load.view_refusal(view.version) {
+                let packet = load.packet();
+                if let Some(reason) = packet.view_refusal(view.version) {
                     return Err(MemberFault::Refused(reason));
                 }
-                load.news_from(alloc, known, view, id, from)
+                packet.news_from(alloc, known, view, id, from)?
             }
             Some(Item::End(_)) => return Err(MemberFault::Refused(Reason::EndNext)),
             None => return Err(MemberFault::Refused(Reason::NothingToTake)),
-        };
-        let Ok(news) = news else {
-            return Err(MemberFault::OutOfMemory);
         };
         match end.take() {
             Some(Item::Load(load)) => Ok((news, load)),

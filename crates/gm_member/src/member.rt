@@ -53,8 +53,8 @@ pub struct Member<O, I> {
 
 impl<O: LinkPair<Load, In = I>, I: LinkIn<Load> + Drop> Member<O, I> {
     ghost use Rattle.std.specs.Prelude.{◌≡◌, ◌⊎◌, ◌+◌, ◌-◌, ◌<◌, ◌≤◌, ℕ, ◌∷◌, [], OnOk, OnErr, IfOk, IfErr, IfSome};
-    ghost use Rattle.std.specs.Prelude.{IfNone, IsErrOf, IsSome, None, Some, Ok, Err, length, false, true, Option};
-    ghost use Rattle.std.specs.Prelude.{MatchOption, ⊤, ◌++◌};
+    ghost use Rattle.std.specs.Prelude.{IfNone, IsSome, None, Some, Ok, Err, length, false, true, Option};
+    ghost use Rattle.std.specs.Prelude.{MatchOption, ◌++◌};
     ghost use Rattle.ring_names.specs.declared.reason.Reason.{Reason};
     ghost use Rattle.ring_world.specs.Rows.{most_members};
     ghost use Rattle.ring_world.specs.declared.event.Event.TheVariants.{Put, Take, TakeEnd, Gain, Stop, Pick, Refresh};
@@ -79,7 +79,9 @@ impl<O: LinkPair<Load, In = I>, I: LinkIn<Load> + Drop> Member<O, I> {
     ghost use Rattle.gm_member.specs.Shown.{Ends, held_of, ends_of, out_name_of, OutIsReady, InIsReady, PutsOn};
     ghost use Rattle.gm_member.specs.Shown.{LooksOut, LooksIn, TookOn, LeavesOn, EndsOn, KeepsGrant, NoGrantBack};
     ghost use Rattle.gm_member.specs.Shown.{GrantIsBack, LooksBy, MovesOn, IsReadyToMove, SendsOn, MovesTo, PicksOn};
-    ghost use Rattle.gm_member.specs.Shown.{KeepsSpare};
+    ghost use Rattle.gm_member.specs.Shown.{KeepsSpare, OutIsOpen};
+    ghost use Rattle.gm_member.specs.Calls.{Heeds, HandsBack, Publishes, Puts, Takes, TakesEnd, Acts, Refreshes};
+    ghost use Rattle.gm_member.specs.Calls.{SameSelf, SameLinks};
 
     /// A member of the ring's opening, which has published and heard nothing. The caller gives its id in the ring,
     /// the view in which the ring opens, the credit of the ring's links, the end of the link to its right neighbour
@@ -238,25 +240,13 @@ impl<O: LinkPair<Load, In = I>, I: LinkIn<Load> + Drop> Member<O, I> {
             → refusal w (publishing (held_of self.old).name message) ≡ Some r
             → result ≡ Err (message, MemberFault.Refused r)) }
     {
-        match self.log(message) {
-            Ok(number) => Ok(number),
-            Err(fault) => Err(fault),
-        }
+        self.log(message)
     }
 
     /// The member's own part of `publish`.
     fn log(&mut self, message: Message) -> Result<u64, (Message, MemberFault)>
-        ensures enabled { OnOk result (up_refused (held_of self.old) None ≡ None) }
-        ensures ok { OnOk result (held_of self.new ≡ published_held (held_of self.old) message) }
-        ensures number { IfOk result (λ n.
-            n ≡ (known_at (held_of self.old).rows ((held_of self.old).id - 1)).got + 1) }
-        ensures refused { (r : Reason) → up_refused (held_of self.old) None ≡ Some r
-            → result ≡ Err (message, MemberFault.Refused r) }
-        ensures fault { IfErr result (λ e. (e.0 ≡ message) × ((e.1 ≡ MemberFault.OutOfMemory)
-            ⊎ (r : Reason) × (e.1 ≡ MemberFault.Refused r) × (up_refused (held_of self.old) None ≡ Some r))) }
-        ensures memory { IfErr result (λ e. e.1 ≡ MemberFault.OutOfMemory → up_refused (held_of self.old) None ≡ None) }
-        ensures err { OnErr result (held_of self.new ≡ held_of self.old) }
-        ensures ends { ends_of self.new ≡ ends_of self.old }
+        ensures back { HandsBack (up_refused (held_of self.old) None) message result }
+        ensures publishes { Publishes message self.old self.new result }
     {
         if let Some(reason) = self.up_refusal() {
             return Err((message, MemberFault::Refused(reason)));
@@ -345,26 +335,14 @@ impl<O: LinkPair<Load, In = I>, I: LinkIn<Load> + Drop> Member<O, I> {
         ensures not_enabled { WhereItStands (held_of self.old) (λ w x. (r : Reason)
             → refusal w (Put (held_of self.old).name) ≡ Some r → result ≡ Err (MemberFault.Refused r)) }
     {
-        match self.put_next() {
-            Ok(()) => Ok(()),
-            Err(fault) => Err(fault),
-        }
+        self.put_next()
     }
 
     /// The member's own part of `put`.
     fn put_next(&mut self) -> Result<(), MemberFault>
         requires { OutIsReady O.ended self.old }
-        ensures enabled { OnOk result (put_refused (held_of self.old) ≡ None) }
-        ensures ok { OnOk result (held_of self.new ≡ put_held (held_of self.old)) }
-        ensures packet { OnOk result (PutsOn O.puts self.old self.new) }
-        ensures refused { (r : Reason) → put_refused (held_of self.old) ≡ Some r
-            → result ≡ Err (MemberFault.Refused r) }
-        ensures fault { IfErr result (λ fault.
-            ((r : Reason) × (fault ≡ MemberFault.Refused r) × (put_refused (held_of self.old) ≡ Some r))
-            ⊎ ((put_refused (held_of self.old) ≡ None) × IsPutFault O.free fault (ends_of self.new).out)) }
-        ensures err { OnErr result (held_of self.new ≡ held_of self.old) }
-        ensures looks { OnErr result (LooksOut O.looked self.old self.new) }
-        ensures ready { OutIsReady O.ended self.new }
+        ensures heeds { Heeds (put_refused (held_of self.old)) result }
+        ensures puts { Puts O.free O.ended O.puts O.looked self.old self.new result }
     {
         if let Some(reason) = self.put_refusal() {
             return Err(MemberFault::Refused(reason));
@@ -424,30 +402,14 @@ impl<O: LinkPair<Load, In = I>, I: LinkIn<Load> + Drop> Member<O, I> {
             ((s : ℕ) → (member_at w x).current ≡ Some s → the_take_refusal w x s ≡ None)
             → (r : Reason) → refusal w (Take (held_of self.old).name) ≡ Some r → result ≡ Err (MemberFault.Refused r)) }
     {
-        match self.take_next() {
-            Ok(taken) => Ok(taken),
-            Err(fault) => Err(fault),
-        }
+        self.take_next()
     }
 
     /// The member's own part of `take`.
     fn take_next(&mut self) -> Result<Vec<Taken>, MemberFault>
         requires { InIsReady self.old }
-        ensures enabled { OnOk result (take_refused (held_of self.old) None ≡ None) }
-        ensures ok { IfOk result (λ taken. (k : Parcel)
-            × (k.view ≤ (held_of self.old).view.version)
-            × (held_of self.new ≡ took_held (held_of self.old) k)
-            × (taken.items ≡ news_of (held_of self.old) k)
-            × TookOn I.waiting I.takes I.looked I.sends k self.old self.new) }
-        ensures refused { (r : Reason) → take_refused (held_of self.old) None ≡ Some r
-            → result ≡ Err (MemberFault.Refused r) }
-        ensures fault { IfErr result (λ fault.
-            ((r : Reason) × (fault ≡ MemberFault.Refused r) × (take_refused (held_of self.old) None ≡ Some r))
-            ⊎ ((take_refused (held_of self.old) None ≡ None)
-            × MatchOption self.new.current ⊥ (λ l. IsTakeFault I.known I.waiting (held_of self.old).view.version
-            fault l.end))) }
-        ensures err { OnErr result (held_of self.new ≡ held_of self.old) }
-        ensures looks { OnErr result (LooksIn I.looked self.old self.new) }
+        ensures heeds { Heeds (take_refused (held_of self.old) None) result }
+        ensures takes { Takes I.known I.waiting I.takes I.looked I.sends self.old self.new result }
     {
         if let Some(reason) = self.no_link() {
             return Err(MemberFault::Refused(reason));
@@ -456,10 +418,7 @@ impl<O: LinkPair<Load, In = I>, I: LinkIn<Load> + Drop> Member<O, I> {
             unreachable!()
         };
         let from = link.from;
-        let (news, packet) = match link.take(self.alloc, &self.known, &self.view, self.id) {
-            Ok(taken) => taken,
-            Err(fault) => return Err(fault),
-        };
+        let (news, packet) = link.take(self.alloc, &self.known, &self.view, self.id)?;
         accept(&mut self.known, &self.view, self.id, from, packet);
         Ok(news)
     }
@@ -490,26 +449,14 @@ impl<O: LinkPair<Load, In = I>, I: LinkIn<Load> + Drop> Member<O, I> {
             → (r : Reason) → refusal w (TakeEnd (held_of self.old).name) ≡ Some r → result
             ≡ Err (MemberFault.Refused r)) }
     {
-        match self.take_end_next() {
-            Ok(reason) => Ok(reason),
-            Err(fault) => Err(fault),
-        }
+        self.take_end_next()
     }
 
     /// The member's own part of `take_end`.
     fn take_end_next(&mut self) -> Result<EndReason, MemberFault>
         requires { InIsReady self.old }
-        ensures enabled { OnOk result (take_refused (held_of self.old) None ≡ None) }
-        ensures ok { OnOk result (held_of self.new ≡ ended_held (held_of self.old)) }
-        ensures leaves { IfOk result (λ reason. LeavesOn I.takes I.looked reason self.old self.new) }
-        ensures refused { (r : Reason) → take_refused (held_of self.old) None ≡ Some r
-            → result ≡ Err (MemberFault.Refused r) }
-        ensures fault { IfErr result (λ fault. (r : Reason) × (fault ≡ MemberFault.Refused r)
-            × ((take_refused (held_of self.old) None ≡ Some r)
-            ⊎ ((take_refused (held_of self.old) None ≡ None)
-            × MatchOption self.new.current ⊥ (λ l. IsEndRefusal I.known I.waiting r l.end)))) }
-        ensures err { OnErr result (held_of self.new ≡ held_of self.old) }
-        ensures looks { OnErr result (LooksIn I.looked self.old self.new) }
+        ensures heeds { Heeds (take_refused (held_of self.old) None) result }
+        ensures takes { TakesEnd I.known I.waiting I.takes I.looked self.old self.new result }
     {
         if let Some(reason) = self.no_link() {
             return Err(MemberFault::Refused(reason));
@@ -517,10 +464,7 @@ impl<O: LinkPair<Load, In = I>, I: LinkIn<Load> + Drop> Member<O, I> {
         let Some(link) = &mut self.current else {
             unreachable!()
         };
-        let reason = match link.take_end() {
-            Ok(reason) => reason,
-            Err(reason) => return Err(MemberFault::Refused(reason)),
-        };
+        let reason = link.take_end()?;
         self.leave_current();
         Ok(reason)
     }
@@ -532,8 +476,7 @@ impl<O: LinkPair<Load, In = I>, I: LinkIn<Load> + Drop> Member<O, I> {
             self.new.old_ins.items
             ≡ self.old.old_ins.items ++ left_end (ring_link l.from.0 self.old.id.0 l.opened) l.end) }
         ensures current { self.new.current ≡ None }
-        ensures same { (self.new.id ≡ self.old.id) × (self.new.credit ≡ self.old.credit)
-            × (self.new.known ≡ self.old.known) }
+        ensures same { SameSelf self.old self.new }
         ensures others { (self.new.out ≡ self.old.out) × (self.new.door ≡ self.old.door)
             × (self.new.old_outs ≡ self.old.old_outs) }
         ensures kept { self.new.spare ≡ self.old.spare }
@@ -568,23 +511,15 @@ impl<O: LinkPair<Load, In = I>, I: LinkIn<Load> + Drop> Member<O, I> {
         ensures not_enabled { WhereItStands (held_of self.old) (λ w x. (r : Reason)
             → refusal w (Stop (held_of self.old).name) ≡ Some r → result ≡ Err (MemberFault.Refused r)) }
     {
-        match self.stop_next() {
-            Ok(()) => Ok(()),
-            Err(fault) => Err(fault),
-        }
+        self.stop_next()
     }
 
     /// The member's own part of `stop`.
     fn stop_next(&mut self) -> Result<(), MemberFault>
         requires { OutIsReady O.ended self.old }
-        ensures enabled { OnOk result (active_refused (held_of self.old) None ≡ None) }
-        ensures ok { OnOk result (held_of self.new ≡ stopped_held (held_of self.old)) }
-        ensures ends { OnOk result (EndsOn O.puts EndReason.Stopped self.old self.new) }
-        ensures refused { (r : Reason) → active_refused (held_of self.old) None ≡ Some r
-            → result ≡ Err (MemberFault.Refused r) }
-        ensures fault { IfErr result (λ fault.
-            (r : Reason) × (fault ≡ MemberFault.Refused r) × (active_refused (held_of self.old) None ≡ Some r)) }
-        ensures err { OnErr result (self.new ≡ self.old) }
+        ensures heeds { Heeds (active_refused (held_of self.old) None) result }
+        ensures acts { Acts (active_refused (held_of self.old) None) (stopped_held (held_of self.old))
+            (EndsOn O.puts EndReason.Stopped self.old self.new) self.old self.new result }
     {
         if let Some(reason) = self.activity() {
             return Err(MemberFault::Refused(reason));
@@ -596,7 +531,7 @@ impl<O: LinkPair<Load, In = I>, I: LinkIn<Load> + Drop> Member<O, I> {
 
     /// The link on which the member sends ends.
     fn end_out(&mut self, reason: EndReason)
-        requires { MatchOption self.old.out ⊤ (λ l. MatchOption l.end ⊥ (λ o. O.ended o ≡ false)) }
+        requires { OutIsOpen O.ended self.old }
         ensures held { held_of self.new ≡ held_of self.old }
         ensures ends { EndsOn O.puts reason self.old self.new }
     {
@@ -670,22 +605,14 @@ impl<O: LinkPair<Load, In = I>, I: LinkIn<Load> + Drop> Member<O, I> {
             ((o : ℕ) → (member_at w x).out ≡ Some o → the_gain_refusal w o ≡ None)
             → (r : Reason) → refusal w (Gain (held_of self.old).name) ≡ Some r → result ≡ Err (MemberFault.Refused r)) }
     {
-        match self.regain(amount) {
-            Ok(()) => Ok(()),
-            Err(fault) => Err(fault),
-        }
+        self.regain(amount)
     }
 
     /// The member's own part of `gain`.
     fn regain(&mut self, amount: u32) -> Result<(), MemberFault>
-        ensures enabled { OnOk result (gain_refused (held_of self.old) ≡ None) }
-        ensures ok { OnOk result (held_of self.new ≡ gained_held (held_of self.old) amount) }
-        ensures ends { OnOk result (ends_of self.new ≡ record (ends_of self.old) { kept = None }) }
-        ensures refused { (r : Reason) → gain_refused (held_of self.old) ≡ Some r
-            → result ≡ Err (MemberFault.Refused r) }
-        ensures fault { IfErr result (λ fault.
-            (r : Reason) × (fault ≡ MemberFault.Refused r) × (gain_refused (held_of self.old) ≡ Some r)) }
-        ensures err { OnErr result (self.new ≡ self.old) }
+        ensures heeds { Heeds (gain_refused (held_of self.old)) result }
+        ensures acts { Acts (gain_refused (held_of self.old)) (gained_held (held_of self.old) amount)
+            (ends_of self.new ≡ record (ends_of self.old) { kept = None }) self.old self.new result }
     {
         if let Some(reason) = self.up_refusal() {
             return Err(MemberFault::Refused(reason));
@@ -708,8 +635,7 @@ impl<O: LinkPair<Load, In = I>, I: LinkIn<Load> + Drop> Member<O, I> {
         ensures current { self.new.current ≡ kept_link view.now self.old.id.0 self.old.current }
         ensures left { self.new.old_ins.items ≡ self.old.old_ins.items
             ++ left_current view.now self.old.id.0 self.old.current }
-        ensures same { (self.new.id ≡ self.old.id) × (self.new.credit ≡ self.old.credit)
-            × (self.new.known ≡ self.old.known) }
+        ensures same { SameSelf self.old self.new }
         ensures others { (self.new.out ≡ self.old.out) × (self.new.door ≡ self.old.door)
             × (self.new.old_outs ≡ self.old.old_outs) }
         ensures kept { self.new.spare ≡ self.old.spare }
@@ -740,7 +666,7 @@ impl<O: LinkPair<Load, In = I>, I: LinkIn<Load> + Drop> Member<O, I> {
 
     /// The link on which the member sends ends, and the end joins those that it has replaced.
     fn move_on(&mut self)
-        requires { MatchOption self.old.out ⊤ (λ l. MatchOption l.end ⊥ (λ o. O.ended o ≡ false)) }
+        requires { OutIsOpen O.ended self.old }
         ensures held { held_of self.new ≡ record (held_of self.old) { out = None } }
         ensures moves { MovesOn O.puts self.old self.new }
         ensures same { (self.new.id ≡ self.old.id) × (self.new.view ≡ self.old.view)
@@ -772,17 +698,12 @@ impl<O: LinkPair<Load, In = I>, I: LinkIn<Load> + Drop> Member<O, I> {
     /// A link that is ready to open, with room for the end of the one that it replaces.
     pub(crate) fn prepare(&mut self) -> Result<Spare<O, I>, OutOfMemory>
         ensures held { held_of self.new ≡ held_of self.old }
-        ensures ends { (self.new.out ≡ self.old.out) × (self.new.current ≡ self.old.current)
-            × (self.new.door ≡ self.old.door)
-            × (self.new.old_outs.items ≡ self.old.old_outs.items) × (self.new.old_ins ≡ self.old.old_ins) }
-        ensures same { (self.new.id ≡ self.old.id) × (self.new.credit ≡ self.old.credit)
-            × (self.new.known ≡ self.old.known) }
+        ensures ends { SameLinks self.old self.new }
+        ensures same { SameSelf self.old self.new }
         ensures kept { self.new.spare ≡ self.old.spare }
         ensures ready { IfOk result (λ spare. IsReadyToMove O.are_fresh O.free O.ended self.new spare) }
     {
-        if self.old_outs.reserve(2).is_err() {
-            return Err(OutOfMemory);
-        }
+        self.old_outs.reserve(2)?;
         let spare = Spare::make(self.alloc, self.credit, &self.known)?;
         Ok(spare)
     }
@@ -790,7 +711,7 @@ impl<O: LinkPair<Load, In = I>, I: LinkIn<Load> + Drop> Member<O, I> {
     /// The member sends on a link that was ready, to another, and what it sent on before ends.
     fn send_to(&mut self, spare: Spare<O, I>, to: MemberId) -> Vec<Request<I>>
         requires ready { IsReadyToMove O.are_fresh O.free O.ended self.old spare }
-        requires out { MatchOption self.old.out ⊤ (λ l. MatchOption l.end ⊥ (λ o. O.ended o ≡ false)) }
+        requires out { OutIsOpen O.ended self.old }
         ensures held { held_of self.new ≡ record (held_of self.old) { out = Some (first_out (held_of self.old) to.0) } }
         ensures sends { SendsOn O.are_fresh O.free O.ended O.puts self.old.view.version to self.old self.new
             result.items }
@@ -827,7 +748,7 @@ impl<O: LinkPair<Load, In = I>, I: LinkIn<Load> + Drop> Member<O, I> {
     pub(crate) fn read(&mut self, view: View, to: MemberId, spare: Spare<O, I>) -> Vec<Request<I>>
         requires stands { is_in self.old.id.0 (ids view) ≡ true }
         requires ready { IsReadyToMove O.are_fresh O.free O.ended self.old spare }
-        requires out { MatchOption self.old.out ⊤ (λ l. MatchOption l.end ⊥ (λ o. O.ended o ≡ false)) }
+        requires out { OutIsOpen O.ended self.old }
         ensures held { held_of self.new ≡ record (looked_held (held_of self.old) view)
             { out = Some (first_out (looked_held (held_of self.old) view) to.0) } }
         ensures links { LooksBy view self.old self.new }
@@ -866,29 +787,15 @@ impl<O: LinkPair<Load, In = I>, I: LinkIn<Load> + Drop> Member<O, I> {
             → StepsTo w x (Refresh (held_of self.old).name view.version)
             (with_own_link (held_of self.old) view (held_of self.new)))) }
     {
-        match self.refresh_next(view) {
-            Ok(requests) => Ok(requests),
-            Err(fault) => Err(fault),
-        }
+        self.refresh_next(view)
     }
 
     /// The member's own part of `refresh`.
     fn refresh_next(&mut self, view: View) -> Result<Vec<Request<I>>, (View, MemberFault)>
         requires stands { is_in self.old.id.0 (ids view) ≡ true }
         requires ready { OutIsReady O.ended self.old }
-        ensures enabled { OnOk result (refresh_refused (held_of self.old) view.version ≡ None) }
-        ensures ok { OnOk result (held_of self.new ≡ refreshed_held (held_of self.old) view) }
-        ensures links { OnOk result (LooksBy view self.old self.new) }
-        ensures moves { IfOk result (λ requests. MovesTo O.are_fresh O.free O.ended O.puts view self.old self.new
-            requests.items) }
-        ensures refused { (r : Reason) → refresh_refused (held_of self.old) view.version ≡ Some r
-            → result ≡ Err (view, MemberFault.Refused r) }
-        ensures fault { IfErr result (λ e. (e.0 ≡ view)
-            × (((e.1 ≡ MemberFault.OutOfMemory) × (refresh_refused (held_of self.old) view.version ≡ None))
-            ⊎ (r : Reason) × (e.1 ≡ MemberFault.Refused r)
-            × (refresh_refused (held_of self.old) view.version ≡ Some r))) }
-        ensures err { OnErr result (held_of self.new ≡ held_of self.old) }
-        ensures err_ends { OnErr result (ends_of self.new ≡ ends_of self.old) }
+        ensures back { HandsBack (refresh_refused (held_of self.old) view.version) view result }
+        ensures refreshes { Refreshes O.are_fresh O.free O.ended O.puts view self.old self.new result }
     {
         if let Some(reason) = self.refresh_refusal(version(&view)) {
             return Err((view, MemberFault::Refused(reason)));
@@ -959,23 +866,15 @@ impl<O: LinkPair<Load, In = I>, I: LinkIn<Load> + Drop> Member<O, I> {
         ensures not_enabled { WhereItStands (held_of self.old) (λ w x. (r : Reason)
             → refusal w (Pick (held_of self.old).name) ≡ Some r → result ≡ Err (MemberFault.Refused r)) }
     {
-        match self.pick_next() {
-            Ok(()) => Ok(()),
-            Err(fault) => Err(fault),
-        }
+        self.pick_next()
     }
 
     /// The member's own part of `pick`.
     fn pick_next(&mut self) -> Result<(), MemberFault>
-        ensures enabled { OnOk result (pick_refused (held_of self.old) ≡ None) }
-        ensures ok { OnOk result (held_of self.new ≡ picked_held (held_of self.old)) }
-        ensures picks { OnOk result ((i : ℕ) × (the_first_at_door (held_of self.old) ≡ Some i)
-            × PicksOn i self.old self.new) }
-        ensures refused { (r : Reason) → pick_refused (held_of self.old) ≡ Some r
-            → result ≡ Err (MemberFault.Refused r) }
-        ensures fault { IfErr result (λ fault.
-            (r : Reason) × (fault ≡ MemberFault.Refused r) × (pick_refused (held_of self.old) ≡ Some r)) }
-        ensures err { OnErr result (self.new ≡ self.old) }
+        ensures heeds { Heeds (pick_refused (held_of self.old)) result }
+        ensures acts { Acts (pick_refused (held_of self.old)) (picked_held (held_of self.old))
+            ((i : ℕ) × (the_first_at_door (held_of self.old) ≡ Some i) × PicksOn i self.old self.new)
+            self.old self.new result }
     {
         if let Some(reason) = self.pick_refusal() {
             return Err(MemberFault::Refused(reason));

@@ -1,8 +1,6 @@
 //! What a line of a packet brings, as copies.
-ghost use Rattle.std.specs.Prelude.{◌≡◌, ℕ, ◌+◌, ◌-◌, ◌^◌, ◌<◌, ◌≤◌, ◌++◌, ◌∷◌, [], OnOk, IfOk, length, map, max};
-ghost use Rattle.std.specs.Prelude.{nat_eq};
-ghost use Rattle.gm_member.specs.Parcels.{carried_at};
-ghost use Rattle.gm_member.specs.View.{row_of, known_at, carried_of};
+ghost use Rattle.std.specs.Prelude.{◌≡◌, ◌+◌, ◌-◌, ◌^◌, ◌<◌, ◌++◌, ◌∷◌, [], OnOk, length};
+ghost use Rattle.gm_member.specs.View.{row_of, carried_of};
 ghost use Rattle.gm_member.specs.News.{line_news as news_of_line, taken_between, taken_at};
 
 use crate::known::Known;
@@ -22,10 +20,8 @@ fn push_news(out: &mut Vec<Taken>, p: usize, all: &[Message], k: usize) -> Resul
         number: k as u64 + 1,
         message,
     };
-    match out.push(taken) {
-        Ok(()) => Ok(()),
-        Err(_) => Err(OutOfMemory),
-    }
+    out.push(taken)?;
+    Ok(())
 }
 
 fn push_between(
@@ -61,6 +57,5 @@ pub(crate) fn push_line(
     }
     let got = row.all.len() as u64;
     let from = if line.lo < got { got } else { line.lo };
-    push_between(out, p, &line.all, from as usize)?;
-    Ok(())
+    push_between(out, p, &line.all, from as usize)
 }

@@ -100,44 +100,20 @@ pub enum Load {
 }
 
 impl Load {
-    ghost use Rattle.std.specs.Prelude.{◌≡◌, ◌+◌, IfOk, length, map};
-    ghost use Rattle.ring_world.specs.Rows.{most_members};
-    ghost use Rattle.ring_world.specs.Step.{is_owned};
-    ghost use Rattle.ring_world.specs.Event.{version_refusal};
-    ghost use Rattle.gm_member.specs.News.{news_below};
+    ghost use Rattle.std.specs.Prelude.{◌≡◌};
     ghost use Rattle.gm_member.specs.Loads.{parcel_in};
-    ghost use Rattle.gm_member.specs.View.{row_of};
     ghost use Rattle.gm_member.specs.declared.packet.Load.TheVariants as load;
 
-    /// Why a member whose view is of this version may not take it: it is of a newer one.
-    pub(crate) fn view_refusal(&self, version: u32) -> Option<Reason>
-        ensures { result ≡ version_refusal (parcel_in self.now).view version }
-    {
-        match self {
-            Load::Packet(packet) => packet.view_refusal(version),
-        }
-    }
-
-    /// The messages that it brings from a sender to a member with this view, with copies of their own.
-    pub(crate) fn news_from(
-        &self,
-        alloc: Global,
-        known: &[Known],
-        view: &View,
-        id: MemberId,
-        from: MemberId,
-    ) -> Result<Vec<Taken>, OutOfMemory>
-        requires { length known.now ≡ most_members }
-        ensures { IfOk result (λ v. v.items
-            ≡ news_below most_members (λ p. is_owned view.now id.0 from.0 (p + 1)) (map row_of known.now)
-            (parcel_in self.now).lines) }
-    {
-        match self {
-            Load::Packet(packet) => packet.news_from(alloc, known, view, id, from),
-        }
-    }
-
     /// The packet that it is.
+    pub(crate) fn packet(&self) -> &Packet
+        ensures { result.now ≡ parcel_in self.now }
+    {
+        match self {
+            Load::Packet(packet) => packet,
+        }
+    }
+
+    /// That packet, taken out.
     pub(crate) fn into_packet(self) -> Packet
         ensures { self ≡ load.Packet result }
     {

@@ -23,9 +23,9 @@ pub enum Ask {
 }
 
 impl<O: LinkPair<Load, In = I>, I: LinkIn<Load> + Drop> Member<O, I> {
-    ghost use Rattle.std.specs.Prelude.{◌≡◌, ◌⊎◌, ◌+◌, ◌<◌, ◌≤◌, ◌∷◌, ◌^◌, ◌||◌, ℕ, [], OnOk, OnErr, IfOk, IfErr};
+    ghost use Rattle.std.specs.Prelude.{◌≡◌, ◌⊎◌, ◌+◌, ◌<◌, ◌≤◌, ◌^◌, ◌||◌, ℕ, [], OnOk, OnErr, IfOk, IfErr};
     ghost use Rattle.std.specs.Prelude.{IfSome, IfNone, IsOk, IsSome, None, Some, Ok, Err, length, false, true};
-    ghost use Rattle.std.specs.Prelude.{is_some, MatchOption, vec_len, vec_capacity};
+    ghost use Rattle.std.specs.Prelude.{is_some, vec_len};
     ghost use Rattle.ring_names.specs.declared.reason.Reason.{Reason};
     ghost use Rattle.group_view.specs.Ring.{is_in};
     ghost use Rattle.ring_world.specs.declared.event.Event.TheVariants.{Refresh as TheRefresh};
@@ -37,6 +37,7 @@ impl<O: LinkPair<Load, In = I>, I: LinkIn<Load> + Drop> Member<O, I> {
     ghost use Rattle.gm_member.specs.Shown.{When, held_of, ends_of, OutIsReady, LooksBy, MovesTo, IsReadyToMove};
     ghost use Rattle.gm_member.specs.Shown.{SpareIsReady, SpareIsSound, HasRoom};
     ghost use Rattle.gm_member.specs.Arrivals.{incoming_of, with_arrived};
+    ghost use Rattle.gm_member.specs.Calls.{SameSelf, SameLinks};
     ghost use Rattle.gm_member.specs.Questions.{may_bring_view, has_link as has_a_link, asked_for, OfView, OfLinks};
     ghost use Rattle.gm_member.specs.Questions.{OfWord, answered_by};
 
@@ -54,12 +55,8 @@ impl<O: LinkPair<Load, In = I>, I: LinkIn<Load> + Drop> Member<O, I> {
         let Some(ends) = self.ends_with(links) else {
             return Err(OutOfMemory);
         };
-        if self.door.reserve(links).is_err() {
-            return Err(OutOfMemory);
-        }
-        if self.old_ins.reserve(ends).is_err() {
-            return Err(OutOfMemory);
-        }
+        self.door.reserve(links)?;
+        self.old_ins.reserve(ends)?;
         Ok(())
     }
 
@@ -97,9 +94,7 @@ impl<O: LinkPair<Load, In = I>, I: LinkIn<Load> + Drop> Member<O, I> {
         if let Some(reason) = self.up_refusal() {
             return Err(MemberFault::Refused(reason));
         }
-        if self.make_ready(what).is_err() {
-            return Err(MemberFault::OutOfMemory);
-        }
+        self.make_ready(what)?;
         self.asked = true;
         Ok(self.request(what))
     }
@@ -205,8 +200,7 @@ impl<O: LinkPair<Load, In = I>, I: LinkIn<Load> + Drop> Member<O, I> {
         ensures ins { (self.new.current ≡ self.old.current) × (self.new.door ≡ self.old.door)
             × (self.new.old_ins ≡ self.old.old_ins) }
         ensures outs { (self.new.out ≡ self.old.out) × (self.new.old_outs ≡ self.old.old_outs) }
-        ensures same { (self.new.id ≡ self.old.id) × (self.new.credit ≡ self.old.credit)
-            × (self.new.known ≡ self.old.known) }
+        ensures same { SameSelf self.old self.new }
         ensures spare { self.new.spare ≡ None }
     {
         self.asked = false;
@@ -217,11 +211,8 @@ impl<O: LinkPair<Load, In = I>, I: LinkIn<Load> + Drop> Member<O, I> {
     fn take_spare(&mut self) -> Result<Spare<O, I>, OutOfMemory>
         requires { SpareIsSound O.are_fresh O.free O.ended self.old }
         ensures held { held_of self.new ≡ held_of self.old }
-        ensures ends { (self.new.out ≡ self.old.out) × (self.new.current ≡ self.old.current)
-            × (self.new.door ≡ self.old.door)
-            × (self.new.old_outs.items ≡ self.old.old_outs.items) × (self.new.old_ins ≡ self.old.old_ins) }
-        ensures same { (self.new.id ≡ self.old.id) × (self.new.credit ≡ self.old.credit)
-            × (self.new.known ≡ self.old.known) }
+        ensures ends { SameLinks self.old self.new }
+        ensures same { SameSelf self.old self.new }
         ensures taken { self.new.spare ≡ None }
         ensures ready { IfOk result (λ spare. IsReadyToMove O.are_fresh O.free O.ended self.new spare) }
         ensures memory { IsSome self.old.spare → IsOk result }

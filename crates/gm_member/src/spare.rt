@@ -27,8 +27,7 @@ pub(crate) struct Spare<O, I> {
 
 impl<O: LinkPair<Load, In = I>, I: Drop> Spare<O, I> {
     ghost use Rattle.std.specs.Prelude.{◌≡◌, ◌<◌, List, false, length, map, IfOk, MatchOption};
-    ghost use Rattle.gm_member.specs.Held.{put_on, fresh_out};
-    ghost use Rattle.gm_member.specs.View.{out_of, row_of};
+    ghost use Rattle.gm_member.specs.View.{row_of};
     ghost use Rattle.gm_member.specs.Spares.{IsSpareFor, OpensOn};
     ghost use Rattle.ring_world.specs.Rows.{Row};
 
@@ -54,9 +53,7 @@ impl<O: LinkPair<Load, In = I>, I: Drop> Spare<O, I> {
         };
         let packet = fresh.packet(alloc, 0, known)?;
         let sent = fresh.numbers(alloc, known)?;
-        let Ok(requests) = Vec::with_capacity(alloc, 1) else {
-            return Err(OutOfMemory);
-        };
+        let requests = Vec::with_capacity(alloc, 1)?;
         Ok(Spare {
             out,
             link,

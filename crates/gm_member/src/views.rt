@@ -5,20 +5,8 @@ ghost use Rattle.group_view.specs.View.{entry_in};
 ghost use Rattle.ring_world.specs.View.{ids, left_of as the_left, right_of as the_right};
 ghost use Rattle.ring_world.specs.Step.{is_owned};
 
-use group_view::{Entry, View};
+use group_view::View;
 use ring_names::MemberId;
-
-/// Since when the left neighbour of an entry has been it; 0 without the entry.
-fn since_in(entries: &[Entry], id: MemberId) -> u32
-    ensures { result ≡ (entry_in entries.now id.0).since }
-{
-    for entry in entries {
-        if entry.id.0 == id.0 {
-            return entry.since;
-        }
-    }
-    0
-}
 
 /// The version of a view.
 pub(crate) fn version(view: &View) -> u32
@@ -31,7 +19,7 @@ pub(crate) fn version(view: &View) -> u32
 pub(crate) fn since(view: &View, id: MemberId) -> u32
     ensures { result ≡ (entry_in view.now.entries id.0).since }
 {
-    since_in(view.entries.as_slice(), id)
+    view.since_of(id)
 }
 
 /// The left neighbour of an entry.

@@ -3,11 +3,12 @@ use Rattle.std.proofs.Common.{◌≡◌, ℕ, Bool, true, false, cond, List, [],
 use Rattle.std.specs.Prelude.{◌||◌}
 use Rattle.std.specs.List.{filter}
 use Rattle.std.proofs.lemmas.Bool.{false≢true}
+use Rattle.std.proofs.lemmas.List.{append-nil}
 use Rattle.std.proofs.lemmas.List.Elements.{filter-append}
 use Rattle.group_view.specs.declared.entry.Entry.{Entry}
 use Rattle.group_view.specs.Ring.{is_in, AreDistinct, before, from, after, rotated, others, first, left_in}
 use Rattle.group_view.specs.View.{ids, is_live, left_of, owner_of, is_between, found_is}
-use Rattle.group_view.proofs.Rings.{nat_eq-is, nat_eq-same, sym_test, is_in-append, not_equal_in, before_absent, in_before, not_in_before, not_in_others, split_at, others-rotated, is_in-rotated, before_in, before_out, from_is, rotated_is, distinct_others}
+use Rattle.group_view.proofs.Rings.{nat_eq-is, nat_eq-same, sym_test, not_equal_in, before_absent, in_before, not_in_before, not_in_others, split_at, others-rotated, is_in-rotated, before_in, before_out, from_is, rotated_is, distinct_others, in_head, in_second}
 use Rattle.group_view.proofs.Neighbours.{FirstPass, first_pass, filter_empty_at, IsLeft, itself, other, left_is_left, left_gap}
 use Rattle.group_view.proofs.Marks.{left_is}
 use Rattle.group_view.proofs.Passing.{live_in, left_inside}
@@ -67,12 +68,8 @@ prefix_is p s y xs d hs hy hp =
         let absent : is_in y (others s xs) ≡ false = nowhere (is_in y (others s xs)) refl in
         let is : nat_eq y s ≡ true = only_s (nat_eq y s) refl absent in
         before_out y (from p (others s xs)) (s ∷ before p (others s xs)) e
-        ∙ rw (sym_test y s true is) (ap (λ us. us) (append_nil (from p (others s xs))) ∙ sym (before_absent y (from p (others s xs)) e))
+        ∙ rw (sym_test y s true is) (append-nil (from p (others s xs)) ∙ sym (before_absent y (from p (others s xs)) e))
       where
-        append_nil : (us : List ℕ) → us ++ [] ≡ us
-        append_nil [] = refl
-        append_nil (u ∷ us) = ap (λ vs. u ∷ vs) (append_nil us)
-
         -- were y after s at all, it would be after p
         nowhere : (b : Bool) → is_in y (others s xs) ≡ b → b ≡ false
         nowhere false eb = refl
@@ -107,11 +104,7 @@ between_from p s y xs d dt hs hp n h = by_s (nat_eq p s) refl
         let gone : is_in y (from p t) ≡ false = absent_from p y t dt n e k in
         let apart : nat_eq s y ≡ false = sym_test y s false (not_equal_in y s t e (not_in_others s xs d)) in
         let is : before y (rotated p xs) ≡ from p t ++ s ∷ before y (before p t) = ap (before y) (rotated_from p s xs d hs hpt) ∙ before_out y (from p t) (s ∷ before p t) gone ∙ rw apart refl in
-        false≢true (sym h ∙ ap (is_in s) is ∙ is_in-append s (from p t) (s ∷ before y (before p t)) ∙ in_second (is_in s (from p t)))
-      where
-        in_second : (b : Bool) → cond b true (is_in s (s ∷ before y (before p t))) ≡ true
-        in_second true = refl
-        in_second false = rw (nat_eq-same s) refl
+        false≢true (sym h ∙ ap (is_in s) is ∙ in_second s (from p t) (s ∷ before y (before p t)) (in_head s (before y (before p t))))
 
     by_test : is_in p t ≡ true → (b : Bool) → is_in p (before y t) ≡ b → is_in p (before y t) ≡ true
     by_test hpt true k = k

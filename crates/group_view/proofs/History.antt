@@ -12,7 +12,7 @@ use Rattle.group_view.specs.Since.{no_group, view_at, left_at, IsSince, since_at
 use Rattle.group_view.specs.Kept.{IsGroup}
 use Rattle.group_view.specs.Laws.{IsHistory}
 use Rattle.group_view.proofs.Rings.{nat_eq-is, nat_eq-same, sym_test}
-use Rattle.group_view.proofs.Marks.{marked_not_live, same_left, same_ring_all, KeepsRing, dated_keeps, ids-marked, live_before}
+use Rattle.group_view.proofs.Marks.{marked_not_live, same_left, same_ring_all, KeepsRing, dated_keeps, ids-marked, live_before, with_mark_id}
 use Rattle.group_view.proofs.Passing.{marked_passes}
 use Rattle.group_view.proofs.Groups.{opening_is, marked_is, ids-marked_group, LivesThere}
 
@@ -52,13 +52,6 @@ entry_id (e ∷ es) p h = by_case (nat_eq e.id.0 p) refl h (λ j. entry_id es p 
     by_case true q j ih = nat_eq-is e.id.0 p q
     by_case false q j ih = ih (rw (sym_test e.id.0 p false q) at j)
 
-with_mark_id : (d : ℕ) (e : Entry) → (with_mark Dead d e).id.0 ≡ e.id.0
-with_mark_id d e = by_case (nat_eq e.id.0 d)
-  where
-    by_case : (b : Bool) → (cond b (record e { mark = Dead }) e).id.0 ≡ e.id.0
-    by_case true = refl
-    by_case false = refl
-
 with_mark_since : (d : ℕ) (e : Entry) → (with_mark Dead d e).since ≡ e.since
 with_mark_since d e = by_case (nat_eq e.id.0 d)
   where
@@ -94,7 +87,7 @@ since_marked g d p h =
     ∙ on_since (nat_eq (left_of g.entries (entry_in new p).id.0) (left_of new (entry_in new p).id.0))
     ∙ ap (λ n. cond (nat_eq (left_of g.entries n) (left_of new n)) (entry_in new p).since (g.version + 1)) (entry_id new p there)
     ∙ ap (λ n. cond (nat_eq (left_of g.entries p) n) (entry_in new p).since (g.version + 1)) (sym (left_marked_group g d p))
-    ∙ ap (λ n. cond (nat_eq (left_of g.entries p) (left_of (marked g d).entries p)) n (g.version + 1)) (ap (λ (e : Entry). e.since) (entry-map (with_mark Dead d) g.entries p (with_mark_id d) h) ∙ with_mark_since d (entry_in g.entries p))
+    ∙ ap (λ n. cond (nat_eq (left_of g.entries p) (left_of (marked g d).entries p)) n (g.version + 1)) (ap (λ (e : Entry). e.since) (entry-map (with_mark Dead d) g.entries p (with_mark_id Dead d) h) ∙ with_mark_since d (entry_in g.entries p))
   where
     new : List Entry
     new = map (with_mark Dead d) g.entries

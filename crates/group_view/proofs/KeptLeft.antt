@@ -1,10 +1,9 @@
 -- `since`, and the same left neighbour in all versions from one up to another: they say one thing.
-use Rattle.std.proofs.Common.{◌≡◌, ◌≢◌, ℕ, ◌+◌, ◌-◌, ◌≤◌, ◌<◌, Bool, true, false, List, refl, sym, ap, ◌∙◌, arith, nat_eq, zero, suc}
-use Rattle.std.specs.Prelude.{◌↔◌, ◌&&◌}
-use Rattle.std.specs.List.{list_all, range_with_len}
-use Rattle.std.proofs.lemmas.Bool.{false≢true}
+use Rattle.std.proofs.Common.{◌≡◌, ℕ, ◌+◌, ◌-◌, ◌≤◌, ◌<◌, true, List, sym, ap, ◌∙◌, arith, nat_eq}
+use Rattle.std.specs.Prelude.{◌↔◌}
 use Rattle.group_view.specs.View.{Group}
 use Rattle.group_view.specs.Since.{left_at, KeepsLeft, keeps_left, IsSince}
+use Rattle.group_view.proofs.Lists.{all_range, at_range}
 use Rattle.group_view.proofs.Rings.{nat_eq-is, nat_eq-same}
 
 -- there is one such version
@@ -32,19 +31,6 @@ pub since_is_keeping : (views : List Group) (y v u s opened : ℕ) → IsSince v
 since_is_keeping views y v u s opened h pos l = (λ p. keeps_since views y v u s opened h p.0 p.1, λ k. since_keeps views y v u s opened h pos l k)
 
 -- ---- the test
-
-pub all_range : (t : ℕ → Bool) (a n : ℕ) → ((u : ℕ) → a ≤ u → u < a + n → t u ≡ true) → list_all t (range_with_len a n) ≡ true
-all_range t a zero h = refl
-all_range t a (suc n) h = ap (λ b. b && list_all t (range_with_len (a + 1) n)) (h a (omega arith) (omega arith)) ∙ all_range t (a + 1) n (λ u l m. h u (omega arith) (omega arith))
-
-pub at_range : (t : ℕ → Bool) (a n u : ℕ) → list_all t (range_with_len a n) ≡ true → a ≤ u → u < a + n → t u ≡ true
-at_range t a zero u h l m = absurd (omega arith)
-at_range t a (suc n) u h l m = by_case (nat_eq a u) refl (t a) refl h (λ k j. at_range t (a + 1) n u k j (omega arith))
-  where
-    by_case : (c : Bool) → nat_eq a u ≡ c → (b : Bool) → t a ≡ b → (b && list_all t (range_with_len (a + 1) n)) ≡ true → (list_all t (range_with_len (a + 1) n) ≡ true → a + 1 ≤ u → t u ≡ true) → t u ≡ true
-    by_case true ec true eb k ih = ap t (sym (nat_eq-is a u ec)) ∙ eb
-    by_case false ec true eb k ih = let ne : a ≢ u = (λ same. false≢true (sym ec ∙ ap (nat_eq a) (sym same) ∙ nat_eq-same a)) in ih k (omega arith)
-    by_case c ec false eb k ih = absurd (false≢true k)
 
 pub keeps_left_true : (views : List Group) (y s opened v : ℕ) → KeepsLeft views y s opened v → keeps_left views y s opened v ≡ true
 unfolding keeps_left

@@ -1,3 +1,5 @@
+pub mod Truth
+pub mod Lists
 pub mod Rings
 pub mod Neighbours
 pub mod Cuts

@@ -13,8 +13,9 @@ use Rattle.group_view.specs.Ring.{is_in, AreDistinct, others, last_or, first_or,
 use Rattle.group_view.specs.View.{ids, entry_in, is_live, is_live_mark, left_of, right_of}
 use Rattle.group_view.specs.Change.{dated, with_mark}
 use Rattle.group_view.specs.Kept.{changes_of, changes_of_mark}
+use Rattle.group_view.proofs.Truth.{other_true}
 use Rattle.group_view.proofs.Rings.{nat_eq-is, nat_eq-same, nat_eq-not, sym_test, not_in_others, distinct_others}
-use Rattle.group_view.proofs.Neighbours.{IsLast, none, one, is_last, last_stronger, IsLeft, itself, other, left_is_left}
+use Rattle.group_view.proofs.Neighbours.{IsLast, none, one, is_last, last_stronger, IsLeft, itself, other, left_is_left, filter_agree_in}
 
 -- ---- lists of entries that differ in what neighbours don't read
 
@@ -75,13 +76,17 @@ dated_keeps version old new = record { keeps_id = λ e. on_id (nat_eq (left_of o
 
 -- ---- marks
 
-pub ids-marked : (m : Mark) (d : ℕ) (es : List Entry) → ids (map (with_mark m d) es) ≡ ids es
-ids-marked m d [] = refl
-ids-marked m d (e ∷ es) = ap (λ n. n ∷ ids (map (with_mark m d) es)) (by_case (nat_eq e.id.0 d)) ∙ ap (λ us. e.id.0 ∷ us) (ids-marked m d es)
+-- no entry gets another id
+pub with_mark_id : (m : Mark) (d : ℕ) (e : Entry) → (with_mark m d e).id.0 ≡ e.id.0
+with_mark_id m d e = by_case (nat_eq e.id.0 d)
   where
     by_case : (b : Bool) → (cond b (record e { mark = m }) e).id.0 ≡ e.id.0
     by_case true = refl
     by_case false = refl
+
+pub ids-marked : (m : Mark) (d : ℕ) (es : List Entry) → ids (map (with_mark m d) es) ≡ ids es
+ids-marked m d [] = refl
+ids-marked m d (e ∷ es) = ap (λ n. n ∷ ids (map (with_mark m d) es)) (with_mark_id m d e) ∙ ap (λ us. e.id.0 ∷ us) (ids-marked m d es)
 
 pub live-marked : (m : Mark) (d q : ℕ) (es : List Entry) → is_live_mark m ≡ false → is_live (map (with_mark m d) es) q ≡ cond (nat_eq q d) false (is_live es q)
 live-marked m d q [] hm = by_case (nat_eq q d)
@@ -90,13 +95,9 @@ live-marked m d q [] hm = by_case (nat_eq q d)
     by_case true = refl
     by_case false = refl
 live-marked m d q (e ∷ es) hm =
-    ap (λ n. is_live_mark (cond (nat_eq n q) (with_mark m d e) (entry_in (map (with_mark m d) es) q)).mark) (same_id (nat_eq e.id.0 d))
+    ap (λ n. is_live_mark (cond (nat_eq n q) (with_mark m d e) (entry_in (map (with_mark m d) es) q)).mark) (with_mark_id m d e)
     ∙ by_case (nat_eq e.id.0 q) refl (live-marked m d q es hm)
   where
-    same_id : (b : Bool) → (cond b (record e { mark = m }) e).id.0 ≡ e.id.0
-    same_id true = refl
-    same_id false = refl
-
     here : (b : Bool) → is_live_mark (cond b (record e { mark = m }) e).mark ≡ cond b false (is_live_mark e.mark)
     here true = hm
     here false = refl
@@ -111,11 +112,7 @@ live_other m d q es hm ne = live-marked m d q es hm ∙ ap (λ b. cond b false (
 
 -- and nobody else becomes live
 pub live_before : (m : Mark) (d q : ℕ) (es : List Entry) → is_live_mark m ≡ false → is_live (map (with_mark m d) es) q ≡ true → is_live es q ≡ true
-live_before m d q es hm h = by_case (nat_eq q d) (sym (live-marked m d q es hm) ∙ h)
-  where
-    by_case : (b : Bool) → cond b false (is_live es q) ≡ true → is_live es q ≡ true
-    by_case true k = absurd (false≢true k)
-    by_case false k = k
+live_before m d q es hm h = other_true (nat_eq q d) (is_live es q) (sym (live-marked m d q es hm) ∙ h)
 
 pub marked_not_live : (m : Mark) (d : ℕ) (es : List Entry) → is_live_mark m ≡ false → is_live (map (with_mark m d) es) d ≡ false
 marked_not_live m d es hm = live-marked m d d es hm ∙ ap (λ b. cond b false (is_live es d)) (nat_eq-same d)
@@ -134,33 +131,23 @@ left_absent es p h = ap (λ b. cond b (left_in (is_live es) p (ids es)) p) h
 pub right_absent : (es : List Entry) (p : ℕ) → is_in p (ids es) ≡ false → right_of es p ≡ p
 right_absent es p h = ap (λ b. cond b (right_in (is_live es) p (ids es)) p) h
 
--- tests that agree at each element keep the same
-pub filter_agree_in : (t u : ℕ → Bool) (xs : List ℕ) → ((q : ℕ) → is_in q xs ≡ true → t q ≡ u q) → filter t xs ≡ filter u xs
-filter_agree_in t u [] h = refl
-filter_agree_in t u (x ∷ xs) h =
-    ap (λ b. cond b (x ∷ filter t xs) (filter t xs)) (h x (ap (λ b. cond b true (is_in x xs)) (nat_eq-same x)))
-    ∙ ap (λ us. cond (u x) (x ∷ us) us) (filter_agree_in t u xs (λ q i. h q (later q (nat_eq q x) i)))
-  where
-    later : (q : ℕ) (b : Bool) → is_in q xs ≡ true → cond b true (is_in q xs) ≡ true
-    later q true i = refl
-    later q false i = i
-
--- the one that is marked keeps its own neighbours
-pub left_of_marked : (m : Mark) (d : ℕ) (es : List Entry) → is_live_mark m ≡ false → AreDistinct (ids es) → left_of (map (with_mark m d) es) d ≡ left_of es d
-left_of_marked m d es hm dx =
-    ap (λ us. cond (is_in d us) (last_or d (filter (is_live (map (with_mark m d) es)) (others d us))) d) (ids-marked m d es)
-    ∙ ap (λ us. cond (is_in d (ids es)) (last_or d us) d) (filter_agree_in (is_live (map (with_mark m d) es)) (is_live es) (others d (ids es)) (λ q i. live_other m d q es hm (apart q i)))
+-- who is live among the others of the one that is marked is so after it too
+pub marked_others : (m : Mark) (d : ℕ) (es : List Entry) → is_live_mark m ≡ false → AreDistinct (ids es) → filter (is_live (map (with_mark m d) es)) (others d (ids es)) ≡ filter (is_live es) (others d (ids es))
+marked_others m d es hm dx = filter_agree_in (is_live (map (with_mark m d) es)) (is_live es) (others d (ids es)) (λ q i. live_other m d q es hm (apart q i))
   where
     apart : (q : ℕ) → is_in q (others d (ids es)) ≡ true → q ≢ d
     apart q i same = false≢true (sym (not_in_others d (ids es) dx) ∙ ap (λ z. is_in z (others d (ids es))) (sym same) ∙ i)
+
+-- it keeps its own neighbours
+pub left_of_marked : (m : Mark) (d : ℕ) (es : List Entry) → is_live_mark m ≡ false → AreDistinct (ids es) → left_of (map (with_mark m d) es) d ≡ left_of es d
+left_of_marked m d es hm dx =
+    ap (λ us. cond (is_in d us) (last_or d (filter (is_live (map (with_mark m d) es)) (others d us))) d) (ids-marked m d es)
+    ∙ ap (λ us. cond (is_in d (ids es)) (last_or d us) d) (marked_others m d es hm dx)
 
 pub right_of_marked : (m : Mark) (d : ℕ) (es : List Entry) → is_live_mark m ≡ false → AreDistinct (ids es) → right_of (map (with_mark m d) es) d ≡ right_of es d
 right_of_marked m d es hm dx =
     ap (λ us. cond (is_in d us) (first_or d (filter (is_live (map (with_mark m d) es)) (others d us))) d) (ids-marked m d es)
-    ∙ ap (λ us. cond (is_in d (ids es)) (first_or d us) d) (filter_agree_in (is_live (map (with_mark m d) es)) (is_live es) (others d (ids es)) (λ q i. live_other m d q es hm (apart q i)))
-  where
-    apart : (q : ℕ) → is_in q (others d (ids es)) ≡ true → q ≢ d
-    apart q i same = false≢true (sym (not_in_others d (ids es) dx) ∙ ap (λ z. is_in z (others d (ids es))) (sym same) ∙ i)
+    ∙ ap (λ us. cond (is_in d (ids es)) (first_or d us) d) (marked_others m d es hm dx)
 
 -- a test that no element passes, and a stronger one
 pub filter_stronger : (weak strong : ℕ → Bool) (xs : List ℕ) → ((q : ℕ) → strong q ≡ true → weak q ≡ true) → filter weak xs ≡ [] → filter strong xs ≡ []

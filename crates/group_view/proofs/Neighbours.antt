@@ -5,7 +5,7 @@ use Rattle.std.proofs.lemmas.List.{append-nil}
 use Rattle.std.proofs.lemmas.List.Elements.{filter-append}
 use Rattle.std.proofs.lemmas.Bool.{false≢true}
 use Rattle.group_view.specs.Ring.{is_in, AreDistinct, before, after, others, last_or, first_or, left_in, right_in}
-use Rattle.group_view.proofs.Rings.{nat_eq-is, nat_eq-same, sym_test, not_equal_in, split_at, before_absent, before_out, not_after, others_inside, others-rotated, not_in_others, is_in-rotated, rotated_is, distinct_others}
+use Rattle.group_view.proofs.Rings.{nat_eq-is, nat_eq-same, sym_test, not_equal_in, split_at, before_absent, before_out, not_after, others_inside, others-rotated, not_in_others, is_in-rotated, rotated_is, distinct_others, in_head, in_tail}
 
 -- ---- filters
 
@@ -45,6 +45,32 @@ filtered_in t q (x ∷ xs) h = by_case (t x) (nat_eq q x) refl h (λ j. filtered
     by_case a true eb j ih = refl
     by_case true false eb j ih = ih (rw eb at j)
     by_case false false eb j ih = ih j
+
+-- who is among those that pass does pass
+pub passes_in : (t : ℕ → Bool) (q : ℕ) (xs : List ℕ) → is_in q (filter t xs) ≡ true → t q ≡ true
+passes_in t q [] h = absurd (false≢true h)
+passes_in t q (x ∷ xs) h = by_case (t x) refl (nat_eq q x) refl h (λ k. passes_in t q xs k)
+  where
+    by_case : (a : Bool) → t x ≡ a → (b : Bool) → nat_eq q x ≡ b → is_in q (cond a (x ∷ filter t xs) (filter t xs)) ≡ true → (is_in q (filter t xs) ≡ true → t q ≡ true) → t q ≡ true
+    by_case true ta true eb k ih = ap t (nat_eq-is q x eb) ∙ ta
+    by_case true ta false eb k ih = ih (rw eb at k)
+    by_case false ta b eb k ih = ih k
+
+-- so does the first of them
+pub first_passes : (t : ℕ → Bool) (u : ℕ) (us xs : List ℕ) → filter t xs ≡ u ∷ us → t u ≡ true
+first_passes t u us xs e = passes_in t u xs (ap (is_in u) e ∙ in_head u us)
+
+-- a test that no element passes keeps none
+pub filter_none : (t : ℕ → Bool) (xs : List ℕ) → ((q : ℕ) → is_in q xs ≡ true → t q ≡ false) → filter t xs ≡ []
+filter_none t [] h = refl
+filter_none t (x ∷ xs) h = rw (h x (in_head x xs)) (filter_none t xs (λ q i. h q (in_tail q x xs i)))
+
+-- tests that agree at each element keep the same
+pub filter_agree_in : (t u : ℕ → Bool) (xs : List ℕ) → ((q : ℕ) → is_in q xs ≡ true → t q ≡ u q) → filter t xs ≡ filter u xs
+filter_agree_in t u [] h = refl
+filter_agree_in t u (x ∷ xs) h =
+    ap (λ b. cond b (x ∷ filter t xs) (filter t xs)) (h x (in_head x xs))
+    ∙ ap (λ us. cond (u x) (x ∷ us) us) (filter_agree_in t u xs (λ q i. h q (in_tail q x xs i)))
 
 pub before-filter : (t : ℕ → Bool) (z : ℕ) (xs : List ℕ) → t z ≡ true → before z (filter t xs) ≡ filter t (before z xs)
 before-filter t z [] h = refl
@@ -174,19 +200,11 @@ left_of_right live x xs d h lx = by_list (filter live (others x xs)) refl
     by_list (u ∷ us) e =
         let f : FirstPass live u (others x xs) = first_pass live u us (others x xs) e in
         let out : is_in x (others x xs) ≡ false = not_in_others x xs d in
-        let differs : nat_eq x u ≡ false = not_equal f.inside out in
+        let differs : nat_eq x u ≡ false = sym_test u x false (not_equal_in u x (others x xs) f.inside out) in
         let inside : is_in u xs ≡ true = sym (is_in-rotated u x xs) ∙ ap (is_in u) (rotated_is x xs h) ∙ rw (sym_test x u false differs) f.inside in
         ap (λ vs. last_or u (filter live vs)) (sym (others-rotated u x xs d inside) ∙ ap (others u) (rotated_is x xs h))
         ∙ rw (differs) (ap (last_or u) (filter-append live (after u (others x xs)) (x ∷ before u (others x xs))) ∙ rw (lx, f.none) (last_or-append u (filter live (after u (others x xs))) (x ∷ [])))
-      where
-        not_equal : is_in u (others x xs) ≡ true → is_in x (others x xs) ≡ false → nat_eq x u ≡ false
-        not_equal i o = by_test (nat_eq x u) refl
-          where
-            by_test : (b : Bool) → nat_eq x u ≡ b → b ≡ false
-            by_test true eb = absurd (false≢true (sym (sym (ap (λ q. is_in q (others x xs)) (nat_eq-is x u eb)) ∙ o) ∙ i))
-            by_test false eb = refl
 
--- The links, as views and out links change.
 pub right_of_left : (live : ℕ → Bool) (x z : ℕ) (xs : List ℕ) → AreDistinct xs → is_in z xs ≡ true → live z ≡ true → left_in live z xs ≡ x → right_in live x xs ≡ z
 right_of_left live x z xs d iz lz e = by_last (is_last live z x (others z xs) (distinct_others z xs d iz) e)
   where
@@ -200,10 +218,7 @@ right_of_left live x z xs d iz lz e = by_last (is_last live z x (others z xs) (d
         by_test : (b : Bool) → nat_eq z x ≡ b → right_in live x xs ≡ z
         by_test true eb =
             -- z would stand among its own others
-            absurd (false≢true (sym (own z xs d) ∙ ap (λ q. is_in q (others z xs)) (nat_eq-is z x eb) ∙ i))
-          where
-            own : (z : ℕ) (xs : List ℕ) → AreDistinct xs → is_in z (others z xs) ≡ false
-            own z xs d = not_in_others z xs d
+            absurd (false≢true (sym (not_in_others z xs d) ∙ ap (λ q. is_in q (others z xs)) (nat_eq-is z x eb) ∙ i))
         by_test false eb =
             let xi : is_in x xs ≡ true = others_inside z x xs i in
             let zi : is_in z (others x xs) ≡ true = sym (sym (is_in-rotated z x xs ∙ iz) ∙ (ap (is_in z) (rotated_is x xs xi) ∙ rw eb refl)) in

@@ -11,9 +11,9 @@ use Rattle.group_view.specs.Ring.{is_in, AreDistinct, before, after, others, las
 use Rattle.group_view.specs.View.{Group, ids, entry_in, is_live, is_live_mark, left_of, right_of}
 use Rattle.group_view.specs.Change.{dated, with_mark, marked}
 use Rattle.group_view.specs.Laws.{AreMutual, PassesOn}
-use Rattle.group_view.proofs.Rings.{nat_eq-same, sym_test, split_at, not_in_before, not_in_after, not_in_others, not_equal_in, others_inside, others-rotated, rotated_is, distinct_others}
-use Rattle.group_view.proofs.Neighbours.{not_in_filter, FirstPass, first_pass, IsLast, none, one, is_last, IsLeft, itself, other, left_is_left, left_of_right, right_of_left}
-use Rattle.group_view.proofs.Marks.{SameRing, same_left, same_right, same_ring_all, dated_keeps, ids-marked, live_other, live_before, marked_not_live, left_is, right_is, left_absent, right_absent, filter_agree_in, filter_stronger, left_of_other, left_of_marked, right_of_marked}
+use Rattle.group_view.proofs.Rings.{nat_eq-same, sym_test, split_at, not_in_before, not_in_after, not_in_others, not_equal_in, others_inside, others-rotated, rotated_is, distinct_others, head_differs}
+use Rattle.group_view.proofs.Neighbours.{not_in_filter, FirstPass, first_pass, IsLast, none, one, is_last, IsLeft, itself, other, left_is_left, left_of_right, right_of_left, filter_agree_in, first_passes}
+use Rattle.group_view.proofs.Marks.{SameRing, same_left, same_right, same_ring_all, dated_keeps, ids-marked, live_other, live_before, marked_not_live, left_is, right_is, left_absent, right_absent, filter_stronger, left_of_other, left_of_marked, right_of_marked}
 
 -- ---- each is the other's neighbour
 
@@ -168,13 +168,6 @@ left_alone weak strong d p xs us ne h here = h.new ∙ by_live (weak p) (sym h.o
     by_live true e = absurd (ne (last_of p d us h.outside e))
     by_live false e = last_none p d us h.outside e
 
-head_apart : (u d : ℕ) (us : List ℕ) → is_in d (u ∷ us) ≡ false → u ≢ d
-head_apart u d us h same = by_case (nat_eq d u) refl h
-  where
-    by_case : (b : Bool) → nat_eq d u ≡ b → cond b true (is_in d us) ≡ false → ⊥
-    by_case true q k = false≢true (sym k)
-    by_case false q k = false≢true (sym q ∙ ap (nat_eq d) same ∙ nat_eq-same d)
-
 pub right_bereft : (weak strong : ℕ → Bool) (d p : ℕ) (xs : List ℕ) (us : List ℕ) → p ≢ d → RightLost weak strong d p xs us → right_in weak d xs ≢ d → right_in strong p xs ≡ right_in weak d xs
 right_bereft weak strong d p xs us ne h away = h.new ∙ by_list us (weak p) h.old ∙ sym h.old
   where
@@ -187,7 +180,7 @@ pub right_alone : (weak strong : ℕ → Bool) (d p : ℕ) (xs : List ℕ) (us :
 right_alone weak strong d p xs us ne h here = h.new ∙ by_list us h.outside (weak p) (sym h.old ∙ here)
   where
     by_list : (vs : List ℕ) → is_in d vs ≡ false → (b : Bool) → first_or d (vs ++ cond b (p ∷ []) []) ≡ d → first_or p vs ≡ p
-    by_list (v ∷ vs) out b e = absurd (head_apart v d vs out e)
+    by_list (v ∷ vs) out b e = absurd (head_differs d v vs out e)
     by_list [] out b e = refl
 
 pub first_stronger : (weak strong : ℕ → Bool) (d x : ℕ) (ws us : List ℕ) → ((q : ℕ) → strong q ≡ true → weak q ≡ true) → strong x ≡ true → filter weak us ≡ x ∷ ws → first_or d (filter strong us) ≡ x
@@ -206,15 +199,7 @@ right_other weak strong d p xs l ne = by_list (filter weak (others p xs)) refl n
   where
     by_list : (ws : List ℕ) → filter weak (others p xs) ≡ ws → first_or p ws ≢ d → first_or p (filter strong (others p xs)) ≡ first_or p ws
     by_list [] e k = ap (first_or p) (filter_stronger weak strong (others p xs) l.less e)
-    by_list (w ∷ ws) e k = first_stronger weak strong p w ws (others p xs) l.less (l.same w k ∙ (first_pass_passes weak w ws (others p xs) e)) e
-      where
-        first_pass_passes : (t : ℕ → Bool) (u : ℕ) (us ys : List ℕ) → filter t ys ≡ u ∷ us → t u ≡ true
-        first_pass_passes t u us [] e2 = cc
-        first_pass_passes t u us (y ∷ ys) e2 = by_case (t y) refl e2 (λ j. first_pass_passes t u us ys j)
-          where
-            by_case : (b : Bool) → t y ≡ b → cond b (y ∷ filter t ys) (filter t ys) ≡ u ∷ us → (filter t ys ≡ u ∷ us → t u ≡ true) → t u ≡ true
-            by_case true q j ih = let is : y ≡ u = cc in ap t (sym is) ∙ q
-            by_case false q j ih = ih j
+    by_list (w ∷ ws) e k = first_stronger weak strong p w ws (others p xs) l.less (l.same w k ∙ first_passes weak w ws (others p xs) e) e
 
 pub right_of_other : (m : Mark) (d p : ℕ) (es : List Entry) → is_live_mark m ≡ false → right_of es p ≢ d → right_of (map (with_mark m d) es) p ≡ right_of es p
 right_of_other m d p es hm ne = by_in (is_in p (ids es)) refl
@@ -246,19 +231,19 @@ pub record HasNeighbour (es : List Entry) (d p : ℕ) : Type 0 where
   pub here : is_in p (ids es) ≡ true
   pub there : is_in d (ids es) ≡ true
 
-pub has_left : (es : List Entry) (d p : ℕ) → AreDistinct (ids es) → p ≢ d → left_of es p ≡ d → HasNeighbour es d p
-has_left es d p dx ne e = by_in (is_in p (ids es)) refl
+-- where near is p's neighbour on one side: p itself, where p isn't there
+has_neighbour : (es : List Entry) (d p near : ℕ) → p ≢ d → near ≡ d → (is_in p (ids es) ≡ true → is_in near (ids es) ≡ true) → (is_in p (ids es) ≡ false → near ≡ p) → HasNeighbour es d p
+has_neighbour es d p near ne e inside absent = by_in (is_in p (ids es)) refl
   where
     by_in : (b : Bool) → is_in p (ids es) ≡ b → HasNeighbour es d p
-    by_in true h = record { here = h; there = ap (λ q. is_in q (ids es)) (sym (sym (left_is es p h) ∙ e)) ∙ left_inside (is_live es) p (ids es) dx h }
-    by_in false h = absurd (ne (sym (left_absent es p h) ∙ e))
+    by_in true h = record { here = h; there = ap (λ q. is_in q (ids es)) (sym e) ∙ inside h }
+    by_in false h = absurd (ne (sym (absent h) ∙ e))
+
+pub has_left : (es : List Entry) (d p : ℕ) → AreDistinct (ids es) → p ≢ d → left_of es p ≡ d → HasNeighbour es d p
+has_left es d p dx ne e = has_neighbour es d p (left_of es p) ne e (λ h. ap (λ q. is_in q (ids es)) (left_is es p h) ∙ left_inside (is_live es) p (ids es) dx h) (λ h. left_absent es p h)
 
 pub has_right : (es : List Entry) (d p : ℕ) → p ≢ d → right_of es p ≡ d → HasNeighbour es d p
-has_right es d p ne e = by_in (is_in p (ids es)) refl
-  where
-    by_in : (b : Bool) → is_in p (ids es) ≡ b → HasNeighbour es d p
-    by_in true h = record { here = h; there = ap (λ q. is_in q (ids es)) (sym (sym (right_is es p h) ∙ e)) ∙ right_inside (is_live es) p (ids es) h }
-    by_in false h = absurd (ne (sym (right_absent es p h) ∙ e))
+has_right es d p ne e = has_neighbour es d p (right_of es p) ne e (λ h. ap (λ q. is_in q (ids es)) (right_is es p h) ∙ right_inside (is_live es) p (ids es) h) (λ h. right_absent es p h)
 
 pub mark_passes : (m : Mark) (d : ℕ) (es : List Entry) → is_live_mark m ≡ false → AreDistinct (ids es) → PassesOn es (map (with_mark m d) es) d
 mark_passes m d es hm dx = record {

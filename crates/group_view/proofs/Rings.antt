@@ -1,19 +1,15 @@
 -- Rings as lists: who is in them, what stands before and after, and where they are cut.
 use Rattle.std.proofs.Common.{◌≡◌, ◌≢◌, ℕ, Bool, true, false, cond, List, [], ◌∷◌, ◌++◌, refl, sym, ap, subst, ◌∙◌, append_assoc, arith, nat_eq}
 use Rattle.std.proofs.lemmas.Bool.Decides.{nat_tests}
-use Rattle.std.proofs.lemmas.Bool.{false≢true}
+use Rattle.std.proofs.lemmas.Bool.{false≢true, eq-eqb}
+pub use Rattle.std.proofs.lemmas.Bool.{eqb-true as nat_eq-is, ne_eqb as nat_eq-not}
 use Rattle.group_view.specs.Ring.{is_in, AreDistinct, before, from, after, rotated, others}
+use Rattle.group_view.proofs.Truth.{later_true, first_false, later_false}
 
 -- ---- tests of ids
 
-pub nat_eq-is : (a b : ℕ) → nat_eq a b ≡ true → a ≡ b
-nat_eq-is a b e = grind (arith, nat_tests)
-
 pub nat_eq-same : (a : ℕ) → nat_eq a a ≡ true
-nat_eq-same a = grind (arith, nat_tests)
-
-pub nat_eq-not : (a b : ℕ) → a ≢ b → nat_eq a b ≡ false
-nat_eq-not a b e = grind (arith, nat_tests)
+nat_eq-same a = eq-eqb a a refl
 
 pub sym_test : (a b : ℕ) (t : Bool) → nat_eq a b ≡ t → nat_eq b a ≡ t
 sym_test a b true e = subst (λ c. nat_eq c a ≡ true) (nat_eq-is a b e) (nat_eq-same a)
@@ -30,21 +26,37 @@ is_in-append z (x ∷ xs) ys = by_case (nat_eq z x) (is_in-append z xs ys)
     by_case false h = h
 
 pub not_in_first : (z : ℕ) (xs ys : List ℕ) → is_in z (xs ++ ys) ≡ false → is_in z xs ≡ false
-not_in_first z xs ys h = by_case (is_in z xs) (sym (is_in-append z xs ys) ∙ h)
-  where
-    by_case : (b : Bool) → cond b true (is_in z ys) ≡ false → b ≡ false
-    by_case true e = e
-    by_case false e = refl
+not_in_first z xs ys h = first_false (is_in z xs) (is_in z ys) (sym (is_in-append z xs ys) ∙ h)
 
 pub not_in_second : (z : ℕ) (xs ys : List ℕ) → is_in z (xs ++ ys) ≡ false → is_in z ys ≡ false
-not_in_second z xs ys h = by_case (is_in z xs) (sym (is_in-append z xs ys) ∙ h)
-  where
-    by_case : (b : Bool) → cond b true (is_in z ys) ≡ false → is_in z ys ≡ false
-    by_case true e = absurd (false≢true (sym e))
-    by_case false e = e
+not_in_second z xs ys h = later_false (is_in z xs) (is_in z ys) (sym (is_in-append z xs ys) ∙ h)
 
 pub not_in_append : (z : ℕ) (xs ys : List ℕ) → is_in z xs ≡ false → is_in z ys ≡ false → is_in z (xs ++ ys) ≡ false
 not_in_append z xs ys hx hy = is_in-append z xs ys ∙ rw (hx, hy) refl
+
+-- what stands in a list stands in it with more behind it
+pub in_first : (z : ℕ) (xs ys : List ℕ) → is_in z xs ≡ true → is_in z (xs ++ ys) ≡ true
+in_first z xs ys h = is_in-append z xs ys ∙ ap (λ b. cond b true (is_in z ys)) h
+
+-- and with more before it
+pub in_second : (z : ℕ) (xs ys : List ℕ) → is_in z ys ≡ true → is_in z (xs ++ ys) ≡ true
+in_second z xs ys h = is_in-append z xs ys ∙ later_true (is_in z xs) h
+
+-- the first of a list stands in it
+pub in_head : (z : ℕ) (xs : List ℕ) → is_in z (z ∷ xs) ≡ true
+in_head z xs = ap (λ b. cond b true (is_in z xs)) (nat_eq-same z)
+
+-- and what stands behind it
+pub in_tail : (z x : ℕ) (xs : List ℕ) → is_in z xs ≡ true → is_in z (x ∷ xs) ≡ true
+in_tail z x xs h = later_true (nat_eq z x) h
+
+-- what doesn't stand in a list isn't its first
+pub head_differs : (z x : ℕ) (xs : List ℕ) → is_in z (x ∷ xs) ≡ false → x ≢ z
+head_differs z x xs h same = false≢true (sym h ∙ ap (λ q. is_in z (q ∷ xs)) same ∙ in_head z xs)
+
+-- and doesn't stand behind it
+pub tail_lacks : (z x : ℕ) (xs : List ℕ) → is_in z (x ∷ xs) ≡ false → is_in z xs ≡ false
+tail_lacks z x xs h = later_false (nat_eq z x) (is_in z xs) h
 
 pub distinct_second : (xs ys : List ℕ) → AreDistinct (xs ++ ys) → AreDistinct ys
 distinct_second [] ys h = h
@@ -59,7 +71,7 @@ distinct_parts z (x ∷ xs) ys d h = by_case (nat_eq z x) refl h (λ k. distinct
     by_case true e k ih = subst (λ q. is_in q ys ≡ false) (sym (nat_eq-is z x e)) (not_in_second x xs ys d.0)
     by_case false e k ih = ih k
 
--- What stands between, seen from one place of the ring and from another.
+-- an element of a list isn't one that stands nowhere in it
 pub not_equal_in : (a b : ℕ) (xs : List ℕ) → is_in a xs ≡ true → is_in b xs ≡ false → nat_eq a b ≡ false
 not_equal_in a b xs ha hb = by_test (nat_eq a b) refl
   where
@@ -155,13 +167,17 @@ pub after_inside : (s q : ℕ) (xs : List ℕ) → is_in q (after s xs) ≡ true
 after_inside s q [] h = h
 after_inside s q (x ∷ xs) h = by_case (nat_eq x s) h (λ k. after_inside s q xs k)
   where
-    put : (c : Bool) → is_in q xs ≡ true → cond c true (is_in q xs) ≡ true
-    put true j = refl
-    put false j = j
-
     by_case : (b : Bool) → is_in q (cond b xs (after s xs)) ≡ true → (is_in q (after s xs) ≡ true → is_in q xs ≡ true) → is_in q (x ∷ xs) ≡ true
-    by_case true k ih = put (nat_eq q x) k
-    by_case false k ih = put (nat_eq q x) (ih k)
+    by_case true k ih = in_tail q x xs k
+    by_case false k ih = in_tail q x xs (ih k)
+
+pub from_inside : (p q : ℕ) (xs : List ℕ) → is_in q (from p xs) ≡ true → is_in q xs ≡ true
+from_inside p q [] h = h
+from_inside p q (x ∷ xs) h = by_case (nat_eq x p) h (λ k. from_inside p q xs k)
+  where
+    by_case : (b : Bool) → is_in q (cond b (x ∷ xs) (from p xs)) ≡ true → (is_in q (from p xs) ≡ true → is_in q xs ≡ true) → is_in q (x ∷ xs) ≡ true
+    by_case true k ih = k
+    by_case false k ih = in_tail q x xs (ih k)
 
 pub others_inside : (s q : ℕ) (xs : List ℕ) → is_in q (others s xs) ≡ true → is_in q xs ≡ true
 others_inside s q xs h = by_first (is_in q (after s xs)) refl (sym (is_in-append q (after s xs) (before s xs)) ∙ h)
@@ -207,7 +223,8 @@ is_in-rotated z p xs =
     swap false true = refl
     swap false false = refl
 
--- Left and right neighbours, and how a new view changes them.
+-- ---- from an element on
+
 pub from_is : (x : ℕ) (xs : List ℕ) → is_in x xs ≡ true → from x xs ≡ x ∷ after x xs
 from_is x [] h = absurd (false≢true h)
 from_is x (q ∷ qs) h = by_case (nat_eq q x) refl (λ k. from_is x qs k)
@@ -219,16 +236,13 @@ from_is x (q ∷ qs) h = by_case (nat_eq q x) refl (λ k. from_is x qs k)
 pub rotated_is : (x : ℕ) (xs : List ℕ) → is_in x xs ≡ true → rotated x xs ≡ x ∷ others x xs
 rotated_is x xs h = ap (λ us. us ++ before x xs) (from_is x xs h)
 
+-- ---- lists in which no id stands twice
+
 pub distinct_join : (us vs : List ℕ) → AreDistinct us → AreDistinct vs → ((q : ℕ) → is_in q us ≡ true → is_in q vs ≡ false) → AreDistinct (us ++ vs)
 distinct_join [] vs hu hv h = hv
 distinct_join (u ∷ us) vs hu hv h =
-    (is_in-append u us vs ∙ rw (hu.0, h u (rw (nat_eq-same u) refl)) refl, distinct_join us vs hu.1 hv (λ q i. h q (by_test (nat_eq q u) i)))
-  where
-    by_test : {c : Bool} (b : Bool) → c ≡ true → cond b true c ≡ true
-    by_test true e = refl
-    by_test false e = e
+    (not_in_append u us vs hu.0 (h u (in_head u us)), distinct_join us vs hu.1 hv (λ q i. h q (in_tail q u us i)))
 
--- How an origin stands to a taker: what the take of its view and the newest ring say together.
 pub distinct_first : (us vs : List ℕ) → AreDistinct (us ++ vs) → AreDistinct us
 distinct_first [] vs h = tt
 distinct_first (u ∷ us) vs h = (not_in_first u us vs h.0, distinct_first us vs h.1)
@@ -240,10 +254,6 @@ distinct_others y xs d h =
     distinct_join (after y xs) (before y xs) (distinct_second (before y xs) (y ∷ after y xs) d2).1 (distinct_first (before y xs) (y ∷ after y xs) d2)
     (λ q i. by_test q (is_in q (before y xs)) refl i (λ k. distinct_parts q (before y xs) (y ∷ after y xs) d2 k))
   where
-    tail : (q : ℕ) (b : Bool) → cond b true (is_in q (after y xs)) ≡ false → is_in q (after y xs) ≡ false
-    tail q true k = absurd (false≢true (sym k))
-    tail q false k = k
-
     by_test : (q : ℕ) (b : Bool) → is_in q (before y xs) ≡ b → is_in q (after y xs) ≡ true → (is_in q (before y xs) ≡ true → is_in q (y ∷ after y xs) ≡ false) → b ≡ false
     by_test q false e i k = refl
-    by_test q true e i k = absurd (false≢true (sym (tail q (nat_eq q y) (k e)) ∙ i))
+    by_test q true e i k = absurd (false≢true (sym (tail_lacks q y (after y xs) (k e)) ∙ i))

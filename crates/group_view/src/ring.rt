@@ -5,6 +5,7 @@ ghost use Rattle.group_view.specs.declared.entry.Mark.TheVariants.{Dead};
 ghost use Rattle.group_view.specs.View.{ids, number, as_id, left_of as the_left, right_of as the_right};
 ghost use Rattle.group_view.specs.View.{owner_of as the_owner, is_between as the_test, aliases_of as the_aliases};
 ghost use Rattle.group_view.specs.View.{id_named as the_id, owns, is_alias as is_the_alias, is_dead_mark};
+ghost use Rattle.group_view.specs.View.{entry_in, is_live as lives};
 ghost use Rattle.group_view.specs.Change.{dated, with_mark, opening_entries};
 ghost use Rattle.group_view.specs.Ring.{AreDistinct, first, is_in};
 ghost use Rattle.group_view.specs.Parts.{place_of as the_place, live_ids, last, comes_before, mark_in, AreFound};
@@ -139,6 +140,30 @@ pub(crate) fn mark_of(entries: &[Entry], id: MemberId) -> Option<Mark>
         }
     }
     None
+}
+
+/// Whether the entry of that id is live.
+pub(crate) fn is_live(entries: &[Entry], id: MemberId) -> bool
+    ensures { result ≡ lives entries.now id.0 }
+{
+    for entry in entries {
+        if entry.has_id(id) {
+            return entry.is_live();
+        }
+    }
+    false
+}
+
+/// The version from which its left neighbour has been the present one; 0 without the entry.
+pub(crate) fn since_of(entries: &[Entry], id: MemberId) -> u32
+    ensures { result ≡ (entry_in entries.now id.0).since }
+{
+    for entry in entries {
+        if entry.has_id(id) {
+            return entry.since;
+        }
+    }
+    0
 }
 
 /// Whether `id` answers for this entry, which is dead.

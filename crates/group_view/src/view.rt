@@ -2,7 +2,8 @@
 ghost use Rattle.std.specs.Prelude.{◌≡◌, map, option_map, IfOk, OnOk, OnErr};
 ghost use Rattle.group_view.specs.View.{number, as_id, left_of as the_left, right_of as the_right};
 ghost use Rattle.group_view.specs.View.{owner_of as the_owner, is_between as the_test, aliases_of as the_aliases};
-ghost use Rattle.group_view.specs.View.{id_named};
+ghost use Rattle.group_view.specs.View.{id_named, ids, entry_in, is_live as lives};
+ghost use Rattle.group_view.specs.Ring.{is_in};
 ghost use Rattle.group_view.specs.Change.{AreOpeningNames, opening, marked, mark_refusal, answer_of};
 
 use crate::entries::Entries;
@@ -62,6 +63,28 @@ impl View {
         ensures { result ≡ id_named self.now.entries name.now }
     {
         ring::find(self.entries.as_slice(), name)
+    }
+
+    /// Whether the view has an entry of that id, of any mark. It wants no memory.
+    pub fn has_entry(&self, id: MemberId) -> bool
+        ensures { result ≡ is_in id.0 (ids self.now.entries) }
+    {
+        ring::has_entry(self.entries.as_slice(), id)
+    }
+
+    /// Whether the view has that entry as live. It wants no memory.
+    pub fn is_live(&self, id: MemberId) -> bool
+        ensures { result ≡ lives self.now.entries id.0 }
+    {
+        ring::is_live(self.entries.as_slice(), id)
+    }
+
+    /// The version from which on the left neighbour of an entry has been the present one; 0 where the view has no such
+    /// entry. It wants no memory.
+    pub fn since_of(&self, id: MemberId) -> u32
+        ensures { result ≡ (entry_in self.now.entries id.0).since }
+    {
+        ring::since_of(self.entries.as_slice(), id)
     }
 
     /// The left neighbour of an entry of any mark: the nearest live entry, going left. A sole live entry

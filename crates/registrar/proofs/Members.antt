@@ -1,5 +1,5 @@
 -- What of a state of the ring the registrar has: its views, and who has stopped. All events but marks and stops keep both.
-use Rattle.std.proofs.Common.{List, ◌≡◌, ◌≢◌, ℕ, ◌<◌, ◌≤◌, Bool, true, false, nat_eq, ◌++◌, ◌∷◌, [], length, Option, Some, None, refl, sym, ap, ◌∙◌, subst, cond, get_or, ⊎_elim}
+use Rattle.std.proofs.Common.{List, ◌≡◌, ◌≢◌, ℕ, ◌<◌, ◌≤◌, ◌++◌, ◌∷◌, [], length, Option, Some, None, refl, sym, ap, ◌∙◌, subst, get_or, ⊎_elim}
 use Rattle.std.proofs.lemmas.Bool.{cases_lt}
 use Rattle.std.proofs.lemmas.List.{length-set}
 use Rattle.ring_world.specs.View.{right_of}
@@ -13,8 +13,9 @@ use Rattle.ring_world.specs.Walk.{oldest}
 use Rattle.registrar.specs.Stands.{IsOwn}
 use Rattle.ring_world.specs.Machine.{Link, Member, World, no_member, member_at, link_at, view_at}
 use Rattle.ring_world.specs.Step.{size, with_member, with_link, look_at, moved_to, open_to, opened_link, ended, stop_at, stopped, end_out, begun, taker, published, current_is, with_current}
-use Rattle.ring_world.specs.Event.{is_stopped, send_to, refreshed, at_found, taken_by, effect, at_door, id_of}
+use Rattle.ring_world.specs.Event.{is_stopped, refreshed, at_found, taken_by, effect, at_door, id_of}
 use Rattle.ring_world.proofs.Lists.{at_set, set_nothing}
+use Rattle.ring_world.proofs.Composed.{refresh_composed}
 
 -- the views are as before, and just those have stopped that had
 pub record IsSame (w w' : World) : Type 0 where
@@ -47,23 +48,12 @@ same_open w x z =
     let w' : World = record w { links = w.links ++ opened_link w x z ∷ [] } in
     same_twice w w' (open_to w x z) (record { views = refl; many = refl; stopped = λ q. refl }) (same_member w' x (record (member_at w x) { out = Some (length w.links) }) refl)
 
--- a link is sought to z
-same_send : (w : World) (x z : ℕ) (o : Option ℕ) → IsSame w (send_to w x z o)
-same_send w x z None = same_open w x z
-same_send w x z (Some o) = by_end (nat_eq (link_at w o).receiver z)
-  where
-    gone : World
-    gone = with_link w o (ended Moved (link_at w o))
-
-    by_end : (b : Bool) → IsSame w (cond b w (open_to gone x z))
-    by_end true = record { views = refl; many = refl; stopped = λ q. refl }
-    by_end false = same_twice w gone (open_to gone x z) (record { views = refl; many = refl; stopped = λ q. refl }) (same_open gone x z)
-
 -- a member has another view
 pub same_refreshed : (w : World) (x v : ℕ) → IsSame w (refreshed w x v)
-same_refreshed w x v =
-    same_twice w (look_at w x v) (refreshed w x v) (same_member w x (moved_to w x v) refl)
-    (same_send (look_at w x v) x (right_of (view_at w v) x) (member_at w x).out)
+same_refreshed w x v = refresh_composed (IsSame w) w x v
+    (λ k _ h. same_twice w (look_at w x v) (with_link (look_at w x v) k (ended Moved (link_at w k))) h (record { views = refl; many = refl; stopped = λ q. refl }))
+    (λ u _ h. let z : ℕ = right_of (view_at w v) x in same_twice w u (open_to u x z) h (same_open u x z))
+    (same_member w x (moved_to w x v) refl)
 
 -- a member stops, and none else
 pub stop_views : (w : World) (x : ℕ) (o : Option ℕ) → (end_out Halted (stop_at w x) o).views ≡ w.views

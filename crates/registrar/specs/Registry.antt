@@ -1,5 +1,5 @@
 -- What the registrar keeps.
-use Rattle.std.specs.Prelude.{◌≢◌, ℕ, ◌<◌, Bool, not, nat_eq, IsSome, List, [], ◌∷◌, length, slice_get, slice_set, slice_index_or, option_map, Option, Some, None}
+use Rattle.std.specs.Prelude.{◌≡◌, ◌≢◌, ℕ, ◌<◌, Bool, not, nat_eq, IsSome, List, [], ◌∷◌, length, slice_get, slice_set, slice_index_or, option_map, Option, Some, None}
 use Rattle.std.specs.List.{filter, All}
 use Rattle.group_view.specs.declared.link.LinkName.{LinkName}
 use Rattle.group_view.specs.Ring.{is_in}
@@ -61,6 +61,16 @@ module _ {I : Type 0} where
   -- the end at a place is another, or none
   abbrev pub end_is : Registry I → ℕ → Option I → Registry I
   end_is r place link = record r { links = with_end r.links place link (slice_get r.links place) }
+
+  -- a link stands at a place, and its end is lent
+  pub record IsLent (r : Registry I) (place : ℕ) : Type 0 where
+    pub stands : IsSome (name_in r place)
+    pub lent : end_in r place ≡ None
+
+  -- an end comes back to a place
+  pub record Gives (old : Registry I) (place : ℕ) (end : I) (new : Registry I) : Type 0 where
+    pub stands : new ≡ end_is old place (Some end)
+    pub here : AreHereBut place old.links → AreHere new.links
 
 -- the group opens, nobody has stopped, and no link waits
 abbrev pub founded : {I : Type 0} → List (List ℕ) → Registry I

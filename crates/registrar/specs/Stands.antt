@@ -8,7 +8,7 @@ use Rattle.group_view.specs.Change.{AreOpeningNames}
 use Rattle.group_view.specs.Since.{no_group, view_at}
 use Rattle.ring_world.specs.declared.phase.Phase.TheVariants.{Up}
 use Rattle.ring_world.specs.declared.event.Event.{Event}
-use Rattle.ring_world.specs.declared.event.Event.TheVariants.{Cast, Put, Take, TakeEnd, Gain, Stop, Mark, Refresh, Pick}
+use Rattle.ring_world.specs.declared.event.Event.TheVariants.{Stop, Mark, Refresh}
 use Rattle.ring_world.specs.Machine.{World, member_at, newest}
 use Rattle.ring_world.specs.Step.{size, opening}
 use Rattle.ring_world.specs.Event.{IsRun, last, id_of, is_stopped, at_door}
@@ -35,15 +35,9 @@ pub record AsksRefresh (w : World) (x v : ℕ) (e : Event) : Type 0 where
 
 -- an event that neither stops a member nor has one marked
 abbrev pub IsOwn : Event → Type 0
-IsOwn (Cast by body) = Unit {0}
-IsOwn (Put by) = Unit {0}
-IsOwn (Take by) = Unit {0}
-IsOwn (TakeEnd by) = Unit {0}
-IsOwn (Gain by) = Unit {0}
 IsOwn (Stop by) = ⊥
 IsOwn (Mark by dead) = ⊥
-IsOwn (Refresh by version) = Unit {0}
-IsOwn (Pick by) = Unit {0}
+IsOwn e = Unit {0}
 
 module _ {I : Type 0} where
   -- a registrar that keeps r has the views of the state, and notice of just those members that have stopped

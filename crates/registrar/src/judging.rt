@@ -1,15 +1,12 @@
 //! What is read of views and of the links that wait.
 ghost use Rattle.std.specs.Prelude.{◌≡◌, ◌↔◌, ◌<◌, ◌≤◌, nat_eq, length, IsSome, IfSome, IfNone};
 ghost use Rattle.std.specs.List.{list_any};
-ghost use Rattle.group_view.specs.Parts.{mark_in};
-ghost use Rattle.group_view.specs.Ring.{is_in};
 ghost use Rattle.group_view.specs.Since.{no_group, view_at};
-ghost use Rattle.group_view.specs.View.{ids, is_live as the_life, is_live_mark as the_life_of};
-ghost use Rattle.registrar.specs.Asked.{is_left as the_left, is_beside as the_neighbours, since_in as the_since};
+ghost use Rattle.registrar.specs.Asked.{is_left as the_left, is_beside as the_neighbours};
 ghost use Rattle.registrar.specs.Asked.{waits_from as the_waiting, has_more as the_rest};
 
 use crate::standing::Standing;
-use group_view::{Mark, View};
+use group_view::View;
 use ring_names::MemberId;
 
 /// The last of the views.
@@ -32,51 +29,6 @@ pub(crate) fn view_of(views: &[View], version: u32) -> Option<&View>
     views.get(version as usize - 1)
 }
 
-/// The mark of the entry of that id.
-fn mark_of(view: &View, id: MemberId) -> Option<Mark>
-    ensures { result ≡ mark_in view.now.entries id.0 }
-{
-    for entry in view.entries.as_slice() {
-        if entry.id.0 == id.0 {
-            return Some(entry.mark);
-        }
-    }
-    None
-}
-
-pub(crate) fn has_entry(view: &View, id: MemberId) -> bool
-    ensures { result ≡ is_in id.0 (ids view.now.entries) }
-{
-    mark_of(view, id).is_some()
-}
-
-pub(crate) fn is_live(view: &View, id: MemberId) -> bool
-    ensures { result ≡ the_life view.now.entries id.0 }
-{
-    match mark_of(view, id) {
-        Some(mark) => is_live_mark(mark),
-        None => false,
-    }
-}
-
-fn is_live_mark(mark: Mark) -> bool
-    ensures { result ≡ the_life_of mark }
-{
-    matches!(mark, Mark::Live)
-}
-
-/// The version from which the left neighbour of an entry has been it.
-fn since_in(view: &View, id: MemberId) -> u32
-    ensures { result ≡ the_since view.now id.0 }
-{
-    for entry in view.entries.as_slice() {
-        if entry.id.0 == id.0 {
-            return entry.since;
-        }
-    }
-    0
-}
-
 fn is_left(view: &View, by: MemberId, dead: MemberId) -> bool
     ensures { result ≡ the_left view.now by.0 dead.0 }
 {
@@ -87,7 +39,7 @@ fn is_left(view: &View, by: MemberId, dead: MemberId) -> bool
 pub(crate) fn is_beside(view: &View, by: MemberId, dead: MemberId) -> bool
     ensures { result ≡ the_neighbours view.now by.0 dead.0 }
 {
-    is_live(view, by) && (is_left(view, by, dead) || dead.0 == view.right_of(by).0)
+    view.is_live(by) && (is_left(view, by, dead) || dead.0 == view.right_of(by).0)
 }
 
 /// Whether an id is one of these.
@@ -115,5 +67,5 @@ pub(crate) fn has_more<I>(
 ) -> bool
     ensures { result ≡ the_rest links.now view.now by.0 dead.0 has_current }
 {
-    is_left(view, by, dead) && (has_current || waits_from(links, dead, by, since_in(view, by)))
+    is_left(view, by, dead) && (has_current || waits_from(links, dead, by, view.since_of(by)))
 }

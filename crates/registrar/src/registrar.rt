@@ -6,7 +6,7 @@ ghost use Rattle.group_view.specs.Change.{AreOpeningNames, marked, mark_refusal 
 ghost use Rattle.group_view.specs.Ring.{is_in};
 ghost use Rattle.group_view.specs.Since.{view_at};
 ghost use Rattle.registrar.specs.Registry.{AreHere, AreHereBut, newest as the_newest, founded, is_known, is_for};
-ghost use Rattle.registrar.specs.Registry.{name_in, end_in, end_is};
+ghost use Rattle.registrar.specs.Registry.{name_in, end_in, end_is, IsLent, Gives};
 ghost use Rattle.registrar.specs.Asked.{mark_refusal as the_mark_refusal, unknown_refusal};
 ghost use Rattle.registrar.specs.Asked.{stop_refusal as the_stop_refusal, request_refusal};
 ghost use Rattle.registrar.specs.Handled.{with_view, with_stopped, with_link, without_links, links_for, handled};
@@ -17,7 +17,7 @@ ghost use Rattle.ring_world.specs.Event.{refusal, effect};
 ghost use Rattle.ring_world.specs.Step.{opening};
 
 use crate::giving::{count_for, count_named, give_all};
-use crate::judging::{has_entry, has_more, is_among, is_beside, is_live, newest, view_of};
+use crate::judging::{has_more, is_among, is_beside, newest, view_of};
 use crate::standing::Standing;
 use group_view::{Answer, Deposited, LinkName, Request, View};
 use ring_names::{Items, MemberId, Name, OutOfMemory, Reason};
@@ -117,20 +117,16 @@ impl<I: Drop> Registrar<I> {
 
     /// Gives an end back to the place that it was lent from. It wants no memory.
     pub fn give_in(&mut self, place: u32, link: I)
-        requires stands { IsSome (name_in self.old place) }
-        requires lent { end_in self.old place ≡ None }
-        ensures stands { self.new ≡ end_is self.old place (Some link) }
-        ensures here { AreHereBut place self.old.links → AreHere self.new.links }
+        requires { IsLent self.old place }
+        ensures { Gives self.old place link self.new }
     {
         self.give_at(place as usize, link);
     }
 
     /// `give_in` at any place.
     pub fn give_at(&mut self, place: usize, link: I)
-        requires stands { IsSome (name_in self.old place) }
-        requires lent { end_in self.old place ≡ None }
-        ensures stands { self.new ≡ end_is self.old place (Some link) }
-        ensures here { AreHereBut place self.old.links → AreHere self.new.links }
+        requires { IsLent self.old place }
+        ensures { Gives self.old place link self.new }
     {
         let standing = &mut self.links[place];
         standing.link = Some(link);
@@ -194,7 +190,7 @@ impl<I: Drop> Registrar<I> {
     fn knows(&self, id: MemberId) -> bool
         ensures { result ≡ is_known self.now id.0 }
     {
-        has_entry(self.view(), id)
+        self.view().has_entry(id)
     }
 
     fn has_noted(&self, id: MemberId) -> bool
@@ -264,7 +260,7 @@ impl<I: Drop> Registrar<I> {
         if !is_beside(held, by, dead) {
             return Some(Reason::NotNeighbour);
         }
-        if !is_live(self.view(), dead) {
+        if !self.view().is_live(dead) {
             return Some(Reason::AlreadyDead);
         }
         if !self.has_noted(dead) {

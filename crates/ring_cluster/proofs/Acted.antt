@@ -5,7 +5,7 @@ use Rattle.group_view.specs.declared.link.LinkName.{LinkName}
 use Rattle.group_view.specs.View.{Group}
 use Rattle.group_view.specs.Change.{marked}
 use Rattle.ring_world.specs.declared.event.Event.{Event}
-use Rattle.ring_world.specs.declared.event.Event.TheVariants.{Cast, Put, Take, TakeEnd, Gain, Stop, Mark, Refresh, Pick}
+use Rattle.ring_world.specs.declared.event.Event.TheVariants.{Stop, Mark, Refresh}
 use Rattle.registrar.specs.Registry.{Registry, newest}
 use Rattle.registrar.specs.Handled.{with_view, with_stopped}
 use Rattle.gm_member.specs.declared.packet.Load.{Load}
@@ -15,7 +15,7 @@ use Rattle.ring_cluster.specs.Ends.{OutSeen}
 use Rattle.ring_cluster.specs.Parties.{ANode, Parties, parties, posted, with_node, shown_of, no_shown, in_seen}
 use Rattle.ring_cluster.specs.Behind.{behind}
 use Rattle.ring_cluster.specs.Looking.{HasLooked, kept_post}
-use Rattle.ring_cluster.specs.Alone.{is_alone, alone_refused, DoesAlone}
+use Rattle.ring_cluster.specs.Acting.{is_alone, alone_refused, DoesAlone}
 use Rattle.ring_cluster.specs.Acting.{Stops, Acts, LooksAt, posting, viewing}
 use Rattle.ring_cluster.specs.Refused.{id_of_name, act_refused, marked_in}
 
@@ -27,29 +27,19 @@ one_other nodes nodes' r i e = ap (λ ns. record (parties nodes r []) { nodes = 
 -- ---- by itself
 
 pub alone_refuses : (e : Event) (i : ℕ) (nodes : List ANode) (r : Registry (PlainIn Load)) → is_alone e ≡ true → alone_refused e (get_or (map shown_of nodes) i no_shown) ≡ act_refused e i r (parties nodes r [])
-alone_refuses (Cast by body) i nodes r k = refl
-alone_refuses (Put by) i nodes r k = refl
-alone_refuses (Take by) i nodes r k = refl
-alone_refuses (TakeEnd by) i nodes r k = refl
-alone_refuses (Gain by) i nodes r k = refl
 alone_refuses (Stop by) i nodes r k = cc
 alone_refuses (Mark by dead) i nodes r k = cc
 alone_refuses (Refresh by version) i nodes r k = cc
-alone_refuses (Pick by) i nodes r k = refl
+alone_refuses e i nodes r k = refl
 
 pub alone_acts : (e : Event) (i d : ℕ) (nodes nodes' : List ANode) (r : Registry (PlainIn Load)) → is_alone e ≡ true
     → DoesAlone e (get_or (map shown_of nodes) i no_shown) (get_or (map shown_of nodes') i no_shown)
     → map shown_of nodes' ≡ set (map shown_of nodes) i (get_or (map shown_of nodes') i no_shown)
     → Acts e i d (parties nodes r []) (parties nodes' r []) None
-alone_acts (Cast by body) i d nodes nodes' r k does e = (_, does, one_other nodes nodes' r i e, refl)
-alone_acts (Put by) i d nodes nodes' r k does e = (_, does, one_other nodes nodes' r i e, refl)
-alone_acts (Take by) i d nodes nodes' r k does e = (_, does, one_other nodes nodes' r i e, refl)
-alone_acts (TakeEnd by) i d nodes nodes' r k does e = (_, does, one_other nodes nodes' r i e, refl)
-alone_acts (Gain by) i d nodes nodes' r k does e = (_, does, one_other nodes nodes' r i e, refl)
 alone_acts (Stop by) i d nodes nodes' r k does e = cc
 alone_acts (Mark by dead) i d nodes nodes' r k does e = cc
 alone_acts (Refresh by version) i d nodes nodes' r k does e = cc
-alone_acts (Pick by) i d nodes nodes' r k does e = (_, does, one_other nodes nodes' r i e, refl)
+alone_acts event i d nodes nodes' r k does e = (_, does, one_other nodes nodes' r i e, refl)
 
 -- ---- a stop
 

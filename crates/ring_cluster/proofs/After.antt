@@ -1,5 +1,5 @@
 -- What holds of the parties that stand after a journal.
-use Rattle.std.proofs.Common.{◌≡◌, ℕ, ◌+◌, ◌-◌, ◌<◌, false, List, length, map, sym, ap, subst, arith}
+use Rattle.std.proofs.Common.{◌≡◌, ℕ, ◌+◌, ◌-◌, ◌<◌, false, List, [], length, map, sym, ap, subst, arith}
 use Rattle.std.proofs.lemmas.List.{length-map}
 use Rattle.ring_names.specs.declared.numbers.CreditSpec.{CreditSpec}
 use Rattle.ordered_link.specs.declared.plain.PlainIn.{PlainIn}
@@ -12,6 +12,7 @@ use Rattle.ring_cluster.specs.Seen.{state}
 use Rattle.ring_cluster.specs.Parties.{ANode, Posted, Parties, parties, node_at, shown_of}
 use Rattle.ring_cluster.specs.Standing.{MemberStands, StandAfter, IsJournal}
 use Rattle.ring_cluster.specs.Acting.{IsReady}
+use Rattle.ring_cluster.specs.Tried.{IsFreeAt}
 use Rattle.ring_cluster.proofs.Lawful.{IsLawfulAt, lawful_at}
 use Rattle.ring_cluster.proofs.Placing.{GoBetween}
 use Rattle.ring_cluster.proofs.Fresh.{reached_go}
@@ -50,6 +51,12 @@ module _ (credit : CreditSpec) (names : List (List ℕ)) (events : List Event) w
   ready_after q i s l =
       let place : i + 1 - 1 ≡ i = omega arith in
       subst (λ k. IsReady (node_at q k)) place (ready credit (state credit names events) q (i + 1) (lawful_after s.journal) s.stand (omega arith) (within_after q i s l))
+
+  -- so it may be called
+  pub free_at : (nodes : List ANode) (r : Registry (PlainIn Load)) (i : ℕ) → StandAfter credit names events (parties nodes r []) → i < length nodes → IsFreeAt nodes i
+  free_at nodes r i s l =
+      let inside : i < length (map shown_of nodes) = shown_inside nodes i l in
+      record { within = l; free = free_after (parties nodes r []) i s inside; ready = ready_after (parties nodes r []) i s inside }
 
   -- no end that waits at the registrar is lent
   pub here_after : (nodes : List ANode) (r : Registry (PlainIn Load)) (behind : List Posted) → StandAfter credit names events (parties nodes r behind) → AreHere r.links

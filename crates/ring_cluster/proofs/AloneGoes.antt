@@ -6,11 +6,11 @@ use Rattle.group_view.specs.declared.link.LinkName.{LinkName}
 use Rattle.ring_world.specs.declared.event.Event.{Event}
 use Rattle.ring_world.specs.declared.event.Event.TheVariants.{Cast, Put, Take, TakeEnd, Gain, Stop, Mark, Refresh, Pick}
 use Rattle.ring_world.specs.Machine.{World}
-use Rattle.ring_world.specs.Event.{id_of, refusal, effect}
+use Rattle.ring_world.specs.Event.{by_of, id_of, refusal, effect}
 use Rattle.ring_cluster.specs.Ends.{OutSeen}
 use Rattle.ring_cluster.specs.Parties.{Parties}
 use Rattle.ring_cluster.specs.Standing.{Stand, StandLoose}
-use Rattle.ring_cluster.specs.Acting.{by_of, Acts}
+use Rattle.ring_cluster.specs.Acting.{Acts}
 use Rattle.ring_cluster.proofs.Lawful.{IsLawfulAt}
 use Rattle.ring_cluster.proofs.CastGoes.{cast_goes}
 use Rattle.ring_cluster.proofs.PutGoes.{put_goes}
@@ -22,15 +22,10 @@ use Rattle.ring_cluster.proofs.PickGoes.{NonePosted, pick_goes}
 
 -- The event is none that reads or makes a view; and where the member of id x picks, no link waits for it at the registrar.
 abbrev pub IsAlone : Event → ℕ → Parties → Type 0
-IsAlone (Cast by body) x q = ⊤
-IsAlone (Put by) x q = ⊤
-IsAlone (Take by) x q = ⊤
-IsAlone (TakeEnd by) x q = ⊤
-IsAlone (Gain by) x q = ⊤
-IsAlone (Stop by) x q = ⊤
 IsAlone (Mark by dead) x q = ⊥
 IsAlone (Refresh by version) x q = ⊥
 IsAlone (Pick by) x q = NonePosted q x
+IsAlone e x q = ⊤
 
 pub alone_goes : (credit : CreditSpec) (w : World) (e : Event) (i d : ℕ) (q q' : Parties) (loose : Option (LinkName × OutSeen)) → IsLawfulAt credit w → refusal w e ≡ None → id_of w (by_of e) ≡ Some (i + 1) → IsAlone e (i + 1) q → Stand credit.initial w q → Acts e i d q q' loose → StandLoose credit.initial (effect w e) q' loose
 alone_goes credit w (Cast by body) i d q q' loose h r found alone st a = cast_goes credit w by body i d q q' loose h found st a

@@ -1,7 +1,7 @@
 -- What a member that has nothing to do is refused.
 use Rattle.std.proofs.Common.{◌≡◌, ◌≢◌, ℕ, zero, suc, ◌+◌, ◌<◌, ◌≤◌, Bool, true, false, cond, not, nat_lt, List, [], ◌∷◌, length, get_or, Option, Some, None, is_some, refl, sym, ap, subst, ◌∙◌, arith}
 use Rattle.std.specs.List.{position_or_len}
-use Rattle.std.proofs.lemmas.Bool.{false≢true, and_parts, le-ltb, lt-ltb}
+use Rattle.std.proofs.lemmas.Bool.{false≢true, and_parts, lt-ltb, not-true}
 use Rattle.std.proofs.lemmas.List.Quantifiers.{position-Some}
 use Rattle.ring_names.specs.declared.reason.Reason.{Reason}
 use Rattle.ring_names.specs.declared.reason.Reason.TheVariants as reason
@@ -12,6 +12,7 @@ use Rattle.ring_world.specs.Walk.{oldest}
 use Rattle.ring_world.specs.Event.{id_of, of_member, on_link, is_stopped, running_refusal, up_refusal, holds_nothing, is_at_door, at_door, pick_refusal, put_refusal, take_refusal, end_refusal, gain_refusal, version_refusal}
 use Rattle.ring_world.proofs.OwnerStops.{AllPackets, IsPacket}
 use Rattle.ring_world.proofs.Happens.{IsGood}
+use Rattle.gm_member.proofs.TakeStands.{version_may}
 use Rattle.ring_cluster.specs.Idle.{HasNothingToDo}
 
 -- ---- what a refusal says
@@ -75,15 +76,11 @@ oldest_upto : (w : World) (l : Link) (ks : List Packet) → AllPackets (IsPacket
 oldest_upto w l [] a = omega arith
 oldest_upto w l (k ∷ ks) a = a.0.upto
 
--- no version stands in the way of what isn't newer
-no_version : (need have : ℕ) → need ≤ have → version_refusal need have ≡ None
-no_version need have le = ap (λ b. refuse_if b (reason.ViewTooOld need have)) (le-ltb have need le)
-
 -- who has the newest view, and can take neither a packet nor an end, takes from a link that holds nothing
 pub takes_nothing : (w : World) (y s : ℕ) → IsGood w → s < length w.links → (member_at w y).version ≡ newest w → take_refusal w y s ≢ None → end_refusal w s ≢ None → holds_nothing (link_at w s) ≡ true
 takes_nothing w y s g lt new take end =
     nothing_next (holds_nothing (link_at w s)) (is_empty (link_at w s).packets) (version_refusal (oldest (link_at w s)).version (member_at w y).version) reason.NothingToTake reason.EndNext reason.NothingToTake reason.PacketNext take end
-    (no_version (oldest (link_at w s)).version (member_at w y).version (omega (arith, oldest_upto w (link_at w s) (link_at w s).packets (g.inv.packed.packets s lt))))
+    (version_may (oldest (link_at w s)).version (member_at w y).version (omega (arith, oldest_upto w (link_at w s) (link_at w s).packets (g.inv.packed.packets s lt))))
 
 -- such a link has no packet
 pub none_left : {A : Type 0} (xs : List A) → is_empty xs ≡ true → xs ≡ []
@@ -96,11 +93,7 @@ nothing_held l h = none_left l.packets (and_parts (is_empty l.packets) (not (is_
 
 -- nor has it ended
 pub not_ended : (l : Link) → holds_nothing l ≡ true → is_some l.ending ≡ false
-not_ended l h = opposite (is_some l.ending) (and_parts (is_empty l.packets) (not (is_some l.ending)) h).1
-  where
-    opposite : (b : Bool) → not b ≡ true → b ≡ false
-    opposite true k = absurd (false≢true k)
-    opposite false k = refl
+not_ended l h = not-true (is_some l.ending) (and_parts (is_empty l.packets) (not (is_some l.ending)) h).1
 
 -- ---- picks
 
@@ -113,7 +106,7 @@ door_is_empty w y g new refused = by_door (at_door w y) refl
     by_door (Some s) e =
         let lt : s < length w.links = (position-Some (is_at_door w y) w.links s no_link e).0 in
         let late : version_refusal (link_at w s).opened (member_at w y).version ≢ None = link_refused (at_door w y) reason.NoLinkAtDoor (λ k. version_refusal (link_at w k).opened (member_at w y).version) s e refused in
-        absurd (late (no_version (link_at w s).opened (member_at w y).version (omega (arith, g.inv.linked.opened s lt))))
+        absurd (late (version_may (link_at w s).opened (member_at w y).version (omega (arith, g.inv.linked.opened s lt))))
 
 -- the first place that passes is no later than another
 first_within : {X : Type 0} (p : X → Bool) (xs : List X) (k : ℕ) (d : X) → k < length xs → p (get_or xs k d) ≡ true → position_or_len p xs ≤ k

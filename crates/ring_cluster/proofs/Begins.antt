@@ -28,6 +28,7 @@ use Rattle.ring_cluster.specs.Ends.{Carries, fresh_out, fresh_in}
 use Rattle.ring_cluster.specs.Parties.{node_at, no_shown}
 use Rattle.ring_cluster.specs.Opened.{opened_at, opened_parties}
 use Rattle.ring_cluster.specs.Standing.{Places, MemberStands, StandAfter, has_out, HaveDone}
+use Rattle.ring_cluster.proofs.Frames.{opened_carries}
 
 -- no link passes the test
 nothing_passes : (t : ℕ → Bool) (a n : ℕ) → ((s : ℕ) → a ≤ s → s < a + n → t s ≡ false) → filter t (range_with_len a n) ≡ []
@@ -145,16 +146,8 @@ module _ (credit : CreditSpec) (names : List (List ℕ)) (are : AreOpeningNames 
   })
 
   carries_first : (s : ℕ) → s < length (opening credit names).links → Carries (opening credit names) credit.initial (link_at (opening credit names) s) (fresh_out credit.initial) (fresh_in credit.initial)
-  carries_first s l = subst (λ k. Carries (opening credit names) credit.initial k (fresh_out credit.initial) (fresh_in credit.initial)) (sym (link_is s l)) (record {
-    items = refl;
-    grants = refl;
-    late = refl;
-    ended = refl;
-    out_initial = refl;
-    in_initial = refl;
-    slots = omega arith;
-    room = omega arith;
-  })
+  carries_first s l = subst (λ k. Carries (opening credit names) credit.initial k (fresh_out credit.initial) (fresh_in credit.initial)) (sym (link_is s l))
+      (opened_carries credit.initial (opening credit names) (opening_link credit names (s + 1)) [] (credit.initial + 1) refl refl refl (omega arith))
 
   met_first : (b : Bool) → HaveDone b (fresh_out credit.initial) (fresh_in credit.initial)
   met_first true = record { moved = refl; given = refl; free = omega arith; room = omega arith }

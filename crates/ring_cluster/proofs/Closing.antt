@@ -2,8 +2,7 @@
 use Rattle.std.proofs.Common.{◌≡◌, ℕ, zero, suc, ◌+◌, ◌-◌, ◌<◌, ◌≤◌, ◌^◌, true, false, not, nat_lt, cond, List, [], ◌∷◌, ◌++◌, map, length, get_or, Option, Some, None, is_some, refl, sym, ap, subst, ◌∙◌, arith}
 use Rattle.std.specs.Prelude.{◌||◌}
 use Rattle.std.proofs.lemmas.List.{length_push, length-set, length-map}
-use Rattle.std.proofs.lemmas.Bool.{false≢true}
-use Rattle.std.proofs.lemmas.Bool.Decides.{nat_tests}
+use Rattle.std.proofs.lemmas.Bool.{false≢true, le-ltb}
 use Rattle.ring_names.specs.declared.numbers.CreditSpec.{CreditSpec}
 use Rattle.ring_names.specs.declared.reason.Reason.{Reason}
 use Rattle.ring_names.specs.declared.reason.Reason.TheVariants as reason
@@ -15,18 +14,19 @@ use Rattle.group_view.specs.Change.{marked}
 use Rattle.group_view.specs.Since.{no_group, view_at}
 use Rattle.ring_world.specs.Refusal.{refuse_if, or_else}
 use Rattle.ring_world.specs.declared.event.Event.{Event}
-use Rattle.ring_world.specs.declared.event.Event.TheVariants.{Cast, Put, Take, TakeEnd, Gain, Stop, Mark, Refresh, Pick}
+use Rattle.ring_world.specs.declared.event.Event.TheVariants.{Stop, Mark, Refresh, Pick}
 use Rattle.ring_world.specs.declared.phase.Phase.{Phase}
 use Rattle.ring_world.specs.declared.phase.Phase.TheVariants.{Waiting, Up, Stopped}
 use Rattle.ring_world.specs.View.{ids}
 use Rattle.ring_world.specs.Machine.{World, member_at, is_waiting, runs_phase}
 use Rattle.ring_world.specs.Machine as machine
 use Rattle.ring_world.specs.Step.{opening}
-use Rattle.ring_world.specs.Event.{id_of, of_member, is_stopped, up_refusal, refresh_refusal, pick_refusal, refusal, effect}
+use Rattle.ring_world.specs.Event.{by_of, id_of, of_member, is_stopped, up_refusal, refresh_refusal, pick_refusal, refusal, effect}
 use Rattle.ring_world.specs.Event as event
 use Rattle.ring_world.proofs.InOrder.{last_append, run_append}
 use Rattle.ring_world.proofs.WhatRefuses.{MayLook}
 use Rattle.ring_world.proofs.Refusals.{none_of}
+use Rattle.ring_world.proofs.Enabled.{up_none}
 use Rattle.registrar.specs.Registry.{Registry, is_known, newest}
 use Rattle.registrar.specs.Asked.{mark_refusal, stop_refusal}
 use Rattle.registrar.specs.Stands.{StandsIn}
@@ -35,30 +35,29 @@ use Rattle.gm_member.specs.declared.packet.Load.{Load}
 use Rattle.gm_member.specs.Held.{Held, at_some, up_refused, pick_refused, refresh_refused, first_at_door}
 use Rattle.gm_member.proofs.Doors.{view_version}
 use Rattle.ring_cluster.specs.Ends.{OutSeen}
-use Rattle.ring_cluster.specs.Parties.{ANode, Shown, Posted, Parties, parties, posted, node_at, with_node, shown_of}
+use Rattle.ring_cluster.specs.Parties.{ANode, Shown, Posted, Parties, parties, posted, node_at, with_node, shown_of, in_seen}
 use Rattle.ring_cluster.specs.Seen.{state}
 use Rattle.ring_cluster.specs.Standing.{MemberStands, StandAfter, IsJournal}
 use Rattle.ring_cluster.specs.Loose.{StandBetween, BetweenAfter}
 use Rattle.ring_cluster.specs.Meeting.{LooseAfter, MayMeet, MeetsIn}
-use Rattle.ring_cluster.specs.Acting.{by_of, stop_refused, look_refused, posting, newest_of, viewing, LooksAt, Acts}
+use Rattle.ring_cluster.specs.Acting.{alone_refused, stop_refused, look_refused, posting, newest_of, viewing, LooksAt, Acts}
 use Rattle.ring_cluster.specs.Refused.{id_named, NothingWaits, mark_refused, act_refused, marked_in}
 use Rattle.ring_cluster.specs.Looking.{CanLook, IsPublished}
+use Rattle.ring_cluster.specs.Behind.{behind}
+use Rattle.ring_cluster.specs.declared.undelivered.Undelivered.{Undelivered}
 use Rattle.ring_cluster.proofs.Lawful.{IsLawfulAt}
 use Rattle.ring_cluster.proofs.After.{shown_inside, lawful_after, go_after, within_after, member_after, id_after}
 use Rattle.ring_cluster.proofs.Named.{run_many}
 use Rattle.ring_cluster.proofs.Found.{named_alike, found_within}
 use Rattle.ring_cluster.proofs.Refusals.{unknown}
-use Rattle.ring_cluster.proofs.AloneRefusals.{alone_refused, alone_refusal_is}
+use Rattle.ring_cluster.proofs.AloneRefusals.{alone_refusal_is}
 use Rattle.ring_cluster.proofs.AloneGoes.{IsAlone}
 use Rattle.ring_cluster.proofs.Refusing.{look_refuses, mark_asked_refuses, mark_unknown}
 use Rattle.ring_cluster.proofs.EachGoes.{MayGo, each_goes}
-use Rattle.ring_cluster.proofs.Marking.{up_none, refresh_may}
+use Rattle.ring_cluster.proofs.Marking.{refresh_may}
 use Rattle.ring_cluster.proofs.Receivers.{GoesIn, loose_goes_in}
 use Rattle.ring_cluster.proofs.MeetsLoose.{loose_may, loose_meets}
 use Rattle.ring_cluster.proofs.Handing.{registrar_stands, knows_posted}
-
-not_lt : (a b : ℕ) → b ≤ a → nat_lt a b ≡ false
-not_lt a b l = grind (arith, nat_tests)
 
 module _ (credit : CreditSpec) (names : List (List ℕ)) (events : List Event) where
   -- the id that a name has among the parties is the ring's
@@ -132,15 +131,10 @@ module _ (credit : CreditSpec) (names : List (List ℕ)) (events : List Event) w
       by_dead by dead (Some d) k e l = mark_up by dead d k e l (node_at q i).held.phase refl
 
       by_event : (f : Event) → id_of w (by_of f) ≡ Some (i + 1) → i < length q.nodes → act_refused f i r q ≡ refusal w f
-      by_event (Cast by body) k l = alone (Cast by body) k tt
-      by_event (Put by) k l = alone (Put by) k tt
-      by_event (Take by) k l = alone (Take by) k tt
-      by_event (TakeEnd by) k l = alone (TakeEnd by) k tt
-      by_event (Gain by) k l = alone (Gain by) k tt
-      by_event (Stop by) k l = alone (Stop by) k tt
       by_event (Mark by dead) k l = ap (mark_refused r (node_at q i)) (found q dead s) ∙ by_dead by dead (id_of w dead) k refl l
       by_event (Refresh by version) k l = subst (λ j. look_refused (newest_of q).version (node_at q j) version ≡ refusal w (Refresh by version)) (place i) (look_refuses credit w q (i + 1) version by (lawful_after credit names events s.journal) k s.stand)
       by_event (Pick by) k l = pick_up by k l (node_at q i).held.phase refl
+      by_event f k l = alone f k tt
 
   -- ---- the event happens
 
@@ -158,15 +152,10 @@ module _ (credit : CreditSpec) (names : List (List ℕ)) (events : List Event) w
       looks v p same (b, new, _, is) = ap (λ (p : Parties). length p.nodes) is ∙ ap length (posted_same new (with_node p i b)) ∙ length-set p.nodes i b ∙ ap length same
 
       by_event : (f : Event) → Acts f i d q q' loose → length q'.nodes ≡ length q.nodes
-      by_event (Cast by body) (b, _, is, _) = one b is
-      by_event (Put by) (b, _, is, _) = one b is
-      by_event (Take by) (b, _, is, _) = one b is
-      by_event (TakeEnd by) (b, _, is, _) = one b is
-      by_event (Gain by) (b, _, is, _) = one b is
       by_event (Stop by) (b, _, is, _) = ap (λ (p : Parties). length p.nodes) is ∙ length-set q.nodes i b
       by_event (Mark by dead) k = looks (marked (newest_of q) d) (viewing (marked (newest_of q) d) q) refl k
       by_event (Refresh by version) k = looks (view_at q.views version) q refl k
-      by_event (Pick by) (b, _, is, _) = one b is
+      by_event f (b, _, is, _) = one b is
 
   -- a loose end goes to a member
   loose_goes : (q q' : Parties) (e : Event) (i d : ℕ) (name : LinkName) (o : OutSeen) → StandAfter credit names events q → i < length q.nodes → Acts e i d q q' (Some (name, o)) → GoesIn (state credit names events) name
@@ -185,15 +174,9 @@ module _ (credit : CreditSpec) (names : List (List ℕ)) (events : List Event) w
       looks_at v p k = looks v p (subst (λ j. LooksAt v j q p (Some (name, o))) (sym (place i)) k)
 
       by_event : (f : Event) → Acts f i d q q' (Some (name, o)) → GoesIn w name
-      by_event (Cast by body) k = never k.3
-      by_event (Put by) k = never k.3
-      by_event (Take by) k = never k.3
-      by_event (TakeEnd by) k = never k.3
-      by_event (Gain by) k = never k.3
-      by_event (Stop by) k = never k.3
       by_event (Mark by dead) (b, new, how, _) = looks_at (marked (newest_of q) d) (posting new (with_node q i b)) (b, new, how, refl)
       by_event (Refresh by version) k = looks_at (view_at q.views version) q' k
-      by_event (Pick by) k = never k.3
+      by_event f k = never k.3
 
   -- what the event needs besides
   may_go : (q : Parties) (e : Event) (i : ℕ) → StandAfter credit names events q → refusal (state credit names events) e ≡ None → id_named q (by_of e) ≡ Some (i + 1)
@@ -215,15 +198,10 @@ module _ (credit : CreditSpec) (names : List (List ℕ)) (events : List Event) w
           cc
 
       by_event : (f : Event) → refusal w f ≡ None → id_of w (by_of f) ≡ Some (i + 1) → i < length q.nodes → MayGo w f (i + 1) (marked_in f q) q
-      by_event (Cast by body) e k l = tt
-      by_event (Put by) e k l = tt
-      by_event (Take by) e k l = tt
-      by_event (TakeEnd by) e k l = tt
-      by_event (Gain by) e k l = tt
-      by_event (Stop by) e k l = tt
       by_event (Mark by dead) e k l = (dead_is by dead (id_named q dead) refl k e, up (λ y. of_member (id_of w dead) (event.mark_refusal w y)) (id_of w by) k e l)
       by_event (Refresh by version) e k l = up (λ y. refresh_refusal w y version) (id_of w by) k e l
       by_event (Pick by) e k l = up (λ y. or_else (refuse_if (is_some (member_at w y).current) reason.HasCurrentLink) (pick_refusal w y)) (id_of w by) k e l
+      by_event f e k l = tt
 
   pub acted : (nodes nodes' : List ANode) (r r' : Registry (PlainIn Load)) (late : List Posted) (e : Event) (i : ℕ) (loose : Option (LinkName × OutSeen)) → StandAfter credit names events (parties nodes r [])
       → act_refused e i r (parties nodes r []) ≡ None → id_named (parties nodes r []) (by_of e) ≡ Some (i + 1)
@@ -378,7 +356,7 @@ module _ (credit : CreditSpec) (names : List (List ℕ)) (events : List Event) w
           read_version = ap (λ (v : Group). v.version) same ∙ view_version w version g.fit.good may.upto
 
           no_older : refuse_if (nat_lt (view_at r.views version).version (node_at q i).held.view.version) (reason.ViewOutOfRange (view_at r.views version).version (node_at q i).held.view.version (node_at q i).held.view.version) ≡ None
-          no_older = ap (λ b. refuse_if b (reason.ViewOutOfRange (view_at r.views version).version (node_at q i).held.view.version (node_at q i).held.view.version)) (not_lt (view_at r.views version).version (node_at q i).held.view.version (omega (arith, held_version, read_version, may.later)))
+          no_older = ap (λ b. refuse_if b (reason.ViewOutOfRange (view_at r.views version).version (node_at q i).held.view.version (node_at q i).held.view.version)) (le-ltb (view_at r.views version).version (node_at q i).held.view.version (omega (arith, held_version, read_version, may.later)))
 
   -- ---- what is handed over to the registrar
 
@@ -386,9 +364,13 @@ module _ (credit : CreditSpec) (names : List (List ℕ)) (events : List Event) w
   last_of [] d e = refl
   last_of (x ∷ xs) d e = last_of xs d e
 
-  pub known_late : (nodes : List ANode) (r : Registry (PlainIn Load)) (d : Posted) → StandAfter credit names events (parties nodes r (d ∷ [])) → (is_known r d.name.from.0 ≡ true) × (is_known r d.name.to.0 ≡ true)
+  known_late : (nodes : List ANode) (r : Registry (PlainIn Load)) (d : Posted) → StandAfter credit names events (parties nodes r (d ∷ [])) → (is_known r d.name.from.0 ≡ true) × (is_known r d.name.to.0 ≡ true)
   known_late nodes r d s =
       let n : ℕ = length (map posted r.links) in
       let both = knows_posted credit.initial (state credit names events) nodes r (d ∷ []) s.stand.places n d (lawful_after credit names events s.journal).fit.good s.stand.stand (subst (λ k. n < k) (sym (length_push (map posted r.links) d)) (omega arith)) in
       let is : get_or (map posted r.links ++ d ∷ []) n d ≡ d = last_of (map posted r.links) d d in
       (sym (ap (λ (x : Posted). is_known r x.name.from.0) is) ∙ both.0, sym (ap (λ (x : Posted). is_known r x.name.to.0) is) ∙ both.1)
+
+  -- and so of the one that waits before the registrar
+  pub known_handed : (nodes : List ANode) (r : Registry (PlainIn Load)) (late : Option Undelivered) (u : Undelivered) → late ≡ Some u → StandAfter credit names events (parties nodes r (behind late)) → (is_known r u.name.from.0 ≡ true) × (is_known r u.name.to.0 ≡ true)
+  known_handed nodes r late u e s = known_late nodes r (record { name = u.name; end = Some (in_seen u.link) }) (subst (λ l. StandAfter credit names events (parties nodes r (behind l))) e s)

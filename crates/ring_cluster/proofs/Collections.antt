@@ -1,15 +1,17 @@
 -- A member that collects the links that wait for it stands where it stood, and so do all.
-use Rattle.std.proofs.Common.{◌≡◌, ◌≢◌, ℕ, ◌-◌, ◌<◌, ◌≤◌, Bool, true, false, cond, not, nat_eq, List, [], ◌∷◌, ◌++◌, length, set, map, Some, None, refl, sym, ap, subst, ◌∙◌, arith}
+use Rattle.std.proofs.Common.{◌≡◌, ◌≢◌, ℕ, ◌-◌, ◌<◌, ◌≤◌, Bool, true, false, cond, not, List, [], ◌∷◌, ◌++◌, length, set, map, Some, None, refl, sym, ap, subst, ◌∙◌, arith}
 use Rattle.std.specs.List.{filter}
-use Rattle.std.proofs.lemmas.Bool.{false≢true, and_parts}
+use Rattle.std.proofs.lemmas.Bool.{false≢true, and_parts, not-true}
 use Rattle.std.proofs.lemmas.List.{append-nil, append_assoc, map-append, length-set}
 use Rattle.credit_flow.specs.Credit.{none_taken}
 use Rattle.group_view.specs.Ring.{is_in}
-use Rattle.group_view.proofs.Rings.{nat_eq-same, nat_eq-not}
+use Rattle.group_view.proofs.Rings.{nat_eq-not}
 use Rattle.ring_world.specs.Machine.{World, link_at, view_at}
 use Rattle.ring_world.specs.OpenLinks.{version_of, is_door_link}
 use Rattle.ring_world.specs.Step.{size}
 use Rattle.ring_world.proofs.Rounds.{nat_eq-is}
+use Rattle.group_view.proofs.Rings.{in_head, in_tail}
+use Rattle.group_view.proofs.Neighbours.{filter_none}
 use Rattle.ring_world.proofs.Happens.{IsGood}
 use Rattle.gm_member.specs.Held.{Held, Incoming, stays, collected_held}
 use Rattle.gm_member.specs.Stands.{incoming_in, waits_for, held_in}
@@ -17,7 +19,7 @@ use Rattle.gm_member.proofs.Doors.{waits_is}
 use Rattle.ring_cluster.specs.Parties.{Shown, Posted, Parties, EndsSeen, node_at, with_node}
 use Rattle.ring_cluster.specs.Standing.{Places, MemberStands, Stand, name_of, is_to}
 use Rattle.ring_cluster.specs.Acting.{waits_at, received, is_kept_by, Collects, CollectsAt}
-use Rattle.ring_cluster.proofs.Writing.{in_filter}
+use Rattle.ring_cluster.proofs.Writing.{in_filter, map_agree}
 use Rattle.ring_cluster.proofs.Placing.{posted_is}
 use Rattle.ring_cluster.proofs.Showing.{stands_of, each_set}
 use Rattle.ring_cluster.proofs.Meetings.{waiting_at}
@@ -37,26 +39,10 @@ filter_map t f (x ∷ xs) = by_case (t (f x)) (filter_map t f xs)
     by_case true ih = ap (λ ys. f x ∷ ys) ih
     by_case false ih = ih
 
--- the first of a list is in it, and so are the others
-head_in : (x : ℕ) (xs : List ℕ) → is_in x (x ∷ xs) ≡ true
-head_in x xs = ap (λ b. cond b true (is_in x xs)) (nat_eq-same x)
-
-rest_in : (s x : ℕ) (xs : List ℕ) → is_in s xs ≡ true → is_in s (x ∷ xs) ≡ true
-rest_in s x xs e = by_case (nat_eq s x)
-  where
-    by_case : (b : Bool) → cond b true (is_in s xs) ≡ true
-    by_case true = refl
-    by_case false = e
-
 -- all pass
 pub filter_all : (t : ℕ → Bool) (xs : List ℕ) → ((s : ℕ) → is_in s xs ≡ true → t s ≡ true) → filter t xs ≡ xs
 filter_all t [] h = refl
-filter_all t (x ∷ xs) h = ap (λ b. cond b (x ∷ filter t xs) (filter t xs)) (h x (head_in x xs)) ∙ ap (λ ys. x ∷ ys) (filter_all t xs (λ s e. h s (rest_in s x xs e)))
-
--- none does
-pub filter_no : (t : ℕ → Bool) (xs : List ℕ) → ((s : ℕ) → is_in s xs ≡ true → t s ≡ false) → filter t xs ≡ []
-filter_no t [] h = refl
-filter_no t (x ∷ xs) h = ap (λ b. cond b (x ∷ filter t xs) (filter t xs)) (h x (head_in x xs)) ∙ filter_no t xs (λ s e. h s (rest_in s x xs e))
+filter_all t (x ∷ xs) h = ap (λ b. cond b (x ∷ filter t xs) (filter t xs)) (h x (in_head x xs)) ∙ ap (λ ys. x ∷ ys) (filter_all t xs (λ s e. h s (in_tail s x xs e)))
 
 -- of those that pass a test, all pass one that it implies
 pub filter_twice : (t u : ℕ → Bool) (xs : List ℕ) → ((s : ℕ) → t s ≡ true → u s ≡ true) → filter t (filter u xs) ≡ filter t xs
@@ -69,11 +55,7 @@ filter_twice t u (x ∷ xs) h = by_case (t x) refl (u x) refl (filter_twice t u 
     by_case false e true k ih = ap (λ b. cond b (x ∷ filter t (filter u xs)) (filter t (filter u xs))) e ∙ ih
     by_case false e false k ih = ih
 
--- what is made of each the same way
-pub map_agree : {A : Type 0} (f g : ℕ → A) (xs : List ℕ) → ((s : ℕ) → is_in s xs ≡ true → f s ≡ g s) → map f xs ≡ map g xs
-map_agree f g [] h = refl
-map_agree f g (x ∷ xs) h = ap (λ a. a ∷ map f xs) (h x (head_in x xs)) ∙ ap (λ ys. g x ∷ ys) (map_agree f g xs (λ s e. h s (rest_in s x xs e)))
-
+-- what is made of what is made of each
 pub map_twice : {A B : Type 0} (f : ℕ → A) (g : A → B) (xs : List ℕ) → map g (map f xs) ≡ map (λ s. g (f s)) xs
 map_twice f g [] = refl
 map_twice f g (x ∷ xs) = ap (λ ys. g (f x) ∷ ys) (map_twice f g xs)
@@ -134,12 +116,8 @@ collected w q p x b g fresh post h c = record {
     each s e = arrives w p x s a g fresh h e
 
     none : filter (is_to w x) (filter (λ s. not (is_to w x s)) p.post) ≡ []
-    none = filter_no (is_to w x) (filter (λ s. not (is_to w x s)) p.post)
-        (λ s e. is_not (is_to w x s) (and_parts (not (is_to w x s)) (is_in s p.post) (sym (in_filter (λ k. not (is_to w x k)) s p.post) ∙ e)).0)
-      where
-        is_not : (b : Bool) → not b ≡ true → b ≡ false
-        is_not true k = absurd (false≢true k)
-        is_not false k = refl
+    none = filter_none (is_to w x) (filter (λ s. not (is_to w x s)) p.post)
+        (λ s e. not-true (is_to w x s) (and_parts (not (is_to w x s)) (is_in s p.post) (sym (in_filter (λ k. not (is_to w x k)) s p.post) ∙ e)).0)
 
     links : filter (waits_at x) q.post ≡ map (waiting_at w p) zs
     links = ap (filter (waits_at x)) post ∙ filter_map (waits_at x) (waiting_at w p) p.post

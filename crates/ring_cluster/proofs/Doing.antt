@@ -1,6 +1,6 @@
 -- What the turns of a cluster do.
 use Rattle.std.proofs.Common.{◌≡◌, ℕ, ◌+◌, ◌<◌, ◌≤◌, Bool, true, false, List, [], ◌∷◌, ◌++◌, length, get_or, set, Option, Some, None, refl, sym, ap, subst, ◌∙◌, ⊎_elim, arith, bytes_eq, append-nil, append_assoc, if◌then◌else◌}
-use Rattle.std.specs.Prelude.{Contains, IsSome}
+use Rattle.std.specs.Prelude.{◌&&◌, Contains, IsSome}
 use Rattle.std.proofs.lemmas.Bool.{false≢true}
 use Rattle.std.proofs.lemmas.List.{length-map, map-append, length-set, get_or-set_same, get_or-set_other}
 use Rattle.std.proofs.lemmas.List.Quantifiers.{position-Some}
@@ -8,17 +8,17 @@ use Rattle.std.proofs.lemmas.List.Elements.{Contains-append_left, Contains-appen
 use Rattle.ring_script.specs.declared.command.Command.{Command}
 use Rattle.ring_script.specs.declared.command.Command.TheVariants as command
 use Rattle.ring_world.specs.declared.event.Event.{Event}
-use Rattle.ring_world.specs.declared.event.Event.TheVariants.{Cast, Put, Take, TakeEnd, Gain, Stop, Mark, Refresh, Pick}
+use Rattle.ring_world.specs.declared.event.Event.TheVariants.{Cast}
 use Rattle.ring_world.specs.Machine.{runs}
 use Rattle.ring_world.specs.Step.{opening}
-use Rattle.ring_world.specs.Event.{refusal}
+use Rattle.ring_world.specs.Event.{refusal, by_of, is_asked}
 use Rattle.ring_world.specs.Quiet.{IsQuiet}
 use Rattle.ring_world.proofs.Names.{same_bytes, found_at}
 use Rattle.ring_cluster.specs.declared.agenda.Task.{Task}
 use Rattle.ring_cluster.specs.declared.agenda.Task.TheVariants as task
 use Rattle.ring_cluster.specs.Work.{work, LeavesLess}
 use Rattle.ring_cluster.specs.Seen.{Seen, state, state_of, IsGoing, SameButOwed, with_event}
-use Rattle.ring_cluster.specs.Turns.{is_own_event, SamePhases}
+use Rattle.ring_cluster.specs.Turns.{SamePhases}
 use Rattle.ring_cluster.specs.Plays.{IsCommandTo, with_task, commanded, asked, asked_by, Plays, PlaysSoFar, client_event, client_events, task_event, todo, agenda_at, agenda_found, place_among, agenda_of, performed, GoesOn, HasGoneOn, HasBegun, SameElsewhere, HeadsAre, AgendasAreEmpty}
 use Rattle.ring_cluster.proofs.Named.{last_push, going_fit}
 use Rattle.ring_cluster.proofs.Phases.{own_phases, cast_phases}
@@ -26,21 +26,13 @@ use Rattle.ring_cluster.proofs.Playing.{is_own, GoesOn-given, plays_on, plays_no
 
 -- ---- a member's own steps
 
-pub own_event : (e : Event) → is_own_event e ≡ true → (name : List ℕ) → client_event name e ≡ []
-own_event (Cast by body) l name = absurd (false≢true l)
-own_event (Put by) l name = refl
-own_event (Take by) l name = refl
-own_event (TakeEnd by) l name = refl
-own_event (Gain by) l name = refl
-own_event (Stop by) l name = absurd (false≢true l)
-own_event (Mark by dead) l name = refl
-own_event (Refresh by version) l name = refl
-own_event (Pick by) l name = refl
+pub own_event : (e : Event) → is_asked e ≡ false → (name : List ℕ) → client_event name e ≡ []
+own_event e own name = ap (λ b. if b && bytes_eq (by_of e) name then e ∷ [] else []) own
 
-pub own_goes : (c d : Seen) (e : Event) → is_own_event e ≡ true → SameButOwed (with_event c e) d → HasGoneOn c d
+pub own_goes : (c d : Seen) (e : Event) → is_asked e ≡ false → SameButOwed (with_event c e) d → HasGoneOn c d
 own_goes c d e l is = (e ∷ [], is_own e (own_event e l) c d is.0 is.1)
 
-pub own_stays : (c d : Seen) (e : Event) → IsGoing c → is_own_event e ≡ true → SameButOwed (with_event c e) d → SamePhases (state_of c) (state_of d)
+pub own_stays : (c d : Seen) (e : Event) → IsGoing c → is_asked e ≡ false → SameButOwed (with_event c e) d → SamePhases (state_of c) (state_of d)
 own_stays c d e g l is =
     subst (SamePhases (state_of c)) (sym (ap state_of is.1 ∙ last_push (opening c.credit c.names) c.events e)) (own_phases (state_of c) e (going_fit c g).good.none_waits l)
 
@@ -102,26 +94,15 @@ performed_stays c d i (task.Cast body) ts is =
 
 -- ---- heads
 
-pub contains_asked : (name : List ℕ) (e : Event) (by : List ℕ) (x : Event) (es : List Event) (b : Bool) → bytes_eq by name ≡ b → Contains (if b then x ∷ [] else []) e → Contains (x ∷ es) e
-contains_asked name e by x es true q h = Contains-append_left (x ∷ []) es e h
-contains_asked name e by x es false q h = absurd (omega (arith, h.1))
-
-pub contains_event : (name : List ℕ) (e x : Event) (es : List Event) → Contains (client_event name x) e → Contains (x ∷ es) e
-contains_event name e (Cast by body) es h = contains_asked name e by (Cast by body) es (bytes_eq by name) refl h
-contains_event name e (Put by) es h = absurd (omega (arith, h.1))
-contains_event name e (Take by) es h = absurd (omega (arith, h.1))
-contains_event name e (TakeEnd by) es h = absurd (omega (arith, h.1))
-contains_event name e (Gain by) es h = absurd (omega (arith, h.1))
-contains_event name e (Stop by) es h = contains_asked name e by (Stop by) es (bytes_eq by name) refl h
-contains_event name e (Mark by dead) es h = absurd (omega (arith, h.1))
-contains_event name e (Refresh by version) es h = absurd (omega (arith, h.1))
-contains_event name e (Pick by) es h = absurd (omega (arith, h.1))
+pub contains_asked : (e x : Event) (es : List Event) (b : Bool) → Contains (if b then x ∷ [] else []) e → Contains (x ∷ es) e
+contains_asked e x es true h = Contains-append_left (x ∷ []) es e h
+contains_asked e x es false h = absurd (omega (arith, h.1))
 
 pub contains_client : (name : List ℕ) (events : List Event) (e : Event) → Contains (client_events name events) e → Contains events e
 contains_client name [] e h = absurd (omega (arith, h.1))
 contains_client name (x ∷ es) e h =
     ⊎_elim
-    (λ (l : Contains (client_event name x) e). contains_event name e x es l)
+    (λ (l : Contains (client_event name x) e). contains_asked e x es (is_asked x && bytes_eq (by_of x) name) l)
     (λ (r : Contains (client_events name es) e). Contains-append_right (x ∷ []) es e (contains_client name es e r))
     (Contains-append_cases (client_event name x) (client_events name es) e h)
 

@@ -16,10 +16,11 @@ use Rattle.ring_world.proofs.Rounds.{nat_eq-same}
 use Rattle.ring_world.proofs.Packets.{reads_got, reads_forgot, line_of_packet}
 use Rattle.ring_world.proofs.Refusals.{refuse_none}
 use Rattle.ring_world.proofs.Enabled.{up_later, gain_some, first_none}
+use Rattle.group_view.proofs.Lists.{all_range}
 use Rattle.gm_member.proofs.Fit.{IsFit}
 use Rattle.gm_member.proofs.Others.{other_out}
 use Rattle.ring_cluster.specs.Work.{items, dirty_on, dirty_at, dirty, lag, weight_at, on_links, work}
-use Rattle.ring_cluster.proofs.Sums.{all_pass, sum_le, sum_at}
+use Rattle.ring_cluster.proofs.Sums.{sum_le, sum_at}
 use Rattle.ring_cluster.proofs.Lists.{length-rest}
 use Rattle.ring_cluster.proofs.Parts.{place_in, weight_in, work_less, members_weigh, links_at, sending_same}
 
@@ -98,7 +99,7 @@ gain_lowers w x f some lt r =
 -- the packet that was put has all numbers of its member
 pub next_is_sent : (n : ℕ) (y : Member) (s : Sending) → has_nothing_new n y (record { fresh = false; sent = next_packet y s }) ≡ true
 next_is_sent n y s =
-    all_pass (λ p. is_sent (row_at y p) (numbers_at (next_packet y s) p)) 0 n
+    all_range (λ p. is_sent (row_at y p) (numbers_at (next_packet y s) p)) 0 n
     (λ p _ pl.
     ap (λ g. nat_eq (row_at y p).got g && nat_eq (row_at y p).forgot (numbers_at (next_packet y s) p).forgot) (line_of_packet (λ k. k.got) (λ r. r.got) y s p reads_got)
     ∙ ap (λ g. nat_eq (row_at y p).got (row_at y p).got && nat_eq (row_at y p).forgot g) (line_of_packet (λ k. k.forgot) (λ r. r.forgot) y s p reads_forgot)

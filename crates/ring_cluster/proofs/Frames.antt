@@ -1,40 +1,23 @@
--- What stays where one member and one link are written: the doors, the links that are open, and what the packets stand for.
-use Rattle.std.proofs.Common.{◌≡◌, ◌≢◌, ℕ, ◌+◌, ◌-◌, ◌<◌, ◌≤◌, Bool, true, false, cond, nat_eq, if◌then◌else◌, List, [], ◌∷◌, ◌++◌, length, map, get_or, set, Some, is_some, refl, sym, ap, subst, ◌∙◌, arith}
+-- What stays where one member and one link are written: the doors, the links that are open, what the packets stand for, and how a member stands.
+use Rattle.std.proofs.Common.{◌≡◌, ℕ, ◌+◌, ◌<◌, Bool, true, cond, nat_eq, List, [], ◌∷◌, ◌++◌, length, map, Some, is_some, refl, sym, ap, subst, ◌∙◌, ◌≤◌, false, Option, None, arith}
 use Rattle.std.specs.Prelude.{◌||◌, option_map}
 use Rattle.std.specs.List.{filter, range_with_len}
-use Rattle.std.proofs.lemmas.Bool.{false≢true}
 use Rattle.std.proofs.lemmas.List.{length-set}
 use Rattle.credit_flow.specs.Credit.{none_taken}
-use Rattle.group_view.specs.Ring.{is_in}
-use Rattle.group_view.specs.Since.{no_group}
-use Rattle.group_view.proofs.Rings.{is_in-append}
 use Rattle.ring_world.specs.Machine.{World, Link, Member, Packet, no_link, no_member, numbers_at, member_at, link_at}
 use Rattle.ring_world.specs.OpenLinks.{is_place, is_current}
 use Rattle.ring_world.specs.Step.{size, log_of, with_member, with_link}
-use Rattle.ring_world.specs.Event.{is_stopped}
 use Rattle.ring_world.proofs.Lists.{at_set}
-use Rattle.ring_world.proofs.Rounds.{nat_eq-is, nat_eq-same, nat_eq-not}
-use Rattle.gm_member.specs.Held.{Held}
+use Rattle.gm_member.specs.Held.{Held, Incoming}
 use Rattle.gm_member.specs.View.{ring_link}
 use Rattle.gm_member.specs.Stands.{incoming_in, waits_for, door_links, door_in, held_in, lines_in}
 use Rattle.gm_member.specs.News.{carried_in}
 use Rattle.gm_member.proofs.Places.{map-range_same}
 use Rattle.gm_member.proofs.Parts.{Seen, waits_seen, there_same}
-use Rattle.gm_member.proofs.DoorLists.{made_agree, in_places}
-use Rattle.ring_cluster.specs.Ends.{OutSeen, InSeen, packet_in, end_items, Carries}
-use Rattle.ring_cluster.specs.Parties.{Shown, Parties, node_at, no_shown}
-use Rattle.ring_cluster.specs.Standing.{Places, MemberStands, StandIn, name_of, is_to, has_out, has_in}
-
--- ---- what stands at each place, with another at one
-
-abbrev pub placed : {A : Type 0} → (ℕ → A) → ℕ → A → ℕ → A
-placed f s v k = if nat_eq k s then v else f k
-
-pub placed_here : {A : Type 0} (f : ℕ → A) (s : ℕ) (v : A) → placed f s v s ≡ v
-placed_here f s v = ap (λ b. if b then v else f s) (nat_eq-same s)
-
-pub placed_there : {A : Type 0} (f : ℕ → A) (s k : ℕ) (v : A) → k ≢ s → placed f s v k ≡ f k
-placed_there f s k v ne = ap (λ b. if b then v else f k) (nat_eq-not k s ne)
+use Rattle.gm_member.proofs.DoorLists.{made_agree}
+use Rattle.ring_cluster.specs.Ends.{Sent, OutSeen, InSeen, packet_in, end_items, items_in, Carries, fresh_in}
+use Rattle.ring_cluster.specs.Parties.{Shown}
+use Rattle.ring_cluster.specs.Standing.{Places, MemberStands, name_of, is_to, has_out, has_in}
 
 -- ---- lists
 
@@ -51,44 +34,15 @@ pub same_filter : (t t' : ℕ → Bool) (xs : List ℕ) → ((s : ℕ) → t s �
 same_filter t t' [] h = refl
 same_filter t t' (x ∷ xs) h = ap (λ b. cond b (x ∷ filter t xs) (filter t xs)) (h x) ∙ ap (λ ys. cond (t' x) (x ∷ ys) ys) (same_filter t t' xs h)
 
--- one that passes is kept
-pub filter_has : (t : ℕ → Bool) (s : ℕ) (xs : List ℕ) → is_in s xs ≡ true → t s ≡ true → is_in s (filter t xs) ≡ true
-filter_has t s [] i e = absurd (false≢true i)
-filter_has t s (x ∷ xs) i e = by_head (nat_eq s x) refl i (λ k. filter_has t s xs k e)
-  where
-    kept : s ≡ x → is_in s (cond (t x) (x ∷ filter t xs) (filter t xs)) ≡ true
-    kept is = ap (λ b. is_in s (cond b (x ∷ filter t xs) (filter t xs))) (ap t (sym is) ∙ e) ∙ ap (λ b. cond b true (is_in s (filter t xs))) (ap (nat_eq s) (sym is) ∙ nat_eq-same s)
+-- ---- one of many is written
 
-    behind : is_in s (filter t xs) ≡ true → (b : Bool) → is_in s (cond b (x ∷ filter t xs) (filter t xs)) ≡ true
-    behind k true = ap (λ b. cond (nat_eq s x) true b) k ∙ either (nat_eq s x)
-      where
-        either : (b : Bool) → cond b true true ≡ true
-        either true = refl
-        either false = refl
-    behind k false = k
+-- what each member has is as it was where the one that is written has the same
+pub same_of : {A : Type 0} (f : Member → A) (w : World) (x : ℕ) (m : Member) → x < size w → f m ≡ f (member_at w x) → (y : ℕ) → f (member_at (with_member w x m) y) ≡ f (member_at w y)
+same_of f w x m lt e y = at_set (λ k a. f a ≡ f (member_at w k)) w.members x y m no_member lt e (λ _. refl)
 
-    by_head : (b : Bool) → nat_eq s x ≡ b → cond b true (is_in s xs) ≡ true → (is_in s xs ≡ true → is_in s (filter t xs) ≡ true) → is_in s (cond (t x) (x ∷ filter t xs) (filter t xs)) ≡ true
-    by_head true is k ih = kept (nat_eq-is s x is)
-    by_head false is k ih = behind (ih k) (t x)
-
--- and stands behind others
-pub second_has : (s : ℕ) (xs ys : List ℕ) → is_in s ys ≡ true → is_in s (xs ++ ys) ≡ true
-second_has s xs ys i = is_in-append s xs ys ∙ ap (λ b. cond (is_in s xs) true b) i ∙ either (is_in s xs)
-  where
-    either : (b : Bool) → cond b true true ≡ true
-    either true = refl
-    either false = refl
-
--- what is made of each that is there
-pub made_in : {A : Type 0} (f g : ℕ → A) (xs : List ℕ) → ((s : ℕ) → is_in s xs ≡ true → f s ≡ g s) → map f xs ≡ map g xs
-made_in f g [] h = refl
-made_in f g (x ∷ xs) h =
-    ap (λ a. a ∷ map f xs) (h x (ap (λ b. cond b true (is_in x xs)) (nat_eq-same x)))
-    ∙ ap (λ ys. g x ∷ ys) (made_in f g xs (λ s i. h s (ap (λ b. cond (nat_eq s x) true b) i ∙ either (nat_eq s x))))
-  where
-    either : (b : Bool) → cond b true true ≡ true
-    either true = refl
-    either false = refl
+-- and so of links
+pub same_link_of : {A : Type 0} (f : Link → A) (w : World) (s : ℕ) (l : Link) → s < length w.links → f l ≡ f (link_at w s) → (j : ℕ) → f (link_at (with_link w s l) j) ≡ f (link_at w j)
+same_link_of f w s l lt e j = at_set (λ k a. f a ≡ f (link_at w k)) w.links s j l no_link lt e (λ _. refl)
 
 -- ---- the way of a link
 
@@ -122,9 +76,9 @@ member_ways w x y lt v c o = record {
   many = refl;
   views = refl;
   ways = λ s. refl;
-  versions = λ q. at_set (λ k a. a.version ≡ (member_at w k).version) w.members x q y no_member lt v (λ _. refl);
-  currents = λ q. at_set (λ k a. a.current ≡ (member_at w k).current) w.members x q y no_member lt c (λ _. refl);
-  outs = λ q. at_set (λ k a. a.out ≡ (member_at w k).out) w.members x q y no_member lt o (λ _. refl);
+  versions = same_of (λ (a : Member). a.version) w x y lt v;
+  currents = same_of (λ (a : Member). a.current) w x y lt c;
+  outs = same_of (λ (a : Member). a.out) w x y lt o;
 }
 
 -- a link is written that goes the same way
@@ -133,7 +87,7 @@ link_ways w s l lt e = record {
   size_is = refl;
   many = length-set w.links s l;
   views = refl;
-  ways = λ j. at_set (λ k a. way a ≡ way (link_at w k)) w.links s j l no_link lt e (λ _. refl);
+  ways = same_link_of way w s l lt e;
   versions = λ x. refl;
   currents = λ x. refl;
   outs = λ x. refl;
@@ -207,133 +161,76 @@ carries_still initial w w' l l' o n ep ee eg c = record {
   room = c.room;
 }
 
--- the same of a link that is the same, by equal logs
+-- and so where the logs are the same
+pub carries_logs : (initial : ℕ) (w w' : World) (l : Link) (o : OutSeen) (n : InSeen) → ((p : ℕ) → log_of w' p ≡ log_of w p) → Carries w initial l o n → Carries w' initial l o n
+carries_logs initial w w' l o n logs c = carries_still initial w w' l l o n (same_packets w w' l.packets logs) refl refl c
+
+-- the same of a link that is the same
 pub carries_same : (initial : ℕ) (w w' : World) (s : ℕ) (o : OutSeen) (n : InSeen) → ((p : ℕ) → log_of w' p ≡ log_of w p) → link_at w' s ≡ link_at w s → Carries w initial (link_at w s) o n → Carries w' initial (link_at w' s) o n
-carries_same initial w w' s o n logs e c =
-    subst (λ l. Carries w' initial l o n) (sym e) (carries_still initial w w' (link_at w s) (link_at w s) o n (same_packets w w' (link_at w s).packets logs) refl refl c)
+carries_same initial w w' s o n logs e c = subst (λ l. Carries w' initial l o n) (sym e) (carries_logs initial w w' (link_at w s) o n logs c)
+
+-- ends that have just opened carry a link on which these items stand, and for which nothing was given back
+pub opened_carries : (initial : ℕ) (w : World) (l : Link) (items : List (Option Sent)) (free : ℕ) → items ≡ items_in w l → l.flow.grants ≡ [] → l.ending ≡ None → length items + free ≤ initial + 1
+    → Carries w initial l (record { waiting = items; back = []; initial = initial; free = free; ended = false }) (fresh_in initial)
+opened_carries initial w l items free stand grants goes_on few = record {
+  items = stand;
+  grants = sym grants;
+  late = refl;
+  ended = sym (ap is_some goes_on);
+  out_initial = refl;
+  in_initial = refl;
+  slots = omega (arith, few);
+  room = omega arith;
+}
 
 -- ---- members
 
--- The member at an id goes on: it holds what the new state has for it, with the links at its door that it had.
-pub record Goes (w w' : World) (p p' : Places) (y : ℕ) (m b : Shown) : Type 0 where
-  pub all : Held
-  pub stands : all ≡ held_in w' y
-  pub same_door : all.door ≡ door_in w y
-  pub held : b.held ≡ record all { door = m.held.door }
+-- At the door of the member y stand the links that stood there, and their in ends show what they showed.
+pub record SameDoor (w w' : World) (p p' : Places) (y : ℕ) : Type 0 where
   pub doors : door_links w' y ≡ door_links w y
   pub to : (s : ℕ) → is_to w' y s ≡ is_to w y s
   pub post : p'.post ≡ p.post
   pub ins : (s : ℕ) → waits_for w y s ≡ true → p'.ins s ≡ p.ins s
-  pub out : b.ends.out ≡ option_map p'.outs (member_at w' y).out
-  pub link : b.ends.link ≡ option_map p'.ins (member_at w' y).current
-  pub kept : b.ends.kept ≡ m.ends.kept
-  pub ends : b.ends.door ≡ m.ends.door
-  pub old_outs : b.ends.old_outs ≡ m.ends.old_outs
-  pub old_ins : b.ends.old_ins ≡ m.ends.old_ins
 
-pub goes_stands : (w w' : World) (p p' : Places) (y : ℕ) (m b : Shown) → Goes w w' p p' y m b → MemberStands w p y m → MemberStands w' p' y b
-goes_stands w w' p p' y m b g h =
+-- A member does something to what it holds, but for its door, and holds then what the new state has for it; of its ends only those of the links
+-- on which it sends and from which it takes may show something else.
+pub record Does (w w' : World) (y : ℕ) (m b : Shown) (out : Option OutSeen) (link : Option InSeen) : Type 0 where
+  pub does : Held → Held
+  pub but_door : (g : Held) (ds : List Incoming) → does (record g { door = ds }) ≡ record (does g) { door = ds }
+  pub stands : does (held_in w y) ≡ held_in w' y
+  pub is : b ≡ record { held = does m.held; ends = record m.ends { out = out; link = link } }
+
+-- it stands in the new state where those two ends are the ones of its links
+pub goes_stands : (w w' : World) (p p' : Places) (y : ℕ) (m b : Shown) (out : Option OutSeen) (link : Option InSeen) → SameDoor w w' p p' y → Does w w' y m b out link
+    → out ≡ option_map p'.outs (member_at w' y).out → link ≡ option_map p'.ins (member_at w' y).current → MemberStands w p y m → MemberStands w' p' y b
+goes_stands w w' p p' y m b out link d g eo el h =
     let rest : List ℕ = filter (is_to w y) p.post in
-    let all_same : map (incoming_in w) (door_links w y) ≡ map (incoming_in w') (door_links w' y) = sym g.same_door ∙ ap (λ (a : Held). a.door) g.stands in
+    let same_door : (g.does (held_in w y)).door ≡ door_in w y = ap (λ (a : Held). a.door) (g.but_door (held_in w y) (door_in w y)) in
+    let all_same : map (incoming_in w) (door_links w y) ≡ map (incoming_in w') (door_links w' y) = sym same_door ∙ ap (λ (a : Held). a.door) g.stands in
     let parts : map (incoming_in w) (h.door ++ rest) ≡ map (incoming_in w') (h.door ++ rest) =
-    ap (map (incoming_in w)) (sym h.comes) ∙ all_same ∙ ap (map (incoming_in w')) (g.doors ∙ h.comes) in
-    let made : map p'.ins (h.door ++ rest) ≡ map p.ins (h.door ++ rest) =
-    ap (map p'.ins) (sym h.comes) ∙ made_agree p'.ins p.ins (waits_for w y) 0 (length w.links) (λ s _ _ e. g.ins s e) ∙ ap (map p.ins) h.comes in
+    ap (map (incoming_in w)) (sym h.comes) ∙ all_same ∙ ap (map (incoming_in w')) (d.doors ∙ h.comes) in
     let ends_made : map (λ s. Some (p'.ins s)) (h.door ++ rest) ≡ map (λ s. Some (p.ins s)) (h.door ++ rest) =
-    ap (map (λ s. Some (p'.ins s))) (sym h.comes) ∙ made_agree (λ s. Some (p'.ins s)) (λ s. Some (p.ins s)) (waits_for w y) 0 (length w.links) (λ s _ _ e. ap (λ n. Some n) (g.ins s e)) ∙ ap (map (λ s. Some (p.ins s))) h.comes in
+    ap (map (λ s. Some (p'.ins s))) (sym h.comes) ∙ made_agree (λ s. Some (p'.ins s)) (λ s. Some (p.ins s)) (waits_for w y) 0 (length w.links) (λ s _ _ e. ap (λ n. Some n) (d.ins s e)) ∙ ap (map (λ s. Some (p.ins s))) h.comes in
     record {
       door = h.door;
-      comes = g.doors ∙ h.comes ∙ ap (λ xs. h.door ++ xs) (same_filter (is_to w y) (is_to w' y) p.post (λ s. sym (g.to s)) ∙ ap (filter (is_to w' y)) (sym g.post));
+      comes = d.doors ∙ h.comes ∙ ap (λ xs. h.door ++ xs) (same_filter (is_to w y) (is_to w' y) p.post (λ s. sym (d.to s)) ∙ ap (filter (is_to w' y)) (sym d.post));
       held =
-          g.held ∙ ap (λ d. record g.all { door = d }) (ap (λ (a : Held). a.door) h.held ∙ made_first (incoming_in w) (incoming_in w') h.door rest parts)
+          ap (λ (a : Shown). a.held) g.is ∙ ap g.does h.held ∙ g.but_door (held_in w y) (map (incoming_in w) h.door)
+          ∙ ap (λ ds. record (g.does (held_in w y)) { door = ds }) (made_first (incoming_in w) (incoming_in w') h.door rest parts)
           ∙ ap (λ (a : Held). record a { door = map (incoming_in w') h.door }) g.stands;
-      out = g.out;
-      kept = g.kept ∙ h.kept;
-      link = g.link;
-      ends = g.ends ∙ h.ends ∙ sym (made_first (λ s. Some (p'.ins s)) (λ s. Some (p.ins s)) h.door rest ends_made);
-      old_outs = g.old_outs ∙ h.old_outs;
-      old_ins = g.old_ins ∙ h.old_ins;
+      out = ap (λ (a : Shown). a.ends.out) g.is ∙ eo;
+      kept = ap (λ (a : Shown). a.ends.kept) g.is ∙ h.kept;
+      link = ap (λ (a : Shown). a.ends.link) g.is ∙ el;
+      ends = ap (λ (a : Shown). a.ends.door) g.is ∙ h.ends ∙ sym (made_first (λ s. Some (p'.ins s)) (λ s. Some (p.ins s)) h.door rest ends_made);
+      old_outs = ap (λ (a : Shown). a.ends.old_outs) g.is ∙ h.old_outs;
+      old_ins = ap (λ (a : Shown). a.ends.old_ins) g.is ∙ h.old_ins;
     }
 
--- Another member: it holds what it held, and its links are the same.
-pub record Stays (w w' : World) (p p' : Places) (y : ℕ) : Type 0 where
-  pub stands : held_in w y ≡ held_in w' y
-  pub doors : door_links w' y ≡ door_links w y
-  pub to : (s : ℕ) → is_to w' y s ≡ is_to w y s
-  pub post : p'.post ≡ p.post
-  pub ins : (s : ℕ) → waits_for w y s ≡ true → p'.ins s ≡ p.ins s
-  pub same_out : (member_at w' y).out ≡ (member_at w y).out
-  pub same_current : (member_at w' y).current ≡ (member_at w y).current
-  pub out : (s : ℕ) → (member_at w y).out ≡ Some s → p'.outs s ≡ p.outs s
-  pub link : (s : ℕ) → (member_at w y).current ≡ Some s → p'.ins s ≡ p.ins s
-
-pub stays_stands : (w w' : World) (p p' : Places) (y : ℕ) (m : Shown) → Stays w w' p p' y → MemberStands w p y m → MemberStands w' p' y m
-stays_stands w w' p p' y m g h = goes_stands w w' p p' y m m (record {
-  all = held_in w y;
-  stands = g.stands;
-  same_door = refl;
-  held = h.held ∙ ap (λ d. record (held_in w y) { door = d }) (sym (ap (λ (a : Held). a.door) h.held));
-  doors = g.doors;
-  to = g.to;
-  post = g.post;
-  ins = g.ins;
-  out = h.out ∙ sym (there_same p'.outs p.outs (member_at w y).out g.out) ∙ ap (option_map p'.outs) (sym g.same_out);
-  link = h.link ∙ sym (there_same p'.ins p.ins (member_at w y).current g.link) ∙ ap (option_map p'.ins) (sym g.same_current);
-  kept = refl;
-  ends = refl;
-  old_outs = refl;
-  old_ins = refl;
-}) h
-
--- ---- links that wait for their receivers
-
--- one that waits at the registrar for a member waits for it
-pub posted_waits : (initial : ℕ) (w : World) (q : Parties) (p : Places) (x s : ℕ) → StandIn initial w q p → 1 ≤ x → x < size w → is_in s p.post ≡ true → (link_at w s).receiver ≡ x → waits_for w x s ≡ true
-posted_waits initial w q p x s st some lt i to =
-    let m : MemberStands w p x (node_at q (x - 1)) = st.each x some lt in
-    let passes : is_to w x s ≡ true = ap (λ y. nat_eq y x) to ∙ nat_eq-same x in
-    let there : is_in s (door_links w x) ≡ true = ap (is_in s) m.comes ∙ second_has s m.door (filter (is_to w x) p.post) (filter_has (is_to w x) s p.post i passes) in
-    sym (in_places (waits_for w x) 0 (length w.links) s (omega arith) (omega (arith, st.within s i))) ∙ there
-
--- ---- all parties
-
--- Where one member steps: what its step leaves of the others, of the views and of the links that wait.
-pub record OneSteps (initial : ℕ) (w w' : World) (q q' : Parties) (p p' : Places) (i : ℕ) (b : Shown) : Type 0 where
-  pub lt : i + 1 < size w
-  pub size_is : size w' ≡ size w
-  pub many : length w'.links ≡ length w.links
-  pub views : w'.views ≡ w.views
-  pub names : (s : ℕ) → name_of w' s ≡ name_of w s
-  pub nodes : q'.nodes ≡ set q.nodes i b
-  pub seen_views : q'.views ≡ q.views
-  pub seen_post : q'.post ≡ q.post
-  pub post : p'.post ≡ p.post
-  pub posted : (s : ℕ) → is_in s p.post ≡ true → p'.ins s ≡ p.ins s
-  pub stopped : (y : ℕ) → 1 ≤ y → y < size w → is_in y q.stopped ≡ is_stopped (member_at w y).phase → is_in y q'.stopped ≡ is_stopped (member_at w' y).phase
-  pub it : MemberStands w' p' (i + 1) b
-  pub others : (y : ℕ) → 1 ≤ y → y < size w → y ≢ i + 1 → MemberStands w p y (node_at q (y - 1)) → MemberStands w' p' y (node_at q (y - 1))
-  pub carry : (s : ℕ) → s < length w.links → has_in w' s ≡ true → Carries w' initial (link_at w' s) (p'.outs s) (p'.ins s)
-
-pub one_steps : (initial : ℕ) (w w' : World) (q q' : Parties) (p p' : Places) (i : ℕ) (b : Shown) → OneSteps initial w w' q q' p p' i b → StandIn initial w q p → StandIn initial w' q' p'
-one_steps initial w w' q q' p p' i b h st =
-    let counted : length q'.nodes ≡ length q.nodes = ap length h.nodes ∙ length-set q.nodes i b in
-    record {
-      count = omega (arith, counted, st.count, h.size_is);
-      each = λ y some lt.
-          let ly : y < size w = omega (arith, h.size_is) in
-          let back : y - 1 + 1 ≡ y = omega arith in
-          let il : i < length q.nodes = omega (arith, st.count, h.lt) in
-          subst (λ k. MemberStands w' p' k (node_at q' (y - 1))) back
-          (subst (λ xs. MemberStands w' p' (y - 1 + 1) (get_or xs (y - 1) no_shown)) (sym h.nodes)
-          (at_set (λ k m. MemberStands w' p' (k + 1) m) q.nodes i (y - 1) b no_shown il h.it
-          (λ ne. subst (λ k. MemberStands w' p' k (node_at q (y - 1))) (sym back) (h.others y some ly (λ (same : y ≡ i + 1). ne (omega arith)) (st.each y some ly)))));
-      views = h.views ∙ st.views ∙ ap (λ vs. no_group ∷ vs) (sym h.seen_views);
-      stopped = λ y some lt. let ly : y < size w = omega (arith, h.size_is) in h.stopped y some ly (st.stopped y some ly);
-      post =
-          h.seen_post ∙ st.post
-          ∙ made_in (λ s. record { name = name_of w s; end = Some (p.ins s) }) (λ s. record { name = name_of w' s; end = Some (p'.ins s) }) p.post
-          (λ s i. ap (λ n. record { name = n; end = Some (p.ins s) }) (sym (h.names s)) ∙ ap (λ e. record { name = name_of w' s; end = Some e }) (sym (h.posted s i)))
-          ∙ ap (map (λ s. record { name = name_of w' s; end = Some (p'.ins s) })) (sym h.post);
-      within = λ s i. let in_old : is_in s p.post ≡ true = ap (is_in s) (sym h.post) ∙ i in omega (arith, st.within s in_old, h.many);
-      carry = λ s sl there. h.carry s (omega (arith, h.many)) there;
-    }
+-- and so does one that does nothing and whose links are the same
+pub stays_stands : (w w' : World) (p p' : Places) (y : ℕ) (m : Shown) → SameDoor w w' p p' y → held_in w y ≡ held_in w' y → (member_at w' y).out ≡ (member_at w y).out → (member_at w' y).current ≡ (member_at w y).current
+    → ((s : ℕ) → (member_at w y).out ≡ Some s → p'.outs s ≡ p.outs s) → ((s : ℕ) → (member_at w y).current ≡ Some s → p'.ins s ≡ p.ins s) → MemberStands w p y m → MemberStands w' p' y m
+stays_stands w w' p p' y m d stands same_out same_current outs ins h = goes_stands w w' p p' y m m m.ends.out m.ends.link d
+    (record { does = λ g. g; but_door = λ g ds. refl; stands = stands; is = refl })
+    (h.out ∙ sym (there_same p'.outs p.outs (member_at w y).out outs) ∙ ap (option_map p'.outs) (sym same_out))
+    (h.link ∙ sym (there_same p'.ins p.ins (member_at w y).current ins) ∙ ap (option_map p'.ins) (sym same_current))
+    h

@@ -1,27 +1,25 @@
 -- In every state of every run, nobody has taken from a link at a door.
-use Rattle.std.proofs.Common.{◌≡◌, ◌≢◌, ℕ, ◌+◌, ◌<◌, ◌≤◌, Bool, true, false, not, nat_eq, List, [], ◌∷◌, length, get_or, set, max, Option, Some, None, is_some, refl, sym, ap, subst, ◌∙◌, arith, ⊎_elim, inl, inr}
-use Rattle.std.specs.Prelude.{◌&&◌, ◌⊎◌}
+use Rattle.std.proofs.Common.{◌≡◌, ◌≢◌, ℕ, ◌+◌, ◌<◌, ◌≤◌, Bool, true, false, not, nat_eq, List, length, get_or, set, max, Option, Some, None, refl, sym, ap, subst, ◌∙◌, arith, ⊎_elim}
+use Rattle.std.specs.Prelude.{◌&&◌}
 use Rattle.std.proofs.lemmas.Bool.{false≢true, and_parts, cases_eq, cases_lt}
-use Rattle.std.proofs.lemmas.List.{length-set, length_push}
+use Rattle.std.proofs.lemmas.List.{length-set}
 use Rattle.std.proofs.lemmas.List.FromFn.{get_or-map-range_with_len, length-map-range_with_len}
 use Rattle.ring_names.specs.declared.numbers.CreditSpec.{CreditSpec}
-use Rattle.group_view.specs.Change.{AreOpeningNames, marked}
+use Rattle.group_view.specs.Change.{AreOpeningNames}
 use Rattle.ring_world.specs.declared.event.Event.{Event}
-use Rattle.ring_world.specs.declared.event.Event.TheVariants.{Cast, Put, Take, TakeEnd, Gain, Stop, Mark, Refresh, Pick}
 use Rattle.ring_world.specs.declared.phase.Ending.TheVariants.{Halted}
-use Rattle.ring_world.specs.Machine.{Member, Link, World, no_link, member_at, link_at, view_at, newest, runs_phase}
+use Rattle.ring_world.specs.Machine.{Member, Link, World, no_link, member_at, link_at, newest, runs_phase}
 use Rattle.ring_world.specs.OpenLinks.{version_of, comes_from_left, is_place, is_current, passes}
-use Rattle.ring_world.specs.Step.{size, published, pushed, popped, next_packet, taker, take_from, with_member, with_link, with_view, current_is, with_current, finished, leave_link, stopped, stop_at, ended, end_out, opening, opening_link}
-use Rattle.ring_world.specs.Event.{id_of, at_found, refreshed, refusal, effect, IsRun, last}
+use Rattle.ring_world.specs.Step.{size, published, pushed, popped, next_packet, taker, take_from, with_member, with_link, current_is, with_current, finished, leave_link, stopped, stop_at, ended, end_out, opening, opening_link}
+use Rattle.ring_world.specs.Event.{refreshed, refusal, effect, IsRun, last}
 use Rattle.ring_world.proofs.Cases.{each_event}
-use Rattle.ring_world.proofs.WhatRefuses.{MayTake, MayLook}
+use Rattle.ring_world.proofs.WhatRefuses.{MayTake, MayLook, MayMark}
 use Rattle.ring_world.proofs.Lists.{at_set}
 use Rattle.ring_world.proofs.Rounds.{nat_eq-is, nat_eq-not}
-use Rattle.ring_world.proofs.Happens.{IsGood, event_good, opening_good}
-use Rattle.registrar.proofs.Members.{same_effect, same_refreshed, stop_views}
+use Rattle.ring_world.proofs.Happens.{IsGood, run_events, opening_good}
 use Rattle.gm_member.specs.Stands.{waits_for}
 use Rattle.gm_member.proofs.DoorParts.{waits_by, member_same, member_other}
-use Rattle.gm_member.proofs.MarkStands.{MayMark, mark_view, mark_world, mark_good, mark_look}
+use Rattle.gm_member.proofs.MarkStands.{mark_view, mark_world, mark_good, mark_look}
 use Rattle.gm_member.proofs.OpenDoors.{sends_right, opened_world, old_links, refresh_looks, refresh_opens, link_old, link_new, links_more}
 use Rattle.gm_member.proofs.Parts.{current_waits_not, over_waits_not}
 use Rattle.ring_cluster.proofs.Reached.{reached}
@@ -29,7 +27,7 @@ use Rattle.ring_cluster.proofs.Placing.{GoBetween, go_between}
 use Rattle.ring_cluster.proofs.Collections.{AreFresh}
 use Rattle.ring_cluster.proofs.Refreshing.{AfterLook, keeps_it, looks_after}
 use Rattle.ring_cluster.proofs.Opens.{opens_after}
-use Rattle.ring_cluster.proofs.Marking.{waits_view, mark_may, mark_is}
+use Rattle.ring_cluster.proofs.Marking.{waits_view}
 
 -- ---- one step
 
@@ -123,22 +121,18 @@ stop_fresh w x (Some o) l lt f = link_fresh (stop_at w x) o (ended Halted (link_
 
 -- ---- a pick
 
-pick_fresh : (w : World) (y s : ℕ) → y < size w → is_some (member_at w y).current ≡ false → AreFresh w → AreFresh (current_is w y (Some s))
+pick_fresh : (w : World) (y s : ℕ) → y < size w → (member_at w y).current ≡ None → AreFresh w → AreFresh (current_is w y (Some s))
 pick_fresh w y s l none = fresh_from w (set w.members y (with_current (Some s) (member_at w y))) w.links refl (λ z j jl e. (
   ⊎_elim
       (λ (same : z ≡ y).
       let there : waits_by w y (Some s) (member_at w y).version j ≡ true = sym (ap (λ (m : Member). waits_by w y m.current m.version j) (member_same w y (with_current (Some s) (member_at w y)) l)) ∙ subst (λ k. waits_for (current_is w y (Some s)) k j ≡ true) same e in
       subst (λ k. waits_for w k j ≡ true) (sym same)
-      (ap (λ c. waits_by w y c (member_at w y).version j) (is_none (member_at w y).current none) ∙ apart (nat_eq (link_at w j).receiver y) (nat_eq s j) (link_at w j).over (comes_from_left w y (link_at w j) (max (member_at w y).version (link_at w j).opened)) there))
+      (ap (λ c. waits_by w y c (member_at w y).version j) none ∙ apart (nat_eq (link_at w j).receiver y) (nat_eq s j) (link_at w j).over (comes_from_left w y (link_at w j) (max (member_at w y).version (link_at w j).opened)) there))
       (λ (other : z ≢ y). sym (ap (λ (m : Member). waits_by w z m.current m.version j) (member_other w y z (with_current (Some s) (member_at w y)) other)) ∙ e)
       (cases_eq z y),
   refl,
 ))
   where
-    is_none : (c : Option ℕ) → is_some c ≡ false → c ≡ None
-    is_none None h = refl
-    is_none (Some t) h = cc
-
     apart : (r c o p : Bool) → ((r && (not c && not o)) && p) ≡ true → ((r && (not false && not o)) && p) ≡ true
     apart r false o p h = h
     apart true true o p h = absurd (false≢true h)
@@ -174,64 +168,28 @@ mark_fresh w x d m g f = refresh_fresh (mark_world w d) x (newest w + 1) (mark_l
 
 -- ---- events
 
--- one more view, or nothing that was taken from at a door
-abbrev pub FreshOr : World → World → Type 0
-FreshOr w w' = AreFresh w' ⊎ (length w'.views ≡ length w.views + 1)
-
-own_fresh : (w : World) (e : Event) → IsGood w → AreFresh w → (effect w e).views ≡ w.views → refusal w e ≡ None → AreFresh (effect w e)
-own_fresh w e g f same r = ⊎_elim
-    (λ (k : AreFresh (effect w e)). k)
-    (λ (k : length (effect w e).views ≡ length w.views + 1). (let is : length (effect w e).views ≡ length w.views = ap length same in absurd (omega arith)))
-    (each_event (FreshOr w) w e g.none_waits (record {
-      casts = λ x m lt up. inl (member_fresh w x (published x m (member_at w x)) lt refl refl f);
-      puts = λ x o lt up is. inl (link_fresh w o (pushed (link_at w o) (next_packet (member_at w x) (link_at w o).sending)) (g.inv.linked.out_lt x o (ap runs_phase up) is) (λ z. refl) refl f);
-      takes = λ y s m. inl (take_fresh w y s m g f);
-      leaves = λ y s lt up is. inl (leave_fresh w y s lt (g.inv.current.lt y s (ap runs_phase up) is) is f);
-      gains = λ x o lt up is. inl (link_fresh w o _ (g.inv.linked.out_lt x o (ap runs_phase up) is) (λ z. refl) refl f);
-      stops = λ x lt up. inl (stop_fresh w x (member_at w x).out lt (λ k is. g.inv.linked.out_lt x k (ap runs_phase up) is) f);
-      marks = λ x d lt up rests. inr (ap length (same_refreshed (with_view w (marked (view_at w (newest w)) d)) x (newest w + 1)).views ∙ length_push w.views (marked (view_at w (newest w)) d));
-      refreshes = λ x v m. inl (refresh_fresh w x v m g f);
-      picks = λ y s lt up none at upto. inl (pick_fresh w y s lt none f);
-    }) r)
-
-stop_same : (w : World) (o : Option ℕ) → (at_found o w (λ x. end_out Halted (stop_at w x) (member_at w x).out)).views ≡ w.views
-stop_same w None = refl
-stop_same w (Some x) = stop_views w x (member_at w x).out
-
-mark_event_fresh : (w : World) (by dead : List ℕ) → IsGood w → AreFresh w → refusal w (Mark by dead) ≡ None → AreFresh (effect w (Mark by dead))
-mark_event_fresh w by dead g f r = by_name (id_of w by) refl
-  where
-    by_dead : (x : ℕ) → id_of w by ≡ Some x → (o : Option ℕ) → id_of w dead ≡ o → AreFresh (effect w (Mark by dead))
-    by_dead x named None k = subst AreFresh (sym (ap (λ o. at_found o w (λ y. at_found (id_of w dead) w (λ e. refreshed (mark_world w e) y (newest w + 1)))) named ∙ ap (λ o. at_found o w (λ e. refreshed (mark_world w e) x (newest w + 1))) k)) f
-    by_dead x named (Some d) k = subst AreFresh (sym (mark_is w x d by dead named k)) (mark_fresh w x d (mark_may w x d by dead named k r) g f)
-
-    by_name : (o : Option ℕ) → id_of w by ≡ o → AreFresh (effect w (Mark by dead))
-    by_name None k = subst AreFresh (sym (ap (λ o. at_found o w (λ y. at_found (id_of w dead) w (λ e. refreshed (mark_world w e) y (newest w + 1)))) k)) f
-    by_name (Some x) k = by_dead x k (id_of w dead) refl
-
-pub event_fresh : (w : World) (e : Event) → IsGood w → AreFresh w → refusal w e ≡ None → AreFresh (effect w e)
-event_fresh w (Cast by body) g f r = own_fresh w (Cast by body) g f (same_effect w (Cast by body) tt).views r
-event_fresh w (Put by) g f r = own_fresh w (Put by) g f (same_effect w (Put by) tt).views r
-event_fresh w (Take by) g f r = own_fresh w (Take by) g f (same_effect w (Take by) tt).views r
-event_fresh w (TakeEnd by) g f r = own_fresh w (TakeEnd by) g f (same_effect w (TakeEnd by) tt).views r
-event_fresh w (Gain by) g f r = own_fresh w (Gain by) g f (same_effect w (Gain by) tt).views r
-event_fresh w (Stop by) g f r = own_fresh w (Stop by) g f (stop_same w (id_of w by)) r
-event_fresh w (Mark by dead) g f r = mark_event_fresh w by dead g f r
-event_fresh w (Refresh by version) g f r = own_fresh w (Refresh by version) g f (same_effect w (Refresh by version) tt).views r
-event_fresh w (Pick by) g f r = own_fresh w (Pick by) g f (same_effect w (Pick by) tt).views r
+-- one event more
+event_fresh : (w : World) (e : Event) → IsGood w → refusal w e ≡ None → AreFresh w → AreFresh (effect w e)
+event_fresh w e g r f = each_event AreFresh w e g.none_waits (record {
+  casts = λ x m u. member_fresh w x (published x m (member_at w x)) u.lt refl refl f;
+  puts = λ x o u is k. link_fresh w o (pushed (link_at w o) (next_packet (member_at w x) (link_at w o).sending)) (g.inv.linked.out_lt x o (ap runs_phase u.up) is) (λ z. refl) refl f;
+  takes = λ y s u m. take_fresh w y s m g f;
+  leaves = λ y s u is k. leave_fresh w y s u.lt (g.inv.current.lt y s (ap runs_phase u.up) is) is f;
+  gains = λ x o u is k. link_fresh w o _ (g.inv.linked.out_lt x o (ap runs_phase u.up) is) (λ z. refl) refl f;
+  stops = λ x u. stop_fresh w x (member_at w x).out u.lt (λ k is. g.inv.linked.out_lt x k (ap runs_phase u.up) is) f;
+  marks = λ x d u m. mark_fresh w x d m g f;
+  refreshes = λ x v u m. refresh_fresh w x v m g f;
+  picks = λ y s u none at upto. pick_fresh w y s u.lt none f;
+}) r
 
 -- ---- runs
-
-run_fresh : (w : World) (es : List Event) → IsGood w → AreFresh w → IsRun w es → AreFresh (last w es)
-run_fresh w [] g f r = f
-run_fresh w (e ∷ es) g f r = run_fresh (effect w e) es (event_good w e g r.0) (event_fresh w e g f r.0) r.1
 
 opening_fresh : (credit : CreditSpec) (names : List (List ℕ)) → AreFresh (opening credit names)
 opening_fresh credit names z s l e =
     ap (λ (a : Link). a.flow.receiver) (get_or-map-range_with_len (opening_link credit names) 1 (length names) s (1 + s) no_link (omega (arith, l, length-map-range_with_len (opening_link credit names) 1 (length names))) refl)
 
 pub reached_fresh : (credit : CreditSpec) (names : List (List ℕ)) (events : List Event) → AreOpeningNames names → IsRun (opening credit names) events → AreFresh (last (opening credit names) events)
-reached_fresh credit names events are r = run_fresh (opening credit names) events (opening_good credit names are) (opening_fresh credit names) r
+reached_fresh credit names events are r = run_events AreFresh event_fresh (opening credit names) events (opening_good credit names are) r (opening_fresh credit names)
 
 -- and each link goes from a member to a member
 pub reached_go : (credit : CreditSpec) (names : List (List ℕ)) (events : List Event) → AreOpeningNames names → IsRun (opening credit names) events → GoBetween (last (opening credit names) events)

@@ -27,7 +27,7 @@ link_gives w o l lt here h s = at_set (λ j k. ArePositive k.flow.grants) w.link
 
 -- the grant that is due with a packet is of some credit
 popped_gives : (initial more : ℕ) (l : Link) → 1 ≤ more → LinkIsKept initial more l → ArePositive l.flow.grants → ArePositive (popped l).flow.grants
-popped_gives initial more l positive k h = ArePositive-with_grant (is_grant_next l.flow.receiver && not l.flow.receiver.holding) l.flow.receiver.more l.flow.grants (omega (arith, k.kept.receiver_more)) h
+popped_gives initial more l positive k h = ArePositive-with_grant (is_grant_next l.flow.receiver && not l.flow.receiver.holding) l.flow.receiver.more l.flow.grants (omega (arith, k.kept.numbers.counts)) h
 
 -- the credit of the links, and their grants
 record IsGiving (initial more : ℕ) (w : World) : Type 0 where

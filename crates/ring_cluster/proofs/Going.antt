@@ -1,5 +1,5 @@
 -- A link that hasn't ended is the one on which its running sender sends.
-use Rattle.std.proofs.Common.{◌≡◌, ◌≢◌, ℕ, suc, ◌+◌, ◌-◌, ◌<◌, Bool, true, false, nat_eq, List, [], ◌∷◌, length, set, Option, Some, None, if◌then◌else◌, refl, sym, ap, subst, ◌∙◌, arith}
+use Rattle.std.proofs.Common.{◌≡◌, ◌≢◌, ℕ, suc, ◌+◌, ◌-◌, ◌<◌, Bool, true, false, nat_eq, List, length, set, Option, Some, None, if◌then◌else◌, refl, sym, ap, subst, ◌∙◌, arith}
 use Rattle.std.proofs.lemmas.List.{length-set, length_push}
 use Rattle.std.proofs.lemmas.List.FromFn.{get_or-map-range_with_len, length-map-range_with_len}
 use Rattle.ring_names.specs.declared.numbers.CreditSpec.{CreditSpec}
@@ -15,7 +15,7 @@ use Rattle.ring_world.proofs.Lists.{at_set, at_push}
 use Rattle.ring_world.proofs.Kept.{Inv}
 use Rattle.ring_world.proofs.KeptMore.{mark_keeps}
 use Rattle.ring_world.proofs.Cases.{each_event}
-use Rattle.ring_world.proofs.Happens.{IsGood, event_good, opening_good}
+use Rattle.ring_world.proofs.Happens.{IsGood, run_events, opening_good}
 
 -- x runs and sends on the link o
 abbrev pub SendsThere : Member → ℕ → Type 0
@@ -122,26 +122,25 @@ refresh_goes w x v lt rx inv h = by_out (member_at w x).out refl
 -- ---- every state of every run
 
 -- one event more
-event_goes : (w : World) (e : Event) → IsGood w → GoOn w → refusal w e ≡ None → GoOn (effect w e)
-event_goes w e g h r = each_event GoOn w e g.none_waits (record {
-  casts = λ x m lt up. member_goes w x (published x m (member_at w x)) lt refl refl h;
-  puts = λ x o lt up out. link_goes w o (pushed (link_at w o) (next_packet (member_at w x) (link_at w o).sending)) (g.inv.linked.out_lt x o (ap runs_phase up) out) refl (λ e2. e2) h;
-  takes = λ y s m. link_goes (with_member w y (taker w y s)) s (popped (link_at w s)) (g.inv.current.lt y s (ap runs_phase m.up) m.current) refl (λ e2. e2) (member_goes w y (taker w y s) m.is_member refl refl h);
-  leaves = λ y s lt up current. link_goes (current_is w y None) s (finished (link_at w s)) (g.inv.current.lt y s (ap runs_phase up) current) refl (λ e2. e2) (member_goes w y (with_current None (member_at w y)) lt refl refl h);
-  gains = λ x o lt up out. link_goes w o _ (g.inv.linked.out_lt x o (ap runs_phase up) out) refl (λ e2. e2) h;
-  stops = λ x lt up. stop_goes w x lt (ap runs_phase up) g.inv h;
-  marks = λ x d lt up rests. mark x d lt (ap runs_phase up) rests;
-  refreshes = λ x v m. refresh_goes w x v m.is_member (ap runs_phase m.up) g.inv h;
-  picks = λ y s lt up none door upto. member_goes w y (with_current (Some s) (member_at w y)) lt refl refl h;
+event_goes : (w : World) (e : Event) → IsGood w → refusal w e ≡ None → GoOn w → GoOn (effect w e)
+event_goes w e g r h = each_event GoOn w e g.none_waits (record {
+  casts = λ x m u. member_goes w x (published x m (member_at w x)) u.lt refl refl h;
+  puts = λ x o u out k. link_goes w o (pushed (link_at w o) (next_packet (member_at w x) (link_at w o).sending)) (g.inv.linked.out_lt x o (ap runs_phase u.up) out) refl (λ e2. e2) h;
+  takes = λ y s u m. link_goes (with_member w y (taker w y s)) s (popped (link_at w s)) (g.inv.current.lt y s (ap runs_phase m.up) m.current) refl (λ e2. e2) (member_goes w y (taker w y s) m.is_member refl refl h);
+  leaves = λ y s u current k. link_goes (current_is w y None) s (finished (link_at w s)) (g.inv.current.lt y s (ap runs_phase u.up) current) refl (λ e2. e2) (member_goes w y (with_current None (member_at w y)) u.lt refl refl h);
+  gains = λ x o u out k. link_goes w o _ (g.inv.linked.out_lt x o (ap runs_phase u.up) out) refl (λ e2. e2) h;
+  stops = λ x u. stop_goes w x u.lt (ap runs_phase u.up) g.inv h;
+  marks = λ x d u m. mark x d u.lt (ap runs_phase u.up) (ap runs_phase m.rests);
+  refreshes = λ x v u m. refresh_goes w x v m.is_member (ap runs_phase m.up) g.inv h;
+  picks = λ y s u none door upto. member_goes w y (with_current (Some s) (member_at w y)) u.lt refl refl h;
 }) r
   where
     mark : (x d : ℕ) → x < size w → runs w x ≡ true → runs w d ≡ false → GoOn (refreshed (with_view w (marked (view_at w (newest w)) d)) x (newest w + 1))
     mark x d lt rx rests = refresh_goes (with_view w (marked (view_at w (newest w)) d)) x (newest w + 1) lt rx (mark_keeps w d rests g.inv) h
 
 -- every event of a run
-run_goes : (w : World) (es : List Event) → IsGood w → GoOn w → IsRun w es → GoOn (last w es)
-run_goes w [] g h r = h
-run_goes w (e ∷ es) g h r = run_goes (effect w e) es (event_good w e g r.0) (event_goes w e g h r.0) r.1
+run_goes : (w : World) (es : List Event) → IsGood w → IsRun w es → GoOn w → GoOn (last w es)
+run_goes = run_events GoOn event_goes
 
 -- each member of the opening sends on the link at its own place
 opening_goes : (credit : CreditSpec) (names : List (List ℕ)) → GoOn (opening credit names)
@@ -155,4 +154,4 @@ opening_goes credit names s sl e =
 
 -- so in every state of every run of a ring with these names
 pub reached_goes : (credit : CreditSpec) (names : List (List ℕ)) (es : List Event) → AreOpeningNames names → IsRun (opening credit names) es → GoOn (last (opening credit names) es)
-reached_goes credit names es are r = run_goes (opening credit names) es (opening_good credit names are) (opening_goes credit names) r
+reached_goes credit names es are r = run_goes (opening credit names) es (opening_good credit names are) r (opening_goes credit names)

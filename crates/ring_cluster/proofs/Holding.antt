@@ -1,6 +1,6 @@
 -- What a member that stands in a state, where members may stop, holds of it.
 use Rattle.std.proofs.Common.{◌≡◌, ℕ, ◌+◌, ◌-◌, ◌<◌, ◌≤◌, Bool, true, false, not, ◌||◌, nat_eq, List, length, refl, sym, ap, ◌∙◌, arith}
-use Rattle.std.specs.Prelude.{◌&&◌, Option, None, Some, is_some, option_map}
+use Rattle.std.specs.Prelude.{◌&&◌, Option, is_some}
 use Rattle.group_view.specs.declared.link.LinkName.{LinkName}
 use Rattle.ring_names.specs.declared.numbers.CreditSpec.{CreditSpec}
 use Rattle.ring_world.specs.declared.event.Event.{Event}
@@ -19,6 +19,7 @@ use Rattle.ring_cluster.specs.Seen.{state}
 use Rattle.ring_cluster.specs.Parties.{Parties, node_at}
 use Rattle.ring_cluster.specs.Standing.{StandAfter, MemberStands}
 use Rattle.ring_cluster.proofs.Named.{run_many}
+use Rattle.ring_cluster.proofs.Truth.{made_some}
 
 -- what a member holds that stands at an id, but for its door
 abbrev pub IsHeld : World → ℕ → Held → Type 0
@@ -68,14 +69,10 @@ not_and false b = refl
 pub newest_version : (w : World) → IsFit w → (view_at w (newest w)).version ≡ newest w
 newest_version w f = version_of_view w (newest w) f.good.views (omega arith)
 
-mapped_some : {A B : Type 0} (f : A → B) (o : Option A) → is_some (option_map f o) ≡ is_some o
-mapped_some f None = refl
-mapped_some f (Some a) = refl
-
 pub held_stale : (w : World) (x have newer : ℕ) (name : Option LinkName) (h : Held) → IsFit w → IsHeld w x h → have ≡ h.view.version → newer ≡ (view_at w (newest w)).version → name ≡ out_name_of h
     → (not (nat_eq have newer) || not (is_some name)) ≡ is_stale (newest w) (member_at w x)
 held_stale w x have newer name h f e he ne oe =
     let own : have ≡ (member_at w x).version = he ∙ ap (λ (k : Held). k.view.version) e ∙ version_of_view w (member_at w x).version f.good.views (f.good.inv.is_ring.held x) in
     let top : newer ≡ newest w = ne ∙ newest_version w f in
-    let out : is_some name ≡ is_some (member_at w x).out = ap is_some oe ∙ mapped_some _ h.out ∙ ap (λ (k : Held). is_some k.out) e ∙ mapped_some (outgoing_in w) (member_at w x).out in
+    let out : is_some name ≡ is_some (member_at w x).out = ap is_some oe ∙ made_some _ h.out ∙ ap (λ (k : Held). is_some k.out) e ∙ made_some (outgoing_in w) (member_at w x).out in
     not_and (nat_eq have newer) (is_some name) ∙ ap (λ b. not (b && is_some name)) (ap (λ a. nat_eq a newer) own ∙ ap (nat_eq (member_at w x).version) top) ∙ ap (λ b. not (nat_eq (member_at w x).version (newest w) && b)) out

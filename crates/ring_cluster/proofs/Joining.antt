@@ -1,8 +1,9 @@
 -- Where the parties stand when the ends of a link have met.
-use Rattle.std.proofs.Common.{◌≡◌, ◌≢◌, ℕ, ◌+◌, ◌-◌, ◌<◌, ◌≤◌, Bool, true, false, length, get_or, set, Option, Some, None, refl, sym, ap, subst, ◌∙◌, arith, ⊎_elim, inl}
+use Rattle.std.proofs.Common.{◌≡◌, ◌≢◌, ℕ, ◌+◌, ◌-◌, ◌<◌, ◌≤◌, Bool, true, false, length, get_or, set, Option, Some, None, refl, sym, ap, subst, ◌∙◌, arith, ⊎_elim, inl, inr}
 use Rattle.std.specs.Prelude.{option_map, ◌⊎◌}
 use Rattle.std.proofs.lemmas.Bool.{false≢true, cases_eq, cases_lt}
 use Rattle.std.proofs.lemmas.List.{set_past}
+use Rattle.std.proofs.lemmas.Option.{none-some}
 use Rattle.ring_names.specs.declared.numbers.CreditSpec.{CreditSpec}
 use Rattle.group_view.specs.declared.link.LinkName.{LinkName}
 use Rattle.group_view.proofs.Rings.{nat_eq-same}
@@ -10,8 +11,8 @@ use Rattle.ring_world.specs.Machine.{World, member_at, link_at}
 use Rattle.ring_world.specs.OpenLinks.{is_place}
 use Rattle.ring_world.specs.Step.{size}
 use Rattle.ring_world.proofs.Lists.{at_set}
-use Rattle.ring_world.proofs.Rounds.{nat_eq-is}
 use Rattle.ring_world.proofs.Happens.{IsGood}
+use Rattle.ring_world.proofs.OpenWalk.{place_is}
 use Rattle.gm_member.specs.Held.{Outgoing}
 use Rattle.gm_member.specs.View.{ring_link}
 use Rattle.gm_member.specs.Shown.{in_name_of, out_name_of}
@@ -49,6 +50,13 @@ met_carry initial w q p s o' n' st m t l h =
     (λ same tl th. meets_carry w initial (link_at w s) (p.outs s) (p.ins s) o' n' m (st.carry s tl th))
     (λ ne. st.carry t) l h
 
+-- the ends that met are those that are shown
+meets_so : (o p : OutSeen) (n i : InSeen) (o' : OutSeen) (n' : InSeen) (end : Option InSeen) → p ≡ o → end ≡ Some n → end ≡ Some i → Meets o n o' n' → Meets p i o' n'
+meets_so o p n i o' n' end eo found shown m =
+    let same : Some n ≡ Some i = sym found ∙ shown in
+    let is : n ≡ i = cc in
+    subst (λ k. Meets p k o' n') is (subst (λ k. Meets k n o' n') (sym eo) m)
+
 -- ---- names
 
 -- a link that is found at a member has a place
@@ -76,6 +84,15 @@ out_placed w initial q p x o own st a l e = by_out (member_at w x).out refl (sym
         ∙ ap (λ y. Some (ring_link y (link_at w s).receiver (link_at w s).opened)) (sym own_of.1) in
         (s, c, own_of.0, own_of.1, cc, name, ap (λ y. is_place (member_at w y).out s) own_of.1 ∙ ap (λ d. is_place d s) c ∙ nat_eq-same s)
 
+-- where it has this name
+out_known : (w : World) (initial : ℕ) (q : Parties) (p : Places) (x : ℕ) (o : OutSeen) (name : LinkName) → OwnEnds w → StandIn initial w q p → 1 ≤ x → x < size w → (node_at q (x - 1)).ends.out ≡ Some o → out_name_of (node_at q (x - 1)).held ≡ Some name
+    → (s : ℕ) × ((member_at w x).out ≡ Some s) × (s < length w.links) × (p.outs s ≡ o) × (name ≡ name_of w s) × (has_out w s ≡ true)
+out_known w initial q p x o name own st a l e named =
+    let f = out_placed w initial q p x o own st a l e in
+    let both : Some name ≡ Some (name_of w f.0) = sym named ∙ f.5 in
+    let is : name ≡ name_of w f.0 = cc in
+    (f.0, f.1, f.2, f.4, is, f.6)
+
 -- ---- a loose end
 
 pub loose_between : (initial : ℕ) (w : World) (q : Parties) → StandLoose initial w q None → StandBetween initial w q None
@@ -101,28 +118,56 @@ loose_dropped w p s name o o' n' g sl named m d t l h none =
     absurd (ne (name_is_unique w t s g l sl (sym is ∙ sym named))))
     (d t l h none))
 
+-- The link of a loose end, which its receiver may still take from, and what its ends show: its in end is the one that is found.
+record LooseLink (w : World) (p : Places) (name : LinkName) (o : OutSeen) (end : Option InSeen) : Type 0 where
+  link : ℕ
+  within : link < length w.links
+  named : name_of w link ≡ name
+  has : has_in w link ≡ true
+  shown : end ≡ Some (p.ins link)
+  none : has_out w link ≡ false
+  out : p.outs link ≡ o
+
+-- at a member
+loose_at : (credit : CreditSpec) (w : World) (q : Parties) (y place : ℕ) (name : LinkName) (o : OutSeen) → IsLawfulAt credit w → (b : StandBetween credit.initial w q (Some (name, o))) → 1 ≤ y → y < size w → in_name_of (node_at q (y - 1)).held place ≡ Some name
+    → LooseLink w b.places name o (in_end_at (node_at q (y - 1)).ends place)
+loose_at credit w q y place name o g b a l named =
+    let p : Places = b.places in
+    let f = placed_at w credit.initial q p y place name g.fit.good g.fit.own_ends b.stand a l named in
+    let s : ℕ = f.0 in
+    let k = found_at credit w q p y place s g b.stand a l f.1 (named ∙ ap Some (sym f.2)) in
+    let fits : (has_out w s ≡ false) × (p.outs s ≡ o) = b.fits s o f.1 k.1 (ap (λ i. Some (i, o)) (sym f.2)) in
+    record { link = s; within = f.1; named = f.2; has = k.1; shown = k.2; none = fits.0; out = fits.1 }
+
+-- or in the post
+loose_posted : (credit : CreditSpec) (w : World) (q : Parties) (j : ℕ) (d : Posted) (name : LinkName) (o : OutSeen) → IsLawfulAt credit w → GoBetween w → (b : StandBetween credit.initial w q (Some (name, o))) → j < length q.post → (get_or q.post j d).name ≡ name
+    → LooseLink w b.places name o (get_or q.post j d).end
+loose_posted credit w q j d name o g go b l named =
+    let p : Places = b.places in
+    let f = posted_at credit.initial w q p j d b.stand l in
+    let s : ℕ = get_or p.post j 0 in
+    let sl : s < length w.links = b.stand.within s (at_in p.post j f.0) in
+    let its : name_of w s ≡ name = sym (ap (λ (x : Posted). x.name) f.1) ∙ named in
+    let k = found_posted credit w q p j s d g go b.stand l sl (named ∙ sym its) in
+    let fits : (has_out w s ≡ false) × (p.outs s ≡ o) = b.fits s o sl k.0 (ap (λ i. Some (i, o)) (sym its)) in
+    record { link = s; within = sl; named = its; has = k.0; shown = k.1; none = fits.0; out = fits.1 }
+
 -- it has met its other end at a member
 pub loose_met_at : (credit : CreditSpec) (w : World) (q : Parties) (y place : ℕ) (name : LinkName) (o : OutSeen) (n : InSeen) (o' : OutSeen) (n' : InSeen) → IsLawfulAt credit w → StandBetween credit.initial w q (Some (name, o)) → 1 ≤ y → y < size w
     → in_name_of (node_at q (y - 1)).held place ≡ Some name → in_end_at (node_at q (y - 1)).ends place ≡ Some n → Meets o n o' n'
     → StandLoose credit.initial w (with_node q (y - 1) (with_in (node_at q (y - 1)) place n')) None
 loose_met_at credit w q y place name o n o' n' g b a l named end m =
     let p : Places = b.places in
-    let f = placed_at w credit.initial q p y place name g.fit.good g.fit.own_ends b.stand a l named in
-    let s : ℕ = f.0 in
-    let sl : s < length w.links = f.1 in
-    let its : in_name_of (node_at q (y - 1)).held place ≡ Some (name_of w s) = named ∙ ap Some (sym f.2) in
-    let k = found_at credit w q p y place s g b.stand a l sl its in
-    let fits : (has_out w s ≡ false) × (p.outs s ≡ o) = b.fits s o sl k.1 (ap (λ i. Some (i, o)) (sym f.2)) in
-    let same : Some n ≡ Some (p.ins s) = sym end ∙ k.2 in
-    let is : n ≡ p.ins s = cc in
-    let meets : Meets (p.outs s) (p.ins s) o' n' = subst (λ i. Meets (p.outs s) i o' n') is (subst (λ i. Meets i n o' n') (sym fits.1) m) in
+    let f : LooseLink w p name o (in_end_at (node_at q (y - 1)).ends place) = loose_at credit w q y place name o g b a l named in
+    let s : ℕ = f.link in
+    let meets : Meets (p.outs s) (p.ins s) o' n' = meets_so o (p.outs s) n (p.ins s) o' n' (in_end_at (node_at q (y - 1)).ends place) f.out end f.shown m in
     record {
       places = with_both p s o' n';
       stand = stands_of credit.initial w (with_node q (y - 1) (with_in (node_at q (y - 1)) place n')) (with_both p s o' n')
-          (in_shows w q (with_outs p s o') y place s n' g.fit.good g.fit.own_ends a l sl its (out_hidden w q p s o' g.fit.own_ends fits.0 (shows_of credit.initial w q p b.stand)))
+          (in_shows w q (with_outs p s o') y place s n' g.fit.good g.fit.own_ends a l f.within (named ∙ ap Some (sym f.named)) (out_hidden w q p s o' g.fit.own_ends f.none (shows_of credit.initial w q p b.stand)))
           (met_carry credit.initial w q p s o' n' b.stand meets);
-      dropped = loose_dropped w p s name o o' n' g.fit.good sl f.2 m.met b.dropped;
-      known = known_met w p s o' n' k.1 b.known;
+      dropped = loose_dropped w p s name o o' n' g.fit.good f.within f.named m.met b.dropped;
+      known = known_met w p s o' n' f.has b.known;
     }
 
 -- in the post
@@ -131,22 +176,17 @@ pub loose_met_posted : (credit : CreditSpec) (w : World) (q : Parties) (j : ℕ)
     → StandLoose credit.initial w (record q { post = set q.post j (record { name = name; end = Some n' }) }) None
 loose_met_posted credit w q j d name o n o' n' g go b l named end m =
     let p : Places = b.places in
-    let f = posted_at credit.initial w q p j d b.stand l in
-    let s : ℕ = get_or p.post j 0 in
-    let sl : s < length w.links = b.stand.within s (at_in p.post j f.0) in
-    let its : name_of w s ≡ name = sym (ap (λ (x : Posted). x.name) f.1) ∙ named in
-    let k = found_posted credit w q p j s d g go b.stand l sl (named ∙ sym its) in
-    let fits : (has_out w s ≡ false) × (p.outs s ≡ o) = b.fits s o sl k.0 (ap (λ i. Some (i, o)) (sym its)) in
-    let same : Some n ≡ Some (p.ins s) = sym end ∙ k.1 in
-    let is : n ≡ p.ins s = cc in
-    let meets : Meets (p.outs s) (p.ins s) o' n' = subst (λ i. Meets (p.outs s) i o' n') is (subst (λ i. Meets i n o' n') (sym fits.1) m) in
-    subst (λ i. StandLoose credit.initial w (record q { post = set q.post j (record { name = i; end = Some n' }) }) None) its (record {
+    let f : LooseLink w p name o (get_or q.post j d).end = loose_posted credit w q j d name o g go b l named in
+    let s : ℕ = f.link in
+    let place = posted_place w credit.initial q p j s d g.fit.good b.stand l f.within (named ∙ sym f.named) in
+    let meets : Meets (p.outs s) (p.ins s) o' n' = meets_so o (p.outs s) n (p.ins s) o' n' (get_or q.post j d).end f.out end f.shown m in
+    subst (λ i. StandLoose credit.initial w (record q { post = set q.post j (record { name = i; end = Some n' }) }) None) f.named (record {
       places = with_both p s o' n';
       stand = stands_of credit.initial w (record q { post = set q.post j (record { name = name_of w s; end = Some n' }) }) (with_both p s o' n')
-          (in_posts w q (with_outs p s o') j s n' g.fit.own_ends go f.0 refl (out_hidden w q p s o' g.fit.own_ends fits.0 (shows_of credit.initial w q p b.stand)))
+          (in_posts w q (with_outs p s o') j s n' g.fit.own_ends go place.0 place.1 (out_hidden w q p s o' g.fit.own_ends f.none (shows_of credit.initial w q p b.stand)))
           (met_carry credit.initial w q p s o' n' b.stand meets);
-      dropped = loose_dropped w p s name o o' n' g.fit.good sl its m.met b.dropped;
-      known = known_met w p s o' n' k.0 b.known;
+      dropped = loose_dropped w p s name o o' n' g.fit.good f.within f.named m.met b.dropped;
+      known = known_met w p s o' n' f.has b.known;
     })
 
 -- its other end is nowhere
@@ -187,11 +227,14 @@ met_all credit w q k go many m = record {
 
 -- who sends on a link has it
 sends_it : (w : World) (s : ℕ) → has_out w s ≡ true → (member_at w (link_at w s).sender).out ≡ Some s
-sends_it w s h = place_is (member_at w (link_at w s).sender).out h
-  where
-    place_is : (c : Option ℕ) → is_place c s ≡ true → c ≡ Some s
-    place_is None k = absurd (false≢true k)
-    place_is (Some t) k = ap Some (nat_eq-is t s k)
+sends_it w s h = place_is (member_at w (link_at w s).sender).out s h
+
+-- who sends on a link and has an id up to k + 1 has one up to k, or is x
+one_more : (w : World) (k x t : ℕ) → x ≡ k + 1 → has_out w t ≡ true → (link_at w t).sender ≤ k + 1 → ((link_at w t).sender ≤ k) ⊎ ((member_at w x).out ≡ Some t)
+one_more w k x t is o le = ⊎_elim
+    (λ (lt : (link_at w t).sender < k + 1). inl (omega arith))
+    (λ (ge : k + 1 ≤ (link_at w t).sender). (let who : (link_at w t).sender ≡ x = omega arith in inr (ap (λ y. (member_at w y).out) (sym who) ∙ sends_it w t o)))
+    (cases_lt (link_at w t).sender (k + 1))
 
 -- the links of one sender more
 met_more : (w : World) (p : Places) (k x s : ℕ) (o' : OutSeen) (n' : InSeen) → x ≡ k + 1 → (member_at w x).out ≡ Some s → HaveMet o' n'
@@ -200,12 +243,9 @@ met_more : (w : World) (p : Places) (k x s : ℕ) (o' : OutSeen) (n' : InSeen) �
 met_more w p k x s o' n' is out m old t l h o le =
     each_placed (λ _ a b. HaveMet a b) p s o' n' t (λ same. m)
     (λ ne. ⊎_elim
-    (λ (lt : (link_at w t).sender < k + 1). old t l h o (omega arith))
-    (λ (ge : k + 1 ≤ (link_at w t).sender).
-    let who : (link_at w t).sender ≡ x = omega arith in
-    let both : Some t ≡ Some s = sym (ap (λ y. (member_at w y).out) (sym who) ∙ sends_it w t o) ∙ out in
-    absurd (ne cc))
-    (cases_lt (link_at w t).sender (k + 1)))
+    (λ (before : (link_at w t).sender ≤ k). old t l h o before)
+    (λ (its : (member_at w x).out ≡ Some t). (let both : Some t ≡ Some s = sym its ∙ out in absurd (ne cc)))
+    (one_more w k x t is o le))
 
 -- what was dropped isn't that link
 dropped_more : (w : World) (p : Places) (s : ℕ) (o' : OutSeen) (n' : InSeen) → has_out w s ≡ true → DroppedHaveMet w p None → DroppedHaveMet w (with_both p s o' n') None
@@ -214,46 +254,36 @@ dropped_more w p s o' n' has d t l h none =
     (λ same. absurd (false≢true (sym none ∙ ap (has_out w) same ∙ has)))
     (λ ne. d t l h none)
 
--- a member that sends on no link
-pub met_none : (credit : CreditSpec) (w : World) (q : Parties) (k x : ℕ) → x ≡ k + 1 → x < size w → (node_at q (x - 1)).ends.out ≡ None → StandMet k credit.initial w q → StandMet (k + 1) credit.initial w q
-met_none credit w q k x is l none m = record {
+-- a member that sends on no link from which may be taken
+met_so : (initial : ℕ) (w : World) (q : Parties) (k x : ℕ) → x ≡ k + 1 → ((t : ℕ) → has_in w t ≡ true → (member_at w x).out ≡ Some t → ⊥) → StandMet k initial w q → StandMet (k + 1) initial w q
+met_so initial w q k x is none m = record {
   places = m.places;
   stand = m.stand;
   dropped = m.dropped;
   met = λ t tl h o le. ⊎_elim
-      (λ (lt : (link_at w t).sender < k + 1). m.met t tl h o (omega arith))
-      (λ (ge : k + 1 ≤ (link_at w t).sender).
-      let who : (link_at w t).sender ≡ x = omega arith in
-      let mine : MemberStands w m.places x (node_at q (x - 1)) = m.stand.each x (omega arith) l in
-      let both : None ≡ Some (m.places.outs t) = sym none ∙ mine.out ∙ ap (option_map m.places.outs) (ap (λ y. (member_at w y).out) (sym who) ∙ sends_it w t o) in
-      cc)
-      (cases_lt (link_at w t).sender (k + 1));
+      (λ (before : (link_at w t).sender ≤ k). m.met t tl h o before)
+      (λ (its : (member_at w x).out ≡ Some t). absurd (none t h its))
+      (one_more w k x t is o le);
   known = m.known;
 }
+
+-- one that sends on none
+pub met_none : (credit : CreditSpec) (w : World) (q : Parties) (k x : ℕ) → x ≡ k + 1 → x < size w → (node_at q (x - 1)).ends.out ≡ None → StandMet k credit.initial w q → StandMet (k + 1) credit.initial w q
+met_none credit w q k x is l none m =
+    let mine : MemberStands w m.places x (node_at q (x - 1)) = m.stand.each x (omega arith) l in
+    met_so credit.initial w q k x is (λ t _ its. none-some (m.places.outs t) (sym none ∙ mine.out ∙ ap (option_map m.places.outs) its)) m
 
 -- one whose link has no other end
 pub met_gone : (credit : CreditSpec) (w : World) (q : Parties) (k x : ℕ) (o : OutSeen) (name : LinkName) → IsLawfulAt credit w → GoBetween w → x ≡ k + 1 → x < size w → (node_at q (x - 1)).ends.out ≡ Some o → out_name_of (node_at q (x - 1)).held ≡ Some name → IsNowhere q name
     → StandMet k credit.initial w q → StandMet (k + 1) credit.initial w q
 met_gone credit w q k x o name g go is l out named none m =
-    let f = out_placed w credit.initial q m.places x o g.fit.own_ends m.stand (omega arith) l out in
+    let f = out_known w credit.initial q m.places x o name g.fit.own_ends m.stand (omega arith) l out named in
     let s : ℕ = f.0 in
-    let same : Some name ≡ Some (name_of w s) = sym named ∙ f.5 in
-    let named_so : name ≡ name_of w s = cc in
-    let gone : has_in w s ≡ false = found_nowhere credit w q m.places s g go m.stand f.2 (subst (IsNowhere q) named_so none) in
-    record {
-      places = m.places;
-      stand = m.stand;
-      dropped = m.dropped;
-      met = λ t tl h o le. ⊎_elim
-          (λ (lt : (link_at w t).sender < k + 1). m.met t tl h o (omega arith))
-          (λ (ge : k + 1 ≤ (link_at w t).sender).
-          let who : (link_at w t).sender ≡ x = omega arith in
-          let both : Some t ≡ Some s = sym (ap (λ y. (member_at w y).out) (sym who) ∙ sends_it w t o) ∙ f.1 in
-          let t_is : t ≡ s = cc in
-          absurd (false≢true (sym gone ∙ ap (has_in w) (sym t_is) ∙ h)))
-          (cases_lt (link_at w t).sender (k + 1));
-      known = m.known;
-    }
+    let gone : has_in w s ≡ false = found_nowhere credit w q m.places s g go m.stand f.2 (subst (IsNowhere q) f.4 none) in
+    met_so credit.initial w q k x is (λ t h its.
+    let both : Some t ≡ Some s = sym its ∙ f.1 in
+    let same : t ≡ s = cc in
+    false≢true (sym gone ∙ ap (has_in w) (sym same) ∙ h)) m
 
 -- ---- one whose link has met its other end
 
@@ -271,23 +301,19 @@ pub met_at : (credit : CreditSpec) (w : World) (q : Parties) (k x y place : ℕ)
     → StandMet (k + 1) credit.initial w (with_node (with_node q (x - 1) (with_out (node_at q (x - 1)) o')) (y - 1) (with_in (node_at (with_node q (x - 1) (with_out (node_at q (x - 1)) o')) (y - 1)) place n'))
 met_at credit w q k x y place name o n o' n' g is xl out named a l found end m met =
     let p : Places = met.places in
-    let f = out_placed w credit.initial q p x o g.fit.own_ends met.stand (omega arith) xl out in
+    let f = out_known w credit.initial q p x o name g.fit.own_ends met.stand (omega arith) xl out named in
     let s : ℕ = f.0 in
-    let sl : s < length w.links = f.2 in
-    let both : Some name ≡ Some (name_of w s) = sym named ∙ f.5 in
-    let its : in_name_of (node_at q (y - 1)).held place ≡ Some (name_of w s) = found ∙ both in
-    let c = found_at credit w q p y place s g met.stand a l sl its in
-    let same : Some n ≡ Some (p.ins s) = sym end ∙ c.2 in
-    let n_is : n ≡ p.ins s = cc in
-    let meets : Meets (p.outs s) (p.ins s) o' n' = subst (λ i. Meets (p.outs s) i o' n') n_is (subst (λ i. Meets i n o' n') (sym f.4) m) in
+    let its : in_name_of (node_at q (y - 1)).held place ≡ Some (name_of w s) = found ∙ ap Some f.4 in
+    let c = found_at credit w q p y place s g met.stand a l f.2 its in
+    let meets : Meets (p.outs s) (p.ins s) o' n' = meets_so o (p.outs s) n (p.ins s) o' n' (in_end_at (node_at q (y - 1)).ends place) f.3 end c.2 m in
     let q1 : Parties = with_node q (x - 1) (with_out (node_at q (x - 1)) o') in
     record {
       places = with_both p s o' n';
       stand = stands_of credit.initial w (with_node q1 (y - 1) (with_in (node_at q1 (y - 1)) place n')) (with_both p s o' n')
-          (in_shows w q1 (with_outs p s o') y place s n' g.fit.good g.fit.own_ends a l sl (ap (λ h. in_name_of h place) (held_still q (x - 1) (y - 1) o') ∙ its)
+          (in_shows w q1 (with_outs p s o') y place s n' g.fit.good g.fit.own_ends a l f.2 (ap (λ h. in_name_of h place) (held_still q (x - 1) (y - 1) o') ∙ its)
           (out_shows w q p x s o' g.fit.own_ends (omega arith) xl f.1 (shows_of credit.initial w q p met.stand)))
           (met_carry credit.initial w q p s o' n' met.stand meets);
-      dropped = dropped_more w p s o' n' f.6 met.dropped;
+      dropped = dropped_more w p s o' n' f.5 met.dropped;
       met = met_more w p k x s o' n' is f.1 m.met met.met;
       known = known_met w p s o' n' c.1 met.known;
     }
@@ -299,49 +325,37 @@ pub met_posted : (credit : CreditSpec) (w : World) (q : Parties) (k x j : ℕ) (
     → StandMet (k + 1) credit.initial w (record (with_node q (x - 1) (with_out (node_at q (x - 1)) o')) { post = set q.post j (record { name = name; end = Some n' }) })
 met_posted credit w q k x j d name o n o' n' g go is xl out named l found end m met =
     let p : Places = met.places in
-    let f = out_placed w credit.initial q p x o g.fit.own_ends met.stand (omega arith) xl out in
+    let f = out_known w credit.initial q p x o name g.fit.own_ends met.stand (omega arith) xl out named in
     let s : ℕ = f.0 in
-    let sl : s < length w.links = f.2 in
-    let both : Some name ≡ Some (name_of w s) = sym named ∙ f.5 in
-    let named_so : name_of w s ≡ name = cc in
-    let c = found_posted credit w q p j s d g go met.stand l sl (found ∙ sym named_so) in
-    let place = posted_place w credit.initial q p j s d g.fit.good met.stand l sl (found ∙ sym named_so) in
-    let same : Some n ≡ Some (p.ins s) = sym end ∙ c.1 in
-    let n_is : n ≡ p.ins s = cc in
-    let meets : Meets (p.outs s) (p.ins s) o' n' = subst (λ i. Meets (p.outs s) i o' n') n_is (subst (λ i. Meets i n o' n') (sym f.4) m) in
+    let c = found_posted credit w q p j s d g go met.stand l f.2 (found ∙ f.4) in
+    let place = posted_place w credit.initial q p j s d g.fit.good met.stand l f.2 (found ∙ f.4) in
+    let meets : Meets (p.outs s) (p.ins s) o' n' = meets_so o (p.outs s) n (p.ins s) o' n' (get_or q.post j d).end f.3 end c.1 m in
     let q1 : Parties = with_node q (x - 1) (with_out (node_at q (x - 1)) o') in
-    subst (λ i. StandMet (k + 1) credit.initial w (record q1 { post = set q.post j (record { name = i; end = Some n' }) })) named_so (record {
+    subst (λ i. StandMet (k + 1) credit.initial w (record q1 { post = set q.post j (record { name = i; end = Some n' }) })) (sym f.4) (record {
       places = with_both p s o' n';
       stand = stands_of credit.initial w (record q1 { post = set q.post j (record { name = name_of w s; end = Some n' }) }) (with_both p s o' n')
           (in_posts w q1 (with_outs p s o') j s n' g.fit.own_ends go place.0 place.1 (out_shows w q p x s o' g.fit.own_ends (omega arith) xl f.1 (shows_of credit.initial w q p met.stand)))
           (met_carry credit.initial w q p s o' n' met.stand meets);
-      dropped = dropped_more w p s o' n' f.6 met.dropped;
+      dropped = dropped_more w p s o' n' f.5 met.dropped;
       met = met_more w p k x s o' n' is f.1 m.met met.met;
       known = known_met w p s o' n' c.0 met.known;
     })
 
 -- ---- the ends that are found are there, and may meet
 
--- of a loose end, at a member
+-- of a loose end
+loose_fits : (credit : CreditSpec) (w : World) (q : Parties) (name : LinkName) (o : OutSeen) (end : Option InSeen) (b : StandBetween credit.initial w q (Some (name, o))) → LooseLink w b.places name o end → (n : InSeen) × (end ≡ Some n) × Fits o n
+loose_fits credit w q name o end b f =
+    let p : Places = b.places in
+    let s : ℕ = f.link in
+    (p.ins s, f.shown, subst (λ i. Fits i (p.ins s)) f.out (carries_fit w credit.initial (link_at w s) (p.outs s) (p.ins s) (b.stand.carry s f.within f.has)))
+
+-- at a member
 pub loose_there_at : (credit : CreditSpec) (w : World) (q : Parties) (y place : ℕ) (name : LinkName) (o : OutSeen) → IsLawfulAt credit w → StandBetween credit.initial w q (Some (name, o)) → 1 ≤ y → y < size w → in_name_of (node_at q (y - 1)).held place ≡ Some name
     → (n : InSeen) × (in_end_at (node_at q (y - 1)).ends place ≡ Some n) × Fits o n
-loose_there_at credit w q y place name o g b a l named =
-    let p : Places = b.places in
-    let f = placed_at w credit.initial q p y place name g.fit.good g.fit.own_ends b.stand a l named in
-    let s : ℕ = f.0 in
-    let k = found_at credit w q p y place s g b.stand a l f.1 (named ∙ ap Some (sym f.2)) in
-    let fits : (has_out w s ≡ false) × (p.outs s ≡ o) = b.fits s o f.1 k.1 (ap (λ i. Some (i, o)) (sym f.2)) in
-    (p.ins s, k.2, subst (λ i. Fits i (p.ins s)) fits.1 (carries_fit w credit.initial (link_at w s) (p.outs s) (p.ins s) (b.stand.carry s f.1 k.1)))
+loose_there_at credit w q y place name o g b a l named = loose_fits credit w q name o (in_end_at (node_at q (y - 1)).ends place) b (loose_at credit w q y place name o g b a l named)
 
 -- in the post
 pub loose_there_posted : (credit : CreditSpec) (w : World) (q : Parties) (j : ℕ) (d : Posted) (name : LinkName) (o : OutSeen) → IsLawfulAt credit w → GoBetween w → StandBetween credit.initial w q (Some (name, o)) → j < length q.post → (get_or q.post j d).name ≡ name
     → (n : InSeen) × ((get_or q.post j d).end ≡ Some n) × Fits o n
-loose_there_posted credit w q j d name o g go b l named =
-    let p : Places = b.places in
-    let f = posted_at credit.initial w q p j d b.stand l in
-    let s : ℕ = get_or p.post j 0 in
-    let sl : s < length w.links = b.stand.within s (at_in p.post j f.0) in
-    let its : name_of w s ≡ name = sym (ap (λ (x : Posted). x.name) f.1) ∙ named in
-    let k = found_posted credit w q p j s d g go b.stand l sl (named ∙ sym its) in
-    let fits : (has_out w s ≡ false) × (p.outs s ≡ o) = b.fits s o sl k.0 (ap (λ i. Some (i, o)) (sym its)) in
-    (p.ins s, k.1, subst (λ i. Fits i (p.ins s)) fits.1 (carries_fit w credit.initial (link_at w s) (p.outs s) (p.ins s) (b.stand.carry s sl k.0)))
+loose_there_posted credit w q j d name o g go b l named = loose_fits credit w q name o (get_or q.post j d).end b (loose_posted credit w q j d name o g go b l named)

@@ -1,6 +1,6 @@
 -- Of a link that its receiver has left, the sender knows every grant that was given.
-use Rattle.std.proofs.Common.{◌≡◌, ◌≢◌, ℕ, ◌<◌, Bool, true, false, ◌++◌, length, refl, sym, ap, ◌∙◌, ⊎_elim, arith}
-use Rattle.std.proofs.lemmas.Bool.{false≢true, cases_eq}
+use Rattle.std.proofs.Common.{◌≡◌, ◌≢◌, ℕ, ◌<◌, Bool, true, false, ◌++◌, length, refl, sym, ap, ◌∙◌, arith}
+use Rattle.std.proofs.lemmas.Bool.{false≢true}
 use Rattle.std.proofs.lemmas.List.{append-nil}
 use Rattle.ring_world.specs.Machine.{World, link_at}
 use Rattle.ring_cluster.specs.Ends.{OutSeen, InSeen, HaveMet}
@@ -8,7 +8,6 @@ use Rattle.ring_cluster.specs.Parties.{Parties}
 use Rattle.ring_cluster.specs.Standing.{Places, Stand, SendersKnow, has_out, has_in}
 use Rattle.ring_cluster.proofs.Writing.{placed_other}
 use Rattle.ring_cluster.proofs.Showing.{with_outs, with_ins}
-use Rattle.ring_cluster.proofs.Frames.{placed, placed_here, placed_there}
 use Rattle.ring_cluster.proofs.OneEvent.{met_both}
 
 -- each grant on a link has come back to its out end
@@ -48,10 +47,3 @@ not_left w j s gone there same = false≢true (sym gone ∙ ap (has_in w) same �
 -- senders still know where the ends of a link have met from which its receiver may take
 pub known_met : (w : World) (p : Places) (s : ℕ) (o : OutSeen) (n : InSeen) → has_in w s ≡ true → SendersKnow w p → SendersKnow w (with_ins (with_outs p s o) s n)
 known_met w p s o n there k t l i h = ap (λ (e : OutSeen). e.back) (placed_other p.outs s o t (not_left w t s i there)) ∙ k t l i h
-
--- the grants that have come back, where an out end is another with the same
-pub placed_back : (outs : ℕ → OutSeen) (s : ℕ) (o : OutSeen) (j : ℕ) → o.back ≡ (outs s).back → (placed outs s o j).back ≡ (outs j).back
-placed_back outs s o j e = ⊎_elim
-    (λ (same : j ≡ s). ap (λ t. (placed outs s o t).back) same ∙ ap (λ (a : OutSeen). a.back) (placed_here outs s o) ∙ e ∙ sym (ap (λ t. (outs t).back) same))
-    (λ (ne : j ≢ s). ap (λ (a : OutSeen). a.back) (placed_there outs s j o ne))
-    (cases_eq j s)

@@ -71,10 +71,12 @@ pub mod Sent
 pub mod Settling
 pub mod Showing
 pub mod Shown
+pub mod Steps
 pub mod StopGoes
 pub mod Sums
 pub mod TakeFalls
 pub mod TakeGoes
 pub mod Takes
+pub mod Truth
 pub mod Turning
 pub mod Writing

@@ -1,7 +1,7 @@
 -- The links of an idle ring: which of them are open, that they hold nothing, and that neighbours agree.
 use Rattle.std.proofs.Common.{◌≡◌, ◌≢◌, ℕ, zero, suc, ◌<◌, ◌≤◌, Bool, true, false, not, nat_eq, nat_le, max, [], length, sum, Option, Some, None, is_some, refl, sym, ap, subst, ◌∙◌, arith}
 use Rattle.std.specs.Prelude.{◌&&◌, ◌||◌}
-use Rattle.std.proofs.lemmas.Bool.{false≢true, and_parts}
+use Rattle.std.proofs.lemmas.Bool.{false≢true, and_parts, and_from, not-true, false_from_ne_true}
 use Rattle.std.proofs.lemmas.Bool.Decides.{nat_tests}
 use Rattle.ring_names.specs.declared.numbers.CreditSpec.{CreditSpec}
 use Rattle.ring_names.specs.declared.reason.Reason.TheVariants as reason
@@ -17,6 +17,7 @@ use Rattle.ring_world.specs.Step.{size, is_owned}
 use Rattle.ring_world.specs.OpenLinks.{version_of, comes_from_left, passes, is_current, is_open}
 use Rattle.ring_world.specs.Lawful.{row_of}
 use Rattle.ring_world.specs.Event.{has_nothing_new, holds_nothing, left_neighbour, since, is_at_door, at_door}
+use Rattle.group_view.proofs.Lists.{at_range}
 use Rattle.ring_world.proofs.Good.{low, low_forgot, Kept, kept_true, true_kept, out_stays}
 use Rattle.ring_world.proofs.Rounds.{nat_eq-is, nat_eq-same}
 use Rattle.ring_world.proofs.Views.{left_is, right_is}
@@ -26,11 +27,11 @@ use Rattle.ring_world.proofs.Ended.{SendsOn, runs_lt}
 use Rattle.ring_world.proofs.LinkCredit.{LinkIsKept}
 use Rattle.ring_world.proofs.OpenWalk.{passes_is, place_is}
 use Rattle.ring_cluster.specs.Idle.{IsIdle}
-use Rattle.ring_cluster.proofs.Sums.{each_passes}
 use Rattle.ring_cluster.proofs.Rows.{sent_got, sent_forgot}
 use Rattle.ring_cluster.proofs.Sent.{Has}
 use Rattle.ring_cluster.proofs.Asked.{IsRefused, refused_by_id, is_refused, later_refused, takes_nothing, none_left, nothing_held, not_ended, door_is_empty, none_passes}
 use Rattle.ring_cluster.proofs.Reached.{IsReached}
+use Rattle.ring_cluster.proofs.Truth.{none_is}
 
 -- ---- small steps
 
@@ -38,25 +39,6 @@ use Rattle.ring_cluster.proofs.Reached.{IsReached}
 some_of : {A : Type 0} (o : Option A) → o ≢ None → (a : A) × (o ≡ Some a)
 some_of None h = absurd (h refl)
 some_of (Some a) h = (a, refl)
-
--- a test that isn't passed fails
-not_true : (b : Bool) → b ≢ true → b ≡ false
-not_true true h = absurd (h refl)
-not_true false h = refl
-
--- what negates to true is false
-opposite : (b : Bool) → not b ≡ true → b ≡ false
-opposite true k = absurd (false≢true k)
-opposite false k = refl
-
--- what isn't some is none
-none_is : {A : Type 0} (o : Option A) → is_some o ≡ false → o ≡ None
-none_is None e = refl
-none_is (Some a) e = absurd (false≢true (sym e))
-
--- two tests that pass
-both : (a b : Bool) → a ≡ true → b ≡ true → (a && b) ≡ true
-both a b e k = rw e k
 
 -- where the first of two fails, the second passes
 or_second : (a b : Bool) → a ≡ false → (a || b) ≡ true → b ≡ true
@@ -133,8 +115,8 @@ module _ (w : World) (h : IsReached w) (idle : IsIdle w) where
       let late : max v l.opened ≡ v = omega (arith, good.inv.linked.opened s sl) in
       let comes : comes_from_left w y l v ≡ true = ap (comes_from_left w y l) (sym late) ∙ test in
       let passed : (nat_eq l.sender (left_neighbour w y) && nat_le (since w y) l.opened) ≡ true = ap (λ q. nat_eq l.sender q && nat_le (since w y) l.opened) (sym (left_is w v y (view_at w v) refl)) ∙ comes in
-      both (nat_eq l.receiver y) (not l.over && (nat_eq l.sender (left_neighbour w y) && nat_le (since w y) l.opened)) (ap (λ q. nat_eq q y) to ∙ nat_eq-same y)
-      (both (not l.over) (nat_eq l.sender (left_neighbour w y) && nat_le (since w y) l.opened) (ap not goes_on) passed)
+      and_from (nat_eq l.receiver y) (not l.over && (nat_eq l.sender (left_neighbour w y) && nat_le (since w y) l.opened)) (ap (λ q. nat_eq q y) to ∙ nat_eq-same y)
+      (and_from (not l.over) (nat_eq l.sender (left_neighbour w y) && nat_le (since w y) l.opened) (ap not goes_on) passed)
 
   -- the sender of a link that is kept is its receiver's left neighbour
   pub kept_from_left : (y s : ℕ) → s < length w.links → (link_at w s).receiver ≡ y → is_kept w (link_at w s) (newest w) ≡ true → left w (newest w) y ≡ (link_at w s).sender
@@ -190,7 +172,7 @@ module _ (w : World) (h : IsReached w) (idle : IsIdle w) where
       kept = kept_true w (link_at w o) v (out_stays w x o good.inv.is_ring good.inv.linked rx e)
 
       goes_on : (link_at w o).over ≡ false
-      goes_on = not_true (link_at w o).over (λ over. false≢true (sym (ap is_some sends.goes_on) ∙ h.fit.ends.ended o over))
+      goes_on = false_from_ne_true (link_at w o).over (λ over. false≢true (sym (ap is_some sends.goes_on) ∙ h.fit.ends.ended o over))
 
       by_current : (c : Option ℕ) → (member_at w y).current ≡ c → (member_at w y).current ≡ Some o
       by_current None k =
@@ -217,7 +199,7 @@ module _ (w : World) (h : IsReached w) (idle : IsIdle w) where
           let to : l.receiver ≡ y = nat_eq-is l.receiver y b.0 in
           record {
             receiver = to;
-            goes_on = opposite l.over (and_parts (not (is_current w y s)) (not l.over) b.1).1;
+            goes_on = not-true l.over (and_parts (not (is_current w y s)) (not l.over) b.1).1;
             kept = ap (is_kept w l) (sym (idle y ry).newest) ∙ sym (passes_is w y s good sl to) ∙ a.1;
           }
 
@@ -246,7 +228,7 @@ module _ (w : World) (h : IsReached w) (idle : IsIdle w) where
 
   -- so no link is open to y
   pub none_is_open : (y s : ℕ) → runs w y ≡ true → runs w (left w (newest w) y) ≡ false → s < length w.links → is_open w y s ≡ false
-  none_is_open y s ry rests sl = not_true (is_open w y s) (λ opens.
+  none_is_open y s ry rests sl = false_from_ne_true (is_open w y s) (λ opens.
       let k : IsKeptTo w y s = open_is_kept y s ry sl opens in
       false≢true (sym (none_passes w y s sl (no_door y ry rests)) ∙ kept_at_door y s ry sl k.receiver k.goes_on k.kept))
 
@@ -271,7 +253,7 @@ module _ (w : World) (h : IsReached w) (idle : IsIdle w) where
   left_has_sent y o p ry rx t pl =
       let x : ℕ = left w (newest w) y in
       let old : has_nothing_new (size w) (member_at w x) (link_at w o).sending ≡ true = is_refused _ reason.NothingNew (later_refused _ reason.NoCredit _ (left_has_credit y o ry rx t) ((refused x rx).put o t.out)) in
-      each_passes (λ k. is_sent (row_of w x k) (numbers_at (link_at w o).sending.sent k)) 0 (size w) p old (omega arith) (omega arith)
+      at_range (λ k. is_sent (row_of w x k) (numbers_at (link_at w o).sending.sent k)) 0 (size w) p old (omega arith) (omega arith)
 
   -- neighbours agree
   pub neighbours_agree : (y p : ℕ) → runs w y ≡ true → runs w (left w (newest w) y) ≡ true → p < size w → IsEven w y p

@@ -5,7 +5,7 @@ use Rattle.ring_world.specs.Refusal.{is_empty}
 use Rattle.std.specs.Prelude.{IsSome, IfSome, Option, None, Some}
 use Rattle.std.specs.List.{flat_map, range_with_len}
 use Rattle.std.proofs.lemmas.List.FromFn.{map-range_with_len_more}
-use Rattle.std.proofs.lemmas.List.{length-map, get_or-map, map-set, set-get_or, get_or-set_same, map-append}
+use Rattle.std.proofs.lemmas.List.{length-map, get_or-map, map-set, get_or-set_same, map-append}
 
 -- on a list with an element, one fewer is left when the first goes
 pub length-rest : {A : Type 0} (xs : List A) → is_empty xs ≡ false → length (drop 1 xs) + 1 ≡ length xs
@@ -44,10 +44,6 @@ some_injective x y e = cc
 -- what a read of an element shows
 pub mapped_read : {A B : Type 0} (f : A → B) (xs : List A) (i : ℕ) (x : A) (d : B) → i < length xs → x ≡ get_or xs i x → get_or (map f xs) i d ≡ f x
 mapped_read f xs i x d l e = get_or-map f xs i x d l ∙ ap f (sym e)
-
--- a write that shows nothing
-pub mapped_rewrite : {A B : Type 0} (f : A → B) (xs : List A) (i : ℕ) (x y : A) → i < length xs → x ≡ get_or xs i x → f y ≡ f x → map f (set xs i y) ≡ map f xs
-mapped_rewrite f xs i x y l e g = map-set f xs i y ∙ ap (set (map f xs) i) (g ∙ ap f e ∙ sym (get_or-map f xs i x (f x) l)) ∙ set-get_or (map f xs) i (f x)
 
 -- a write changes nothing but its place
 pub mapped_written : {A B : Type 0} (f : A → B) (xs : List A) (i : ℕ) (y : A) (d : B) → i < length xs → map f (set xs i y) ≡ set (map f xs) i (get_or (map f (set xs i y)) i d)

@@ -1,29 +1,27 @@
 -- What a member shows that has another view, and what the others show then.
-use Rattle.std.proofs.Common.{◌≡◌, ℕ, ◌+◌, ◌<◌, Bool, true, false, cond, List, [], ◌∷◌, ◌++◌, length, map, Option, Some, None, refl, sym, ap, ◌∙◌, arith, ⊎_elim}
+use Rattle.std.proofs.Common.{◌≡◌, ℕ, ◌<◌, Bool, true, false, cond, List, [], ◌∷◌, ◌++◌, length, map, Option, Some, None, refl, sym, ap, ◌∙◌, arith, ⊎_elim}
 use Rattle.std.specs.Prelude.{◌&&◌, option_map}
 use Rattle.std.specs.List.{filter}
 use Rattle.std.proofs.lemmas.Bool.{and_parts}
 use Rattle.std.proofs.lemmas.List.{append-nil}
 use Rattle.group_view.specs.View.{Group}
 use Rattle.group_view.specs.Ring.{is_in}
-use Rattle.ring_world.specs.Machine.{World, Packet, Link, numbers_at, member_at, link_at, view_at, runs, runs_phase, is_kept}
-use Rattle.ring_world.specs.Step.{log_of, kept_current}
+use Rattle.ring_world.specs.Machine.{World, member_at, link_at, view_at, runs, runs_phase, is_kept}
+use Rattle.ring_world.specs.Step.{kept_current}
 use Rattle.ring_world.proofs.WhatRefuses.{MayLook}
 use Rattle.ring_world.proofs.Happens.{IsGood}
-use Rattle.gm_member.specs.Parcels.{places}
-use Rattle.gm_member.specs.News.{carried_in}
 use Rattle.gm_member.specs.Held.{Held, Incoming, is_for, stays, kept_door, refreshed_held}
-use Rattle.gm_member.specs.Stands.{incoming_in, waits_for, door_links, door_in, held_in, lines_in}
+use Rattle.gm_member.specs.Stands.{incoming_in, waits_for, door_links, door_in, held_in}
 use Rattle.gm_member.proofs.Doors.{stays_for, stays_kept}
 use Rattle.gm_member.proofs.OwnEnds.{OwnEnds}
 use Rattle.gm_member.proofs.Parts.{there_same}
-use Rattle.ring_cluster.specs.Ends.{OutSeen, InSeen, Carries, packet_in, end_items}
+use Rattle.ring_cluster.specs.Ends.{OutSeen}
 use Rattle.ring_cluster.specs.Parties.{Shown, EndsSeen}
 use Rattle.ring_cluster.specs.Standing.{Places, MemberStands, is_to, has_in}
 use Rattle.ring_cluster.specs.Acting.{beside, kept_end, looked_ends}
-use Rattle.ring_cluster.proofs.Writing.{in_filter}
+use Rattle.ring_cluster.proofs.Writing.{in_filter, map_agree}
 use Rattle.ring_cluster.proofs.Placing.{stood_is, has_parts, current_has, waits_has}
-use Rattle.ring_cluster.proofs.Collections.{filter_map, map_agree}
+use Rattle.ring_cluster.proofs.Collections.{filter_map}
 
 -- ---- lists
 
@@ -45,28 +43,6 @@ filter_both t u (x ∷ xs) = by_case (t x) (filter_both t u xs)
     by_case true ih = ap (λ ys. cond (u x) (x ∷ ys) ys) ih
     by_case false ih = ih
 
-pub map_same : {A B : Type 0} (f g : A → B) (xs : List A) → ((x : A) → f x ≡ g x) → map f xs ≡ map g xs
-map_same f g [] h = refl
-map_same f g (x ∷ xs) h = ap (λ a. a ∷ map f xs) (h x) ∙ ap (λ ys. g x ∷ ys) (map_same f g xs h)
-
--- ---- what stands on links
-
--- a packet has the same lines where the logs are the same
-pub lines_same : (w w' : World) (k : Packet) → ((q : ℕ) → log_of w' q ≡ log_of w q) → lines_in w' k ≡ lines_in w k
-lines_same w w' k h = map_same (λ p. carried_in (log_of w' (p + 1)) p (numbers_at k (p + 1))) (λ p. carried_in (log_of w (p + 1)) p (numbers_at k (p + 1))) places (λ p. ap (λ log. carried_in log p (numbers_at k (p + 1))) (h (p + 1)))
-
-pub carries_same : (initial : ℕ) (w w' : World) (l : Link) (o : OutSeen) (n : InSeen) → ((q : ℕ) → log_of w' q ≡ log_of w q) → Carries w initial l o n → Carries w' initial l o n
-carries_same initial w w' l o n h c = record {
-  items = c.items ∙ ap (λ xs. xs ++ end_items l.ending) (map_same (packet_in w) (packet_in w') l.packets (λ k. ap (λ ls. Some (record { view = k.version; lines = ls })) (sym (lines_same w w' k h))));
-  grants = c.grants;
-  late = c.late;
-  ended = c.ended;
-  out_initial = c.out_initial;
-  in_initial = c.in_initial;
-  slots = c.slots;
-  room = c.room;
-}
-
 -- ---- the member that looks
 
 -- its current link stays by its own test where the ring keeps it
@@ -80,6 +56,10 @@ for_kept u x v s m h e =
 -- where none waits for it, its door is the whole one
 pub whole_door : (u : World) (p : Places) (x : ℕ) (a : Shown) (h : MemberStands u p x a) → filter (is_to u x) p.post ≡ [] → door_links u x ≡ h.door
 whole_door u p x a h none = h.comes ∙ ap (λ ys. h.door ++ ys) none ∙ append-nil h.door
+
+-- and it holds what the state has for it
+pub whole_held : (u : World) (p : Places) (x : ℕ) (a : Shown) → MemberStands u p x a → filter (is_to u x) p.post ≡ [] → a.held ≡ held_in u x
+whole_held u p x a h none = h.held ∙ ap (λ d. record (held_in u x) { door = map (incoming_in u) d }) (sym (whole_door u p x a h none))
 
 pub looker : (u u' : World) (p p' : Places) (x v : ℕ) (a b : Shown) (out' : Option OutSeen) → MayLook u x v → IsGood u → (h : MemberStands u p x a) → filter (is_to u x) p.post ≡ []
     → b.held ≡ refreshed_held a.held (view_at u v) → b.ends ≡ record (looked_ends (view_at u v) a) { out = out' } → out' ≡ option_map p'.outs (member_at u' x).out
@@ -118,7 +98,7 @@ looker u u' p p' x v a b out' m g h none eh ee eo ec stand ins inc comes = recor
     at = whole_door u p x a h none
 
     held_at : a.held ≡ held_in u x
-    held_at = h.held ∙ ap (λ d. record (held_in u x) { door = map (incoming_in u) d }) (sym at)
+    held_at = whole_held u p x a h none
 
     there : (s : ℕ) → is_in s (filter keeps h.door) ≡ true → s < length u.links
     there s e = (stood_is u p x s a h (and_parts (keeps s) (is_in s h.door) (sym (in_filter keeps s h.door) ∙ e)).1).0

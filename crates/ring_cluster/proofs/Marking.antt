@@ -1,10 +1,8 @@
 -- A refresh and a mark, as steps of the ring: the parties stand in the state after them.
-use Rattle.std.proofs.Common.{◌≡◌, ℕ, zero, suc, ◌+◌, ◌-◌, ◌<◌, ◌≤◌, Bool, true, false, not, nat_eq, nat_lt, nat_le, List, [], ◌∷◌, ◌++◌, length, get_or, map, max, Option, Some, None, refl, sym, ap, subst, ◌∙◌, arith}
-use Rattle.std.specs.Prelude.{◌&&◌, ◌||◌}
+use Rattle.std.proofs.Common.{◌≡◌, ℕ, zero, suc, ◌+◌, ◌-◌, ◌<◌, ◌≤◌, Bool, true, false, not, nat_eq, nat_le, List, [], ◌∷◌, ◌++◌, length, get_or, max, Option, Some, None, refl, sym, ap, subst, ◌∙◌, arith}
+use Rattle.std.specs.Prelude.{◌&&◌}
 use Rattle.std.specs.List.{filter}
 use Rattle.std.proofs.lemmas.Bool.{false≢true}
-use Rattle.ring_names.specs.declared.reason.Reason.{Reason}
-use Rattle.ring_names.specs.declared.reason.Reason.TheVariants as reason
 use Rattle.ring_names.specs.declared.numbers.CreditSpec.{CreditSpec}
 use Rattle.group_view.specs.declared.link.LinkName.{LinkName}
 use Rattle.group_view.specs.View.{Group, entry_in}
@@ -12,16 +10,16 @@ use Rattle.group_view.specs.Change.{marked}
 use Rattle.group_view.specs.Since.{no_group}
 use Rattle.group_view.specs.Since as since
 use Rattle.ring_world.specs.Rows.{no_row, no_numbers, next_numbers, Row}
-use Rattle.ring_world.specs.Refusal.{refuse_if, or_else}
-use Rattle.ring_world.specs.declared.phase.Phase.TheVariants.{Up}
 use Rattle.ring_world.specs.declared.event.Event.TheVariants.{Mark, Refresh}
 use Rattle.ring_world.specs.View.{right_of}
-use Rattle.ring_world.specs.Machine.{World, Link, numbers_at, member_at, link_at, view_at, newest, left, row_at, is_waiting}
+use Rattle.ring_world.specs.Machine.{World, Link, numbers_at, member_at, link_at, view_at, newest, left, row_at}
 use Rattle.ring_world.specs.OpenLinks.{version_of, since_in, comes_from_left, is_door_link}
 use Rattle.ring_world.specs.Step.{size, log_of, next_lines, with_view}
-use Rattle.ring_world.specs.Event.{id_of, of_member, at_found, is_stopped, up_refusal, refresh_refusal, mark_refusal, refreshed, refusal, effect}
-use Rattle.ring_world.proofs.WhatRefuses.{MayLook}
-use Rattle.ring_world.proofs.Refusals.{none_of, refuse_none, up_from, id_within, not_less, or_false}
+use Rattle.ring_world.specs.Event.{id_of, of_member, at_found, refresh_refusal, mark_refusal, refused_at, refreshed, refusal, done_at, effect}
+use Rattle.ring_world.proofs.WhatRefuses.{MayLook, MayMark}
+use Rattle.ring_world.proofs.Refusals.{id_within}
+use Rattle.ring_world.proofs.Enabled.{up_none}
+use Rattle.ring_world.proofs.Cases.{may_look, may_mark}
 use Rattle.ring_world.proofs.Views.{view_old, left_old}
 use Rattle.ring_world.proofs.Happens.{IsGood}
 use Rattle.gm_member.specs.Parcels.{carried_now}
@@ -29,23 +27,24 @@ use Rattle.gm_member.specs.News.{carried_in}
 use Rattle.gm_member.specs.Held.{Held, known_at, numbers_of, nothing_sent, lines_on, sends_to, refreshed_held, fresh_out as unsent_on}
 use Rattle.gm_member.specs.View.{ring_link}
 use Rattle.gm_member.specs.Shown.{When}
-use Rattle.gm_member.specs.Stands.{incoming_in, waits_for, held_in, lines_in}
+use Rattle.gm_member.specs.Stands.{waits_for, held_in, lines_in}
 use Rattle.gm_member.proofs.Places.{map-range_same, tabled_at}
 use Rattle.gm_member.proofs.Parcels.{carried_same}
 use Rattle.gm_member.proofs.DoorLists.{filter_agree}
 use Rattle.gm_member.proofs.Facts.{held_row}
 use Rattle.gm_member.proofs.Fit.{IsFit}
-use Rattle.gm_member.proofs.MarkStands.{MayMark, may_mark, mark_view, mark_world, mark_good, mark_look, mark_newest, view_held}
+use Rattle.gm_member.proofs.MarkStands.{mark_view, mark_world, mark_good, mark_look, mark_newest, view_held}
 use Rattle.gm_member.proofs.OpenDoors.{sends_right}
 use Rattle.gm_member.proofs.OwnEnds.{OwnEnds}
 use Rattle.ring_cluster.specs.Ends.{OutSeen, opened_out, fresh_in}
 use Rattle.ring_cluster.specs.Parties.{Parties, node_at, with_node}
-use Rattle.ring_cluster.specs.Standing.{Places, MemberStands, Stand, has_in}
+use Rattle.ring_cluster.specs.Standing.{Places, Stand, has_in}
 use Rattle.ring_cluster.specs.Loose.{StandBetween}
 use Rattle.ring_cluster.specs.Acting.{Loosens, looked_ends, first_sent, LooksAt, Acts, newest_of, viewing, posting, waits_at}
 use Rattle.ring_cluster.proofs.Lawful.{IsLawfulAt}
 use Rattle.ring_cluster.proofs.Known.{all_know}
-use Rattle.ring_cluster.proofs.Lookers.{whole_door, beholder, had_before, carries_same}
+use Rattle.ring_cluster.proofs.Frames.{carries_logs}
+use Rattle.ring_cluster.proofs.Lookers.{whole_held, beholder, had_before}
 use Rattle.ring_cluster.proofs.Refreshing.{IsLooking, looks_on, none_waits}
 use Rattle.ring_cluster.proofs.Opens.{opens_on}
 
@@ -74,9 +73,7 @@ when_true false A e a = absurd (false≢true e)
 -- what a member holds for which no link waits
 pub held_whole : (initial : ℕ) (w : World) (q : Parties) (x : ℕ) → 1 ≤ x → x < size w → Stand initial w q → filter (waits_at x) q.post ≡ [] → (node_at q (x - 1)).held ≡ held_in w x
 held_whole initial w q x a l st none =
-    let p : Places = st.places in
-    let h : MemberStands w p x (node_at q (x - 1)) = st.stand.each x a l in
-    h.held ∙ ap (λ d. record (held_in w x) { door = map (incoming_in w) d }) (sym (whole_door w p x (node_at q (x - 1)) h (none_waits w q p x st.stand.post none)))
+    whole_held w st.places x (node_at q (x - 1)) (st.stand.each x a l) (none_waits w q st.places x st.stand.post none)
 
 pub looks_stand : (initial : ℕ) (u : World) (x v : ℕ) (q q' : Parties) (loose : Option (LinkName × OutSeen)) → IsLooking initial u x v → Stand initial u q → filter (waits_at x) q.post ≡ [] → LooksAt (view_at u v) (x - 1) q q' loose → StandBetween initial (refreshed u x v) q' loose
 looks_stand initial u x v q q' loose k st none (b, new, how, is) = subst (λ t. StandBetween initial (refreshed u x v) t loose) (sym is) (by_out (sends_right u x v) refl (subst (λ (h : Held). sends_of h ≡ sends_right u x v) (sym (held_whole initial u q x k.some k.may.is_member st none)) refl))
@@ -98,28 +95,14 @@ looks_stand initial u x v q q' loose k st none (b, new, how, is) = subst (λ t. 
 
 -- ---- a refresh
 
--- what isn't refused of a member that is up
-pub up_none : (w : World) (x : ℕ) (later : Option Reason) → up_refusal w x later ≡ None → ((member_at w x).phase ≡ Up) × (later ≡ None)
-up_none w x later e =
-    let a = none_of (is_stopped (member_at w x).phase) reason.Stopped (or_else (refuse_if (is_waiting (member_at w x).phase) reason.Waiting) later) e in
-    let b = none_of (is_waiting (member_at w x).phase) reason.Waiting later a.1 in
-    (up_from (member_at w x).phase a.0 b.0, b.1)
-
--- so it may look
+-- who is found may look
 pub refresh_may : (w : World) (x v : ℕ) (by : List ℕ) → id_of w by ≡ Some x → refusal w (Refresh by v) ≡ None → MayLook w x v
 refresh_may w x v by named r =
-    let a = up_none w x (refresh_refusal w x v) (sym (ap (λ o. of_member o (λ y. up_refusal w y (refresh_refusal w y v))) named) ∙ r) in
-    let why : Reason = reason.ViewOutOfRange v (member_at w x).version (newest w) in
-    let c = or_false (nat_lt v (member_at w x).version) (nat_lt (newest w) v) (refuse_none (nat_lt v (member_at w x).version || nat_lt (newest w) v) why a.1) in
-    record {
-      is_member = (id_within w by x named).1;
-      up = a.0;
-      later = not_less v (member_at w x).version why (ap (λ b. refuse_if b why) c.0);
-      upto = not_less (newest w) v why (ap (λ b. refuse_if b why) c.1);
-    }
+    let a = up_none w x (refresh_refusal w x v) (sym (ap (λ o. of_member o (refused_at w (Refresh by v))) named) ∙ r) in
+    may_look w x v (id_within w by x named).1 a.0 a.1
 
 pub refresh_is : (w : World) (x v : ℕ) (by : List ℕ) → id_of w by ≡ Some x → effect w (Refresh by v) ≡ refreshed w x v
-refresh_is w x v by named = ap (λ o. at_found o w (λ y. refreshed w y v)) named
+refresh_is w x v by named = ap (λ o. at_found o w (done_at w (Refresh by v))) named
 
 pub refresh_looking : (credit : CreditSpec) (w : World) (x v : ℕ) (by : List ℕ) → IsLawfulAt credit w → IsLawfulAt credit (effect w (Refresh by v)) → id_of w by ≡ Some x → refusal w (Refresh by v) ≡ None → IsLooking credit.initial w x v
 refresh_looking credit w x v by g g' named r = record {
@@ -172,7 +155,7 @@ view_stands initial w g q h own st = record {
     stopped = st.stand.stopped;
     post = st.stand.post;
     within = st.stand.within;
-    carry = λ s l i. carries_same initial w u (link_at w s) (p.outs s) (p.ins s) (λ y. refl) (st.stand.carry s l (had s l i));
+    carry = λ s l i. carries_logs initial w u (link_at w s) (p.outs s) (p.ins s) (λ y. refl) (st.stand.carry s l (had s l i));
   };
   met = λ s l i. st.met s l (had s l i);
   known = λ s l _ o. all_know initial w q st s l o;
@@ -192,12 +175,12 @@ view_stands initial w g q h own st = record {
 -- who was found may mark
 pub mark_may : (w : World) (x d : ℕ) (by dead : List ℕ) → id_of w by ≡ Some x → id_of w dead ≡ Some d → refusal w (Mark by dead) ≡ None → MayMark w x d
 mark_may w x d by dead named there r =
-    let a = up_none w x (of_member (id_of w dead) (mark_refusal w x)) (sym (ap (λ o. of_member o (λ y. up_refusal w y (of_member (id_of w dead) (mark_refusal w y)))) named) ∙ r) in
+    let a = up_none w x (of_member (id_of w dead) (mark_refusal w x)) (sym (ap (λ o. of_member o (refused_at w (Mark by dead))) named) ∙ r) in
     may_mark w x d (id_within w by x named).1 a.0 (sym (ap (λ o. of_member o (mark_refusal w x)) there) ∙ a.1)
 
 pub mark_is : (w : World) (x d : ℕ) (by dead : List ℕ) → id_of w by ≡ Some x → id_of w dead ≡ Some d → effect w (Mark by dead) ≡ refreshed (mark_world w d) x (newest w + 1)
 mark_is w x d by dead named there =
-    ap (λ o. at_found o w (λ y. at_found (id_of w dead) w (λ e. refreshed (mark_world w e) y (newest w + 1)))) named
+    ap (λ o. at_found o w (done_at w (Mark by dead))) named
     ∙ ap (λ o. at_found o w (λ e. refreshed (mark_world w e) x (newest w + 1))) there
 
 pub mark_looking : (credit : CreditSpec) (w : World) (x d : ℕ) (by dead : List ℕ) → IsLawfulAt credit w → IsLawfulAt credit (effect w (Mark by dead)) → id_of w by ≡ Some x → id_of w dead ≡ Some d → refusal w (Mark by dead) ≡ None → IsLooking credit.initial (mark_world w d) x (newest w + 1)

@@ -1,7 +1,7 @@
 -- In an idle ring in which nobody can have its right neighbour marked dead, who is live runs; and it is quiet where no entry is dead.
 use Rattle.std.proofs.Common.{◌≡◌, ◌≢◌, ◌⊎◌, inl, inr, ℕ, zero, suc, ◌+◌, ◌-◌, ◌<◌, ◌≤◌, Bool, true, false, not, nat_eq, List, get_or, Some, None, is_some, refl, sym, ap, subst, ◌∙◌, ⊎_elim, arith}
 use Rattle.std.specs.Prelude.{◌&&◌, ◌||◌, All}
-use Rattle.std.proofs.lemmas.Bool.{false≢true, cases_lt, cases_eq}
+use Rattle.std.proofs.lemmas.Bool.{false≢true, cases_lt, cases_eq, or_right}
 use Rattle.ring_names.specs.declared.numbers.CreditSpec.{CreditSpec}
 use Rattle.ring_names.specs.declared.reason.Reason.{Reason}
 use Rattle.ring_names.specs.declared.reason.Reason.TheVariants as reason
@@ -25,10 +25,11 @@ use Rattle.ring_world.specs.Quiet.{IsSettled, IsQuiet}
 use Rattle.ring_world.proofs.Period.{right_lives}
 use Rattle.ring_world.proofs.Views.{left_is, right_is}
 use Rattle.ring_world.proofs.Ended.{runs_lt}
+use Rattle.ring_world.proofs.Opening.{range_in}
 use Rattle.ring_cluster.specs.Idle.{IsIdle, MarksNobody}
 use Rattle.ring_cluster.proofs.Round.{round}
 use Rattle.ring_cluster.proofs.Asked.{found_refused, up_refused}
-use Rattle.ring_cluster.proofs.Reached.{IsReached, reached, in_range}
+use Rattle.ring_cluster.proofs.Reached.{IsReached, reached}
 use Rattle.ring_cluster.proofs.Links.{up_there, some_id, stands_there, lives_there, no_current, no_door}
 use Rattle.ring_cluster.proofs.Rest.{entry_at, idle_rests}
 
@@ -42,11 +43,6 @@ has_stopped Waiting e = absurd (false≢true (sym e))
 has_stopped Up e = absurd (false≢true (sym e))
 has_stopped Stopped e = refl
 
--- the second of two tests passes
-or_true : (a b : Bool) → b ≡ true → (a || b) ≡ true
-or_true true b e = refl
-or_true false b e = e
-
 -- ---- an idle ring in which nobody can be marked
 module _ (w : World) (h : IsReached w) (idle : IsIdle w) (marks : MarksNobody w) where
   -- the right neighbour is live
@@ -57,7 +53,7 @@ module _ (w : World) (h : IsReached w) (idle : IsIdle w) (marks : MarksNobody w)
   right_there : (x : ℕ) → runs w x ≡ true → (1 ≤ right w (newest w) x) × (right w (newest w) x < 1 + (size w - 1))
   right_there x rx =
       let d : ℕ = right w (newest w) x in
-      in_range 1 (size w - 1) d (ap (is_in d) (sym h.each_id) ∙ live_in (view_at w (newest w)).entries d (right_is_live x rx))
+      range_in 1 (size w - 1) d (ap (is_in d) (sym h.each_id) ∙ live_in (view_at w (newest w)).entries d (right_is_live x rx))
 
   -- had it stopped, it could be marked
   pub right_runs : (x : ℕ) → runs w x ≡ true → runs w (right w (newest w) x) ≡ true
@@ -80,7 +76,7 @@ module _ (w : World) (h : IsReached w) (idle : IsIdle w) (marks : MarksNobody w)
 
       beside : is_neighbour w x d ≡ true
       beside =
-          or_true (nat_eq d (left_neighbour w x)) (nat_eq d (right_of (view_at w (member_at w x).version) x))
+          or_right (nat_eq d (left_neighbour w x)) (nat_eq d (right_of (view_at w (member_at w x).version) x))
           (ap (λ v. nat_eq d (right_of (view_at w v) x)) new ∙ ap (λ q. nat_eq d q) (sym (right_is w (newest w) x (view_at w (newest w)) refl)) ∙ nat_eq-same d)
 
       left_alone : runs w d ≡ false → is_still_taken w x d ≡ false

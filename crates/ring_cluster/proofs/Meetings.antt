@@ -2,7 +2,7 @@
 use Rattle.std.proofs.Common.{◌≡◌, ℕ, ◌+◌, ◌-◌, ◌<◌, ◌≤◌, Bool, true, false, cond, nat_eq, List, ◌++◌, length, get_or, map, Some, refl, sym, ap, subst, ◌∙◌, arith, ⊎_elim, inl, inr}
 use Rattle.std.specs.Prelude.{option_map}
 use Rattle.std.specs.List.{filter}
-use Rattle.std.proofs.lemmas.Bool.{and_parts}
+use Rattle.std.proofs.lemmas.Bool.{and_parts, false_from_ne_true}
 use Rattle.std.proofs.lemmas.List.{append-nil, length-map}
 use Rattle.std.proofs.lemmas.Option.{slice_get-map, get_or_from_slice_get, slice_get-get_or}
 use Rattle.ring_names.specs.declared.numbers.CreditSpec.{CreditSpec}
@@ -23,7 +23,6 @@ use Rattle.ring_cluster.specs.Loose.{IsNowhere}
 use Rattle.ring_cluster.proofs.Lawful.{IsLawfulAt}
 use Rattle.ring_cluster.proofs.Writing.{in_filter, at_in, in_at}
 use Rattle.ring_cluster.proofs.Placing.{GoBetween, StandsAt, name_is_unique, at_receives, at_end, has_parts, waits_has, posted_is, name_stands, stands_named}
-use Rattle.ring_cluster.proofs.Showing.{not_true}
 
 -- ---- two ends
 
@@ -102,7 +101,7 @@ found_posted credit w q p j s d g go st l sl e =
 
 -- a link that is found nowhere may not be taken from
 pub found_nowhere : (credit : CreditSpec) (w : World) (q : Parties) (p : Places) (s : ℕ) → IsLawfulAt credit w → GoBetween w → StandIn credit.initial w q p → s < length w.links → IsNowhere q (name_of w s) → has_in w s ≡ false
-found_nowhere credit w q p s g go st sl none = not_true (has_in w s) (λ h. ⊎_elim
+found_nowhere credit w q p s g go st sl none = false_from_ne_true (has_in w s) (λ h. ⊎_elim
     (λ (c : (member_at w y).current ≡ Some s). none.member 0 (omega arith) (stands_named w p y 0 s m mine g.fit.own_ends (inl (refl, c))))
     (λ (t : waits_for w y s ≡ true). by_door (is_in s mine.door) refl (sym (ap (is_in s) mine.comes) ∙ in_places (waits_for w y) 0 (length w.links) s (omega arith) (omega arith) ∙ t))
     (has_parts w s h))
@@ -122,7 +121,7 @@ found_nowhere credit w q p s g go st sl none = not_true (has_in w s) (λ h. ⊎_
     at_door : (i : ℕ) × (i < length mine.door) × (get_or mine.door i 0 ≡ s) → ⊥
     at_door f =
         let back : f.0 + 1 - 1 ≡ f.0 = omega arith in
-        let not_first : nat_eq (f.0 + 1) 0 ≡ false = not_true (nat_eq (f.0 + 1) 0) (λ k. (let is : f.0 + 1 ≡ 0 = nat_eq-is (f.0 + 1) 0 k in omega arith)) in
+        let not_first : nat_eq (f.0 + 1) 0 ≡ false = false_from_ne_true (nat_eq (f.0 + 1) 0) (λ k. (let is : f.0 + 1 ≡ 0 = nat_eq-is (f.0 + 1) 0 k in omega arith)) in
         let l : f.0 < length mine.door = f.1 in
         none.member (f.0 + 1) (omega (arith, many, l)) (stands_named w p y (f.0 + 1) s m mine g.fit.own_ends (inr (not_first, omega (arith, back, l), ap (λ i. get_or mine.door i 0) back ∙ f.2)))
 

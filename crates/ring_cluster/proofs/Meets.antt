@@ -10,6 +10,7 @@ use Rattle.group_view.specs.declared.link.LinkName.{LinkName}
 use Rattle.group_view.specs.View.{Group}
 use Rattle.ordered_link.specs.declared.plain.PlainOut.{PlainOut}
 use Rattle.ordered_link.specs.declared.plain.PlainIn.{PlainIn}
+use Rattle.ring_world.proofs.Maps.{mapped_rewrite}
 use Rattle.registrar.specs.declared.standing.Standing.{Standing}
 use Rattle.registrar.specs.Registry.{Registry, name_in, end_in, end_of, with_end, end_is}
 use Rattle.gm_member.specs.declared.packet.Load.{Load}
@@ -19,7 +20,7 @@ use Rattle.gm_member.specs.Shown.{Ends, held_of, ends_of, in_end, with_in as wit
 use Rattle.ring_cluster.specs.Ends.{OutSeen, InSeen, Meets}
 use Rattle.ring_cluster.specs.Parties.{ANode, in_seen, ends_seen, EndsSeen, shown_of, in_end_at, with_in_end, with_in, Shown, no_shown, Posted, posted, no_posted, Parties, parties}
 use Rattle.ring_cluster.specs.Meeting.{IsToMeet, HasNone, NodeMeets, PostMayMeet, PostMeets, NoneIsPosted, posted_in, MayMeet, MeetsIn}
-use Rattle.ring_cluster.proofs.Lists.{mapped_new, mapped_written, mapped_rewrite}
+use Rattle.ring_cluster.proofs.Lists.{mapped_new}
 use Rattle.ring_cluster.proofs.Shown.{shown_same}
 
 -- ---- the end of a link to a member
@@ -205,9 +206,6 @@ pub member_met : (xs : List ANode) (i : ℕ) (x y : ANode) (name : LinkName) (o 
 member_met xs i x y name o o' l m =
     subst (λ a. NodeMeets a name o a (get_or (map shown_of (set xs i y)) i no_shown) o') (sym (get_or-map shown_of xs i x no_shown l))
     (subst (λ b. NodeMeets (shown_of (get_or xs i x)) name o (shown_of (get_or xs i x)) b o') (sym (mapped_new shown_of xs i y no_shown l)) m)
-
-pub others_stay : (xs : List ANode) (i : ℕ) (y : ANode) → i < length xs → map shown_of (set xs i y) ≡ set (map shown_of xs) i (get_or (map shown_of (set xs i y)) i no_shown)
-others_stay xs i y l = mapped_written shown_of xs i y no_shown l
 
 pub member_stays : (xs : List ANode) (i : ℕ) (x y : ANode) → i < length xs → x ≡ get_or xs i x → shown_of y ≡ shown_of (get_or xs i x) → map shown_of (set xs i y) ≡ map shown_of xs
 member_stays xs i x y l is e = mapped_rewrite shown_of xs i x y l is (e ∙ ap shown_of (sym is))

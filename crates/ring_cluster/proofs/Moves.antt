@@ -1,7 +1,7 @@
 -- A taken end and a pick leave less to do.
-use Rattle.std.proofs.Common.{◌≡◌, ℕ, ◌+◌, ◌*◌, ◌<◌, ◌≤◌, Bool, true, false, not, nat_eq, nat_le, max, List, length, set, get_or, Option, Some, None, is_some, if◌then◌else◌, refl, sym, ap, subst, ◌∙◌, arith}
+use Rattle.std.proofs.Common.{◌≡◌, ℕ, ◌+◌, ◌*◌, ◌<◌, ◌≤◌, true, false, not, nat_eq, nat_le, max, List, length, set, get_or, Option, Some, None, is_some, if◌then◌else◌, refl, sym, ap, subst, ◌∙◌, arith}
 use Rattle.std.specs.Prelude.{◌&&◌}
-use Rattle.std.proofs.lemmas.Bool.{and_parts}
+use Rattle.std.proofs.lemmas.Bool.{and_parts, and_right, not-true}
 use Rattle.std.proofs.lemmas.List.{length-set, get_or-set_same, get_or-set_other}
 use Rattle.std.proofs.lemmas.List.Quantifiers.{position-Some}
 use Rattle.ring_names.specs.declared.reason.Reason.TheVariants as reason
@@ -81,14 +81,10 @@ end_links w x s f lt up e =
     there : s < length w.links
     there = (f.own_ends.current x s e).0
 
-    nothing : (b : Bool) → (b && false) ≡ false
-    nothing true = refl
-    nothing false = refl
-
     after : weight_at w' s ≡ 2 * (length l.packets + 0) + 0 + length l.flow.grants
     after =
         ap (weight_in w' s) (get_or-set_same w.links s (finished l) no_link there)
-        ∙ ap (λ b. 2 * (length l.packets + (if b then 1 else 0)) + 0 + length l.flow.grants) (nothing (is_some l.ending))
+        ∙ ap (λ b. 2 * (length l.packets + (if b then 1 else 0)) + 0 + length l.flow.grants) (and_right (is_some l.ending) false refl)
 
     takes_it : is_current w l.receiver s ≡ true
     takes_it = ap (λ q. is_current w q s) (f.own_ends.current x s e).1 ∙ ap (λ c. is_place c s) e ∙ nat_eq-same s
@@ -157,12 +153,8 @@ pick_links w x s lt none at upto =
     to : l.receiver ≡ x
     to = nat_eq-is l.receiver x first.0
 
-    not_true : (b : Bool) → not b ≡ true → b ≡ false
-    not_true true h = cc
-    not_true false h = refl
-
     goes_on : l.over ≡ false
-    goes_on = not_true l.over second.0
+    goes_on = not-true l.over second.0
 
     door : passes w l.receiver l ≡ true
     door =

@@ -7,7 +7,7 @@ use Rattle.ring_names.specs.declared.numbers.CreditSpec.{CreditSpec}
 use Rattle.ring_script.specs.declared.command.Command.{Command}
 use Rattle.ring_script.specs.declared.command.Command.TheVariants as command
 use Rattle.ring_world.specs.declared.event.Event.{Event}
-use Rattle.ring_world.specs.declared.event.Event.TheVariants.{Cast, Put, Take, TakeEnd, Gain, Stop, Mark, Refresh, Pick}
+use Rattle.ring_world.specs.declared.event.Event.TheVariants.{Cast, Stop}
 use Rattle.ring_world.specs.Machine.{World, no_member}
 use Rattle.ring_world.specs.Step.{opening, opening_member}
 use Rattle.ring_world.specs.Event.{effect, IsRun, last}
@@ -23,15 +23,8 @@ use Rattle.ring_cluster.proofs.Settling.{still_alive_in}
 
 -- whether an event is a stop
 abbrev is_stop : Event → Bool
-is_stop (Cast by body) = false
-is_stop (Put by) = false
-is_stop (Take by) = false
-is_stop (TakeEnd by) = false
-is_stop (Gain by) = false
 is_stop (Stop by) = true
-is_stop (Mark by dead) = false
-is_stop (Refresh by version) = false
-is_stop (Pick by) = false
+is_stop e = false
 
 -- none of these is
 abbrev NoStop : List Event → Type 0
@@ -68,15 +61,8 @@ none_asked name (x ∷ xs) = none_both (asked_by name x) (asked name xs) (none_b
 -- ---- where no client asked for a stop, there is none
 
 none_here : (e : Event) → ((name : List ℕ) → NoStop (client_event name e)) → is_stop e ≡ false
-none_here (Cast by body) h = refl
-none_here (Put by) h = refl
-none_here (Take by) h = refl
-none_here (TakeEnd by) h = refl
-none_here (Gain by) h = refl
 none_here (Stop by) h = (subst (λ b. NoStop (if b then Stop by ∷ [] else [])) (own_bytes by) (h by)).0
-none_here (Mark by dead) h = refl
-none_here (Refresh by version) h = refl
-none_here (Pick by) h = refl
+none_here e h = refl
 
 none_there : (es : List Event) → ((name : List ℕ) → NoStop (client_events name es)) → NoStop es
 none_there [] h = tt
@@ -89,14 +75,8 @@ none_there (e ∷ es) h = (
 
 event_phases : (w : World) (e : Event) → NoneWaits w → is_stop e ≡ false → SamePhases w (effect w e)
 event_phases w (Cast by body) n h = cast_phases w by body
-event_phases w (Put by) n h = own_phases w (Put by) n refl
-event_phases w (Take by) n h = own_phases w (Take by) n refl
-event_phases w (TakeEnd by) n h = own_phases w (TakeEnd by) n refl
-event_phases w (Gain by) n h = own_phases w (Gain by) n refl
 event_phases w (Stop by) n h = absurd (false≢true (sym h))
-event_phases w (Mark by dead) n h = own_phases w (Mark by dead) n refl
-event_phases w (Refresh by version) n h = own_phases w (Refresh by version) n refl
-event_phases w (Pick by) n h = own_phases w (Pick by) n refl
+event_phases w e n h = own_phases w e n refl
 
 run_alive : (w : World) (es : List Event) → IsGood w → IsRun w es → NoStop es → NobodyStopped w → NobodyStopped (last w es)
 run_alive w [] g r n h = h

@@ -1,7 +1,9 @@
 -- Lists of members, and what they show.
-use Rattle.std.proofs.Common.{◌≡◌, ℕ, ◌<◌, List, length, map, get_or, set}
-use Rattle.ring_cluster.specs.Parties.{ANode, shown_of, no_shown}
-use Rattle.ring_cluster.proofs.Lists.{mapped_read, mapped_rewrite, mapped_written, mapped_new}
+use Rattle.std.proofs.Common.{◌≡◌, ℕ, ◌<◌, List, length, map, get_or, set, sym, subst}
+use Rattle.std.proofs.lemmas.List.{get_or-map}
+use Rattle.ring_cluster.specs.Parties.{ANode, Shown, shown_of, shown_at, no_shown}
+use Rattle.ring_cluster.proofs.Lists.{mapped_read, mapped_written, mapped_new}
+use Rattle.ring_world.proofs.Maps.{mapped_rewrite}
 
 pub read_shown : (xs : List ANode) (i : ℕ) (x : ANode) → i < length xs → x ≡ get_or xs i x → get_or (map shown_of xs) i no_shown ≡ shown_of x
 read_shown xs i x l e = mapped_read shown_of xs i x no_shown l e
@@ -14,6 +16,12 @@ written_shown xs i y l = mapped_written shown_of xs i y no_shown l
 
 pub new_shown : (xs : List ANode) (i : ℕ) (y : ANode) → i < length xs → get_or (map shown_of (set xs i y)) i no_shown ≡ shown_of y
 new_shown xs i y l = mapped_new shown_of xs i y no_shown l
+
+-- what holds between what a member shows that is at a place, and what another shows that is written there
+pub at_place : (P : Shown → Shown → Type 0) (xs : List ANode) (i : ℕ) (d y : ANode) → i < length xs → P (shown_of (get_or xs i d)) (shown_of y)
+    → P (shown_at xs i) (shown_at (set xs i y) i)
+at_place P xs i d y l h =
+    subst (λ a. P a (shown_at (set xs i y) i)) (sym (get_or-map shown_of xs i d no_shown l)) (subst (P (shown_of (get_or xs i d))) (sym (new_shown xs i y l)) h)
 
 -- what a read of a member shows, and a write
 pub ruleset nodes = (read_shown, same_shown, written_shown, new_shown)

@@ -1,5 +1,5 @@
 -- What the lemmas on single events of a cluster share.
-use Rattle.std.proofs.Common.{◌≡◌, inl, ℕ, ◌+◌, ◌-◌, ◌<◌, Bool, true, false, length, Option, Some, None, refl, sym, ap, subst, ◌∙◌, arith}
+use Rattle.std.proofs.Common.{◌≡◌, ℕ, ◌+◌, ◌-◌, ◌<◌, Bool, true, false, Option, Some, None, refl, sym, ap, subst, ◌∙◌, arith}
 use Rattle.std.specs.Prelude.{option_map}
 use Rattle.ring_names.specs.declared.reason.Reason.{Reason}
 use Rattle.ring_world.specs.Machine.{World}
@@ -9,8 +9,7 @@ use Rattle.gm_member.specs.Held.{Held}
 use Rattle.gm_member.specs.Stands.{held_in}
 use Rattle.ring_cluster.specs.Ends.{OutSeen, InSeen, HaveMet, HasRested}
 use Rattle.ring_cluster.specs.Parties.{Shown, Parties, node_at}
-use Rattle.ring_cluster.specs.Standing.{Places, MemberStands, StandIn, HaveDone, AllHaveMet, DroppedHaveMet, has_out, has_in}
-use Rattle.ring_cluster.proofs.Frames.{SameWays, same_in, same_out}
+use Rattle.ring_cluster.specs.Standing.{Places, MemberStands, StandIn, HaveDone}
 
 -- ---- the member that is found
 
@@ -47,11 +46,3 @@ met_rested b o n e h = subst (λ c. HaveDone c o n) e h
 
 pub met_both : (b : Bool) (o : OutSeen) (n : InSeen) → b ≡ true → HaveDone b o n → HaveMet o n
 met_both b o n e h = subst (λ c. HaveDone c o n) e h
-
--- where the same links have their ends, those that had met before their out end was dropped still have, where a step keeps that
-pub dropped_still : (w w' : World) (p p' : Places) → SameWays w w' → AllHaveMet w p → ((s : ℕ) → s < length w.links → has_in w s ≡ true → has_out w s ≡ false → HasRested (p.outs s) (p.ins s) → HasRested (p'.outs s) (p'.ins s)) → DroppedHaveMet w' p' None
-dropped_still w w' p p' ways met h s sl has lost =
-    let l : s < length w.links = omega (arith, ways.many) in
-    let has0 : has_in w s ≡ true = sym (same_in w w' s ways) ∙ has in
-    let lost0 : has_out w s ≡ false = sym (same_out w w' s ways) ∙ lost in
-    inl (h s l has0 lost0 (met_rested (has_out w s) (p.outs s) (p.ins s) lost0 (met s l has0)))

@@ -5,9 +5,11 @@ use Rattle.std.specs.List.{filter, range_with_len}
 use Rattle.std.proofs.lemmas.Bool.{false≢true, cases_eq, cases_lt}
 use Rattle.std.proofs.lemmas.List.{append-nil, append_assoc, map-append, length-set, length_push, get_or_append_left, get_or-set_same, get_or-set_other}
 use Rattle.std.proofs.lemmas.List.Elements.{filter-append}
+use Rattle.std.proofs.lemmas.Option.{none-some}
 use Rattle.group_view.specs.declared.link.LinkName.{LinkName}
 use Rattle.group_view.specs.Ring.{is_in}
 use Rattle.group_view.proofs.Rings.{is_in-append, nat_eq-same, nat_eq-not}
+use Rattle.group_view.proofs.Neighbours.{filter_agree_in}
 use Rattle.ring_world.specs.declared.phase.Ending.{Ending}
 use Rattle.ring_world.specs.declared.phase.Ending.TheVariants.{Moved}
 use Rattle.ring_world.specs.View.{right_of}
@@ -18,10 +20,11 @@ use Rattle.ring_world.specs.Event.{refreshed, is_stopped}
 use Rattle.ring_world.proofs.WhatRefuses.{MayLook}
 use Rattle.ring_world.proofs.Rounds.{nat_eq-is}
 use Rattle.ring_world.proofs.Happens.{IsGood}
+use Rattle.ring_world.proofs.OpenWalk.{place_is}
 use Rattle.registrar.proofs.Members.{same_refreshed}
 use Rattle.gm_member.specs.Held.{Held, refreshed_held, fresh_out as unsent_on, lines_on, parcel_on}
 use Rattle.gm_member.specs.View.{ring_link}
-use Rattle.gm_member.specs.Stands.{incoming_in, outgoing_in, waits_for, door_links, held_in, lines_in}
+use Rattle.gm_member.specs.Stands.{outgoing_in, waits_for, door_links, held_in, lines_in}
 use Rattle.gm_member.proofs.DoorLists.{filter_agree, filter_more}
 use Rattle.gm_member.proofs.Doors.{view_version}
 use Rattle.gm_member.proofs.DoorParts.{waits_by, member_same, member_other}
@@ -34,27 +37,17 @@ use Rattle.ring_cluster.specs.Parties.{Shown, Posted, Parties, node_at, with_nod
 use Rattle.ring_cluster.specs.Standing.{Places, MemberStands, Stand, HaveDone, DroppedHaveMet, SendersKnow, name_of, is_to, has_out, has_in}
 use Rattle.ring_cluster.specs.Loose.{LooseFits, StandBetween}
 use Rattle.ring_cluster.specs.Acting.{EndsOut, Loosens, name_out, looked_ends, first_sent, sent_of, waits_at}
-use Rattle.ring_cluster.proofs.Writing.{placed, placed_same, placed_other}
+use Rattle.ring_cluster.proofs.Writing.{placed, placed_same, placed_other, map_agree}
 use Rattle.ring_cluster.proofs.Placing.{name_is_unique}
 use Rattle.ring_cluster.proofs.Showing.{stands_of, each_set}
 use Rattle.ring_cluster.proofs.Meetings.{waiting_at}
 use Rattle.ring_cluster.proofs.Joining.{first_same}
 use Rattle.ring_cluster.proofs.Known.{Knows, all_know}
-use Rattle.ring_cluster.proofs.Collections.{map_agree}
-use Rattle.ring_cluster.proofs.Lookers.{filter_both, carries_same, lines_same, whole_door, looker, beholder}
+use Rattle.ring_cluster.proofs.Frames.{same_lines, carries_logs, opened_carries}
+use Rattle.ring_cluster.proofs.Lookers.{filter_both, whole_held, looker, beholder}
 use Rattle.ring_cluster.proofs.Refreshing.{IsLooking, AfterLook, keeps_it, look_has, logs_set, none_waits}
 
 -- ---- lists
-
-filter_agree_in : (t u : ℕ → Bool) (xs : List ℕ) → ((s : ℕ) → is_in s xs ≡ true → t s ≡ u s) → filter t xs ≡ filter u xs
-filter_agree_in t u [] h = refl
-filter_agree_in t u (x ∷ xs) h =
-    ap (λ b. cond b (x ∷ filter t xs) (filter t xs)) (h x (ap (λ b. cond b true (is_in x xs)) (nat_eq-same x)))
-    ∙ ap (λ ys. cond (u x) (x ∷ ys) ys) (filter_agree_in t u xs (λ s e. h s (later (nat_eq s x) e)))
-  where
-    later : {z : Bool} (b : Bool) → z ≡ true → cond b true z ≡ true
-    later true e = refl
-    later false e = e
 
 -- who is in a list with one more
 in_push : (s n : ℕ) (xs : List ℕ) → is_in s (xs ++ n ∷ []) ≡ true → (is_in s xs ≡ true) ⊎ (s ≡ n)
@@ -65,10 +58,7 @@ in_push s n xs e = by_case (is_in s xs) refl (nat_eq s n) refl (sym (is_in-appen
     by_case false k true j h = inr (nat_eq-is s n j)
     by_case false k false j h = absurd (false≢true h)
 
--- nothing is loose, or one is
-nothing_is : (f : LinkName × OutSeen) → None ≡ Some f → ⊥
-nothing_is f e = cc
-
+-- two that are loose are one
 some_same : (f g : LinkName × OutSeen) → Some f ≡ Some g → f ≡ g
 some_same f g e = cc
 
@@ -137,16 +127,7 @@ old_ends u x p loose own = by_out (member_at u x).out refl
 
 -- the new link holds its first packet, in its out end
 new_carries : (initial : ℕ) (u u' : World) (x v : ℕ) (k : Sent) → k ≡ record { view = v; lines = lines_in u' (next_packet (moved_to u x v) no_sending) } → Carries u' initial (new_link u x v) (opened_out initial k) (fresh_in initial)
-new_carries initial u u' x v k e = record {
-  items = ap (λ s. Some s ∷ []) e;
-  grants = refl;
-  late = refl;
-  ended = refl;
-  out_initial = refl;
-  in_initial = refl;
-  slots = omega arith;
-  room = omega arith;
-}
+new_carries initial u u' x v k e = opened_carries initial u' (new_link u x v) (Some k ∷ []) initial (ap (λ s. Some s ∷ []) e) refl refl (omega arith)
 
 -- the replaced one its end
 ended_carries : (w : World) (initial : ℕ) (l : Link) (o o' : OutSeen) (n : InSeen) → l.ending ≡ None → EndsOut o o' → Carries w initial l o n → Carries w initial (ended Moved l) o' n
@@ -265,7 +246,7 @@ opens_on initial u x v q b new loose k e st none eb en el = subst (λ w. StandBe
     waits_none = none_waits u q p x st.stand.post none
 
     held_at : a.held ≡ held_in u x
-    held_at = h.held ∙ ap (λ d. record (held_in u x) { door = map (incoming_in u) d }) (sym (whole_door u p x a h waits_none))
+    held_at = whole_held u p x a h waits_none
 
     old : (outs : ℕ → OutSeen) × OldEnds u x p loose outs
     old = old_ends u x p loose k.own
@@ -357,15 +338,11 @@ opens_on initial u x v q b new loose k e st none eb en el = subst (λ w. StandBe
     carries_old s l i = subst (λ j. Carries u' initial (link_at u' s) j (p'.ins s)) (sym (outs_old s l)) (subst (Carries u' initial (link_at u' s) (outs s)) (sym (ins_old s l)) (by_out (is_place (member_at u x).out s) refl))
       where
         was : Carries u' initial (link_at u s) (p.outs s) (p.ins s)
-        was = carries_same initial u u' (link_at u s) (p.outs s) (p.ins s) after.logs (st.stand.carry s l (look_has u u' x v s k.own after l i))
-
-        place_is : (c : Option ℕ) → is_place c s ≡ true → c ≡ Some s
-        place_is None j = absurd (false≢true j)
-        place_is (Some t) j = ap Some (nat_eq-is t s j)
+        was = carries_logs initial u u' (link_at u s) (p.outs s) (p.ins s) after.logs (st.stand.carry s l (look_has u u' x v s k.own after l i))
 
         by_out : (c : Bool) → is_place (member_at u x).out s ≡ c → Carries u' initial (link_at u' s) (outs s) (p.ins s)
         by_out true j =
-            let o : (member_at u x).out ≡ Some s = place_is (member_at u x).out j in
+            let o : (member_at u x).out ≡ Some s = place_is (member_at u x).out s j in
             subst (λ t. Carries u' initial t (outs s) (p.ins s)) (sym (link_ended u x v s o l))
             (ended_carries u' initial (link_at u s) (p.outs s) (outs s) (p.ins s) (k.ends.sends x s (ap runs_phase k.may.up) o).goes_on (old.1.ends s o) was)
         by_out false j =
@@ -376,7 +353,7 @@ opens_on initial u x v q b new loose k e st none eb en el = subst (λ w. StandBe
     sent_is =
         ap (λ (j : Held). sent_of (parcel_on (view_at u v).version j.rows (unsent_on j.initial j.more (right_of (view_at u v) j.id) (view_at u v).version))) held_at
         ∙ ap (λ i. record { view = i; lines = lines_on (held_in u x).rows (unsent_on u.initial u.more (right_of (view_at u v) x) (view_at u v).version) }) numbered
-        ∙ ap (λ ls. record { view = v; lines = ls }) (k.first ∙ sym (lines_same u u' (next_packet (moved_to u x v) no_sending) after.logs))
+        ∙ ap (λ ls. record { view = v; lines = ls }) (k.first ∙ sym (same_lines u u' (next_packet (moved_to u x v) no_sending) after.logs))
 
     initial_at : a.held.initial ≡ initial
     initial_at = ap (λ (j : Held). j.initial) held_at ∙ k.initial_is
@@ -407,10 +384,6 @@ opens_on initial u x v q b new loose k e st none eb en el = subst (λ w. StandBe
         absurd (false≢true (sym o ∙ ap (has_out u') is ∙ ap (λ y. is_place (member_at u' y).out n) (ap (λ (t : Link). t.sender) (link_new u x v)) ∙ ap (λ c. is_place c n) out_here ∙ nat_eq-same n)))
         (cases_lt s n)
       where
-        place_is : (c : Option ℕ) → is_place c s ≡ true → c ≡ Some s
-        place_is None j = absurd (false≢true j)
-        place_is (Some t) j = ap Some (nat_eq-is t s j)
-
         -- its sender had none before
         had_none : s < n → is_place (member_at u x).out s ≡ false → has_out u s ≡ false
         had_none lt j = ⊎_elim
@@ -420,7 +393,7 @@ opens_on initial u x v q b new loose k e st none eb en el = subst (λ w. StandBe
 
         by_out : s < n → (c : Bool) → is_place (member_at u x).out s ≡ c → HasRested (p'.outs s) (p'.ins s) ⊎ (loose ≡ Some (name_of u' s, p'.outs s))
         by_out lt true j =
-            inr (old.1.is_loose s (place_is (member_at u x).out j) ∙ ap (λ t. Some (t, outs s)) (sym (name_old s lt)) ∙ ap (λ t. Some (name_of u' s, t)) (sym (outs_old s lt)))
+            inr (old.1.is_loose s (place_is (member_at u x).out s j) ∙ ap (λ t. Some (t, outs s)) (sym (name_old s lt)) ∙ ap (λ t. Some (name_of u' s, t)) (sym (outs_old s lt)))
         by_out lt false j =
             let no : (member_at u x).out ≡ Some s → ⊥ = λ t. false≢true (sym j ∙ ap (λ c. is_place c s) t ∙ nat_eq-same s) in
             let rested : HasRested (p.outs s) (p.ins s) = subst (λ c. HaveDone c (p.outs s) (p.ins s)) (had_none lt j) (st.met s lt (look_has u u' x v s k.own after lt i)) in
@@ -448,7 +421,7 @@ opens_on initial u x v q b new loose k e st none eb en el = subst (λ w. StandBe
     fits s o l i c = by_out (member_at u x).out refl
       where
         by_out : (d : Option ℕ) → (member_at u x).out ≡ d → (has_out u' s ≡ false) × (p'.outs s ≡ o)
-        by_out None j = absurd (nothing_is (name_of u' s, o) (sym (old.1.none j) ∙ c))
+        by_out None j = absurd (none-some (name_of u' s, o) (sym (old.1.none j) ∙ c))
         by_out (Some t) j =
             let tn : t < n = (k.own.out x t j).0 in
             let both : Some (name_of u t, outs t) ≡ Some (name_of u' s, o) = sym (old.1.is_loose t j) ∙ c in

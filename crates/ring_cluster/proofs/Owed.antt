@@ -1,5 +1,5 @@
 -- What only differs in what is owed.
-use Rattle.std.proofs.Common.{◌≡◌, ◌+◌, ◌-◌, ◌^◌, Bool, true, min, refl, ap, ◌∙◌}
+use Rattle.std.proofs.Common.{◌≡◌, ◌+◌, ◌-◌, ◌^◌, Bool, min, refl, ap, ◌∙◌}
 use Rattle.ring_world.specs.declared.event.Event.{Event}
 use Rattle.ring_cluster.specs.Seen.{Seen, SameButOwed, MayHandOver, owing, with_event, stepped}
 

@@ -1,5 +1,5 @@
 -- Nobody stops but by a stop.
-use Rattle.std.proofs.Common.{◌≡◌, ℕ, zero, suc, Bool, true, false, nat_eq, List, [], ◌∷◌, get_or, set, length, Option, Some, None, if◌then◌else◌, refl, sym, ap, ◌∙◌}
+use Rattle.std.proofs.Common.{◌≡◌, ℕ, zero, suc, false, List, [], ◌∷◌, get_or, set, length, Option, Some, None, refl, sym, ap, ◌∙◌}
 use Rattle.std.proofs.lemmas.Bool.{false≢true}
 use Rattle.std.proofs.lemmas.List.{length-set}
 use Rattle.ring_names.specs.declared.message.Message.TheVariants as message
@@ -13,9 +13,10 @@ use Rattle.ring_world.specs.declared.phase.Ending.TheVariants.{Moved}
 use Rattle.ring_world.specs.View.{right_of}
 use Rattle.ring_world.specs.Machine.{Member, Link, World, no_member, member_at, link_at, view_at, newest, is_waiting, runs, runs_phase}
 use Rattle.ring_world.specs.Step.{published, taker, with_current, with_view, with_link, moved_to, look_at, open_to, ended}
-use Rattle.ring_world.specs.Event.{at_found, taken_by, send_to, refreshed, effect, id_of, at_door}
+use Rattle.ring_world.specs.Event.{is_asked, at_found, taken_by, refreshed, effect, id_of, at_door}
 use Rattle.ring_world.proofs.NoneWaits.{NoneWaits}
-use Rattle.ring_cluster.specs.Turns.{is_own_event, SamePhases}
+use Rattle.ring_world.proofs.Composed.{refresh_composed}
+use Rattle.ring_cluster.specs.Turns.{SamePhases}
 
 pub same_refl : (w : World) → SamePhases w w
 same_refl w = record { many = refl; phase = λ x. refl }
@@ -54,20 +55,11 @@ take_same w x s Stopped e = same_refl w
 open_same : (w : World) (x z : ℕ) → SamePhases w (open_to w x z)
 open_same w x z = same_set w x (record (member_at w x) { out = Some (length w.links) }) _ w.views refl
 
-send_same : (w : World) (x z : ℕ) (o : Option ℕ) → SamePhases w (send_to w x z o)
-send_same w x z None = open_same w x z
-send_same w x z (Some o) = by_test (nat_eq (link_at w o).receiver z)
-  where
-    w1 : World
-    w1 = with_link w o (ended Moved (link_at w o))
-
-    by_test : (b : Bool) → SamePhases w (if b then w else open_to w1 x z)
-    by_test true = same_refl w
-    by_test false = let k = open_same w1 x z in record { many = k.many; phase = k.phase }
-
 refreshed_same : (w : World) (x v : ℕ) → SamePhases w (refreshed w x v)
-refreshed_same w x v =
-    same_trans w (look_at w x v) (refreshed w x v) (same_set w x (moved_to w x v) w.links w.views refl) (send_same (look_at w x v) x (right_of (view_at w v) x) (member_at w x).out)
+refreshed_same w x v = refresh_composed (SamePhases w) w x v
+    (λ k _ h. same_trans w (look_at w x v) (with_link (look_at w x v) k (ended Moved (link_at w k))) h (record { many = refl; phase = λ q. refl }))
+    (λ u _ h. let z : ℕ = right_of (view_at w v) x in same_trans w u (open_to u x z) h (open_same u x z))
+    (same_set w x (moved_to w x v) w.links w.views refl)
 
 view_same : (w : World) (v : Group) → SamePhases w (with_view w v)
 view_same w v = record { many = refl; phase = λ x. refl }
@@ -82,13 +74,13 @@ pub cast_phases : (w : World) (by body : List ℕ) → SamePhases w (effect w (C
 cast_phases w by body = found_same w (id_of w by) _ (λ x. same_set w x (published x (message.Cast body) (member_at w x)) w.links w.views refl)
 
 -- a member's own event
-pub own_phases : (w : World) (e : Event) → NoneWaits w → is_own_event e ≡ true → SamePhases w (effect w e)
-own_phases w (Cast by body) n own = absurd (false≢true own)
+pub own_phases : (w : World) (e : Event) → NoneWaits w → is_asked e ≡ false → SamePhases w (effect w e)
+own_phases w (Cast by body) n own = absurd (false≢true (sym own))
 own_phases w (Put by) n own = found_same w (id_of w by) _ (λ x. found_same w (member_at w x).out _ (λ o. record { many = refl; phase = λ q. refl }))
 own_phases w (Take by) n own = found_same w (id_of w by) _ (λ x. found_same w (member_at w x).current _ (λ s. take_same w x s (member_at w x).phase (n x)))
 own_phases w (TakeEnd by) n own = found_same w (id_of w by) _ (λ x. found_same w (member_at w x).current _ (λ s. same_set w x (with_current None (member_at w x)) _ w.views refl))
 own_phases w (Gain by) n own = found_same w (id_of w by) _ (λ x. found_same w (member_at w x).out _ (λ o. record { many = refl; phase = λ q. refl }))
-own_phases w (Stop by) n own = absurd (false≢true own)
+own_phases w (Stop by) n own = absurd (false≢true (sym own))
 own_phases w (Mark by dead) n own = found_same w (id_of w by) _ (λ x. found_same w (id_of w dead) _ (λ d. marked_same w (marked (view_at w (newest w)) d) x _))
 own_phases w (Refresh by version) n own = found_same w (id_of w by) _ (λ x. refreshed_same w x version)
 own_phases w (Pick by) n own = found_same w (id_of w by) _ (λ x. found_same w (at_door w x) _ (λ s. same_set w x (with_current (Some s) (member_at w x)) w.links w.views refl))

@@ -1,20 +1,19 @@
 -- Where a member has picked a link at its door, and none waits for it at the registrar, the parties stand in the state after the ring's pick.
-use Rattle.std.proofs.Common.{◌≡◌, ◌≢◌, inl, nat_eq, ℕ, ◌+◌, ◌-◌, ◌<◌, Bool, true, false, not, cond, List, [], ◌∷◌, ◌++◌, length, map, get_or, Option, Some, None, is_some, refl, sym, ap, subst, ◌∙◌, ⊎_elim, append-nil}
+use Rattle.std.proofs.Common.{◌≡◌, ◌≢◌, nat_eq, ℕ, ◌+◌, ◌<◌, Bool, true, false, not, List, [], ◌++◌, length, map, get_or, Option, Some, None, is_some, refl, sym, ap, ◌∙◌, ⊎_elim, append-nil}
 use Rattle.std.specs.Prelude.{◌&&◌, ◌||◌, option_map}
 use Rattle.std.specs.List.{filter, range_with_len}
-use Rattle.std.proofs.lemmas.Bool.{cases_eq}
-use Rattle.std.proofs.lemmas.List.{length-set, get_or-set_same, get_or-set_other, get_or-map}
+use Rattle.std.proofs.lemmas.Bool.{cases_eq, and_right}
+use Rattle.std.proofs.lemmas.List.{length-set, get_or-map}
 use Rattle.std.proofs.lemmas.List.Quantifiers.{position-Some}
 use Rattle.ring_names.specs.declared.numbers.CreditSpec.{CreditSpec}
 use Rattle.ring_names.specs.declared.reason.Reason.TheVariants as reason
 use Rattle.group_view.specs.declared.link.LinkName.{LinkName}
 use Rattle.ring_world.specs.declared.event.Event.TheVariants.{Pick}
 use Rattle.ring_world.specs.Refusal.{refuse_if, or_else}
-use Rattle.ring_world.specs.Machine.{World, Member, no_link, no_member, member_at, link_at}
+use Rattle.ring_world.specs.Machine.{World, Member, no_link, member_at, link_at}
 use Rattle.ring_world.specs.OpenLinks.{is_place, is_current}
-use Rattle.ring_world.specs.Step.{size, log_of, with_current, current_is}
-use Rattle.ring_world.specs.Event.{id_of, up_refusal, pick_refusal, is_at_door, at_door, at_found, refusal, effect, is_stopped}
-use Rattle.ring_world.proofs.Lists.{at_set}
+use Rattle.ring_world.specs.Step.{size, with_current, current_is}
+use Rattle.ring_world.specs.Event.{id_of, up_refusal, pick_refusal, is_at_door, at_door, at_found, refusal, effect}
 use Rattle.ring_world.proofs.Rounds.{nat_eq-is}
 use Rattle.ring_world.proofs.Enabled.{up_later}
 use Rattle.ring_world.proofs.Refusals.{id_within, none_of}
@@ -22,63 +21,39 @@ use Rattle.gm_member.specs.Held.{first_at_door, picked_held, without}
 use Rattle.gm_member.specs.Stands.{held_in, incoming_in, waits_for, door_links}
 use Rattle.gm_member.proofs.Parts.{waits_seen}
 use Rattle.gm_member.proofs.DoorLists.{filter_without}
-use Rattle.gm_member.proofs.DoorParts.{waits_by, without_made}
+use Rattle.gm_member.proofs.DoorParts.{waits_by, without_made, member_same, member_other}
 use Rattle.gm_member.proofs.Doors.{pickable_is_door}
 use Rattle.gm_member.proofs.PickStands.{Picks as PicksAt, picks_some, pick_stands, door_link}
 use Rattle.gm_member.proofs.OthersStand.{pick_others}
 use Rattle.ring_cluster.specs.Ends.{OutSeen}
 use Rattle.ring_cluster.specs.Parties.{Shown, Parties, Posted, node_at, with_node}
-use Rattle.ring_cluster.specs.Standing.{Places, MemberStands, StandIn, Stand, StandLoose, name_of, is_to, has_in, has_out}
+use Rattle.ring_cluster.specs.Standing.{Places, MemberStands, Stand, StandLoose, is_to, has_in}
 use Rattle.ring_cluster.specs.Acting.{Acts}
 use Rattle.ring_cluster.proofs.Lawful.{IsLawfulAt}
-use Rattle.ring_cluster.proofs.Frames.{way, way_seen, same_filter, carries_same, stays_stands, one_steps}
-use Rattle.ring_cluster.proofs.OneEvent.{found_later, found_does, stands_at, met_rested}
-use Rattle.ring_cluster.proofs.Known.{known_still}
+use Rattle.ring_cluster.proofs.Truth.{none_is}
+use Rattle.ring_cluster.proofs.Frames.{way, way_seen, same_of, same_filter, carries_logs}
+use Rattle.ring_cluster.proofs.Lookers.{whole_door, whole_held}
+use Rattle.ring_cluster.proofs.Refreshing.{none_waits}
+use Rattle.ring_cluster.proofs.OneEvent.{found_later, found_does, stands_at}
+use Rattle.ring_cluster.proofs.Steps.{Leaves, goes_so, same_phases, steps}
 
 -- ---- no link waits for a member at the registrar
 
 abbrev pub NonePosted : Parties → ℕ → Type 0
 NonePosted q x = filter (λ (k : Posted). nat_eq k.name.to.0 x) q.post ≡ []
 
-filter_map : {A B : Type 0} (t : B → Bool) (f : A → B) (xs : List A) → filter t (map f xs) ≡ map f (filter (λ a. t (f a)) xs)
-filter_map t f [] = refl
-filter_map t f (x ∷ xs) = by_test (t (f x)) (filter_map t f xs)
-  where
-    by_test : (b : Bool) → filter t (map f xs) ≡ map f (filter (λ a. t (f a)) xs) → cond b (f x ∷ filter t (map f xs)) (filter t (map f xs)) ≡ map f (cond b (x ∷ filter (λ a. t (f a)) xs) (filter (λ a. t (f a)) xs))
-    by_test true ih = ap (λ ys. f x ∷ ys) ih
-    by_test false ih = ih
-
-made_nothing : {A B : Type 0} (f : A → B) (xs : List A) → map f xs ≡ [] → xs ≡ []
-made_nothing f [] e = refl
-made_nothing f (x ∷ xs) e = cc
-
--- so its whole door stands with it
-pub none_posted : (initial : ℕ) (w : World) (q : Parties) (p : Places) (x : ℕ) → StandIn initial w q p → NonePosted q x → filter (is_to w x) p.post ≡ []
-none_posted initial w q p x st e =
-    let f : ℕ → Posted = λ s. record { name = name_of w s; end = Some (p.ins s) } in
-    made_nothing f (filter (is_to w x) p.post) (sym (filter_map (λ (k : Posted). nat_eq k.name.to.0 x) f p.post) ∙ ap (filter (λ (k : Posted). nat_eq k.name.to.0 x)) (sym st.post) ∙ e)
-
-pub whole_door : (w : World) (p : Places) (x : ℕ) (m : Shown) (h : MemberStands w p x m) → filter (is_to w x) p.post ≡ [] → h.door ≡ door_links w x
-whole_door w p x m h e = sym (append-nil h.door) ∙ ap (λ xs. h.door ++ xs) (sym e) ∙ sym h.comes
-
-pub whole_held : (w : World) (p : Places) (x : ℕ) (m : Shown) → MemberStands w p x m → filter (is_to w x) p.post ≡ [] → m.held ≡ held_in w x
-whole_held w p x m h e = h.held ∙ ap (λ ds. record (held_in w x) { door = map (incoming_in w) ds }) (whole_door w p x m h e)
-
 -- ---- what waits after a pick
 
 -- x, which takes from no link, takes from s, which stood at its door
 module _ (w : World) (x s : ℕ) (lt : x < size w) (none : (member_at w x).current ≡ None) (here : waits_for w x s ≡ true) where
   now : member_at (current_is w x (Some s)) x ≡ with_current (Some s) (member_at w x)
-  now = get_or-set_same w.members x (with_current (Some s) (member_at w x)) no_member lt
+  now = member_same w x (with_current (Some s) (member_at w x)) lt
 
   other : (y : ℕ) → y ≢ x → member_at (current_is w x (Some s)) y ≡ member_at w y
-  other y ne = get_or-set_other w.members x y (with_current (Some s) (member_at w x)) no_member ne
+  other y ne = member_other w x y (with_current (Some s) (member_at w x)) ne
 
-  pub pick_logs : (r : ℕ) → log_of (current_is w x (Some s)) r ≡ log_of w r
-  pick_logs r = at_set (λ j y. y.log ≡ log_of w j) w.members x r (with_current (Some s) (member_at w x)) no_member lt refl (λ _. refl)
-
-  pub pick_outs : (y : ℕ) → (member_at (current_is w x (Some s)) y).out ≡ (member_at w y).out
-  pick_outs y = at_set (λ j z. z.out ≡ (member_at w j).out) w.members x y (with_current (Some s) (member_at w x)) no_member lt refl (λ _. refl)
+  pick_outs : (y : ℕ) → (member_at (current_is w x (Some s)) y).out ≡ (member_at w y).out
+  pick_outs y = same_of (λ (z : Member). z.out) w x (with_current (Some s) (member_at w x)) lt refl y
 
   pub pick_waits : (k : ℕ) → waits_for (current_is w x (Some s)) x k ≡ (waits_for w x k && not (nat_eq s k))
   pick_waits k =
@@ -86,18 +61,12 @@ module _ (w : World) (x s : ℕ) (lt : x < size w) (none : (member_at w x).curre
       ∙ tests (nat_eq (link_at w k).receiver x) (nat_eq s k) (link_at w k).over _
       ∙ ap (λ c. waits_by w x c (member_at w x).version k && not (nat_eq s k)) (sym none)
     where
-      nothing : (a : Bool) → false ≡ (a && false)
-      nothing true = refl
-      nothing false = refl
-
-      all : (a : Bool) → a ≡ (a && true)
-      all true = refl
-      all false = refl
-
       tests : (r b o p : Bool) → ((r && (not b && not o)) && p) ≡ (((r && (not false && not o)) && p) && not b)
       tests false b o p = refl
-      tests true true o p = nothing (not o && p)
-      tests true false o p = all (not o && p)
+      tests true true o p = sym (and_right (not o && p) false refl)
+      tests true false true p = refl
+      tests true false false true = refl
+      tests true false false false = refl
 
   pub pick_door : (i : ℕ) → i < length (door_links w x) → get_or (door_links w x) i 0 ≡ s → door_links (current_is w x (Some s)) x ≡ without i (door_links w x)
   pick_door i there e =
@@ -130,8 +99,18 @@ module _ (w : World) (x s : ℕ) (lt : x < size w) (none : (member_at w x).curre
       tests false true k = refl
       tests false false k = refl
 
-  pub pick_has_out : (j : ℕ) → has_out (current_is w x (Some s)) j ≡ has_out w j
-  pick_has_out j = ap (λ o. is_place o j) (pick_outs (link_at w j).sender)
+  pub pick_leaves : Leaves w (current_is w x (Some s)) x
+  pick_leaves = record {
+    size_is = length-set w.members x (with_current (Some s) (member_at w x));
+    many = refl;
+    views = refl;
+    names = λ j. refl;
+    has_outs = λ j. ap (λ o. is_place o j) (pick_outs (link_at w j).sender);
+    opens = λ j has. sym (pick_open j) ∙ has;
+    outs = λ y _. pick_outs y;
+    currents = λ y ne. ap (λ (z : Member). z.current) (other y ne);
+    doors = pick_other_door;
+  }
 
 -- ---- the parties
 
@@ -149,8 +128,8 @@ pick_it w p x i a b credit h lt none first nobody m e =
     let at : PicksAt w x i = picks_some w x i h.fit.good none first in
     let here : waits_for w x s ≡ true = door_waits w x s credit h none at.found in
     let doors : door_links w' x ≡ without i (door_links w x) = pick_door w x s lt none here i at.there refl in
-    let mine : m.door ≡ door_links w x = whole_door w p x a m nobody in
-    let gone : member_at w' x ≡ with_current (Some s) (member_at w x) = get_or-set_same w.members x (with_current (Some s) (member_at w x)) no_member lt in
+    let mine : m.door ≡ door_links w x = sym (whole_door w p x a m nobody) in
+    let gone : member_at w' x ≡ with_current (Some s) (member_at w x) = member_same w x (with_current (Some s) (member_at w x)) lt in
     let ends : a.ends.door ≡ map (λ j. Some (p.ins j)) (door_links w x) = m.ends ∙ ap (map (λ j. Some (p.ins j))) mine in
     record {
       door = without i (door_links w x);
@@ -168,69 +147,31 @@ pick_it w p x i a b credit h lt none first nobody m e =
       old_ins = ap (λ (g : Shown). g.ends.old_ins) e ∙ m.old_ins;
     }
 
-pick_steps : (credit : CreditSpec) (w : World) (i j : ℕ) (q : Parties) (p : Places) (b : Shown) → IsLawfulAt credit w → i + 1 < size w → (member_at w (i + 1)).current ≡ None → first_at_door (held_in w (i + 1)) ≡ Some j → NonePosted q (i + 1) → StandIn credit.initial w q p
-    → b ≡ record { held = picked_held (node_at q i).held; ends = record (node_at q i).ends { link = get_or (node_at q i).ends.door j None; door = without j (node_at q i).ends.door } }
-    → StandIn credit.initial (current_is w (i + 1) (Some (door_link w (i + 1) j))) (with_node q i b) p
-pick_steps credit w i j q p b h lt none first nobody st e =
-    let x : ℕ = i + 1 in
-    let s : ℕ = door_link w x j in
-    let w' : World = current_is w x (Some s) in
-    let a : MemberStands w p x (node_at q i) = stands_at credit.initial w q p i st lt in
-    let empty : filter (is_to w x) p.post ≡ [] = none_posted credit.initial w q p x st nobody in
-    let here : waits_for w x s ≡ true = door_waits w x s credit h none (picks_some w x j h.fit.good none first).found in
-    one_steps credit.initial w w' q (with_node q i b) p p i b (record {
-      lt = lt;
-      size_is = length-set w.members x (with_current (Some s) (member_at w x));
-      many = refl;
-      views = refl;
-      names = λ t. refl;
-      nodes = refl;
-      seen_views = refl;
-      seen_post = refl;
-      post = refl;
-      posted = λ t _. refl;
-      stopped = λ y some ly r. r ∙ sym (at_set (λ t z. is_stopped z.phase ≡ is_stopped (member_at w t).phase) w.members x y (with_current (Some s) (member_at w x)) no_member lt refl (λ _. refl));
-      it = pick_it w p x j (node_at q i) b credit h lt none first empty a e;
-      others = λ y some ly ne r.
-          let same : member_at w' y ≡ member_at w y = get_or-set_other w.members x y (with_current (Some s) (member_at w x)) no_member ne in
-          stays_stands w w' p p y (node_at q (y - 1)) (record {
-            stands = sym (pick_others w x y (Some s) ne);
-            doors = pick_other_door w x s lt none here y ne;
-            to = λ t. refl;
-            post = refl;
-            ins = λ t _. refl;
-            same_out = ap (λ (z : Member). z.out) same;
-            same_current = ap (λ (z : Member). z.current) same;
-            out = λ t _. refl;
-            link = λ t _. refl;
-          }) r;
-      carry = λ t tl has. carries_same credit.initial w w' t (p.outs t) (p.ins t) (pick_logs w x s lt none here) refl (st.carry t tl (sym (pick_open w x s lt none here t) ∙ has));
-    }) st
-
 pub pick_goes : (credit : CreditSpec) (w : World) (by : List ℕ) (i d : ℕ) (q q' : Parties) (loose : Option (LinkName × OutSeen)) → IsLawfulAt credit w → refusal w (Pick by) ≡ None → id_of w by ≡ Some (i + 1) → NonePosted q (i + 1) → Stand credit.initial w q → Acts (Pick by) i d q q' loose → StandLoose credit.initial (effect w (Pick by)) q' loose
 pick_goes credit w by i d q q' loose h enabled found nobody st (b, (j, first, eb), is, none_loose) =
     let x : ℕ = i + 1 in
     let lt : i + 1 < size w = (id_within w by x found).1 in
     let p : Places = st.places in
     let a : MemberStands w p x (node_at q i) = stands_at credit.initial w q p i st.stand lt in
+    let empty : filter (is_to w x) p.post ≡ [] = none_waits w q p x st.stand.post nobody in
     let acts = found_later (id_of w by) x (λ y. up_refusal w y (or_else (refuse_if (is_some (member_at w y).current) reason.HasCurrentLink) (pick_refusal w y))) found enabled in
-    let none : (member_at w x).current ≡ None = no_current (member_at w x).current (none_of (is_some (member_at w x).current) reason.HasCurrentLink (pick_refusal w x) (up_later w x _ acts)).0 in
-    let first_in : first_at_door (held_in w x) ≡ Some j = ap first_at_door (sym (whole_held w p x (node_at q i) a (none_posted credit.initial w q p x st.stand nobody))) ∙ first in
+    let none : (member_at w x).current ≡ None = none_is (member_at w x).current (none_of (is_some (member_at w x).current) reason.HasCurrentLink (pick_refusal w x) (up_later w x _ acts)).0 in
+    let first_in : first_at_door (held_in w x) ≡ Some j = ap first_at_door (sym (whole_held w p x (node_at q i) a empty)) ∙ first in
     let s : ℕ = door_link w x j in
     let at : at_door w x ≡ Some s = (picks_some w x j h.fit.good none first_in).found in
     let here : waits_for w x s ≡ true = door_waits w x s credit h none at in
     let w' : World = current_is w x (Some s) in
     let does : effect w (Pick by) ≡ w' = found_does (id_of w by) x w (λ y. at_found (at_door w y) w (λ t. current_is w y (Some t))) found ∙ found_does (at_door w x) s w (λ t. current_is w x (Some t)) at in
-    subst (λ v. StandLoose credit.initial v q' loose) (sym does)
-    (subst (λ r. StandLoose credit.initial w' r loose) (sym is)
-    (subst (StandLoose credit.initial w' (with_node q i b)) (sym none_loose)
-    (record {
-      places = p;
-      stand = pick_steps credit w i j q p b h lt none first_in nobody st.stand eb;
-      dropped = λ t tl has lost. inl (met_rested (has_out w t) (p.outs t) (p.ins t) (sym (pick_has_out w x s lt none here t) ∙ lost) (st.met t tl (sym (pick_open w x s lt none here t) ∙ has)));
-      known = known_still credit.initial w w' q p st refl (λ t _ _. record { out = pick_has_out w x s lt none here t; back = refl; grants = refl });
-    })))
-  where
-    no_current : (c : Option ℕ) → is_some c ≡ false → c ≡ None
-    no_current None k = refl
-    no_current (Some t) k = cc
+    goes_so credit.initial w' (effect w (Pick by)) (with_node q i b) q' loose does is none_loose
+    (steps credit w w' q q.stopped p i b st h lt (record {
+      leaves = pick_leaves w x s lt none here;
+      post = refl;
+      it = pick_it w p x j (node_at q i) b credit h lt none first_in empty a eb;
+      held = λ y ne. sym (pick_others w x y (Some s) ne);
+      told = same_phases w x (with_current (Some s) (member_at w x)) q.stopped lt refl;
+      outs = λ t _. refl;
+      ins = λ t _. refl;
+      carry = λ t _ c. carries_logs credit.initial w w' (link_at w t) (p.outs t) (p.ins t) (same_of (λ (z : Member). z.log) w x (with_current (Some s) (member_at w x)) lt refl) c;
+      rests = λ t o r. r;
+      knows = λ t _. (refl, refl);
+    }))

@@ -2,7 +2,7 @@
 use Rattle.std.proofs.Common.{◌≡◌, ℕ, ◌-◌, ◌<◌, ◌≤◌, Bool, true, false, cond, not, nat_eq, if◌then◌else◌, List, length, get_or, map, Option, Some, None, refl, sym, ap, subst, ◌∙◌, arith, ⊎_elim, inl, inr}
 use Rattle.std.specs.Prelude.{◌&&◌, ◌||◌, option_map, ◌⊎◌}
 use Rattle.std.specs.List.{filter, range_with_len, slice_get}
-use Rattle.std.proofs.lemmas.Bool.{false≢true, and_parts, cases_lt}
+use Rattle.std.proofs.lemmas.Bool.{false≢true, and_parts, cases_lt, or_right}
 use Rattle.std.proofs.lemmas.Option.{slice_get-map, slice_get_within, get_or_from_slice_get, slice_get-get_or}
 use Rattle.group_view.specs.declared.link.LinkName.{LinkName}
 use Rattle.group_view.specs.Ring.{is_in, AreDistinct}
@@ -18,6 +18,8 @@ use Rattle.ring_world.proofs.Views.{left_is}
 use Rattle.ring_world.proofs.Standing.{distinct_first}
 use Rattle.ring_world.proofs.Opening.{distinct_range, range_in}
 use Rattle.ring_world.proofs.Happens.{IsGood}
+use Rattle.ring_world.proofs.OpenWalk.{place_is}
+use Rattle.group_view.proofs.Truth.{later_true}
 use Rattle.gm_member.specs.Held.{Incoming}
 use Rattle.gm_member.specs.View.{ring_link}
 use Rattle.gm_member.specs.Shown.{in_name_of}
@@ -25,7 +27,7 @@ use Rattle.gm_member.specs.Stands.{incoming_in, waits_for, door_links}
 use Rattle.gm_member.proofs.OwnEnds.{OwnEnds}
 use Rattle.ring_cluster.specs.Parties.{Shown}
 use Rattle.ring_cluster.specs.Standing.{Places, MemberStands, name_of, is_to, has_in}
-use Rattle.ring_cluster.proofs.Reached.{HasEachId, in_range}
+use Rattle.ring_cluster.proofs.Reached.{HasEachId}
 use Rattle.ring_cluster.proofs.Writing.{in_filter, at_in, distinct_filter}
 
 -- ---- names
@@ -66,7 +68,7 @@ go_between w h ids_are = record {
     known : (s : ℕ) → s < length w.links → (q : ℕ) → is_in q (ids (view_at w (link_at w s).opened)) ≡ true → (1 ≤ q) × (q < size w)
     known s l q i =
         let now : is_in q (ring w) ≡ true = h.inv.history.grows q (link_at w s).opened (newest w) i (h.inv.linked.opened s l) (omega arith) in
-        let r = in_range 1 (size w - 1) q (sym (ap (is_in q) ids_are) ∙ now) in
+        let r = range_in 1 (size w - 1) q (sym (ap (is_in q) ids_are) ∙ now) in
         (r.0, omega (arith, r.0, r.1))
 
 -- ---- at a door
@@ -86,11 +88,7 @@ door_distinct w x = distinct_filter (waits_for w x) (range_with_len 0 (length w.
 
 -- it may be taken from
 pub waits_has : (w : World) (x s : ℕ) → (link_at w s).receiver ≡ x → waits_for w x s ≡ true → has_in w s ≡ true
-waits_has w x s to e = or_second (is_current w (link_at w s).receiver s) (waits_for w (link_at w s).receiver s) (ap (λ y. waits_for w y s) to ∙ e)
-  where
-    or_second : (a b : Bool) → b ≡ true → (a || b) ≡ true
-    or_second true b k = refl
-    or_second false b k = k
+waits_has w x s to e = or_right (is_current w (link_at w s).receiver s) (waits_for w (link_at w s).receiver s) (ap (λ y. waits_for w y s) to ∙ e)
 
 pub current_has : (w : World) (x s : ℕ) → OwnEnds w → (member_at w x).current ≡ Some s → has_in w s ≡ true
 current_has w x s o e =
@@ -105,12 +103,8 @@ has_parts w s e = by_case (is_current w (link_at w s).receiver s) refl e
     y : ℕ
     y = (link_at w s).receiver
 
-    place_is : (o : Option ℕ) → is_place o s ≡ true → o ≡ Some s
-    place_is None k = absurd (false≢true k)
-    place_is (Some t) k = ap Some (nat_eq-is t s k)
-
     by_case : (b : Bool) → is_current w y s ≡ b → (b || waits_for w y s) ≡ true → ((member_at w y).current ≡ Some s) ⊎ (waits_for w y s ≡ true)
-    by_case true k h = inl (place_is (member_at w y).current k)
+    by_case true k h = inl (place_is (member_at w y).current s k)
     by_case false k h = inr h
 
 -- ---- of a member that stands
@@ -123,11 +117,7 @@ stood_is w p x s m h e =
 -- and so is what waits for it
 pub posted_is : (w : World) (p : Places) (x s : ℕ) (m : Shown) → MemberStands w p x m → (link_at w s).receiver ≡ x → is_in s p.post ≡ true → (s < length w.links) × (waits_for w x s ≡ true) × ((link_at w s).receiver ≡ x)
 posted_is w p x s m h to e =
-    in_door_is w x s (ap (is_in s) h.comes ∙ is_in-append s h.door (filter (is_to w x) p.post) ∙ or_second (is_in s h.door) (is_in s (filter (is_to w x) p.post)) (in_filter (is_to w x) s p.post ∙ ap (λ b. b && is_in s p.post) (ap (λ y. nat_eq y x) to ∙ nat_eq-same x) ∙ e))
-  where
-    or_second : (a b : Bool) → b ≡ true → cond a true b ≡ true
-    or_second true b k = refl
-    or_second false b k = k
+    in_door_is w x s (ap (is_in s) h.comes ∙ is_in-append s h.door (filter (is_to w x) p.post) ∙ later_true (is_in s h.door) (in_filter (is_to w x) s p.post ∙ ap (λ b. b && is_in s p.post) (ap (λ y. nat_eq y x) to ∙ nat_eq-same x) ∙ e))
 
 -- it has none twice
 pub stood_once : (w : World) (p : Places) (x : ℕ) (m : Shown) (h : MemberStands w p x m) → AreDistinct h.door

@@ -1,25 +1,21 @@
 -- What holds in every state of every run, as the idle ring needs it.
-use Rattle.std.proofs.Common.{◌≡◌, ℕ, suc, zero, ◌+◌, ◌-◌, ◌<◌, ◌≤◌, Bool, true, false, cond, nat_eq, List, [], ◌∷◌, length, Option, Some, None, if◌then◌else◌, refl, sym, ap, ◌∙◌, arith}
+use Rattle.std.proofs.Common.{◌≡◌, ℕ, ◌+◌, ◌-◌, false, List, [], ◌∷◌, length, Some, None, refl, sym, ap, ◌∙◌, arith}
 use Rattle.std.specs.List.{range_with_len}
-use Rattle.std.proofs.lemmas.Bool.{false≢true}
 use Rattle.std.proofs.lemmas.List.{length-set, length_push}
 use Rattle.std.proofs.lemmas.List.FromFn.{length-map-range_with_len}
 use Rattle.ring_names.specs.declared.numbers.CreditSpec.{CreditSpec}
-use Rattle.group_view.specs.Ring.{is_in}
 use Rattle.group_view.specs.View.{ids as ids_of}
 use Rattle.group_view.specs.Change.{AreOpeningNames, opening_entries, marked}
-use Rattle.group_view.proofs.Rings.{nat_eq-is}
 use Rattle.ring_world.specs.declared.event.Event.{Event}
-use Rattle.ring_world.specs.declared.phase.Ending.{Ending}
-use Rattle.ring_world.specs.declared.phase.Ending.TheVariants.{Moved, Halted}
-use Rattle.ring_world.specs.View.{right_of}
-use Rattle.ring_world.specs.Machine.{Member, World, member_at, link_at, view_at, newest, ring, runs}
-use Rattle.ring_world.specs.Step.{size, published, taker, stopped, ended, stop_at, end_out, with_current, with_member, with_link, with_view, look_at, moved_to, open_to, opening, opening_member}
-use Rattle.ring_world.specs.Event.{send_to, refreshed, refusal, effect, IsRun, last}
+use Rattle.ring_world.specs.declared.phase.Ending.TheVariants.{Halted}
+use Rattle.ring_world.specs.Machine.{Member, World, member_at, view_at, newest, ring, runs}
+use Rattle.ring_world.specs.Step.{size, published, taker, stopped, stop_at, with_current, with_member, with_view, moved_to, opening, opening_member}
+use Rattle.ring_world.specs.Event.{refreshed, refusal, effect, IsRun, last}
 use Rattle.ring_world.proofs.Views.{view_new, ids-marked}
 use Rattle.ring_world.proofs.Parts.{run_keeps}
 use Rattle.ring_world.proofs.Cases.{each_event}
-use Rattle.ring_world.proofs.Happens.{IsGood, event_good, opening_good}
+use Rattle.ring_world.proofs.Composed.{end_composed, refresh_composed}
+use Rattle.ring_world.proofs.Happens.{IsGood, run_events, opening_good}
 use Rattle.ring_world.proofs.LinkCredit.{IsCredited, run_credited}
 use Rattle.gm_member.proofs.Fit.{IsFit, reached_fit}
 use Rattle.ring_cluster.proofs.Alive.{part_rests}
@@ -36,26 +32,9 @@ HasEachId w = ring w ≡ range_with_len 1 (size w - 1)
 set_ids : (w : World) (x : ℕ) (y : Member) → HasEachId w → HasEachId (with_member w x y)
 set_ids w x y h = h ∙ ap (λ n. range_with_len 1 (n - 1)) (sym (length-set w.members x y))
 
--- a link ends, or none
-end_ids : (why : Ending) (w : World) (o : Option ℕ) → HasEachId w → HasEachId (end_out why w o)
-end_ids why w None h = h
-end_ids why w (Some o) h = h
-
--- a link opens where it must
-send_ids : (w : World) (x z : ℕ) (o : Option ℕ) → HasEachId w → HasEachId (send_to w x z o)
-send_ids w x z None h = set_ids w x (record (member_at w x) { out = Some (length w.links) }) h
-send_ids w x z (Some o) h = by_test (nat_eq (link_at w o).receiver z)
-  where
-    w1 : World
-    w1 = with_link w o (ended Moved (link_at w o))
-
-    by_test : (b : Bool) → HasEachId (if b then w else open_to w1 x z)
-    by_test true = h
-    by_test false = set_ids w1 x (record (member_at w x) { out = Some (length w1.links) }) h
-
 -- a refresh
 refreshed_ids : (w : World) (x v : ℕ) → HasEachId w → HasEachId (refreshed w x v)
-refreshed_ids w x v h = send_ids (look_at w x v) x (right_of (view_at w v) x) (member_at w x).out (set_ids w x (moved_to w x v) h)
+refreshed_ids w x v h = refresh_composed HasEachId w x v (λ k _ g. g) (λ u _ g. set_ids u x (record (member_at u x) { out = Some (length u.links) }) g) (set_ids w x (moved_to w x v) h)
 
 -- a view more
 mark_ids : (w : World) (d : ℕ) → IsGood w → HasEachId w → HasEachId (with_view w (marked (view_at w (newest w)) d))
@@ -65,23 +44,22 @@ mark_ids w d g h =
     ap (λ a. ids_of a.entries) (view_new w v (newest (with_view w v)) more) ∙ ids-marked (view_at w (newest w)) d ∙ h
 
 -- one event more
-event_ids : (w : World) (e : Event) → IsGood w → HasEachId w → refusal w e ≡ None → HasEachId (effect w e)
-event_ids w e g h r = each_event HasEachId w e g.none_waits (record {
-  casts = λ x m lt up. set_ids w x (published x m (member_at w x)) h;
-  puts = λ x o lt up is. h;
-  takes = λ y s m. set_ids w y (taker w y s) h;
-  leaves = λ y s lt up is. set_ids w y (with_current None (member_at w y)) h;
-  gains = λ x o lt up is. h;
-  stops = λ x lt up. end_ids Halted (stop_at w x) (member_at w x).out (set_ids w x (stopped (member_at w x)) h);
-  marks = λ x d lt up rests. refreshed_ids (with_view w (marked (view_at w (newest w)) d)) x (newest w + 1) (mark_ids w d g h);
-  refreshes = λ x v m. refreshed_ids w x v h;
-  picks = λ y s lt up none at upto. set_ids w y (with_current (Some s) (member_at w y)) h;
+event_ids : (w : World) (e : Event) → IsGood w → refusal w e ≡ None → HasEachId w → HasEachId (effect w e)
+event_ids w e g r h = each_event HasEachId w e g.none_waits (record {
+  casts = λ x m u. set_ids w x (published x m (member_at w x)) h;
+  puts = λ x o u is k. h;
+  takes = λ y s u m. set_ids w y (taker w y s) h;
+  leaves = λ y s u is k. set_ids w y (with_current None (member_at w y)) h;
+  gains = λ x o u is k. h;
+  stops = λ x u. end_composed HasEachId Halted (stop_at w x) (member_at w x).out (λ k _ g. g) (set_ids w x (stopped (member_at w x)) h);
+  marks = λ x d u m. refreshed_ids (with_view w (marked (view_at w (newest w)) d)) x (newest w + 1) (mark_ids w d g h);
+  refreshes = λ x v u m. refreshed_ids w x v h;
+  picks = λ y s u none at upto. set_ids w y (with_current (Some s) (member_at w y)) h;
 }) r
 
 -- every event of a run
-run_ids : (w : World) (es : List Event) → IsGood w → HasEachId w → IsRun w es → HasEachId (last w es)
-run_ids w [] g h r = h
-run_ids w (e ∷ es) g h r = run_ids (effect w e) es (event_good w e g r.0) (event_ids w e g h r.0) r.1
+run_ids : (w : World) (es : List Event) → IsGood w → IsRun w es → HasEachId w → HasEachId (last w es)
+run_ids = run_events HasEachId event_ids
 
 -- the ids of the opening
 first_ids : (n : ℕ) (names : List (List ℕ)) → ids_of (opening_entries n names) ≡ range_with_len n (length names)
@@ -93,15 +71,6 @@ opening_ids : (credit : CreditSpec) (names : List (List ℕ)) → HasEachId (ope
 opening_ids credit names =
     let many : length names ≡ size (opening credit names) - 1 = omega (arith, length-map-range_with_len (opening_member names) 1 (length names)) in
     first_ids 1 names ∙ ap (range_with_len 1) many
-
--- who stands in a range
-pub in_range : (a n z : ℕ) → is_in z (range_with_len a n) ≡ true → (a ≤ z) × (z < a + n)
-in_range a zero z h = absurd (false≢true h)
-in_range a (suc n) z h = by_test (nat_eq z a) refl h (λ k. in_range (a + 1) n z k)
-  where
-    by_test : (b : Bool) → nat_eq z a ≡ b → cond b true (is_in z (range_with_len (a + 1) n)) ≡ true → (is_in z (range_with_len (a + 1) n) ≡ true → (a + 1 ≤ z) × (z < a + 1 + n)) → (a ≤ z) × (z < a + suc n)
-    by_test true e k ih = let is : z ≡ a = nat_eq-is z a e in (omega arith, omega arith)
-    by_test false e k ih = let i = ih k in (omega (arith, i.0), omega (arith, i.1))
 
 -- ---- all that holds
 
@@ -126,5 +95,5 @@ reached credit names es are r = record {
   credited = run_credited credit names es are r;
   goes = reached_goes credit names es are r;
   rests = run_keeps (λ w. runs w 0 ≡ false) (part_rests 0) (opening credit names) es (opening_good credit names are) r refl;
-  each_id = run_ids (opening credit names) es (opening_good credit names are) (opening_ids credit names) r;
+  each_id = run_ids (opening credit names) es (opening_good credit names are) r (opening_ids credit names);
 }

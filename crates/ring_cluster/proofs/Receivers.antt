@@ -1,5 +1,6 @@
 -- The links whose out ends meet go to members: where the other end is looked for is a place among them.
 use Rattle.std.proofs.Common.{◌≡◌, ℕ, ◌-◌, ◌<◌, ◌≤◌, Bool, true, false, not, length, Option, Some, None, refl, sym, subst, ◌∙◌}
+use Rattle.std.proofs.lemmas.Option.{none-some}
 use Rattle.std.specs.Prelude.{option_map}
 use Rattle.ring_names.specs.declared.numbers.CreditSpec.{CreditSpec}
 use Rattle.group_view.specs.declared.link.LinkName.{LinkName}
@@ -40,10 +41,7 @@ loosens_in w p x name o own go = by_out (member_at w x).out (λ s e. own.out x s
     by_out (Some s) k l = subst (GoesIn w) (sym (first_same (name, o) _ l.2)) (go.receiver s (k s refl).0)
 
 none_loose : (w : World) (name : LinkName) (loose : Option (LinkName × OutSeen)) (f : LinkName × OutSeen) → loose ≡ Some f → loose ≡ None → GoesIn w name
-none_loose w name loose f e k = absurd (nothing_is f (sym k ∙ e))
-  where
-    nothing_is : (f : LinkName × OutSeen) → None ≡ Some f → ⊥
-    nothing_is f e = cc
+none_loose w name loose f e k = absurd (none-some f (sym k ∙ e))
 
 pub loose_goes_in : (credit : CreditSpec) (w : World) (q q' : Parties) (v : Group) (x : ℕ) (name : LinkName) (o : OutSeen) → IsLawfulAt credit w → GoBetween w → 1 ≤ x → x < size w → Stand credit.initial w q → LooksAt v (x - 1) q q' (Some (name, o)) → GoesIn w name
 loose_goes_in credit w q q' v x name o g go a l st (b, new, how, is) = by_way _ _ _ _ (Some (name, o)) refl (sends_to m.held.out (right_of v m.held.id)) how

@@ -1,5 +1,5 @@
 -- A refresh of a stale member leaves less to do.
-use Rattle.std.proofs.Common.{◌≡◌, ◌≢◌, ℕ, ◌+◌, ◌-◌, ◌*◌, ◌<◌, ◌≤◌, Bool, true, false, not, nat_eq, List, [], ◌∷◌, length, get_or, Option, Some, None, is_some, if◌then◌else◌, refl, sym, ap, subst, ◌∙◌, ⊎_elim, arith}
+use Rattle.std.proofs.Common.{◌≡◌, ◌≢◌, ℕ, ◌+◌, ◌-◌, ◌*◌, ◌<◌, ◌≤◌, Bool, true, false, not, nat_eq, List, [], ◌∷◌, length, set, get_or, Option, Some, None, is_some, if◌then◌else◌, refl, sym, ap, subst, ◌∙◌, ⊎_elim, arith}
 use Rattle.std.specs.Prelude.{◌&&◌, option_map}
 use Rattle.std.specs.List.{sum_by}
 use Rattle.std.proofs.lemmas.Bool.{false≢true, cases_eq}
@@ -63,15 +63,23 @@ weighs_by w w' t b l same few grants place =
     sum i' i j p p' g g' b h k m n = omega arith
 
 module _ (w : World) (vs : List Group) (x v : ℕ) (f : IsFit w) (lt : x < size w) (top : v ≡ length vs - 1) where
+  -- where x is the member y, what holds of y there and of each member before holds of each
+  each : (y : Member) (P : ℕ → Member → Type 0) → P x y → ((q : ℕ) → P q (member_at w q)) → (q : ℕ) → P q (get_or (set w.members x y) q no_member)
+  each y P mine rest q = at_set P w.members x q y no_member lt mine (λ _. rest q)
+
+  -- the others are as they were
+  other : (y : Member) (q : ℕ) → q ≢ x → get_or (set w.members x y) q no_member ≡ member_at w q
+  other y q ne = get_or-set_other w.members x q y no_member ne
+
   -- where it sends there already
   looks_parts : sends_right (record w { views = vs }) x v ≡ true → IsGood (look_at (record w { views = vs }) x v) → IsLater w (look_at (record w { views = vs }) x v) → HasLooked w (look_at (record w { views = vs }) x v) vs x
   looks_parts sends good later = record {
     many = many;
     views = refl;
-    others = λ q ne. get_or-set_other w.members x q y no_member ne;
+    others = other y;
     not_stale = ap (stale_by (newest w')) (get_or-set_same w.members x y no_member lt) ∙ looks_not_stale (newest w') y top (by_out (member_at w x).out sends);
-    dirty = same_dirty w w' many (each (λ k z. z.rows ≡ (member_at w k).rows) refl (λ _. refl)) (each (λ k z. z.out ≡ (member_at w k).out) refl (λ _. refl)) (λ q j _. refl);
-    lag = same_lag w w' many (each (λ k z. z.rows ≡ (member_at w k).rows) refl (λ _. refl)) (each (λ k z. z.log ≡ (member_at w k).log) refl (λ _. refl));
+    dirty = same_dirty w w' many (each y (λ k z. z.rows ≡ (member_at w k).rows) refl (λ _. refl)) (each y (λ k z. z.out ≡ (member_at w k).out) refl (λ _. refl)) (λ q j _. refl);
+    lag = same_lag w w' many (each y (λ k z. z.rows ≡ (member_at w k).rows) refl (λ _. refl)) (each y (λ k z. z.log ≡ (member_at w k).log) refl (λ _. refl));
     links = omega (arith, links);
   }
     where
@@ -87,9 +95,6 @@ module _ (w : World) (vs : List Group) (x v : ℕ) (f : IsFit w) (lt : x < size 
       many : size w' ≡ size w
       many = length-set w.members x y
 
-      each : (P : ℕ → Member → Type 0) → P x y → ((q : ℕ) → P q (member_at w q)) → (q : ℕ) → P q (member_at w' q)
-      each P here other q = at_set P w.members x q y no_member lt here (λ _. other q)
-
       by_out : (o : Option ℕ) → sends_to (option_map (outgoing_in u) o) (right_of (view_at u v) x) ≡ true → is_some o ≡ true
       by_out None k = absurd (false≢true k)
       by_out (Some o) k = refl
@@ -103,10 +108,10 @@ module _ (w : World) (vs : List Group) (x v : ℕ) (f : IsFit w) (lt : x < size 
   opens_parts good later = record {
     many = many;
     views = refl;
-    others = other;
+    others = other y;
     not_stale = ap (stale_by (newest w')) here ∙ looks_not_stale (newest w') y top refl;
     dirty = sum_le n (size w') (dirty_at n w) (dirty_at (size w') w') many (λ k _. dirties k);
-    lag = same_lag w w' many (each (λ k z. z.rows ≡ (member_at w k).rows) refl (λ _. refl)) (each (λ k z. z.log ≡ (member_at w k).log) refl (λ _. refl));
+    lag = same_lag w w' many (each y (λ k z. z.rows ≡ (member_at w k).rows) refl (λ _. refl)) (each y (λ k z. z.log ≡ (member_at w k).log) refl (λ _. refl));
     links = sum_more (length w.links) (length w'.links) (weight_at w) (weight_at w') 2 4 (links_more u x v) (by_out (member_at w x).out refl) new;
   }
     where
@@ -125,14 +130,8 @@ module _ (w : World) (vs : List Group) (x v : ℕ) (f : IsFit w) (lt : x < size 
       many : size w' ≡ size w
       many = length-set w.members x y
 
-      each : (P : ℕ → Member → Type 0) → P x y → ((q : ℕ) → P q (member_at w q)) → (q : ℕ) → P q (member_at w' q)
-      each P mine rest q = at_set P w.members x q y no_member lt mine (λ _. rest q)
-
       here : member_at w' x ≡ y
       here = get_or-set_same w.members x y no_member lt
-
-      other : (q : ℕ) → q ≢ x → member_at w' q ≡ member_at w q
-      other q ne = get_or-set_other w.members x q y no_member ne
 
       -- x has sent all that it has
       sent_all : dirty_at n w' x ≡ 0
@@ -148,7 +147,7 @@ module _ (w : World) (vs : List Group) (x v : ℕ) (f : IsFit w) (lt : x < size 
           (λ (same : k ≡ x). let none : dirty_at n w' k ≡ 0 = ap (dirty_at n w') same ∙ sent_all in omega (arith, sized, none))
           (λ (ne : k ≢ x).
           let same : dirty_at n w' k ≡ dirty_at n w k =
-          dirty_same n w w' k (ap (λ (m : Member). m.rows) (other k ne)) (ap (λ (m : Member). m.out) (other k ne)) (λ j e. ap (λ (a : Link). a.sending) (link_old u x v j (f.own_ends.out k j e).0)) in
+          dirty_same n w w' k (ap (λ (m : Member). m.rows) (other y k ne)) (ap (λ (m : Member). m.out) (other y k ne)) (λ j e. ap (λ (a : Link). a.sending) (link_old u x v j (f.own_ends.out k j e).0)) in
           omega (arith, sized, same))
           (cases_eq k x)
 

@@ -30,7 +30,8 @@ use Rattle.ring_cluster.proofs.Showing.{stands_of, each_set}
 use Rattle.ring_cluster.proofs.Meetings.{waiting_at}
 use Rattle.ring_cluster.proofs.Collections.{filter_map}
 use Rattle.ring_cluster.proofs.Known.{known_still}
-use Rattle.ring_cluster.proofs.Lookers.{filter_both, carries_same, looker, beholder, had_before}
+use Rattle.ring_cluster.proofs.Frames.{carries_logs}
+use Rattle.ring_cluster.proofs.Lookers.{filter_both, looker, beholder, had_before}
 
 -- ---- the conditions
 
@@ -131,7 +132,7 @@ looks_on initial u x v q b k e st none eb = subst (λ w. StandBetween initial w 
     post = st.stand.post;
     within = st.stand.within;
   })
-      (λ s l h. carries_same initial u u' (link_at u s) (p.outs s) (p.ins s) after.logs (st.stand.carry s l (look_has u u' x v s k.own after l h)));
+      (λ s l h. carries_logs initial u u' (link_at u s) (p.outs s) (p.ins s) after.logs (st.stand.carry s l (look_has u u' x v s k.own after l h)));
   dropped = λ s l h o. inl (subst (λ c. HaveDone c (p.outs s) (p.ins s)) (sym (outs s) ∙ o) (st.met s l (look_has u u' x v s k.own after l h)));
   fits = λ s o l h c. cc;
   known = known_still initial u u' q p st refl (λ s _ _. record { out = outs s; back = refl; grants = refl });

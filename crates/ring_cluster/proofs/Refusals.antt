@@ -1,19 +1,20 @@
 -- What a member of a cluster whose ends have met refuses, the ring refuses, for the same reason.
 use Rattle.std.proofs.Common.{◌≡◌, ℕ, ◌-◌, ◌<◌, ◌≤◌, true, List, [], ◌∷◌, ◌++◌, length, map, Option, Some, None, is_some, refl, sym, ap, ◌∙◌, append-nil}
+use Rattle.std.proofs.lemmas.Option.{none-some}
 use Rattle.std.specs.Prelude.{option_map, slice_index_or}
 use Rattle.ring_names.specs.declared.message.Message.TheVariants as message
 use Rattle.ring_names.specs.declared.numbers.CreditSpec.{CreditSpec}
 use Rattle.ring_names.specs.declared.reason.Reason.{Reason}
 use Rattle.ring_names.specs.declared.reason.Reason.TheVariants as reason
 use Rattle.ring_world.specs.declared.event.Event.{Event}
-use Rattle.ring_world.specs.declared.event.Event.TheVariants.{Cast, Put, Take, TakeEnd, Gain, Stop, Mark, Refresh, Pick}
+use Rattle.ring_world.specs.declared.event.Event.TheVariants.{Cast, Put, Take, TakeEnd, Gain, Stop, Pick}
 use Rattle.ring_world.specs.declared.phase.Phase.{Phase}
 use Rattle.ring_world.specs.declared.phase.Phase.TheVariants.{Waiting, Up, Stopped}
 use Rattle.ring_world.specs.declared.phase.Ending.{Ending}
 use Rattle.ring_world.specs.Refusal.{refuse_if, or_else, is_empty}
 use Rattle.ring_world.specs.Machine.{World, Packet, no_packet, member_at, link_at, runs, runs_phase, is_waiting}
 use Rattle.ring_world.specs.Step.{size}
-use Rattle.ring_world.specs.Event.{id_of, of_member, on_link, is_stopped, running_refusal, up_refusal, put_refusal, take_refusal, end_refusal, gain_refusal, mark_refusal, refresh_refusal, pick_refusal, version_refusal, refusal}
+use Rattle.ring_world.specs.Event.{by_of, refused_at, id_of, of_member, on_link, is_stopped, up_refusal, take_refusal, end_refusal, gain_refusal, pick_refusal, version_refusal, refusal}
 use Rattle.gm_member.specs.Held.{Held, up_refused, put_refused, take_refused, active_refused, pick_refused, on_some}
 use Rattle.gm_member.specs.Stands.{held_in, outgoing_in}
 use Rattle.gm_member.proofs.Facts.{version_is}
@@ -24,45 +25,33 @@ use Rattle.gm_member.proofs.Refusals.{publish_refusal_is, stop_refusal_is, take_
 use Rattle.ring_cluster.specs.Ends.{packet_in, end_items, items_in, Carries, HaveMet}
 use Rattle.ring_cluster.specs.Parties.{Shown, Parties, node_at}
 use Rattle.ring_cluster.specs.Standing.{Places, MemberStands, StandIn, Stand, AllHaveMet, has_in, has_out}
-use Rattle.ring_cluster.specs.Acting.{by_of, first_item, items_refused, end_refused, back_refused, back_of, cast_refused, packet_refused, link_end_refused, grant_refused, stop_refused}
+use Rattle.ring_cluster.specs.Acting.{first_item, items_refused, end_refused, back_refused, back_of, cast_refused, packet_refused, link_end_refused, grant_refused, stop_refused}
 use Rattle.ring_cluster.proofs.Lawful.{IsLawfulAt}
 use Rattle.ring_cluster.proofs.NamedLinks.{out_is_open, out_has, current_has}
 use Rattle.ring_cluster.proofs.OneEvent.{held_but_door, met_both}
-use Rattle.ring_cluster.proofs.PickGoes.{NonePosted, none_posted, whole_held}
+use Rattle.ring_cluster.proofs.Lookers.{whole_held}
+use Rattle.ring_cluster.proofs.Refreshing.{none_waits}
+use Rattle.ring_cluster.proofs.PickGoes.{NonePosted}
 use Rattle.ring_cluster.proofs.Ready.{all_settled, settled_items}
 
 -- ---- nobody of that name
 
 pub unknown : (w : World) (e : Event) → id_of w (by_of e) ≡ None → refusal w e ≡ Some reason.UnknownMember
-unknown w (Cast by body) e = ap (λ o. of_member o (λ x. up_refusal w x None)) e
-unknown w (Put by) e = ap (λ o. of_member o (λ x. up_refusal w x (on_link (member_at w x).out reason.NoOutLink (put_refusal w x)))) e
-unknown w (Take by) e = ap (λ o. of_member o (λ x. running_refusal w x (on_link (member_at w x).current reason.NoCurrentLink (take_refusal w x)))) e
-unknown w (TakeEnd by) e = ap (λ o. of_member o (λ x. running_refusal w x (on_link (member_at w x).current reason.NoCurrentLink (end_refusal w)))) e
-unknown w (Gain by) e = ap (λ o. of_member o (λ x. up_refusal w x (on_link (member_at w x).out reason.NoOutLink (gain_refusal w)))) e
-unknown w (Stop by) e = ap (λ o. of_member o (λ x. running_refusal w x None)) e
-unknown w (Mark by dead) e = ap (λ o. of_member o (λ x. up_refusal w x (of_member (id_of w dead) (mark_refusal w x)))) e
-unknown w (Refresh by version) e = ap (λ o. of_member o (λ x. up_refusal w x (refresh_refusal w x version))) e
-unknown w (Pick by) e = ap (λ o. of_member o (λ x. up_refusal w x (or_else (refuse_if (is_some (member_at w x).current) reason.HasCurrentLink) (pick_refusal w x)))) e
+unknown w e none = ap (λ o. of_member o (refused_at w e)) none
 
 -- ---- what stands first on a link
 
 -- by its items, why no packet is taken
 taken_by_items : (w : World) (y s have : ℕ) (ks : List Packet) (e : Option Ending) → (link_at w s).packets ≡ ks → (link_at w s).ending ≡ e → have ≡ (member_at w y).version → take_refusal w y s ≡ items_refused have (map (packet_in w) ks ++ end_items e)
 taken_by_items w y s have [] None ek ee ev = nothing_to_take w y s ek ee
-taken_by_items w y s have [] (Some why) ek ee ev = end_is_next w y s ek (λ k. some_not_none why (sym ee ∙ k))
-  where
-    some_not_none : (a : Ending) → Some a ≡ None → ⊥
-    some_not_none a k = cc
+taken_by_items w y s have [] (Some why) ek ee ev = end_is_next w y s ek (λ k. none-some why (sym k ∙ ee))
 taken_by_items w y s have (k ∷ ks) e ek ee ev =
     packet_by_version w y s (ap is_empty ek) ∙ ap (λ ps. version_refusal (slice_index_or ps 0 no_packet).version (member_at w y).version) ek ∙ ap (version_refusal k.version) (sym ev)
 
 -- and why no end
 ended_by_items : (w : World) (s : ℕ) (ks : List Packet) (e : Option Ending) → (link_at w s).packets ≡ ks → (link_at w s).ending ≡ e → end_refusal w s ≡ end_refused (map (packet_in w) ks ++ end_items e)
 ended_by_items w s [] None ek ee = no_end_to_take w s ek ee
-ended_by_items w s [] (Some why) ek ee = end_may w s ek (λ k. some_not_none why (sym ee ∙ k))
-  where
-    some_not_none : (a : Ending) → Some a ≡ None → ⊥
-    some_not_none a k = cc
+ended_by_items w s [] (Some why) ek ee = end_may w s ek (λ k. none-some why (sym k ∙ ee))
 ended_by_items w s (k ∷ ks) e ek ee = packet_is_next w s (ap is_empty ek)
 
 -- the items that the member has
@@ -145,5 +134,5 @@ module _ (credit : CreditSpec) (w : World) (q : Parties) (x : ℕ) (h : IsLawful
 
   pub pick_refusal_is : NonePosted q x → pick_refused (node_at q (x - 1)).held ≡ refusal w (Pick (member_at w x).name)
   pick_refusal_is nobody =
-      ap pick_refused (whole_held w p x m stands (none_posted credit.initial w q p x st.stand nobody)) ∙ pick_refuses w x h.fit.good
+      ap pick_refused (whole_held w p x m stands (none_waits w q p x st.stand.post nobody)) ∙ pick_refuses w x h.fit.good
       ∙ sym (ap (λ o. of_member o (λ y. up_refusal w y (or_else (refuse_if (is_some (member_at w y).current) reason.HasCurrentLink) (pick_refusal w y)))) (h.fit.named x some lt))

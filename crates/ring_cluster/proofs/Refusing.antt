@@ -34,6 +34,7 @@ use Rattle.ring_cluster.specs.Acting.{look_refused, newest_of, waits_at}
 use Rattle.ring_cluster.proofs.Lawful.{IsLawfulAt}
 use Rattle.ring_cluster.proofs.Handing.{registrar_stands}
 use Rattle.ring_cluster.proofs.Marking.{held_whole, newest_is}
+use Rattle.ring_cluster.proofs.Truth.{made_some}
 
 -- ---- a refresh
 
@@ -72,12 +73,8 @@ up_same w x a b h = by_phase (member_at w x).phase h
 tells : (w : World) (x : ℕ) → IsGood w → (is_some (held_in w x).current || is_some (first_at_door (held_in w x))) ≡ (is_some (member_at w x).current || is_some (at_door w x))
 tells w x h = by_current (member_at w x).current refl
   where
-    some_map : {A B : Type 0} (f : A → B) (o : Option A) → is_some (option_map f o) ≡ is_some o
-    some_map f None = refl
-    some_map f (Some a) = refl
-
     by_current : (c : Option ℕ) → (member_at w x).current ≡ c → (is_some (option_map (incoming_in w) c) || is_some (first_at_door (held_in w x))) ≡ (is_some c || is_some (at_door w x))
-    by_current None e = sym (some_map _ (first_at_door (held_in w x))) ∙ ap is_some (first_is w x h e)
+    by_current None e = sym (made_some _ (first_at_door (held_in w x))) ∙ ap is_some (first_is w x h e)
     by_current (Some s) e = refl
 
 module _ {I : Type 0} where

@@ -22,9 +22,11 @@ use Rattle.ring_world.specs.Quiet.{IsSettled, IsAtRest, IsQuiet}
 use Rattle.ring_world.proofs.Good.{low, low_forgot}
 use Rattle.ring_world.proofs.Views.{left_is}
 use Rattle.ring_world.proofs.Ended.{runs_lt}
+use Rattle.group_view.proofs.Truth.{later_true}
+use Rattle.ring_world.proofs.Opening.{range_in}
 use Rattle.ring_cluster.specs.Idle.{IsIdle, NobodyStopped}
 use Rattle.ring_cluster.proofs.Round.{round_same}
-use Rattle.ring_cluster.proofs.Reached.{IsReached, reached, in_range}
+use Rattle.ring_cluster.proofs.Reached.{IsReached, reached}
 use Rattle.ring_cluster.proofs.Links.{IsEven, up_there, some_id, stands_there, lives_there, open_holds_nothing, neighbours_agree}
 
 -- ---- entries
@@ -51,11 +53,7 @@ settled_runs w (e ∷ es) z h l = by_test (nat_eq e.id.0 z) refl l (λ k. settle
 pub id_in : (es : List Entry) (k : ℕ) (d : Entry) → k < length es → is_in (get_or es k d).id.0 (ids_of es) ≡ true
 id_in [] k d l = absurd (omega arith)
 id_in (e ∷ es) zero d l = rw (nat_eq-same e.id.0) refl
-id_in (e ∷ es) (suc k) d l = later (nat_eq (get_or es k d).id.0 e.id.0) (id_in es k d (omega arith))
-  where
-    later : {c : Bool} (b : Bool) → c ≡ true → cond b true c ≡ true
-    later true j = refl
-    later false j = j
+id_in (e ∷ es) (suc k) d l = later_true (nat_eq (get_or es k d).id.0 e.id.0) (id_in es k d (omega arith))
 
 -- and the entry of that id
 pub entry_at : (es : List Entry) (k : ℕ) (d : Entry) → AreDistinct (ids_of es) → k < length es → entry_in es (get_or es k d).id.0 ≡ get_or es k d
@@ -76,7 +74,7 @@ all_settled w h up k d lt = record { not_dead = λ dead. let bad : Live ≡ Dead
     z = (get_or es k d).id.0
 
     within : (1 ≤ z) × (z < 1 + (size w - 1))
-    within = in_range 1 (size w - 1) z (ap (is_in z) (sym h.each_id) ∙ id_in es k d lt)
+    within = range_in 1 (size w - 1) z (ap (is_in z) (sym h.each_id) ∙ id_in es k d lt)
 
     rz : runs w z ≡ true
     rz = ap runs_phase (up z within.0 (omega (arith, within.0, within.1)))

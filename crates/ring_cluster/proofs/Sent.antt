@@ -1,6 +1,6 @@
 -- What was last sent over a current link that holds no packet, its receiver has.
 use Rattle.std.proofs.Common.{◌≡◌, ◌≢◌, ℕ, ◌+◌, ◌<◌, ◌≤◌, Bool, true, false, not, nat_eq, List, [], ◌∷◌, ◌++◌, length, drop, get_or, set, Option, Some, None, is_some, refl, sym, ap, subst, ◌∙◌, ⊎_elim, if◌then◌else◌, arith}
-use Rattle.std.proofs.lemmas.Bool.{and_parts, false≢true, cases_eq}
+use Rattle.std.proofs.lemmas.Bool.{and_parts, false≢true, cases_eq, not-true}
 use Rattle.std.proofs.lemmas.List.{length-set, get_or-set_other}
 use Rattle.std.proofs.lemmas.List.Quantifiers.{position-Some}
 use Rattle.ring_names.specs.declared.message.Message.{Message}
@@ -27,7 +27,7 @@ use Rattle.ring_world.proofs.Kept.{Inv}
 use Rattle.ring_world.proofs.KeptLook.{kept_current-Some}
 use Rattle.ring_world.proofs.KeptCast.{gained_rows}
 use Rattle.ring_world.proofs.KeptMore.{mark_keeps}
-use Rattle.ring_world.proofs.Happens.{IsGood, event_good, opening_good, door_pickable}
+use Rattle.ring_world.proofs.Happens.{IsGood, run_events, opening_good, door_pickable}
 use Rattle.ring_world.proofs.Cases.{each_event}
 use Rattle.ring_world.proofs.First.{first_row, first_link}
 use Rattle.ring_world.proofs.Lines.{IsChain, HasFirst, LinesRight, Still}
@@ -192,14 +192,10 @@ pick_has w y s yl ry none door kept lines h z t p r e l empty =
     found : (s < length w.links) × (is_at_door w y (link_at w s) ≡ true)
     found = let f = position-Some (is_at_door w y) w.links s no_link door in (f.0, f.1)
 
-    opposite : (b : Bool) → not b ≡ true → b ≡ false
-    opposite true k = absurd (false≢true k)
-    opposite false k = refl
-
     first : HasFirst (link_at w s).packets
     first =
         let a = and_parts (nat_eq (link_at w s).receiver y) _ found.1 in
-        lines.untouched y s found.0 ry (nat_eq-is (link_at w s).receiver y a.0) (opposite (link_at w s).over (and_parts (not (link_at w s).over) _ a.1).0) kept (λ c. false≢true (sym none ∙ ap is_some c))
+        lines.untouched y s found.0 ry (nat_eq-is (link_at w s).receiver y a.0) (not-true (link_at w s).over (and_parts (not (link_at w s).over) _ a.1).0) kept (λ c. false≢true (sym none ∙ ap is_some c))
 
     has_none : (ks : List Packet) → HasFirst ks → ks ≢ []
     has_none [] f k = f
@@ -267,26 +263,25 @@ mark_has w x d lt rx rests same good h =
 -- ---- every state of every run
 
 -- one event more
-event_has : (w : World) (e : Event) → IsGood w → LinesRight w → HasSent w → refusal w e ≡ None → HasSent (effect w e)
-event_has w e g lines h r = each_event HasSent w e g.none_waits (record {
-  casts = λ x m lt up. still_has w (publish_at w x m) (cast_still w x m lt) (cast_rows w x m lt) h;
-  puts = λ x o lt up out. put_has w x o (g.inv.linked.out_lt x o (ap runs_phase up) out) h;
-  takes = λ y s m. take_has w y s m g.inv lines h;
-  leaves = λ y s lt up current. leave_has w y s lt (g.inv.current.lt y s (ap runs_phase up) current) current h;
-  gains = λ x o lt up out. still_has w (gain_on w o) (gain_still w o (g.inv.linked.out_lt x o (ap runs_phase up) out)) (no_rows w (gain_on w o) refl) h;
-  stops = λ x lt up. stop_has w x lt (ap runs_phase up) g.inv h;
-  marks = λ x d lt up rests. mark_has w x d lt (ap runs_phase up) rests (mark_ids w x d up g) g h;
-  refreshes = λ x v m.
+event_has : (w : World) (e : Event) → IsGood w → refusal w e ≡ None → LinesRight w → HasSent w → HasSent (effect w e)
+event_has w e g r lines h = each_event HasSent w e g.none_waits (record {
+  casts = λ x m u. still_has w (publish_at w x m) (cast_still w x m u.lt) (cast_rows w x m u.lt) h;
+  puts = λ x o u out k. put_has w x o (g.inv.linked.out_lt x o (ap runs_phase u.up) out) h;
+  takes = λ y s u m. take_has w y s m g.inv lines h;
+  leaves = λ y s u current k. leave_has w y s u.lt (g.inv.current.lt y s (ap runs_phase u.up) current) current h;
+  gains = λ x o u out k. still_has w (gain_on w o) (gain_still w o (g.inv.linked.out_lt x o (ap runs_phase u.up) out)) (no_rows w (gain_on w o) refl) h;
+  stops = λ x u. stop_has w x u.lt (ap runs_phase u.up) g.inv h;
+  marks = λ x d u m. mark_has w x d u.lt (ap runs_phase u.up) (ap runs_phase m.rests) (mark_ids w x d u.up g) g h;
+  refreshes = λ x v u m.
       let rx : runs w x ≡ true = ap runs_phase m.up in
       let some : 1 ≤ v = omega (arith, version_some w x g.inv.is_ring g.views rx, m.later) in
       refresh_has w x v m.is_member rx m.later (view_ids w v g.views some m.upto ∙ sym (own_ids w x g.inv.is_ring g.views rx)) g.inv h;
-  picks = λ y s lt up none door upto. pick_has w y s lt (ap runs_phase up) none door ((door_pickable w y s lt up door upto g).kept_yet s refl) lines h;
+  picks = λ y s u none door upto. pick_has w y s u.lt (ap runs_phase u.up) (ap is_some none) door ((door_pickable w y s u.lt u.up door upto g).kept_yet s refl) lines h;
 }) r
 
 -- every event of a run
-run_has : (w : World) (es : List Event) → IsGood w → LinesRight w → HasSent w → IsRun w es → HasSent (last w es)
-run_has w [] g lines h r = h
-run_has w (e ∷ es) g lines h r = run_has (effect w e) es (event_good w e g r.0) (event_lines w e g lines r.0) (event_has w e g lines h r.0) r.1
+run_has : (w : World) (es : List Event) → IsGood w → IsRun w es → LinesRight w × HasSent w → LinesRight (last w es) × HasSent (last w es)
+run_has = run_events (λ w. LinesRight w × HasSent w) (λ w e g r h. (event_lines w e g r h.0, event_has w e g r h.0 h.1))
 
 -- nobody knows anything, and nothing was sent
 opening_has : (credit : CreditSpec) (names : List (List ℕ)) → HasSent (opening credit names)
@@ -304,4 +299,4 @@ opening_has credit names y s p r e l empty =
 pub reached_has : (credit : CreditSpec) (names : List (List ℕ)) (es : List Event) → AreOpeningNames names → IsRun (opening credit names) es → HasSent (last (opening credit names) es)
 reached_has credit names es are r =
     let good : IsGood (opening credit names) = opening_good credit names are in
-    run_has (opening credit names) es good (reached_lines credit names [] are tt) (opening_has credit names) r
+    (run_has (opening credit names) es good r (reached_lines credit names [] are tt, opening_has credit names)).1

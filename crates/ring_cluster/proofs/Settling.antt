@@ -1,7 +1,7 @@
 -- When a cluster has nothing left to do.
 use Rattle.std.proofs.Common.{◌≡◌, ◌≢◌, ℕ, zero, suc, ◌+◌, ◌-◌, ◌<◌, ◌≤◌, Bool, true, false, not, nat_eq, List, length, Option, Some, None, is_some, refl, sym, ap, subst, ◌∙◌, arith}
 use Rattle.std.specs.Prelude.{◌&&◌}
-use Rattle.std.proofs.lemmas.Bool.{false≢true}
+use Rattle.std.proofs.lemmas.Bool.{false≢true, not-false}
 use Rattle.ring_script.specs.declared.command.Command.{Command}
 use Rattle.group_view.specs.Ring.{is_in}
 use Rattle.group_view.specs.View.{right_of as right_of_entries}
@@ -16,6 +16,7 @@ use Rattle.ring_world.proofs.Period.{right_lives}
 use Rattle.ring_world.proofs.Views.{right_is}
 use Rattle.ring_world.proofs.Ended.{runs_lt}
 use Rattle.ring_world.proofs.Put.{runs_phase-Up}
+use Rattle.ring_world.proofs.Opening.{range_in}
 use Rattle.ring_cluster.specs.declared.driver.OwnStep.TheVariants as step
 use Rattle.ring_cluster.specs.Idle.{HasNothingToDo, IsIdle, NobodyStopped, MarksNobody}
 use Rattle.ring_cluster.specs.Work.{is_stale}
@@ -23,7 +24,7 @@ use Rattle.ring_cluster.specs.Seen.{Seen, state_of, IsGoing, SameButOwed}
 use Rattle.ring_cluster.specs.Plays.{AgendasAreDone, AgendasAreEmpty}
 use Rattle.ring_cluster.specs.Turns.{SamePhases, MayStep, MayStepNowhere, MarksNoneAt, RestsAt}
 use Rattle.ring_cluster.proofs.Owed.{but_trans}
-use Rattle.ring_cluster.proofs.Reached.{IsReached, reached, in_range}
+use Rattle.ring_cluster.proofs.Reached.{IsReached, reached}
 use Rattle.ring_cluster.proofs.Rest.{run_idle_is_quiet}
 use Rattle.ring_cluster.proofs.Named.{going_many}
 
@@ -37,7 +38,7 @@ pub right_there : (w : World) (x : ℕ) → IsReached w → runs w x ≡ true �
 right_there w x h r =
     let d : ℕ = right w (newest w) x in
     let lives : is_live (view_at w (newest w)) x ≡ true = h.fit.good.inv.is_ring.lives x (newest w) r (h.fit.good.inv.is_ring.held x) (omega arith) in
-    let k = in_range 1 (size w - 1) d (ap (is_in d) (sym h.each_id) ∙ live_in (view_at w (newest w)).entries d (right_lives w (newest w) x lives)) in
+    let k = range_in 1 (size w - 1) d (ap (is_in d) (sym h.each_id) ∙ live_in (view_at w (newest w)).entries d (right_lives w (newest w) x lives)) in
     (k.0, omega (arith, k.0, k.1))
 
 -- the view finds it
@@ -49,11 +50,7 @@ right_found w x h r =
 -- ---- who has nothing to do
 
 not_stale : (a b : Bool) → not (a && b) ≡ false → (a ≡ true) × (b ≡ true)
-not_stale true b e = (refl, is_true b e)
-  where
-    is_true : (b : Bool) → not b ≡ false → b ≡ true
-    is_true true e = refl
-    is_true false e = absurd (false≢true (sym e))
+not_stale true b e = (refl, not-false b e)
 not_stale false b e = absurd (false≢true (sym e))
 
 there : {A : Type 0} (o : Option A) → is_some o ≡ true → o ≢ None

@@ -1,7 +1,7 @@
 -- The parties stand as before where one end of a link shows something else.
-use Rattle.std.proofs.Common.{◌≡◌, ◌≢◌, ℕ, ◌+◌, ◌-◌, ◌<◌, ◌≤◌, Bool, true, false, nat_eq, if◌then◌else◌, ◌∷◌, length, get_or, set, map, Some, refl, sym, ap, subst, ◌∙◌, arith, ⊎_elim}
+use Rattle.std.proofs.Common.{◌≡◌, ◌≢◌, ℕ, ◌+◌, ◌-◌, ◌<◌, ◌≤◌, true, false, nat_eq, if◌then◌else◌, List, ◌∷◌, Option, length, get_or, set, map, Some, refl, sym, ap, subst, ◌∙◌, arith, ⊎_elim}
 use Rattle.std.specs.Prelude.{option_map}
-use Rattle.std.proofs.lemmas.Bool.{false≢true, cases_eq}
+use Rattle.std.proofs.lemmas.Bool.{false≢true, cases_eq, false_from_ne_true}
 use Rattle.std.proofs.lemmas.List.{length-set, get_or-set_same, get_or-set_other}
 use Rattle.group_view.specs.Ring.{is_in}
 use Rattle.group_view.specs.Since.{no_group}
@@ -59,12 +59,13 @@ each_set w w' q p p' x b count a l here other z c m = ⊎_elim
 
 -- ---- an out end
 
-out_other : (w : World) (p : Places) (x s : ℕ) (o : OutSeen) (m : Shown) → ((member_at w x).out ≡ Some s → ⊥) → MemberStands w p x m → MemberStands w (with_outs p s o) x m
-out_other w p x s o m none h = record {
+-- a member stands with an out end that shows what stands at its place
+out_as : (w : World) (p : Places) (x s : ℕ) (o : OutSeen) (m : Shown) (out : Option OutSeen) → out ≡ option_map (placed p.outs s o) (member_at w x).out → MemberStands w p x m → MemberStands w (with_outs p s o) x (record m { ends = record m.ends { out = out } })
+out_as w p x s o m out e h = record {
   door = h.door;
   comes = h.comes;
   held = h.held;
-  out = h.out ∙ there_same p.outs (placed p.outs s o) (member_at w x).out (λ k e. sym (placed_other p.outs s o k (λ (same : k ≡ s). none (e ∙ ap Some same))));
+  out = e;
   kept = h.kept;
   link = h.link;
   ends = h.ends;
@@ -72,18 +73,12 @@ out_other w p x s o m none h = record {
   old_ins = h.old_ins;
 }
 
+out_other : (w : World) (p : Places) (x s : ℕ) (o : OutSeen) (m : Shown) → ((member_at w x).out ≡ Some s → ⊥) → MemberStands w p x m → MemberStands w (with_outs p s o) x m
+out_other w p x s o m none h =
+    out_as w p x s o m m.ends.out (h.out ∙ there_same p.outs (placed p.outs s o) (member_at w x).out (λ k e. sym (placed_other p.outs s o k (λ (same : k ≡ s). none (e ∙ ap Some same))))) h
+
 out_here : (w : World) (p : Places) (x s : ℕ) (o : OutSeen) (m : Shown) → (member_at w x).out ≡ Some s → MemberStands w p x m → MemberStands w (with_outs p s o) x (with_out m o)
-out_here w p x s o m e h = record {
-  door = h.door;
-  comes = h.comes;
-  held = h.held;
-  out = sym (ap (option_map (placed p.outs s o)) e ∙ ap Some (placed_same p.outs s o));
-  kept = h.kept;
-  link = h.link;
-  ends = h.ends;
-  old_outs = h.old_outs;
-  old_ins = h.old_ins;
-}
+out_here w p x s o m e h = out_as w p x s o m (Some o) (sym (ap (option_map (placed p.outs s o)) e ∙ ap Some (placed_same p.outs s o))) h
 
 -- of the link on which x sends
 pub out_shows : (w : World) (q : Parties) (p : Places) (x s : ℕ) (o : OutSeen) → OwnEnds w → 1 ≤ x → x < size w → (member_at w x).out ≡ Some s → Shows w q p → Shows w (with_node q (x - 1) (with_out (node_at q (x - 1)) o)) (with_outs p s o)
@@ -111,27 +106,35 @@ out_hidden w q p s o own none h = record {
 
 -- ---- an in end
 
-in_other : (w : World) (p : Places) (x s : ℕ) (n : InSeen) (m : Shown) (h : MemberStands w p x m) → ((member_at w x).current ≡ Some s → ⊥) → is_in s h.door ≡ false → MemberStands w (with_ins p s n) x m
-in_other w p x s n m h none absent = record {
+-- a member stands with in ends that show what stands at their places
+in_as : (w : World) (p : Places) (x s : ℕ) (n : InSeen) (m : Shown) (link : Option InSeen) (door : List (Option InSeen)) (h : MemberStands w p x m) → link ≡ option_map (placed p.ins s n) (member_at w x).current → door ≡ map (λ k. Some (placed p.ins s n k)) h.door
+    → MemberStands w (with_ins p s n) x (record m { ends = record m.ends { link = link; door = door } })
+in_as w p x s n m link door h el ed = record {
   door = h.door;
   comes = h.comes;
   held = h.held;
   out = h.out;
   kept = h.kept;
-  link = h.link ∙ there_same p.ins (placed p.ins s n) (member_at w x).current (λ k e. sym (placed_other p.ins s n k (λ (same : k ≡ s). none (e ∙ ap Some same))));
-  ends = h.ends ∙ sym (map_other (λ k. Some (p.ins k)) (λ k. Some (placed p.ins s n k)) h.door s absent (λ k ne. ap Some (placed_other p.ins s n k ne)));
+  link = el;
+  ends = ed;
   old_outs = h.old_outs;
   old_ins = h.old_ins;
 }
 
+-- another link from which it takes
+link_other : (w : World) (p : Places) (x s : ℕ) (n : InSeen) (m : Shown) → MemberStands w p x m → ((member_at w x).current ≡ Some s → ⊥) → m.ends.link ≡ option_map (placed p.ins s n) (member_at w x).current
+link_other w p x s n m h none = h.link ∙ there_same p.ins (placed p.ins s n) (member_at w x).current (λ k e. sym (placed_other p.ins s n k (λ (same : k ≡ s). none (e ∙ ap Some same))))
+
+-- other links at its door
+door_other : (w : World) (p : Places) (x s : ℕ) (n : InSeen) (m : Shown) (h : MemberStands w p x m) → is_in s h.door ≡ false → m.ends.door ≡ map (λ k. Some (placed p.ins s n k)) h.door
+door_other w p x s n m h absent = h.ends ∙ sym (map_other (λ k. Some (p.ins k)) (λ k. Some (placed p.ins s n k)) h.door s absent (λ k ne. ap Some (placed_other p.ins s n k ne)))
+
+in_other : (w : World) (p : Places) (x s : ℕ) (n : InSeen) (m : Shown) (h : MemberStands w p x m) → ((member_at w x).current ≡ Some s → ⊥) → is_in s h.door ≡ false → MemberStands w (with_ins p s n) x m
+in_other w p x s n m h none absent = in_as w p x s n m m.ends.link m.ends.door h (link_other w p x s n m h none) (door_other w p x s n m h absent)
+
 -- one that is taken from waits nowhere
 pub current_not_waits : (w : World) (x s : ℕ) → (member_at w x).current ≡ Some s → waits_for w x s ≡ true → ⊥
 current_not_waits w x s e k = false≢true (sym (current_waits_not w x s e) ∙ k)
-
--- what is false where it isn't true
-pub not_true : (b : Bool) → (b ≡ true → ⊥) → b ≡ false
-not_true true h = absurd (h refl)
-not_true false h = refl
 
 in_here : (w : World) (p : Places) (x place s : ℕ) (n : InSeen) (m : Shown) (h : MemberStands w p x m) → StandsAt w x h.door place s → MemberStands w (with_ins p s n) x (with_in m place n)
 in_here w p x place s n m h a = ⊎_elim
@@ -142,42 +145,22 @@ in_here w p x place s n m h a = ⊎_elim
     a
   where
     at_current : (member_at w x).current ≡ Some s → MemberStands w (with_ins p s n) x (record m { ends = record m.ends { link = Some n } })
-    at_current e =
-        let absent : is_in s h.door ≡ false = not_true (is_in s h.door) (λ i. current_not_waits w x s e (stood_is w p x s m h i).1) in
-        record {
-          door = h.door;
-          comes = h.comes;
-          held = h.held;
-          out = h.out;
-          kept = h.kept;
-          link = sym (ap (option_map (placed p.ins s n)) e ∙ ap Some (placed_same p.ins s n));
-          ends = h.ends ∙ sym (map_other (λ k. Some (p.ins k)) (λ k. Some (placed p.ins s n k)) h.door s absent (λ k ne. ap Some (placed_other p.ins s n k ne)));
-          old_outs = h.old_outs;
-          old_ins = h.old_ins;
-        }
+    at_current e = in_as w p x s n m (Some n) m.ends.door h (sym (ap (option_map (placed p.ins s n)) e ∙ ap Some (placed_same p.ins s n)))
+        (door_other w p x s n m h (false_from_ne_true (is_in s h.door) (λ i. current_not_waits w x s e (stood_is w p x s m h i).1)))
 
     at_door : (i : ℕ) → i < length h.door → get_or h.door i 0 ≡ s → MemberStands w (with_ins p s n) x (record m { ends = record m.ends { door = set m.ends.door i (Some n) } })
     at_door i l e =
         let there : is_in s h.door ≡ true = subst (λ t. is_in t h.door ≡ true) e (at_in h.door i l) in
-        record {
-          door = h.door;
-          comes = h.comes;
-          held = h.held;
-          out = h.out;
-          kept = h.kept;
-          link = h.link ∙ there_same p.ins (placed p.ins s n) (member_at w x).current (λ k c. sym (placed_other p.ins s n k (λ (same : k ≡ s). current_not_waits w x s (c ∙ ap Some same) (stood_is w p x s m h there).1)));
-          ends = ap (λ es. set es i (Some n)) h.ends
-              ∙ set_made (λ k. Some (p.ins k)) (λ k. Some (placed p.ins s n k)) (λ _. true) h.door i s (Some n) (distinct_filter (λ _. true) h.door (stood_once w p x m h)) refl l e
-              (ap Some (placed_same p.ins s n)) (λ k ne. ap Some (placed_other p.ins s n k ne));
-          old_outs = h.old_outs;
-          old_ins = h.old_ins;
-        }
+        in_as w p x s n m m.ends.link (set m.ends.door i (Some n)) h (link_other w p x s n m h (λ c. current_not_waits w x s c (stood_is w p x s m h there).1))
+        (ap (λ es. set es i (Some n)) h.ends
+        ∙ set_made (λ k. Some (p.ins k)) (λ k. Some (placed p.ins s n k)) (λ _. true) h.door i s (Some n) (distinct_filter (λ _. true) h.door (stood_once w p x m h)) refl l e
+        (ap Some (placed_same p.ins s n)) (λ k ne. ap Some (placed_other p.ins s n k ne)))
 
 -- what stands at a member doesn't wait for it
 pub at_not_posted : (w : World) (p : Places) (x place s : ℕ) (m : Shown) (h : MemberStands w p x m) → OwnEnds w → StandsAt w x h.door place s → is_in s p.post ≡ false
 at_not_posted w p x place s m h o a = ⊎_elim
     (λ (c : (nat_eq place 0 ≡ true) × ((member_at w x).current ≡ Some s)).
-    not_true (is_in s p.post) (λ i. current_not_waits w x s c.1 (posted_is w p x s m h (o.current x s c.1).1 i).1))
+    false_from_ne_true (is_in s p.post) (λ i. current_not_waits w x s c.1 (posted_is w p x s m h (o.current x s c.1).1 i).1))
     (λ (d : (nat_eq place 0 ≡ false) × (place - 1 < length h.door) × (get_or h.door (place - 1) 0 ≡ s)).
     stood_not_posted w p x s m h (subst (λ t. is_in t h.door ≡ true) d.2 (at_in h.door (place - 1) d.1)))
     a
@@ -194,7 +177,7 @@ in_shows w q p y place s n g own a l sl named h =
       count = (let same : length (set q.nodes (y - 1) (with_in (node_at q (y - 1)) place n)) ≡ length q.nodes = length-set q.nodes (y - 1) (with_in (node_at q (y - 1)) place n) in omega (arith, same, h.count));
       each = each_set w w q p (with_ins p s n) y (with_in (node_at q (y - 1)) place n) h.count a l (in_here w p y place s n (node_at q (y - 1)) mine at)
           (λ z c m ne. in_other w p z s n (node_at q (z - 1)) (h.each z c m) (λ k. ne (sym (own.current z s k).1 ∙ to))
-          (not_true (is_in s (h.each z c m).door) (λ i. ne (sym (stood_is w p z s (node_at q (z - 1)) (h.each z c m) i).2 ∙ to))));
+          (false_from_ne_true (is_in s (h.each z c m).door) (λ i. ne (sym (stood_is w p z s (node_at q (z - 1)) (h.each z c m) i).2 ∙ to))));
       views = h.views;
       stopped = h.stopped;
       post = h.post ∙ sym (map_other (λ k. record { name = name_of w k; end = Some (p.ins k) }) (λ k. record { name = name_of w k; end = Some (placed p.ins s n k) }) p.post s gone
@@ -213,7 +196,7 @@ in_posts w q p j s n own go jl e h =
       count = h.count;
       each = λ z c m. in_other w p z s n (node_at q (z - 1)) (h.each z c m)
           (λ t. current_not_waits w z s t (posted_is w p z s (node_at q (z - 1)) (h.each z c m) (own.current z s t).1 there).1)
-          (not_true (is_in s (h.each z c m).door) (λ i. false≢true (sym (stood_not_posted w p z s (node_at q (z - 1)) (h.each z c m) i) ∙ there)));
+          (false_from_ne_true (is_in s (h.each z c m).door) (λ i. false≢true (sym (stood_not_posted w p z s (node_at q (z - 1)) (h.each z c m) i) ∙ there)));
       views = h.views;
       stopped = h.stopped;
       post = ap (λ xs. set xs j (record { name = name_of w s; end = Some n })) h.post

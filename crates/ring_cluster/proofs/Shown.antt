@@ -1,7 +1,7 @@
 -- What the calls of a member over plain ends show.
-use Rattle.std.proofs.Common.{◌≡◌, ℕ, ◌+◌, ◌<◌, ◌≤◌, Bool, true, false, List, [], ◌∷◌, ◌++◌, map, length, take, drop, get_or, Option, Some, None, refl, sym, ap, subst, ◌∙◌, ⊎_elim, arith}
+use Rattle.std.proofs.Common.{◌≡◌, ℕ, ◌<◌, ◌≤◌, Bool, true, false, List, [], ◌∷◌, map, length, get_or, Option, Some, None, refl, sym, ap, subst, ◌∙◌, ⊎_elim, arith}
 use Rattle.std.specs.Prelude.{◌⊎◌, MatchOption, ⊤, option_map}
-use Rattle.std.proofs.lemmas.List.{map-append, get_or-map, length-map, take-map, drop-map}
+use Rattle.std.proofs.lemmas.List.{map-append, get_or-map, length-map}
 use Rattle.ring_names.specs.declared.reason.Reason.{Reason}
 use Rattle.ring_names.specs.declared.reason.Reason.TheVariants.{Stopped, Waiting, AwaitingAnswer, NoOutLink, LinkFull, NoGrant}
 use Rattle.ring_world.specs.declared.phase.Phase.{Phase}
@@ -10,6 +10,7 @@ use Rattle.ring_world.specs.Rows.{Row}
 use Rattle.ring_world.specs.Refusal.{or_else, refuse_if}
 use Rattle.ring_world.specs.Event.{is_stopped}
 use Rattle.gm_member.proofs.Calls.{may_send, up_later}
+use Rattle.gm_member.proofs.DoorParts.{without_made}
 use Rattle.ordered_link.specs.declared.plain.PlainOut.{PlainOut}
 use Rattle.ordered_link.specs.declared.plain.PlainIn.{PlainIn}
 use Rattle.ordered_link.specs.Steps.{PlainPuts, PlainGains}
@@ -224,9 +225,6 @@ picked_end xs i l within is =
     let shorter : i < length (map end_of xs) = rw length-map within in
     sym (get_or-map (option_map in_seen) (map end_of xs) i None None shorter ∙ ap (option_map in_seen) (get_or-map end_of xs i l None within ∙ ap end_of (sym is)))
 
-map_without : {A B : Type 0} (f : A → B) (i : ℕ) (xs : List A) → map f (without i xs) ≡ without i (map f xs)
-map_without f i xs = map-append f (take i xs) (drop (i + 1) xs) ∙ ap (λ ys. ys ++ map f (drop (i + 1) xs)) (sym (take-map f i xs)) ∙ ap (λ ys. take i (map f xs) ++ ys) (sym (drop-map f (i + 1) xs))
-
 picked_current : (xs : List (InLink (PlainIn Load))) (i : ℕ) (c : Option (InLink (PlainIn Load))) → i < length xs → MatchOption c ⊥ (λ l. l ≡ get_or xs i l) → in_there c ≡ get_or (map (option_map in_seen) (map end_of xs)) i None
 picked_current xs i None within is = absurd is
 picked_current xs i (Some l) within is = picked_end xs i l within is
@@ -240,6 +238,6 @@ picks_shown m n i first (within, current, door, out, old_outs, old_ins) held =
           (ends_same (record (ends_seen (ends_of m)) { link = get_or doors i None; door = without i doors }) (ends_seen (ends_of n))
           (ap (λ l. option_map out_seen (end_there l)) out) (ap kept_there out)
           (picked_current m.door.items i n.current within current)
-          (ap (λ xs. map (option_map in_seen) (map end_of xs)) door ∙ ap (map (option_map in_seen)) (map_without end_of i m.door.items) ∙ map_without (option_map in_seen) i (map end_of m.door.items))
+          (ap (λ xs. map (option_map in_seen) (map end_of xs)) door ∙ ap (map (option_map in_seen)) (sym (without_made end_of i m.door.items)) ∙ sym (without_made (option_map in_seen) i (map end_of m.door.items)))
           (ap (λ v. map named_out v.items) old_outs) (ap (λ v. map named_in v.items) old_ins)),
     )

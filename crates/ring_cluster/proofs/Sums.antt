@@ -1,5 +1,5 @@
 -- Sums below two numbers that are equal, or one apart.
-use Rattle.std.proofs.Common.{◌≡◌, ◌≢◌, ℕ, zero, suc, ◌+◌, ◌<◌, ◌≤◌, ◌&&◌, Bool, true, false, refl, sym, ap, subst, ◌∙◌, ⊎_elim, arith}
+use Rattle.std.proofs.Common.{◌≡◌, ◌≢◌, ℕ, zero, suc, ◌+◌, ◌<◌, ◌≤◌, ◌&&◌, Bool, true, false, refl, sym, subst, ⊎_elim, arith}
 use Rattle.std.specs.List.{range_with_len, list_all}
 use Rattle.std.proofs.lemmas.Bool.{cases_eq, false≢true}
 use Rattle.ring_cluster.specs.Work.{sum_below}
@@ -22,28 +22,6 @@ sum_below-at (suc n) f g i a b l h here =
     (cases_eq n i)
 
 -- ---- tests
-
-pub and_left : (a b : Bool) → (a && b) ≡ true → a ≡ true
-and_left true b e = refl
-and_left false b e = e
-
-pub and_right : (a b : Bool) → (a && b) ≡ true → b ≡ true
-and_right true b e = e
-and_right false b e = absurd (false≢true e)
-
--- what passes at each number passes at all
-pub all_pass : (p : ℕ → Bool) (a n : ℕ) → ((k : ℕ) → a ≤ k → k < a + n → p k ≡ true) → list_all p (range_with_len a n) ≡ true
-all_pass p a zero h = refl
-all_pass p a (suc n) h = ap (λ b. b && list_all p (range_with_len (a + 1) n)) (h a (omega arith) (omega arith)) ∙ all_pass p (a + 1) n (λ k l m. h k (omega arith) (omega arith))
-
--- and what passes at all passes at each
-pub each_passes : (p : ℕ → Bool) (a n k : ℕ) → list_all p (range_with_len a n) ≡ true → a ≤ k → k < a + n → p k ≡ true
-each_passes p a zero k e l m = absurd (omega arith)
-each_passes p a (suc n) k e l m =
-    ⊎_elim
-    (λ (x : k ≡ a). subst (λ j. p j ≡ true) (sym x) (and_left (p a) _ e))
-    (λ (ne : k ≢ a). each_passes p (a + 1) n k (and_right (p a) _ e) (omega arith) (omega arith))
-    (cases_eq k a)
 
 -- where not all pass, one fails
 pub one_fails : (p : ℕ → Bool) (a n : ℕ) → list_all p (range_with_len a n) ≡ false → (k : ℕ) × (k < a + n) × (p k ≡ false)

@@ -20,10 +20,11 @@ use Rattle.ring_world.proofs.Lists.{at_set}
 use Rattle.ring_world.proofs.Take.{take_row}
 use Rattle.ring_world.proofs.OwnLogs.{take_log, taken_within}
 use Rattle.ring_world.proofs.Enabled.{running_phase, running_later, take_some, take_effect}
+use Rattle.group_view.proofs.Lists.{at_range}
 use Rattle.gm_member.proofs.Fit.{IsFit}
 use Rattle.gm_member.proofs.Facts.{oldest_within}
 use Rattle.ring_cluster.specs.Work.{dirty_on, dirty_at, dirty, lag_at, lag_by, lag, weight_at, on_links, stale, work}
-use Rattle.ring_cluster.proofs.Sums.{each_passes, one_fails, sum_le, sum_at}
+use Rattle.ring_cluster.proofs.Sums.{one_fails, sum_le, sum_at}
 use Rattle.ring_cluster.proofs.Lists.{length-rest}
 use Rattle.ring_cluster.proofs.Rows.{with_grant-most, risen}
 use Rattle.ring_cluster.proofs.Parts.{place_in, weight_in, members_place, members_weigh, work_less, links_at, same_stale, dirty_same, lag_row}
@@ -166,7 +167,7 @@ module _ (w : World) (y s : ℕ) (f : IsFit w) (one : 1 ≤ y) (lt : y < size w)
       by_tests o true false b a =
           let k : (k : ℕ) × (k < 0 + n) × (is_sent (row_of w' y k) (numbers_at (link_at w o).sending.sent k) ≡ false) = one_fails (λ p. is_sent (row_of w' y p) (numbers_at (link_at w o).sending.sent p)) 0 n a in
           let kl : k.0 < n = omega (arith, k.1) in
-          inr (omega arith, take_lag_falls k.0 (numbers_at (link_at w o).sending.sent k.0) kl (each_passes (λ p. is_sent (row_of w y p) (numbers_at (link_at w o).sending.sent p)) 0 n k.0 b (omega arith) (omega arith)) k.2)
+          inr (omega arith, take_lag_falls k.0 (numbers_at (link_at w o).sending.sent k.0) kl (at_range (λ p. is_sent (row_of w y p) (numbers_at (link_at w o).sending.sent p)) 0 n k.0 b (omega arith) (omega arith)) k.2)
 
       by_out : (o : Option ℕ) → (member_at w y).out ≡ o → (dirty_at n w' y ≤ dirty_at n w y) ⊎ ((dirty_at n w' y ≤ 1) × (lag w' + 1 ≤ lag w + 0))
       by_out None e = inl (let none : dirty_at n w' y ≡ 0 = same None e in omega (arith, none))

@@ -24,6 +24,7 @@ use Rattle.gm_member.specs.Held.{Held, Incoming, at_some, on_some, take_refused,
 use Rattle.gm_member.specs.View.{in_of, end_of}
 use Rattle.gm_member.specs.Ends.{EndLooks, NothingIsNext, EndIsNext, PacketIsNext, IsTakeRefusal, IsEndRefusal, IsTakeFault}
 use Rattle.gm_member.specs.Shown.{held_of, ends_of, LooksIn, TookOn, SameOut}
+use Rattle.gm_member.proofs.TakeStands.{version_may}
 use Rattle.ring_cluster.specs.Ends.{Sent, InSeen}
 use Rattle.ring_cluster.specs.Parties.{ANode, content, out_seen, in_seen, named_out, named_in, ends_seen, shown_of}
 use Rattle.ring_cluster.specs.Acting.{IsReady, TakesIn, TakesPacket, sent_of, due_of, items_refused, end_refused, first_item, packet_refused, link_end_refused}
@@ -149,9 +150,6 @@ later_take h later e = later_by (is_stopped h.phase) h.asks h.current later e
 version_some : (need have : ℕ) → have < need → version_refusal need have ≡ Some (ViewTooOld need have)
 version_some need have l = let t : nat_lt have need ≡ true = grind (arith, nat_tests) in rw t refl
 
-version_none : (need have : ℕ) → need ≤ have → version_refusal need have ≡ None
-version_none need have l = let t : nat_lt have need ≡ false = grind (arith, nat_tests) in rw t refl
-
 -- what the first item shows
 packet_first : (x : Load) (xs : List (Item Load)) (v : ℕ) → IsPrefix (item.Load x ∷ []) xs → items_refused v (map content xs) ≡ version_refusal (parcel_in x).view v
 packet_first x xs v h = ap (λ ys. items_refused v (map content ys)) (sym h.1)
@@ -222,7 +220,7 @@ take_enabled m n k (l, l', ml, nl, (i, j, a, b, li, looked, takes, waits, grants
     later_take (held_of m) _ enabled
     ∙ ap (λ s. items_refused (held_of m).view.version (first_item s)) (in_is m l i ml li)
     ∙ ap (λ xs. items_refused (held_of m).view.version (map content xs)) all
-    ∙ version_none k.view (held_of m).view.version older
+    ∙ version_may k.view (held_of m).view.version older
 
 -- ---- the end of a link
 

@@ -3,12 +3,12 @@ use Rattle.std.proofs.Common.{◌≡◌, ◌≢◌, ◌⊎◌, ℕ, ◌+◌, ◌
 use Rattle.std.proofs.lemmas.Bool.{cases_eq, false≢true}
 use Rattle.ring_world.specs.declared.event.Event.{Event}
 use Rattle.ring_world.specs.Machine.{runs}
-use Rattle.ring_world.specs.Event.{refusal}
+use Rattle.ring_world.specs.Event.{refusal, is_asked}
 use Rattle.ring_cluster.specs.declared.agenda.Task.{Task}
 use Rattle.ring_cluster.specs.Work.{work}
 use Rattle.ring_cluster.specs.Seen.{Seen, state_of, IsGoing, SameButOwed, with_event}
 use Rattle.ring_cluster.specs.Plays.{agenda_at, performed, task_event, SameGiven, HasBegun, AgendasAreDone}
-use Rattle.ring_cluster.specs.Turns.{is_own_event, Works, TakesTurns, TakesRound, IsDoneAt, RestsAt}
+use Rattle.ring_cluster.specs.Turns.{Works, TakesTurns, TakesRound, IsDoneAt, RestsAt}
 use Rattle.ring_cluster.proofs.Phases.{same_refl, same_trans, same_runs}
 use Rattle.ring_cluster.proofs.Owed.{but_refl, but_trans}
 use Rattle.ring_cluster.proofs.Playing.{HasGoneOn-refl, HasGoneOn-owing, HasGoneOn-trans}
@@ -31,7 +31,7 @@ works_refl c = works_same c c (but_refl c)
 pub works_trans : (c d e : Seen) → Works c d → Works d e → Works c e
 works_trans c d e a b = record { goes = HasGoneOn-trans c d e a.goes b.goes; given = given_trans c d e a.given b.given; names = b.names ∙ a.names; agendas = b.agendas ∙ a.agendas; phases = same_trans (state_of c) (state_of d) (state_of e) a.phases b.phases }
 
-pub own_works : (c d : Seen) (e : Event) → IsGoing c → is_own_event e ≡ true → SameButOwed (with_event c e) d → Works c d
+pub own_works : (c d : Seen) (e : Event) → IsGoing c → is_asked e ≡ false → SameButOwed (with_event c e) d → Works c d
 own_works c d e g l is = record {
   goes = own_goes c d e l is;
   given = subst (SameGiven c) (sym is.1) (given_refl c);

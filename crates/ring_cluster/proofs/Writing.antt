@@ -2,10 +2,11 @@
 use Rattle.std.proofs.Common.{◌≡◌, ◌≢◌, ℕ, zero, suc, ◌<◌, Bool, true, false, cond, nat_eq, List, [], ◌∷◌, length, get_or, set, map, refl, sym, ap, subst, ◌∙◌, arith}
 use Rattle.std.specs.Prelude.{◌&&◌}
 use Rattle.std.specs.List.{filter}
-use Rattle.std.proofs.lemmas.Bool.{false≢true}
+use Rattle.std.proofs.lemmas.Bool.{false≢true, and_right}
 use Rattle.group_view.specs.Ring.{is_in, AreDistinct}
 use Rattle.group_view.proofs.Rings.{nat_eq-same, nat_eq-not}
 use Rattle.ring_world.proofs.Rounds.{nat_eq-is}
+use Rattle.group_view.proofs.Rings.{in_head, in_tail as in_rest}
 
 -- ---- what stands where
 
@@ -31,11 +32,7 @@ in_tail s x xs h = by_case (nat_eq s x) refl h
 
 -- of those that pass
 pub in_filter : (t : ℕ → Bool) (s : ℕ) (xs : List ℕ) → is_in s (filter t xs) ≡ (t s && is_in s xs)
-in_filter t s [] = nothing (t s)
-  where
-    nothing : (b : Bool) → false ≡ (b && false)
-    nothing true = refl
-    nothing false = refl
+in_filter t s [] = sym (and_right (t s) false refl)
 in_filter t s (x ∷ xs) = by_case (in_filter t s xs) (t x) refl (nat_eq s x) refl
   where
     by_case : is_in s (filter t xs) ≡ (t s && is_in s xs) → (b : Bool) → t x ≡ b → (c : Bool) → nat_eq s x ≡ c → is_in s (cond b (x ∷ filter t xs) (filter t xs)) ≡ (t s && cond c true (is_in s xs))
@@ -49,12 +46,8 @@ in_filter t s (x ∷ xs) = by_case (in_filter t s xs) (t x) refl (nat_eq s x) re
 -- one that stands at a place is there
 pub at_in : (xs : List ℕ) (i : ℕ) → i < length xs → is_in (get_or xs i 0) xs ≡ true
 at_in [] i l = absurd (omega arith)
-at_in (x ∷ xs) zero l = ap (λ b. cond b true (is_in x xs)) (nat_eq-same x)
-at_in (x ∷ xs) (suc i) l = later (nat_eq (get_or xs i 0) x) (at_in xs i (omega arith))
-  where
-    later : (b : Bool) → is_in (get_or xs i 0) xs ≡ true → cond b true (is_in (get_or xs i 0) xs) ≡ true
-    later true e = refl
-    later false e = e
+at_in (x ∷ xs) zero l = in_head x xs
+at_in (x ∷ xs) (suc i) l = in_rest (get_or xs i 0) x xs (at_in xs i (omega arith))
 
 -- and one that is there stands at a place
 pub in_at : (s : ℕ) (xs : List ℕ) → is_in s xs ≡ true → (i : ℕ) × (i < length xs) × (get_or xs i 0 ≡ s)
@@ -72,11 +65,7 @@ distinct_filter t [] d = tt
 distinct_filter t (x ∷ xs) d = by_case (distinct_filter t xs d.1) (t x)
   where
     not_there : is_in x (filter t xs) ≡ false
-    not_there = in_filter t x xs ∙ ap (λ b. t x && b) d.0 ∙ nothing (t x)
-      where
-        nothing : (b : Bool) → (b && false) ≡ false
-        nothing true = refl
-        nothing false = refl
+    not_there = in_filter t x xs ∙ and_right (t x) (is_in x xs) d.0
 
     by_case : AreDistinct (filter t xs) → (b : Bool) → AreDistinct (cond b (x ∷ filter t xs) (filter t xs))
     by_case ih true = (not_there, ih)
@@ -95,6 +84,13 @@ pub distinct_head : (t : ℕ → Bool) (x : ℕ) (xs : List ℕ) → AreDistinct
 distinct_head t x xs d e =
     let k : (is_in x (filter t xs) ≡ false) × AreDistinct (filter t xs) = subst (λ b. AreDistinct (cond b (x ∷ filter t xs) (filter t xs))) e d in
     sym (in_filter t x xs ∙ ap (λ b. b && is_in x xs) e) ∙ k.0
+
+-- ---- what is made of each
+
+-- the same of each that is there
+pub map_agree : {A : Type 0} (f g : ℕ → A) (xs : List ℕ) → ((s : ℕ) → is_in s xs ≡ true → f s ≡ g s) → map f xs ≡ map g xs
+map_agree f g [] h = refl
+map_agree f g (x ∷ xs) h = ap (λ a. a ∷ map f xs) (h x (in_head x xs)) ∙ ap (λ ys. g x ∷ ys) (map_agree f g xs (λ s e. h s (in_rest s x xs e)))
 
 -- ---- one changes
 

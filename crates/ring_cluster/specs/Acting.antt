@@ -18,23 +18,11 @@ use Rattle.ring_world.specs.View.{right_of}
 use Rattle.ring_world.specs.Machine.{runs_phase}
 use Rattle.ring_world.specs.Event.{version_refusal}
 use Rattle.gm_member.specs.Parcels.{Parcel}
-use Rattle.gm_member.specs.Held.{Held, Outgoing, Incoming, at_some, active_refused, up_refused, on_some, published_held, put_held, parcel_on, take_refused, took_held, gained_held, ended_held, stopped_held, is_for, stays, sends_to, fresh_out as unsent_on, fresh_in as arriving_in, refreshed_held, first_at_door, picked_held, without, collected_held}
+use Rattle.gm_member.specs.Held.{Held, Outgoing, Incoming, at_some, active_refused, up_refused, on_some, published_held, put_held, parcel_on, put_refused, pick_refused, take_refused, took_held, gained_held, ended_held, stopped_held, is_for, stays, sends_to, fresh_out as unsent_on, fresh_in as arriving_in, refreshed_held, first_at_door, picked_held, without, collected_held}
 use Rattle.gm_member.specs.View.{ring_link}
 use Rattle.gm_member.specs.Shown.{When}
 use Rattle.ring_cluster.specs.Ends.{Sent, OutSeen, InSeen, opened_out, fresh_in}
 use Rattle.ring_cluster.specs.Parties.{EndsSeen, Shown, Posted, Parties, node_at, with_node}
-
--- the name of the acting member
-abbrev pub by_of : Event → List ℕ
-by_of (Cast by body) = by
-by_of (Put by) = by
-by_of (Take by) = by
-by_of (TakeEnd by) = by
-by_of (Gain by) = by
-by_of (Stop by) = by
-by_of (Mark by dead) = by
-by_of (Refresh by version) = by
-by_of (Pick by) = by
 
 -- ---- one end
 
@@ -191,6 +179,39 @@ Picks a b =
     (i : ℕ) × (first_at_door a.held ≡ Some i)
     × (b ≡ record { held = picked_held a.held; ends = record a.ends { link = slice_index_or a.ends.door i None; door = without i a.ends.door } })
 
+-- ---- an event that a member does by itself, on its own links alone
+
+-- whether it does so, without the registrar
+abbrev pub is_alone : Event → Bool
+is_alone (Stop by) = false
+is_alone (Mark by dead) = false
+is_alone (Refresh by version) = false
+is_alone e = true
+
+-- the first condition that fails
+abbrev pub alone_refused : Event → Shown → Option Reason
+alone_refused (Cast by body) a = cast_refused a
+alone_refused (Put by) a = put_refused a.held
+alone_refused (Take by) a = packet_refused a
+alone_refused (TakeEnd by) a = link_end_refused a
+alone_refused (Gain by) a = grant_refused a
+alone_refused (Stop by) a = stop_refused a
+alone_refused (Mark by dead) a = None
+alone_refused (Refresh by version) a = None
+alone_refused (Pick by) a = pick_refused a.held
+
+-- what it does
+abbrev pub DoesAlone : Event → Shown → Shown → Type 0
+DoesAlone (Cast by body) a b = Casts (message.Cast body) a b
+DoesAlone (Put by) a b = PutsPacket a b
+DoesAlone (Take by) a b = TakesPacket a b
+DoesAlone (TakeEnd by) a b = TakesEnd a b
+DoesAlone (Gain by) a b = Gains a b
+DoesAlone (Stop by) a b = ⊥
+DoesAlone (Mark by dead) a b = ⊥
+DoesAlone (Refresh by version) a b = ⊥
+DoesAlone (Pick by) a b = Picks a b
+
 -- ---- a member that has another view
 
 -- of two lists side by side, what stands in the second where the first passes a test
@@ -257,15 +278,10 @@ LooksAt v i q q' loose = (b : Shown) × (new : Option Posted) × Looks v (node_a
 
 -- the event of the member at place i; d is the id of the one that is marked
 abbrev pub Acts : Event → ℕ → ℕ → Parties → Parties → Option (LinkName × OutSeen) → Type 0
-Acts (Cast by body) i d q q' loose = Alone (Casts (message.Cast body)) i q q' loose
-Acts (Put by) i d q q' loose = Alone PutsPacket i q q' loose
-Acts (Take by) i d q q' loose = Alone TakesPacket i q q' loose
-Acts (TakeEnd by) i d q q' loose = Alone TakesEnd i q q' loose
-Acts (Gain by) i d q q' loose = Alone Gains i q q' loose
 Acts (Stop by) i d q q' loose = (b : Shown) × Stops (node_at q i) b × (q' ≡ record (with_node q i b) { stopped = q.stopped ++ (i + 1) ∷ [] }) × (loose ≡ None)
 Acts (Mark by dead) i d q q' loose = LooksAt (marked (newest_of q) d) i (viewing (marked (newest_of q) d) q) q' loose
 Acts (Refresh by version) i d q q' loose = LooksAt (view_at q.views version) i q q' loose
-Acts (Pick by) i d q q' loose = Alone Picks i q q' loose
+Acts e i d q q' loose = Alone (DoesAlone e) i q q' loose
 
 -- ---- collecting
 

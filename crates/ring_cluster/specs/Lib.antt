@@ -1,7 +1,7 @@
 pub mod Acting
-pub mod Alone
 pub mod Behind
 pub mod Collecting
+pub mod EachState
 pub mod Ends
 pub mod Heard
 pub mod Holds
@@ -16,5 +16,6 @@ pub mod Plays
 pub mod Refused
 pub mod Seen
 pub mod Standing
+pub mod Tried
 pub mod Turns
 pub mod Work

@@ -8,12 +8,13 @@ use Rattle.group_view.specs.declared.request.Request.TheVariants.{Mark, Refresh,
 use Rattle.gm_member.specs.declared.packet.Load.{Load}
 use Rattle.group_view.specs.Ring.{is_in}
 use Rattle.group_view.specs.View.{Group}
+use Rattle.group_view.specs.Since.{view_at}
 use Rattle.ring_world.specs.View.{ids}
-use Rattle.registrar.specs.Registry.{Registry}
+use Rattle.registrar.specs.Registry.{Registry, newest}
 use Rattle.gm_member.specs.Held.{answered_held, refresh_refused}
 use Rattle.ring_cluster.specs.declared.undelivered.Undelivered.{Undelivered}
 use Rattle.ring_cluster.specs.Ends.{OutSeen}
-use Rattle.ring_cluster.specs.Acting.{Looks}
+use Rattle.ring_cluster.specs.Acting.{Looks, look_refused}
 use Rattle.ring_cluster.specs.Parties.{Shown, Posted, in_seen, named_out}
 
 -- the first of a list, where it has one
@@ -53,6 +54,10 @@ CanLook v a = (is_in a.held.id (ids v) ≡ true) × (refresh_refused a.held v.ve
 -- the registrar has a view of this version
 abbrev pub IsPublished : Registry (PlainIn Load) → ℕ → Type 0
 IsPublished r version = (1 ≤ version) × (version ≤ length r.views)
+
+-- where nothing refuses a member to read the view of a version, the registrar has it, and the member may read it
+abbrev pub MayLookAt : Registry (PlainIn Load) → Shown → ℕ → Type 0
+MayLookAt r a version = look_refused (newest r).version a version ≡ None → IsPublished r version × CanLook (view_at r.views version) a
 
 -- A member has another view (`Looks`).
 pub record HasLooked (v : Group) (a b : Shown) (opened : Option Posted) (loose : Option (LinkName × OutSeen)) : Type 0 where

@@ -1,5 +1,5 @@
 -- What the parties of a cluster show: its members with the ends of their links, and its registrar with the links that wait there.
-use Rattle.std.specs.Prelude.{ℕ, ◌-◌, ◌++◌, false, List, [], map, nat_eq, slice_index_or, slice_set, if◌then◌else◌, Option, Some, None, option_map}
+use Rattle.std.specs.Prelude.{◌≡◌, ℕ, ◌-◌, ◌++◌, false, List, [], map, nat_eq, slice_index_or, slice_set, if◌then◌else◌, Option, Some, None, option_map}
 use Rattle.ordered_link.specs.declared.item.Item.{Item}
 use Rattle.ordered_link.specs.declared.item.Item.TheVariants as item
 use Rattle.ordered_link.specs.declared.plain.PlainOut.{PlainOut}
@@ -87,6 +87,14 @@ no_ends = record { out = None; kept = None; link = None; door = []; old_outs = [
 -- what one that isn't there shows
 abbrev pub no_shown : Shown
 no_shown = record { held = no_held; ends = no_ends }
+
+-- what the member at a place shows
+abbrev pub shown_at : List ANode → ℕ → Shown
+shown_at nodes i = slice_index_or (map shown_of nodes) i no_shown
+
+-- all members but the one at this place show what they showed
+abbrev pub OthersStay : ℕ → List ANode → List ANode → Type 0
+OthersStay i nodes nodes' = map shown_of nodes' ≡ slice_set (map shown_of nodes) i (shown_at nodes' i)
 
 -- ---- the registrar
 

@@ -1,12 +1,13 @@
 -- When a journal plays what a cluster was given.
-use Rattle.std.specs.Prelude.{◌≡◌, ℕ, ◌+◌, true, ◌<◌, ◌≤◌, List, [], ◌∷◌, ◌++◌, length, map, take, slice_get, slice_set, slice_index_or, IsSome, position, bytes_eq, Option, Some, None, if◌then◌else◌, Contains}
+use Rattle.std.specs.Prelude.{◌≡◌, ℕ, ◌+◌, true, ◌&&◌, ◌<◌, ◌≤◌, List, [], ◌∷◌, ◌++◌, length, map, take, slice_get, slice_set, slice_index_or, IsSome, position, bytes_eq, Option, Some, None, if◌then◌else◌, Contains}
 use Rattle.std.specs.List.{flat_map}
 use Rattle.ring_names.specs.declared.numbers.CreditSpec.{CreditSpec}
 use Rattle.ring_script.specs.declared.command.Command.{Command}
 use Rattle.ring_script.specs.declared.command.Command.TheVariants as command
 use Rattle.ring_world.specs.declared.event.Event.{Event}
-use Rattle.ring_world.specs.declared.event.Event.TheVariants.{Cast, Put, Take, TakeEnd, Gain, Stop, Mark, Refresh, Pick}
+use Rattle.ring_world.specs.declared.event.Event.TheVariants.{Cast}
 use Rattle.ring_world.specs.Machine.{runs}
+use Rattle.ring_world.specs.Event.{by_of, is_asked}
 use Rattle.ring_world.specs.Quiet.{IsQuiet}
 use Rattle.ring_cluster.specs.declared.agenda.Task.{Task}
 use Rattle.ring_cluster.specs.declared.agenda.Task.TheVariants as task
@@ -16,15 +17,7 @@ use Rattle.ring_cluster.specs.Seen.{Seen, state, state_of}
 
 -- an event that a client of this member asked for; the member's other steps are its own
 abbrev pub client_event : List ℕ → Event → List Event
-client_event name (Cast by body) = if bytes_eq by name then Cast by body ∷ [] else []
-client_event name (Put by) = []
-client_event name (Take by) = []
-client_event name (TakeEnd by) = []
-client_event name (Gain by) = []
-client_event name (Stop by) = if bytes_eq by name then Stop by ∷ [] else []
-client_event name (Mark by dead) = []
-client_event name (Refresh by version) = []
-client_event name (Pick by) = []
+client_event name e = if is_asked e && bytes_eq (by_of e) name then e ∷ [] else []
 
 -- the client events of a member, in the order of the journal
 abbrev pub client_events : List ℕ → List Event → List Event

@@ -5,13 +5,13 @@ use Rattle.ring_names.specs.declared.reason.Reason.{Reason}
 use Rattle.ring_names.specs.declared.reason.Reason.TheVariants as reason
 use Rattle.ordered_link.specs.declared.plain.PlainIn.{PlainIn}
 use Rattle.ring_world.specs.declared.event.Event.{Event}
-use Rattle.ring_world.specs.declared.event.Event.TheVariants.{Cast, Put, Take, TakeEnd, Gain, Stop, Mark, Refresh, Pick}
+use Rattle.ring_world.specs.declared.event.Event.TheVariants.{Mark, Refresh}
 use Rattle.registrar.specs.Registry.{Registry}
 use Rattle.registrar.specs.Asked.{mark_refusal}
 use Rattle.gm_member.specs.declared.packet.Load.{Load}
-use Rattle.gm_member.specs.Held.{at_some, up_refused, put_refused, first_at_door, pick_refused}
+use Rattle.gm_member.specs.Held.{at_some, up_refused, first_at_door}
 use Rattle.ring_cluster.specs.Parties.{Shown, Parties, node_at}
-use Rattle.ring_cluster.specs.Acting.{waits_at, cast_refused, packet_refused, link_end_refused, grant_refused, stop_refused, look_refused, newest_of}
+use Rattle.ring_cluster.specs.Acting.{waits_at, alone_refused, look_refused, newest_of}
 
 -- the id of the one of that name
 abbrev pub id_of_name : List Shown → List ℕ → Option ℕ
@@ -32,24 +32,11 @@ mark_refused r m (Some d) = up_refused m.held (mark_refusal r m.held.id d m.held
 
 -- the first failing condition of an event of the member at place i
 abbrev pub act_refused : Event → ℕ → Registry (PlainIn Load) → Parties → Option Reason
-act_refused (Cast by body) i r q = cast_refused (node_at q i)
-act_refused (Put by) i r q = put_refused (node_at q i).held
-act_refused (Take by) i r q = packet_refused (node_at q i)
-act_refused (TakeEnd by) i r q = link_end_refused (node_at q i)
-act_refused (Gain by) i r q = grant_refused (node_at q i)
-act_refused (Stop by) i r q = stop_refused (node_at q i)
 act_refused (Mark by dead) i r q = mark_refused r (node_at q i) (id_named q dead)
 act_refused (Refresh by version) i r q = look_refused (newest_of q).version (node_at q i) version
-act_refused (Pick by) i r q = pick_refused (node_at q i).held
+act_refused e i r q = alone_refused e (node_at q i)
 
 -- the id of the one that is to be marked
 abbrev pub marked_in : Event → Parties → ℕ
-marked_in (Cast by body) q = 0
-marked_in (Put by) q = 0
-marked_in (Take by) q = 0
-marked_in (TakeEnd by) q = 0
-marked_in (Gain by) q = 0
-marked_in (Stop by) q = 0
 marked_in (Mark by dead) q = at_some (id_named q dead) 0 (λ d. d)
-marked_in (Refresh by version) q = 0
-marked_in (Pick by) q = 0
+marked_in e q = 0

@@ -1,27 +1,17 @@
 -- The turns of a cluster.
-use Rattle.std.specs.Prelude.{◌≡◌, ◌≢◌, ℕ, ◌+◌, ◌≤◌, Bool, true, false, List, [], length, None}
+use Rattle.std.specs.Prelude.{◌≡◌, ◌≢◌, ℕ, ◌+◌, ◌<◌, ◌≤◌, Bool, true, false, List, [], length, None, Result, IfOk}
+use Rattle.ring_names.specs.declared.memory.OutOfMemory.{OutOfMemory}
 use Rattle.ring_world.specs.declared.event.Event.{Event}
-use Rattle.ring_world.specs.declared.event.Event.TheVariants.{Cast, Put, Take, TakeEnd, Gain, Stop, Mark, Refresh, Pick}
+use Rattle.ring_world.specs.declared.event.Event.TheVariants.{Put, Take, TakeEnd, Gain, Mark, Pick}
 use Rattle.ring_world.specs.Machine.{World, member_at, newest, right, runs}
 use Rattle.ring_world.specs.Step.{size}
 use Rattle.ring_world.specs.Event.{refusal}
 use Rattle.ring_cluster.specs.declared.driver.OwnStep.{OwnStep}
 use Rattle.ring_cluster.specs.declared.driver.OwnStep.TheVariants as step
 use Rattle.ring_cluster.specs.Idle.{HasNothingToDo}
-use Rattle.ring_cluster.specs.Seen.{Seen, state_of}
+use Rattle.ring_cluster.specs.Seen.{Seen, state_of, SameButOwed}
+use Rattle.ring_cluster.specs.Work.{work}
 use Rattle.ring_cluster.specs.Plays.{agenda_at, HasGoneOn, SameGiven, SameElsewhere}
-
--- whether an event is a member's own, by which it goes on or repairs the ring; no client asks for it
-abbrev pub is_own_event : Event → Bool
-is_own_event (Cast by body) = false
-is_own_event (Put by) = true
-is_own_event (Take by) = true
-is_own_event (TakeEnd by) = true
-is_own_event (Gain by) = true
-is_own_event (Stop by) = false
-is_own_event (Mark by dead) = true
-is_own_event (Refresh by version) = true
-is_own_event (Pick by) = true
 
 -- the event of a step on its links, by the member of this name
 abbrev pub step_event : OwnStep → List ℕ → Event
@@ -43,6 +33,12 @@ pub record Works (c d : Seen) : Type 0 where
   pub names : d.names ≡ c.names
   pub agendas : d.agendas ≡ c.agendas
   pub phases : SamePhases (state_of c) (state_of d)
+
+-- Members do a step of their own, or none. Where one was done there is less to do; where none was, all stays and this holds.
+pub record DoesOrRests (c d : Seen) (rests : Type 0) (result : Result Bool OutOfMemory) : Type 0 where
+  pub works : Works c d
+  pub falls : IfOk result (λ b. b ≡ true → work (state_of d) < work (state_of c))
+  pub stays : IfOk result (λ b. b ≡ false → SameButOwed c d × rests)
 
 -- the member at place i has taken turns: its agenda hasn't grown, and the others' stay
 pub record TakesTurns (i : ℕ) (c d : Seen) : Type 0 where

@@ -146,10 +146,8 @@ impl Cluster {
         ensures back { IfErr result (λ e. e.0 ≡ command) }
     {
         self.is_going();
-        match self.take_command(command) {
-            Ok(()) => Ok(()),
-            Err(back) => Err(back),
-        }
+        self.take_command(command)?;
+        Ok(())
     }
 
     fn take_command(&mut self, command: Command) -> Result<(), (Command, OutOfMemory)>

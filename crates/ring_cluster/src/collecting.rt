@@ -1,6 +1,5 @@
 //! A member collects the links that wait for it at the registrar.
 ghost use Rattle.std.specs.Prelude.{◌≡◌, ◌+◌, ◌<◌, [], true, false, OnOk, OnErr, IfOk, None, List, length, map};
-ghost use Rattle.std.specs.Prelude.{slice_index_or, slice_set};
 ghost use Rattle.std.specs.List.{filter};
 ghost use Rattle.ordered_link.specs.declared.plain.PlainOut.{PlainOut as Out};
 ghost use Rattle.ordered_link.specs.declared.plain.PlainIn.{PlainIn as In};
@@ -15,7 +14,8 @@ ghost use Rattle.gm_member.specs.declared.packet.Load.{Load as Loaded};
 ghost use Rattle.gm_member.specs.Held.{asking_held};
 ghost use Rattle.gm_member.specs.Shown.{HasRoom, SpareIsSound, held_of, ends_of};
 ghost use Rattle.gm_member.specs.Questions.{asked_for};
-ghost use Rattle.ring_cluster.specs.Parties.{shown_of, no_shown, posted, parties};
+ghost use Rattle.ring_cluster.specs.Parties.{shown_of, shown_at, OthersStay, posted, parties};
+ghost use Rattle.ring_cluster.specs.Tried.{IsFreeAt};
 ghost use Rattle.ring_cluster.specs.Acting.{IsReady, waits_at, Collects};
 ghost use Rattle.ring_cluster.specs.Standing.{StandAfter};
 ghost use Rattle.ring_cluster.specs.Refused.{NothingWaits};
@@ -28,11 +28,32 @@ use group_view::{Answer, Deposited, Request};
 use ordered_link::PlainIn;
 use registrar::Registrar;
 use ring_names::{CreditSpec, Items, Name, OutOfMemory};
-use ring_world::Event;
+use ring_world::{Event, Phase};
 
-/// The links that wait for the member at a place come to its door, and none waits for it then. Want of memory leaves
-/// everything as it was.
-pub(crate) fn collect_at(
+/// Whether a member is up.
+fn is_up(node: &Node) -> bool
+    ensures up { result ≡ true → (shown_of node.now).held.phase ≡ Up }
+    ensures all { (shown_of node.now).held.phase ≡ Up → result ≡ true }
+{
+    match node.phase() {
+        Phase::Up => true,
+        Phase::Waiting | Phase::Stopped => false,
+    }
+}
+
+/// The same of the member at a place.
+#[tactic(auto, using(crate::proofs::Nodes::nodes))]
+fn is_up_at(nodes: &[Node], i: usize) -> bool
+    requires { i < length nodes.now }
+    ensures up { result ≡ true → (shown_at nodes.now i).held.phase ≡ Up }
+    ensures all { (shown_at nodes.now i).held.phase ≡ Up → result ≡ true }
+{
+    is_up(&nodes[i])
+}
+
+/// The links that wait for the member at a place come to its door, where it is up, and none waits for it then. Want of
+/// memory leaves everything as it was.
+pub(crate) fn collect_up(
     credit: CreditSpec,
     names: &[Name],
     nodes: &mut [Node],
@@ -41,37 +62,34 @@ pub(crate) fn collect_at(
     i: usize,
 ) -> Result<(), OutOfMemory>
     requires within { i < length nodes.old }
-    requires up { (slice_index_or (map shown_of nodes.old) i no_shown).held.phase ≡ Up }
     requires standing { StandAfter credit names.now events.now (parties nodes.old registrar.old []) }
     ensures standing { StandAfter credit names.now events.now (parties nodes.new registrar.new []) }
-    ensures none { OnOk result (NothingWaits (i + 1) (parties nodes.new registrar.new [])) }
+    ensures none { OnOk result ((shown_at nodes.new i).held.phase ≡ Up
+        → NothingWaits (i + 1) (parties nodes.new registrar.new [])) }
 {
+    if !is_up_at(nodes, i) {
+        return Ok(());
+    }
     collect_of(nodes, registrar, i)?;
     Ok(())
 }
 
-/// The same, where the member is known to the registrar.
+/// The same of one that is up and known to the registrar.
 #[tactic(auto, using(crate::proofs::Nodes::nodes))]
 fn collect_of(
     nodes: &mut [Node],
     registrar: &mut Registrar<PlainIn<Load>>,
     i: usize,
 ) -> Result<(), OutOfMemory>
-    requires within { i < length nodes.old }
-    requires up { (slice_index_or (map shown_of nodes.old) i no_shown).held.phase ≡ Up }
-    requires free { (slice_index_or (map shown_of nodes.old) i no_shown).held.asks ≡ false }
-    requires ready { IsReady (slice_index_or (map shown_of nodes.old) i no_shown) }
+    requires free { IsFreeAt nodes.old i }
+    requires up { (shown_at nodes.old i).held.phase ≡ Up }
     requires here { AreHere (registrar.old).links }
     requires ring { AreOfRing (registrar.old).links }
-    requires known { is_known registrar.old (slice_index_or (map shown_of nodes.old) i no_shown).held.id ≡ true }
-    ensures ok { OnOk result (Collects (slice_index_or (map shown_of nodes.old) i no_shown)
-        (slice_index_or (map shown_of nodes.new) i no_shown)
-        (filter (waits_at (slice_index_or (map shown_of nodes.old) i no_shown).held.id)
-        (map posted (registrar.old).links))) }
-    ensures nodes { OnOk result (map shown_of nodes.new
-        ≡ slice_set (map shown_of nodes.old) i (slice_index_or (map shown_of nodes.new) i no_shown)) }
-    ensures registrar { OnOk result (registrar.new
-        ≡ without_links registrar.old (slice_index_or (map shown_of nodes.old) i no_shown).held.id) }
+    requires known { is_known registrar.old (shown_at nodes.old i).held.id ≡ true }
+    ensures ok { OnOk result (Collects (shown_at nodes.old i) (shown_at nodes.new i)
+        (filter (waits_at (shown_at nodes.old i).held.id) (map posted (registrar.old).links))) }
+    ensures nodes { OnOk result (OthersStay i nodes.old nodes.new) }
+    ensures registrar { OnOk result (registrar.new ≡ without_links registrar.old (shown_at nodes.old i).held.id) }
     ensures err { OnErr result ((map shown_of nodes.new ≡ map shown_of nodes.old) × (registrar.new ≡ registrar.old)) }
 {
     collect(&mut nodes[i], registrar)?;

@@ -2,11 +2,11 @@
 ghost use Rattle.std.specs.Prelude.{◌≡◌, ◌≢◌, ℕ, ◌+◌, ◌-◌, ◌<◌, ◌≤◌, ◌∷◌, ◌++◌, ◌||◌, [], true, false, length, IfOk};
 ghost use Rattle.std.specs.Prelude.{OnOk, OnErr, None};
 ghost use Rattle.ring_world.specs.Machine.{member_at, newest as the_newest, right as the_right, runs as runs_at};
-ghost use Rattle.ring_world.specs.Event.{refusal};
+ghost use Rattle.ring_world.specs.Event.{refusal, is_asked};
 ghost use Rattle.ring_cluster.specs.Idle.{IsIdle, MarksNobody};
 ghost use Rattle.ring_cluster.specs.Seen.{Seen, state_of, IsGoing, SameButOwed};
 ghost use Rattle.ring_cluster.specs.Plays.{agenda_at, HasBegun, AgendasAreDone};
-ghost use Rattle.ring_cluster.specs.Turns.{is_own_event, step_event, Works, TakesTurns, TakesRound, IsDoneAt};
+ghost use Rattle.ring_cluster.specs.Turns.{step_event, Works, DoesOrRests, TakesTurns, TakesRound, IsDoneAt};
 ghost use Rattle.ring_cluster.specs.Turns.{MayStep, MayStepNowhere, MarksNoneAt, RestsAt};
 ghost use Rattle.ring_cluster.specs.Work.{work, is_stale as the_staleness, LeavesLess};
 
@@ -48,13 +48,9 @@ impl OwnStep {
 /// An event of a member of its own that leaves less to do, where it is enabled: whether it was.
 #[tactic(auto, using(crate::proofs::Doing::own_falls, crate::proofs::Turning::own_works, crate::proofs::Turning::works_same))]
 fn happens(cluster: &mut Cluster, event: &Event) -> Result<bool, OutOfMemory>
-    requires own { is_own_event event.now ≡ true }
+    requires own { is_asked event.now ≡ false }
     requires less { LeavesLess (state_of cluster.old) event.now }
-    ensures works { Works cluster.old cluster.new }
-    ensures falls { IfOk result (λ b. b ≡ true
-        → work (state_of cluster.new) < work (state_of cluster.old)) }
-    ensures stays { IfOk result (λ b. b ≡ false → SameButOwed cluster.old cluster.new
-        × (refusal (state_of cluster.old) event.now ≢ None)) }
+    ensures { DoesOrRests cluster.old cluster.new (refusal (state_of cluster.old) event.now ≢ None) result }
 {
     cluster.is_going();
     match cluster.happen(event) {
@@ -121,11 +117,7 @@ fn right_of(cluster: &Cluster, id: MemberId) -> MemberId
 /// A step of a member on its links, where it is enabled: whether it was.
 fn attempt(cluster: &mut Cluster, id: MemberId, step: OwnStep) -> Result<bool, OutOfMemory>
     requires { (1 ≤ id.0) × (id.0 ≤ length (cluster.old).names) }
-    ensures works { Works cluster.old cluster.new }
-    ensures falls { IfOk result (λ b. b ≡ true
-        → work (state_of cluster.new) < work (state_of cluster.old)) }
-    ensures stays { IfOk result (λ b. b ≡ false → SameButOwed cluster.old cluster.new
-        × (MayStep (state_of cluster.old) id.0 step → ⊥)) }
+    ensures { DoesOrRests cluster.old cluster.new (MayStep (state_of cluster.old) id.0 step → ⊥) result }
 {
     cluster.is_going();
     let by = name_of(cluster, id);
@@ -138,11 +130,7 @@ fn attempt(cluster: &mut Cluster, id: MemberId, step: OwnStep) -> Result<bool, O
 #[tactic(auto, using(crate::proofs::Turning::works_trans))]
 fn step_on_links(cluster: &mut Cluster, id: MemberId) -> Result<bool, OutOfMemory>
     requires { (1 ≤ id.0) × (id.0 ≤ length (cluster.old).names) }
-    ensures works { Works cluster.old cluster.new }
-    ensures falls { IfOk result (λ b. b ≡ true
-        → work (state_of cluster.new) < work (state_of cluster.old)) }
-    ensures stays { IfOk result (λ b. b ≡ false
-        → SameButOwed cluster.old cluster.new × MayStepNowhere (state_of cluster.old) id.0) }
+    ensures { DoesOrRests cluster.old cluster.new (MayStepNowhere (state_of cluster.old) id.0) result }
 {
     if attempt(cluster, id, OwnStep::Pick)? {
         return Ok(true);
@@ -182,11 +170,7 @@ fn refresh(cluster: &mut Cluster, id: MemberId) -> Result<(), OutOfMemory>
 fn mark(cluster: &mut Cluster, id: MemberId) -> Result<bool, OutOfMemory>
     requires within { (1 ≤ id.0) × (id.0 ≤ length (cluster.old).names) }
     requires runs { runs_at (state_of cluster.old) id.0 ≡ true }
-    ensures works { Works cluster.old cluster.new }
-    ensures falls { IfOk result (λ b. b ≡ true
-        → work (state_of cluster.new) < work (state_of cluster.old)) }
-    ensures stays { IfOk result (λ b. b ≡ false
-        → SameButOwed cluster.old cluster.new × MarksNoneAt (state_of cluster.old) id.0) }
+    ensures { DoesOrRests cluster.old cluster.new (MarksNoneAt (state_of cluster.old) id.0) result }
 {
     cluster.is_going();
     let by = name_of(cluster, id);
@@ -202,11 +186,7 @@ fn mark(cluster: &mut Cluster, id: MemberId) -> Result<bool, OutOfMemory>
 fn own_turn(cluster: &mut Cluster, id: MemberId) -> Result<bool, OutOfMemory>
     requires within { (1 ≤ id.0) × (id.0 ≤ length (cluster.old).names) }
     requires runs { runs_at (state_of cluster.old) id.0 ≡ true }
-    ensures works { Works cluster.old cluster.new }
-    ensures falls { IfOk result (λ b. b ≡ true
-        → work (state_of cluster.new) < work (state_of cluster.old)) }
-    ensures rests { IfOk result (λ b. b ≡ false
-        → SameButOwed cluster.old cluster.new × RestsAt (state_of cluster.old) id.0) }
+    ensures { DoesOrRests cluster.old cluster.new (RestsAt (state_of cluster.old) id.0) result }
 {
     if is_stale(cluster, id) {
         refresh(cluster, id)?;
@@ -223,11 +203,7 @@ fn own_turn(cluster: &mut Cluster, id: MemberId) -> Result<bool, OutOfMemory>
 #[tactic(auto, using(crate::proofs::Turning::works_refl, crate::proofs::Owed::but_refl))]
 fn work_turn(cluster: &mut Cluster, place: usize) -> Result<bool, OutOfMemory>
     requires { place < length (cluster.old).names }
-    ensures works { Works cluster.old cluster.new }
-    ensures falls { IfOk result (λ b. b ≡ true
-        → work (state_of cluster.new) < work (state_of cluster.old)) }
-    ensures rests { IfOk result (λ b. b ≡ false
-        → SameButOwed cluster.old cluster.new × RestsAt (state_of cluster.old) (place + 1)) }
+    ensures { DoesOrRests cluster.old cluster.new (RestsAt (state_of cluster.old) (place + 1)) result }
 {
     cluster.is_going();
     let id = MemberId(place as u32 + 1);
@@ -362,11 +338,8 @@ fn either(one: bool, other: bool) -> bool
 
 /// Every member takes one turn of its own work: whether any did something.
 fn pass(cluster: &mut Cluster) -> Result<bool, OutOfMemory>
-    ensures works { Works cluster.old cluster.new }
-    ensures falls { IfOk result (λ b. b ≡ true
-        → work (state_of cluster.new) < work (state_of cluster.old)) }
-    ensures rests { IfOk result (λ b. b ≡ false → SameButOwed cluster.old cluster.new
-        × ((i : ℕ) → i < length (cluster.old).names → RestsAt (state_of cluster.old) (i + 1))) }
+    ensures { DoesOrRests cluster.old cluster.new
+        ((i : ℕ) → i < length (cluster.old).names → RestsAt (state_of cluster.old) (i + 1)) result }
 {
     let count = cluster.count();
     let mut moved = false;

@@ -1,15 +1,11 @@
 //! The laws of a ring left to itself, over all runs.
 ghost use Rattle.std.specs.Prelude.{◌≢◌, ℕ, List, All};
-ghost use Rattle.ring_names.specs.declared.numbers.CreditSpec.{CreditSpec};
 ghost use Rattle.group_view.specs.declared.entry.Entry.{Entry};
 ghost use Rattle.group_view.specs.declared.entry.Mark.TheVariants.{Dead};
-ghost use Rattle.group_view.specs.Change.{AreOpeningNames};
-ghost use Rattle.ring_world.specs.declared.event.Event.{Event};
 ghost use Rattle.ring_world.specs.declared.event.Event.TheVariants.{Put, Take, TakeEnd, Gain, Pick, Mark};
 ghost use Rattle.ring_world.specs.Machine.{view_at, newest};
-ghost use Rattle.ring_world.specs.Step.{opening};
-ghost use Rattle.ring_world.specs.Event.{IsRun, last};
 ghost use Rattle.ring_world.specs.Quiet.{IsSettled, IsAtRest, IsQuiet};
+ghost use Rattle.ring_cluster.specs.EachState.{InEachState};
 ghost use Rattle.ring_cluster.specs.Idle.{IsIdle, NobodyStopped, MarksNobody};
 ghost use Rattle.ring_cluster.specs.Heard.{HasHeardAll};
 ghost use Rattle.ring_cluster.specs.Work.{EachLeavesLess, EachRefreshLeavesLess};
@@ -22,30 +18,16 @@ ghost use Rattle.ring_cluster.specs.Work.{EachLeavesLess, EachRefreshLeavesLess}
 /// (`settled`). And where no entry of the newest view is dead, and no running member can have its right neighbour
 /// marked dead, it is quiet (`marked`).
 pub fn an_idle_ring_is_at_rest()
-    ensures alive { (credit : CreditSpec) (names : List (List ℕ)) (events : List Event)
-        → AreOpeningNames names → IsRun (opening credit names) events
-        → NobodyStopped (last (opening credit names) events)
-        → IsIdle (last (opening credit names) events) → IsQuiet (last (opening credit names) events) }
-    ensures settled { (credit : CreditSpec) (names : List (List ℕ)) (events : List Event)
-        → AreOpeningNames names → IsRun (opening credit names) events
-        → IsIdle (last (opening credit names) events)
-        → All (IsSettled (last (opening credit names) events))
-        (view_at (last (opening credit names) events) (newest (last (opening credit names) events))).entries
-        → IsAtRest (last (opening credit names) events) }
-    ensures marked { (credit : CreditSpec) (names : List (List ℕ)) (events : List Event)
-        → AreOpeningNames names → IsRun (opening credit names) events
-        → IsIdle (last (opening credit names) events) → MarksNobody (last (opening credit names) events)
-        → All (λ (e : Entry). e.mark ≢ Dead)
-        (view_at (last (opening credit names) events) (newest (last (opening credit names) events))).entries
-        → IsQuiet (last (opening credit names) events) }
+    ensures alive { InEachState (λ w. NobodyStopped w → IsIdle w → IsQuiet w) }
+    ensures settled { InEachState (λ w. IsIdle w → All (IsSettled w) (view_at w (newest w)).entries → IsAtRest w) }
+    ensures marked { InEachState (λ w. IsIdle w → MarksNobody w
+        → All (λ (e : Entry). e.mark ≢ Dead) (view_at w (newest w)).entries → IsQuiet w) }
 {}
 
 /// Where a ring is quiet, in any state that it reaches, every message of the members that run is
 /// confirmed, and every member that is up has heard all of them.
 pub fn a_quiet_ring_has_heard_all()
-    ensures { (credit : CreditSpec) (names : List (List ℕ)) (events : List Event)
-        → AreOpeningNames names → IsRun (opening credit names) events
-        → IsQuiet (last (opening credit names) events) → HasHeardAll (last (opening credit names) events) }
+    ensures { InEachState (λ w. IsQuiet w → HasHeardAll w) }
 {}
 
 /// The steps by which members go on and gm repairs the ring after a death: a put, a take, the take of a link's end, a
@@ -53,25 +35,11 @@ pub fn a_quiet_ring_has_heard_all()
 /// each of them that is enabled leaves the ring with less to do, as `work` counts it in one number. So, while nobody
 /// publishes, stops or refreshes otherwise, only so many steps can follow each other as `work` says.
 pub fn each_step_of_repair_leaves_less_to_do()
-    ensures put { (credit : CreditSpec) (names : List (List ℕ)) (events : List Event)
-        → AreOpeningNames names → IsRun (opening credit names) events
-        → EachLeavesLess (last (opening credit names) events) Put }
-    ensures take { (credit : CreditSpec) (names : List (List ℕ)) (events : List Event)
-        → AreOpeningNames names → IsRun (opening credit names) events
-        → EachLeavesLess (last (opening credit names) events) Take }
-    ensures end { (credit : CreditSpec) (names : List (List ℕ)) (events : List Event)
-        → AreOpeningNames names → IsRun (opening credit names) events
-        → EachLeavesLess (last (opening credit names) events) TakeEnd }
-    ensures gain { (credit : CreditSpec) (names : List (List ℕ)) (events : List Event)
-        → AreOpeningNames names → IsRun (opening credit names) events
-        → EachLeavesLess (last (opening credit names) events) Gain }
-    ensures pick { (credit : CreditSpec) (names : List (List ℕ)) (events : List Event)
-        → AreOpeningNames names → IsRun (opening credit names) events
-        → EachLeavesLess (last (opening credit names) events) Pick }
-    ensures refresh { (credit : CreditSpec) (names : List (List ℕ)) (events : List Event)
-        → AreOpeningNames names → IsRun (opening credit names) events
-        → EachRefreshLeavesLess (last (opening credit names) events) }
-    ensures mark { (credit : CreditSpec) (names : List (List ℕ)) (events : List Event)
-        → AreOpeningNames names → IsRun (opening credit names) events
-        → (dead : List ℕ) → EachLeavesLess (last (opening credit names) events) (λ by. Mark by dead) }
+    ensures put { InEachState (λ w. EachLeavesLess w Put) }
+    ensures take { InEachState (λ w. EachLeavesLess w Take) }
+    ensures end { InEachState (λ w. EachLeavesLess w TakeEnd) }
+    ensures gain { InEachState (λ w. EachLeavesLess w Gain) }
+    ensures pick { InEachState (λ w. EachLeavesLess w Pick) }
+    ensures refresh { InEachState (λ w. EachRefreshLeavesLess w) }
+    ensures mark { InEachState (λ w. (dead : List ℕ) → EachLeavesLess w (λ by. Mark by dead)) }
 {}

@@ -16,13 +16,14 @@ ghost use Rattle.group_view.specs.Ring.{is_in};
 ghost use Rattle.ring_world.specs.View.{ids};
 ghost use Rattle.gm_member.specs.Held.{refresh_refused};
 ghost use Rattle.ring_cluster.specs.Parties.{shown_of};
+ghost use Rattle.ring_cluster.specs.Tried.{IsJudged};
 ghost use Rattle.ring_cluster.specs.Acting.{IsReady};
 ghost use Rattle.ring_cluster.specs.Looking.{first_of, to_post, kept_post, loose_seen, tidied, without_question};
 ghost use Rattle.ring_cluster.specs.Looking.{HasLooked};
 
-use crate::node::{Node, drop_old_ins};
+use crate::node::{Node, drop_old_ins, refused};
 use crate::undelivered::Undelivered;
-use gm_member::{Ask, Load, MemberFault};
+use gm_member::{Ask, Load};
 use group_view::{Answer, LinkName, Request, View};
 use ordered_link::{PlainIn, PlainOut};
 use registrar::Registrar;
@@ -59,18 +60,15 @@ pub(crate) fn mark(
 ) -> Result<Looked, Refused>
     requires ready { IsReady (shown_of node.old) }
     requires here { AreHere (registrar.old).links }
-    ensures enabled { OnOk result (mark_refused registrar.old (shown_of node.old) (Some dead.0) ≡ None) }
+    ensures judged { IsJudged (mark_refused registrar.old (shown_of node.old) (Some dead.0)) result }
     ensures ok { IfOk result (λ l. HasLooked (marked (newest registrar.old) dead.0) (shown_of node.old)
         (shown_of node.new) (kept_post l.opened) (loose_seen l.loose)) }
     ensures registrar { OnOk result (registrar.new ≡ with_view registrar.old (marked (newest registrar.old) dead.0)) }
-    ensures reason { IfErr result (λ e. (r : Reason) → e ≡ Refused.NotEnabled r
-        → mark_refused registrar.old (shown_of node.old) (Some dead.0) ≡ Some r) }
     ensures err { OnErr result ((shown_of node.new ≡ shown_of node.old) × (registrar.new ≡ registrar.old)) }
 {
     let request = match node.ask(Ask::Mark(dead)) {
         Ok(request) => request,
-        Err(MemberFault::Refused(reason)) => return Err(Refused::NotEnabled(reason)),
-        Err(MemberFault::OutOfMemory) => return Err(Refused::OutOfMemory),
+        Err(fault) => return Err(refused(fault)),
     };
     match ask_for_view(registrar, request) {
         Ok(view) => Ok(read_answer(node, view)),
@@ -88,11 +86,9 @@ fn ask_for_view(
 ) -> Result<View, Refused>
     requires here { AreHere (registrar.old).links }
     requires view { (v : Group) × (answered registrar.old request ≡ Viewed v) }
-    ensures enabled { OnOk result (request_refusal registrar.old request ≡ None) }
+    ensures judged { IsJudged (request_refusal registrar.old request) result }
     ensures view { IfOk result (λ v. answered registrar.old request ≡ Viewed v) }
     ensures registrar { OnOk result (registrar.new ≡ handled registrar.old request) }
-    ensures reason { IfErr result (λ e. (r : Reason) → e ≡ Refused.NotEnabled r
-        → request_refusal registrar.old request ≡ Some r) }
     ensures err { OnErr result (registrar.new ≡ registrar.old) }
 {
     if let Some(reason) = registrar.refusal(&request) {

@@ -1,5 +1,5 @@
 //! A member over plain ends, and what it does by itself.
-ghost use Rattle.std.specs.Prelude.{◌≡◌, [], OnOk, OnErr, IfErr, IsOk, Some, None, Err};
+ghost use Rattle.std.specs.Prelude.{◌≡◌, [], OnOk, OnErr, IsOk, None};
 ghost use Rattle.ring_names.specs.declared.reason.Reason.{Reason};
 ghost use Rattle.ring_names.specs.declared.message.Message.TheVariants as message;
 ghost use Rattle.gm_member.specs.Held.{put_refused, pick_refused};
@@ -7,6 +7,7 @@ ghost use Rattle.ring_cluster.specs.Parties.{shown_of};
 ghost use Rattle.ring_cluster.specs.Acting.{IsReady, cast_refused, packet_refused, link_end_refused, grant_refused};
 ghost use Rattle.ring_cluster.specs.Acting.{stop_refused, Casts, PutsPacket, TakesPacket, TakesEnd, Gains, Stops};
 ghost use Rattle.ring_cluster.specs.Acting.{Picks};
+ghost use Rattle.ring_cluster.specs.Tried.{IsJudged, Tries};
 
 use gm_member::{Load, Member, MemberFault};
 use ordered_link::{PlainIn, PlainOut};
@@ -16,13 +17,21 @@ use ring_world::Refused;
 /// A member whose links are plain pairs.
 pub type Node = Member<PlainOut<Load>, PlainIn<Load>>;
 
+/// Why an event didn't happen, of which a member answered this.
+pub(crate) fn refused(fault: MemberFault) -> Refused
+    ensures only { (r : Reason) → result ≡ Refused.NotEnabled r → fault ≡ MemberFault.Refused r }
+    ensures refused { (r : Reason) → fault ≡ MemberFault.Refused r → result ≡ Refused.NotEnabled r }
+{
+    match fault {
+        MemberFault::Refused(reason) => Refused::NotEnabled(reason),
+        MemberFault::OutOfMemory => Refused::OutOfMemory,
+    }
+}
+
 /// The member publishes the body.
 pub(crate) fn cast(node: &mut Node, body: &Body) -> Result<(), Refused>
-    ensures enabled { OnOk result (cast_refused (shown_of node.old) ≡ None) }
-    ensures ok { OnOk result
-        (Casts (message.Cast body.now) (shown_of node.old) (shown_of node.new)) }
-    ensures reason { IfErr result (λ e. (r : Reason) → e ≡ Refused.NotEnabled r
-        → cast_refused (shown_of node.old) ≡ Some r) }
+    ensures judged { IsJudged (cast_refused (shown_of node.old)) result }
+    ensures ok { OnOk result (Casts (message.Cast body.now) (shown_of node.old) (shown_of node.new)) }
     ensures err { OnErr result (shown_of node.new ≡ shown_of node.old) }
 {
     let Ok(body) = body.copy() else {
@@ -30,64 +39,40 @@ pub(crate) fn cast(node: &mut Node, body: &Body) -> Result<(), Refused>
     };
     match node.publish(Message::Cast(body)) {
         Ok(_number) => Ok(()),
-        Err((_message, fault)) => match fault {
-            MemberFault::Refused(reason) => Err(Refused::NotEnabled(reason)),
-            MemberFault::OutOfMemory => Err(Refused::OutOfMemory),
-        },
+        Err((_message, fault)) => Err(refused(fault)),
     }
 }
 
 /// The member puts its next packet, where that is enabled.
 pub(crate) fn put(node: &mut Node) -> Result<(), Refused>
     requires { IsReady (shown_of node.old) }
-    ensures enabled { OnOk result (put_refused (shown_of node.old).held ≡ None) }
-    ensures ok { OnOk result (PutsPacket (shown_of node.old) (shown_of node.new)) }
-    ensures refused { (r : Reason) → put_refused (shown_of node.old).held ≡ Some r
-        → result ≡ Err (Refused.NotEnabled r) }
-    ensures reason { IfErr result (λ e. (r : Reason) → e ≡ Refused.NotEnabled r
-        → put_refused (shown_of node.old).held ≡ Some r) }
-    ensures err { OnErr result (shown_of node.new ≡ shown_of node.old) }
+    ensures { Tries (put_refused (shown_of node.old).held) PutsPacket (shown_of node.old) (shown_of node.new) result }
 {
     match node.put() {
         Ok(()) => Ok(()),
-        Err(MemberFault::Refused(reason)) => Err(Refused::NotEnabled(reason)),
-        Err(MemberFault::OutOfMemory) => Err(Refused::OutOfMemory),
+        Err(fault) => Err(refused(fault)),
     }
 }
 
 /// The member takes the oldest packet of the link from which it takes, where there is one.
 pub(crate) fn take(node: &mut Node) -> Result<(), Refused>
     requires { IsReady (shown_of node.old) }
-    ensures enabled { OnOk result (packet_refused (shown_of node.old) ≡ None) }
-    ensures ok { OnOk result (TakesPacket (shown_of node.old) (shown_of node.new)) }
-    ensures refused { (r : Reason) → packet_refused (shown_of node.old) ≡ Some r
-        → result ≡ Err (Refused.NotEnabled r) }
-    ensures reason { IfErr result (λ e. (r : Reason) → e ≡ Refused.NotEnabled r
-        → packet_refused (shown_of node.old) ≡ Some r) }
-    ensures err { OnErr result (shown_of node.new ≡ shown_of node.old) }
+    ensures { Tries (packet_refused (shown_of node.old)) TakesPacket (shown_of node.old) (shown_of node.new) result }
 {
     match node.take() {
         Ok(_taken) => Ok(()),
-        Err(MemberFault::Refused(reason)) => Err(Refused::NotEnabled(reason)),
-        Err(MemberFault::OutOfMemory) => Err(Refused::OutOfMemory),
+        Err(fault) => Err(refused(fault)),
     }
 }
 
 /// The member takes the end of that link, where it is next, and leaves it.
 pub(crate) fn take_end(node: &mut Node) -> Result<(), Refused>
     requires { IsReady (shown_of node.old) }
-    ensures enabled { OnOk result (link_end_refused (shown_of node.old) ≡ None) }
-    ensures ok { OnOk result (TakesEnd (shown_of node.old) (shown_of node.new)) }
-    ensures refused { (r : Reason) → link_end_refused (shown_of node.old) ≡ Some r
-        → result ≡ Err (Refused.NotEnabled r) }
-    ensures reason { IfErr result (λ e. (r : Reason) → e ≡ Refused.NotEnabled r
-        → link_end_refused (shown_of node.old) ≡ Some r) }
-    ensures err { OnErr result (shown_of node.new ≡ shown_of node.old) }
+    ensures { Tries (link_end_refused (shown_of node.old)) TakesEnd (shown_of node.old) (shown_of node.new) result }
 {
     match node.take_end() {
         Ok(_reason) => {}
-        Err(MemberFault::Refused(reason)) => return Err(Refused::NotEnabled(reason)),
-        Err(MemberFault::OutOfMemory) => unreachable!(),
+        Err(fault) => return Err(refused(fault)),
     }
     drop_old_ins(node);
     Ok(())
@@ -104,13 +89,7 @@ pub(crate) fn drop_old_ins(node: &mut Node)
 /// The member gains the oldest grant that came back, where there is one.
 pub(crate) fn gain(node: &mut Node) -> Result<(), Refused>
     requires { IsReady (shown_of node.old) }
-    ensures enabled { OnOk result (grant_refused (shown_of node.old) ≡ None) }
-    ensures ok { OnOk result (Gains (shown_of node.old) (shown_of node.new)) }
-    ensures refused { (r : Reason) → grant_refused (shown_of node.old) ≡ Some r
-        → result ≡ Err (Refused.NotEnabled r) }
-    ensures reason { IfErr result (λ e. (r : Reason) → e ≡ Refused.NotEnabled r
-        → grant_refused (shown_of node.old) ≡ Some r) }
-    ensures err { OnErr result (shown_of node.new ≡ shown_of node.old) }
+    ensures { Tries (grant_refused (shown_of node.old)) Gains (shown_of node.old) (shown_of node.new) result }
 {
     if let Some(reason) = node.gain_refusal() {
         return Err(Refused::NotEnabled(reason));
@@ -127,36 +106,22 @@ pub(crate) fn gain(node: &mut Node) -> Result<(), Refused>
 /// The member stops, where it acts.
 pub(crate) fn stop(node: &mut Node) -> Result<(), Refused>
     requires { IsReady (shown_of node.old) }
-    ensures enabled { OnOk result (stop_refused (shown_of node.old) ≡ None) }
-    ensures ok { OnOk result (Stops (shown_of node.old) (shown_of node.new)) }
-    ensures refused { (r : Reason) → stop_refused (shown_of node.old) ≡ Some r
-        → result ≡ Err (Refused.NotEnabled r) }
-    ensures reason { IfErr result (λ e. (r : Reason) → e ≡ Refused.NotEnabled r
-        → stop_refused (shown_of node.old) ≡ Some r) }
+    ensures tries { Tries (stop_refused (shown_of node.old)) Stops (shown_of node.old) (shown_of node.new) result }
     ensures succeeds { stop_refused (shown_of node.old) ≡ None → IsOk result }
-    ensures err { OnErr result (shown_of node.new ≡ shown_of node.old) }
 {
     match node.stop() {
         Ok(()) => Ok(()),
-        Err(MemberFault::Refused(reason)) => Err(Refused::NotEnabled(reason)),
-        Err(MemberFault::OutOfMemory) => unreachable!(),
+        Err(fault) => Err(refused(fault)),
     }
 }
 
 /// The member takes from now on from the first link at its door that it may, where there is one.
 pub(crate) fn pick(node: &mut Node) -> Result<(), Refused>
     requires { IsReady (shown_of node.old) }
-    ensures enabled { OnOk result (pick_refused (shown_of node.old).held ≡ None) }
-    ensures ok { OnOk result (Picks (shown_of node.old) (shown_of node.new)) }
-    ensures refused { (r : Reason) → pick_refused (shown_of node.old).held ≡ Some r
-        → result ≡ Err (Refused.NotEnabled r) }
-    ensures reason { IfErr result (λ e. (r : Reason) → e ≡ Refused.NotEnabled r
-        → pick_refused (shown_of node.old).held ≡ Some r) }
-    ensures err { OnErr result (shown_of node.new ≡ shown_of node.old) }
+    ensures { Tries (pick_refused (shown_of node.old).held) Picks (shown_of node.old) (shown_of node.new) result }
 {
     match node.pick() {
         Ok(()) => Ok(()),
-        Err(MemberFault::Refused(reason)) => Err(Refused::NotEnabled(reason)),
-        Err(MemberFault::OutOfMemory) => unreachable!(),
+        Err(fault) => Err(refused(fault)),
     }
 }

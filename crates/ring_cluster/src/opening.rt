@@ -70,10 +70,8 @@ fn opening_nodes(
 fn push_node(nodes: &mut Vec<Node>, node: Node) -> Result<(), OutOfMemory>
     ensures { OnOk result (nodes.new.items ≡ nodes.old.items ++ node ∷ []) }
 {
-    match nodes.push(node) {
-        Ok(()) => Ok(()),
-        Err(_) => Err(OutOfMemory),
-    }
+    nodes.push(node)?;
+    Ok(())
 }
 
 /// The parties of a ring that opens with these members, in ring order.

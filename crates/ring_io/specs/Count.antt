@@ -1,5 +1,5 @@
 -- Counts of faults and of calls, which stand still at their last value.
-use Rattle.std.specs.Prelude.{ℕ, ◌+◌, ◌-◌, ◌^◌, ◌≤◌, min}
+use Rattle.std.specs.Prelude.{◌≡◌, ℕ, ◌+◌, ◌-◌, ◌^◌, ◌≤◌, min, Result, MatchResult}
 
 -- the last value of a count
 abbrev pub last_count : ℕ
@@ -12,3 +12,7 @@ next_count n = min (n + 1) last_count
 -- the count rose in between, or stands at its last value
 abbrev pub Rose : ℕ → ℕ → Type 0
 Rose old new = next_count old ≤ new
+
+-- the count rose by one where the call failed, and stayed where it did not
+abbrev pub CountsFault : {X E : Type 0} → ℕ → ℕ → Result X E → Type 0
+CountsFault old new r = MatchResult r (λ _. new ≡ old) (λ _. new ≡ next_count old)

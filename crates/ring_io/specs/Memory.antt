@@ -26,6 +26,11 @@ one_failed c = record c { made = next_count c.made; faults = next_count c.faults
 abbrev pub no_calls : ℕ → List ℕ → Calls
 no_calls most fails = record { fails = fails; most = max most 1; made = 0; faults = 0 }
 
+-- the bytes held, of `room` at most
+pub record Held : Type 0 where
+  pub bytes : List ℕ
+  pub room : ℕ
+
 -- a source: the bytes left
 pub record Supply : Type 0 where
   pub left : List ℕ

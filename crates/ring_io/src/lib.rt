@@ -7,6 +7,7 @@ mod calls;
 mod front;
 mod gate;
 mod memory;
+mod room;
 mod sink;
 mod source;
 mod sure;
@@ -14,7 +15,7 @@ mod sure;
 mod tests;
 mod whole;
 
-pub use adapters::{ReadSource, WriteSink};
+pub use adapters::{Counting, ReadSource, WriteSink};
 pub use gate::{Gate, ShutGate};
 pub use memory::{MemorySink, MemorySource};
 pub use sink::Sink;

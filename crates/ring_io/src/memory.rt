@@ -3,13 +3,14 @@ ghost use Rattle.std.specs.Prelude.{◌≡◌, ℕ, ◌+◌, ◌-◌, ◌<◌, �
 ghost use Rattle.std.specs.Prelude.{false, IsErr, IsTrue, IfOk, OnErr, MatchResult};
 ghost use Rattle.std.specs.Io.{ReadsAtMost};
 ghost use Rattle.std.specs.Io.KnownBytes.{ReadConsumes};
-ghost use Rattle.ring_io.specs.Contents.{Gains};
+ghost use Rattle.ring_io.specs.Contents.{WriteGains};
 ghost use Rattle.ring_io.specs.Count.{Rose};
 ghost use Rattle.ring_io.specs.Memory.{given_count, is_next_listed, is_next_refused, no_calls, one_failed, one_more};
 ghost use Rattle.ring_io.specs.Memory.{taken_count};
 
 use crate::calls::Calls;
-use crate::front::read_front;
+use crate::front::Unread;
+use crate::room::Room;
 use crate::sink::Sink;
 use crate::source::{Failed, Source};
 use ring_names::OutOfMemory;
@@ -19,20 +20,16 @@ use std::marker::Model;
 /// A source of bytes that are given.
 #[derive(Drop, Debug)]
 pub struct MemorySource {
-    bytes: Vec<u8>,
-    at: usize,
+    left: Unread,
     calls: Calls,
 }
 
 impl Model for MemorySource {
-    ghost use Rattle.std.specs.Prelude.{◌≤◌, drop, vec_len};
     ghost use Rattle.ring_io.specs.Memory.{Supply};
 
     ghost Value = { Supply };
 
-    ghost view = { λ s. record { left = drop s.at s.bytes.items; calls = s.calls } };
-
-    ghost invariant = { λ s. s.at ≤ vec_len s.bytes };
+    ghost view = { λ s. record { left = s.left; calls = s.calls } };
 }
 
 impl MemorySource {
@@ -42,8 +39,7 @@ impl MemorySource {
         ensures { result ≡ record { left = bytes.items; calls = no_calls most fails.items } }
     {
         MemorySource {
-            bytes,
-            at: 0,
+            left: Unread::new(bytes),
             calls: Calls::new(most, fails),
         }
     }
@@ -73,29 +69,23 @@ impl Source for MemorySource {
             return Err(Failed);
         }
         self.calls.count();
-        let n = read_front(&self.bytes, self.at, buf, self.calls.most());
-        self.at += n;
-        Ok(n)
+        Ok(self.left.read(buf, self.calls.most()))
     }
 }
 
 /// A sink with so much room, which is found when it is made.
 #[derive(Drop, Debug)]
 pub struct MemorySink {
-    held: Vec<u8>,
-    room: usize,
+    held: Room,
     calls: Calls,
 }
 
 impl Model for MemorySink {
-    ghost use Rattle.std.specs.Prelude.{◌≤◌, vec_len, vec_capacity};
     ghost use Rattle.ring_io.specs.Memory.{Store};
 
     ghost Value = { Store };
 
-    ghost view = { λ s. record { held = s.held.items; room = s.room; calls = s.calls } };
-
-    ghost invariant = { λ s. (vec_len s.held ≤ s.room) × (s.room ≤ vec_capacity s.held) };
+    ghost view = { λ s. record { held = s.held.bytes; room = s.held.room; calls = s.calls } };
 }
 
 impl MemorySink {
@@ -111,8 +101,7 @@ impl MemorySink {
             ≡ record { held = []; room = room; calls = no_calls most fails.items }) }
     {
         Ok(MemorySink {
-            held: Vec::with_capacity(alloc, room)?,
-            room,
+            held: Room::new(alloc, room)?,
             calls: Calls::new(most, fails),
         })
     }
@@ -121,7 +110,7 @@ impl MemorySink {
     pub fn bytes(&self) -> &[u8]
         ensures { result.now ≡ (self.now).held }
     {
-        &self.held
+        self.held.bytes()
     }
 }
 
@@ -136,9 +125,7 @@ impl Sink for MemorySink {
         requires { 0 < length piece.now }
         ensures some { IfOk result (λ n. 0 < n) }
         ensures bound { IfOk result (λ n. n ≤ length piece.now) }
-        ensures bytes { MatchResult result
-            (λ n. Gains false (Some (self.old).held) (Some (self.new).held) (take n piece.now))
-            (λ _. Gains false (Some (self.old).held) (Some (self.new).held) []) }
+        ensures bytes { WriteGains false (Some (self.old).held) (Some (self.new).held) result piece.now }
         ensures never_falls { (self.old).calls.faults ≤ (self.new).calls.faults }
         ensures failed { OnErr result (Rose (self.old).calls.faults (self.new).calls.faults) }
 
@@ -151,16 +138,13 @@ impl Sink for MemorySink {
         }) }
         ensures err { OnErr result (self.new ≡ record self.old { calls = one_failed (self.old).calls }) }
     {
-        if self.calls.is_next_listed() || self.held.len() == self.room {
+        if self.calls.is_next_listed() || self.held.is_full() {
             self.calls.count_fault();
             return Err(Failed);
         }
         self.calls.count();
-        let free = self.room - self.held.len();
-        let n = self.calls.most().min(piece.len().min(free));
-        match self.held.extend_from_slice(&piece[..n]) {
-            Ok(()) => Ok(n),
-            Err(_) => unreachable!(),
-        }
+        let n = self.calls.most().min(piece.len().min(self.held.free()));
+        self.held.push(&piece[..n]);
+        Ok(n)
     }
 }

@@ -1,6 +1,6 @@
 //! What bytes are written to.
-ghost use Rattle.std.specs.Prelude.{◌≡◌, ℕ, ◌<◌, ◌≤◌, Bool, List, [], Option, length, take, IfOk, MatchResult, OnErr};
-ghost use Rattle.ring_io.specs.Contents.{Gains};
+ghost use Rattle.std.specs.Prelude.{◌≡◌, ℕ, ◌<◌, ◌≤◌, Bool, List, Option, length, IfOk, OnErr};
+ghost use Rattle.ring_io.specs.Contents.{WriteGains};
 ghost use Rattle.ring_io.specs.Count.{Rose};
 
 use crate::source::Failed;
@@ -22,9 +22,7 @@ pub trait Sink {
         requires { 0 < length piece.now }
         ensures some { IfOk result (λ n. 0 < n) }
         ensures bound { IfOk result (λ n. n ≤ length piece.now) }
-        ensures bytes { MatchResult result
-            (λ n. Gains may_lose_track (contents self.old) (contents self.new) (take n piece.now))
-            (λ _. Gains may_lose_track (contents self.old) (contents self.new) []) }
+        ensures bytes { WriteGains may_lose_track (contents self.old) (contents self.new) result piece.now }
         ensures never_falls { faults self.old ≤ faults self.new }
         ensures failed { OnErr result (Rose (faults self.old) (faults self.new)) };
 }

@@ -3,10 +3,11 @@ ghost use Rattle.std.specs.Prelude.{◌≡◌, ℕ, ◌+◌, ◌-◌, ◌<◌, �
 ghost use Rattle.std.specs.Prelude.{Ok, IfOk, OnErr, IsOk, MatchResult, true};
 ghost use Rattle.std.specs.Io.{ReadsAtMost};
 ghost use Rattle.std.specs.Io.KnownBytes.{ReadConsumes};
-ghost use Rattle.ring_io.specs.Contents.{Gains};
+ghost use Rattle.ring_io.specs.Contents.{WriteGains};
 ghost use Rattle.ring_io.specs.Memory.{kept_more, told_bytes};
 
-use crate::front::read_front;
+use crate::front::Unread;
+use crate::room::Room;
 use crate::sink::Sink;
 use crate::source::{Failed, Source};
 use ring_names::OutOfMemory;
@@ -16,18 +17,15 @@ use std::marker::Model;
 /// A source of bytes that are given, which never fails.
 #[derive(Drop, Debug)]
 pub struct SureSource {
-    bytes: Vec<u8>,
-    at: usize,
+    left: Unread,
 }
 
 impl Model for SureSource {
-    ghost use Rattle.std.specs.Prelude.{ℕ, ◌≤◌, List, drop, vec_len};
+    ghost use Rattle.std.specs.Prelude.{ℕ, List};
 
     ghost Value = { List ℕ };
 
-    ghost view = { λ s. drop s.at s.bytes.items };
-
-    ghost invariant = { λ s. s.at ≤ vec_len s.bytes };
+    ghost view = { λ s. s.left };
 }
 
 impl SureSource {
@@ -35,7 +33,9 @@ impl SureSource {
     pub fn new(bytes: Vec<u8>) -> SureSource
         ensures { result ≡ bytes.items }
     {
-        SureSource { bytes, at: 0 }
+        SureSource {
+            left: Unread::new(bytes),
+        }
     }
 }
 
@@ -55,9 +55,7 @@ impl Source for SureSource {
         ensures rest { IfOk result (λ n. self.new ≡ drop n self.old) }
     {
         let most = buf.len();
-        let n = read_front(&self.bytes, self.at, buf, most);
-        self.at += n;
-        Ok(n)
+        Ok(self.left.read(buf, most))
     }
 }
 
@@ -65,20 +63,16 @@ impl Source for SureSource {
 /// counts the others. It tells the bytes given while it keeps them all, and tells none after that.
 #[derive(Drop, Debug)]
 pub struct SureSink {
-    kept: Vec<u8>,
-    room: usize,
+    kept: Room,
     lost: u64,
 }
 
 impl Model for SureSink {
-    ghost use Rattle.std.specs.Prelude.{◌≤◌, vec_len, vec_capacity};
     ghost use Rattle.ring_io.specs.Memory.{Kept};
 
     ghost Value = { Kept };
 
-    ghost view = { λ s. record { bytes = s.kept.items; room = s.room; lost = s.lost } };
-
-    ghost invariant = { λ s. (vec_len s.kept ≤ s.room) × (s.room ≤ vec_capacity s.kept) };
+    ghost view = { λ s. record { bytes = s.kept.bytes; room = s.kept.room; lost = s.lost } };
 }
 
 impl SureSink {
@@ -87,8 +81,7 @@ impl SureSink {
         ensures { IfOk result (λ s. s ≡ record { bytes = []; room = room; lost = 0 }) }
     {
         Ok(SureSink {
-            kept: Vec::with_capacity(alloc, room)?,
-            room,
+            kept: Room::new(alloc, room)?,
             lost: 0,
         })
     }
@@ -97,7 +90,7 @@ impl SureSink {
     pub fn bytes(&self) -> &[u8]
         ensures { result.now ≡ (self.now).bytes }
     {
-        &self.kept
+        self.kept.bytes()
     }
 
     /// How many bytes were taken and not kept, at most the last value of a `u64`.
@@ -119,21 +112,15 @@ impl Sink for SureSink {
         requires { 0 < length piece.now }
         ensures some { IfOk result (λ n. 0 < n) }
         ensures bound { IfOk result (λ n. n ≤ length piece.now) }
-        ensures bytes { MatchResult result
-            (λ n. Gains true (told_bytes self.old) (told_bytes self.new) (take n piece.now))
-            (λ _. Gains true (told_bytes self.old) (told_bytes self.new) []) }
+        ensures bytes { WriteGains true (told_bytes self.old) (told_bytes self.new) result piece.now }
         ensures sure { IsOk result }
 
         // A call takes the whole piece, and keeps all of it that there is room for.
         ensures taken { result ≡ Ok (length piece.now) }
         ensures kept { self.new ≡ kept_more self.old piece.now }
     {
-        let free = self.room - self.kept.len();
-        let n = free.min(piece.len());
-        match self.kept.extend_from_slice(&piece[..n]) {
-            Ok(()) => {}
-            Err(_) => unreachable!(),
-        }
+        let n = self.kept.free().min(piece.len());
+        self.kept.push(&piece[..n]);
         self.lost = self.lost.saturating_add((piece.len() - n) as u64);
         Ok(piece.len())
     }

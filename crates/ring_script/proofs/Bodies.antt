@@ -1,5 +1,5 @@
 -- Bytes of text, and bodies.
-use Rattle.std.proofs.Common.{◌≡◌, ℕ, zero, suc, ◌≤◌, true, false, List, [], ◌∷◌, drop, Option, Some, None, length, get_or, refl, ◌==◌, if◌then◌else◌, arith}
+use Rattle.std.proofs.Common.{◌≡◌, ℕ, zero, suc, ◌≤◌, true, false, List, [], ◌∷◌, drop, Option, Some, None, length, get_or, refl, sym, ap, subst, ◌∙◌, ◌==◌, if◌then◌else◌, arith}
 use Rattle.std.specs.List.{position, list_all, prefix_len, slice_index}
 use Rattle.std.proofs.lemmas.Bool.{both_ways, and_parts}
 use Rattle.std.proofs.lemmas.Bool.Decides.{nat_tests}
@@ -43,3 +43,16 @@ behind_word_text text h = rest_text (prefix_len is_inner (from_word text)) (from
 -- and behind a space
 pub behind_space_text : (text : List ℕ) → list_all is_text_byte text ≡ true → list_all is_text_byte (behind_space text) ≡ true
 behind_space_text text h = rest_text (if slice_index text 0 == 32 then 1 else 0) text h
+
+-- a line's first word begins the line, and what stands behind that word is text where the line is
+pub further_text : (whole line further : List ℕ) (at : ℕ) → at ≡ 0 → whole ≡ line → further ≡ behind_word (drop at whole) → list_all is_text_byte line ≡ true → list_all is_text_byte further ≡ true
+further_text whole line further at start same behind h =
+    let all : drop at whole ≡ line = ap (λ n. drop n whole) start ∙ same in
+    let text : list_all is_text_byte (drop at whole) ≡ true = subst (λ t. list_all is_text_byte t ≡ true) (sym all) h in
+    subst (λ t. list_all is_text_byte t ≡ true) (sym behind) (behind_word_text (drop at whole) text)
+
+-- and so is the body behind a word of a text
+pub body_text : (text further body : List ℕ) → further ≡ behind_word text → body ≡ behind_space further → list_all is_text_byte text ≡ true → list_all is_text_byte body ≡ true
+body_text text further body behind is h =
+    let left : list_all is_text_byte further ≡ true = subst (λ t. list_all is_text_byte t ≡ true) (sym behind) (behind_word_text text h) in
+    subst (λ t. list_all is_text_byte t ≡ true) (sym is) (behind_space_text further left)

@@ -6,7 +6,7 @@ use Rattle.ring_script.specs.declared.fault.Kind.TheVariants.{NoMembers}
 use Rattle.ring_script.specs.Words.{lines_of}
 use Rattle.ring_script.specs.Fault.{code_of}
 use Rattle.ring_script.specs.Line.{Grammar}
-use Rattle.ring_script.specs.Reading.{used_of, fault_at, AreRight, IsFaultAt, AreMissed, IsFirstFault, HasFault, IsRight}
+use Rattle.ring_script.specs.Reading.{used_of, fault_at, AreRight, IsFaultAt, AreMissed, IsFirstFault, HasFault, IsRight, JudgesEachText}
 use Rattle.ring_script.proofs.Lines.{right_more}
 
 -- ---- right or wrong
@@ -84,3 +84,7 @@ first_fault_is_one grammar bytes line code line' code' f g =
     g.stands)
     f.stands in
     (kinds.0, f.is ∙ ap code_of kinds.1 ∙ sym g.is)
+
+-- so each text is judged
+pub judges_each : (grammar : Grammar) → JudgesEachText grammar
+judges_each grammar = record { either = right_or_wrong grammar; never_both = right_has_no_fault grammar; one_fault = first_fault_is_one grammar }

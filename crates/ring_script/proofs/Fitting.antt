@@ -50,23 +50,23 @@ module _ {X : Type 0} (grammar : Grammar) (says : List ℕ → List ℕ → X) (
   fit_by used number line fit text e head.Members k =
       let adds = members_taken grammar says used number line k e in
       record {
-        opening = λ some. subst CanOpen (sym adds.members) (members_open (words_of (behind_word line)) adds.right);
-        lines = subst (All (λ l. Fits (members_of (used ++ (number, line) ∷ [])) l.1)) (sym (adds.lines ∙ ap (statements_of says) adds.first)) (All-nil (λ l. Fits (members_of (used ++ (number, line) ∷ [])) l.1));
+        opening = λ some. subst CanOpen (sym adds.said.members) (members_open (words_of (behind_word line)) adds.right);
+        lines = subst (All (λ l. Fits (members_of (used ++ (number, line) ∷ [])) l.1)) (sym (adds.said.lines ∙ ap (statements_of says) adds.first)) (All-nil (λ l. Fits (members_of (used ++ (number, line) ∷ [])) l.1));
       }
   fit_by used number line fit text e head.Credit k =
       let adds = credit_taken grammar says used number line k e in
       record {
-        opening = λ some. subst CanOpen (sym adds.members) (fit.opening adds.some);
-        lines = subst (λ names. All (λ l. Fits names l.1) (statements_of says (used ++ (number, line) ∷ []))) (sym adds.members)
-            (subst (All (λ l. Fits (members_of used) l.1)) (sym adds.lines) fit.lines);
+        opening = λ some. subst CanOpen (sym adds.said.members) (fit.opening adds.some);
+        lines = subst (λ names. All (λ l. Fits names l.1) (statements_of says (used ++ (number, line) ∷ []))) (sym adds.said.members)
+            (subst (All (λ l. Fits (members_of used) l.1)) (sym adds.said.lines) fit.lines);
       }
   fit_by used number line fit text e head.Statement k =
       let adds = statement_taken grammar says used number line k e in
       let right = fits (members_of used) (first_word line) (behind_word line) (behind_word_text line text) adds.right in
       record {
-        opening = λ some. subst CanOpen (sym adds.members) (fit.opening adds.some);
-        lines = subst (λ names. All (λ l. Fits names l.1) (statements_of says (used ++ (number, line) ∷ []))) (sym adds.members)
-            (subst (All (λ l. Fits (members_of used) l.1)) (sym adds.lines)
+        opening = λ some. subst CanOpen (sym adds.said.members) (fit.opening adds.some);
+        lines = subst (λ names. All (λ l. Fits names l.1) (statements_of says (used ++ (number, line) ∷ []))) (sym adds.said.members)
+            (subst (All (λ l. Fits (members_of used) l.1)) (sym adds.said.lines)
             (All-append (λ l. Fits (members_of used) l.1) (statements_of says used) ((number, says (first_word line) (behind_word line)) ∷ []) fit.lines
             (All-cons (λ l. Fits (members_of used) l.1) (number, says (first_word line) (behind_word line)) [] right (All-nil (λ l. Fits (members_of used) l.1)))));
       }

@@ -6,6 +6,7 @@ use Rattle.std.proofs.lemmas.List.Elements.{filter-append}
 use Rattle.ring_script.specs.declared.fault.Kind.{Kind}
 use Rattle.ring_script.specs.declared.line.Head.{Head}
 use Rattle.ring_script.specs.declared.line.Head.TheVariants as head
+use Rattle.ring_script.specs.declared.line.Next.{Next}
 use Rattle.ring_script.specs.declared.line.Next.TheVariants as next
 use Rattle.ring_script.specs.Words.{words_of, first_word, behind_word}
 use Rattle.ring_script.specs.Line.{Grammar, head_in, gives_credit, is_statement, members_fault, credit_in, fault_by}
@@ -42,14 +43,20 @@ statements_same : {X : Type 0} (says : List ℕ → List ℕ → X) (used : List
 statements_same says used number line e =
     statements_append says used ((number, line) ∷ []) ∙ ap (λ xs. statements_of says used ++ xs) (statements_by says number line false e) ∙ append-nil (statements_of says used)
 
+-- ---- what the used lines say
+
+-- this may stand next, and the used lines name these members, give this credit and make these statements
+pub record AreSaid {X : Type 0} (says : List ℕ → List ℕ → X) (used : List (ℕ × List ℕ)) (may : Next) (names : List (List ℕ)) (given : ℕ × ℕ) (made : List (ℕ × X)) : Type 0 where
+  pub next : next_of used ≡ may
+  pub members : members_of used ≡ names
+  pub credit : credit_of used ≡ given
+  pub lines : statements_of says used ≡ made
+
 -- ---- a line with a statement
 
 -- Behind a right line with a statement only statements stand, and it adds the statement.
 pub record AddsStatement {X : Type 0} (grammar : Grammar) (says : List ℕ → List ℕ → X) (used : List (ℕ × List ℕ)) (number : ℕ) (line : List ℕ) : Type 0 where
-  pub next : next_of (used ++ (number, line) ∷ []) ≡ next.Further
-  pub members : members_of (used ++ (number, line) ∷ []) ≡ members_of used
-  pub credit : credit_of (used ++ (number, line) ∷ []) ≡ credit_of used
-  pub lines : statements_of says (used ++ (number, line) ∷ []) ≡ statements_of says used ++ (number, says (first_word line) (behind_word line)) ∷ []
+  pub said : AreSaid says (used ++ (number, line) ∷ []) next.Further (members_of used) (credit_of used) (statements_of says used ++ said_on says (number, line) ∷ [])
   pub right : grammar (members_of used) (first_word line) (behind_word line) ≡ None
   pub some : 0 < length used
 
@@ -59,18 +66,12 @@ statement_taken grammar says [] number line k e = let wrong = sym (ap (fault_as 
 statement_taken grammar says (opening ∷ []) number line k e =
     let plain : gives_credit (head_in line) ≡ false = ap gives_credit k in
     record {
-      next = refl;
-      members = refl;
-      credit = rw plain;
-      lines = statements_more says (opening ∷ []) number line (ap is_statement k);
+      said = record { next = refl; members = refl; credit = rw plain; lines = statements_more says (opening ∷ []) number line (ap is_statement k) };
       right = sym (ap (fault_as grammar (opening ∷ []) line) k) ∙ e;
       some = omega arith;
     }
 statement_taken grammar says (opening ∷ second ∷ further) number line k e = record {
-  next = refl;
-  members = refl;
-  credit = refl;
-  lines = statements_more says (opening ∷ second ∷ further) number line (ap is_statement k);
+  said = record { next = refl; members = refl; credit = refl; lines = statements_more says (opening ∷ second ∷ further) number line (ap is_statement k) };
   right = sym (ap (fault_as grammar (opening ∷ second ∷ further) line) k) ∙ e;
   some = omega arith;
 }
@@ -78,10 +79,7 @@ statement_taken grammar says (opening ∷ second ∷ further) number line k e = 
 -- ---- the members
 
 pub record AddsMembers {X : Type 0} (says : List ℕ → List ℕ → X) (used : List (ℕ × List ℕ)) (number : ℕ) (line : List ℕ) : Type 0 where
-  pub next : next_of (used ++ (number, line) ∷ []) ≡ next.Credit
-  pub members : members_of (used ++ (number, line) ∷ []) ≡ words_of (behind_word line)
-  pub credit : credit_of (used ++ (number, line) ∷ []) ≡ credit_of used
-  pub lines : statements_of says (used ++ (number, line) ∷ []) ≡ statements_of says used
+  pub said : AreSaid says (used ++ (number, line) ∷ []) next.Credit (words_of (behind_word line)) (credit_of used) (statements_of says used)
   pub first : used ≡ []
   pub right : members_fault (words_of (behind_word line)) ≡ None
 
@@ -89,10 +87,7 @@ pub record AddsMembers {X : Type 0} (says : List ℕ → List ℕ → X) (used :
 pub members_taken : {X : Type 0} (grammar : Grammar) (says : List ℕ → List ℕ → X) (used : List (ℕ × List ℕ)) (number : ℕ) (line : List ℕ) → head_in line ≡ head.Members
     → fault_as grammar used line (head_in line) ≡ None → AddsMembers says used number line
 members_taken grammar says [] number line k e = record {
-  next = refl;
-  members = refl;
-  credit = refl;
-  lines = statements_same says [] number line (ap is_statement k);
+  said = record { next = refl; members = refl; credit = refl; lines = statements_same says [] number line (ap is_statement k) };
   first = refl;
   right = sym (ap (fault_as grammar [] line) k) ∙ e;
 }
@@ -102,10 +97,7 @@ members_taken grammar says (opening ∷ second ∷ further) number line k e = le
 -- ---- the credit
 
 pub record AddsCredit {X : Type 0} (says : List ℕ → List ℕ → X) (used : List (ℕ × List ℕ)) (number : ℕ) (line : List ℕ) : Type 0 where
-  pub next : next_of (used ++ (number, line) ∷ []) ≡ next.Further
-  pub members : members_of (used ++ (number, line) ∷ []) ≡ members_of used
-  pub credit : credit_of (used ++ (number, line) ∷ []) ≡ credit_in (behind_word line)
-  pub lines : statements_of says (used ++ (number, line) ∷ []) ≡ statements_of says used
+  pub said : AreSaid says (used ++ (number, line) ∷ []) next.Further (members_of used) (credit_in (behind_word line)) (statements_of says used)
   pub some : 0 < length used
 
 -- a right credit stands on the second
@@ -115,10 +107,7 @@ credit_taken grammar says [] number line k e = let wrong = sym (ap (fault_as gra
 credit_taken grammar says (opening ∷ []) number line k e =
     let gives : gives_credit (head_in line) ≡ true = ap gives_credit k in
     record {
-      next = refl;
-      members = refl;
-      credit = rw gives;
-      lines = statements_same says (opening ∷ []) number line (ap is_statement k);
+      said = record { next = refl; members = refl; credit = rw gives; lines = statements_same says (opening ∷ []) number line (ap is_statement k) };
       some = omega arith;
     }
 credit_taken grammar says (opening ∷ second ∷ further) number line k e = let wrong = sym (ap (fault_as grammar (opening ∷ second ∷ further) line) k) ∙ e in cc

@@ -96,6 +96,12 @@ pub record IsRight (grammar : Grammar) (bytes : List ℕ) : Type 0 where
   pub lines : AreRight grammar (lines_of bytes) (length (lines_of bytes))
   pub some : 0 < length (used_of (lines_of bytes))
 
+-- each text is right or has a first fault, never both, and has one first fault alone
+pub record JudgesEachText (grammar : Grammar) : Type 0 where
+  pub either : (text : List ℕ) → IsRight grammar text ⊎ HasFault grammar text
+  pub never_both : (text : List ℕ) (line code : ℕ) → IsRight grammar text → IsFirstFault grammar text line code → ⊥
+  pub one_fault : (text : List ℕ) (line code line' code' : ℕ) → IsFirstFault grammar text line code → IsFirstFault grammar text line' code' → (line ≡ line') × (code ≡ code')
+
 -- a text spells this: it is right, and its used lines name these members, give this credit, and make these statements
 pub record Spells {X : Type 0} (grammar : Grammar) (says : List ℕ → List ℕ → X) (bytes : List ℕ) (names : List (List ℕ)) (given : CreditSpec) (statements : List (ℕ × X)) : Type 0 where
   pub right : IsRight grammar bytes

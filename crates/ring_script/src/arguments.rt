@@ -22,13 +22,8 @@ pub(crate) fn read_members(alloc: Global, rest: Words) -> Result<Vec<Name>, Line
     let mut words = rest;
     let mut names = Vec::new(alloc);
     'names: while let Some(word) = words.next_word() {
-        match further_name(&names, word) {
-            Ok(name) => match names.push(name) {
-                Ok(()) => {}
-                Err(_) => return Err(LineFault::OutOfMemory),
-            },
-            Err(kind) => return Err(LineFault::Wrong(kind)),
-        }
+        let name = further_name(&names, word)?;
+        names.push(name)?;
     }
     if names.is_empty() {
         return Err(LineFault::Wrong(Kind::MissingWord));
@@ -65,13 +60,9 @@ pub(crate) fn read_credit(rest: Words) -> Result<CreditSpec, LineFault>
     ensures fault { Tells (credit_fault (words_of (left_in rest.entry))) result }
     ensures credit { IfOk result (λ credit. (credit.initial, credit.more) ≡ credit_in (left_in rest.entry)) }
 {
-    match two_left(rest) {
-        Ok((initial, more)) => match credit_from(initial, more) {
-            Some(credit) => Ok(credit),
-            None => Err(LineFault::Wrong(Kind::BadNumber)),
-        },
-        Err(kind) => Err(LineFault::Wrong(kind)),
-    }
+    let (initial, more) = two_left(rest)?;
+    let credit = credit_from(initial, more).ok_or(Kind::BadNumber)?;
+    Ok(credit)
 }
 
 /// The credit of these two numbers, if they make one.

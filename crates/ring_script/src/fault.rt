@@ -4,6 +4,7 @@ ghost use Rattle.ring_script.specs.declared.fault.LineFault.TheVariants.{Wrong};
 ghost use Rattle.ring_script.specs.Fault.{code_of, told_at};
 
 use ring_names::OutOfMemory;
+use std::alloc::AllocFailed;
 use thiserror::Error;
 
 /// What is wrong with a line.
@@ -72,6 +73,16 @@ pub enum ScriptFault {
     OutOfMemory,
 }
 
+impl From<OutOfMemory> for ScriptFault {
+    ghost use Rattle.ring_script.specs.declared.fault.ScriptFault.{ScriptFault};
+
+    ghost from_gives = { λ _ fault. fault ≡ ScriptFault.OutOfMemory };
+
+    fn from(_fault: OutOfMemory) -> ScriptFault {
+        ScriptFault::OutOfMemory
+    }
+}
+
 /// Why a line isn't read.
 #[derive(Clone, Copy, PartialEq, Eq, Debug)]
 pub(crate) enum LineFault {
@@ -79,6 +90,16 @@ pub(crate) enum LineFault {
     Wrong(Kind),
     /// Memory was wanted and not found.
     OutOfMemory,
+}
+
+impl<T: Drop> From<AllocFailed<T>> for LineFault {
+    ghost use Rattle.ring_script.specs.declared.fault.LineFault.{LineFault};
+
+    ghost from_gives = { λ _ fault. fault ≡ LineFault.OutOfMemory };
+
+    fn from(_failed: AllocFailed<T>) -> LineFault {
+        LineFault::OutOfMemory
+    }
 }
 
 impl From<Kind> for LineFault {

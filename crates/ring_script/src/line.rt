@@ -132,10 +132,7 @@ fn read_opening<S: Statement>(alloc: Global, word: &[u8], rest: Words) -> Result
     ensures says { IfOk result (Says S.says word.now (left_in rest.entry)) }
 {
     match Head::of(word) {
-        Head::Members => match read_members(alloc, rest) {
-            Ok(names) => Ok(Said::Members(names)),
-            Err(fault) => Err(fault),
-        },
+        Head::Members => Ok(Said::Members(read_members(alloc, rest)?)),
         Head::Credit | Head::Statement => Err(LineFault::Wrong(Kind::NoMembers)),
     }
 }
@@ -153,15 +150,8 @@ fn read_second<S: Statement>(
     ensures says { IfOk result (Says S.says word.now (left_in rest.entry)) }
 {
     match Head::of(word) {
-        Head::Members => Err(LineFault::Wrong(Kind::Misplaced)),
-        Head::Credit => match read_credit(rest) {
-            Ok(credit) => Ok(Said::Credit(credit)),
-            Err(fault) => Err(fault),
-        },
-        Head::Statement => match S::read(alloc, members, word, rest) {
-            Ok(statement) => Ok(Said::Statement(statement)),
-            Err(fault) => Err(fault),
-        },
+        Head::Credit => Ok(Said::Credit(read_credit(rest)?)),
+        Head::Members | Head::Statement => read_further(alloc, members, word, rest),
     }
 }
 
@@ -179,9 +169,6 @@ fn read_further<S: Statement>(
 {
     match Head::of(word) {
         Head::Members | Head::Credit => Err(LineFault::Wrong(Kind::Misplaced)),
-        Head::Statement => match S::read(alloc, members, word, rest) {
-            Ok(statement) => Ok(Said::Statement(statement)),
-            Err(fault) => Err(fault),
-        },
+        Head::Statement => Ok(Said::Statement(S::read(alloc, members, word, rest)?)),
     }
 }

@@ -45,17 +45,12 @@ impl<S: Statement> Reader<S> {
         ensures read { (used : List (ℕ × List ℕ)) → HasRead S.says used self.old
             → OnOk result (HasRead S.says (used ++ used_line number line.now) self.new) }
     {
-        match judge_text(line) {
-            Ok(()) => {}
-            Err(fault) => return Err(fault),
-        }
+        judge_text(line)?;
         if is_skipped_line(line) {
             return Ok(());
         }
-        match read_said(alloc, self.next, &self.members, line) {
-            Ok(said) => self.take(number, said),
-            Err(fault) => Err(fault),
-        }
+        let said = read_said(alloc, self.next, &self.members, line)?;
+        self.take(number, said)
     }
 
     /// Takes what the line of this number says.
@@ -110,8 +105,6 @@ fn push_line<S: Drop>(lines: &mut Vec<(u32, S)>, number: u32, statement: S) -> R
     ensures ok { OnOk result (lines.new.items ≡ lines.old.items ++ (number, statement) ∷ []) }
     ensures full { IfErr result (λ fault. fault ≡ LineFault.OutOfMemory) }
 {
-    match lines.push((number, statement)) {
-        Ok(()) => Ok(()),
-        Err(_) => Err(LineFault::OutOfMemory),
-    }
+    lines.push((number, statement))?;
+    Ok(())
 }

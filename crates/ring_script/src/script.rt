@@ -1,5 +1,5 @@
 //! Scripts.
-ghost use Rattle.std.specs.Prelude.{◌≡◌, ◌⊎◌, ℕ, List, true, Err, IfOk};
+ghost use Rattle.std.specs.Prelude.{◌≡◌, ℕ, true, Err, IfOk};
 ghost use Rattle.std.specs.List.{list_all};
 ghost use Rattle.ring_script.specs.Words.{is_text_byte, words_of};
 ghost use Rattle.ring_script.specs.Place.{left_in};
@@ -7,7 +7,7 @@ ghost use Rattle.ring_script.specs.Fault.{Tells};
 ghost use Rattle.ring_script.specs.Line.{no_word, one_word, number_fault};
 ghost use Rattle.ring_script.specs.Script.{most_turns, keyword_of, script_grammar, command_fault, command_by};
 ghost use Rattle.ring_script.specs.Script.{command_of};
-ghost use Rattle.ring_script.specs.Reading.{IsRight, IsScriptOf, IsFirstFault, HasFault, IsPlayable};
+ghost use Rattle.ring_script.specs.Reading.{IsScriptOf, IsFirstFault, IsPlayable, JudgesEachText};
 
 use crate::arguments::{known_name, nothing_left, number_from, one_left, read_body};
 use crate::command::Command;
@@ -112,7 +112,7 @@ fn read_settle(rest: Words) -> Result<Command, LineFault>
 /// Reads the script that the bytes spell. Each line is judged behind those before it, and the first one
 /// that is wrong is told with its first fault. The time is in proportion to the bytes. Want of memory is
 /// answered also where the lines are too many to be numbered.
-#[tactic(auto, using(crate::proofs::Exact::right_or_wrong, crate::proofs::Exact::right_has_no_fault, crate::proofs::Exact::first_fault_is_one))]
+#[tactic(auto, using(crate::proofs::Exact::judges_each))]
 pub fn read_script(alloc: Global, bytes: &[u8]) -> Result<Script, ScriptFault>
     ensures script { IfOk result (IsScriptOf bytes.now) }
     ensures playable { IfOk result IsPlayable }
@@ -120,11 +120,7 @@ pub fn read_script(alloc: Global, bytes: &[u8]) -> Result<Script, ScriptFault>
         → IsFirstFault script_grammar bytes.now line kind }
 
     // A text is right or has a first fault, never both, and has one first fault alone.
-    ensures either { (text : List ℕ) → IsRight script_grammar text ⊎ HasFault script_grammar text }
-    ensures never_both { (text : List ℕ) (line kind : ℕ) → IsRight script_grammar text
-        → IsFirstFault script_grammar text line kind → ⊥ }
-    ensures one_fault { (text : List ℕ) (line kind line' kind' : ℕ) → IsFirstFault script_grammar text line kind
-        → IsFirstFault script_grammar text line' kind' → (line ≡ line') × (kind ≡ kind') }
+    ensures judged { JudgesEachText script_grammar }
 {
     let text = read_text::<Command>(alloc, bytes)?;
     Ok(Script {

@@ -1,12 +1,12 @@
 //! Step files.
-ghost use Rattle.std.specs.Prelude.{◌≡◌, ◌⊎◌, ℕ, List, true, Err, IfOk};
+ghost use Rattle.std.specs.Prelude.{◌≡◌, ℕ, true, Err, IfOk};
 ghost use Rattle.std.specs.List.{list_all};
 ghost use Rattle.ring_script.specs.Words.{is_text_byte};
 ghost use Rattle.ring_script.specs.Place.{left_in};
 ghost use Rattle.ring_script.specs.Fault.{Tells};
 ghost use Rattle.ring_script.specs.Steps.{own_step_of, event_word_of, step_grammar, event_fault, own_event, event_by};
 ghost use Rattle.ring_script.specs.Steps.{event_of};
-ghost use Rattle.ring_script.specs.Reading.{IsRight, AreStepsOf, IsFirstFault, HasFault, CanOpen};
+ghost use Rattle.ring_script.specs.Reading.{AreStepsOf, IsFirstFault, CanOpen, JudgesEachText};
 
 use crate::arguments::{name_from, number_from, one_left, read_body, two_left};
 use crate::fault::{Kind, LineFault, ScriptFault};
@@ -70,10 +70,8 @@ impl EventWord {
         if word == b"refresh".as_slice() {
             return Some(EventWord::Refresh);
         }
-        match OwnStep::of(word) {
-            Some(step) => Some(EventWord::Own(step)),
-            None => None,
-        }
+        let step = OwnStep::of(word)?;
+        Some(EventWord::Own(step))
     }
 }
 
@@ -182,7 +180,7 @@ fn read_own(step: OwnStep, rest: Words) -> Result<Event, LineFault>
 /// Reads the steps that the bytes spell, exactly as `read_script` reads a script: each line is judged behind
 /// those before it, and the first one that is wrong is told with its first fault. The word of an event that the
 /// ring hasn't is no command.
-#[tactic(auto, using(crate::proofs::Exact::right_or_wrong, crate::proofs::Exact::right_has_no_fault, crate::proofs::Exact::first_fault_is_one))]
+#[tactic(auto, using(crate::proofs::Exact::judges_each))]
 pub fn read_steps(alloc: Global, bytes: &[u8]) -> Result<Steps, ScriptFault>
     ensures steps { IfOk result (AreStepsOf bytes.now) }
     ensures opens { IfOk result (λ steps. CanOpen steps.members) }
@@ -190,11 +188,7 @@ pub fn read_steps(alloc: Global, bytes: &[u8]) -> Result<Steps, ScriptFault>
         → IsFirstFault step_grammar bytes.now line kind }
 
     // A text is right or has a first fault, never both, and has one first fault alone.
-    ensures either { (text : List ℕ) → IsRight step_grammar text ⊎ HasFault step_grammar text }
-    ensures never_both { (text : List ℕ) (line kind : ℕ) → IsRight step_grammar text
-        → IsFirstFault step_grammar text line kind → ⊥ }
-    ensures one_fault { (text : List ℕ) (line kind line' kind' : ℕ) → IsFirstFault step_grammar text line kind
-        → IsFirstFault step_grammar text line' kind' → (line ≡ line') × (kind ≡ kind') }
+    ensures judged { JudgesEachText step_grammar }
 {
     let text = read_text::<Event>(alloc, bytes)?;
     Ok(Steps {

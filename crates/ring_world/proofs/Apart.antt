@@ -2,84 +2,18 @@
 use Rattle.std.proofs.Common.{◌≡◌, ℕ, zero, suc, ◌<◌, ◌≤◌, Bool, true, false, cond, List, [], ◌∷◌, ◌++◌, length, get_or, refl, sym, ap, subst, ◌∙◌, arith, nat_eq, ◌⊎◌, inl, inr}
 use Rattle.std.specs.List.{flat_map}
 use Rattle.std.proofs.lemmas.Bool.{false≢true}
-use Rattle.group_view.specs.Ring.{is_in, first_or, rotated}
-use Rattle.group_view.proofs.Rings.{is_in-append, is_in-rotated}
+use Rattle.group_view.specs.Ring.{is_in, rotated}
+use Rattle.group_view.proofs.Rings.{is_in-rotated, nat_eq-is, nat_eq-same, in_first, in_second, in_head, in_tail}
 use Rattle.group_view.proofs.Neighbours.{in-filter}
 use Rattle.ring_world.specs.declared.numbers.Numbers.{Numbers}
 use Rattle.ring_world.specs.Rows.{Row}
 use Rattle.ring_world.specs.Machine.{Up, World, Packet, Link, no_link, member_at, link_at, row_at, numbers_at, newest, ring, runs, is_kept, is_waiting}
-use Rattle.ring_world.specs.Walk.{FallsFrom, NeverRises, newest_first, numbers, only, no_but, counted, is_early, block, round, round_of, retired_by, number, stopped_from, running_from, walk}
-use Rattle.ring_world.proofs.Rounds.{nat_eq-is, nat_eq-same}
+use Rattle.ring_world.specs.Walk.{NeverRises, newest_first, numbers, only, no_but, counted, is_early, block, round, round_of, retired_by, number, stopped_from, running_from, walk}
 use Rattle.ring_world.proofs.Good.{IsRing}
 use Rattle.ring_world.proofs.Put.{number_up, runs_phase-Up}
-
--- ---- lists that never rise
-
--- a test that passes passes whatever comes before it
-pub in_put : {c : Bool} (b : Bool) → c ≡ true → cond b true c ≡ true
-in_put true e = refl
-in_put false e = e
-
--- what stands in a list stands in it with more behind it
-pub in_first : (a : ℕ) (xs ys : List ℕ) → is_in a xs ≡ true → is_in a (xs ++ ys) ≡ true
-in_first a xs ys h = is_in-append a xs ys ∙ ap (λ b. cond b true (is_in a ys)) h
-
--- and with more before it
-pub in_second : (a : ℕ) (xs ys : List ℕ) → is_in a ys ≡ true → is_in a (xs ++ ys) ≡ true
-in_second a xs ys h = is_in-append a xs ys ∙ in_put (is_in a xs) h
-
--- the first element stands in its list
-pub in_here : (a : ℕ) (xs : List ℕ) → is_in a (a ∷ xs) ≡ true
-in_here a xs = ap (λ b. cond b true (is_in a xs)) (nat_eq-same a)
-
--- what stands in such a list isn't above where it falls from
-pub falls_in : (a : ℕ) (xs : List ℕ) (b : ℕ) → FallsFrom a xs → is_in b xs ≡ true → b ≤ a
-falls_in a [] b h i = absurd (false≢true i)
-falls_in a (x ∷ xs) b h i = by_case (nat_eq b x) refl i (λ j. falls_in x xs b h.1 j)
-  where
-    by_case : (t : Bool) → nat_eq b x ≡ t → cond t true (is_in b xs) ≡ true → (is_in b xs ≡ true → b ≤ x) → b ≤ a
-    by_case true e k ih = omega (arith, nat_eq-is b x e, h.0)
-    by_case false e k ih = omega (arith, ih k, h.0)
-
--- of a list that falls from c, likewise
-falls_apart_from : (c : ℕ) (xs ys : List ℕ) (a b : ℕ) → FallsFrom c (xs ++ ys) → is_in a xs ≡ true → is_in b ys ≡ true → b ≤ a
-falls_apart_from c [] ys a b h i j = absurd (false≢true i)
-falls_apart_from c (x ∷ xs) ys a b h i j = by_case (nat_eq a x) refl i (λ k. falls_apart_from x xs ys a b h.1 k j)
-  where
-    by_case : (t : Bool) → nat_eq a x ≡ t → cond t true (is_in a xs) ≡ true → (is_in a xs ≡ true → b ≤ a) → b ≤ a
-    by_case true e k ih = omega (arith, nat_eq-is a x e, falls_in x (xs ++ ys) b h.1 (in_second b xs ys j))
-    by_case false e k ih = ih k
-
--- a list that never rises falls from its first number
-never_from : (xs : List ℕ) → NeverRises xs → FallsFrom (first_or 0 xs) xs
-never_from [] h = tt
-never_from (x ∷ xs) h = (omega arith, h)
-
--- what stands in its second part isn't above what stands in its first
-pub falls_apart : (xs ys : List ℕ) (a b : ℕ) → NeverRises (xs ++ ys) → is_in a xs ≡ true → is_in b ys ≡ true → b ≤ a
-falls_apart xs ys a b h i j = falls_apart_from (first_or 0 (xs ++ ys)) xs ys a b (never_from (xs ++ ys) h) i j
+use Rattle.ring_world.proofs.Falling.{falls_across, in_blocks, each_in_round}
 
 -- ---- what stands in a round
-
--- what stands in the list of one member stands in those of all
-pub flat_in : (h : ℕ → List ℕ) (q a : ℕ) (ys : List ℕ) → is_in q ys ≡ true → is_in a (h q) ≡ true → is_in a (flat_map h ys) ≡ true
-flat_in h q a [] i j = absurd (false≢true i)
-flat_in h q a (y ∷ ys) i j = by_case (nat_eq q y) refl i (λ k. flat_in h q a ys k j)
-  where
-    by_case : (t : Bool) → nat_eq q y ≡ t → cond t true (is_in q ys) ≡ true → (is_in q ys ≡ true → is_in a (flat_map h ys) ≡ true) → is_in a (h y ++ flat_map h ys) ≡ true
-    by_case true e k ih = in_first a (h y) (flat_map h ys) (ap (λ z. is_in a (h z)) (sym (nat_eq-is q y e)) ∙ j)
-    by_case false e k ih = in_second a (h y) (flat_map h ys) (ih k)
-
--- each member's own number
-pub own_in_round : (e m l : ℕ → List ℕ) (f : ℕ → ℕ) (q : ℕ) (ys : List ℕ) → is_in q ys ≡ true → is_in (f q) (round e f m l ys) ≡ true
-own_in_round e m l f q [] i = absurd (false≢true i)
-own_in_round e m l f q (y ∷ ys) i = in_second (f q) (e y) (f y ∷ (flat_map (block m f) ys ++ l y)) (by_case (nat_eq q y) refl i)
-  where
-    by_case : (t : Bool) → nat_eq q y ≡ t → cond t true (is_in q ys) ≡ true → is_in (f q) (f y ∷ (flat_map (block m f) ys ++ l y)) ≡ true
-    by_case true t k = ap (λ z. is_in (f q) (f z ∷ (flat_map (block m f) ys ++ l y))) (sym (nat_eq-is q y t)) ∙ in_here (f q) (flat_map (block m f) ys ++ l y)
-    by_case false t k =
-        in_put (nat_eq (f q) (f y))
-        (in_first (f q) (flat_map (block m f) ys) (l y) (flat_in (block m f) q (f q) ys k (in_second (f q) (m q) (f q ∷ []) (in_here (f q) []))))
 
 -- each number of its packets
 pub packet_in_round : (e m l : ℕ → List ℕ) (f : ℕ → ℕ) (q a : ℕ) (ys : List ℕ) → is_in q ys ≡ true → is_in a (m q) ≡ true → (is_in a (e q) ≡ true) ⊎ (is_in a (l q) ≡ true) → is_in a (round e f m l ys) ≡ true
@@ -87,12 +21,12 @@ packet_in_round e m l f q a [] i j k = absurd (false≢true i)
 packet_in_round e m l f q a (y ∷ ys) i j k = by_case (nat_eq q y) refl i k
   where
     rest : is_in a (flat_map (block m f) ys ++ l y) ≡ true → is_in a (round e f m l (y ∷ ys)) ≡ true
-    rest h = in_second a (e y) (f y ∷ (flat_map (block m f) ys ++ l y)) (in_put (nat_eq a (f y)) h)
+    rest h = in_second a (e y) (f y ∷ (flat_map (block m f) ys ++ l y)) (in_tail a (f y) (flat_map (block m f) ys ++ l y) h)
 
     by_case : (t : Bool) → nat_eq q y ≡ t → cond t true (is_in q ys) ≡ true → (is_in a (e q) ≡ true) ⊎ (is_in a (l q) ≡ true) → is_in a (round e f m l (y ∷ ys)) ≡ true
     by_case true t h (inl c) = in_first a (e y) (f y ∷ (flat_map (block m f) ys ++ l y)) (ap (λ z. is_in a (e z)) (sym (nat_eq-is q y t)) ∙ c)
     by_case true t h (inr c) = rest (in_second a (flat_map (block m f) ys) (l y) (ap (λ z. is_in a (l z)) (sym (nat_eq-is q y t)) ∙ c))
-    by_case false t h c = rest (in_first a (flat_map (block m f) ys) (l y) (flat_in (block m f) q a ys h (in_first a (m q) (f q ∷ []) j)))
+    by_case false t h c = rest (in_first a (flat_map (block m f) ys) (l y) (in_blocks m f q a ys h (in_first a (m q) (f q ∷ []) j)))
 
 -- ---- the oldest packet of a link that counts
 
@@ -101,7 +35,7 @@ pub in_numbers : (f : Packet → ℕ) (c : Link → List Packet) (ls : List Link
 in_numbers f c [] j k ks lt e = absurd (omega arith)
 in_numbers f c (l ∷ ls) zero k ks lt e =
     in_second (f k) (numbers f c ls) (newest_first f (c l))
-    (ap (λ us. is_in (f k) (newest_first f us)) e ∙ in_second (f k) (newest_first f ks) (f k ∷ []) (in_here (f k) []))
+    (ap (λ us. is_in (f k) (newest_first f us)) e ∙ in_second (f k) (newest_first f ks) (f k ∷ []) (in_head (f k) []))
 in_numbers f c (l ∷ ls) (suc j) k ks lt e = in_first (f k) (numbers f c ls) (newest_first f (c l)) (in_numbers f c ls j k ks (omega arith) e)
 
 -- all packets of a kept link to a member that doesn't wait count
@@ -114,7 +48,7 @@ counted_all w q l to kept up =
 
 -- what stands in the second round isn't above what stands in the first
 apart : (w : World) (p a b : ℕ) → NeverRises (walk w p) → is_in a (round_of (λ k. k.got) (λ r. r.got) w p (stopped_from w p) (running_from w p)) ≡ true → is_in b (round_of (λ k. k.forgot) (λ r. r.forgot) w p (stopped_from w p) (running_from w p)) ≡ true → b ≤ a
-apart w p a b h i j = falls_apart _ _ a b h i (in_first b _ (retired_by w p (running_from w p)) j)
+apart w p a b h i j = falls_across a b _ _ h i (in_first b _ (retired_by w p (running_from w p)) j)
 
 -- who is up stands among those that run
 pub runner : (w : World) (p q : ℕ) → IsRing w → (member_at w q).phase ≡ Up → is_in q (running_from w p) ≡ true
@@ -126,7 +60,7 @@ runner w p q h up =
 own_in : (g : Numbers → ℕ) (r : Row → ℕ) (w : World) (p q : ℕ) → IsRing w → (member_at w q).phase ≡ Up → is_in (r (row_at (member_at w q) p)) (round_of g r w p (stopped_from w p) (running_from w p)) ≡ true
 own_in g r w p q h up =
     subst (λ a. is_in a (round_of g r w p (stopped_from w p) (running_from w p)) ≡ true) (number_up g r w p q up)
-    (own_in_round _ _ _ (number g r w p) q (running_from w p) (runner w p q h up))
+    (each_in_round _ _ _ (number g r w p) q (running_from w p) (runner w p q h up))
 
 -- what one has forgotten the other has received
 pub forgot_below : (w : World) (x y p : ℕ) → IsRing w → NeverRises (walk w p) → (member_at w x).phase ≡ Up → (member_at w y).phase ≡ Up → (row_at (member_at w x) p).forgot ≤ (row_at (member_at w y) p).got

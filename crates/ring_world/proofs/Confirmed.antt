@@ -1,20 +1,19 @@
 -- A message that is confirmed is everywhere.
-use Rattle.std.proofs.Common.{◌≡◌, ℕ, ◌<◌, ◌≤◌, true, false, List, ◌++◌, refl, sym, ap, subst, ◌∙◌, ⊎_elim, arith}
-use Rattle.std.proofs.lemmas.Bool.{false≢true, cases_lt}
+use Rattle.std.proofs.Common.{◌≡◌, ℕ, ◌≤◌, true, false, List, ◌++◌, refl, subst, ◌∙◌, arith}
 use Rattle.ring_names.specs.declared.numbers.CreditSpec.{CreditSpec}
 use Rattle.group_view.specs.Ring.{rotated, is_in}
 use Rattle.group_view.specs.Change.{AreOpeningNames}
-use Rattle.group_view.proofs.Rings.{is_in-rotated}
+use Rattle.group_view.proofs.Rings.{is_in-rotated, in_first}
 use Rattle.group_view.proofs.Neighbours.{in-filter}
-use Rattle.ring_world.specs.Machine.{Phase, Waiting, Up, Stopped, World, no_member, numbers_at, member_at, newest, ring, runs, runs_phase, is_waiting}
+use Rattle.ring_world.specs.Machine.{Phase, Waiting, Up, Stopped, World, numbers_at, member_at, newest, ring, runs, runs_phase, is_waiting}
 use Rattle.ring_world.specs.Walk.{numbers, counted, only, no_but, is_early, number, round_of, retired_by, stopped_from, running_from}
-use Rattle.ring_world.specs.Step.{size, opening}
+use Rattle.ring_world.specs.Step.{opening}
 use Rattle.ring_world.specs.Event.{Event, IsRun, last}
 use Rattle.ring_world.specs.Lawful.{row_of, ConfirmedEverywhere}
-use Rattle.ring_world.proofs.Lists.{get_or_beyond}
 use Rattle.ring_world.proofs.Put.{runs_phase-Up, number_up}
 use Rattle.ring_world.proofs.Kept.{Inv}
-use Rattle.ring_world.proofs.Falling.{falls_across, each_in_round, in_first}
+use Rattle.ring_world.proofs.Falling.{falls_across, each_in_round}
+pub use Rattle.ring_world.proofs.Ended.{runs_lt as runs_within}
 use Rattle.ring_world.proofs.Happens.{IsGood, reached_good}
 
 -- who runs is up, since none waits
@@ -22,13 +21,6 @@ pub up_of : (f : Phase) → runs_phase f ≡ true → is_waiting f ≡ false →
 up_of Waiting h k = cc
 up_of Up h k = refl
 up_of Stopped h k = cc
-
--- who runs has an id
-pub runs_within : (w : World) (q : ℕ) → runs w q ≡ true → q < size w
-runs_within w q r = ⊎_elim
-    (λ (lt : q < size w). lt)
-    (λ (ge : size w ≤ q). absurd (false≢true (sym (ap (λ y. runs_phase y.phase) (get_or_beyond w.members q no_member ge)) ∙ r)))
-    (cases_lt q (size w))
 
 -- each running member stands in the walk of each origin
 pub runs_in_walk : (w : World) (q p : ℕ) → Inv w → runs w q ≡ true → is_in q (running_from w p) ≡ true

@@ -1,60 +1,37 @@
 -- What an enabled event has.
-use Rattle.std.proofs.Common.{◌≡◌, ◌≢◌, ℕ, ◌≤◌, Bool, true, false, not, nat_lt, Option, Some, None, refl, ap, subst, ◌∙◌}
-use Rattle.std.specs.Prelude.{◌||◌}
+use Rattle.std.proofs.Common.{◌≡◌, ◌≢◌, ℕ, ◌≤◌, Bool, true, false, not, nat_lt, Option, Some, None, ap, subst, ◌∙◌}
 use Rattle.std.proofs.lemmas.Bool.{ltb-false}
 use Rattle.ring_names.specs.declared.reason.Reason.{Reason}
 use Rattle.ring_names.specs.declared.reason.Reason.TheVariants as reason
 use Rattle.credit_flow.specs.Credit.{is_blocked}
 use Rattle.ring_world.specs.Refusal.{refuse_if, or_else, is_empty}
 use Rattle.ring_world.specs.View.{is_live}
-use Rattle.ring_world.specs.Machine.{Phase, Waiting, Up, Stopped, World, member_at, link_at, view_at, newest, is_waiting}
-use Rattle.ring_world.specs.Machine as machine
+use Rattle.ring_world.specs.Machine.{Phase, Up, Stopped, World, member_at, link_at, view_at, newest, is_waiting}
 use Rattle.ring_world.specs.Event.{is_stopped, on_link, running_refusal, up_refusal, put_refusal, take_refusal, gain_refusal, holds_nothing, is_neighbour, mark_refusal, refresh_refusal, at_found, taken_by}
 use Rattle.ring_world.specs.Step.{take_from}
-
-none_of : (b : Bool) (r : Reason) (later : Option Reason) → or_else (refuse_if b r) later ≡ None → (b ≡ false) × (later ≡ None)
-none_of true r later h = cc
-none_of false r later h = (refl, h)
-
-refuse_none : (b : Bool) (r : Reason) → refuse_if b r ≡ None → b ≡ false
-refuse_none true r h = cc
-refuse_none false r h = refl
-
-up_from : (f : Phase) → is_stopped f ≡ false → is_waiting f ≡ false → f ≡ Up
-up_from Waiting h k = cc
-up_from Up h k = refl
-up_from Stopped h k = cc
-
-no_wait : (f : Phase) → machine.is_waiting f ≡ false → is_waiting f ≡ false
-no_wait Waiting h = cc
-no_wait Up h = refl
-no_wait Stopped h = refl
-
-not_false : (b : Bool) → not b ≡ false → b ≡ true
-not_false true h = refl
-not_false false h = cc
-
-stopped_from : (f : Phase) → is_stopped f ≡ true → f ≡ Stopped
-stopped_from Waiting h = cc
-stopped_from Up h = cc
-stopped_from Stopped h = refl
-
-or_false : (a b : Bool) → (a || b) ≡ false → (a ≡ false) × (b ≡ false)
-or_false true b h = cc
-or_false false b h = (refl, h)
+use Rattle.ring_world.proofs.Refusals.{none_of, refuse_none, up_from, stopped_from, or_false, not_false}
 
 -- a member that is up, and what else is asked
-pub up_phase : (w : World) (x : ℕ) (later : Option Reason) → up_refusal w x later ≡ None → (member_at w x).phase ≡ Up
-up_phase w x later h =
+pub up_none : (w : World) (x : ℕ) (later : Option Reason) → up_refusal w x later ≡ None → ((member_at w x).phase ≡ Up) × (later ≡ None)
+up_none w x later h =
     let a = none_of (is_stopped (member_at w x).phase) reason.Stopped _ h in
     let b = none_of (is_waiting (member_at w x).phase) reason.Waiting later a.1 in
-    up_from (member_at w x).phase a.0 b.0
+    (up_from (member_at w x).phase a.0 b.0, b.1)
+
+pub up_phase : (w : World) (x : ℕ) (later : Option Reason) → up_refusal w x later ≡ None → (member_at w x).phase ≡ Up
+up_phase w x later h = (up_none w x later h).0
 
 pub up_later : (w : World) (x : ℕ) (later : Option Reason) → up_refusal w x later ≡ None → later ≡ None
-up_later w x later h = (none_of (is_waiting (member_at w x).phase) reason.Waiting later (none_of (is_stopped (member_at w x).phase) reason.Stopped _ h).1).1
+up_later w x later h = (up_none w x later h).1
 
-pub running_phase : (w : World) (x : ℕ) (later : Option Reason) → machine.is_waiting (member_at w x).phase ≡ false → running_refusal w x later ≡ None → (member_at w x).phase ≡ Up
-running_phase w x later n h = up_from (member_at w x).phase (none_of (is_stopped (member_at w x).phase) reason.Stopped later h).0 (no_wait (member_at w x).phase n)
+-- a member that runs and doesn't wait
+pub running_none : (w : World) (x : ℕ) (later : Option Reason) → is_waiting (member_at w x).phase ≡ false → running_refusal w x later ≡ None → ((member_at w x).phase ≡ Up) × (later ≡ None)
+running_none w x later n h =
+    let a = none_of (is_stopped (member_at w x).phase) reason.Stopped later h in
+    (up_from (member_at w x).phase a.0 n, a.1)
+
+pub running_phase : (w : World) (x : ℕ) (later : Option Reason) → is_waiting (member_at w x).phase ≡ false → running_refusal w x later ≡ None → (member_at w x).phase ≡ Up
+running_phase w x later n h = (running_none w x later n h).0
 
 pub running_later : (w : World) (x : ℕ) (later : Option Reason) → running_refusal w x later ≡ None → later ≡ None
 running_later w x later h = (none_of (is_stopped (member_at w x).phase) reason.Stopped later h).1

@@ -5,23 +5,23 @@ use Rattle.std.specs.List.{range_with_len}
 use Rattle.std.proofs.lemmas.Bool.{and_parts, false≢true, cases_lt}
 use Rattle.std.proofs.lemmas.List.{length-set, length_push, get_or_append_left, get_or_push, get_or-set_same}
 use Rattle.std.proofs.lemmas.List.Quantifiers.{position-Some}
-use Rattle.ring_names.specs.declared.message.Message.TheVariants as message
 use Rattle.ring_names.specs.declared.numbers.CreditSpec.{CreditSpec}
-use Rattle.ring_names.specs.declared.reason.Reason.{Reason}
 use Rattle.ring_names.specs.declared.reason.Reason.TheVariants as reason
-use Rattle.ring_world.specs.Refusal.{refuse_if, or_else, is_empty}
+use Rattle.ring_world.specs.Refusal.{is_empty}
 use Rattle.group_view.specs.View.{Group}
 use Rattle.group_view.specs.Change.{marked}
 use Rattle.ring_world.specs.View.{right_of}
-use Rattle.ring_world.specs.Machine.{Phase, Waiting, Up, Stopped, Packet, Member, Ending, Moved, Halted, Link, World, no_link, no_member, member_at, link_at, view_at, newest, runs, runs_phase, is_waiting}
+use Rattle.ring_world.specs.Machine.{Phase, Waiting, Up, Stopped, Packet, Member, Ending, Moved, Halted, Link, World, no_link, no_member, member_at, link_at, view_at, newest, runs, runs_phase}
 use Rattle.ring_world.specs.Step.{size, published, pushed, popped, next_packet, put_on, gain_on, taker, begun, current_is, with_current, leave_link, finished, ended, ended_so, stop_at, stopped, end_out, with_member, with_link, with_view, look_at, moved_to, kept_current, open_to, opened_link, opening_link, opening}
 use Rattle.ring_world.specs.Walk.{oldest}
-use Rattle.ring_world.specs.Event.{Event, Cast, Put, Take, TakeEnd, Gain, Stop, Mark, Refresh, Pick, id_of, of_member, on_link, is_stopped, running_refusal, up_refusal, put_refusal, take_refusal, end_refusal, gain_refusal, holds_nothing, left_neighbour, since, is_at_door, at_door, mark_refusal, send_to, refreshed, refusal, at_found, taken_by, effect, IsRun, last}
+use Rattle.ring_world.specs.Event.{Event, end_refusal, holds_nothing, left_neighbour, since, is_at_door, at_door, send_to, refreshed, refusal, taken_by, effect, IsRun, last}
 use Rattle.ring_world.proofs.Lists.{at_set, at_push, get_or_beyond}
 use Rattle.ring_world.proofs.Rounds.{nat_eq-is}
 use Rattle.ring_world.proofs.Kept.{Inv}
 use Rattle.ring_world.proofs.Opening.{opening_inv}
-use Rattle.ring_world.proofs.Refusals.{none_of, refuse_none, runs_from, open_after_end}
+use Rattle.ring_world.proofs.Refusals.{none_of, refuse_none, open_after_end}
+use Rattle.ring_world.proofs.Cases.{each_event}
+use Rattle.ring_world.proofs.Happens.{IsGood, run_events}
 
 -- ---- what holds in every state
 
@@ -105,28 +105,6 @@ ends_push w l goes_on h = record {
         (λ (lt : j < length w.links + 1). at_push (λ k a. a.over ≡ true → (is_some a.ending ≡ true) × (a.packets ≡ [])) w.links j l no_link lt (λ e. absurd (false≢true (sym goes_on ∙ e))) (λ _ e. (h.ended j e, h.nothing j e)))
         (λ (ge : length w.links + 1 ≤ j) e. absurd (false≢true (sym (ap (λ (a : Link). a.over) (get_or_beyond (w.links ++ l ∷ []) j no_link (omega (arith, ge, length_push w.links l)))) ∙ e)))
         (cases_lt j (length w.links + 1))
-
--- ---- conditions
-
--- the conditions of a member that runs, beyond which later ones stand
-running_none : (w : World) (x : ℕ) (later : Option Reason) → running_refusal w x later ≡ None → (runs w x ≡ true) × (later ≡ None)
-running_none w x later h = let a = none_of (is_stopped (member_at w x).phase) reason.Stopped later h in (runs_from (member_at w x).phase a.0, a.1)
-
--- and of one that is up
-up_none : (w : World) (x : ℕ) (later : Option Reason) → up_refusal w x later ≡ None → (runs w x ≡ true) × (later ≡ None)
-up_none w x later h =
-    let a = running_none w x (or_else (refuse_if (is_waiting (member_at w x).phase) reason.Waiting) later) h in
-    (a.0, (none_of (is_waiting (member_at w x).phase) reason.Waiting later a.1).1)
-
--- what an event does at the member that is found
-at_member : (w : World) (later : ℕ → Option Reason) (f : ℕ → World) (o : Option ℕ) → of_member o later ≡ None → ((x : ℕ) → later x ≡ None → EndsRight (f x)) → EndsRight (at_found o w f)
-at_member w later f None h k = cc
-at_member w later f (Some x) h k = k x h
-
--- and at a link
-at_link : (w : World) (missing : Reason) (later : ℕ → Option Reason) (f : ℕ → World) (o : Option ℕ) → on_link o missing later ≡ None → ((s : ℕ) → o ≡ Some s → later s ≡ None → EndsRight (f s)) → EndsRight (at_found o w f)
-at_link w missing later f None h k = cc
-at_link w missing later f (Some s) h k = k s refl h
 
 -- ---- single events
 
@@ -329,33 +307,22 @@ end_none w s h =
     (c.1, empty_is (link_at w s).packets c.0)
 
 -- one event more
-pub ends_step : (w : World) (e : Event) → EndsRight w → refusal w e ≡ None → EndsRight (effect w e)
-ends_step w (Cast by body) h r = at_member w _ _ (id_of w by) r (λ x k. ends_same w x (published x (message.Cast body) (member_at w x)) (up_none w x None k).0 refl refl h)
-ends_step w (Put by) h r = at_member w _ _ (id_of w by) r
-    (λ x k. let u = up_none w x _ k in at_link w reason.NoOutLink (put_refusal w x) (put_on w x) (member_at w x).out u.1 (λ o e _. ends_put w x o u.0 e h))
-ends_step w (Take by) h r = at_member w _ _ (id_of w by) r
-    (λ x k. let u = running_none w x _ k in
-    at_link w reason.NoCurrentLink (take_refusal w x) (taken_by (member_at w x).phase w x) (member_at w x).current u.1 (λ s e _. ends_take w x s u.0 e h (member_at w x).phase refl))
-ends_step w (TakeEnd by) h r = at_member w _ _ (id_of w by) r
-    (λ x k. let u = running_none w x _ k in
-    at_link w reason.NoCurrentLink (end_refusal w) (leave_link w x) (member_at w x).current u.1 (λ s e q. let n = end_none w s q in ends_leave w x s u.0 e n.0 n.1 h))
-ends_step w (Gain by) h r = at_member w _ _ (id_of w by) r
-    (λ x k. let u = up_none w x _ k in at_link w reason.NoOutLink (gain_refusal w) (gain_on w) (member_at w x).out u.1 (λ o e _. ends_gain w x o u.0 e h))
-ends_step w (Stop by) h r = at_member w _ _ (id_of w by) r (λ x k. ends_stop w x (running_none w x None k).0 h)
-ends_step w (Mark by dead) h r = at_member w _ _ (id_of w by) r
-    (λ x k. let u = up_none w x _ k in
-    at_member w (mark_refusal w x) (λ d. refreshed (with_view w (marked (view_at w (newest w)) d)) x (newest w + 1)) (id_of w dead) u.1
-    (λ d _. ends_refresh (with_view w (marked (view_at w (newest w)) d)) x (newest w + 1) u.0 (ends_view w (marked (view_at w (newest w)) d) h)))
-ends_step w (Refresh by version) h r = at_member w _ _ (id_of w by) r (λ x k. ends_refresh w x version (up_none w x _ k).0 h)
-ends_step w (Pick by) h r = at_member w _ _ (id_of w by) r
-    (λ x k. let u = up_none w x _ k in
-    let a = none_of (is_some (member_at w x).current) reason.HasCurrentLink _ u.1 in
-    at_link w reason.NoLinkAtDoor _ (λ s. current_is w x (Some s)) (at_door w x) a.1 (λ s e _. ends_pick w x s u.0 e h))
+pub ends_step : (w : World) (e : Event) → IsGood w → refusal w e ≡ None → EndsRight w → EndsRight (effect w e)
+ends_step w e g r h = each_event EndsRight w e g.none_waits (record {
+  casts = λ x m u. ends_same w x (published x m (member_at w x)) (ap runs_phase u.up) refl refl h;
+  puts = λ x o u out k. ends_put w x o (ap runs_phase u.up) out h;
+  takes = λ y s u m. ends_take w y s (ap runs_phase u.up) m.current h Up u.up;
+  leaves = λ y s u current k. let n = end_none w s k in ends_leave w y s (ap runs_phase u.up) current n.0 n.1 h;
+  gains = λ x o u out k. ends_gain w x o (ap runs_phase u.up) out h;
+  stops = λ x u. ends_stop w x (ap runs_phase u.up) h;
+  marks = λ x d u m. let v : Group = marked (view_at w (newest w)) d in ends_refresh (with_view w v) x (newest w + 1) (ap runs_phase u.up) (ends_view w v h);
+  refreshes = λ x v u m. ends_refresh w x v (ap runs_phase u.up) h;
+  picks = λ y s u none e upto. ends_pick w y s (ap runs_phase u.up) e h;
+}) r
 
 -- every state of every run
-pub ends_run : (w : World) (es : List Event) → EndsRight w → IsRun w es → EndsRight (last w es)
-ends_run w [] h r = h
-ends_run w (e ∷ es) h r = ends_run (effect w e) es (ends_step w e h r.0) r.1
+pub ends_run : (w : World) (es : List Event) → IsGood w → IsRun w es → EndsRight w → EndsRight (last w es)
+ends_run = run_events EndsRight ends_step
 
 -- ---- the opening
 

@@ -8,13 +8,13 @@ use Rattle.ring_world.specs.Walk.{walk}
 use Rattle.ring_world.specs.Step.{opening}
 use Rattle.ring_world.specs.Event.{Event, Cast, Put, Take, TakeEnd, Stop, Mark, Refresh, last, refusal}
 
-abbrev a : List ℕ
+abbrev pub a : List ℕ
 a = 97 ∷ []
 
-abbrev b : List ℕ
+abbrev pub b : List ℕ
 b = 98 ∷ []
 
-abbrev c : List ℕ
+abbrev pub c : List ℕ
 c = 99 ∷ []
 
 abbrev three : CreditSpec → List Event → World

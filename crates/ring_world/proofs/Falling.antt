@@ -1,31 +1,11 @@
 -- What stands earlier in a list that never rises isn't less than what stands later.
-use Rattle.std.proofs.Common.{◌≡◌, ℕ, ◌≤◌, Bool, true, false, cond, nat_eq, List, [], ◌∷◌, ◌++◌, refl, sym, subst, ◌∙◌, arith}
+use Rattle.std.proofs.Common.{◌≡◌, ℕ, ◌≤◌, Bool, true, false, cond, nat_eq, List, [], ◌∷◌, ◌++◌, refl, sym, subst, arith}
 use Rattle.std.specs.List.{flat_map}
 use Rattle.std.proofs.lemmas.Bool.{false≢true}
 use Rattle.group_view.specs.Ring.{is_in}
-use Rattle.group_view.proofs.Rings.{is_in-append}
+use Rattle.group_view.proofs.Rings.{nat_eq-is, in_first, in_second, in_tail}
+pub use Rattle.group_view.proofs.Rings.{in_head}
 use Rattle.ring_world.specs.Walk.{FallsFrom, NeverRises, block, round}
-use Rattle.ring_world.proofs.Rounds.{nat_eq-is, nat_eq-same}
-
--- what is in a part is in the whole: the first part
-pub in_first : (z : ℕ) (xs ys : List ℕ) → is_in z xs ≡ true → is_in z (xs ++ ys) ≡ true
-in_first z xs ys h = is_in-append z xs ys ∙ rw h refl
-
--- the second part
-pub in_second : (z : ℕ) (xs ys : List ℕ) → is_in z ys ≡ true → is_in z (xs ++ ys) ≡ true
-in_second z xs ys h = is_in-append z xs ys ∙ by_case (is_in z xs)
-  where
-    by_case : (b : Bool) → cond b true (is_in z ys) ≡ true
-    by_case true = refl
-    by_case false = h
-
--- the head
-pub in_head : (z : ℕ) (xs : List ℕ) → is_in z (z ∷ xs) ≡ true
-in_head z xs = rw (nat_eq-same z) refl
-
--- what is behind the head
-pub in_tail : (z x : ℕ) (xs : List ℕ) → is_in z xs ≡ true → is_in z (x ∷ xs) ≡ true
-in_tail z x xs h = in_second z (x ∷ []) xs h
 
 -- ---- parts of a list that never rises
 

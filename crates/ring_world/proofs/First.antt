@@ -23,16 +23,24 @@ first_each credit names (suc k) P here there = ⊎_elim
     (λ (ge : length names ≤ k). subst P (sym (get_or_beyond (map (opening_member names) (range_with_len 1 (length names))) k no_member (omega (arith, length-map-range_with_len (opening_member names) 1 (length names))))) there)
     (cases_lt k (length names))
 
--- and of each link
+-- as many links as names
+pub first_links : (credit : CreditSpec) (names : List (List ℕ)) → length (opening credit names).links ≡ length names
+first_links credit names = length-map-range_with_len (opening_link credit names) 1 (length names)
+
+-- they go from the members in their order
+pub first_link_is : (credit : CreditSpec) (names : List (List ℕ)) (s : ℕ) → s < length (opening credit names).links → link_at (opening credit names) s ≡ opening_link credit names (s + 1)
+first_link_is credit names s lt = get_or-map-range_with_len (opening_link credit names) 1 (length names) s (s + 1) no_link (omega (arith, first_links credit names)) (omega arith)
+
+-- of each link, and of what stands for the others
 pub first_link : (credit : CreditSpec) (names : List (List ℕ)) (s : ℕ) (P : Link → Type 0) → ((i : ℕ) → P (opening_link credit names i)) → P no_link → P (link_at (opening credit names) s)
 first_link credit names s P here there = ⊎_elim
-    (λ (lt : s < length names). subst P (sym (get_or-map-range_with_len (opening_link credit names) 1 (length names) s (s + 1) no_link lt (omega arith))) (here (s + 1)))
-    (λ (ge : length names ≤ s). subst P (sym (get_or_beyond (map (opening_link credit names) (range_with_len 1 (length names))) s no_link (omega (arith, length-map-range_with_len (opening_link credit names) 1 (length names))))) there)
+    (λ (lt : s < length names). subst P (sym (first_link_is credit names s (omega (arith, first_links credit names)))) (here (s + 1)))
+    (λ (ge : length names ≤ s). subst P (sym (get_or_beyond (opening credit names).links s no_link (omega (arith, first_links credit names)))) there)
     (cases_lt s (length names))
 
 -- of those that are there
 pub first_link_at : (credit : CreditSpec) (names : List (List ℕ)) (s : ℕ) (P : Link → Type 0) → s < length (opening credit names).links → ((i : ℕ) → P (opening_link credit names i)) → P (link_at (opening credit names) s)
-first_link_at credit names s P lt here = subst P (sym (get_or-map-range_with_len (opening_link credit names) 1 (length names) s (s + 1) no_link (omega (arith, length-map-range_with_len (opening_link credit names) 1 (length names))) (omega arith))) (here (s + 1))
+first_link_at credit names s P lt here = subst P (sym (first_link_is credit names s lt)) (here (s + 1))
 
 -- the members, and nobody at 0
 pub first_size : (credit : CreditSpec) (names : List (List ℕ)) → size (opening credit names) ≡ length names + 1

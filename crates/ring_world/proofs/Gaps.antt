@@ -4,8 +4,7 @@ use Rattle.std.specs.List.{filter}
 use Rattle.std.proofs.lemmas.Bool.{false≢true}
 use Rattle.group_view.specs.Ring.{before, is_in}
 use Rattle.ring_world.specs.Walk.{stopped_prefix}
-use Rattle.ring_world.proofs.Rounds.{nat_eq-is}
-use Rattle.group_view.proofs.Rings.{sym_test}
+use Rattle.group_view.proofs.Rings.{sym_test, nat_eq-is}
 
 -- where none up to y runs, these are the stopped ones, and y is the first that runs
 pub prefix_before : (r : ℕ → Bool) (y : ℕ) (xs : List ℕ) → filter r (before y xs) ≡ [] → is_in y xs ≡ true → r y ≡ true → stopped_prefix r xs ≡ before y xs

@@ -1,11 +1,10 @@
 -- What holds in every state of every run.
-use Rattle.std.proofs.Common.{◌≡◌, ◌≢◌, ℕ, ◌<◌, ◌≤◌, ⊎_elim, Bool, true, false, [], zero, suc, ◌+◌, ◌-◌, List, ◌∷◌, length, refl, sym, ap, subst, ◌∙◌, arith, nat_eq, Some}
+use Rattle.std.proofs.Common.{◌≡◌, ◌≢◌, ℕ, ◌<◌, ◌≤◌, ⊎_elim, Bool, true, false, [], ◌+◌, ◌-◌, List, ◌∷◌, length, sym, ap, subst, ◌∙◌, arith, nat_eq, Some}
 use Rattle.ring_world.specs.Rows.{Row}
-use Rattle.std.specs.Prelude.{◌&&◌}
-use Rattle.std.specs.List.{list_all, range_with_len}
-use Rattle.std.proofs.lemmas.Bool.{cases_eq, cases_lt, false≢true}
+use Rattle.std.proofs.lemmas.Bool.{cases_lt, false≢true}
 use Rattle.ring_world.specs.Refusal.{is_empty}
-use Rattle.ring_world.proofs.Rounds.{nat_eq-is, nat_eq-same}
+use Rattle.group_view.proofs.Lists.{all_range, at_range}
+use Rattle.group_view.proofs.Rings.{nat_eq-is, nat_eq-same}
 use Rattle.ring_world.specs.View.{ids, is_live}
 use Rattle.group_view.specs.Ring.{first_or, is_in, AreDistinct}
 use Rattle.ring_world.specs.Machine.{is_kept_of, Waiting, Link, World, member_at, link_at, view_at, newest, left, right, runs, is_kept}
@@ -61,26 +60,6 @@ pub record IsWaitingRight (w : World) : Type 0 where
   pub admission : (y s : ℕ) → (member_at w y).phase ≡ Waiting → s < length w.links → (link_at w s).receiver ≡ y → (link_at w s).opened ≡ (member_at w y).version → is_empty (link_at w s).packets ≡ false
 
 -- ---- kept links
-
-pub all_range : (t : ℕ → Bool) (a n : ℕ) → ((u : ℕ) → a ≤ u → u < a + n → t u ≡ true) → list_all t (range_with_len a n) ≡ true
-all_range t a zero h = refl
-all_range t a (suc n) h = rw (h a (omega arith) (omega arith)) (all_range t (a + 1) n (λ u l m. h u (omega arith) (omega arith)))
-
-pub at_range : (t : ℕ → Bool) (a n u : ℕ) → list_all t (range_with_len a n) ≡ true → a ≤ u → u < a + n → t u ≡ true
-at_range t a zero u h l m = absurd (omega arith)
-at_range t a (suc n) u h l m =
-    ⊎_elim
-    (λ (is : u ≡ a). ap t is ∙ first (t a) _ h)
-    (λ (no : u ≢ a). at_range t (a + 1) n u (second (t a) _ h) (omega arith) (omega arith))
-    (cases_eq u a)
-  where
-    first : (x y : Bool) → (x && y) ≡ true → x ≡ true
-    first true y e = refl
-    first false y e = e
-
-    second : (x y : Bool) → (x && y) ≡ true → y ≡ true
-    second true y e = e
-    second false y e = absurd (false≢true e)
 
 pub kept_true : (w : World) (l : Link) (v : ℕ) → Kept w l v → is_kept w l v ≡ true
 unfolding is_kept_of

@@ -1,15 +1,11 @@
 -- Each event that may happen keeps the whole invariant.
-use Rattle.std.proofs.Common.{◌≡◌, ◌≢◌, ℕ, ◌+◌, ◌<◌, ◌≤◌, Bool, true, false, not, nat_eq, nat_lt, nat_le, List, [], ◌∷◌, ◌++◌, length, get_or, set, Option, Some, None, is_some, refl, sym, ap, subst, ◌∙◌, ⊎_elim, if◌then◌else◌, arith}
+use Rattle.std.proofs.Common.{◌≡◌, ◌≢◌, ℕ, ◌+◌, ◌<◌, ◌≤◌, Bool, true, false, not, nat_eq, nat_le, List, [], ◌∷◌, ◌++◌, length, get_or, set, Option, Some, None, refl, sym, ap, subst, ◌∙◌, ⊎_elim, if◌then◌else◌, arith}
 use Rattle.std.specs.Prelude.{◌&&◌}
-use Rattle.std.proofs.lemmas.Bool.{and_parts, false≢true, leb-true, ltb-false, cases_lt}
+use Rattle.std.proofs.lemmas.Bool.{and_parts, false≢true, leb-true, cases_lt}
 use Rattle.std.proofs.lemmas.List.{length_push, get_or_append_left}
 use Rattle.std.proofs.lemmas.List.Quantifiers.{position-Some}
 use Rattle.ring_names.specs.declared.message.Message.{Message}
-use Rattle.ring_names.specs.declared.message.Message.TheVariants as message
 use Rattle.ring_names.specs.declared.numbers.CreditSpec.{CreditSpec}
-use Rattle.ring_names.specs.declared.reason.Reason.{Reason}
-use Rattle.ring_names.specs.declared.reason.Reason.TheVariants as reason
-use Rattle.ring_world.specs.Refusal.{refuse_if, or_else, is_empty}
 use Rattle.group_view.specs.Ring.{is_in}
 use Rattle.group_view.specs.View.{Group, entry_in}
 use Rattle.group_view.specs.Since.{no_group, IsSince, KeepsLeft, since_at}
@@ -18,19 +14,16 @@ use Rattle.group_view.proofs.History.{Ends, mark_goes_on, opening_begins}
 use Rattle.group_view.proofs.Passing.{live_in}
 use Rattle.ring_world.specs.View.{ids, is_live, left_of, right_of, left_at, right_at}
 use Rattle.ring_world.specs.Machine.{Waiting, Up, Stopped, Member, Moved, Halted, Link, World, no_link, no_member, member_at, link_at, view_at, newest, left, right, runs, runs_phase, is_kept}
-use Rattle.ring_world.specs.Walk.{oldest}
-use Rattle.ring_world.specs.Step.{size, publish_at, put_on, gain_on, take_from, current_is, with_current, leave_link, finished, ended, stop_at, stopped, end_out, with_member, with_link, with_view, look_at, moved_to, open_to, opened_link, taker, published, opening}
+use Rattle.ring_world.specs.Step.{size, publish_at, put_on, take_from, current_is, with_current, finished, ended, stop_at, stopped, end_out, with_link, with_view, look_at, moved_to, open_to, opened_link, taker, published, opening}
 use Rattle.ring_world.proofs.WhatRefuses.{IsSameWay, MayTake, IsPickable, MayLook}
-use Rattle.ring_world.specs.Event.{Event, Cast, Put, Take, TakeEnd, Gain, Stop, Mark, Refresh, Pick, id_of, of_member, on_link, running_refusal, up_refusal, put_refusal, take_refusal, end_refusal, gain_refusal, version_refusal, holds_nothing, left_neighbour, since, is_at_door, at_door, mark_refusal, send_to, refreshed, refusal, at_found, taken_by, effect, IsRun, last, is_stopped}
-use Rattle.ring_world.specs.Event as event
+use Rattle.ring_world.specs.Event.{Event, left_neighbour, since, is_at_door, at_door, send_to, refreshed, refusal, effect, IsRun, last}
 use Rattle.ring_world.specs.Machine as machine
 use Rattle.group_view.specs.Since as group
 use Rattle.group_view.proofs.KeptLeft.{keeps_since}
-use Rattle.ring_world.proofs.Lists.{at_set}
 use Rattle.ring_world.proofs.Rounds.{nat_eq-is, nat_eq-same}
 use Rattle.ring_world.proofs.Good.{kept_true}
 use Rattle.ring_world.proofs.Views.{view_new}
-use Rattle.ring_world.proofs.NoneWaits.{look_none, open_none, NoneWaits}
+use Rattle.ring_world.proofs.NoneWaits.{look_none, open_none, NoneWaits, waits_set}
 use Rattle.ring_world.proofs.Kept.{Inv, put_keeps}
 use Rattle.ring_world.proofs.KeptTake.{take_keeps}
 use Rattle.ring_world.proofs.KeptMore.{stop_keeps, current_keeps, mark_keeps, way_keeps}
@@ -38,7 +31,8 @@ use Rattle.ring_world.proofs.KeptLook.{look_keeps}
 use Rattle.ring_world.proofs.KeptOpen.{open_keeps}
 use Rattle.ring_world.proofs.KeptCast.{cast_keeps}
 use Rattle.ring_world.proofs.Opening.{opening_inv, opening_phase}
-use Rattle.ring_world.proofs.Refusals.{none_of, refuse_none, stopped_from, up_from, id_within, open_after_end, not_less, or_false, not_false}
+use Rattle.ring_world.proofs.Refusals.{open_after_end}
+use Rattle.ring_world.proofs.Cases.{each_event}
 
 -- ---- what holds in every state
 
@@ -60,37 +54,7 @@ opening_good credit names are = record {
   views = record { groups = opening_group names ∷ []; is = refl; ends = opening_begins names are };
 }
 
--- ---- conditions
-
--- the conditions of a member that is up, beyond which later ones stand
-up_none : (w : World) (x : ℕ) (later : Option Reason) → up_refusal w x later ≡ None → ((member_at w x).phase ≡ Up) × (later ≡ None)
-up_none w x later h =
-    let a = none_of (is_stopped (member_at w x).phase) reason.Stopped (or_else (refuse_if (machine.is_waiting (member_at w x).phase) reason.Waiting) later) h in
-    let b = none_of (machine.is_waiting (member_at w x).phase) reason.Waiting later a.1 in
-    (up_from (member_at w x).phase a.0 b.0, b.1)
-
--- of a member that runs; none waits
-running_none : (w : World) (x : ℕ) (later : Option Reason) → NoneWaits w → running_refusal w x later ≡ None → ((member_at w x).phase ≡ Up) × (later ≡ None)
-running_none w x later n h =
-    let a = none_of (is_stopped (member_at w x).phase) reason.Stopped later h in
-    (up_from (member_at w x).phase a.0 (n x), a.1)
-
--- what an event does at the member that is found is right where it is right at each
-found_good : (w : World) (name : List ℕ) (later : ℕ → Option Reason) (f : ℕ → World) (o : Option ℕ) → id_of w name ≡ o → of_member o later ≡ None
-    → ((x : ℕ) → 1 ≤ x → x < size w → later x ≡ None → IsGood (f x)) → IsGood (at_found o w f)
-found_good w name later f None e h k = cc
-found_good w name later f (Some x) e h k = let i = id_within w name x e in k x i.0 i.1 h
-
--- and likewise at a link
-link_good : (w : World) (missing : Reason) (later : ℕ → Option Reason) (f : ℕ → World) (o : Option ℕ) → on_link o missing later ≡ None
-    → ((s : ℕ) → o ≡ Some s → later s ≡ None → IsGood (f s)) → IsGood (at_found o w f)
-link_good w missing later f None h k = cc
-link_good w missing later f (Some s) h k = k s refl h
-
 -- ---- members and links alone
-
-set_waits : (w : World) (x : ℕ) (y : Member) → x < size w → machine.is_waiting y.phase ≡ false → NoneWaits w → NoneWaits (with_member w x y)
-set_waits w x y lt e n = λ q. at_set (λ k z. machine.is_waiting z.phase ≡ false) w.members x q y no_member lt e (λ _. n q)
 
 same_views : (w : World) (ms : List Member) (ls : List Link) → HasViews w → HasViews (record w { members = ms; links = ls })
 same_views w ms ls h = record { groups = h.groups; is = h.is; ends = h.ends }
@@ -102,7 +66,7 @@ way_good w s l lt k h = record { inv = way_keeps w s l lt k h.inv; none_waits = 
 current_good : (w : World) (y : ℕ) (c : Option ℕ) → y < size w → (member_at w y).phase ≡ Up → IsPickable w y c → IsGood w → IsGood (current_is w y c)
 current_good w y c lt up k h = record {
   inv = current_keeps w y c lt up k h.inv;
-  none_waits = set_waits w y (with_current c (member_at w y)) lt (h.none_waits y) h.none_waits;
+  none_waits = waits_set w y (with_current c (member_at w y)) lt (h.none_waits y) h.none_waits;
   views = same_views w (set w.members y (with_current c (member_at w y))) w.links h.views;
 }
 
@@ -114,7 +78,7 @@ nothing_pickable w y = record { lt = λ s e. cc; receiver = λ s e. cc; kept_yet
 cast_good : (w : World) (x : ℕ) (m : Message) → x < size w → (member_at w x).phase ≡ Up → IsGood w → IsGood (publish_at w x m)
 cast_good w x m lt up h = record {
   inv = cast_keeps m w x lt up h.inv;
-  none_waits = set_waits w x (published x m (member_at w x)) lt (h.none_waits x) h.none_waits;
+  none_waits = waits_set w x (published x m (member_at w x)) lt (h.none_waits x) h.none_waits;
   views = same_views w (set w.members x (published x m (member_at w x))) w.links h.views;
 }
 
@@ -128,7 +92,7 @@ put_good w x o up out h = record {
 take_good : (w : World) (y s : ℕ) → MayTake w y s → IsGood w → IsGood (take_from w y s)
 take_good w y s m h = record {
   inv = take_keeps w y s h.inv m;
-  none_waits = set_waits w y (taker w y s) m.is_member (h.none_waits y) h.none_waits;
+  none_waits = waits_set w y (taker w y s) m.is_member (h.none_waits y) h.none_waits;
   views = same_views w (set w.members y (taker w y s)) (take_from w y s).links h.views;
 }
 
@@ -141,7 +105,7 @@ stop_good w x lt up h = by_out (member_at w x).out refl
     now : IsGood (stop_at w x)
     now = record {
       inv = stop_keeps w x lt rx h.inv;
-      none_waits = set_waits w x (stopped (member_at w x)) lt refl h.none_waits;
+      none_waits = waits_set w x (stopped (member_at w x)) lt refl h.none_waits;
       views = same_views w (set w.members x (stopped (member_at w x))) w.links h.views;
     }
 
@@ -205,7 +169,7 @@ refresh_good w x v lt up later upto h = by_out (member_at w x).out refl
 
 -- ---- a mark
 
-mark_view_good : (w : World) (d : ℕ) → (member_at w d).phase ≡ Stopped → is_live (view_at w (newest w)) d ≡ true → IsGood w → IsGood (with_view w (marked (view_at w (newest w)) d))
+pub mark_view_good : (w : World) (d : ℕ) → (member_at w d).phase ≡ Stopped → is_live (view_at w (newest w)) d ≡ true → IsGood w → IsGood (with_view w (marked (view_at w (newest w)) d))
 mark_view_good w d rests lives h =
     let g = view_at w (newest w) in
     let v' = marked g d in
@@ -302,54 +266,31 @@ door_pickable w y s lt up e upto h = record {
 
 -- one event more
 pub event_good : (w : World) (e : Event) → IsGood w → refusal w e ≡ None → IsGood (effect w e)
-event_good w (Cast by body) h r = found_good w by (λ x. up_refusal w x None) (λ x. publish_at w x (message.Cast body)) (id_of w by) refl r
-    (λ x some lt k. cast_good w x (message.Cast body) lt (up_none w x None k).0 h)
-event_good w (Put by) h r = found_good w by _ _ (id_of w by) refl r
-    (λ x some lt k. let u = up_none w x _ k in link_good w reason.NoOutLink (put_refusal w x) (put_on w x) (member_at w x).out u.1 (λ o out q. put_good w x o u.0 out h))
-event_good w (Take by) h r = found_good w by _ _ (id_of w by) refl r
-    (λ x some lt k. let u = running_none w x _ h.none_waits k in
-    link_good w reason.NoCurrentLink (take_refusal w x) (taken_by (member_at w x).phase w x) (member_at w x).current u.1
-    (λ s current q.
-    let a = none_of (holds_nothing (link_at w s)) reason.NothingToTake _ q in
-    let b = none_of (is_empty (link_at w s).packets) reason.EndNext _ a.1 in
-    let v = not_less (member_at w x).version (oldest (link_at w s)).version _ b.1 in
-    subst (λ f. IsGood (taken_by f w x s)) (sym u.0) (take_good w x s (record { is_member = lt; up = u.0; current = current; has = b.0; version = v }) h)))
-event_good w (TakeEnd by) h r = found_good w by _ _ (id_of w by) refl r
-    (λ x some lt k. let u = running_none w x _ h.none_waits k in
-    link_good w reason.NoCurrentLink (end_refusal w) (leave_link w x) (member_at w x).current u.1
-    (λ s current q. way_good (current_is w x None) s (finished (link_at w s)) (h.inv.current.lt x s (ap runs_phase u.0) current) (record { sender = refl; receiver = refl; opened = refl; packets = refl })
-    (current_good w x None lt u.0 (nothing_pickable w x) h)))
-event_good w (Gain by) h r = found_good w by _ _ (id_of w by) refl r
-    (λ x some lt k. let u = up_none w x _ k in link_good w reason.NoOutLink (gain_refusal w) (gain_on w) (member_at w x).out u.1
-    (λ o out q. way_good w o _ (h.inv.linked.out_lt x o (ap runs_phase u.0) out) (record { sender = refl; receiver = refl; opened = refl; packets = refl }) h))
-event_good w (Stop by) h r = found_good w by _ _ (id_of w by) refl r
-    (λ x some lt k. stop_good w x lt (running_none w x None h.none_waits k).0 h)
-event_good w (Mark by dead) h r = found_good w by _ _ (id_of w by) refl r
-    (λ x some lt k. let u = up_none w x _ k in
-    found_good w dead (mark_refusal w x) (λ d. refreshed (with_view w (marked (view_at w (newest w)) d)) x (newest w + 1)) (id_of w dead) refl u.1
-    (λ d dsome dlt q.
-    let a = none_of (not (event.is_neighbour w x d)) reason.NotNeighbour _ q in
-    let b = none_of (not (is_live (view_at w (newest w)) d)) reason.AlreadyDead _ a.1 in
-    let c = none_of (not (is_stopped (member_at w d).phase)) reason.NotStopped _ b.1 in
-    let rests = stopped_from (member_at w d).phase (not_false _ c.0) in
-    let w' = with_view w (marked (view_at w (newest w)) d) in
-    let more : length w'.views ≡ length w.views + 1 = length_push w.views (marked (view_at w (newest w)) d) in
-    refresh_good w' x (newest w + 1) lt u.0 (omega (arith, h.inv.is_ring.held x)) (omega (arith, h.inv.is_ring.some))
-    (mark_view_good w d rests (not_false _ b.0) h)))
-event_good w (Refresh by version) h r = found_good w by _ _ (id_of w by) refl r
-    (λ x some lt k. let u = up_none w x _ k in
-    let parts = or_false (nat_lt version (member_at w x).version) (nat_lt (newest w) version) (refuse_none _ _ u.1) in
-    refresh_good w x version lt u.0 (ltb-false version (member_at w x).version parts.0) (ltb-false (newest w) version parts.1) h)
-event_good w (Pick by) h r = found_good w by _ _ (id_of w by) refl r
-    (λ x some lt k. let u = up_none w x _ k in
-    let a = none_of (is_some (member_at w x).current) reason.HasCurrentLink _ u.1 in
-    link_good w reason.NoLinkAtDoor (λ s. version_refusal (link_at w s).opened (member_at w x).version) (λ s. current_is w x (Some s)) (at_door w x) a.1
-    (λ s e q. current_good w x (Some s) lt u.0 (door_pickable w x s lt u.0 e (not_less (member_at w x).version (link_at w s).opened _ q) h) h))
+event_good w e h = each_event IsGood w e h.none_waits (record {
+  casts = λ x m u. cast_good w x m u.lt u.up h;
+  puts = λ x o u out k. put_good w x o u.up out h;
+  takes = λ y s u m. take_good w y s m h;
+  leaves = λ y s u current k.
+      way_good (current_is w y None) s (finished (link_at w s)) (h.inv.current.lt y s (ap runs_phase u.up) current) (record { sender = refl; receiver = refl; opened = refl; packets = refl })
+      (current_good w y None u.lt u.up (nothing_pickable w y) h);
+  gains = λ x o u out k. way_good w o _ (h.inv.linked.out_lt x o (ap runs_phase u.up) out) (record { sender = refl; receiver = refl; opened = refl; packets = refl }) h;
+  stops = λ x u. stop_good w x u.lt u.up h;
+  marks = λ x d u m.
+      let w' = with_view w (marked (view_at w (newest w)) d) in
+      let more : length w'.views ≡ length w.views + 1 = length_push w.views (marked (view_at w (newest w)) d) in
+      refresh_good w' x (newest w + 1) u.lt u.up (omega (arith, h.inv.is_ring.held x)) (omega (arith, h.inv.is_ring.some)) (mark_view_good w d m.rests m.lives h);
+  refreshes = λ x v u m. refresh_good w x v u.lt u.up m.later m.upto h;
+  picks = λ y s u none e upto. current_good w y (Some s) u.lt u.up (door_pickable w y s u.lt u.up e upto h) h;
+})
+
+-- what each event keeps, every run keeps
+pub run_events : (P : World → Type 0) → ((w : World) (e : Event) → IsGood w → refusal w e ≡ None → P w → P (effect w e)) → (w : World) (es : List Event) → IsGood w → IsRun w es → P w → P (last w es)
+run_events P keeps w [] g r h = h
+run_events P keeps w (e ∷ es) g r h = run_events P keeps (effect w e) es (event_good w e g r.0) r.1 (keeps w e g r.0 h)
 
 -- every state of every run
 pub run_good : (w : World) (es : List Event) → IsGood w → IsRun w es → IsGood (last w es)
-run_good w [] h r = h
-run_good w (e ∷ es) h r = run_good (effect w e) es (event_good w e h r.0) r.1
+run_good w es h r = run_events IsGood (λ v e g k _. event_good v e g k) w es h r h
 
 pub reached_good : (credit : CreditSpec) (names : List (List ℕ)) (es : List Event) → AreOpeningNames names → IsRun (opening credit names) es → IsGood (last (opening credit names) es)
 reached_good credit names es are r = run_good (opening credit names) es (opening_good credit names are) r

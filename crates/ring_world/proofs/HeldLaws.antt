@@ -1,11 +1,8 @@
 -- What the laws say of each state that a World holds.
-use Rattle.std.proofs.Common.{◌≡◌, ℕ, ◌<◌, ◌≤◌, List, [], ◌∷◌, length, take, drop, bytes_eq, ◌+◌, Option, Some, None, option_map, refl, sym, subst, ap, arith}
+use Rattle.std.proofs.Common.{◌≡◌, ℕ, ◌<◌, ◌≤◌, List, [], ◌∷◌, length, take, ◌+◌, Option, Some, None, refl, sym, subst}
 use Rattle.std.specs.Coded.{le_prop}
 use Rattle.std.proofs.Math.Logic.{∥∥₁_elim}
-use Rattle.std.specs.Prelude.{position, unwrap_or}
-use Rattle.std.proofs.lemmas.List.{length-drop}
-use Rattle.std.proofs.lemmas.List.Quantifiers.{position-Some}
-use Rattle.ring_world.specs.Machine.{Packet, World, no_member, member_at, link_at, row_at}
+use Rattle.ring_world.specs.Machine.{Packet, World, member_at, link_at, row_at}
 use Rattle.ring_world.specs.Step.{size, log_of, opening}
 use Rattle.ring_world.specs.Lawful.{PacketsAreWithin}
 use Rattle.ring_world.specs.Laws.{IsLawful}
@@ -18,6 +15,7 @@ use Rattle.ring_world.proofs.OpenWalk.{open_walk_never_rises}
 use Rattle.ring_world.proofs.AllRuns.{every_state_lawful}
 use Rattle.ring_world.proofs.LinkCredit.{run_credited}
 use Rattle.ring_world.proofs.Running.{reached_more}
+use Rattle.ring_world.proofs.Refusals.{id_within}
 use Rattle.std.proofs.Math.Nat.{ℕ_set}
 use Rattle.std.proofs.Props.{props}
 use Rattle.ring_names.specs.declared.message.Message.{Message}
@@ -35,17 +33,6 @@ never_rises w n r (x ∷ xs) f = falls_from w n r x xs f
 reached_falls : (w : World) (n p : ℕ) → 1 ≤ p → p < size w → IsReachedIn w n → NeverRises (the_walk w p)
 reached_falls w n p some within r =
     subst (λ v. NeverRises (the_walk v p)) (sym r.is) (open_walk_never_rises r.credit r.names r.events p r.are r.run some (subst (λ v. p < size v) r.is within))
-
--- an id that a name has is a member's
-id_within : (w : World) (name : List ℕ) (p : ℕ) → id_of w name ≡ Some p → (1 ≤ p) × (p < size w)
-id_within w name p e = by_place (position (λ y. bytes_eq y.name name) (drop 1 w.members)) refl e
-  where
-    by_place : (o : Option ℕ) → position (λ y. bytes_eq y.name name) (drop 1 w.members) ≡ o → option_map (λ i. i + 1) o ≡ Some p → (1 ≤ p) × (p < size w)
-    by_place None k h = cc
-    by_place (Some i) k h =
-        let is : i + 1 ≡ p = ap (λ o. unwrap_or o 0) h in
-        let found : i < length (drop 1 w.members) = (position-Some (λ y. bytes_eq y.name name) (drop 1 w.members) i no_member k).0 in
-        (omega (arith, is), omega (arith, is, found, length-drop 1 w.members))
 
 pub named_falls : (a : Inside) (name walk : List ℕ) → IsRunning a → walk ≡ walk_named (state_of a) (id_of (state_of a) name) → NeverRises walk
 named_falls a name walk r e = subst NeverRises (sym e) (by_id (id_of (state_of a) name) refl)

@@ -1,5 +1,6 @@
 -- What a member hears of a publisher is the publisher's log, in order.
 use Rattle.std.proofs.Common.{◌≡◌, ◌≢◌, ℕ, zero, suc, ◌+◌, ◌<◌, ◌≤◌, max, Bool, true, false, List, [], ◌∷◌, ◌++◌, length, take, drop, None, refl, sym, ap, subst, ◌∙◌, ⊎_elim, arith}
+use Rattle.std.proofs.Math.Nat.{max-eq_right}
 use Rattle.std.proofs.lemmas.Bool.{cases_eq}
 use Rattle.std.proofs.lemmas.List.{take-append-le, take-append-drop, take-take, take_all, length_push}
 use Rattle.ring_names.specs.declared.message.Message.{Message}
@@ -77,11 +78,8 @@ cast_order w x m some lt l h q p =
 pub taken_heard : (own : Bool) (log : List Message) (r : Row) (k : Numbers) → (own ≡ false → k.lo ≤ r.got) → r.got ≤ (taken_row own log r k).got → HasHeard log r → HasHeard log (taken_row own log r k)
 taken_heard true log r k gap rises h = h
 taken_heard false log r k gap rises h =
-    let from : max k.lo r.got ≡ r.got = above k.lo r.got (gap refl) in
+    let from : max k.lo r.got ≡ r.got = max-eq_right {n = k.lo} {m = r.got} (gap refl) in
     ap (λ a. r.heard ++ messages_between a k.got log) from ∙ ap (λ xs. xs ++ messages_between r.got k.got log) h ∙ heard_more r.got k.got log rises
-  where
-    above : (a b : ℕ) → a ≤ b → max a b ≡ b
-    above a b l = omega arith
 
 -- a take, where its packet has no gap
 pub take_order : (w : World) (y s : ℕ) → MayTake w y s → IsGood w → HasNoGap w → IsLogged w → HearsInOrder w → HearsInOrder (take_from w y s)

@@ -75,6 +75,35 @@ shaped_current w ms ls h same c = record {
   opened = λ y s r e. omega (arith, (h.ends s).opened, h.version y, c.opened y s (h.runs_less y r) (sym (same y) ∙ e));
 }
 
+-- what is said of packets stays so where the views stay
+pub packets_stay : (w : World) (ms : List Member) (ls : List Link) (l : Link) (ks : List Packet) → AllPackets (IsPacket w l) ks → AllPackets (IsPacket (shaped w ms ls) l) ks
+packets_stay w ms ls l ks a = AllPackets-map (IsPacket w l) (IsPacket (shaped w ms ls) l) ks (λ k q. record { from = q.from; upto = q.upto; kept = q.kept; zero = q.zero }) a
+
+-- what is left to show of a state with other members and links: the views, the ends of the links and who runs keep the rest
+pub record Remaining (w : World) (ms : List Member) (ls : List Link) : Type 0 where
+  pub many : size (shaped w ms ls) ≡ size w
+  pub packed : IsPacked (shaped w ms ls)
+  pub numbered : IsNumbered (shaped w ms ls)
+  pub retired : IsRetiredRight (shaped w ms ls)
+  pub waiting : IsWaitingRight (shaped w ms ls)
+  pub current : IsCurrent (shaped w ms ls)
+  pub walks : (p : ℕ) → 1 ≤ p → p < size w → NeverRises (walk (shaped w ms ls) p)
+
+pub shaped_keeps : (w : World) (ms : List Member) (ls : List Link) → IsShaped w ms ls → Remaining w ms ls → Inv w → Inv (shaped w ms ls)
+shaped_keeps w ms ls sh r h = record {
+  is_ring = shaped_ring w ms ls sh h.is_ring;
+  linked = shaped_linked w ms ls sh h.linked;
+  history = shaped_history w ms ls sh h.history;
+  ordered = shaped_ordered w ms ls h.ordered;
+  packed = r.packed;
+  numbered = r.numbered;
+  retired = r.retired;
+  waiting = r.waiting;
+  current = r.current;
+  origins = λ p some l. h.origins p some (omega (arith, r.many));
+  walks = λ p some l. r.walks p some (omega (arith, r.many));
+}
+
 -- ---- put
 
 pub put_shape : (w : World) (x o : ℕ) → o < length w.links → IsShaped w w.members (put_on w x o).links
@@ -100,11 +129,9 @@ put_keeps w x o up out h =
     let stays : (s : ℕ) → is_empty (link_at w s).packets ≡ false → is_empty (link_at (put_on w x o) s).packets ≡ false = λ s e.
     at_set (λ i l. is_empty (link_at w i).packets ≡ false → is_empty l.packets ≡ false) w.links o s (pushed (link_at w o) k) no_link lt
     (λ _. not_empty_push (link_at w o).packets k) (λ _ e2. e2) e in
-    record {
-      is_ring = shaped_ring w w.members (put_on w x o).links sh h.is_ring;
-      linked = shaped_linked w w.members (put_on w x o).links sh h.linked;
-      history = shaped_history w w.members (put_on w x o).links sh h.history;
-      ordered = shaped_ordered w w.members (put_on w x o).links h.ordered;
+    shaped_keeps w w.members (put_on w x o).links sh
+    (record {
+      many = refl;
       packed = shaped_packed w w.members (put_on w x o).links sh
           (λ s l. at_set (λ i a. i < length w.links → AllPackets (IsPacket w (link_at w i)) a.packets) w.links o s (pushed (link_at w o) k) no_link lt
           (λ _. AllPackets-push (IsPacket w (link_at w o)) (link_at w o).packets k (h.packed.packets o lt) (record {
@@ -123,6 +150,6 @@ put_keeps w x o up out h =
         admission = λ y s e l t v. stays s (h.waiting.admission y s e (omega (arith, sh.many)) (sym (sh.ends s).receiver ∙ t) (sym (sh.ends s).opened ∙ v));
       };
       current = shaped_current w w.members (put_on w x o).links sh (λ q. refl) h.current;
-      origins = h.origins;
       walks = λ p some l. never_rises_still (walk w p) (walk (put_on w x o) p) (put_walk w x o p h.is_ring h.linked h.waiting up out) (h.walks p some l);
-    }
+    })
+    h

@@ -15,12 +15,12 @@ use Rattle.group_view.proofs.Rings.{rotated_is}
 use Rattle.ring_world.proofs.Links.{numbers_none, numbers_agree}
 use Rattle.ring_world.proofs.Good.{IsRing, never_rises_still}
 use Rattle.ring_world.proofs.Standing.{knows}
-use Rattle.ring_world.proofs.Shape.{IsShaped, shaped_ring, shaped_history, shaped_ordered, shaped_linked}
+use Rattle.ring_world.proofs.Shape.{IsShaped}
 use Rattle.ring_world.proofs.Put.{runs_phase-Up, number_up}
 use Rattle.ring_world.proofs.Take.{blocks_same, head_once}
 use Rattle.ring_world.proofs.Back.{same_runners}
 use Rattle.ring_world.proofs.Cast.{cast_walk_other}
-use Rattle.ring_world.proofs.Kept.{Inv, shaped_packed, shaped_current}
+use Rattle.ring_world.proofs.Kept.{Inv, shaped_packed, shaped_current, shaped_keeps}
 use Rattle.ring_names.specs.declared.message.Message.{Message}
 
 -- of a message
@@ -111,7 +111,6 @@ module _ (m : Message) where
   pub cast_keeps : (w : World) (x : ℕ) → x < size w → (member_at w x).phase ≡ Up → Inv w → Inv (publish_at w x m)
   cast_keeps w x lt up h =
       let w' : World = publish_at w x m in
-      let many : size w' ≡ size w = length-set w.members x (published x m (member_at w x)) in
       let rx : runs w x ≡ true = runs_phase-Up w x up in
       let phase : (q : ℕ) → (member_at w' q).phase ≡ (member_at w q).phase = λ q. cast_member w x q (λ i a. a.phase ≡ (member_at w i).phase) lt refl (λ _. refl) in
       let current : (q : ℕ) → (member_at w' q).current ≡ (member_at w q).current = λ q. cast_member w x q (λ i a. a.current ≡ (member_at w i).current) lt refl (λ _. refl) in
@@ -122,11 +121,9 @@ module _ (m : Message) where
         version = λ q. cast_member w x q (λ i a. a.version ≡ (member_at w i).version) lt refl (λ _. refl);
         out = λ q. cast_member w x q (λ i a. a.out ≡ (member_at w i).out) lt refl (λ _. refl);
       } in
-      record {
-        is_ring = shaped_ring w w'.members w.links sh h.is_ring;
-        linked = shaped_linked w w'.members w.links sh h.linked;
-        history = shaped_history w w'.members w.links sh h.history;
-        ordered = shaped_ordered w w'.members w.links h.ordered;
+      shaped_keeps w w'.members w.links sh
+      (record {
+        many = length-set w.members x (published x m (member_at w x));
         packed = shaped_packed w w'.members w.links sh h.packed.packets;
         numbered = record {
           zero = λ q p. cast_member w x q (λ i a. knows w a.version p ≡ false → ((row_at a p).got ≡ 0) × ((row_at a p).forgot ≡ 0)) lt
@@ -143,9 +140,9 @@ module _ (m : Message) where
           admission = λ z t e l to v. h.waiting.admission z t (sym (phase z) ∙ e) l to (v ∙ sh.version z);
         };
         current = shaped_current w w'.members w.links sh current h.current;
-        origins = λ p some l. h.origins p some (omega arith);
-        walks = λ p some l. let l2 : p < size w = omega arith in ⊎_elim
+        walks = λ p some l. ⊎_elim
             (λ (is : p ≡ x). subst (λ q. NeverRises (walk w' q)) (sym is) (cast_falls w x lt up h.is_ring (h.is_ring.stands x (newest w) rx (h.is_ring.held x) (omega arith)) (h.walks x (omega (arith, is)) lt)))
-            (λ (d : p ≢ x). never_rises_still (walk w p) (walk w' p) (cast_walk_other m w x p lt up d) (h.walks p some l2))
+            (λ (d : p ≢ x). never_rises_still (walk w p) (walk w' p) (cast_walk_other m w x p lt up d) (h.walks p some l))
             (cases_eq p x);
-      }
+      })
+      h

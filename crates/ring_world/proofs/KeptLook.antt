@@ -1,23 +1,23 @@
 -- A refresh keeps the whole invariant.
-use Rattle.std.proofs.Common.{◌≡◌, ◌≢◌, ℕ, ◌<◌, ◌≤◌, Bool, true, false, cond, List, [], ◌∷◌, length, refl, sym, ap, ◌∙◌, arith, Option, Some, None}
+use Rattle.std.proofs.Common.{◌≡◌, ◌≢◌, ℕ, ◌<◌, ◌≤◌, Bool, true, false, cond, length, refl, sym, ap, ◌∙◌, arith, Option, Some, None}
 use Rattle.std.proofs.lemmas.Bool.{false≢true}
 use Rattle.std.proofs.lemmas.List.{length-set}
 use Rattle.std.proofs.lemmas.List.Elements.{filter_agree}
 use Rattle.ring_world.specs.Refusal.{is_empty}
 use Rattle.ring_world.proofs.WhatRefuses.{MayLook}
 use Rattle.group_view.specs.Ring.{rotated, is_in}
-use Rattle.ring_world.specs.Machine.{Waiting, Up, World, Packet, Member, no_member, member_at, link_at, row_at, newest, ring, right, runs, runs_phase, is_kept}
+use Rattle.ring_world.specs.Machine.{Waiting, Up, World, Member, no_member, member_at, link_at, row_at, newest, ring, right, runs, runs_phase, is_kept}
 use Rattle.ring_world.specs.Walk.{walk, NeverRises}
 use Rattle.ring_world.specs.Step.{size, look_at, moved_to, kept_current}
 use Rattle.ring_world.proofs.Lists.{at_set}
-use Rattle.ring_world.proofs.Good.{IsRing, IsWaitingRight, never_rises_still}
+use Rattle.ring_world.proofs.Good.{IsRing, IsWaitingRight, never_rises_still, IsLinked}
 use Rattle.ring_world.proofs.Period.{IsHistory}
 use Rattle.ring_world.proofs.Standing.{knows, IsOrdered}
-use Rattle.ring_world.proofs.OwnerStops.{AllPackets, IsPacket, IsPacked, IsRetiredRight}
+use Rattle.ring_world.proofs.OwnerStops.{IsPacked, IsRetiredRight}
 use Rattle.ring_world.proofs.Views.{ring_less}
 use Rattle.ring_world.proofs.Linked.{Looks, linked_look}
 use Rattle.ring_world.proofs.Refresh.{look_walk}
-use Rattle.ring_world.proofs.Kept.{IsCurrent, IsNumbered, Inv}
+use Rattle.ring_world.proofs.Kept.{IsCurrent, IsNumbered, Inv, packets_stay}
 
 pub look_member : (w : World) (x v q : ℕ) (P : ℕ → Member → Type 0) → x < size w → P x (moved_to w x v) → (q ≢ x → P q (member_at w q)) → P q (member_at (look_at w x v) q)
 look_member w x v q P lt here other = at_set P w.members x q (moved_to w x v) no_member lt here other
@@ -63,6 +63,10 @@ pub record Rest (w : World) : Type 0 where
   pub origins : (p : ℕ) → 1 ≤ p → p < size w → is_in p (ring w) ≡ true
   pub walks : (p : ℕ) → 1 ≤ p → p < size w → NeverRises (walk w p)
 
+-- with its links that is the whole invariant
+pub whole : (w : World) → Rest w → IsLinked w → Inv w
+whole w r linked = record { is_ring = r.is_ring; linked = linked; history = r.history; ordered = r.ordered; packed = r.packed; numbered = r.numbered; retired = r.retired; waiting = r.waiting; current = r.current; origins = r.origins; walks = r.walks }
+
 pub look_rest : (w : World) (x v : ℕ) → MayLook w x v → Inv w → Rest (look_at w x v)
 look_rest w x v m h =
     let w' : World = look_at w x v in
@@ -75,7 +79,7 @@ look_rest w x v m h =
       is_ring = ring_less w w' refl k.runs_less (λ q r. later q) views h.is_ring;
       history = record { grows = h.history.grows; dies = h.history.dies; known = h.history.known };
       ordered = record { part = h.ordered.part; order = h.ordered.order };
-      packed = record { packets = λ s l. as_before s (h.packed.packets s l) };
+      packed = record { packets = λ s l. packets_stay w w'.members w.links (link_at w s) (link_at w s).packets (h.packed.packets s l) };
       numbered = record {
         zero = λ q p. look_member w x v q (λ i z. knows w z.version p ≡ false → ((row_at z p).got ≡ 0) × ((row_at z p).forgot ≡ 0)) m.is_member
             (λ e. h.numbered.zero x p (unknown_earlier w (member_at w x).version v p h.history m.later m.upto e)) (λ _. h.numbered.zero q p);
@@ -103,27 +107,8 @@ look_rest w x v m h =
     apart : (member_at w x).phase ≡ Waiting → ⊥
     apart e = let bad : Up ≡ Waiting = sym m.up ∙ e in cc
 
-    as_before : (s : ℕ) → AllPackets (IsPacket w (link_at w s)) (link_at w s).packets → AllPackets (IsPacket (look_at w x v) (link_at w s)) (link_at w s).packets
-    as_before s a = by_list (link_at w s).packets a
-      where
-        by_list : (ks : List Packet) → AllPackets (IsPacket w (link_at w s)) ks → AllPackets (IsPacket (look_at w x v) (link_at w s)) ks
-        by_list [] b = tt
-        by_list (j ∷ js) b = (record { from = b.0.from; upto = b.0.upto; kept = b.0.kept; zero = b.0.zero }, by_list js b.1)
-
 -- a refresh that keeps the out link
 pub look_keeps : (w : World) (x v : ℕ) → MayLook w x v → ((o : ℕ) → (member_at w x).out ≡ Some o → (link_at w o).receiver ≡ right w v x) → Inv w → Inv (look_at w x v)
 look_keeps w x v m stays h =
-    let r : Rest (look_at w x v) = look_rest w x v m h in
-    record {
-      is_ring = r.is_ring;
-      linked = linked_look w (look_at w x v).members x v h.is_ring h.linked h.history (look_looks w x v m) (λ q. look_member w x v q (λ i z. z.out ≡ (member_at w i).out) m.is_member refl (λ _. refl)) (λ o _ e. stays o e);
-      history = r.history;
-      ordered = r.ordered;
-      packed = r.packed;
-      numbered = r.numbered;
-      retired = r.retired;
-      waiting = r.waiting;
-      current = r.current;
-      origins = r.origins;
-      walks = r.walks;
-    }
+    whole (look_at w x v) (look_rest w x v m h)
+    (linked_look w (look_at w x v).members x v h.is_ring h.linked h.history (look_looks w x v m) (λ q. look_member w x v q (λ i z. z.out ≡ (member_at w i).out) m.is_member refl (λ _. refl)) (λ o _ e. stays o e))

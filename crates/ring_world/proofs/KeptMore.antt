@@ -1,7 +1,6 @@
 -- Stops, picks, ends that are taken, and new views keep the whole invariant.
 use Rattle.std.proofs.Common.{None, subst, ◌≡◌, ◌≢◌, ℕ, ◌<◌, ◌≤◌, ◌+◌, Bool, true, false, cond, List, [], ◌∷◌, ◌++◌, length, refl, sym, ap, ◌∙◌, arith, nat_eq, Option, Some}
 use Rattle.std.specs.List.{filter}
-use Rattle.std.proofs.lemmas.Bool.{false≢true}
 use Rattle.std.proofs.lemmas.List.{length-set, length_push}
 use Rattle.std.proofs.lemmas.List.Elements.{filter_agree}
 use Rattle.ring_world.specs.Refusal.{is_empty}
@@ -14,12 +13,14 @@ use Rattle.ring_world.specs.Walk.{walk, running_from, number, own_number, first_
 use Rattle.ring_world.specs.Step.{size, stopped, stop_at, with_member, with_link, with_current, with_view}
 use Rattle.group_view.specs.Change.{marked}
 use Rattle.ring_world.proofs.Lists.{at_set}
+use Rattle.group_view.proofs.Truth.{other_true}
+use Rattle.group_view.proofs.Rings.{in_tail}
 use Rattle.group_view.proofs.Neighbours.{filtered_in}
 use Rattle.ring_world.proofs.Good.{never_rises_still}
 use Rattle.ring_world.proofs.Standing.{knows}
 use Rattle.ring_world.proofs.OwnerStops.{AllPackets, IsPacket, IsRetiredRight, stop_falls}
 use Rattle.ring_world.proofs.Stop.{is_not, stop_runs, stop_running, stop_retired}
-use Rattle.ring_world.proofs.Shape.{SameEnds, IsShaped, shaped_ring, shaped_history, shaped_ordered, shaped_linked}
+use Rattle.ring_world.proofs.Shape.{SameEnds, IsShaped}
 use Rattle.ring_world.proofs.Views.{ring_more, mark_goes_on, mark_walk, view_old, view_new, kept_old, left_old, ids-marked}
 use Rattle.ring_world.proofs.Marked.{linked_more, history_more, mark_ages}
 use Rattle.ring_world.proofs.Ordered.{ordered_more, mark_order}
@@ -28,7 +29,7 @@ use Rattle.ring_world.specs.Rows.{Row}
 use Rattle.ring_world.proofs.Links.{IsOr, kept}
 use Rattle.ring_world.proofs.Back.{Closes, closes_walk}
 use Rattle.ring_world.proofs.Refresh.{current_walk}
-use Rattle.ring_world.proofs.Kept.{Inv, AllPackets-map, shaped_packed, shaped_current}
+use Rattle.ring_world.proofs.Kept.{Inv, AllPackets-map, shaped_packed, shaped_current, shaped_keeps}
 
 -- ---- a stop
 
@@ -36,14 +37,10 @@ pub stop_shape : (w : World) (x : ℕ) → x < size w → IsShaped w (stop_at w 
 stop_shape w x lt = record {
   many = refl;
   ends = λ j. record { sender = refl; receiver = refl; opened = refl };
-  runs_less = λ q r. by_test q (nat_eq q x) (sym (stop_runs w x q lt) ∙ r);
+  runs_less = λ q r. other_true (nat_eq q x) (runs w q) (sym (stop_runs w x q lt) ∙ r);
   version = λ q. at_set (λ i m. m.version ≡ (member_at w i).version) w.members x q (stopped (member_at w x)) no_member lt refl (λ _. refl);
   out = λ q. at_set (λ i m. m.out ≡ (member_at w i).out) w.members x q (stopped (member_at w x)) no_member lt refl (λ _. refl);
 }
-  where
-    by_test : (q : ℕ) (b : Bool) → cond b false (runs w q) ≡ true → runs w q ≡ true
-    by_test q true e = absurd (false≢true e)
-    by_test q false e = e
 
 pub stop_retires : (w : World) (x : ℕ) → x < size w → IsRetiredRight w → IsRetiredRight (stop_at w x)
 stop_retires w x lt h = record { none = λ p a b us r e i. stop_retired w x p b lt ∙ by_old p a b us (running_from w p) r refl (sym (stop_running w x p lt) ∙ e) i }
@@ -52,24 +49,17 @@ stop_retires w x lt h = record { none = λ p a b us r e i. stop_retired w x p b 
     by_old p a b us [] r e f i = let bad : [] ≡ a ∷ us = ap (filter (is_not x)) (sym e) ∙ f in cc
     by_old p a b us (o ∷ os) r e f i = h.none p o b os r e (by_test (is_not x o) refl (ap (filter (is_not x)) (sym e) ∙ f))
       where
-        put : (c : Bool) → is_in b us ≡ true → cond c true (is_in b us) ≡ true
-        put true j = refl
-        put false j = j
-
         by_test : (t : Bool) → is_not x o ≡ t → cond t (o ∷ filter (is_not x) os) (filter (is_not x) os) ≡ a ∷ us → is_in b os ≡ true
         by_test true et k = let tail : filter (is_not x) os ≡ us = cc in filtered_in (is_not x) b os (ap (is_in b) tail ∙ i)
-        by_test false et k = filtered_in (is_not x) b os (ap (is_in b) k ∙ put (nat_eq b a) i)
+        by_test false et k = filtered_in (is_not x) b os (ap (is_in b) k ∙ in_tail b a us i)
 
 pub stop_keeps : (w : World) (x : ℕ) → x < size w → runs w x ≡ true → Inv w → Inv (stop_at w x)
 stop_keeps w x lt rx h =
     let w' : World = stop_at w x in
     let sh : IsShaped w w'.members w.links = stop_shape w x lt in
-    let many : size w' ≡ size w = length-set w.members x (stopped (member_at w x)) in
-    record {
-      is_ring = shaped_ring w w'.members w.links sh h.is_ring;
-      linked = shaped_linked w w'.members w.links sh h.linked;
-      history = shaped_history w w'.members w.links sh h.history;
-      ordered = shaped_ordered w w'.members w.links h.ordered;
+    shaped_keeps w w'.members w.links sh
+    (record {
+      many = length-set w.members x (stopped (member_at w x));
       packed = shaped_packed w w'.members w.links sh h.packed.packets;
       numbered = record { zero = λ z p. at_set (λ k a. knows w a.version p ≡ false → ((row_at a p).got ≡ 0) × ((row_at a p).forgot ≡ 0)) w.members x z (stopped (member_at w x)) no_member lt (h.numbered.zero x p) (λ _. h.numbered.zero z p) };
       retired = stop_retires w x lt h.retired;
@@ -79,10 +69,10 @@ stop_keeps w x lt rx h =
         admission = λ z t e l to v. h.waiting.admission z t (phase z e) l to (v ∙ sh.version z);
       };
       current = shaped_current w w'.members w.links sh (λ q. at_set (λ k a. a.current ≡ (member_at w k).current) w.members x q (stopped (member_at w x)) no_member lt refl (λ _. refl)) h.current;
-      origins = λ p some l. h.origins p some (omega arith);
-      walks = λ p some l. let l2 : p < size w = omega arith in
-          stop_falls w x p lt h.is_ring h.linked h.history h.ordered h.packed h.retired rx (h.origins p some l2) (h.walks p some l2);
-    }
+      walks = λ p some l.
+          stop_falls w x p lt h.is_ring h.linked h.history h.ordered h.packed h.retired rx (h.origins p some l) (h.walks p some l);
+    })
+    h
   where
     phase : (z : ℕ) → (member_at (stop_at w x) z).phase ≡ Waiting → (member_at w z).phase ≡ Waiting
     phase z = at_set (λ k a. a.phase ≡ Waiting → (member_at w k).phase ≡ Waiting) w.members x z (stopped (member_at w x)) no_member lt (λ e. cc) (λ _ e. e)
@@ -96,7 +86,6 @@ pub current_keeps : (w : World) (y : ℕ) (c : Option ℕ) → y < size w → (m
 current_keeps w y c lt up k h =
     let m : Member = with_current c (member_at w y) in
     let w' : World = with_member w y m in
-    let many : size w' ≡ size w = length-set w.members y m in
     let rows : (q p : ℕ) → row_at (member_at w' q) p ≡ row_at (member_at w q) p = λ q p. at_set (λ i a. row_at a p ≡ row_at (member_at w i) p) w.members y q m no_member lt refl (λ _. refl) in
     let runs_same : (q : ℕ) → runs w' q ≡ runs w q = λ q. at_set (λ i a. runs_phase a.phase ≡ runs w i) w.members y q m no_member lt refl (λ _. refl) in
     let sh : IsShaped w w'.members w.links = record {
@@ -106,11 +95,9 @@ current_keeps w y c lt up k h =
       version = λ q. at_set (λ i a. a.version ≡ (member_at w i).version) w.members y q m no_member lt refl (λ _. refl);
       out = λ q. at_set (λ i a. a.out ≡ (member_at w i).out) w.members y q m no_member lt refl (λ _. refl);
     } in
-    record {
-      is_ring = shaped_ring w w'.members w.links sh h.is_ring;
-      linked = shaped_linked w w'.members w.links sh h.linked;
-      history = shaped_history w w'.members w.links sh h.history;
-      ordered = shaped_ordered w w'.members w.links h.ordered;
+    shaped_keeps w w'.members w.links sh
+    (record {
+      many = length-set w.members y m;
       packed = shaped_packed w w'.members w.links sh h.packed.packets;
       numbered = record { zero = λ z p. at_set (λ i a. knows w a.version p ≡ false → ((row_at a p).got ≡ 0) × ((row_at a p).forgot ≡ 0)) w.members y z m no_member lt (h.numbered.zero y p) (λ _. h.numbered.zero z p) };
       retired = record { none = λ p a b us r e i. ap (λ r. r.retired) (rows b p) ∙ h.retired.none p a b us r (sym (filter_agree (runs w') (runs w) runs_same (rotated p (ring w))) ∙ e) i };
@@ -125,9 +112,9 @@ current_keeps w y c lt up k h =
         kept_yet = λ q s r. at_set (λ i a. runs w i ≡ true → a.current ≡ Some s → is_kept w (link_at w s) a.version ≡ true) w.members y q m no_member lt (λ _. k.kept_yet s) (λ _ r2. h.current.kept_yet q s r2) (sh.runs_less q r);
         opened = λ q s r. at_set (λ i a. runs w i ≡ true → a.current ≡ Some s → (link_at w s).opened ≤ a.version) w.members y q m no_member lt (λ _. k.opened s) (λ _ r2. h.current.opened q s r2) (sh.runs_less q r);
       };
-      origins = λ p some l. h.origins p some (omega arith);
-      walks = λ p some l. let l2 : p < size w = omega arith in never_rises_still (walk w p) (walk w' p) (current_walk w y p c lt up) (h.walks p some l2);
-    }
+      walks = λ p some l. never_rises_still (walk w p) (walk w' p) (current_walk w y p c lt up) (h.walks p some l);
+    })
+    h
   where
     waits : (z : ℕ) → (member_at (with_member w y (with_current c (member_at w y))) z).phase ≡ Waiting → z ≢ y
     waits z e is =
@@ -216,11 +203,9 @@ way_keeps w s l lt k h =
       out = λ q. refl;
     } in
     let packets : (j : ℕ) → (link_at w' j).packets ≡ (link_at w j).packets = λ j. at_set (λ i a. a.packets ≡ (link_at w i).packets) w.links s j l no_link lt k.packets (λ _. refl) in
-    record {
-      is_ring = shaped_ring w w.members w'.links sh h.is_ring;
-      linked = shaped_linked w w.members w'.links sh h.linked;
-      history = shaped_history w w.members w'.links sh h.history;
-      ordered = shaped_ordered w w.members w'.links h.ordered;
+    shaped_keeps w w.members w'.links sh
+    (record {
+      many = refl;
       packed = shaped_packed w w.members w'.links sh (λ j jl. subst (AllPackets (IsPacket w (link_at w j))) (sym (packets j)) (h.packed.packets j jl));
       numbered = record { zero = h.numbered.zero };
       retired = record { none = h.retired.none };
@@ -230,6 +215,6 @@ way_keeps w s l lt k h =
         admission = λ y t e lt2 to v. ap is_empty (packets t) ∙ h.waiting.admission y t e (omega (arith, sh.many)) (sym (sh.ends t).receiver ∙ to) (sym (sh.ends t).opened ∙ v);
       };
       current = shaped_current w w.members w'.links sh (λ q. refl) h.current;
-      origins = h.origins;
       walks = λ p some l2. never_rises_still (walk w p) (walk w' p) (closes_walk w w' p (way_closes w s l p k lt)) (h.walks p some l2);
-    }
+    })
+    h

@@ -1,5 +1,5 @@
 -- A refresh that opens a link keeps the whole invariant.
-use Rattle.std.proofs.Common.{◌≡◌, ◌≢◌, ℕ, ◌<◌, ◌+◌, true, false, List, [], ◌∷◌, ◌++◌, length, refl, sym, ap, subst, ◌∙◌, arith, nat_eq, Some}
+use Rattle.std.proofs.Common.{◌≡◌, ◌≢◌, ℕ, ◌<◌, ◌+◌, true, false, [], ◌∷◌, ◌++◌, length, refl, sym, ap, subst, ◌∙◌, arith, nat_eq, Some}
 use Rattle.std.specs.Prelude.{◌&&◌}
 use Rattle.std.proofs.lemmas.List.{length-set, length_push}
 use Rattle.std.proofs.lemmas.List.Elements.{filter_agree}
@@ -7,25 +7,26 @@ use Rattle.ring_world.specs.Refusal.{is_empty}
 use Rattle.ring_world.proofs.WhatRefuses.{MayLook}
 use Rattle.ring_world.specs.View.{ids, is_live}
 use Rattle.group_view.specs.Ring.{rotated, others, is_in}
-use Rattle.ring_world.specs.Machine.{Phase, Waiting, Up, Stopped, World, Packet, Member, Link, no_member, no_link, member_at, link_at, view_at, row_at, newest, ring, left, right, runs, runs_phase, is_kept, is_waiting, no_sending}
+use Rattle.ring_world.specs.Machine.{Phase, Waiting, Up, Stopped, World, Member, Link, no_member, no_link, member_at, link_at, view_at, row_at, newest, ring, left, right, runs, runs_phase, is_kept, is_waiting, no_sending}
 use Rattle.ring_world.specs.Rows.{Row}
 use Rattle.ring_world.specs.declared.numbers.Numbers.{Numbers}
 use Rattle.ring_world.specs.Walk.{own_number, number, walk}
 use Rattle.ring_world.specs.Step.{size, look_at, moved_to, next_packet, opened_link, open_to}
+use Rattle.group_view.proofs.Rings.{others_inside}
 use Rattle.ring_world.proofs.Lists.{at_set, at_push}
 use Rattle.ring_world.proofs.Weakens.{then}
 use Rattle.ring_world.proofs.Good.{never_rises_still}
 use Rattle.ring_world.proofs.Standing.{knows}
 use Rattle.ring_world.proofs.OwnerStops.{AllPackets, IsPacket}
 use Rattle.ring_world.proofs.Views.{ring_less, right_is}
-use Rattle.ring_world.proofs.Ordered.{first_inside, others_inside}
+use Rattle.ring_world.proofs.Ordered.{first_inside}
 use Rattle.ring_world.proofs.Linked.{linked_open, link_old}
 use Rattle.ring_world.proofs.Refresh.{blind}
 use Rattle.ring_world.proofs.Back.{closes_walk}
 use Rattle.ring_world.proofs.Open.{open_walk, within_links, with_opened}
 use Rattle.ring_world.proofs.Put.{runs_phase-Up}
-use Rattle.ring_world.proofs.Kept.{Inv}
-use Rattle.ring_world.proofs.KeptLook.{Rest, look_rest, look_member, look_runs, look_looks}
+use Rattle.ring_world.proofs.Kept.{Inv, packets_stay}
+use Rattle.ring_world.proofs.KeptLook.{Rest, look_rest, look_member, look_runs, look_looks, whole}
 use Rattle.ring_world.proofs.Packets.{reads_got, reads_forgot, line_of_packet}
 
 -- what is known of x and its right neighbour z
@@ -61,7 +62,7 @@ open_rest w x z m r =
         known = λ s lt. at_push (λ i k. is_in k.receiver (ids (view_at w k.opened)) ≡ true) w.links s l no_link (omega arith) m.inside (λ o. r.history.known s o);
       };
       ordered = record { part = r.ordered.part; order = r.ordered.order };
-      packed = record { packets = λ s lt. at_push (λ i k. AllPackets (IsPacket w' k) k.packets) w.links s l no_link (omega arith) (new_packet, tt) (λ o. as_before s (r.packed.packets s o)) };
+      packed = record { packets = λ s lt. at_push (λ i k. AllPackets (IsPacket w' k) k.packets) w.links s l no_link (omega arith) (new_packet, tt) (λ o. packets_stay w w'.members w'.links (link_at w s) (link_at w s).packets (r.packed.packets s o)) };
       numbered = record {
         zero = λ q p e.
             let e2 : knows w (member_at w q).version p ≡ false = ap (λ v. knows w v p) (sym (view_same q)) ∙ e in
@@ -110,13 +111,6 @@ open_rest w x z m r =
           (line_of_packet (λ k. k.got) (λ r. r.got) (member_at w x) no_sending p reads_got ∙ (r.numbered.zero x p e).0, line_of_packet (λ k. k.forgot) (λ r. r.forgot) (member_at w x) no_sending p reads_forgot ∙ (r.numbered.zero x p e).1);
     }
 
-    as_before : (s : ℕ) → AllPackets (IsPacket w (link_at w s)) (link_at w s).packets → AllPackets (IsPacket (open_to w x z) (link_at w s)) (link_at w s).packets
-    as_before s a = by_list (link_at w s).packets a
-      where
-        by_list : (ks : List Packet) → AllPackets (IsPacket w (link_at w s)) ks → AllPackets (IsPacket (open_to w x z) (link_at w s)) ks
-        by_list [] b = tt
-        by_list (j ∷ js) b = (record { from = b.0.from; upto = b.0.upto; kept = b.0.kept; zero = b.0.zero }, by_list js b.1)
-
 -- a refresh whose out link doesn't go to the right neighbour, or that has none
 pub open_keeps : (w : World) (x v : ℕ) → MayLook w x v → ((o : ℕ) → (member_at w x).out ≡ Some o → (link_at w o).receiver ≢ right w v x) → (is_waiting (member_at (look_at w x v) (right w v x)).phase && nat_eq (member_at (look_at w x v) x).version (member_at (look_at w x v) (right w v x)).version) ≡ false → Inv w → Inv (open_to (look_at w x v) x (right w v x))
 open_keeps w x v m moves fresh h =
@@ -135,33 +129,21 @@ open_keeps w x v m moves fresh h =
           (first_inside (is_live (view_at w v)) x (others x (ids (view_at w v))) (ids (view_at w v)) (h.is_ring.stands x v rx m.later m.upto) (λ q i. others_inside x q (ids (view_at w v)) i));
       fresh = fresh;
     } in
-    let r : Rest (open_to w1 x z) = open_rest w1 x z may (look_rest w x v m h) in
     let members : (P : ℕ → Member → Type 0) (q : ℕ) → P x (out_member w1 x) → (q ≢ x → P q (member_at w1 q)) → P q (member_at (open_to w1 x z) q) = λ P q a b. at_set P w1.members x q (out_member w1 x) no_member lt a b in
-    record {
-      is_ring = r.is_ring;
-      linked = linked_open w (open_to w1 x z).members x v (opened_link w1 x z) h.is_ring h.linked h.history (record {
-        looks = record {
-          later = m.later;
-          upto = m.upto;
-          runs_less = λ q e. sym (look_runs w x v q m.is_member) ∙ sym (members (λ i a. runs_phase a.phase ≡ runs w1 i) q refl (λ _. refl)) ∙ e;
-          its_view = members (λ i a. i ≡ x → a.version ≡ v) x (λ _. its_view) (λ d e. absurd (d e)) refl;
-          other_view = λ q d. members (λ i a. i ≢ x → a.version ≡ (member_at w i).version) q (λ k. absurd (k refl)) (λ _ d2. (look_looks w x v m).other_view q d2) d;
-        };
-        x_runs = rx;
-        moves = moves;
-        sender = refl;
-        receiver = refl;
-        opened = its_view;
-        its_out = members (λ i a. i ≡ x → a.out ≡ Some (length w.links)) x (λ _. refl) (λ d e. absurd (d e)) refl;
-        other_out = λ q d. members (λ i a. i ≢ x → a.out ≡ (member_at w i).out) q (λ k. absurd (k refl)) (λ _ d2. look_member w x v q (λ i a. i ≢ x → a.out ≡ (member_at w i).out) m.is_member (λ k. absurd (k refl)) (λ _ _. refl) d2) d;
-      });
-      history = r.history;
-      ordered = r.ordered;
-      packed = r.packed;
-      numbered = r.numbered;
-      retired = r.retired;
-      waiting = r.waiting;
-      current = r.current;
-      origins = r.origins;
-      walks = r.walks;
-    }
+    whole (open_to w1 x z) (open_rest w1 x z may (look_rest w x v m h))
+    (linked_open w (open_to w1 x z).members x v (opened_link w1 x z) h.is_ring h.linked h.history (record {
+      looks = record {
+        later = m.later;
+        upto = m.upto;
+        runs_less = λ q e. sym (look_runs w x v q m.is_member) ∙ sym (members (λ i a. runs_phase a.phase ≡ runs w1 i) q refl (λ _. refl)) ∙ e;
+        its_view = members (λ i a. i ≡ x → a.version ≡ v) x (λ _. its_view) (λ d e. absurd (d e)) refl;
+        other_view = λ q d. members (λ i a. i ≢ x → a.version ≡ (member_at w i).version) q (λ k. absurd (k refl)) (λ _ d2. (look_looks w x v m).other_view q d2) d;
+      };
+      x_runs = rx;
+      moves = moves;
+      sender = refl;
+      receiver = refl;
+      opened = its_view;
+      its_out = members (λ i a. i ≡ x → a.out ≡ Some (length w.links)) x (λ _. refl) (λ d e. absurd (d e)) refl;
+      other_out = λ q d. members (λ i a. i ≢ x → a.out ≡ (member_at w i).out) q (λ k. absurd (k refl)) (λ _ d2. look_member w x v q (λ i a. i ≢ x → a.out ≡ (member_at w i).out) m.is_member (λ k. absurd (k refl)) (λ _ _. refl) d2) d;
+    }))

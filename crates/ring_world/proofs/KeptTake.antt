@@ -13,17 +13,15 @@ use Rattle.ring_world.specs.Rows.{no_row}
 use Rattle.ring_world.specs.Walk.{counted, walk, running_from}
 use Rattle.ring_world.specs.Step.{size, popped, take_from, taker, taken_row, is_owned, log_of}
 use Rattle.ring_world.proofs.Lists.{at_set, get_or_beyond}
-use Rattle.ring_world.proofs.Rounds.{nat_eq-is}
 use Rattle.ring_world.proofs.Good.{never_rises_still}
 use Rattle.ring_world.proofs.Standing.{knows, standing}
 use Rattle.ring_world.proofs.OwnerStops.{AllPackets, IsPacket, IsRetiredRight}
-use Rattle.ring_world.proofs.Shape.{SameEnds, IsShaped, shaped_ring, shaped_history, shaped_ordered, shaped_linked}
+use Rattle.ring_world.proofs.Shape.{SameEnds, IsShaped}
 use Rattle.ring_world.proofs.Put.{runs_phase-Up, counted_not_kept, counted_other}
 use Rattle.ring_world.proofs.Take.{CanTake, Standing, elsewhere, first_time, unknown, come_round, taken_packet, take_walk, take_runs, row_at-taker, take_retired_other, take_retired, head_once}
 use Rattle.ring_world.proofs.Refresh.{kept_less}
-use Rattle.ring_world.proofs.Ordered.{others_inside}
-use Rattle.group_view.proofs.Rings.{in_before}
-use Rattle.ring_world.proofs.Kept.{Inv, AllPackets-first, AllPackets-drop, shaped_packed, shaped_current}
+use Rattle.group_view.proofs.Rings.{in_before, nat_eq-is, others_inside}
+use Rattle.ring_world.proofs.Kept.{Inv, AllPackets-first, AllPackets-drop, shaped_packed, shaped_current, shaped_keeps}
 
 -- the conditions of a take
 pub can_take : (w : World) (y s : ℕ) → Inv w → MayTake w y s → CanTake w y s
@@ -145,12 +143,9 @@ take_keeps w y s h m =
     let c : CanTake w y s = can_take w y s h m in
     let w' : World = take_from w y s in
     let sh : IsShaped w w'.members w'.links = take_shape w y s c in
-    let many : size w' ≡ size w = length-set w.members y (taker w y s) in
-    record {
-      is_ring = shaped_ring w w'.members w'.links sh h.is_ring;
-      linked = shaped_linked w w'.members w'.links sh h.linked;
-      history = shaped_history w w'.members w'.links sh h.history;
-      ordered = shaped_ordered w w'.members w'.links h.ordered;
+    shaped_keeps w w'.members w'.links sh
+    (record {
+      many = length-set w.members y (taker w y s);
       packed = shaped_packed w w'.members w'.links sh
           (λ j l. at_set (λ i a. i < length w.links → AllPackets (IsPacket w (link_at w i)) a.packets) w.links s j (popped (link_at w s)) no_link c.is_link
           (λ l2. AllPackets-drop (IsPacket w (link_at w s)) (link_at w s).packets (h.packed.packets s l2)) (λ _ l2. h.packed.packets j l2) l);
@@ -167,12 +162,12 @@ take_keeps w y s h m =
             (h.waiting.admission z t (old_phase z d e) (omega (arith, sh.many)) (sym (sh.ends t).receiver ∙ to) (sym (sh.ends t).opened ∙ v ∙ sh.version z));
       };
       current = shaped_current w w'.members w'.links sh (λ q. at_set (λ k a. a.current ≡ (member_at w k).current) w.members y q (taker w y s) no_member c.is_member refl (λ _. refl)) h.current;
-      origins = λ p some l. h.origins p some (omega arith);
-      walks = λ p some l. let l2 : p < size w = omega arith in
+      walks = λ p some l.
           never_rises_still (walk w p) (walk w' p)
-          (take_walk w y s p c l2 (h.is_ring.distinct (newest w) (omega arith)) (h.is_ring.stands y (newest w) (runs_phase-Up w y m.up) (h.is_ring.held y) (omega arith)) (take_standing w y s p h m (h.origins p some l2) l2))
-          (h.walks p some l2);
-    }
+          (take_walk w y s p c l (h.is_ring.distinct (newest w) (omega arith)) (h.is_ring.stands y (newest w) (runs_phase-Up w y m.up) (h.is_ring.held y) (omega arith)) (take_standing w y s p h m (h.origins p some l) l))
+          (h.walks p some l);
+    })
+    h
   where
     waits : (z : ℕ) → (member_at (take_from w y s) z).phase ≡ Waiting → z ≢ y
     waits z e is =

@@ -4,6 +4,7 @@ pub mod Back
 pub mod Cases
 pub mod Cast
 pub mod Chain
+pub mod Composed
 pub mod Confirmed
 pub mod Edits
 pub mod Enabled

@@ -1,6 +1,6 @@
 -- How the events keep where the packets of a link begin and end.
 use Rattle.std.proofs.Common.{◌≡◌, ◌≢◌, ℕ, zero, suc, ◌+◌, ◌<◌, ◌≤◌, Bool, true, false, cond, not, nat_eq, List, [], ◌∷◌, ◌++◌, length, drop, get_or, set, Option, Some, None, is_some, refl, sym, ap, subst, ◌∙◌, if◌then◌else◌, arith}
-use Rattle.std.proofs.lemmas.Bool.{and_parts, false≢true}
+use Rattle.std.proofs.lemmas.Bool.{and_parts, false≢true, not-true}
 use Rattle.std.proofs.lemmas.List.{length-set, length_push}
 use Rattle.std.proofs.lemmas.List.Quantifiers.{position-Some}
 use Rattle.ring_names.specs.declared.message.Message.{Message}
@@ -15,7 +15,7 @@ use Rattle.ring_world.specs.Step.{size, log_of, next_packet, pushed, popped, put
 use Rattle.ring_world.proofs.WhatRefuses.{MayTake}
 use Rattle.ring_world.specs.Event.{is_at_door, at_door, send_to, refreshed}
 use Rattle.ring_world.proofs.Lists.{at_set, at_push}
-use Rattle.ring_world.proofs.Rounds.{nat_eq-is}
+use Rattle.group_view.proofs.Rings.{nat_eq-is}
 use Rattle.ring_world.proofs.Good.{IsRing}
 use Rattle.ring_world.proofs.Shape.{shaped_kept}
 use Rattle.ring_world.proofs.Views.{view_old, view_new, kept_old, ids-marked}
@@ -285,11 +285,7 @@ pick_lines w y s yl up none door good after h = record {
     to = nat_eq-is (link_at w s).receiver y (and_parts (nat_eq (link_at w s).receiver y) _ found.1).0
 
     over : (link_at w s).over ≡ false
-    over = opposite (link_at w s).over (and_parts (not (link_at w s).over) _ (and_parts (nat_eq (link_at w s).receiver y) _ found.1).1).0
-      where
-        opposite : (b : Bool) → not b ≡ true → b ≡ false
-        opposite true e = absurd (false≢true e)
-        opposite false e = refl
+    over = not-true (link_at w s).over (and_parts (not (link_at w s).over) _ (and_parts (nat_eq (link_at w s).receiver y) _ found.1).1).0
 
     kept : is_kept w (link_at w s) (member_at w y).version ≡ true
     kept =

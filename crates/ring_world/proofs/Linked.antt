@@ -1,47 +1,15 @@
 -- The links, as views and out links change.
-use Rattle.std.proofs.Common.{◌≡◌, ◌≢◌, ℕ, ◌<◌, ◌≤◌, ◌+◌, Bool, true, false, List, [], ◌∷◌, ◌++◌, length, refl, sym, ap, subst, ◌∙◌, arith, nat_eq, ⊎_elim, Some}
-use Rattle.std.specs.List.{filter}
-use Rattle.std.proofs.lemmas.Bool.{cases_eq, false≢true}
+use Rattle.std.proofs.Common.{◌≡◌, ◌≢◌, ℕ, ◌<◌, ◌≤◌, ◌+◌, true, false, List, [], ◌∷◌, ◌++◌, length, refl, sym, ap, subst, ◌∙◌, arith, ⊎_elim, Some}
+use Rattle.std.proofs.lemmas.Bool.{cases_eq}
 use Rattle.std.proofs.lemmas.List.{length_push, get_or_append_left, get_or_push}
-use Rattle.std.proofs.lemmas.List.Elements.{filter-append}
-use Rattle.group_view.specs.Ring.{before, after, others, first_or, left_in, right_in, is_in, AreDistinct}
+use Rattle.group_view.specs.Ring.{is_in}
 use Rattle.ring_world.specs.View.{ids, is_live}
 use Rattle.ring_world.specs.Machine.{World, Member, Link, no_link, member_at, link_at, view_at, newest, left, right, runs, is_kept}
-use Rattle.ring_world.proofs.Rounds.{nat_eq-is}
-use Rattle.group_view.proofs.Rings.{split_at, is_in-rotated, not_in_others, rotated_is}
-use Rattle.ring_world.proofs.Ordered.{others_inside}
-use Rattle.group_view.proofs.Neighbours.{left_gap, IsLast, is_last, none, one}
+use Rattle.group_view.proofs.Neighbours.{right_of_left}
 use Rattle.ring_world.proofs.Good.{Kept, IsRing, IsLinked, out_stays}
 use Rattle.ring_world.proofs.Views.{left_is, right_is}
 use Rattle.ring_world.proofs.Period.{IsHistory, opens_period}
-use Rattle.ring_world.proofs.Standing.{distinct_others}
 use Rattle.ring_world.proofs.Lists.{at_push}
-
--- ---- the right neighbour of the left neighbour
-
-pub right_of_left : (live : ℕ → Bool) (x z : ℕ) (xs : List ℕ) → AreDistinct xs → is_in z xs ≡ true → live z ≡ true → left_in live z xs ≡ x → right_in live x xs ≡ z
-right_of_left live x z xs d iz lz e = by_last (is_last live z x (others z xs) (distinct_others z xs d iz) e)
-  where
-    by_last : IsLast live z x (others z xs) → right_in live x xs ≡ z
-    by_last (none n is) = ap (λ q. first_or q (filter live (others q xs))) is ∙ ap (first_or z) n
-    by_last (one i lx n) = by_test (nat_eq z x) refl
-      where
-        gap : filter live (before z (others x xs)) ≡ []
-        gap = left_gap live x z xs d (distinct_others z xs d iz) iz e
-
-        by_test : (b : Bool) → nat_eq z x ≡ b → right_in live x xs ≡ z
-        by_test true eb =
-            -- z would stand among its own others
-            absurd (false≢true (sym (own z xs d) ∙ ap (λ q. is_in q (others z xs)) (nat_eq-is z x eb) ∙ i))
-          where
-            own : (z : ℕ) (xs : List ℕ) → AreDistinct xs → is_in z (others z xs) ≡ false
-            own z xs d = not_in_others z xs d
-        by_test false eb =
-            let xi : is_in x xs ≡ true = others_inside z x xs i in
-            let zi : is_in z (others x xs) ≡ true = sym (sym (is_in-rotated z x xs ∙ iz) ∙ (ap (is_in z) (rotated_is x xs xi) ∙ rw eb refl)) in
-            ap (λ us. first_or x (filter live us)) (split_at z (others x xs) zi)
-            ∙ ap (first_or x) (filter-append live (before z (others x xs)) (z ∷ after z (others x xs)))
-            ∙ rw (gap, lz) refl
 
 -- ---- x looks at a later view, and its out link still goes to its right neighbour
 

@@ -11,8 +11,8 @@ use Rattle.ring_world.specs.Machine.{is_kept_of, World, Moved, member_at, view_a
 use Rattle.ring_world.specs.Step.{look_at, open_to, end_out}
 use Rattle.ring_world.specs.Event.{send_to, refreshed}
 use Rattle.ring_world.specs.Shows.{sends_to}
-use Rattle.ring_world.proofs.Rounds.{nat_eq-is, nat_eq-same}
-use Rattle.ring_world.proofs.Good.{all_range, at_range}
+use Rattle.group_view.proofs.Lists.{all_range, at_range}
+use Rattle.group_view.proofs.Rings.{nat_eq-is, nat_eq-same}
 
 -- each view says so
 pub kept_yes : (vs : List Group) (to sender opened v : ℕ) → ((u : ℕ) → opened ≤ u → u < v + 1 → left_at vs u to ≡ sender) → is_kept_of vs to sender opened v ≡ true

@@ -1,6 +1,6 @@
 -- Links and history, where a view is added and nobody looks at it yet.
-use Rattle.std.proofs.Common.{◌≡◌, ℕ, ◌<◌, ◌≤◌, ◌+◌, Bool, true, false, cond, [], ◌∷◌, ◌++◌, length, sym, ap, subst, ◌∙◌, arith, nat_eq, ⊎_elim}
-use Rattle.std.proofs.lemmas.Bool.{cases_lt, false≢true}
+use Rattle.std.proofs.Common.{◌≡◌, ℕ, ◌<◌, ◌≤◌, ◌+◌, true, [], ◌∷◌, ◌++◌, length, sym, ap, subst, ◌∙◌, arith, nat_eq, ⊎_elim}
+use Rattle.std.proofs.lemmas.Bool.{cases_lt}
 use Rattle.std.proofs.lemmas.List.{length_push}
 use Rattle.group_view.specs.View.{Group}
 use Rattle.ring_world.specs.View.{ids, is_live}
@@ -8,6 +8,7 @@ use Rattle.ring_world.specs.Machine.{World, member_at, link_at, view_at, newest,
 use Rattle.group_view.specs.Ring.{is_in}
 use Rattle.ring_world.specs.Step.{with_view}
 use Rattle.group_view.specs.Change.{marked}
+use Rattle.group_view.proofs.Truth.{other_true}
 use Rattle.ring_world.proofs.Good.{IsRing, IsLinked}
 use Rattle.ring_world.proofs.Period.{IsHistory}
 use Rattle.ring_world.proofs.Views.{view_old, view_new, left_old, right_old, kept_old, ids-marked, live-marked}
@@ -70,9 +71,5 @@ history_more w v' hr hl hh g =
 pub mark_ages : (w : World) (d : ℕ) → Ages w (marked (view_at w (newest w)) d)
 mark_ages w d = record {
   grows = λ z i. ap (is_in z) (ids-marked (view_at w (newest w)) d) ∙ i;
-  dies = λ z i l. weaker (nat_eq z d) (is_live (view_at w (newest w)) z) (sym (live-marked (view_at w (newest w)) d z) ∙ l);
+  dies = λ z i l. other_true (nat_eq z d) (is_live (view_at w (newest w)) z) (sym (live-marked (view_at w (newest w)) d z) ∙ l);
 }
-  where
-    weaker : (b c : Bool) → cond b false c ≡ true → c ≡ true
-    weaker true c t = absurd (false≢true t)
-    weaker false c t = t

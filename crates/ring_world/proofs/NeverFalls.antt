@@ -15,12 +15,12 @@ use Rattle.ring_world.proofs.WhatRefuses.{MayTake}
 use Rattle.ring_world.specs.Event.{Event, IsRun, last}
 use Rattle.ring_world.specs.Lawful.{row_of, RowIsWithin, NeverFalls}
 use Rattle.ring_world.proofs.Lists.{at_set, get_or_beyond}
-use Rattle.ring_world.proofs.Rounds.{nat_eq-is}
+use Rattle.group_view.proofs.Rings.{nat_eq-is, in_first, in_second, in_head}
 use Rattle.ring_world.proofs.Put.{runs_phase-Up, number_up}
 use Rattle.ring_world.proofs.Take.{CanTake, Standing, elsewhere, first_time, unknown, come_round, taken_packet, take_numbers, take_early, take_late, links_after}
 use Rattle.ring_world.proofs.Kept.{Inv}
 use Rattle.ring_world.proofs.KeptTake.{can_take, take_standing}
-use Rattle.ring_world.proofs.Falling.{in_first, in_second, in_head, rises_first, rises_second, falls_across, owner_in_round, late_in_round, round_falls, early_falls}
+use Rattle.ring_world.proofs.Falling.{rises_first, rises_second, falls_across, owner_in_round, late_in_round, round_falls, early_falls}
 use Rattle.ring_world.proofs.Confirmed.{runs_in_walk}
 use Rattle.ring_world.proofs.Happens.{IsGood, reached_good}
 use Rattle.ring_world.proofs.Parts.{IsStill, Part, cast_part, put_part, take_part, gain_part, stop_part, open_part, still_part, member_still, run_keeps}

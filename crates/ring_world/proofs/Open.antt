@@ -1,5 +1,5 @@
 -- A link that opens repeats its sender's number.
-use Rattle.std.proofs.Common.{◌≡◌, ◌≢◌, ℕ, zero, suc, ◌<◌, Bool, true, false, cond, List, [], ◌∷◌, ◌++◌, length, get_or, refl, sym, ap, subst, ◌∙◌, arith, nat_eq, Option, Some, None, ⊎_elim}
+use Rattle.std.proofs.Common.{◌≡◌, ◌≢◌, ℕ, zero, suc, ◌<◌, Bool, true, false, List, [], ◌∷◌, ◌++◌, length, get_or, refl, sym, ap, subst, ◌∙◌, arith, nat_eq, Option, Some, None, ⊎_elim}
 use Rattle.std.specs.Prelude.{◌&&◌}
 use Rattle.std.proofs.lemmas.Bool.{cases_eq, false≢true}
 use Rattle.std.proofs.lemmas.List.{get_or_append_left}
@@ -12,7 +12,9 @@ use Rattle.ring_world.specs.Walk.{newest_first, numbers, only, no_but, counted, 
 use Rattle.ring_world.specs.Step.{next_packet, opened_link}
 use Rattle.ring_world.proofs.Weakens.{Weakens, same, joined, joined_left}
 use Rattle.ring_world.proofs.Links.{numbers_open}
-use Rattle.ring_world.proofs.Rounds.{nat_eq-same, round_back}
+use Rattle.group_view.proofs.Lists.{cond_empty_late}
+use Rattle.group_view.proofs.Rings.{nat_eq-same}
+use Rattle.ring_world.proofs.Rounds.{round_back}
 use Rattle.ring_world.proofs.Edits.{round_front}
 use Rattle.ring_world.proofs.Good.{IsRing, IsWaitingRight}
 use Rattle.ring_world.proofs.Put.{counted_other, counted_not_kept, number_up, not_in_prefix, receiver_follows, runs_phase-Up}
@@ -48,10 +50,6 @@ opened_none f c w l e = numbers_open f c w.links l ∙ ap (λ ks. newest_first f
 pub opened_one : (f : Packet → ℕ) (c : Link → List Packet) (w : World) (l : Link) (k : Packet) → c l ≡ k ∷ [] → numbers f c (w.links ++ l ∷ []) ≡ f k ∷ numbers f c w.links
 opened_one f c w l k e = numbers_open f c w.links l ∙ ap (λ ks. newest_first f ks ++ numbers f c w.links) e
 
-pub none_late : (b : Bool) (c : List Packet) → c ≡ [] → cond b [] c ≡ []
-none_late true c e = refl
-none_late false c e = e
-
 pub open_round : (g : Numbers → ℕ) (r : Row → ℕ) (w : World) (x z p y : ℕ) (ys : List ℕ) → Reads g r → IsRing w → IsWaitingRight w → (member_at w x).phase ≡ Up → left w (newest w) z ≡ x → (is_waiting (member_at w z).phase && nat_eq (member_at w x).version (member_at w z).version) ≡ false → running_from w p ≡ y ∷ ys → (b : Bool) → is_kept w (opened_link w x z) (member_at w z).version ≡ b → Weakens (round_of g r w p (stopped_from w p) (y ∷ ys)) (round_of g r (with_opened w (opened_link w x z)) p (stopped_from w p) (y ∷ ys))
 open_round g r w x z p y ys gr hr hw up lz fresh e true kept =
     let f : Packet → ℕ = λ k. g (numbers_at k p) in
@@ -70,7 +68,7 @@ open_round g r w x z p y ys gr hr hw up lz fresh e true kept =
     (λ q. opened_none f (only (is_early st) (counted w q)) w l (rw late refl))
     (λ q differs. opened_none f (counted w q) w l (counted_other w q l (λ s. differs (sym s))))
     (opened_one f (counted w z) w l k one ∙ ap (λ a. a ∷ numbers f (counted w z) w.links) is)
-    (λ q differs. opened_none f (no_but (is_early st) (counted w q)) w l (none_late (is_early st l) _ (counted_other w q l (λ s. differs (sym s)))))
+    (λ q differs. opened_none f (no_but (is_early st) (counted w q)) w l (cond_empty_late (is_early st l) _ (counted_other w q l (λ s. differs (sym s)))))
     (opened_one f (no_but (is_early st) (counted w z)) w l k (rw late one) ∙ ap (λ a. a ∷ numbers f (no_but (is_early st) (counted w z)) w.links) is)
     (receiver_follows w x z p y ys hr rx lz e)
 open_round g r w x z p y ys gr hr hw up lz fresh e false kept =
@@ -87,7 +85,7 @@ open_round g r w x z p y ys gr hr hw up lz fresh e false kept =
     (number g r w p) (number g r (with_opened w l) p) y ys
     (λ q. rw (opened_none f (counted w q) w l (none q), number_opened g r w p q l hw) (same _))
     (rw (opened_none f (only (is_early st) (counted w y)) w l (rw late refl), number_opened g r w p y l hw) (same _))
-    (rw (opened_none f (no_but (is_early st) (counted w y)) w l (none_late (is_early st l) _ (none y))) (same _))
+    (rw (opened_none f (no_but (is_early st) (counted w y)) w l (cond_empty_late (is_early st l) _ (none y))) (same _))
 
 -- the walk of an opened link, before its sender knows it as its out link
 pub open_walk : (w : World) (x z p : ℕ) → IsRing w → IsWaitingRight w → (member_at w x).phase ≡ Up → left w (newest w) z ≡ x → (is_waiting (member_at w z).phase && nat_eq (member_at w x).version (member_at w z).version) ≡ false → Weakens (walk w p) (walk (with_opened w (opened_link w x z)) p)

@@ -1,23 +1,14 @@
 -- Small rings, computed: whose packets are open, and which of them are early and late.
-use Rattle.std.proofs.Common.{◌≡◌, ℕ, ◌++◌, List, [], ◌∷◌, refl, arith}
+use Rattle.std.proofs.Common.{◌≡◌, ◌++◌, List, [], ◌∷◌, refl, arith}
 use Rattle.ring_world.specs.View.{left_at, right_at}
 use Rattle.ring_world.specs.Machine.{World, is_kept_of}
 use Rattle.ring_world.specs.Step.{opening}
 use Rattle.ring_world.specs.Event.{Event, Cast, Put, Take, TakeEnd, Stop, Mark, Refresh, Pick, IsRun, last}
 use Rattle.ring_world.specs.OpenLinks.{open_links, the_walk}
-
--- three names
-abbrev a : List ℕ
-a = 97 ∷ []
-
-abbrev b : List ℕ
-b = 98 ∷ []
-
-abbrev c : List ℕ
-c = 99 ∷ []
+use Rattle.ring_world.proofs.Examples.{a, b, c}
 
 -- a ring of three
-abbrev three : World
+abbrev pub three : World
 three = opening (record { initial = 4; more = 2; positive = omega arith; covered = omega arith; small = omega arith }) (a ∷ b ∷ c ∷ [])
 
 -- a has put its message, and the packet stands on the link to b

@@ -2,7 +2,9 @@
 use Rattle.std.proofs.Common.{◌≡◌, ℕ, zero, suc, ◌+◌, ◌<◌, ◌≤◌, Bool, true, false, cond, not, nat_eq, nat_le, List, [], ◌∷◌, ◌++◌, length, get_or, map, Option, Some, None, refl, sym, ap, subst, ◌∙◌, ⊎_elim, arith, append_assoc, max}
 use Rattle.std.specs.Prelude.{◌&&◌, ◌||◌, reverse}
 use Rattle.std.specs.List.{filter, flat_map, range_with_len}
-use Rattle.std.proofs.lemmas.Bool.{and_parts, false≢true, leb-true, le-leb, cases_lt}
+use Rattle.std.specs.Cmp.{both_ways}
+use Rattle.std.proofs.Math.Bool.{not-not}
+use Rattle.std.proofs.lemmas.Bool.{and_parts, false≢true, leb-true, le-leb, cases_lt, and_from}
 use Rattle.std.proofs.lemmas.List.{append-nil, reverse-append, map-append}
 use Rattle.std.proofs.lemmas.List.Elements.{filter-append}
 use Rattle.ring_names.specs.declared.numbers.CreditSpec.{CreditSpec}
@@ -14,9 +16,10 @@ use Rattle.group_view.specs.Change.{AreOpeningNames}
 use Rattle.group_view.specs.Since as group
 use Rattle.group_view.specs.Since.{no_group, IsSince, KeepsLeft, since_at}
 use Rattle.group_view.proofs.KeptLeft.{keeps_since, since_keeps}
-use Rattle.group_view.proofs.Rings.{sym_test, not_in_before, in_before, not_in_others, is_in-rotated, rotated_is, others-rotated, distinct_others, split_at}
+use Rattle.group_view.proofs.Lists.{cond_empty}
+use Rattle.group_view.proofs.Rings.{sym_test, not_in_before, in_before, not_in_others, is_in-rotated, rotated_is, others-rotated, distinct_others, split_at, nat_eq-is, nat_eq-same, from_inside, in_head, in_tail}
 use Rattle.group_view.proofs.Arcs.{prefix_is, between_from}
-use Rattle.group_view.proofs.Neighbours.{FirstPass, first_pass}
+use Rattle.group_view.proofs.Neighbours.{FirstPass, first_pass, first_passes, passes_in}
 use Rattle.group_view.proofs.Passing.{left_inside}
 use Rattle.ring_world.specs.View.{ids, is_live, left_of, left_at}
 use Rattle.ring_world.specs.Machine.{Packet, Link, World, no_link, row_at, numbers_at, member_at, link_at, view_at, newest, ring, left, runs, is_kept}
@@ -24,25 +27,11 @@ use Rattle.ring_world.specs.Walk.{newest_first, numbers, only, no_but, when, cou
 use Rattle.ring_world.specs.Step.{size, opening}
 use Rattle.ring_world.specs.Event.{Event, IsRun, last}
 use Rattle.ring_world.specs.OpenLinks.{version_of, since_in, comes_from_left, passes, is_place, is_current, is_open, open_links, packets_of, packets_on, open_packets, is_late, late_packets, early_packets, stop_of, round_trip, walk_of, the_walk}
-use Rattle.ring_world.proofs.Rounds.{nat_eq-is, nat_eq-same}
 use Rattle.ring_world.proofs.Gaps.{prefix_before}
 use Rattle.ring_world.proofs.Good.{Kept, kept_true, true_kept}
-use Rattle.ring_world.proofs.Standing.{from_inside}
 use Rattle.ring_world.proofs.Views.{left_is}
-use Rattle.ring_world.proofs.Happens.{HasViews, IsGood, reached_good}
+use Rattle.ring_world.proofs.Happens.{HasViews, IsGood, opening_good, reached_good}
 use Rattle.ring_world.proofs.Ended.{EndsRight, ends_run, opening_ends}
-
--- ---- tests
-
--- tests that imply each other give the same
-same_test : (a b : Bool) → (a ≡ true → b ≡ true) → (b ≡ true → a ≡ true) → a ≡ b
-same_test true b f g = sym (f refl)
-same_test false true f g = absurd (false≢true (g refl))
-same_test false false f g = refl
-
--- two tests that pass
-both : (a b : Bool) → a ≡ true → b ≡ true → (a && b) ≡ true
-both a b e k = rw e k
 
 -- ---- late and early
 
@@ -80,59 +69,59 @@ late_cases p s y xs d hp hs hy = by_origin (nat_eq p y) refl
 -- ---- the test by the left neighbour and since
 
 -- the left neighbour as the group's history has it
-left_of_group : (w : World) (h : HasViews w) (u y : ℕ) → is_in y (ids (view_at w u)) ≡ true → left w u y ≡ group.left_at h.groups u y
+pub left_of_group : (w : World) (h : HasViews w) (u y : ℕ) → is_in y (ids (view_at w u)) ≡ true → left w u y ≡ group.left_at h.groups u y
 unfolding left_at group.left_at
 left_of_group w h u y i =
     let same : view_at w u ≡ group.view_at h.groups u = ap (λ vs. get_or vs u no_group) h.is in
     ap (λ v. left_of v y) same ∙ sym (rw (sym (ap (λ v. is_in y (ids v)) same) ∙ i) refl)
 
 -- in version 0 is nobody
-nobody_first : (w : World) (h : HasViews w) (u y : ℕ) → is_in y (ids (view_at w u)) ≡ true → 1 ≤ u
+pub nobody_first : (w : World) (h : HasViews w) (u y : ℕ) → is_in y (ids (view_at w u)) ≡ true → 1 ≤ u
 nobody_first w h zero y i = absurd (false≢true (sym (ap (λ vs. is_in y (ids (get_or vs 0 no_group))) h.is) ∙ i))
 nobody_first w h (suc u) y i = omega arith
 
 -- what a link comes to that passes the test in a view
-comes : (w : World) (y u : ℕ) (l : Link) → l.sender ≡ left w u y → since_in w u y ≤ l.opened → comes_from_left w y l u ≡ true
-comes w y u l e le = both (nat_eq l.sender (left w u y)) (nat_le (since_in w u y) l.opened) (subst (λ q. nat_eq l.sender q ≡ true) e (nat_eq-same l.sender)) (le-leb (since_in w u y) l.opened le)
+pub comes : (w : World) (y u : ℕ) (l : Link) → l.sender ≡ left w u y → since_in w u y ≤ l.opened → comes_from_left w y l u ≡ true
+comes w y u l e le = and_from (nat_eq l.sender (left w u y)) (nat_le (since_in w u y) l.opened) (subst (λ q. nat_eq l.sender q ≡ true) e (nat_eq-same l.sender)) (le-leb (since_in w u y) l.opened le)
 
 -- and the other way
-came : (w : World) (y u : ℕ) (l : Link) → comes_from_left w y l u ≡ true → (l.sender ≡ left w u y) × (since_in w u y ≤ l.opened)
+pub came : (w : World) (y u : ℕ) (l : Link) → comes_from_left w y l u ≡ true → (l.sender ≡ left w u y) × (since_in w u y ≤ l.opened)
 came w y u l h =
     let a = and_parts (nat_eq l.sender (left w u y)) (nat_le (since_in w u y) l.opened) h in
     (nat_eq-is l.sender (left w u y) a.0, leb-true (since_in w u y) l.opened a.1)
 
--- a link that goes to y passes the test at y's door exactly where it is kept up to y's view
-pub passes_is : (w : World) (y s : ℕ) → IsGood w → s < length w.links → (link_at w s).receiver ≡ y → passes w y (link_at w s) ≡ is_kept w (link_at w s) (version_of w y)
-passes_is w y s h there to =
+-- A link opened in a version that is there, from who was its receiver's left neighbour then.
+pub record OpenedRight (w : World) (l : Link) : Type 0 where
+  pub upto : l.opened ≤ newest w
+  pub from_left : left w l.opened l.receiver ≡ l.sender
+  pub known : is_in l.receiver (ids (view_at w l.opened)) ≡ true
+
+pub opened_right : (w : World) (s : ℕ) → IsGood w → s < length w.links → OpenedRight w (link_at w s)
+opened_right w s h l = record { upto = h.inv.linked.opened s l; from_left = h.inv.linked.from_left s l; known = h.inv.history.known s l }
+
+-- in the later of a version and the one in which it opened, a link comes from the left exactly where it is kept up to that version
+pub comes_is : (w : World) (l : Link) (v : ℕ) → IsGood w → OpenedRight w l → v ≤ newest w → comes_from_left w l.receiver l (max v l.opened) ≡ is_kept w l v
+comes_is w l v h o upto =
     ⊎_elim
     (λ (newer : v < l.opened).
     ap (comes_from_left w y l) (let is : max v l.opened ≡ l.opened = omega arith in is)
-    ∙ comes w y l.opened l (sym (ap (left w l.opened) (sym to) ∙ h.inv.linked.from_left s there)) (let d : IsSince groups y l.opened (since_in w l.opened y) = dated l.opened (omega arith) opened_upto in d.upto)
+    ∙ comes w y l.opened l (sym o.from_left) (let d : IsSince groups y l.opened (since_in w l.opened y) = dated l.opened (omega arith) o.upto in d.upto)
     ∙ sym (kept_true w l v (λ k a b. absurd (omega arith))))
     (λ (older : l.opened ≤ v).
-    ap (comes_from_left w y l) (let is : max v l.opened ≡ v = omega arith in is) ∙ same_test (comes_from_left w y l v) (is_kept w l v) (λ e. kept_true w l v (stays older (came w y v l e))) (λ e. seen older (true_kept w l v e)))
+    ap (comes_from_left w y l) (let is : max v l.opened ≡ v = omega arith in is) ∙ both_ways (comes_from_left w y l v) (is_kept w l v) (λ e. kept_true w l v (stays older (came w y v l e))) (λ e. seen older (true_kept w l v e)))
     (cases_lt v l.opened)
   where
-    l : Link
-    l = link_at w s
-
-    v : ℕ
-    v = version_of w y
+    y : ℕ
+    y = l.receiver
 
     groups : List Group
     groups = h.views.groups
 
-    opened_upto : l.opened ≤ newest w
-    opened_upto = h.inv.linked.opened s there
-
-    upto : v ≤ newest w
-    upto = h.inv.is_ring.held y
-
     present : (u : ℕ) → l.opened ≤ u → u ≤ newest w → is_in y (ids (view_at w u)) ≡ true
-    present u a b = subst (λ q. is_in q (ids (view_at w u)) ≡ true) to (h.inv.history.grows l.receiver l.opened u (h.inv.history.known s there) a b)
+    present u a b = h.inv.history.grows y l.opened u o.known a b
 
     some : 1 ≤ l.opened
-    some = nobody_first w h.views l.opened y (present l.opened (omega arith) opened_upto)
+    some = nobody_first w h.views l.opened y o.known
 
     same_view : (u : ℕ) → view_at w u ≡ group.view_at groups u
     same_view u = ap (λ vs. get_or vs u no_group) h.views.is
@@ -149,14 +138,20 @@ passes_is w y s h there to =
     stays older e = λ u a b.
         let d : IsSince groups y v (since_in w v y) = dated v older upto in
         let now : group.left_at groups v y ≡ l.sender = sym (left_of_group w h.views v y (present v older upto)) ∙ sym e.0 in
-        ap (left w u) to ∙ left_of_group w h.views u y (present u a (omega (arith, upto))) ∙ keeps_since groups y v (since_in w v y) l.sender l.opened d e.1 now u a b
+        left_of_group w h.views u y (present u a (omega (arith, upto))) ∙ keeps_since groups y v (since_in w v y) l.sender l.opened d e.1 now u a b
 
     seen : l.opened ≤ v → Kept w l v → comes_from_left w y l v ≡ true
     seen older k =
         let d : IsSince groups y v (since_in w v y) = dated v older upto in
-        let keeps : KeepsLeft groups y l.sender l.opened v = (λ u a b. sym (left_of_group w h.views u y (present u a (omega (arith, upto)))) ∙ ap (left w u) (sym to) ∙ k u a b) in
+        let keeps : KeepsLeft groups y l.sender l.opened v = (λ u a b. sym (left_of_group w h.views u y (present u a (omega (arith, upto)))) ∙ k u a b) in
         let e = since_keeps groups y v (since_in w v y) l.sender l.opened d some older keeps in
         comes w y v l (sym e.1 ∙ sym (left_of_group w h.views v y (present v older upto))) e.0
+
+-- a link that goes to y passes the test at y's door exactly where it is kept up to y's view
+pub passes_is : (w : World) (y s : ℕ) → IsGood w → s < length w.links → (link_at w s).receiver ≡ y → passes w y (link_at w s) ≡ is_kept w (link_at w s) (version_of w y)
+passes_is w y s h there to =
+    ap (λ q. comes_from_left w q (link_at w s) (max (version_of w y) (link_at w s).opened)) (sym to)
+    ∙ comes_is w (link_at w s) (version_of w y) h (opened_right w s h there) (h.inv.is_ring.held y)
 
 -- ---- what counts
 
@@ -191,7 +186,7 @@ open_is w y s h ry there goes_on = rw goes_on (by_current (is_current w y s) ref
     by_current : (b : Bool) → is_current w y s ≡ b → (b || ((nat_eq l.receiver y && (not b && not false)) && passes w y l)) ≡ (nat_eq l.receiver y && is_kept w l (version_of w y))
     by_current true e =
         let c = place_is (member_at w y).current s e in
-        sym (both (nat_eq l.receiver y) (is_kept w l (version_of w y)) (ap (λ q. nat_eq q y) (h.inv.current.receiver y s ry c) ∙ nat_eq-same y) (h.inv.current.kept_yet y s ry c))
+        sym (and_from (nat_eq l.receiver y) (is_kept w l (version_of w y)) (ap (λ q. nat_eq q y) (h.inv.current.receiver y s ry c) ∙ nat_eq-same y) (h.inv.current.kept_yet y s ry c))
     by_current false e = by_receiver (nat_eq l.receiver y) refl
 
 -- what counts of a link is what it brings where it is open
@@ -253,45 +248,16 @@ part_numbers f early e c w y h k ry agree is =
     numbers_are f c (λ s. is_open w y s && e s) (packets_of w y) 0 w.links (λ j i lt same. let is : j ≡ i = omega arith in subst (λ n. c (link_at w j) ≡ cond (is_open w y n && e n) (packets_of w y n) []) is (here j lt))
     ∙ ap (λ links. map f (packets_on w y links)) (sym (filter_twice (is_open w y) e (range_with_len 0 (length w.links))))
   where
-    nobody : List Packet
-    nobody = []
-
-    none : (b : Bool) → cond b nobody [] ≡ nobody
-    none true = refl
-    none false = refl
-
     by_open : (s : ℕ) (ks : List Packet) (b : Bool) → is_open w y s ≡ b → s < length w.links → cond (early (link_at w s)) (cond b ks []) [] ≡ cond (b && e s) ks []
     by_open s ks true o lt = ap (λ b. cond b ks []) (agree s lt o)
-    by_open s ks false o lt = none (early (link_at w s))
+    by_open s ks false o lt = cond_empty {A = Packet} (early (link_at w s)) [] refl
 
     here : (s : ℕ) → s < length w.links → c (link_at w s) ≡ cond (is_open w y s && e s) (packets_of w y s) []
     here s lt = is s lt ∙ ap (λ ks. cond (early (link_at w s)) ks []) (counts w y s h k ry lt) ∙ by_open s (packets_of w y s) (is_open w y s) refl lt
 
 -- ---- the owner
 
--- twice not
-not_not : (b : Bool) → not (not b) ≡ b
-not_not true = refl
-not_not false = refl
-
--- who is among those that pass does pass
-passes_in : (t : ℕ → Bool) (q : ℕ) (xs : List ℕ) → is_in q (filter t xs) ≡ true → t q ≡ true
-passes_in t q [] i = absurd (false≢true i)
-passes_in t q (x ∷ xs) i = by_test (t x) refl i (passes_in t q xs)
-  where
-    by_head : (b : Bool) → nat_eq q x ≡ b → t x ≡ true → cond b true (is_in q (filter t xs)) ≡ true → (is_in q (filter t xs) ≡ true → t q ≡ true) → t q ≡ true
-    by_head true e k j ih = ap t (nat_eq-is q x e) ∙ k
-    by_head false e k j ih = ih j
-
-    by_test : (b : Bool) → t x ≡ b → is_in q (cond b (x ∷ filter t xs) (filter t xs)) ≡ true → (is_in q (filter t xs) ≡ true → t q ≡ true) → t q ≡ true
-    by_test true e j ih = by_head (nat_eq q x) refl e j ih
-    by_test false e j ih = ih j
-
--- the first of those that pass
-first_runs : (t : ℕ → Bool) (y : ℕ) (ys xs : List ℕ) → filter t xs ≡ y ∷ ys → t y ≡ true
-first_runs t y ys xs e = passes_in t y xs (ap (is_in y) e ∙ ap (λ b. cond b true (is_in y ys)) (nat_eq-same y))
-
--- from the first of them on the same pass, in the same order
+-- from the first of those that pass on the same pass, in the same order
 same_round : (t : ℕ → Bool) (p y : ℕ) (ys xs : List ℕ) → AreDistinct xs → filter t (rotated p xs) ≡ y ∷ ys → filter t (rotated y xs) ≡ y ∷ ys
 same_round t p y ys xs d e =
     ap (filter t) (rotated_is y xs inside ∙ ap (λ us. y ∷ us) (sym (others-rotated y p xs d inside)))
@@ -310,7 +276,7 @@ same_round t p y ys xs d e =
     inside = sym (is_in-rotated y p xs) ∙ f.inside
 
     passing : (us : List ℕ) → filter t (y ∷ us) ≡ y ∷ filter t us
-    passing us = ap (λ b. cond b (y ∷ filter t us) (filter t us)) (first_runs t y ys (rotated p xs) e)
+    passing us = ap (λ b. cond b (y ∷ filter t us) (filter t us)) (first_passes t y ys (rotated p xs) e)
 
 -- the sender of a link stands in the newest ring
 sender_stands : (w : World) (s : ℕ) → IsGood w → s < length w.links → is_in (link_at w s).sender (ring w) ≡ true
@@ -326,8 +292,8 @@ sender_stands w s h there =
 -- what is early is not late
 pub early_is : (w : World) (p y s : ℕ) (ys : List ℕ) → IsGood w → 1 ≤ p → p < size w → running_from w p ≡ y ∷ ys → s < length w.links → is_early (stopped_from w p) (link_at w s) ≡ not (is_late w p y s)
 early_is w p y s ys h some lt e there =
-    ap (is_in (link_at w s).sender) (prefix_before (runs w) y (rotated p (ring w)) f.none f.inside (first_runs (runs w) y ys (rotated p (ring w)) e))
-    ∙ sym (ap not (late_cases p (link_at w s).sender y (ring w) (h.inv.is_ring.distinct (newest w) (omega arith)) (h.inv.origins p some lt) (sender_stands w s h there) (sym (is_in-rotated y p (ring w)) ∙ f.inside)) ∙ not_not (is_in (link_at w s).sender (before y (rotated p (ring w)))))
+    ap (is_in (link_at w s).sender) (prefix_before (runs w) y (rotated p (ring w)) f.none f.inside (first_passes (runs w) y ys (rotated p (ring w)) e))
+    ∙ sym (ap not (late_cases p (link_at w s).sender y (ring w) (h.inv.is_ring.distinct (newest w) (omega arith)) (h.inv.origins p some lt) (sender_stands w s h there) (sym (is_in-rotated y p (ring w)) ∙ f.inside)) ∙ not-not (is_in (link_at w s).sender (before y (rotated p (ring w)))))
   where
     f : FirstPass (runs w) y (rotated p (ring w))
     f = first_pass (runs w) y ys (rotated p (ring w)) e
@@ -338,12 +304,8 @@ early_is w p y s ys h some lt e there =
 blocks_are : (m m' : ℕ → List ℕ) (f : ℕ → ℕ) (qs : List ℕ) → ((q : ℕ) → is_in q qs ≡ true → m q ≡ m' q) → flat_map (block m f) qs ≡ flat_map (block m' f) qs
 blocks_are m m' f [] h = refl
 blocks_are m m' f (q ∷ qs) h =
-    ap (λ us. (us ++ f q ∷ []) ++ flat_map (block m f) qs) (h q (ap (λ b. cond b true (is_in q qs)) (nat_eq-same q)))
-    ∙ ap (λ us. block m' f q ++ us) (blocks_are m m' f qs (λ z i. h z (later (nat_eq z q) i)))
-  where
-    later : {c : Bool} (b : Bool) → c ≡ true → cond b true c ≡ true
-    later true e = refl
-    later false e = e
+    ap (λ us. (us ++ f q ∷ []) ++ flat_map (block m f) qs) (h q (in_head q qs))
+    ∙ ap (λ us. block m' f q ++ us) (blocks_are m m' f qs (λ z i. h z (in_tail z q qs i)))
 
 -- one round
 trip_is : (g : Numbers → ℕ) (r : Row → ℕ) (w : World) (p y : ℕ) (ys : List ℕ) → IsGood w → EndsRight w → 1 ≤ p → p < size w → running_from w p ≡ y ∷ ys → round_trip g r w p (y ∷ ys) ≡ round_of g r w p (stopped_from w p) (y ∷ ys)
@@ -366,17 +328,13 @@ trip_is g r w p y ys h k some lt e =
     running q i = passes_in (runs w) q (rotated p (ring w)) (ap (is_in q) e ∙ i)
 
     ry : runs w y ≡ true
-    ry = first_runs (runs w) y ys (rotated p (ring w)) e
-
-    later : {c : Bool} (b : Bool) → c ≡ true → cond b true c ≡ true
-    later true j = refl
-    later false j = j
+    ry = first_passes (runs w) y ys (rotated p (ring w)) e
 
     early : E ≡ map f (early_packets w p y)
     early = part_numbers f (is_early st) (λ s. not (is_late w p y s)) (only (is_early st) (counted w y)) w y h k ry (λ s there o. early_is w p y s ys h some lt e there) (λ s there. refl)
 
     middle : flat_map (block (λ q. numbers f (counted w q) w.links) (number g r w p)) ys ≡ flat_map (λ z. stop_of g r w p (open_packets w z) z) ys
-    middle = blocks_are (λ q. numbers f (counted w q) w.links) (λ q. map f (open_packets w q)) (number g r w p) ys (λ q i. open_numbers f w q h k (running q (later (nat_eq q y) i)))
+    middle = blocks_are (λ q. numbers f (counted w q) w.links) (λ q. map f (open_packets w q)) (number g r w p) ys (λ q i. open_numbers f w q h k (running q (in_tail q y ys i)))
 
     swap : (b : Bool) (ks : List Packet) → cond b [] ks ≡ cond (not b) ks []
     swap true ks = refl
@@ -384,7 +342,7 @@ trip_is g r w p y ys h k some lt e =
 
     late : numbers f (no_but (is_early st) (counted w y)) w.links ≡ map f (late_packets w p y)
     late = part_numbers f (λ l. not (is_early st l)) (is_late w p y) (no_but (is_early st) (counted w y)) w y h k ry
-        (λ s there o. ap not (early_is w p y s ys h some lt e there) ∙ not_not (is_late w p y s)) (λ s there. swap (is_early st (link_at w s)) (counted w y (link_at w s)))
+        (λ s there o. ap not (early_is w p y s ys h some lt e there) ∙ not-not (is_late w p y s)) (λ s there. swap (is_early st (link_at w s)) (counted w y (link_at w s)))
 
 -- the walk by open links is the walk of the links that are kept
 pub walk_is : (w : World) (p : ℕ) → IsGood w → EndsRight w → 1 ≤ p → p < size w → the_walk w p ≡ walk w p
@@ -399,12 +357,12 @@ walk_is w p h k some lt = by_running (running_from w p) refl
         ∙ ap (λ us. round_of (λ n. n.got) (λ a. a.got) w p (stopped_from w p) (y ∷ ys) ++ (us ++ (row_at (member_at w y) p).retired ∷ [])) (trip_is (λ n. n.forgot) (λ a. a.forgot) w p y ys h k some lt e)
 
 -- in every state of every run
-pub reached_ends : (credit : CreditSpec) (names : List (List ℕ)) (es : List Event) → IsRun (opening credit names) es → EndsRight (last (opening credit names) es)
-reached_ends credit names es r = ends_run (opening credit names) es (opening_ends credit names) r
+pub reached_ends : (credit : CreditSpec) (names : List (List ℕ)) (es : List Event) → AreOpeningNames names → IsRun (opening credit names) es → EndsRight (last (opening credit names) es)
+reached_ends credit names es are r = ends_run (opening credit names) es (opening_good credit names are) r (opening_ends credit names)
 
 -- so both walks are one in each
 pub every_walk_is : (credit : CreditSpec) (names : List (List ℕ)) (es : List Event) (p : ℕ) → AreOpeningNames names → IsRun (opening credit names) es → 1 ≤ p → p < size (last (opening credit names) es) → the_walk (last (opening credit names) es) p ≡ walk (last (opening credit names) es) p
-every_walk_is credit names es p are r some lt = walk_is (last (opening credit names) es) p (reached_good credit names es are r) (reached_ends credit names es r) some lt
+every_walk_is credit names es p are r some lt = walk_is (last (opening credit names) es) p (reached_good credit names es are r) (reached_ends credit names es are r) some lt
 
 -- so it never rises either
 pub open_walk_never_rises : (credit : CreditSpec) (names : List (List ℕ)) (es : List Event) (p : ℕ) → AreOpeningNames names → IsRun (opening credit names) es → 1 ≤ p → p < size (last (opening credit names) es) → NeverRises (the_walk (last (opening credit names) es) p)

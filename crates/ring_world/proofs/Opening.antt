@@ -3,28 +3,27 @@ use Rattle.std.proofs.Common.{◌≡◌, ◌≢◌, ℕ, zero, suc, ◌<◌, ◌
 use Rattle.std.specs.Prelude.{⊤, ◌&&◌}
 use Rattle.std.specs.List.{filter, flat_map, range_with_len}
 use Rattle.std.proofs.lemmas.Bool.{cases_lt, false≢true}
-use Rattle.std.proofs.lemmas.List.FromFn.{get_or-map-range_with_len, length-map-range_with_len}
+use Rattle.std.proofs.lemmas.List.FromFn.{length-map-range_with_len}
 use Rattle.ring_names.specs.declared.numbers.CreditSpec.{CreditSpec}
 use Rattle.ring_world.specs.Rows.{Row, no_row}
 use Rattle.ring_world.specs.declared.numbers.Numbers.{Numbers}
 use Rattle.group_view.specs.Ring.{others, before, is_in, AreDistinct}
 use Rattle.group_view.specs.View.{Group, entry_in}
 use Rattle.group_view.specs.Change.{opening_entry, opening_entries, opening as opening_group}
-use Rattle.group_view.proofs.Neighbours.{left_of_right, IsLeft, left_is_left, itself, other}
-use Rattle.group_view.proofs.Rings.{in_before, distinct_others}
+use Rattle.group_view.proofs.Lists.{cond_empty, cond_empty_late}
+use Rattle.group_view.proofs.Neighbours.{left_of_right, IsLeft, left_is_left, itself, other, right_of_left}
+use Rattle.group_view.proofs.Rings.{in_before, distinct_others, nat_eq-is, nat_eq-same, nat_eq-not, others_inside}
 use Rattle.ring_world.specs.View.{ids, is_live, is_live_entry, left_of, right_of}
 use Rattle.ring_world.specs.Machine.{Phase, Waiting, Packet, Member, Link, World, no_member, no_link, member_at, link_at, view_at, row_at, numbers_at, ring, left, right, runs, runs_phase, is_kept, is_waiting}
 use Rattle.ring_world.specs.Walk.{FallsFrom, NeverRises, is_early, only, no_but, counted, when, past_first, newest_first, numbers, block, round, own_number, number, round_of, retired_by, walk, running_from, stopped_from}
-use Rattle.ring_world.specs.Step.{opening, opening_link, opening_member}
-use Rattle.ring_world.proofs.Lists.{get_or_beyond}
-use Rattle.ring_world.proofs.Rounds.{nat_eq-is, nat_eq-same, nat_eq-not}
+use Rattle.ring_world.specs.Step.{opening, opening_member}
+use Rattle.ring_world.proofs.First.{first_at, first_each, first_link, first_links, first_link_is}
 use Rattle.ring_world.proofs.Good.{IsRing, IsLinked, kept_true}
 use Rattle.ring_world.proofs.Period.{IsHistory}
 use Rattle.ring_world.proofs.Standing.{knows, IsOrdered, OldLast}
 use Rattle.ring_world.proofs.OwnerStops.{AllPackets, IsPacket}
 use Rattle.ring_world.proofs.Views.{left_is, right_is}
-use Rattle.ring_world.proofs.Ordered.{first_inside, others_inside, filter_all, all_true_same, all_true_old_last}
-use Rattle.ring_world.proofs.Linked.{right_of_left}
+use Rattle.ring_world.proofs.Ordered.{first_inside, filter_all, all_true_same, all_true_old_last}
 use Rattle.ring_world.proofs.Kept.{IsCurrent, Inv}
 
 -- ---- numbers from a on
@@ -110,34 +109,20 @@ module _ (credit : CreditSpec) (names : List (List ℕ)) where
   IsId q = (1 ≤ q) × (q ≤ length names)
 
   opening_at : (q : ℕ) → IsId q → member_at first_world q ≡ opening_member names q
-  opening_at zero i = absurd (omega (arith, i.0))
-  opening_at (suc k) i = get_or-map-range_with_len (opening_member names) 1 (length names) k (suc k) no_member (omega (arith, i.1)) (omega arith)
+  opening_at q i = first_at credit names q i.0 i.1
 
   -- of each member of the opening, and of what stands for the others
   opening_each : (q : ℕ) (P : ℕ → Member → Type 0) → (IsId q → P q (opening_member names q)) → P q no_member → P q (member_at first_world q)
-  opening_each zero P here there = there
-  opening_each (suc k) P here there = ⊎_elim
-      (λ (lt : k < length names). subst (P (suc k)) (sym (opening_at (suc k) (omega arith, omega arith))) (here (omega arith, omega arith)))
-      (λ (ge : length names ≤ k). subst (P (suc k)) (sym (get_or_beyond (map (opening_member names) (range_with_len 1 (length names))) k no_member (omega (arith, length-map-range_with_len (opening_member names) 1 (length names))))) there)
-      (cases_lt k (length names))
+  opening_each q P here there = first_each credit names q (P q) (λ some l. here (some, l)) there
 
   opening_runs : (q : ℕ) → runs first_world q ≡ true → IsId q
   opening_runs q = opening_each q (λ k z. runs_phase z.phase ≡ true → IsId k) (λ i _. i) (λ e. absurd (false≢true e))
 
-  opening_links : length first_world.links ≡ length names
-  opening_links = length-map-range_with_len (opening_link credit names) 1 (length names)
-
-  link_of : (s : ℕ) → s < length first_world.links → link_at first_world s ≡ opening_link credit names (s + 1)
-  link_of s lt = get_or-map-range_with_len (opening_link credit names) 1 (length names) s (s + 1) no_link (omega (arith, opening_links)) (omega arith)
-
   link_id : (s : ℕ) → s < length first_world.links → IsId (s + 1)
-  link_id s lt = (omega arith, omega (arith, opening_links))
+  link_id s lt = (omega arith, omega (arith, first_links credit names))
 
   opening_empty : (s : ℕ) → (link_at first_world s).packets ≡ []
-  opening_empty s = ⊎_elim
-      (λ (lt : s < length names). ap (λ l. l.packets) (link_of s (omega (arith, opening_links))))
-      (λ (ge : length names ≤ s). ap (λ l. l.packets) (get_or_beyond (map (opening_link credit names) (range_with_len 1 (length names))) s no_link (omega (arith, opening_links))))
-      (cases_lt s (length names))
+  opening_empty s = first_link credit names s (λ l. l.packets ≡ []) (λ _. refl) refl
 
   opening_knows : (q : ℕ) → IsId q → is_in q (ids first_view) ≡ true
   opening_knows q i = ap (is_in q) (opening_ids 1 names) ∙ in_range 1 (length names) q i.0 (omega (arith, i.1))
@@ -198,7 +183,7 @@ module _ (credit : CreditSpec) (names : List (List ℕ)) where
         (λ (none : u < 1). absurd (nothing z u none i))
         (λ (one : 1 ≤ u). let same : v ≡ u = omega arith in subst (λ k. is_live (view_at first_world k) z ≡ true) same l)
         (cases_lt u 1);
-    known = λ s lt. subst (λ l. is_in l.receiver (ids (view_at first_world l.opened)) ≡ true) (sym (link_of s lt)) (right_inside (s + 1) (link_id s lt));
+    known = λ s lt. subst (λ l. is_in l.receiver (ids (view_at first_world l.opened)) ≡ true) (sym (first_link_is credit names s lt)) (right_inside (s + 1) (link_id s lt));
   }
     where
       nothing : (z u : ℕ) → u < 1 → is_in z (ids (view_at first_world u)) ≡ true → ⊥
@@ -229,31 +214,31 @@ module _ (credit : CreditSpec) (names : List (List ℕ)) where
   out_is x o i e =
       let k : Some (x - 1) ≡ Some o = sym (ap (λ z. z.out) (opening_at x i)) ∙ e in
       let is : x - 1 ≡ o = cc in
-      (omega (arith, i.0), omega (arith, i.0, i.1, opening_links))
+      (omega (arith, i.0), omega (arith, i.0, i.1, first_links credit names))
 
   opening_linked : IsLinked first_world
   opening_linked = record {
-    opened = λ s lt. subst (λ l. l.opened ≤ 1) (sym (link_of s lt)) (omega arith);
-    from_left = λ s lt. subst (λ l. left first_world l.opened l.receiver ≡ l.sender) (sym (link_of s lt)) (left_one 1 (right_of first_view (s + 1)) (omega arith) (omega arith) ∙ opening_left_right (s + 1) (link_id s lt));
-    seen = λ s lt. subst (λ l. l.opened ≤ (member_at first_world l.sender).version) (sym (link_of s lt)) (omega (arith, version_one (s + 1) (link_id s lt)));
+    opened = λ s lt. subst (λ l. l.opened ≤ 1) (sym (first_link_is credit names s lt)) (omega arith);
+    from_left = λ s lt. subst (λ l. left first_world l.opened l.receiver ≡ l.sender) (sym (first_link_is credit names s lt)) (left_one 1 (right_of first_view (s + 1)) (omega arith) (omega arith) ∙ opening_left_right (s + 1) (link_id s lt));
+    seen = λ s lt. subst (λ l. l.opened ≤ (member_at first_world l.sender).version) (sym (first_link_is credit names s lt)) (omega (arith, version_one (s + 1) (link_id s lt)));
     period = λ i j ij jl e.
         let il : i < length first_world.links = omega arith in
-        let same : right_of first_view (i + 1) ≡ right_of first_view (j + 1) = sym (ap (λ l. l.receiver) (link_of i il)) ∙ e ∙ ap (λ l. l.receiver) (link_of j jl) in
+        let same : right_of first_view (i + 1) ≡ right_of first_view (j + 1) = sym (ap (λ l. l.receiver) (first_link_is credit names i il)) ∙ e ∙ ap (λ l. l.receiver) (first_link_is credit names j jl) in
         let is : i + 1 ≡ j + 1 = sym (opening_left_right (i + 1) (link_id i il)) ∙ ap (left_of first_view) same ∙ opening_left_right (j + 1) (link_id j jl) in
         absurd (omega arith);
     out_lt = λ x o r e. (out_is x o (opening_runs x r) e).1;
-    out_from = λ x o r e. let is = out_is x o (opening_runs x r) e in ap (λ l. l.sender) (link_of o is.1) ∙ sym is.0;
+    out_from = λ x o r e. let is = out_is x o (opening_runs x r) e in ap (λ l. l.sender) (first_link_is credit names o is.1) ∙ sym is.0;
     out_to = λ x o r e.
         let is = out_is x o (opening_runs x r) e in
         let v = version_one x (opening_runs x r) in
-        ap (λ l. l.receiver) (link_of o is.1) ∙ ap (right_of first_view) (sym is.0) ∙ sym (right_one (member_at first_world x).version x (omega (arith, v)) (omega (arith, v)));
+        ap (λ l. l.receiver) (first_link_is credit names o is.1) ∙ ap (right_of first_view) (sym is.0) ∙ sym (right_one (member_at first_world x).version x (omega (arith, v)) (omega (arith, v)));
     out_kept = λ x o r e u a b.
         let is = out_is x o (opening_runs x r) e in
-        let l = link_of o is.1 in
+        let l = first_link_is credit names o is.1 in
         left_one u (link_at first_world o).receiver (omega (arith, a, ap (λ l. l.opened) l)) (omega (arith, b, version_one x (opening_runs x r)))
         ∙ ap (left_of first_view) (ap (λ l. l.receiver) l) ∙ opening_left_right (o + 1) (link_id o is.1) ∙ sym (ap (λ l. l.sender) l);
     is_out = λ s lt r k lv.
-        ap (λ q. (member_at first_world q).out) (ap (λ l. l.sender) (link_of s lt)) ∙ ap (λ z. z.out) (opening_at (s + 1) (link_id s lt))
+        ap (λ q. (member_at first_world q).out) (ap (λ l. l.sender) (first_link_is credit names s lt)) ∙ ap (λ z. z.out) (opening_at (s + 1) (link_id s lt))
         ∙ (let back : s + 1 - 1 ≡ s = omega arith in ap (λ k. Some k) back);
   }
 
@@ -277,18 +262,10 @@ module _ (credit : CreditSpec) (names : List (List ℕ)) where
   opening_number g r p q e = opening_each q (λ k z. own_number g r first_world p z.phase z ≡ 0) (λ _. ap r (no_rows (range_with_len 0 (length names + 1)) p) ∙ e) e
 
   zeros_early : (f : Packet → ℕ) (q : ℕ) (st : List ℕ) → Zeros (numbers f (only (is_early st) (counted first_world q)) first_world.links)
-  zeros_early f q st = no_packets f (only (is_early st) (counted first_world q)) first_world.links (λ j _. none (is_early st (link_at first_world j)) (opening_counted q j))
-    where
-      none : {c : List Packet} (b : Bool) → c ≡ [] → cond b c [] ≡ []
-      none true e = e
-      none false e = refl
+  zeros_early f q st = no_packets f (only (is_early st) (counted first_world q)) first_world.links (λ j _. cond_empty (is_early st (link_at first_world j)) _ (opening_counted q j))
 
   zeros_late : (f : Packet → ℕ) (q : ℕ) (st : List ℕ) → Zeros (numbers f (no_but (is_early st) (counted first_world q)) first_world.links)
-  zeros_late f q st = no_packets f (no_but (is_early st) (counted first_world q)) first_world.links (λ j _. none (is_early st (link_at first_world j)) (opening_counted q j))
-    where
-      none : {c : List Packet} (b : Bool) → c ≡ [] → cond b [] c ≡ []
-      none true e = refl
-      none false e = e
+  zeros_late f q st = no_packets f (no_but (is_early st) (counted first_world q)) first_world.links (λ j _. cond_empty_late (is_early st (link_at first_world j)) _ (opening_counted q j))
 
   zeros_of : (g : Numbers → ℕ) (r : Row → ℕ) (p : ℕ) (st ys : List ℕ) → r no_row ≡ 0 → Zeros (round_of g r first_world p st ys)
   zeros_of g r p st ys e =
@@ -325,20 +302,20 @@ module _ (credit : CreditSpec) (names : List (List ℕ)) where
       let k : Some (left_of first_view y - 1) ≡ Some s = sym (ap (λ z. z.current) (opening_at y i)) ∙ e in
       let is : left_of first_view y - 1 ≡ s = cc in
       let l = left_inside y i in
-      (omega (arith, l.0), omega (arith, l.0, l.1, opening_links))
+      (omega (arith, l.0), omega (arith, l.0, l.1, first_links credit names))
 
   opening_current : IsCurrent first_world
   opening_current = record {
     lt = λ y s r e. (current_is y s (opening_runs y r) e).1;
-    receiver = λ y s r e. let c = current_is y s (opening_runs y r) e in ap (λ l. l.receiver) (link_of s c.1) ∙ ap (right_of first_view) (sym c.0) ∙ opening_right_left y (opening_runs y r);
+    receiver = λ y s r e. let c = current_is y s (opening_runs y r) e in ap (λ l. l.receiver) (first_link_is credit names s c.1) ∙ ap (right_of first_view) (sym c.0) ∙ opening_right_left y (opening_runs y r);
     kept_yet = λ y s r e.
         let i = opening_runs y r in
         let c = current_is y s i e in
-        let l = link_of s c.1 in
+        let l = first_link_is credit names s c.1 in
         let to : (link_at first_world s).receiver ≡ y = ap (λ l. l.receiver) l ∙ ap (right_of first_view) (sym c.0) ∙ opening_right_left y i in
         kept_true first_world (link_at first_world s) (member_at first_world y).version
         (λ u a b. left_one u (link_at first_world s).receiver (omega (arith, a, ap (λ l. l.opened) l)) (omega (arith, b, version_one y i)) ∙ ap (left_of first_view) to ∙ c.0 ∙ sym (ap (λ l. l.sender) l));
-    opened = λ y s r e. omega (arith, ap (λ l. l.opened) (link_of s (current_is y s (opening_runs y r) e).1), version_one y (opening_runs y r));
+    opened = λ y s r e. omega (arith, ap (λ l. l.opened) (first_link_is credit names s (current_is y s (opening_runs y r) e).1), version_one y (opening_runs y r));
   }
 
   pub opening_phase : (q : ℕ) → is_waiting (member_at first_world q).phase ≡ false

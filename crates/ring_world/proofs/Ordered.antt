@@ -1,16 +1,15 @@
 -- The order of entries and the history of marks, as views are added.
-use Rattle.std.proofs.Common.{◌≡◌, ℕ, ◌<◌, ◌≤◌, ◌+◌, Bool, true, false, cond, List, [], ◌∷◌, ◌++◌, length, refl, sym, ap, subst, ◌∙◌, arith, nat_eq, ⊎_elim}
+use Rattle.std.proofs.Common.{◌≡◌, ℕ, ◌<◌, ◌≤◌, ◌+◌, Bool, true, List, [], ◌∷◌, ◌++◌, length, refl, sym, ap, subst, arith, ⊎_elim}
 use Rattle.std.specs.List.{filter}
 use Rattle.std.proofs.lemmas.Bool.{cases_lt}
 use Rattle.std.proofs.lemmas.List.{length_push}
-use Rattle.group_view.specs.Ring.{before, after, others, is_in, first_or}
+use Rattle.group_view.specs.Ring.{before, others, is_in, first_or}
 use Rattle.ring_world.specs.View.{ids}
 use Rattle.group_view.specs.View.{Group}
 use Rattle.ring_world.specs.Machine.{World, view_at, newest, ring, left}
 use Rattle.ring_world.specs.Step.{with_view}
 use Rattle.group_view.specs.Change.{marked}
-use Rattle.ring_world.proofs.Rounds.{nat_eq-same}
-use Rattle.group_view.proofs.Rings.{in_before, is_in-append}
+use Rattle.group_view.proofs.Rings.{in_before, in_head, in_tail, others_inside}
 use Rattle.group_view.proofs.Neighbours.{filtered_in}
 use Rattle.ring_world.proofs.Good.{IsRing}
 use Rattle.ring_world.proofs.Views.{view_old, view_new, left_old, ids-marked}
@@ -20,11 +19,7 @@ use Rattle.ring_world.proofs.Standing.{knows, IsOrdered, OldLast, AllTrue}
 
 pub all_true_same : (t : ℕ → Bool) (xs : List ℕ) → ((q : ℕ) → is_in q xs ≡ true → t q ≡ true) → AllTrue t xs
 all_true_same t [] h = tt
-all_true_same t (x ∷ xs) h = (h x (rw (nat_eq-same x) refl), all_true_same t xs (λ q i. h q (put (nat_eq q x) i)))
-  where
-    put : {c : Bool} (b : Bool) → c ≡ true → cond b true c ≡ true
-    put true e = refl
-    put false e = e
+all_true_same t (x ∷ xs) h = (h x (in_head x xs), all_true_same t xs (λ q i. h q (in_tail q x xs i)))
 
 pub all_true_old_last : (t : ℕ → Bool) (xs : List ℕ) → AllTrue t xs → OldLast t xs
 all_true_old_last t [] h = tt
@@ -34,32 +29,13 @@ pub filter_all : (t : ℕ → Bool) (xs : List ℕ) → AllTrue t xs → filter 
 filter_all t [] h = refl
 filter_all t (x ∷ xs) h = rw h.0 (ap (λ us. x ∷ us) (filter_all t xs h.1))
 
-pub after_inside : (s q : ℕ) (xs : List ℕ) → is_in q (after s xs) ≡ true → is_in q xs ≡ true
-after_inside s q [] h = h
-after_inside s q (x ∷ xs) h = by_case (nat_eq x s) h (λ k. after_inside s q xs k)
-  where
-    put : (c : Bool) → is_in q xs ≡ true → cond c true (is_in q xs) ≡ true
-    put true j = refl
-    put false j = j
-
-    by_case : (b : Bool) → is_in q (cond b xs (after s xs)) ≡ true → (is_in q (after s xs) ≡ true → is_in q xs ≡ true) → is_in q (x ∷ xs) ≡ true
-    by_case true k ih = put (nat_eq q x) k
-    by_case false k ih = put (nat_eq q x) (ih k)
-
-pub others_inside : (s q : ℕ) (xs : List ℕ) → is_in q (others s xs) ≡ true → is_in q xs ≡ true
-others_inside s q xs h = by_first (is_in q (after s xs)) refl (sym (is_in-append q (after s xs) (before s xs)) ∙ h)
-  where
-    by_first : (b : Bool) → is_in q (after s xs) ≡ b → cond b true (is_in q (before s xs)) ≡ true → is_in q xs ≡ true
-    by_first true e k = after_inside s q xs e
-    by_first false e k = in_before q s xs k
-
 -- the first of those that pass, or d, is inside
 pub first_inside : (t : ℕ → Bool) (d : ℕ) (us xs : List ℕ) → is_in d xs ≡ true → ((q : ℕ) → is_in q us ≡ true → is_in q xs ≡ true) → is_in (first_or d (filter t us)) xs ≡ true
 first_inside t d us xs h k = by_list (filter t us) (λ q i. k q (filtered_in t q us i))
   where
     by_list : (ys : List ℕ) → ((q : ℕ) → is_in q ys ≡ true → is_in q xs ≡ true) → is_in (first_or d ys) xs ≡ true
     by_list [] k2 = h
-    by_list (y ∷ ys) k2 = k2 y (rw (nat_eq-same y) refl)
+    by_list (y ∷ ys) k2 = k2 y (in_head y ys)
 
 -- ---- one more view
 

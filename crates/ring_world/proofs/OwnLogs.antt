@@ -13,7 +13,7 @@ use Rattle.ring_world.specs.Step.{size, log_of, next_lines, next_packet, pushed,
 use Rattle.ring_world.specs.Event.{Event, IsRun, last}
 use Rattle.ring_world.specs.Lawful.{row_of, HasOwnLog, RowIsWithin, NumbersAreWithin, PacketsAreWithin, StaysWithinLogs}
 use Rattle.ring_world.proofs.Lists.{at_set, at_push, get_or_beyond}
-use Rattle.ring_world.proofs.Rounds.{nat_eq-same}
+use Rattle.group_view.proofs.Rings.{nat_eq-same}
 use Rattle.ring_world.proofs.Take.{row_at-taker, taken_packet}
 use Rattle.ring_world.proofs.Happens.{IsGood, opening_good}
 use Rattle.ring_world.proofs.First.{first_at, first_link, first_size, first_row, first_log}

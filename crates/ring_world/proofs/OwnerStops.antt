@@ -1,26 +1,22 @@
 -- Where the owner stops, what the next member has from links past it says nothing of the origin.
-use Rattle.std.proofs.Common.{◌≡◌, ◌≢◌, ℕ, ◌<◌, ◌≤◌, Bool, true, false, cond, List, [], ◌∷◌, ◌++◌, length, refl, sym, ap, subst, ◌∙◌, arith, nat_eq}
+use Rattle.std.proofs.Common.{◌≡◌, ◌≢◌, ℕ, ◌<◌, ◌≤◌, Bool, true, false, List, [], ◌∷◌, ◌++◌, length, refl, sym, ap, subst, ◌∙◌, arith, nat_eq}
 use Rattle.std.specs.Prelude.{⊤, ◌&&◌}
 use Rattle.std.specs.List.{filter}
-use Rattle.std.proofs.lemmas.List.Elements.{filter-append}
-use Rattle.std.proofs.lemmas.Bool.{false≢true}
+use Rattle.std.proofs.lemmas.Bool.{false≢true, false_from_ne_true}
 use Rattle.group_view.specs.Ring.{before, after, rotated, others, is_in, first_or, AreDistinct}
-use Rattle.ring_world.specs.View.{ids, is_live, between}
-use Rattle.ring_world.specs.Machine.{World, Packet, Link, member_at, link_at, view_at, row_at, numbers_at, newest, ring, left, runs, is_kept, is_waiting}
+use Rattle.ring_world.specs.Machine.{World, Packet, Link, member_at, link_at, row_at, numbers_at, newest, ring, left, runs, is_kept, is_waiting}
 use Rattle.ring_world.specs.Walk.{counted, past_first, when, stopped_from, running_from, walk, NeverRises}
 use Rattle.ring_world.specs.Step.{size, stop_at}
 use Rattle.ring_world.proofs.Weakens.{FallsTo-FallsFrom}
 use Rattle.ring_world.proofs.Links.{AllZero}
-use Rattle.ring_world.proofs.Rounds.{nat_eq-is, nat_eq-same, nat_eq-not}
-use Rattle.group_view.proofs.Rings.{sym_test, is_in-rotated, rotated_is}
-use Rattle.ring_world.proofs.Ring.{filter-split, head_differs}
+use Rattle.group_view.proofs.Rings.{sym_test, is_in-rotated, rotated_is, nat_eq-is, nat_eq-same, nat_eq-not, head_differs, distinct_others}
+use Rattle.ring_world.proofs.Ring.{filter-split}
 use Rattle.group_view.proofs.Arcs.{between_from}
-use Rattle.group_view.proofs.Neighbours.{IsLeft, left_is_left, before-filter, after-filter, in-filter, filtered_in, itself, other}
+use Rattle.group_view.proofs.Neighbours.{in-filter, filtered_in, passes_in}
 use Rattle.ring_world.proofs.Gaps.{prefix_before}
 use Rattle.ring_world.proofs.Good.{Kept, IsRing, IsLinked, NeverRises-FallsTo, FallsFrom-NeverRises, never_rises_still}
-use Rattle.ring_world.proofs.Views.{left_is}
 use Rattle.ring_world.proofs.Period.{IsHistory}
-use Rattle.ring_world.proofs.Standing.{knows, IsOrdered, OwnedFacts, owned_facts, distinct_others, no_front}
+use Rattle.ring_world.proofs.Standing.{knows, IsOrdered, OwnedFacts, owned_facts, no_front, left_known, between_is}
 use Rattle.ring_world.proofs.Stop.{stop_running, is_not, filter_lacks, stop_runs, LateIsZero, stop_walk_other, stop_walk_owner}
 use Rattle.ring_world.proofs.Take.{head_once}
 
@@ -66,18 +62,9 @@ first_before r x y us c d i ry e = filtered_in r x (before y c) (by_front (filte
     by_front [] q = let is : y ≡ x = cc in absurd (d (sym is))
     by_front (v ∷ vs) q = let is : v ≡ x = cc in rw is (rw (nat_eq-same x) refl)
 
-pub running_runs : (r : ℕ → Bool) (y : ℕ) (c : List ℕ) → is_in y (filter r c) ≡ true → r y ≡ true
-running_runs r y [] h = absurd (false≢true h)
-running_runs r y (x ∷ xs) h = by_case (r x) refl (nat_eq y x) refl h (λ k. running_runs r y xs k)
-  where
-    by_case : (a : Bool) → r x ≡ a → (b : Bool) → nat_eq y x ≡ b → is_in y (cond a (x ∷ filter r xs) (filter r xs)) ≡ true → (is_in y (filter r xs) ≡ true → r y ≡ true) → r y ≡ true
-    by_case true ea true eb k ih = ap r (nat_eq-is y x eb) ∙ ea
-    by_case true ea false eb k ih = ih (rw eb at k)
-    by_case false ea b eb k ih = ih k
-
 -- a packet to y from a sender that isn't among the stopped ones from p, past the running x: its version doesn't know p
 pub unknown_past : (w : World) (x y p s v : ℕ) (us : List ℕ) → IsRing w → IsHistory w → IsOrdered w → running_from w p ≡ x ∷ (y ∷ us) → x ≢ y → is_in p (ring w) ≡ true → v ≤ newest w → knows w v y ≡ true → left w v y ≡ s → is_in s (before y (rotated p (ring w))) ≡ false → knows w v p ≡ false
-unknown_past w x y p s v us hr hh ho e differs pn vn yv el late = by_test (knows w v p) refl
+unknown_past w x y p s v us hr hh ho e differs pn vn yv el late = false_from_ne_true (knows w v p) known
   where
     c : List ℕ
     c = rotated p (ring w)
@@ -92,17 +79,13 @@ unknown_past w x y p s v us hr hh ho e differs pn vn yv el late = by_test (knows
     yc = is_in-rotated y p (ring w) ∙ yn
 
     ry : runs w y ≡ true
-    ry = running_runs (runs w) y c (ap (is_in y) e ∙ rw (nat_eq-not y x (λ k. differs (sym k)), nat_eq-same y) refl)
+    ry = passes_in (runs w) y c (ap (is_in y) e ∙ rw (nat_eq-not y x (λ k. differs (sym k)), nat_eq-same y) refl)
 
     rx : runs w x ≡ true
-    rx = running_runs (runs w) x c (ap (is_in x) e ∙ rw (nat_eq-same x) refl)
+    rx = passes_in (runs w) x c (ap (is_in x) e ∙ rw (nat_eq-same x) refl)
 
     sv : knows w v s ≡ true
-    sv = by_left (left_is_left (is_live (view_at w v)) s y (ids (view_at w v)) (distinct_others y (ids (view_at w v)) (hr.distinct v vn) yv) yv (sym (left_is w v y (view_at w v) refl) ∙ el))
-      where
-        by_left : IsLeft (is_live (view_at w v)) s y (ids (view_at w v)) → knows w v s ≡ true
-        by_left (itself k) = ap (knows w v) k ∙ yv
-        by_left (other l i) = i
+    sv = left_known w v y s hr vn yv el
 
     sn : is_in s (ring w) ≡ true
     sn = hh.grows s v (newest w) sv vn (omega arith)
@@ -122,16 +105,10 @@ unknown_past w x y p s v us hr hh ho e differs pn vn yv el late = by_test (knows
     inside : is_in p (before y (others s (ring w))) ≡ true
     inside = between_from p s y (ring w) dn (distinct_others s (ring w) dn sn) sn pn apart late
 
-    is : between (view_at w v) s y ≡ filter (knows w v) (before y (others s (ring w)))
-    is = ap (λ us. before y (after s us ++ before s us)) (ho.part v vn)
-        ∙ ap (before y) (rw (after-filter (knows w v) s (ring w) sv, before-filter (knows w v) s (ring w) sv) (sym (filter-append (knows w v) (after s (ring w)) (before s (ring w)))))
-        ∙ before-filter (knows w v) y (others s (ring w)) yv
-
-    by_test : (b : Bool) → knows w v p ≡ b → b ≡ false
-    by_test false k = refl
-    by_test true k =
-        let o : OwnedFacts w y v p = owned_facts w y v s p hr hh ho vn yv el (ap (is_in p) is ∙ in-filter (knows w v) p (before y (others s (ring w))) inside k) in
-        absurd (false≢true (sym (o.dead x xb) ∙ hh.dies x v (newest w) (o.old x xb) vn (omega arith) (hr.lives x (newest w) rx (hr.held x) (omega arith))))
+    known : knows w v p ≡ true → ⊥
+    known k =
+        let o : OwnedFacts w y v p = owned_facts w y v s p hr hh ho vn yv el (ap (is_in p) (between_is w v y s ho vn yv sv) ∙ in-filter (knows w v) p (before y (others s (ring w))) inside k) in
+        false≢true (sym (o.dead x xb) ∙ hh.dies x v (newest w) (o.old x xb) vn (omega arith) (hr.lives x (newest w) rx (hr.held x) (omega arith)))
 
 pub late_is_zero : (w : World) (x y p : ℕ) (us : List ℕ) → x < size w → IsRing w → IsLinked w → IsHistory w → IsOrdered w → IsPacked w → running_from w p ≡ x ∷ (y ∷ us) → x ≢ y → is_in x (y ∷ us) ≡ false → is_in p (ring w) ≡ true → LateIsZero w p y (stopped_from (stop_at w x) p)
 late_is_zero w x y p us lt hr hl hh ho hp e differs once pn j jl late = by_test (nat_eq (link_at w j).receiver y) refl
@@ -143,7 +120,7 @@ late_is_zero w x y p us lt hr hl hh ho hp e differs once pn j jl late = by_test 
     c = rotated p (ring w)
 
     ry : runs w y ≡ true
-    ry = running_runs (runs w) y c (ap (is_in y) e ∙ rw (nat_eq-not y x (λ k. differs (sym k)), nat_eq-same y) refl)
+    ry = passes_in (runs w) y c (ap (is_in y) e ∙ rw (nat_eq-not y x (λ k. differs (sym k)), nat_eq-same y) refl)
 
     yn : is_in y (ring w) ≡ true
     yn = hr.stands y (newest w) ry (hr.held y) (omega arith)

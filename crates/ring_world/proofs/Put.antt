@@ -13,7 +13,9 @@ use Rattle.ring_world.specs.Step.{next_packet, pushed, put_on, with_link}
 use Rattle.ring_world.proofs.Lists.{at_set}
 use Rattle.ring_world.proofs.Weakens.{Weakens, same, joined, joined_left}
 use Rattle.ring_world.proofs.Links.{numbers_set, numbers_put}
-use Rattle.ring_world.proofs.Rounds.{nat_eq-is, nat_eq-same, nat_eq-not, round_back}
+use Rattle.group_view.proofs.Lists.{cond_empty_late}
+use Rattle.group_view.proofs.Rings.{nat_eq-is, nat_eq-same, nat_eq-not}
+use Rattle.ring_world.proofs.Rounds.{round_back}
 use Rattle.ring_world.proofs.Ring.{Follows, follows, follows_none}
 use Rattle.ring_world.proofs.Edits.{round_front}
 use Rattle.ring_world.proofs.Good.{IsRing, IsLinked, IsWaitingRight, out_newest}
@@ -105,11 +107,7 @@ numbers_other f w o q k differs =
 pub numbers_other_late : (f : Packet → ℕ) (early : Link → Bool) (w : World) (o q : ℕ) (k : Packet) → (link_at w o).receiver ≢ q → numbers f (no_but early (counted w q)) (set w.links o (pushed (link_at w o) k)) ≡ numbers f (no_but early (counted w q)) w.links
 numbers_other_late f early w o q k differs =
     numbers_set f (no_but early (counted w q)) w.links o (pushed (link_at w o) k)
-    (none_late (early (pushed (link_at w o) k)) (pushed (link_at w o) k) differs ∙ sym (none_late (early (link_at w o)) (link_at w o) differs))
-  where
-    none_late : (b : Bool) (l : Link) → l.receiver ≢ q → cond b [] (counted w q l) ≡ []
-    none_late true l d = refl
-    none_late false l d = counted_other w q l d
+    (cond_empty_late (early (pushed (link_at w o) k)) _ (counted_other w q (pushed (link_at w o) k) differs) ∙ sym (cond_empty_late (early (link_at w o)) _ (counted_other w q (link_at w o) differs)))
 
 -- no early link was pushed
 pub numbers_early : (f : Packet → ℕ) (stopped : List ℕ) (w : World) (o q : ℕ) (k : Packet) → is_in (link_at w o).sender stopped ≡ false → numbers f (only (is_early stopped) (counted w q)) (set w.links o (pushed (link_at w o) k)) ≡ numbers f (only (is_early stopped) (counted w q)) w.links
@@ -142,11 +140,7 @@ numbers_at_late f st w x o k hr hl hw up out kept late =
     let lt : o < length w.links = hl.out_lt x o rx out in
     numbers_put f (no_but (is_early st) (counted w (link_at w o).receiver)) w.links o (pushed (link_at w o) k) k lt
     (rw late (counted_push w (link_at w o) k kept (λ e. first_there w o hw lt e)))
-    (λ j l m. none_late (is_early st (link_at w j)) (counted_other w (link_at w o).receiver (link_at w j) (out_newest w x o j hr hl rx out l m)))
-  where
-    none_late : {c : List Packet} (b : Bool) → c ≡ [] → cond b [] c ≡ []
-    none_late true e = refl
-    none_late false e = e
+    (λ j l m. cond_empty_late (is_early st (link_at w j)) _ (counted_other w (link_at w o).receiver (link_at w j) (out_newest w x o j hr hl rx out l m)))
 
 pub numbers_unkept : (f : Packet → ℕ) (w : World) (o q : ℕ) (k : Packet) → is_kept w (link_at w o) (member_at w (link_at w o).receiver).version ≡ false → numbers f (counted w q) (set w.links o (pushed (link_at w o) k)) ≡ numbers f (counted w q) w.links
 numbers_unkept f w o q k kept =

@@ -1,13 +1,14 @@
 -- Rings as lists that are rotated.
-use Rattle.std.proofs.Common.{◌≡◌, ◌≢◌, ℕ, Bool, true, false, cond, List, [], ◌∷◌, ◌++◌, refl, sym, ap, subst, ◌∙◌, nat_eq}
+use Rattle.std.proofs.Common.{◌≡◌, ℕ, Bool, true, false, cond, List, [], ◌∷◌, ◌++◌, refl, sym, ap, subst, ◌∙◌, nat_eq}
 use Rattle.std.specs.List.{filter}
 use Rattle.std.proofs.lemmas.List.{append-nil}
 use Rattle.std.proofs.lemmas.List.Elements.{filter-append}
 use Rattle.std.proofs.lemmas.Bool.{false≢true}
 use Rattle.group_view.specs.Ring.{before, after, rotated, others, last_or, is_in, AreDistinct}
-use Rattle.ring_world.proofs.Rounds.{nat_eq-is, nat_eq-same, Steps}
+use Rattle.ring_world.proofs.Rounds.{Steps}
 use Rattle.group_view.proofs.Neighbours.{last_or-append, last_stronger, not_in_filter}
-use Rattle.group_view.proofs.Rings.{is_in-rotated, not_in_before, not_in_first, not_in_others, others-rotated, split_at}
+use Rattle.group_view.proofs.Truth.{first_false}
+use Rattle.group_view.proofs.Rings.{is_in-rotated, not_in_before, not_in_first, not_in_others, others-rotated, split_at, nat_eq-is, nat_eq-same, head_differs, tail_lacks}
 
 -- ---- the running members of a ring that is cut somewhere
 
@@ -48,26 +49,12 @@ follows_parts x z y ys [] vs e hu hv l =
 follows_parts x z y ys (u ∷ us) vs e hu hv l =
     let ey : y ≡ u = cc in
     let es : ys ≡ us ++ z ∷ vs = cc in
-    let hz : nat_eq z u ≡ false = head_not z u us hu in
-    let hs : is_in z us ≡ false = tail_not z u us hu in
+    let hz : nat_eq z u ≡ false = first_false (nat_eq z u) (is_in z us) hu in
+    let hs : is_in z us ≡ false = tail_lacks z u us hu in
     rw (ey, es) (record {
       steps = steps_at x z u us vs hs hv (sym (last_or-append z vs (u ∷ us)) ∙ l);
       round = λ (same : u ≡ z). absurd (false≢true (sym hz ∙ rw same (nat_eq-same z)));
     })
-  where
-    head_not : (z u : ℕ) (us : List ℕ) → is_in z (u ∷ us) ≡ false → nat_eq z u ≡ false
-    head_not z u us h = by_case (nat_eq z u) h
-      where
-        by_case : (t : Bool) → cond t true (is_in z us) ≡ false → t ≡ false
-        by_case true k = k
-        by_case false k = refl
-
-    tail_not : (z u : ℕ) (us : List ℕ) → is_in z (u ∷ us) ≡ false → is_in z us ≡ false
-    tail_not z u us h = by_case (nat_eq z u) h
-      where
-        by_case : (t : Bool) → cond t true (is_in z us) ≡ false → is_in z us ≡ false
-        by_case true k = absurd (false≢true (sym k))
-        by_case false k = k
 
 -- if x is the nearest live one to the left of z, and all that run are live, then among those that run z follows x, however the ring is cut
 pub follows : (live runs : ℕ → Bool) (x z p y : ℕ) (ys xs : List ℕ) → AreDistinct xs → is_in z xs ≡ true → ((q : ℕ) → runs q ≡ true → live q ≡ true) → runs x ≡ true → runs z ≡ true → last_or z (filter live (others z xs)) ≡ x → filter runs (rotated p xs) ≡ y ∷ ys → Follows x z y ys
@@ -90,20 +77,6 @@ not_among r z (x ∷ xs) h = by_case (r x) (nat_eq z x) refl refl (not_among r z
     by_case true true ea et ih = absurd (false≢true (sym h ∙ ap r (nat_eq-is z x et) ∙ ea))
     by_case true false ea et ih = rw et ih
     by_case false t ea et ih = ih
-
-pub head_differs : (z y : ℕ) (ys : List ℕ) → is_in z (y ∷ ys) ≡ false → y ≢ z
-head_differs z y ys h same = by_case (nat_eq z y) refl h
-  where
-    by_case : (t : Bool) → nat_eq z y ≡ t → cond t true (is_in z ys) ≡ false → ⊥
-    by_case true e k = false≢true (sym k)
-    by_case false e k = false≢true (sym e ∙ rw same (nat_eq-same z))
-
-pub tail_lacks : (z y : ℕ) (ys : List ℕ) → is_in z (y ∷ ys) ≡ false → is_in z ys ≡ false
-tail_lacks z y ys h = by_case (nat_eq z y) h
-  where
-    by_case : (t : Bool) → cond t true (is_in z ys) ≡ false → is_in z ys ≡ false
-    by_case true k = absurd (false≢true (sym k))
-    by_case false k = k
 
 pub follows_none : (runs : ℕ → Bool) (x z y : ℕ) (ys c : List ℕ) → runs z ≡ false → filter runs c ≡ y ∷ ys → Follows x z y ys
 follows_none runs x z y ys c rz e =

@@ -1,9 +1,9 @@
 -- Edits of a round.
-use Rattle.std.proofs.Common.{◌≡◌, ◌≢◌, ℕ, Bool, true, false, cond, List, [], ◌∷◌, ◌++◌, sym, ap, append_assoc, arith, nat_eq}
+use Rattle.std.proofs.Common.{ℕ, Bool, true, false, cond, List, [], ◌∷◌, ◌++◌, sym, ap, append_assoc}
 use Rattle.std.specs.Prelude.{⊤}
-use Rattle.std.proofs.lemmas.Bool.Decides.{nat_tests}
 use Rattle.std.specs.List.{filter, flat_map}
 use Rattle.group_view.specs.Ring.{last_or}
+pub use Rattle.group_view.proofs.Rings.{nat_eq-is, nat_eq-same, nat_eq-not}
 use Rattle.ring_world.specs.Walk.{block, round}
 use Rattle.ring_world.proofs.Weakens.{Weakens, same, equal, then, joined, joined_right, lose_one, lose_first, lose_second}
 
@@ -62,14 +62,3 @@ owner_lost e m l f x ys =
     (then (f x ∷ (flat_map (block m f) ys ++ l x)) (flat_map (block m f) ys ++ l x) (flat_map (block m f) ys)
     (lose_one (f x) (flat_map (block m f) ys ++ l x))
     (lose_second (flat_map (block m f) ys) (l x)))
-
--- ---- a member that comes
-
-pub nat_eq-is : (a b : ℕ) → nat_eq a b ≡ true → a ≡ b
-nat_eq-is a b e = grind (arith, nat_tests)
-
-pub nat_eq-same : (a : ℕ) → nat_eq a a ≡ true
-nat_eq-same a = grind (arith, nat_tests)
-
-pub nat_eq-not : (a b : ℕ) → a ≢ b → nat_eq a b ≡ false
-nat_eq-not a b e = grind (arith, nat_tests)

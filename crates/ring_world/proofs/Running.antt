@@ -12,19 +12,15 @@ use Rattle.group_view.specs.Since.{no_group}
 use Rattle.group_view.specs.Since as group
 use Rattle.group_view.specs.Change.{AreOpeningNames, marked}
 use Rattle.group_view.proofs.Groups.{small_version}
-use Rattle.group_view.proofs.History.{Ends, mark_goes_on}
-use Rattle.group_view.proofs.Passing.{live_in}
 use Rattle.ring_world.specs.View.{ids, is_live}
-use Rattle.ring_world.specs.Machine.{World, Stopped, member_at, link_at, view_at, newest, runs_phase}
+use Rattle.ring_world.specs.Machine.{World, Stopped, member_at, link_at, view_at, newest}
 use Rattle.ring_world.specs.Step.{with_view, opening}
 use Rattle.ring_world.specs.Event.{Event, IsRun, last, refusal, effect}
 use Rattle.ring_world.specs.Placed.{IsPlaced}
 use Rattle.ring_world.specs.Shows.{world_of}
 use Rattle.ring_world.specs.Reached.{IsReachedIn, IsRunning, state_of}
 use Rattle.ring_world.specs.declared.world.World.TheInside.{Inside}
-use Rattle.ring_world.proofs.KeptMore.{mark_keeps}
-use Rattle.ring_world.proofs.Views.{view_new}
-use Rattle.ring_world.proofs.Happens.{IsGood, HasViews, opening_good, event_good}
+use Rattle.ring_world.proofs.Happens.{IsGood, HasViews, opening_good, mark_view_good, run_events, run_good}
 use Rattle.ring_world.proofs.Sized.{IsSized, opening_sized, event_sized, other_sized}
 
 -- ---- what the code needs, of one state
@@ -64,33 +60,15 @@ good_placed w h s = record {
 }
 
 -- a view in which one who has stopped is dead
-marked_good : (w : World) (d : ℕ) → (member_at w d).phase ≡ Stopped → is_live (view_at w (newest w)) d ≡ true → IsGood w → IsGood (with_view w (marked (view_at w (newest w)) d))
-marked_good w d rests lives h =
-    let g = view_at w (newest w) in
-    let v' = marked g d in
-    let more : length (w.views ++ v' ∷ []) ≡ length w.views + 1 = length_push w.views v' in
-    let some : 0 < length w.views = h.inv.is_ring.some in
-    record {
-      inv = mark_keeps w d (ap runs_phase rests) h.inv;
-      none_waits = h.none_waits;
-      views = record {
-        groups = h.views.groups ++ v' ∷ [];
-        is = ap (λ vs. vs ++ v' ∷ []) h.views.is;
-        ends = subst (Ends (h.views.groups ++ v' ∷ [])) (sym (view_new w v' (newest (with_view w v')) (omega arith)))
-            (mark_goes_on h.views.groups g d h.views.ends (record { there = live_in g.entries d lives; lives = lives }));
-      };
-    }
-
 pub marked_placed : (w : World) (d : ℕ) → (member_at w d).phase ≡ Stopped → is_live (view_at w (newest w)) d ≡ true → IsGood w → IsSized w → IsPlaced (with_view w (marked (view_at w (newest w)) d))
 marked_placed w d rests lives h s =
     let next = with_view w (marked (view_at w (newest w)) d) in
-    good_placed next (marked_good w d rests lives h) (other_sized w w.links next.views s)
+    good_placed next (mark_view_good w d rests lives h) (other_sized w w.links next.views s)
 
 -- ---- runs
 
 pub run_sound : (w : World) (es : List Event) → IsGood w × IsSized w → IsRun w es → IsGood (last w es) × IsSized (last w es)
-run_sound w [] h r = h
-run_sound w (e ∷ es) h r = run_sound (effect w e) es (event_good w e h.0 r.0, event_sized w e h.0.none_waits h.1) r.1
+run_sound w es h r = (run_good w es h.0 r, run_events IsSized event_sized w es h.0 r h.1)
 
 pub reached_sound : (w : World) (n : ℕ) → IsReachedIn w n → IsGood w × IsSized w
 reached_sound w n r = subst (λ k. IsGood k × IsSized k) (sym r.is) (run_sound (opening r.credit r.names) r.events (opening_good r.credit r.names r.are, opening_sized r.credit r.names r.are) r.run)
@@ -100,7 +78,7 @@ IsRun-push : (w : World) (es : List Event) (e : Event) → IsRun w es → refusa
 IsRun-push w [] e r x = (x, tt)
 IsRun-push w (f ∷ es) e r x = (r.0, IsRun-push (effect w f) es e r.1 x)
 
-last-push : (w : World) (es : List Event) (e : Event) → last w (es ++ e ∷ []) ≡ effect (last w es) e
+pub last-push : (w : World) (es : List Event) (e : Event) → last w (es ++ e ∷ []) ≡ effect (last w es) e
 last-push w [] e = refl
 last-push w (f ∷ es) e = last-push (effect w f) es e
 

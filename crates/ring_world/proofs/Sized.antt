@@ -1,23 +1,23 @@
 -- Members stay as many as they are, each has a row for each, and its own row has got all that it published.
-use Rattle.std.proofs.Common.{◌≡◌, ℕ, zero, suc, ◌<◌, ◌≤◌, ◌+◌, Bool, true, false, bytes_eq, nat_eq, List, [], ◌∷◌, ◌++◌, length, drop, map, get_or, set, Option, Some, None, refl, sym, ap, ◌∙◌, arith, if◌then◌else◌}
-use Rattle.std.specs.Prelude.{position, option_map}
+use Rattle.std.proofs.Common.{◌≡◌, ℕ, zero, suc, ◌<◌, ◌≤◌, ◌+◌, true, List, [], ◌∷◌, ◌++◌, length, map, get_or, set, Option, Some, None, refl, sym, ap, ◌∙◌, arith}
 use Rattle.std.specs.List.{range_with_len}
-use Rattle.std.proofs.lemmas.List.{length-set, length_push, length-drop, get_or-set_same}
+use Rattle.std.proofs.lemmas.List.{length-set, length_push, get_or-set_same}
 use Rattle.std.proofs.lemmas.List.FromFn.{length-map-range_with_len, get_or-map-range_with_len}
-use Rattle.std.proofs.lemmas.List.Quantifiers.{position-Some}
 use Rattle.ring_names.specs.declared.message.Message.{Message}
-use Rattle.ring_names.specs.declared.message.Message.TheVariants as message
 use Rattle.ring_names.specs.declared.numbers.CreditSpec.{CreditSpec}
 use Rattle.ring_world.specs.Rows.{no_row, Row}
 use Rattle.group_view.specs.View.{Group}
 use Rattle.group_view.specs.Change.{AreOpeningNames, marked}
 use Rattle.ring_world.specs.View.{right_of}
-use Rattle.ring_world.specs.Machine.{Phase, Waiting, Up, Stopped, Member, Link, World, Moved, Halted, is_waiting, no_member, member_at, link_at, view_at, newest, row_at, numbers_at}
+use Rattle.ring_world.specs.Machine.{Member, Link, World, Moved, Halted, no_member, member_at, link_at, view_at, newest, row_at, numbers_at}
 use Rattle.ring_world.specs.Walk.{oldest}
-use Rattle.ring_world.specs.Step.{size, publish_at, published, take_from, taker, taken_row, is_owned, log_of, current_is, with_current, leave_link, stop_at, stopped, end_out, with_view, with_link, look_at, moved_to, open_to, ended, opening, opening_member}
-use Rattle.ring_world.specs.Event.{Event, Cast, Put, Take, TakeEnd, Gain, Stop, Mark, Refresh, Pick, id_of, at_found, at_door, taken_by, send_to, refreshed, effect}
+use Rattle.ring_world.specs.Step.{size, publish_at, published, take_from, taker, taken_row, is_owned, log_of, current_is, with_current, leave_link, stop_at, stopped, end_out, with_view, look_at, moved_to, open_to, ended, opening, opening_member}
+use Rattle.ring_world.specs.Event.{Event, refreshed, refusal, effect}
 use Rattle.ring_world.proofs.Lists.{at_set}
 use Rattle.ring_world.proofs.Rounds.{nat_eq-same}
+use Rattle.ring_world.proofs.Cases.{each_event}
+use Rattle.ring_world.proofs.Composed.{end_composed, refresh_composed}
+use Rattle.ring_world.proofs.Happens.{IsGood}
 
 pub record IsSized (w : World) : Type 0 where
   pub few : size w ≤ 65
@@ -61,70 +61,38 @@ take_sized w y s lt h =
     ∙ ap (λ b. (taken_row b (log_of w y) (row_at (member_at w y) y) (numbers_at (oldest l) y)).got) own
     ∙ h.own y some lt) h
 
-taken_by_sized : (w : World) (y s : ℕ) (f : Phase) → is_waiting f ≡ false → y < size w → IsSized w → IsSized (taken_by f w y s)
-taken_by_sized w y s Waiting n lt h = cc
-taken_by_sized w y s Up n lt h = take_sized w y s lt h
-taken_by_sized w y s Stopped n lt h = h
-
 current_sized : (w : World) (y : ℕ) (c : Option ℕ) (ls : List Link) → y < size w → IsSized w → IsSized (record (current_is w y c) { links = ls })
 current_sized w y c ls lt h = same_sized w y (with_current c (member_at w y)) ls w.views lt refl refl h
 
 stop_sized : (w : World) (x : ℕ) (o : Option ℕ) → x < size w → IsSized w → IsSized (end_out Halted (stop_at w x) o)
-stop_sized w x None lt h = same_sized w x (stopped (member_at w x)) w.links w.views lt refl refl h
-stop_sized w x (Some o) lt h = same_sized w x (stopped (member_at w x)) (end_out Halted (stop_at w x) (Some o)).links w.views lt refl refl h
+stop_sized w x o lt h = end_composed IsSized Halted (stop_at w x) o
+    (λ k _ g. other_sized (stop_at w x) (set w.links k (ended Halted (link_at w k))) w.views g)
+    (same_sized w x (stopped (member_at w x)) w.links w.views lt refl refl h)
 
 open_sized : (w : World) (x z : ℕ) → x < size w → IsSized w → IsSized (open_to w x z)
 open_sized w x z lt h = same_sized w x (record (member_at w x) { out = Some (length w.links) }) (open_to w x z).links w.views lt refl refl h
 
 refresh_sized : (w : World) (x v : ℕ) → x < size w → IsSized w → IsSized (refreshed w x v)
-refresh_sized w x v lt h = by_out (member_at w x).out
-  where
-    z : ℕ
-    z = right_of (view_at w v) x
-
-    w1 : World
-    w1 = look_at w x v
-
-    there : x < size w1
-    there = omega (arith, lt, length-set w.members x (moved_to w x v))
-
-    now : IsSized w1
-    now = same_sized w x (moved_to w x v) w.links w.views lt refl refl h
-
-    by_test : (o : ℕ) (b : Bool) → IsSized (if b then w1 else open_to (with_link w1 o (ended Moved (link_at w1 o))) x z)
-    by_test o true = now
-    by_test o false = open_sized (with_link w1 o (ended Moved (link_at w1 o))) x z there (other_sized w1 (with_link w1 o (ended Moved (link_at w1 o))).links w1.views now)
-
-    by_out : (o : Option ℕ) → IsSized (send_to w1 x z o)
-    by_out None = open_sized w1 x z there now
-    by_out (Some o) = by_test o (nat_eq (link_at w1 o).receiver z)
-
-id_by : (w : World) (name : List ℕ) (o : Option ℕ) (x : ℕ) → position (λ y. bytes_eq y.name name) (drop 1 w.members) ≡ o → option_map (λ i. i + 1) o ≡ Some x → (1 ≤ x) × (x < size w)
-id_by w name None x e h = cc
-id_by w name (Some i) x e h =
-    let is : i + 1 ≡ x = cc in
-    let within = (position-Some (λ y. bytes_eq y.name name) (drop 1 w.members) i no_member e).0 in
-    (omega arith, omega (arith, within, length-drop 1 w.members))
-
-found_sized : (w : World) (name : List ℕ) (f : ℕ → World) (o : Option ℕ) → id_of w name ≡ o → IsSized w → ((x : ℕ) → x < size w → IsSized (f x)) → IsSized (at_found o w f)
-found_sized w name f None e h k = h
-found_sized w name f (Some x) e h k = k x (id_by w name _ x refl e).1
-
-link_sized : (w : World) (f : ℕ → World) (o : Option ℕ) → IsSized w → ((s : ℕ) → IsSized (f s)) → IsSized (at_found o w f)
-link_sized w f None h k = h
-link_sized w f (Some s) h k = k s
+refresh_sized w x v lt h =
+    let many : length (set w.members x (moved_to w x v)) ≡ size w = length-set w.members x (moved_to w x v) in
+    refresh_composed IsSized w x v
+    (λ k _ g. other_sized (look_at w x v) (set w.links k (ended Moved (link_at w k))) w.views g)
+    (λ u same g. open_sized u x (right_of (view_at w v) x) (omega (arith, lt, many, ap length same)) g)
+    (same_sized w x (moved_to w x v) w.links w.views lt refl refl h)
 
 -- one event more
-pub event_sized : (w : World) (e : Event) → ((q : ℕ) → is_waiting (member_at w q).phase ≡ false) → IsSized w → IsSized (effect w e)
-event_sized w (Cast by body) n h = found_sized w by (λ x. publish_at w x (message.Cast body)) (id_of w by) refl h (λ x lt. publish_sized w x (message.Cast body) lt h)
-event_sized w (Put by) n h = found_sized w by _ (id_of w by) refl h (λ x lt. link_sized w _ (member_at w x).out h (λ o. other_sized w _ w.views h))
-event_sized w (Take by) n h = found_sized w by _ (id_of w by) refl h (λ x lt. link_sized w _ (member_at w x).current h (λ s. taken_by_sized w x s (member_at w x).phase (n x) lt h))
-event_sized w (TakeEnd by) n h = found_sized w by _ (id_of w by) refl h (λ x lt. link_sized w _ (member_at w x).current h (λ s. current_sized w x None (leave_link w x s).links lt h))
-event_sized w (Gain by) n h = found_sized w by _ (id_of w by) refl h (λ x lt. link_sized w _ (member_at w x).out h (λ o. other_sized w _ w.views h))
-event_sized w (Stop by) n h = found_sized w by _ (id_of w by) refl h (λ x lt. stop_sized w x (member_at w x).out lt h)
-event_sized w (Mark by dead) n h = found_sized w by _ (id_of w by) refl h (λ x lt. found_sized w dead _ (id_of w dead) refl h (λ d dlt. refresh_sized (with_view w (marked (view_at w (newest w)) d)) x (newest w + 1) lt (other_sized w w.links (with_view w (marked (view_at w (newest w)) d)).views h)))
-event_sized w (Refresh by version) n h = found_sized w by _ (id_of w by) refl h (λ x lt. refresh_sized w x version lt h)
-event_sized w (Pick by) n h = found_sized w by _ (id_of w by) refl h (λ x lt. link_sized w _ (at_door w x) h (λ s. current_sized w x (Some s) w.links lt h))
+pub event_sized : (w : World) (e : Event) → IsGood w → refusal w e ≡ None → IsSized w → IsSized (effect w e)
+event_sized w e g r h = each_event IsSized w e g.none_waits (record {
+  casts = λ x m u. publish_sized w x m u.lt h;
+  puts = λ x o u out k. other_sized w _ w.views h;
+  takes = λ y s u m. take_sized w y s u.lt h;
+  leaves = λ y s u current k. current_sized w y None (leave_link w y s).links u.lt h;
+  gains = λ x o u out k. other_sized w _ w.views h;
+  stops = λ x u. stop_sized w x (member_at w x).out u.lt h;
+  marks = λ x d u m. let v : Group = marked (view_at w (newest w)) d in refresh_sized (with_view w v) x (newest w + 1) u.lt (other_sized w w.links (with_view w v).views h);
+  refreshes = λ x v u m. refresh_sized w x v u.lt h;
+  picks = λ y s u none e upto. current_sized w y (Some s) w.links u.lt h;
+}) r
 
 -- the opening
 pub opening_sized : (credit : CreditSpec) (names : List (List ℕ)) → AreOpeningNames names → IsSized (opening credit names)

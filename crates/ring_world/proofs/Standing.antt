@@ -3,54 +3,25 @@ use Rattle.std.proofs.Common.{◌≡◌, ℕ, ◌<◌, ◌≤◌, Bool, true, fa
 use Rattle.std.specs.Prelude.{⊤}
 use Rattle.std.specs.List.{filter}
 use Rattle.std.proofs.lemmas.List.Elements.{filter-append}
-use Rattle.std.proofs.lemmas.Bool.{cases_lt, false≢true}
-use Rattle.group_view.specs.Ring.{before, from, after, rotated, others, is_in, AreDistinct}
+use Rattle.std.proofs.lemmas.Bool.{cases_lt, false≢true, false_from_ne_true}
+use Rattle.group_view.specs.Ring.{before, from, after, rotated, others, is_in}
 use Rattle.ring_world.specs.View.{ids, is_live, between}
 use Rattle.ring_world.proofs.Lists.{get_or_beyond}
 use Rattle.ring_world.specs.Machine.{no_link, World, member_at, link_at, view_at, row_at, numbers_at, newest, ring, left, runs, is_kept}
 use Rattle.ring_world.specs.Walk.{is_early, only, counted, stopped_from, running_from}
 use Rattle.ring_world.specs.Step.{is_owned}
-use Rattle.ring_world.proofs.Rounds.{nat_eq-is, nat_eq-same}
-use Rattle.group_view.proofs.Rings.{sym_test, is_in-rotated, before-from, distinct_second, distinct_parts, is_in-append, not_in_before, not_in_first, rotated_is, from_is, in_before}
+use Rattle.group_view.proofs.Rings.{sym_test, is_in-rotated, not_in_before, rotated_is, in_before, nat_eq-is, nat_eq-same, distinct_others, from_inside}
+pub use Rattle.group_view.proofs.Rings.{distinct_first}
 use Rattle.ring_world.proofs.Ring.{filter-split}
 use Rattle.group_view.proofs.Arcs.{prefix_is, between_from}
-use Rattle.group_view.proofs.Neighbours.{left_gap, left_is_left, IsLeft, filter_empty_at, before-filter, after-filter, in-filter, filtered_in, itself, other}
+use Rattle.group_view.proofs.Neighbours.{left_gap, left_is_left, IsLeft, filter_empty_at, before-filter, after-filter, in-filter, filtered_in, itself, other, filter_none}
+use Rattle.group_view.proofs.Passing.{left_inside}
 use Rattle.ring_world.proofs.Gaps.{prefix_before}
 use Rattle.ring_world.proofs.Good.{Kept, IsRing, IsLinked, true_kept}
 use Rattle.ring_world.proofs.Period.{IsHistory}
 use Rattle.ring_world.proofs.Views.{left_is}
 use Rattle.ring_world.proofs.Take.{CanTake, Standing, elsewhere, first_time, unknown, come_round, taken_packet}
 use Rattle.ring_world.proofs.Put.{runs_phase-Up}
-
--- ---- distinct parts
-
-pub distinct_first : (us vs : List ℕ) → AreDistinct (us ++ vs) → AreDistinct us
-distinct_first [] vs h = tt
-distinct_first (u ∷ us) vs h = (not_in_first u us vs h.0, distinct_first us vs h.1)
-
-pub distinct_join : (us vs : List ℕ) → AreDistinct us → AreDistinct vs → ((q : ℕ) → is_in q us ≡ true → is_in q vs ≡ false) → AreDistinct (us ++ vs)
-distinct_join [] vs hu hv h = hv
-distinct_join (u ∷ us) vs hu hv h =
-    (is_in-append u us vs ∙ rw (hu.0, h u (rw (nat_eq-same u) refl)) refl, distinct_join us vs hu.1 hv (λ q i. h q (by_test (nat_eq q u) i)))
-  where
-    by_test : {c : Bool} (b : Bool) → c ≡ true → cond b true c ≡ true
-    by_test true e = refl
-    by_test false e = e
-
-pub distinct_others : (y : ℕ) (xs : List ℕ) → AreDistinct xs → is_in y xs ≡ true → AreDistinct (others y xs)
-distinct_others y xs d h =
-    let e : before y xs ++ from y xs ≡ xs = before-from y xs in
-    let d2 : AreDistinct (before y xs ++ (y ∷ after y xs)) = subst (λ us. AreDistinct (before y xs ++ us)) (from_is y xs h) (subst AreDistinct (sym e) d) in
-    distinct_join (after y xs) (before y xs) (distinct_second (before y xs) (y ∷ after y xs) d2).1 (distinct_first (before y xs) (y ∷ after y xs) d2)
-    (λ q i. by_test q (is_in q (before y xs)) refl i (λ k. distinct_parts q (before y xs) (y ∷ after y xs) d2 k))
-  where
-    tail : (q : ℕ) (b : Bool) → cond b true (is_in q (after y xs)) ≡ false → is_in q (after y xs) ≡ false
-    tail q true k = absurd (false≢true (sym k))
-    tail q false k = k
-
-    by_test : (q : ℕ) (b : Bool) → is_in q (before y xs) ≡ b → is_in q (after y xs) ≡ true → (is_in q (before y xs) ≡ true → is_in q (y ∷ after y xs) ≡ false) → b ≡ false
-    by_test q false e i k = refl
-    by_test q true e i k = absurd (false≢true (sym (tail q (nat_eq q y) (k e)) ∙ i))
 
 -- ---- the order of entries
 
@@ -88,27 +59,19 @@ pub record IsOrdered (w : World) : Type 0 where
   -- between an entry and its left neighbour in a view, those that it doesn't know come first
   pub order : (v e : ℕ) → v ≤ newest w → knows w v e ≡ true → OldLast (knows w v) (before e (others (left w v e) (ring w)))
 
-pub from_inside : (p q : ℕ) (xs : List ℕ) → is_in q (from p xs) ≡ true → is_in q xs ≡ true
-from_inside p q [] h = h
-from_inside p q (x ∷ xs) h = by_case (nat_eq x p) h (λ k. from_inside p q xs k) (nat_eq q x)
-  where
-    by_case : (a : Bool) → is_in q (cond a (x ∷ xs) (from p xs)) ≡ true → (is_in q (from p xs) ≡ true → is_in q xs ≡ true) → (b : Bool) → is_in q (x ∷ xs) ≡ true
-    by_case true k ih b = k
-    by_case false k ih b = put (nat_eq q x) (ih k)
-      where
-        put : (c : Bool) → is_in q xs ≡ true → cond c true (is_in q xs) ≡ true
-        put true j = refl
-        put false j = j
-
 -- ---- what a running y owns in its view
 
-pub none_running : (r : ℕ → Bool) (xs : List ℕ) → ((q : ℕ) → is_in q xs ≡ true → r q ≡ false) → filter r xs ≡ []
-none_running r [] h = refl
-none_running r (x ∷ xs) h = rw (h x (rw (nat_eq-same x) refl)) (none_running r xs (λ q i. h q (put (nat_eq q x) i)))
-  where
-    put : {c : Bool} (b : Bool) → c ≡ true → cond b true c ≡ true
-    put true e = refl
-    put false e = e
+-- the left neighbour of an entry is known where the entry is
+pub left_known : (w : World) (v y s : ℕ) → IsRing w → v ≤ newest w → knows w v y ≡ true → left w v y ≡ s → knows w v s ≡ true
+left_known w v y s hr vn yv e =
+    subst (λ q. knows w v q ≡ true) (sym (left_is w v y (view_at w v) refl) ∙ e) (left_inside (is_live (view_at w v)) y (ids (view_at w v)) (hr.distinct v vn) yv)
+
+-- what stands between two entries of a view is what it knows of those between them in the newest ring
+pub between_is : (w : World) (v y s : ℕ) → IsOrdered w → v ≤ newest w → knows w v y ≡ true → knows w v s ≡ true → between (view_at w v) s y ≡ filter (knows w v) (before y (others s (ring w)))
+between_is w v y s ho vn yv sv =
+    ap (λ us. before y (after s us ++ before s us)) (ho.part v vn)
+    ∙ ap (before y) (rw (after-filter (knows w v) s (ring w) sv, before-filter (knows w v) s (ring w) sv) (sym (filter-append (knows w v) (after s (ring w)) (before s (ring w)))))
+    ∙ before-filter (knows w v) y (others s (ring w)) yv
 
 -- p strictly between, in y's view: then from p up to y all stand in that view and are live in none from it on
 pub record OwnedFacts (w : World) (y v p : ℕ) : Type 0 where
@@ -134,19 +97,13 @@ owned_facts w y v s p hr hh ho vn yv el hp = record {
     yn = hh.grows y v (newest w) yv vn (omega arith)
 
     sv : knows w v s ≡ true
-    sv = by_left (left_is_left (is_live (view_at w v)) s y (ids (view_at w v)) (distinct_others y (ids (view_at w v)) (hr.distinct v vn) yv) yv (sym (left_is w v y (view_at w v) refl) ∙ el))
-      where
-        by_left : IsLeft (is_live (view_at w v)) s y (ids (view_at w v)) → knows w v s ≡ true
-        by_left (itself e) = ap t e ∙ yv
-        by_left (other l i) = i
+    sv = left_known w v y s hr vn yv el
 
     sn : is_in s (ring w) ≡ true
     sn = hh.grows s v (newest w) sv vn (omega arith)
 
     is : between (view_at w v) s y ≡ filter t b
-    is = ap (λ us. before y (after s us ++ before s us)) (ho.part v vn)
-        ∙ ap (before y) (rw (after-filter t s (ring w) sv, before-filter t s (ring w) sv) (sym (filter-append t (after s (ring w)) (before s (ring w)))))
-        ∙ before-filter t y (others s (ring w)) yv
+    is = between_is w v y s ho vn yv sv
 
     hpf : is_in p (filter t b) ≡ true
     hpf = ap (is_in p) (sym is) ∙ hp
@@ -222,11 +179,7 @@ standing w y s p hr hl hh ho hm hk ht pn = by_owned (nat_eq p y) refl (is_in p (
         left_is_left (is_live (view_at w u)) q y (ids (view_at w u)) (distinct_others y (ids (view_at w u)) (hr.distinct u b) yu) yu (sym (left_is w u y (view_at w u) refl) ∙ e)
 
     zv : knows w v z ≡ true
-    zv = by_left (left_at_view v z (omega arith) vn el)
-      where
-        by_left : IsLeft (is_live (view_at w v)) z y (ids (view_at w v)) → knows w v z ≡ true
-        by_left (itself e) = ap (knows w v) e ∙ yv
-        by_left (other l i) = i
+    zv = left_known w v y z hr vn yv el
 
     zn : is_in z (ring w) ≡ true
     zn = hh.grows z v (newest w) zv vn (omega arith)
@@ -245,7 +198,7 @@ standing w y s p hr hl hh ho hm hk ht pn = by_owned (nat_eq p y) refl (is_in p (
     rounds own o = come_round (filter (runs w) (after y c)) running own no_early (ap (is_in z) prefix ∙ not_left o v z (omega arith) vn el)
       where
         idle : filter (runs w) (before y c) ≡ []
-        idle = none_running (runs w) (before y c) (λ q i. by_run q i (runs w q) refl)
+        idle = filter_none (runs w) (before y c) (λ q i. by_run q i (runs w q) refl)
           where
             by_run : (q : ℕ) → is_in q (before y c) ≡ true → (b : Bool) → runs w q ≡ b → b ≡ false
             by_run q i false e = refl
@@ -292,7 +245,7 @@ standing w y s p hr hl hh ho hm hk ht pn = by_owned (nat_eq p y) refl (is_in p (
 
     -- what y's view doesn't own, of an origin whose owner is y
     unseen : is_in p (between (view_at w v) z y) ≡ false → nat_eq p y ≡ false → (qs : List ℕ) → running_from w p ≡ y ∷ qs → is_early (stopped_from w p) (link_at w s) ≡ false → knows w v p ≡ false
-    unseen outside differs qs e late = by_test (knows w v p) refl
+    unseen outside differs qs e late = false_from_ne_true (knows w v p) (λ k. false≢true (sym outside ∙ ap (is_in p) (between_is w v y z ho vn yv zv) ∙ in-filter (knows w v) p (before y (others z (ring w))) inside k))
       where
         idle : filter (runs w) (before y c) ≡ []
         idle = no_front (runs w) y qs c yc ry e
@@ -301,15 +254,6 @@ standing w y s p hr hl hh ho hm hk ht pn = by_owned (nat_eq p y) refl (is_in p (
         inside =
             between_from p z y (ring w) (hr.distinct (newest w) (omega arith)) (distinct_others z (ring w) (hr.distinct (newest w) (omega arith)) zn) zn pn (sym_test p y false differs)
             (ap (is_in z) (sym (prefix_before (runs w) y c idle yc ry)) ∙ late)
-
-        is : between (view_at w v) z y ≡ filter (knows w v) (before y (others z (ring w)))
-        is = ap (λ us. before y (after z us ++ before z us)) (ho.part v vn)
-            ∙ ap (before y) (rw (after-filter (knows w v) z (ring w) zv, before-filter (knows w v) z (ring w) zv) (sym (filter-append (knows w v) (after z (ring w)) (before z (ring w)))))
-            ∙ before-filter (knows w v) y (others z (ring w)) yv
-
-        by_test : (b : Bool) → knows w v p ≡ b → b ≡ false
-        by_test false k = refl
-        by_test true k = absurd (false≢true (sym outside ∙ ap (is_in p) is ∙ in-filter (knows w v) p (before y (others z (ring w))) inside k))
 
     elsewhere_or : is_in p (between (view_at w v) z y) ≡ false → nat_eq p y ≡ false → is_owned (view_at w v) y z p ≡ false → (us : List ℕ) → running_from w p ≡ us → Standing w y s p
     elsewhere_or outside differs own [] e = absurd (false≢true (ap (is_in y) (sym e) ∙ in-filter (runs w) y c yc ry))

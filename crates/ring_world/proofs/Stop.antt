@@ -10,9 +10,9 @@ use Rattle.ring_world.specs.Step.{size, stopped, stop_at}
 use Rattle.ring_world.proofs.Lists.{at_set}
 use Rattle.ring_world.proofs.Weakens.{FallsTo, FallsTo-append, Weakens, equal, joined, then, lose_second}
 use Rattle.ring_world.proofs.Links.{numbers_agree, AllZero}
-use Rattle.ring_world.proofs.Rounds.{nat_eq-same, nat_eq-not}
+use Rattle.group_view.proofs.Rings.{nat_eq-same, nat_eq-not, head_differs, tail_lacks}
 use Rattle.ring_world.proofs.Edits.{round_lost, round_owner}
-use Rattle.ring_world.proofs.Ring.{not_among, head_differs, tail_lacks}
+use Rattle.ring_world.proofs.Ring.{not_among}
 use Rattle.ring_world.proofs.Take.{blocks_same, head_once}
 
 abbrev pub is_not : ℕ → ℕ → Bool

@@ -13,10 +13,10 @@ use Rattle.ring_world.specs.Step.{size, popped, taken_row, is_owned, taker, take
 use Rattle.ring_world.proofs.Lists.{at_set}
 use Rattle.ring_world.proofs.Weakens.{Weakens, equal, joined}
 use Rattle.ring_world.proofs.Links.{numbers_take, numbers_set, numbers_agree, numbers_none}
-use Rattle.ring_world.proofs.Rounds.{nat_eq-same}
 use Rattle.ring_world.proofs.Edits.{round_take, round_take_early, round_take_nothing, walk_take_round}
 use Rattle.ring_world.proofs.Ring.{filter-split}
-use Rattle.group_view.proofs.Rings.{not_in_before, not_in_first, not_in_others, others-rotated, is_in-rotated}
+use Rattle.group_view.proofs.Lists.{cond_empty, cond_empty_late}
+use Rattle.group_view.proofs.Rings.{not_in_before, not_in_first, not_in_others, others-rotated, is_in-rotated, nat_eq-same}
 use Rattle.group_view.proofs.Neighbours.{not_in_filter}
 use Rattle.ring_world.proofs.Back.{same_runners}
 use Rattle.ring_world.proofs.Good.{IsWaitingRight}
@@ -66,14 +66,6 @@ take_numbers f w y s h =
     ∙ ap (λ xs. xs ++ f (taken_packet w s) ∷ []) (sym (numbers_agree f (counted (take_from w y s) y) (counted w y) (links_after w s) (λ j _. take_counted w y s y (get_or (links_after w s) j no_link) h.is_member)))
 
 -- the same of the early and of the late ones
-pub cond_empty : (b : Bool) (c : List Packet) → c ≡ [] → cond b c [] ≡ []
-cond_empty true c e = e
-cond_empty false c e = refl
-
-pub cond_empty_late : (b : Bool) (c : List Packet) → c ≡ [] → cond b [] c ≡ []
-cond_empty_late true c e = refl
-cond_empty_late false c e = e
-
 pub take_early_other : (f : Packet → ℕ) (st : List ℕ) (w : World) (y s q : ℕ) → CanTake w y s → q ≢ y → numbers f (only (is_early st) (counted (take_from w y s) q)) (links_after w s) ≡ numbers f (only (is_early st) (counted w q)) w.links
 take_early_other f st w y s q h differs =
     numbers_agree f (only (is_early st) (counted (take_from w y s) q)) (only (is_early st) (counted w q)) (links_after w s)
@@ -145,6 +137,13 @@ take_number g r w y s p h pl =
     ap (λ f. own_number g r (take_from w y s) p f (member_at (take_from w y s) y)) (take_phase w y s h.is_member ∙ h.up)
     ∙ ap r (take_row w y s p h.is_member pl)
 
+-- where it doesn't own the origin, that is what the packet says
+pub take_number_elsewhere : (g : Numbers → ℕ) (r : Row → ℕ) (w : World) (y s p : ℕ) → ((a : Row) (k : Numbers) (l : List Message) → r (taken_row false l a k) ≡ g k) → CanTake w y s → p < size w → is_owned (view_at w (member_at w y).version) y (link_at w s).sender p ≡ false → number g r (take_from w y s) p y ≡ g (numbers_at (taken_packet w s) p)
+take_number_elsewhere g r w y s p gr h pl no_own =
+    take_number g r w y s p h pl
+    ∙ ap (λ b. r (taken_row b (log_of w p) (row_at (member_at w y) p) (numbers_at (taken_packet w s) p))) no_own
+    ∙ gr (row_at (member_at w y) p) (numbers_at (taken_packet w s) p) (log_of w p)
+
 -- ---- the walk
 
 -- how origin p stands to the taker y of link s
@@ -169,7 +168,7 @@ take_round_elsewhere g r w y s p q qs gr h pl differs no_own =
     (λ q. numbers f (no_but (is_early st) (counted w q)) w.links) (λ q. numbers f (no_but (is_early st) (counted w' q)) (links_after w s))
     (number g r w p) (number g r w' p) y (f (taken_packet w s)) q qs differs
     (λ x d. take_number_other g r w y s p x h d)
-    (take_number g r w y s p h pl ∙ ap (λ b. r (taken_row b (log_of w p) (row_at (member_at w y) p) (numbers_at (taken_packet w s) p))) no_own ∙ gr (row_at (member_at w y) p) (numbers_at (taken_packet w s) p) (log_of w p))
+    (take_number_elsewhere g r w y s p gr h pl no_own)
     (λ x d. take_numbers_other f w y s x h d)
     (take_numbers f w y s h)
     (λ x d. take_early_other f st w y s x h d)
@@ -185,7 +184,7 @@ take_round_early g r w y s p qs gr h pl e no_own =
     (λ q. numbers f (no_but (is_early st) (counted w q)) w.links) (λ q. numbers f (no_but (is_early st) (counted w' q)) (links_after w s))
     (number g r w p) (number g r w' p) y (f (taken_packet w s)) qs
     (λ x d. take_number_other g r w y s p x h d)
-    (take_number g r w y s p h pl ∙ ap (λ b. r (taken_row b (log_of w p) (row_at (member_at w y) p) (numbers_at (taken_packet w s) p))) no_own ∙ gr (row_at (member_at w y) p) (numbers_at (taken_packet w s) p) (log_of w p))
+    (take_number_elsewhere g r w y s p gr h pl no_own)
     (λ x d. take_numbers_other f w y s x h d)
     (take_numbers f w y s h)
     (take_early f st w y s h e)
@@ -201,7 +200,7 @@ take_round_unknown g r w y s p qs gr h pl e no_own was =
     (λ q. numbers f (no_but (is_early st) (counted w q)) w.links) (λ q. numbers f (no_but (is_early st) (counted w' q)) (links_after w s))
     (number g r w p) (number g r w' p) y (f (taken_packet w s)) qs
     (λ x d. take_number_other g r w y s p x h d)
-    (take_number g r w y s p h pl ∙ ap (λ b. r (taken_row b (log_of w p) (row_at (member_at w y) p) (numbers_at (taken_packet w s) p))) no_own ∙ gr (row_at (member_at w y) p) (numbers_at (taken_packet w s) p) (log_of w p))
+    (take_number_elsewhere g r w y s p gr h pl no_own)
     (ap (λ b. own_number g r w p b (member_at w y)) h.up ∙ sym was)
     (λ x d. take_numbers_other f w y s x h d)
     (take_numbers f w y s h)

@@ -36,6 +36,12 @@ pub nobody_brings : (own : Bool) (r : Row) (k : Numbers) → brought own [] r k 
 nobody_brings true r k = refl
 nobody_brings false r k = ap (drop (max k.lo r.got)) (take_none k.got) ∙ drop_none (max k.lo r.got)
 
+-- what a packet brings of one origin, and whether the taker answers for that
+pub brought_news : (v : Group) (ms : List Member) (y s : ℕ) (k : Packet) (p : ℕ) (b : Brought) (n : Numbers) → b.own ≡ is_owned v y s p → n ≡ numbers_at k p → b.messages.items ≡ brought b.own (get_or ms p no_member).log (row_at (get_or ms y no_member) p) n → news_of b ≡ news_at v ms y s k p
+brought_news v ms y s k p b n own en em =
+    let told : Bool → Numbers → News = λ o m. record no_news { own = o; messages = brought o (get_or ms p no_member).log (row_at (get_or ms y no_member) p) m } in
+    ap (λ (news : List Message). record no_news { own = b.own; messages = news }) em ∙ ap (λ o. told o n) own ∙ ap (told (is_owned v y s p)) en
+
 abbrev pub all_of : List Seat → List Member
 all_of seats = no_member ∷ map member_of seats
 

@@ -1,9 +1,8 @@
 -- Members and views, event by event.
-use Rattle.std.proofs.Common.{◌≡◌, ℕ, zero, suc, ◌<◌, ◌≤◌, ◌+◌, ◌-◌, Bool, true, false, cond, [], ◌∷◌, ◌++◌, length, get_or, refl, sym, ap, subst, ◌∙◌, arith, nat_eq, ⊎_elim}
+use Rattle.std.proofs.Common.{◌≡◌, ℕ, ◌<◌, ◌≤◌, ◌+◌, ◌-◌, true, false, cond, [], ◌∷◌, ◌++◌, length, get_or, refl, sym, ap, subst, ◌∙◌, arith, nat_eq, ⊎_elim}
 use Rattle.std.proofs.lemmas.Bool.{cases_lt, false≢true}
 use Rattle.std.proofs.lemmas.List.{get_or_append_left, get_or_push, length_push}
 use Rattle.std.specs.Prelude.{◌&&◌, Option, Some, None}
-use Rattle.std.specs.List.{list_all, range_with_len}
 use Rattle.group_view.specs.View.{Group}
 use Rattle.group_view.specs.Since.{no_group}
 use Rattle.ring_world.specs.View.{ids, is_live, left_of, right_of, left_at, right_at}
@@ -11,7 +10,9 @@ use Rattle.group_view.specs.Ring.{left_in, is_in, AreDistinct}
 use Rattle.ring_world.specs.Machine.{World, member_at, view_at, newest, ring, left, right, runs, Phase, Waiting, Up, Stopped, Link, is_kept, is_kept_of, is_waiting, link_at, numbers_at}
 use Rattle.ring_world.specs.Step.{with_view}
 use Rattle.group_view.specs.Change.{marked}
-use Rattle.ring_world.proofs.Rounds.{nat_eq-not}
+use Rattle.group_view.proofs.Truth.{other_true}
+use Rattle.group_view.proofs.Lists.{all_range_agree}
+use Rattle.group_view.proofs.Rings.{nat_eq-not}
 use Rattle.group_view.proofs.Neighbours.{left_of_right, left_marked}
 use Rattle.ring_world.proofs.Good.{IsRing}
 use Rattle.ring_world.specs.Rows.{Row}
@@ -116,23 +117,15 @@ mark_goes_on w d rd h =
       lives = still;
       front = λ x z rx e.
           ap (left_in (is_live (marked v d)) z) (ids-marked v d)
-          ∙ left_marked (is_live v) (is_live (marked v d)) z x (ids v) (λ q t. weaker (nat_eq q d) (is_live v q) (sym (live-marked v d q) ∙ t)) (still x rx) (sym (left_is w (newest w) z v refl) ∙ e);
+          ∙ left_marked (is_live v) (is_live (marked v d)) z x (ids v) (λ q t. other_true (nat_eq q d) (is_live v q) (sym (live-marked v d q) ∙ t)) (still x rx) (sym (left_is w (newest w) z v refl) ∙ e);
     }
-  where
-    weaker : (b c : Bool) → cond b false c ≡ true → c ≡ true
-    weaker true c t = absurd (false≢true t)
-    weaker false c t = t
 
 -- ---- the walk of one more view
-
-pub all_agree : (t t' : ℕ → Bool) (a n : ℕ) → ((u : ℕ) → a ≤ u → u < a + n → t u ≡ t' u) → list_all t (range_with_len a n) ≡ list_all t' (range_with_len a n)
-all_agree t t' a zero h = refl
-all_agree t t' a (suc n) h = rw (h a (omega arith) (omega arith), all_agree t t' (a + 1) n (λ u l m. h u (omega arith) (omega arith))) refl
 
 pub kept_old : (w : World) (v' : Group) (l : Link) (v : ℕ) → v < length w.views → is_kept (with_view w v') l v ≡ is_kept w l v
 unfolding is_kept_of
 kept_old w v' l v lt =
-    all_agree (λ u. nat_eq (left (with_view w v') u l.receiver) l.sender) (λ u. nat_eq (left w u l.receiver) l.sender) l.opened (v + 1 - l.opened)
+    all_range_agree (λ u. nat_eq (left (with_view w v') u l.receiver) l.sender) (λ u. nat_eq (left w u l.receiver) l.sender) l.opened (v + 1 - l.opened)
     (λ u a b. ap (λ q. nat_eq q l.sender) (left_old w v' u l.receiver (omega arith)))
 
 -- a view in which the ring has its old order

@@ -1,6 +1,7 @@
 -- When a step of a member may happen.
 use Rattle.std.specs.Prelude.{◌≡◌, ℕ, ◌<◌, ◌≤◌, true, false, length, Option, Some}
-use Rattle.ring_world.specs.Machine.{Up, Link, World, member_at, link_at, newest, is_kept}
+use Rattle.ring_world.specs.View.{is_live}
+use Rattle.ring_world.specs.Machine.{Up, Stopped, Link, World, member_at, link_at, view_at, newest, is_kept}
 use Rattle.ring_world.specs.Walk.{oldest}
 use Rattle.ring_world.specs.Step.{size}
 use Rattle.ring_world.specs.Refusal.{is_empty}
@@ -26,6 +27,13 @@ pub record MayLook (w : World) (x v : ℕ) : Type 0 where
   pub up : (member_at w x).phase ≡ Up
   pub later : (member_at w x).version ≤ v
   pub upto : v ≤ newest w
+
+-- x may have d marked dead
+pub record MayMark (w : World) (x d : ℕ) : Type 0 where
+  pub is_member : x < size w
+  pub up : (member_at w x).phase ≡ Up
+  pub rests : (member_at w d).phase ≡ Stopped
+  pub lives : is_live (view_at w (newest w)) d ≡ true
 
 -- a link goes the same way with the same packets, whatever its credit and its end are
 pub record IsSameWay (l l' : Link) : Type 0 where

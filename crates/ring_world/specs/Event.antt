@@ -141,17 +141,55 @@ refreshed w x v = send_to (look_at w x v) x (right_of (view_at w v) x) (member_a
 
 -- ---- events
 
+-- the name of the member that acts
+abbrev pub by_of : Event → List ℕ
+by_of (Cast by body) = by
+by_of (Put by) = by
+by_of (Take by) = by
+by_of (TakeEnd by) = by
+by_of (Gain by) = by
+by_of (Stop by) = by
+by_of (Mark by dead) = by
+by_of (Refresh by version) = by
+by_of (Pick by) = by
+
+-- whether a client asks for it; the others a member does by itself
+abbrev pub is_asked : Event → Bool
+is_asked (Cast by body) = true
+is_asked (Stop by) = true
+is_asked e = false
+
+-- whether only a member that is up does it; else one that waits does it too
+abbrev pub is_for_up : Event → Bool
+is_for_up (Take by) = false
+is_for_up (TakeEnd by) = false
+is_for_up (Stop by) = false
+is_for_up e = true
+
+-- the conditions on the phase of the acting member, and then the others
+abbrev pub phase_refusal : Bool → World → ℕ → Option Reason → Option Reason
+phase_refusal true w x later = up_refusal w x later
+phase_refusal false w x later = running_refusal w x later
+
+-- these others, of an event of member x
+abbrev pub further_refusal : World → Event → ℕ → Option Reason
+further_refusal w (Cast by body) x = None
+further_refusal w (Put by) x = on_link (member_at w x).out reason.NoOutLink (put_refusal w x)
+further_refusal w (Take by) x = on_link (member_at w x).current reason.NoCurrentLink (take_refusal w x)
+further_refusal w (TakeEnd by) x = on_link (member_at w x).current reason.NoCurrentLink (end_refusal w)
+further_refusal w (Gain by) x = on_link (member_at w x).out reason.NoOutLink (gain_refusal w)
+further_refusal w (Stop by) x = None
+further_refusal w (Mark by dead) x = of_member (id_of w dead) (mark_refusal w x)
+further_refusal w (Refresh by version) x = refresh_refusal w x version
+further_refusal w (Pick by) x = or_else (refuse_if (is_some (member_at w x).current) reason.HasCurrentLink) (pick_refusal w x)
+
+-- the first failing condition of an event of member x
+abbrev pub refused_at : World → Event → ℕ → Option Reason
+refused_at w e x = phase_refusal (is_for_up e) w x (further_refusal w e x)
+
 -- the first failing condition of an event, if one fails
 abbrev pub refusal : World → Event → Option Reason
-refusal w (Cast by body) = of_member (id_of w by) (λ x. up_refusal w x None)
-refusal w (Put by) = of_member (id_of w by) (λ x. up_refusal w x (on_link (member_at w x).out reason.NoOutLink (put_refusal w x)))
-refusal w (Take by) = of_member (id_of w by) (λ x. running_refusal w x (on_link (member_at w x).current reason.NoCurrentLink (take_refusal w x)))
-refusal w (TakeEnd by) = of_member (id_of w by) (λ x. running_refusal w x (on_link (member_at w x).current reason.NoCurrentLink (end_refusal w)))
-refusal w (Gain by) = of_member (id_of w by) (λ x. up_refusal w x (on_link (member_at w x).out reason.NoOutLink (gain_refusal w)))
-refusal w (Stop by) = of_member (id_of w by) (λ x. running_refusal w x None)
-refusal w (Mark by dead) = of_member (id_of w by) (λ x. up_refusal w x (of_member (id_of w dead) (mark_refusal w x)))
-refusal w (Refresh by version) = of_member (id_of w by) (λ x. up_refusal w x (refresh_refusal w x version))
-refusal w (Pick by) = of_member (id_of w by) (λ x. up_refusal w x (or_else (refuse_if (is_some (member_at w x).current) reason.HasCurrentLink) (pick_refusal w x)))
+refusal w e = of_member (id_of w (by_of e)) (refused_at w e)
 
 -- what happens at an id or a link that was found; nothing where none was
 abbrev pub at_found : Option ℕ → World → (ℕ → World) → World
@@ -164,17 +202,21 @@ taken_by Waiting w y s = begin_from w y s
 taken_by Up w y s = take_from w y s
 taken_by Stopped w y s = w
 
+-- what member x does
+abbrev pub done_at : World → Event → ℕ → World
+done_at w (Cast by body) x = publish_at w x (message.Cast body)
+done_at w (Put by) x = at_found (member_at w x).out w (put_on w x)
+done_at w (Take by) x = at_found (member_at w x).current w (taken_by (member_at w x).phase w x)
+done_at w (TakeEnd by) x = at_found (member_at w x).current w (leave_link w x)
+done_at w (Gain by) x = at_found (member_at w x).out w (gain_on w)
+done_at w (Stop by) x = end_out Halted (stop_at w x) (member_at w x).out
+done_at w (Mark by dead) x = at_found (id_of w dead) w (λ d. refreshed (with_view w (marked (view_at w (newest w)) d)) x (newest w + 1))
+done_at w (Refresh by version) x = refreshed w x version
+done_at w (Pick by) x = at_found (at_door w x) w (λ s. current_is w x (Some s))
+
 -- the state after an event
 abbrev pub effect : World → Event → World
-effect w (Cast by body) = at_found (id_of w by) w (λ x. publish_at w x (message.Cast body))
-effect w (Put by) = at_found (id_of w by) w (λ x. at_found (member_at w x).out w (put_on w x))
-effect w (Take by) = at_found (id_of w by) w (λ x. at_found (member_at w x).current w (taken_by (member_at w x).phase w x))
-effect w (TakeEnd by) = at_found (id_of w by) w (λ x. at_found (member_at w x).current w (leave_link w x))
-effect w (Gain by) = at_found (id_of w by) w (λ x. at_found (member_at w x).out w (gain_on w))
-effect w (Stop by) = at_found (id_of w by) w (λ x. end_out Halted (stop_at w x) (member_at w x).out)
-effect w (Mark by dead) = at_found (id_of w by) w (λ x. at_found (id_of w dead) w (λ d. refreshed (with_view w (marked (view_at w (newest w)) d)) x (newest w + 1)))
-effect w (Refresh by version) = at_found (id_of w by) w (λ x. refreshed w x version)
-effect w (Pick by) = at_found (id_of w by) w (λ x. at_found (at_door w x) w (λ s. current_is w x (Some s)))
+effect w e = at_found (id_of w (by_of e)) w (done_at w e)
 
 -- each event is enabled where the earlier ones leave the ring
 abbrev pub IsRun : World → List Event → Type 0

@@ -1,9 +1,11 @@
 -- What the code needs of a state to find its parts.
-use Rattle.std.specs.Prelude.{◌≡◌, ℕ, ◌<◌, ◌≤◌, true, false, length, Some}
+use Rattle.std.specs.Prelude.{◌≡◌, ℕ, suc, ◌<◌, ◌≤◌, true, false, length, Some}
 use Rattle.group_view.specs.Ring.{is_in}
 use Rattle.ring_world.specs.View.{ids}
-use Rattle.ring_world.specs.Machine.{World, member_at, link_at, view_at, newest, row_at, runs, is_waiting}
+use Rattle.ring_world.specs.declared.state.Ring.{Ring}
+use Rattle.ring_world.specs.Machine.{Up, World, member_at, link_at, view_at, newest, row_at, runs, is_waiting}
 use Rattle.ring_world.specs.Step.{size, log_of}
+use Rattle.ring_world.specs.Shows.{world_of}
 
 -- Members are few and have a row for each; a running one has its own in its version and all later ones, has got all that
 -- it published, and its links stand.
@@ -23,3 +25,15 @@ pub record IsPlaced (w : World) : Type 0 where
   pub opened : (s : ℕ) → s < length w.links → 1 ≤ (link_at w s).opened
   pub upto : (s : ℕ) → s < length w.links → (link_at w s).opened ≤ newest w
   pub door : (s v : ℕ) → s < length w.links → (link_at w s).opened ≤ v → v ≤ newest w → is_in (link_at w s).receiver (ids (view_at w v)) ≡ true
+
+-- a member that is up stands at this place of the structs
+pub record IsUpAt (r : Ring) (i : ℕ) : Type 0 where
+  pub placed : IsPlaced (world_of r)
+  pub place : i < length r.seats.items
+  pub up : (member_at (world_of r) (suc i)).phase ≡ Up
+
+-- one that runs
+pub record IsRunningAt (r : Ring) (i : ℕ) : Type 0 where
+  pub placed : IsPlaced (world_of r)
+  pub place : i < length r.seats.items
+  pub runs : runs (world_of r) (suc i) ≡ true

@@ -11,7 +11,7 @@ use Rattle.ring_world.specs.declared.wire.Parcel.{Parcel}
 use Rattle.ring_world.specs.declared.wire.Wire.{Wire}
 use Rattle.ring_world.specs.declared.state.Ring.{Ring}
 use Rattle.group_view.specs.View.{Group}
-use Rattle.ring_world.specs.Machine.{Packet, Member, Link, World, no_member, no_link, no_sending, link_at, row_at, numbers_at}
+use Rattle.ring_world.specs.Machine.{Packet, Member, Sending, Link, World, no_member, no_link, no_sending, link_at, row_at, numbers_at}
 use Rattle.ring_world.specs.Step.{is_owned, brought, pushed, next_lines}
 
 -- a row
@@ -117,17 +117,20 @@ looked v s y = record y { version = v; current = s }
 abbrev pub with_out : Option ℕ → Member → Member
 with_out o y = record y { out = o }
 
--- a link opens in version v with its first packet of these rows
-abbrev pub link_opened : ℕ → ℕ → ℕ → ℕ → ℕ → List Row → Link
-link_opened initial more x z v rows =
-    pushed (record { sender = x; receiver = z; opened = v; packets = []; ending = None; over = false; sending = no_sending; flow = full_flow initial more })
-    (record { version = v; numbers = next_lines true rows [] })
+-- the next packet of a member in version v, on a link whose sending side is this
+abbrev pub packet_in : ℕ → Member → Sending → Packet
+packet_in v y s = record { version = v; numbers = next_lines s.fresh y.rows s.sent.numbers }
+
+-- a link opens in version v, with its whole credit and nothing on it
+abbrev pub link_new : CreditSpec → ℕ → ℕ → ℕ → Link
+link_new credit x z v =
+    record { sender = x; receiver = z; opened = v; packets = []; ending = None; over = false; sending = no_sending; flow = full_flow credit.initial credit.more }
+
+-- and with its first packet of these rows
+abbrev pub link_opened : CreditSpec → ℕ → ℕ → ℕ → List Row → Link
+link_opened credit x z v rows = pushed (link_new credit x z v) (record { version = v; numbers = next_lines true rows [] })
 
 -- whether the link that a member sends on goes to z
 abbrev pub sends_to : World → ℕ → Option ℕ → Bool
 sends_to w z None = false
 sends_to w z (Some o) = nat_eq (link_at w o).receiver z
-
--- a link of the opening
-abbrev pub link_at_first : CreditSpec → ℕ → ℕ → Link
-link_at_first credit x z = record { sender = x; receiver = z; opened = 1; packets = []; ending = None; over = false; sending = no_sending; flow = full_flow credit.initial credit.more }

@@ -1,9 +1,11 @@
 //! When an event may happen, of what concerns members and links.
-ghost use Rattle.std.specs.Prelude.{◌≡◌, ◌<◌, suc, true, length, Some, None};
+ghost use Rattle.std.specs.Prelude.{ℕ, ◌≡◌, ◌<◌, suc, false, length, Option, Some, None, OnOk, IfOk, IfErr};
+ghost use Rattle.ring_names.specs.declared.reason.Reason.{Reason};
 ghost use Rattle.ring_names.specs.declared.reason.Reason.TheVariants as reason;
 ghost use Rattle.ring_world.specs.Refusal.{answer_of};
-ghost use Rattle.ring_world.specs.Machine.{member_at, runs as runs_at};
-ghost use Rattle.ring_world.specs.Event.{up_refusal, running_refusal, on_link, put_refusal, take_refusal};
+ghost use Rattle.ring_world.specs.declared.phase.Phase.TheVariants as phase;
+ghost use Rattle.ring_world.specs.Machine.{member_at};
+ghost use Rattle.ring_world.specs.Event.{is_stopped, up_refusal, running_refusal, on_link, put_refusal, take_refusal};
 ghost use Rattle.ring_world.specs.Event.{end_refusal, gain_refusal, version_refusal};
 ghost use Rattle.ring_world.specs.Placed.{IsPlaced};
 ghost use Rattle.ring_world.specs.Shows.{world_of};
@@ -21,67 +23,6 @@ pub(crate) fn is_known(need: u32, have: u32) -> Result<(), Reason>
     Ok(())
 }
 
-/// Whether the member at a place may put a packet on its link.
-#[tactic(auto, using(crate::proofs::ShownParts::read_member, crate::proofs::ShownParts::read_link))]
-pub(crate) fn may_put_on(ring: &Ring, place: usize, out: usize) -> Result<(), Reason>
-    requires place { place < length ring.now.seats.items }
-    requires out { out < length ring.now.wires.items }
-    ensures { result ≡ answer_of (put_refusal (world_of ring.now) (suc place) out) }
-{
-    if ring.wires[out].is_blocked() {
-        return Err(Reason::NoCredit);
-    }
-    if ring.wires[out].has_nothing_new(ring.seats.len() + 1, &ring.seats[place]) {
-        return Err(Reason::NothingNew);
-    }
-    Ok(())
-}
-
-/// Whether it may take a packet from its link.
-#[tactic(auto, using(crate::proofs::ShownParts::read_member, crate::proofs::ShownParts::read_link))]
-pub(crate) fn may_take_from(ring: &Ring, place: usize, current: usize) -> Result<(), Reason>
-    requires place { place < length ring.now.seats.items }
-    requires current { current < length ring.now.wires.items }
-    ensures { result ≡ answer_of (take_refusal (world_of ring.now) (suc place) current) }
-{
-    let wire = &ring.wires[current];
-    if wire.holds_nothing() {
-        return Err(Reason::NothingToTake);
-    }
-    if wire.is_empty() {
-        return Err(Reason::EndNext);
-    }
-    is_known(wire.oldest().version, ring.seats[place].version)
-}
-
-/// Whether the end of a link is next.
-#[tactic(auto, using(crate::proofs::ShownParts::read_link))]
-pub(crate) fn is_end_next(ring: &Ring, current: usize) -> Result<(), Reason>
-    requires { current < length ring.now.wires.items }
-    ensures { result ≡ answer_of (end_refusal (world_of ring.now) current) }
-{
-    let wire = &ring.wires[current];
-    if wire.holds_nothing() {
-        return Err(Reason::NothingToTake);
-    }
-    if !wire.is_empty() {
-        return Err(Reason::PacketNext);
-    }
-    Ok(())
-}
-
-/// Whether a grant is under way on a link.
-#[tactic(auto, using(crate::proofs::ShownParts::read_link))]
-pub(crate) fn may_gain_on(ring: &Ring, out: usize) -> Result<(), Reason>
-    requires { out < length ring.now.wires.items }
-    ensures { result ≡ answer_of (gain_refusal (world_of ring.now) out) }
-{
-    if ring.wires[out].has_no_grant() {
-        return Err(Reason::NoGrant);
-    }
-    Ok(())
-}
-
 /// Whether the member at a place may publish.
 #[tactic(auto, using(crate::proofs::ShownParts::read_member))]
 pub(crate) fn may_cast(ring: &Ring, place: usize) -> Result<(), Reason>
@@ -92,8 +33,41 @@ pub(crate) fn may_cast(ring: &Ring, place: usize) -> Result<(), Reason>
     Ok(())
 }
 
-/// Whether it may put a packet.
+/// The link on which the member at a place sends, where it is up.
 #[tactic(auto, using(crate::proofs::ShownParts::read_member, crate::proofs::Found::out_within))]
+fn out_link(ring: &Ring, place: usize) -> Result<usize, Reason>
+    requires placed { IsPlaced (world_of ring.now) }
+    requires place { place < length ring.now.seats.items }
+    ensures up { OnOk result ((member_at (world_of ring.now) (suc place)).phase ≡ phase.Up) }
+    ensures out { IfOk result (λ out. (member_at (world_of ring.now) (suc place)).out ≡ Some out) }
+    ensures within { IfOk result (λ out. out < length ring.now.wires.items) }
+    ensures err { IfErr result (λ r. (later : ℕ → Option Reason) → up_refusal (world_of ring.now) (suc place)
+        (on_link (member_at (world_of ring.now) (suc place)).out reason.NoOutLink later) ≡ Some r) }
+{
+    let seat = &ring.seats[place];
+    seat.phase.is_up()?;
+    let out = seat.out.ok_or(Reason::NoOutLink)?;
+    Ok(out)
+}
+
+/// Whether it may put a packet on that link.
+#[tactic(auto, using(crate::proofs::ShownParts::read_member, crate::proofs::ShownParts::read_link))]
+fn may_put_on(ring: &Ring, place: usize, out: usize) -> Result<(), Reason>
+    requires place { place < length ring.now.seats.items }
+    requires out { out < length ring.now.wires.items }
+    ensures { result ≡ answer_of (put_refusal (world_of ring.now) (suc place) out) }
+{
+    let wire = &ring.wires[out];
+    if wire.is_blocked() {
+        return Err(Reason::NoCredit);
+    }
+    if wire.has_nothing_new(ring.seats.len() + 1, &ring.seats[place]) {
+        return Err(Reason::NothingNew);
+    }
+    Ok(())
+}
+
+/// Whether it may put a packet.
 pub(crate) fn may_put(ring: &Ring, place: usize) -> Result<(), Reason>
     requires placed { IsPlaced (world_of ring.now) }
     requires place { place < length ring.now.seats.items }
@@ -101,15 +75,12 @@ pub(crate) fn may_put(ring: &Ring, place: usize) -> Result<(), Reason>
         (on_link (member_at (world_of ring.now) (suc place)).out reason.NoOutLink
         (put_refusal (world_of ring.now) (suc place)))) }
 {
-    ring.seats[place].phase.is_up()?;
-    match ring.seats[place].out {
-        None => Err(Reason::NoOutLink),
-        Some(out) => may_put_on(ring, place, out),
-    }
+    let out = out_link(ring, place)?;
+    may_put_on(ring, place, out)
 }
 
 /// Whether it may gain credit.
-#[tactic(auto, using(crate::proofs::ShownParts::read_member, crate::proofs::Found::out_within))]
+#[tactic(auto, using(crate::proofs::ShownParts::read_link))]
 pub(crate) fn may_gain(ring: &Ring, place: usize) -> Result<(), Reason>
     requires placed { IsPlaced (world_of ring.now) }
     requires place { place < length ring.now.seats.items }
@@ -117,15 +88,32 @@ pub(crate) fn may_gain(ring: &Ring, place: usize) -> Result<(), Reason>
         (on_link (member_at (world_of ring.now) (suc place)).out reason.NoOutLink
         (gain_refusal (world_of ring.now)))) }
 {
-    ring.seats[place].phase.is_up()?;
-    match ring.seats[place].out {
-        None => Err(Reason::NoOutLink),
-        Some(out) => may_gain_on(ring, out),
+    let out = out_link(ring, place)?;
+    if ring.wires[out].has_no_grant() {
+        return Err(Reason::NoGrant);
     }
+    Ok(())
+}
+
+/// The link from which the member at a place takes, where it runs.
+#[tactic(auto, using(crate::proofs::ShownParts::read_member, crate::proofs::Found::current_within))]
+fn current_link(ring: &Ring, place: usize) -> Result<usize, Reason>
+    requires placed { IsPlaced (world_of ring.now) }
+    requires place { place < length ring.now.seats.items }
+    ensures current { IfOk result (λ s. (member_at (world_of ring.now) (suc place)).current ≡ Some s) }
+    ensures runs { OnOk result (is_stopped (member_at (world_of ring.now) (suc place)).phase ≡ false) }
+    ensures within { IfOk result (λ s. s < length ring.now.wires.items) }
+    ensures err { IfErr result (λ r. (later : ℕ → Option Reason) → running_refusal (world_of ring.now) (suc place)
+        (on_link (member_at (world_of ring.now) (suc place)).current reason.NoCurrentLink later) ≡ Some r) }
+{
+    let seat = &ring.seats[place];
+    seat.phase.runs()?;
+    let current = seat.current.ok_or(Reason::NoCurrentLink)?;
+    Ok(current)
 }
 
 /// Whether it may take a packet.
-#[tactic(auto, using(crate::proofs::ShownParts::read_member, crate::proofs::Found::current_within))]
+#[tactic(auto, using(crate::proofs::ShownParts::read_member, crate::proofs::ShownParts::read_link))]
 pub(crate) fn may_take(ring: &Ring, place: usize) -> Result<(), Reason>
     requires placed { IsPlaced (world_of ring.now) }
     requires place { place < length ring.now.seats.items }
@@ -133,15 +121,19 @@ pub(crate) fn may_take(ring: &Ring, place: usize) -> Result<(), Reason>
         (on_link (member_at (world_of ring.now) (suc place)).current reason.NoCurrentLink
         (take_refusal (world_of ring.now) (suc place)))) }
 {
-    ring.seats[place].phase.runs()?;
-    match ring.seats[place].current {
-        None => Err(Reason::NoCurrentLink),
-        Some(current) => may_take_from(ring, place, current),
+    let current = current_link(ring, place)?;
+    let wire = &ring.wires[current];
+    if wire.holds_nothing() {
+        return Err(Reason::NothingToTake);
     }
+    if wire.is_empty() {
+        return Err(Reason::EndNext);
+    }
+    is_known(wire.oldest().version, ring.seats[place].version)
 }
 
 /// Whether it may take the end of its link.
-#[tactic(auto, using(crate::proofs::ShownParts::read_member, crate::proofs::Found::current_within))]
+#[tactic(auto, using(crate::proofs::ShownParts::read_link))]
 pub(crate) fn may_take_end(ring: &Ring, place: usize) -> Result<(), Reason>
     requires placed { IsPlaced (world_of ring.now) }
     requires place { place < length ring.now.seats.items }
@@ -149,11 +141,15 @@ pub(crate) fn may_take_end(ring: &Ring, place: usize) -> Result<(), Reason>
         (on_link (member_at (world_of ring.now) (suc place)).current reason.NoCurrentLink
         (end_refusal (world_of ring.now)))) }
 {
-    ring.seats[place].phase.runs()?;
-    match ring.seats[place].current {
-        None => Err(Reason::NoCurrentLink),
-        Some(current) => is_end_next(ring, current),
+    let current = current_link(ring, place)?;
+    let wire = &ring.wires[current];
+    if wire.holds_nothing() {
+        return Err(Reason::NothingToTake);
     }
+    if !wire.is_empty() {
+        return Err(Reason::PacketNext);
+    }
+    Ok(())
 }
 
 /// Whether it may stop.

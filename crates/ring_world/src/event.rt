@@ -1,5 +1,6 @@
 //! The events of the ring.
 ghost use Rattle.std.specs.Prelude.{◌≡◌, IfOk};
+ghost use Rattle.ring_world.specs.Event.{by_of};
 
 use ring_names::{Body, Name, OutOfMemory};
 
@@ -28,6 +29,23 @@ pub enum Event {
 }
 
 impl Event {
+    /// The name of the member that acts.
+    pub fn by(&self) -> &Name
+        ensures { result.now ≡ by_of self.now }
+    {
+        match self {
+            Event::Cast { by, body: _ } => by,
+            Event::Put { by } => by,
+            Event::Take { by } => by,
+            Event::TakeEnd { by } => by,
+            Event::Gain { by } => by,
+            Event::Stop { by } => by,
+            Event::Mark { by, dead: _ } => by,
+            Event::Refresh { by, view: _ } => by,
+            Event::Pick { by } => by,
+        }
+    }
+
     /// An equal event.
     pub fn copy(&self) -> Result<Event, OutOfMemory>
         ensures { IfOk result (λ event. event ≡ self.now) }

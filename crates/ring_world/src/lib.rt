@@ -46,7 +46,6 @@ mod arms;
 mod asked;
 mod conditions;
 mod dispatch;
-mod effects;
 mod event;
 mod laws;
 mod log;
@@ -64,8 +63,6 @@ mod shown;
 mod starting;
 mod state;
 mod taking;
-#[cfg(test)]
-mod tests;
 mod walk;
 mod wire;
 mod wires;

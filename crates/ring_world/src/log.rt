@@ -11,9 +11,7 @@ pub(crate) fn copied(alloc: Global, messages: &[Message]) -> Result<Vec<Message>
 {
     let mut all = Vec::new(alloc);
     for message in messages {
-        if all.push(message.copy()?).is_err() {
-            return Err(OutOfMemory);
-        }
+        all.push(message.copy()?)?;
     }
     Ok(all)
 }

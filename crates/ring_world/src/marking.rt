@@ -1,11 +1,11 @@
 //! A member has a neighbour marked dead that has stopped.
-ghost use Rattle.std.specs.Prelude.{◌≡◌, ◌<◌, ◌+◌, suc, true, ◌-◌, take, length, IfOk, OnOk, OnErr};
+ghost use Rattle.std.specs.Prelude.{ℕ, ◌≡◌, ◌<◌, ◌+◌, suc, true, ◌-◌, take, length, None, IfOk, OnOk, OnErr};
 ghost use Rattle.group_view.specs.Change.{marked};
 ghost use Rattle.ring_world.specs.declared.phase.Phase.TheVariants as phase;
 ghost use Rattle.ring_world.specs.View.{is_live};
 ghost use Rattle.ring_world.specs.Machine.{member_at, view_at, newest as the_newest};
 ghost use Rattle.ring_world.specs.Step.{with_view};
-ghost use Rattle.ring_world.specs.Event.{refreshed};
+ghost use Rattle.ring_world.specs.Event.{mark_refusal, refreshed};
 ghost use Rattle.ring_world.specs.Placed.{IsPlaced};
 ghost use Rattle.ring_world.specs.Shows.{world_of};
 
@@ -35,9 +35,7 @@ fn push_view(ring: &mut Ring, view: View) -> Result<(), OutOfMemory>
     ensures seats { length ring.new.seats.items ≡ length ring.old.seats.items }
     ensures err { OnErr result (world_of ring.new ≡ world_of ring.old) }
 {
-    if ring.views.push(view).is_err() {
-        return Err(OutOfMemory);
-    }
+    ring.views.push(view)?;
     Ok(())
 }
 
@@ -49,6 +47,7 @@ fn pop_view(views: &mut Vec<View>)
 }
 
 /// The member at a place has the member at another marked dead, and reads the view that follows.
+#[tactic(auto, using(crate::proofs::Enabled::mark_lives, crate::proofs::Enabled::mark_stops))]
 pub(crate) fn mark(
     alloc: Global,
     ring: &mut Ring,
@@ -56,13 +55,14 @@ pub(crate) fn mark(
     dead: usize,
 ) -> Result<(), OutOfMemory>
     requires placed { IsPlaced (world_of ring.old) }
+    requires after { (d : ℕ) → (member_at (world_of ring.old) d).phase ≡ phase.Stopped
+        → is_live (view_at (world_of ring.old) (the_newest (world_of ring.old))) d ≡ true
+        → IsPlaced (with_view (world_of ring.old)
+        (marked (view_at (world_of ring.old) (the_newest (world_of ring.old))) d)) }
     requires place { place < length ring.old.seats.items }
     requires dead { dead < length ring.old.seats.items }
     requires up { (member_at (world_of ring.old) (suc place)).phase ≡ phase.Up }
-    requires lives { is_live (view_at (world_of ring.old) (the_newest (world_of ring.old)))
-        (suc dead) ≡ true }
-    requires after { IsPlaced (with_view (world_of ring.old)
-        (marked (view_at (world_of ring.old) (the_newest (world_of ring.old))) (suc dead))) }
+    requires enabled { mark_refusal (world_of ring.old) (suc place) (suc dead) ≡ None }
     ensures ok { OnOk result (world_of ring.new ≡ refreshed (with_view (world_of ring.old)
         (marked (view_at (world_of ring.old) (the_newest (world_of ring.old))) (suc dead)))
         (suc place) (the_newest (world_of ring.old) + 1)) }

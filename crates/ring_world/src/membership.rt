@@ -6,21 +6,19 @@ ghost use Rattle.ring_world.specs.declared.phase.Phase.TheVariants as phase;
 ghost use Rattle.ring_world.specs.Machine.{member_at};
 ghost use Rattle.ring_world.specs.Event.{id_of as the_id, of_member, up_refusal, pick_refusal, mark_refusal};
 ghost use Rattle.ring_world.specs.Event.{refresh_refusal, is_still_taken as still_taken};
-ghost use Rattle.ring_world.specs.Placed.{IsPlaced};
+ghost use Rattle.ring_world.specs.Placed.{IsPlaced, IsUpAt};
 ghost use Rattle.ring_world.specs.Shows.{world_of};
 
 use crate::conditions::is_known;
-use crate::neighbours::{at_door, id_at, is_live, is_neighbour, left_neighbour, newest, view_of};
+use crate::neighbours::{at_door, id_at, is_neighbour, left_neighbour, newest, view_of};
 use crate::places::place_in;
 use crate::state::Ring;
-use ring_names::{Name, Reason};
+use ring_names::{MemberId, Name, Reason};
 
 /// Whether the member at a place may pick the oldest link at its door.
 #[tactic(auto, using(crate::proofs::ShownParts::read_member, crate::proofs::ShownParts::read_link))]
 fn may_pick_at_door(ring: &Ring, place: usize) -> Result<(), Reason>
-    requires placed { IsPlaced (world_of ring.now) }
-    requires place { place < length ring.now.seats.items }
-    requires up { (member_at (world_of ring.now) (suc place)).phase ≡ phase.Up }
+    requires { IsUpAt ring.now place }
     ensures { result ≡ answer_of (pick_refusal (world_of ring.now) (suc place)) }
 {
     match at_door(ring, place) {
@@ -48,9 +46,7 @@ pub(crate) fn may_pick(ring: &Ring, place: usize) -> Result<(), Reason>
 /// Whether it still takes from its left neighbour of that id, or could.
 #[tactic(auto, using(crate::proofs::ShownParts::read_member))]
 fn is_still_taken(ring: &Ring, place: usize, dead: u32) -> bool
-    requires placed { IsPlaced (world_of ring.now) }
-    requires place { place < length ring.now.seats.items }
-    requires up { (member_at (world_of ring.now) (suc place)).phase ≡ phase.Up }
+    requires { IsUpAt ring.now place }
     ensures { result ≡ still_taken (world_of ring.now) (suc place) dead }
 {
     dead == left_neighbour(ring, place)
@@ -60,17 +56,15 @@ fn is_still_taken(ring: &Ring, place: usize, dead: u32) -> bool
 /// Whether it may have the member at another place marked dead.
 #[tactic(auto, using(crate::proofs::ShownParts::read_member))]
 fn may_mark_at(ring: &Ring, place: usize, dead: usize) -> Result<(), Reason>
-    requires placed { IsPlaced (world_of ring.now) }
-    requires place { place < length ring.now.seats.items }
+    requires up { IsUpAt ring.now place }
     requires dead { dead < length ring.now.seats.items }
-    requires up { (member_at (world_of ring.now) (suc place)).phase ≡ phase.Up }
     ensures { result ≡ answer_of (mark_refusal (world_of ring.now) (suc place) (suc dead)) }
 {
     let id = id_at(dead);
     if !is_neighbour(ring, place, id) {
         return Err(Reason::NotNeighbour);
     }
-    if !is_live(view_of(&ring.views, newest(ring)), id) {
+    if !view_of(&ring.views, newest(ring)).is_live(MemberId(id)) {
         return Err(Reason::AlreadyDead);
     }
     if !ring.seats[dead].phase.is_stopped() {

@@ -1,20 +1,18 @@
 //! What a member's view says, and what stands at its door.
 ghost use Rattle.std.specs.Prelude.{ℕ, ◌≡◌, ◌<◌, ◌≤◌, ◌&&◌, suc, ◌∷◌, true, not, nat_eq, nat_le, length, position};
 ghost use Rattle.std.specs.Prelude.{IfSome, slice_index_or};
-ghost use Rattle.ring_world.specs.declared.phase.Phase.TheVariants as phase;
-ghost use Rattle.group_view.specs.View.{entry_in};
 ghost use Rattle.group_view.specs.Ring.{is_in};
 ghost use Rattle.group_view.specs.Since.{no_group};
-ghost use Rattle.ring_world.specs.View.{ids, is_live as lives_in, left_of as the_left, right_of as the_right};
+ghost use Rattle.ring_world.specs.View.{ids, left_of as the_left, right_of as the_right};
 ghost use Rattle.ring_world.specs.Machine.{member_at, view_at, is_kept_of, newest as the_newest, runs as runs_at};
-ghost use Rattle.ring_world.specs.Event.{left_neighbour as the_left_neighbour, since as the_since};
-ghost use Rattle.ring_world.specs.Event.{is_neighbour as neighbours, at_door as the_door};
-ghost use Rattle.ring_world.specs.Placed.{IsPlaced};
+ghost use Rattle.ring_world.specs.Event.{left_neighbour as the_left_neighbour, is_neighbour as neighbours};
+ghost use Rattle.ring_world.specs.Event.{at_door as the_door};
+ghost use Rattle.ring_world.specs.Placed.{IsPlaced, IsUpAt};
 ghost use Rattle.ring_world.specs.Shows.{world_of, link_of, stands_at_door};
 
 use crate::state::Ring;
 use crate::wire::Wire;
-use group_view::{Entry, Mark, View};
+use group_view::View;
 use ring_names::MemberId;
 
 /// The id of the member at a place.
@@ -23,37 +21,6 @@ pub(crate) fn id_at(place: usize) -> u32
     ensures { result ≡ suc place }
 {
     place as u32 + 1
-}
-
-/// Since when the left neighbour of an entry has been it; 0 without the entry.
-pub(crate) fn since_in(entries: &[Entry], id: u32) -> u32
-    ensures { result ≡ (entry_in entries.now id).since }
-{
-    for entry in entries {
-        if entry.id.0 == id {
-            return entry.since;
-        }
-    }
-    0
-}
-
-/// The mark of an entry; erased without the entry.
-fn mark_in(entries: &[Entry], id: u32) -> Mark
-    ensures { result ≡ (entry_in entries.now id).mark }
-{
-    for entry in entries {
-        if entry.id.0 == id {
-            return entry.mark;
-        }
-    }
-    Mark::Erased
-}
-
-/// Whether the view has the entry as live.
-pub(crate) fn is_live(view: &View, id: u32) -> bool
-    ensures { result ≡ lives_in view.now id }
-{
-    matches!(mark_in(view.entries.as_slice(), id), Mark::Live)
 }
 
 /// The left neighbour of an entry.
@@ -100,9 +67,7 @@ pub(crate) fn newest_view(ring: &Ring) -> &View
 
 /// The view that the member at a place has.
 pub(crate) fn view_at_place(ring: &Ring, place: usize) -> &View
-    requires placed { IsPlaced (world_of ring.now) }
-    requires place { place < length ring.now.seats.items }
-    requires up { (member_at (world_of ring.now) (suc place)).phase ≡ phase.Up }
+    requires { IsUpAt ring.now place }
     ensures view { result.now ≡ view_at (world_of ring.now)
         (member_at (world_of ring.now) (suc place)).version }
     ensures stands { is_in (suc place) (ids result.now) ≡ true }
@@ -112,9 +77,7 @@ pub(crate) fn view_at_place(ring: &Ring, place: usize) -> &View
 
 /// The left neighbour of the member at a place, in its view.
 pub(crate) fn left_neighbour(ring: &Ring, place: usize) -> u32
-    requires placed { IsPlaced (world_of ring.now) }
-    requires place { place < length ring.now.seats.items }
-    requires up { (member_at (world_of ring.now) (suc place)).phase ≡ phase.Up }
+    requires { IsUpAt ring.now place }
     ensures { result ≡ the_left_neighbour (world_of ring.now) (suc place) }
 {
     let view = view_at_place(ring, place);
@@ -123,25 +86,12 @@ pub(crate) fn left_neighbour(ring: &Ring, place: usize) -> u32
 
 /// Whether an id is a neighbour's.
 pub(crate) fn is_neighbour(ring: &Ring, place: usize, id: u32) -> bool
-    requires placed { IsPlaced (world_of ring.now) }
-    requires place { place < length ring.now.seats.items }
-    requires up { (member_at (world_of ring.now) (suc place)).phase ≡ phase.Up }
+    requires { IsUpAt ring.now place }
     ensures { result ≡ neighbours (world_of ring.now) (suc place) id }
 {
     let view = view_at_place(ring, place);
     let own = id_at(place);
     id == left_in(view, own) || id == right_in(view, own)
-}
-
-/// Since when the left neighbour of the member at a place has been it.
-pub(crate) fn since(ring: &Ring, place: usize) -> u32
-    requires placed { IsPlaced (world_of ring.now) }
-    requires place { place < length ring.now.seats.items }
-    requires up { (member_at (world_of ring.now) (suc place)).phase ≡ phase.Up }
-    ensures { result ≡ the_since (world_of ring.now) (suc place) }
-{
-    let view = view_at_place(ring, place);
-    since_in(view.entries.as_slice(), id_at(place))
 }
 
 /// Whether a link stands at the door of a member with this left neighbour since then.
@@ -161,15 +111,15 @@ fn first_at_door(wires: &[Wire], id: u32, left: u32, since: u32) -> Option<usize
 
 /// The oldest link at the door of the member at a place.
 pub(crate) fn at_door(ring: &Ring, place: usize) -> Option<usize>
-    requires placed { IsPlaced (world_of ring.now) }
-    requires place { place < length ring.now.seats.items }
-    requires up { (member_at (world_of ring.now) (suc place)).phase ≡ phase.Up }
+    requires { IsUpAt ring.now place }
     ensures door { result ≡ the_door (world_of ring.now) (suc place) }
     ensures within { IfSome result (λ s. s < length ring.now.wires.items) }
 {
-    let left = left_neighbour(ring, place);
-    let since = since(ring, place);
-    first_at_door(&ring.wires, id_at(place), left, since)
+    let view = view_at_place(ring, place);
+    let id = id_at(place);
+    let left = left_in(view, id);
+    let since = view.since_of(MemberId(id));
+    first_at_door(&ring.wires, id, left, since)
 }
 
 /// Whether the receiver has had the sender at its left in each view from `opened` up to a version.

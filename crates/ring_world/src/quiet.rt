@@ -4,7 +4,7 @@ ghost use Rattle.ring_world.specs.Machine.{Up, link_at, runs as runs_at, row_at}
 ghost use Rattle.ring_world.specs.OpenLinks.{is_open as open_is};
 ghost use Rattle.ring_world.specs.Event.{holds_nothing};
 ghost use Rattle.ring_world.specs.Quiet.{IsResting, IsSettled, IsQuiet};
-ghost use Rattle.ring_world.specs.Placed.{IsPlaced};
+ghost use Rattle.ring_world.specs.Placed.{IsPlaced, IsRunningAt};
 ghost use Rattle.ring_world.specs.Shows.{world_of, member_of};
 
 use crate::neighbours::{id_at, newest, newest_view};
@@ -17,9 +17,7 @@ use group_view::{Entry, Mark};
 /// Whether no link holds an item that is open to the running member at a place.
 #[tactic(auto, using(crate::proofs::ShownParts::read_link))]
 fn has_nothing_to_take(ring: &Ring, place: usize) -> bool
-    requires placed { IsPlaced (world_of ring.now) }
-    requires place { place < length ring.now.seats.items }
-    requires runs { runs_at (world_of ring.now) (suc place) ≡ true }
+    requires { IsRunningAt ring.now place }
     ensures { IsTrue result ↔ ((s : ℕ) → s < length ring.now.wires.items
         → open_is (world_of ring.now) (suc place) s ≡ true
         → holds_nothing (link_at (world_of ring.now) s) ≡ true) }
@@ -42,9 +40,7 @@ fn has_come_round(seat: &Seat, id: usize) -> bool
 /// Whether the running member at a place rests.
 #[tactic(auto, using(crate::proofs::ShownParts::read_member, crate::proofs::Found::few_seats))]
 fn is_resting(ring: &Ring, place: usize) -> bool
-    requires placed { IsPlaced (world_of ring.now) }
-    requires place { place < length ring.now.seats.items }
-    requires runs { runs_at (world_of ring.now) (suc place) ≡ true }
+    requires { IsRunningAt ring.now place }
     ensures { IsTrue result ↔ IsResting (world_of ring.now) (suc place) }
 {
     let seat = &ring.seats[place];

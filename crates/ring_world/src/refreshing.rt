@@ -1,5 +1,5 @@
 //! A member reads a view, and sends to its right neighbour in it.
-ghost use Rattle.std.specs.Prelude.{◌≡◌, ◌<◌, ◌≤◌, ◌++◌, ◌∷◌, [], suc, length, map, nat_eq, Option, Some, None};
+ghost use Rattle.std.specs.Prelude.{◌≡◌, ◌<◌, ◌≤◌, suc, length, nat_eq, Option, Some, None};
 ghost use Rattle.std.specs.Prelude.{vec_len, vec_capacity, OnOk, OnErr, IfSome};
 ghost use Rattle.ring_world.specs.declared.phase.Phase.TheVariants as phase;
 ghost use Rattle.ring_world.specs.declared.phase.Ending.TheVariants as ending;
@@ -8,7 +8,7 @@ ghost use Rattle.ring_world.specs.Machine.{member_at, link_at, view_at, newest a
 ghost use Rattle.ring_world.specs.Step.{look_at, kept_current as the_kept_current, moved_to, end_out, open_to};
 ghost use Rattle.ring_world.specs.Step.{opened_link};
 ghost use Rattle.ring_world.specs.Event.{refreshed};
-ghost use Rattle.ring_world.specs.Placed.{IsPlaced};
+ghost use Rattle.ring_world.specs.Placed.{IsPlaced, IsUpAt};
 ghost use Rattle.ring_world.specs.Shows.{world_of, link_of, link_opened, sends_to as the_sends_to};
 
 use crate::neighbours::{id_at, is_kept, right_in, view_of};
@@ -40,9 +40,7 @@ fn is_link_kept(ring: &Ring, link: usize, version: u32) -> bool
 /// What stays of the current link of the member at a place.
 #[tactic(auto, using(crate::proofs::ShownParts::read_member, crate::proofs::Found::current_at))]
 fn kept_current(ring: &Ring, place: usize, version: u32) -> Option<usize>
-    requires placed { IsPlaced (world_of ring.now) }
-    requires place { place < length ring.now.seats.items }
-    requires up { (member_at (world_of ring.now) (suc place)).phase ≡ phase.Up }
+    requires up { IsUpAt ring.now place }
     requires upto { version ≤ the_newest (world_of ring.now) }
     ensures { result ≡ the_kept_current
         (λ s. the_kept (world_of ring.now) (link_at (world_of ring.now) s) version)
@@ -63,9 +61,7 @@ fn kept_current(ring: &Ring, place: usize, version: u32) -> Option<usize>
 /// Whether it sends to a receiver already.
 #[tactic(auto, using(crate::proofs::ShownParts::read_member, crate::proofs::ShownParts::read_link, crate::proofs::Found::out_at))]
 fn sends_to(ring: &Ring, place: usize, receiver: u32) -> bool
-    requires placed { IsPlaced (world_of ring.now) }
-    requires place { place < length ring.now.seats.items }
-    requires up { (member_at (world_of ring.now) (suc place)).phase ≡ phase.Up }
+    requires { IsUpAt ring.now place }
     ensures { result ≡ the_sends_to (world_of ring.now) receiver
         (member_at (world_of ring.now) (suc place)).out }
 {
@@ -104,20 +100,8 @@ fn make_room(wires: &mut Vec<Wire>) -> Result<(), OutOfMemory>
     ensures same { wires.new.items ≡ wires.old.items }
     ensures room { OnOk result (vec_len wires.new < vec_capacity wires.new) }
 {
-    if wires.reserve(1).is_err() {
-        return Err(OutOfMemory);
-    }
+    wires.reserve(1)?;
     Ok(())
-}
-
-/// A push for which there is room.
-fn push_reserved(wires: &mut Vec<Wire>, wire: Wire)
-    requires { vec_len wires.old < vec_capacity wires.old }
-    ensures { map link_of wires.new.items ≡ map link_of wires.old.items ++ link_of wire ∷ [] }
-{
-    if wires.push(wire).is_err() {
-        unreachable!()
-    }
 }
 
 /// It sends on a new link from now on, for which there is room.
@@ -128,7 +112,7 @@ fn open(ring: &mut Ring, place: usize, receiver: u32, wire: Wire)
     ensures { world_of ring.new ≡ open_to (world_of ring.old) (suc place) receiver }
 {
     let out = ring.wires.len();
-    push_reserved(&mut ring.wires, wire);
+    ring.wires.push_reserved(wire);
     seats::set_out(&mut ring.seats, place, out);
 }
 
@@ -141,9 +125,7 @@ fn move_to(
     receiver: u32,
     current: Option<usize>,
 ) -> Result<(), OutOfMemory>
-    requires placed { IsPlaced (world_of ring.old) }
-    requires place { place < length ring.old.seats.items }
-    requires up { (member_at (world_of ring.old) (suc place)).phase ≡ phase.Up }
+    requires up { IsUpAt ring.old place }
     requires current { current ≡ the_kept_current
         (λ s. the_kept (world_of ring.old) (link_at (world_of ring.old) s) version)
         (member_at (world_of ring.old) (suc place)).current }

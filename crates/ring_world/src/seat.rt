@@ -1,5 +1,5 @@
 //! A member's seat in the machine.
-ghost use Rattle.std.specs.Prelude.{◌≡◌, ◌↔◌, IsTrue, ℕ, ◌+◌, ◌^◌, ◌<◌, ◌≤◌, [], ◌∷◌, ◌++◌, length, map, nat_eq};
+ghost use Rattle.std.specs.Prelude.{◌≡◌, ◌↔◌, IsTrue, ℕ, ◌+◌, ◌^◌, ◌<◌, ◌≤◌, length, map, nat_eq};
 ghost use Rattle.std.specs.Prelude.{bytes_eq, vec_len, vec_capacity, IfOk, OnOk, OnErr};
 ghost use Rattle.std.specs.List.{range_with_len};
 ghost use Rattle.ring_world.specs.Rows.{no_row, published_row};
@@ -61,9 +61,7 @@ impl KnownOrigin {
         ensures ok { OnOk result (row_of self.new ≡ published_row (row_of self.old) message) }
         ensures err { OnErr result (row_of self.new ≡ row_of self.old) }
     {
-        if self.heard.push(message).is_err() {
-            return Err(OutOfMemory);
-        }
+        self.heard.push(message)?;
         self.got += 1;
         Ok(())
     }
@@ -73,9 +71,7 @@ impl KnownOrigin {
         ensures same { row_of self.new ≡ row_of self.old }
         ensures room { OnOk result (count ≤ room_of self.new) }
     {
-        if self.heard.reserve(count).is_err() {
-            return Err(OutOfMemory);
-        }
+        self.heard.reserve(count)?;
         Ok(())
     }
 
@@ -153,11 +149,9 @@ impl Seat {
         ensures err { OnErr result (member_of self.new ≡ member_of self.old) }
     {
         let heard = message.copy()?;
-        if self.log.reserve(1).is_err() {
-            return Err(OutOfMemory);
-        }
+        self.log.reserve(1)?;
         self.rows[id].publish(heard)?;
-        push_reserved(&mut self.log, message);
+        self.log.push_reserved(message);
         Ok(())
     }
 
@@ -176,16 +170,6 @@ impl Seat {
     }
 }
 
-/// A push for which there is room.
-fn push_reserved(log: &mut Vec<Message>, message: Message)
-    requires { vec_len log.old < vec_capacity log.old }
-    ensures { log.new.items ≡ log.old.items ++ message ∷ [] }
-{
-    if log.push(message).is_err() {
-        unreachable!()
-    }
-}
-
 /// So many rows that say nothing.
 pub(crate) fn opening_rows(alloc: Global, size: usize) -> Result<Vec<KnownOrigin>, OutOfMemory>
     ensures { IfOk result (λ v. map row_of v.items
@@ -193,9 +177,7 @@ pub(crate) fn opening_rows(alloc: Global, size: usize) -> Result<Vec<KnownOrigin
 {
     let mut rows = Vec::new(alloc);
     for _id in 0..size {
-        if rows.push(KnownOrigin::opening(alloc)).is_err() {
-            return Err(OutOfMemory);
-        }
+        rows.push(KnownOrigin::opening(alloc))?;
     }
     Ok(rows)
 }

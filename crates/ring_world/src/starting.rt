@@ -52,9 +52,7 @@ fn opening_seats(alloc: Global, view: &View, names: &[Name]) -> Result<Vec<Seat>
     let mut seats = Vec::new(alloc);
     for place in 0..names.len() {
         let seat = opening_seat(alloc, view, names, place)?;
-        if seats.push(seat).is_err() {
-            return Err(OutOfMemory);
-        }
+        seats.push(seat)?;
     }
     Ok(seats)
 }
@@ -74,7 +72,7 @@ fn opening_wire(
     ensures { link_of result ≡ opening_link credit names.now (suc place) }
 {
     let id = id_at(place);
-    Wire::opening(alloc, credit, id, right_in(view, id))
+    Wire::new(alloc, credit, id, right_in(view, id), 1)
 }
 
 /// A link for each name.
@@ -92,9 +90,7 @@ fn opening_wires(
     let mut wires = Vec::new(alloc);
     for place in 0..names.len() {
         let wire = opening_wire(alloc, view, names, place, credit);
-        if wires.push(wire).is_err() {
-            return Err(OutOfMemory);
-        }
+        wires.push(wire)?;
     }
     Ok(wires)
 }
@@ -112,9 +108,7 @@ pub(crate) fn opening(
     let seats = opening_seats(alloc, &view, names)?;
     let wires = opening_wires(alloc, &view, names, credit)?;
     let mut views = Vec::new(alloc);
-    if views.push(view).is_err() {
-        return Err(OutOfMemory);
-    }
+    views.push(view)?;
     Ok(Ring {
         seats,
         wires,

@@ -3,11 +3,10 @@ ghost use Rattle.std.specs.Prelude.{◌≡◌, ◌<◌, ◌≤◌, ◌+◌, ◌�
 ghost use Rattle.std.specs.Prelude.{IfOk, OnOk, OnErr};
 ghost use Rattle.std.specs.List.{range_with_len};
 ghost use Rattle.ring_world.specs.Refusal.{is_empty};
-ghost use Rattle.ring_world.specs.declared.phase.Phase.TheVariants as phase;
-ghost use Rattle.ring_world.specs.Machine.{member_at, link_at, no_member, row_at, numbers_at as the_numbers};
+ghost use Rattle.ring_world.specs.Machine.{link_at, no_member, row_at, numbers_at as the_numbers};
 ghost use Rattle.ring_world.specs.Walk.{oldest};
 ghost use Rattle.ring_world.specs.Step.{is_owned as owned_is, brought, taken, popped, take_from};
-ghost use Rattle.ring_world.specs.Placed.{IsPlaced};
+ghost use Rattle.ring_world.specs.Placed.{IsUpAt};
 ghost use Rattle.ring_world.specs.Shows.{world_of, member_of, member_in, link_of, packet_of, news_of as the_news};
 ghost use Rattle.ring_world.specs.Shows.{news_at};
 
@@ -72,30 +71,7 @@ fn messages_of(
     messages_for(alloc, own, log, seat, origin, numbers)
 }
 
-/// What it brings, and whether the taker answers for the origin.
-fn news_of(
-    alloc: Global,
-    seats: &[Seat],
-    place: usize,
-    view: &View,
-    sender: u32,
-    packet: &Parcel,
-    origin: usize,
-) -> Result<Brought, OutOfMemory>
-    requires place { place < length seats.now }
-    requires origin { origin ≤ length seats.now }
-    requires few { length seats.now < 65 }
-    ensures { IfOk result (λ b. the_news b
-        ≡ news_at view.now (no_member ∷ map member_of seats.now) (suc place) sender
-        (packet_of packet.now) origin) }
-{
-    let own = is_owned(view, id_at(place), sender, origin as u32);
-    let numbers = numbers_at(&packet.numbers, origin);
-    let messages = messages_of(alloc, own, seats, place, origin, numbers)?;
-    Ok(Brought { own, messages })
-}
-
-/// What it brings of each origin, by id.
+/// What it brings of each origin, by id, and whether the taker answers for that.
 fn all_news(
     alloc: Global,
     seats: &[Seat],
@@ -110,12 +86,13 @@ fn all_news(
         ≡ map (news_at view.now (no_member ∷ map member_of seats.now) (suc place) sender
         (packet_of packet.now)) (range_with_len 0 (length seats.now + 1))) }
 {
+    let id = id_at(place);
     let mut all = Vec::new(alloc);
     for origin in 0..seats.len() + 1 {
-        let news = news_of(alloc, seats, place, view, sender, packet, origin)?;
-        if all.push(news).is_err() {
-            return Err(OutOfMemory);
-        }
+        let own = is_owned(view, id, sender, origin as u32);
+        let numbers = numbers_at(&packet.numbers, origin);
+        let messages = messages_of(alloc, own, seats, place, origin, numbers)?;
+        all.push(Brought { own, messages })?;
     }
     Ok(all)
 }
@@ -158,10 +135,8 @@ pub(crate) fn take(
     place: usize,
     current: usize,
 ) -> Result<(), OutOfMemory>
-    requires placed { IsPlaced (world_of ring.old) }
-    requires place { place < length ring.old.seats.items }
+    requires up { IsUpAt ring.old place }
     requires current { current < length ring.old.wires.items }
-    requires up { (member_at (world_of ring.old) (suc place)).phase ≡ phase.Up }
     requires some { is_empty (link_at (world_of ring.old) current).packets ≡ false }
     ensures ok { OnOk result (world_of ring.new
         ≡ take_from (world_of ring.old) (suc place) current) }

@@ -15,13 +15,13 @@ ghost use Rattle.ring_world.specs.OpenLinks.{is_place as place_is, packets_of as
 ghost use Rattle.ring_world.specs.OpenLinks.{running_on as all_running_on, owner as the_owner, the_walk};
 ghost use Rattle.ring_world.specs.OpenLinks.{walk_of as the_walk_of, walk_named};
 ghost use Rattle.ring_world.specs.Event.{id_of as the_id};
-ghost use Rattle.ring_world.specs.Placed.{IsPlaced};
+ghost use Rattle.ring_world.specs.Placed.{IsPlaced, IsRunningAt};
 ghost use Rattle.ring_world.specs.declared.walk.Part.TheVariants as part;
 ghost use Rattle.ring_world.specs.declared.walk.Round.TheVariants as kind;
 ghost use Rattle.ring_world.specs.Shows.{world_of, member_of, link_of, packet_of, row_of};
 ghost use Rattle.ring_world.specs.Walking.{reads, reads_row, says, counts, said, stop_at, is_from_left};
 
-use crate::neighbours::{id_at, left_in, newest_view, since_in, view_of};
+use crate::neighbours::{id_at, left_in, newest_view, view_of};
 use crate::numbers::{Numbers, numbers_at};
 use crate::phase::Phase;
 use crate::places::place_in;
@@ -109,14 +109,12 @@ fn comes_from_left(view: &View, id: u32, wire: &Wire) -> bool
     requires { is_in id (ids view.now) ≡ true }
     ensures { result ≡ is_from_left view.now id (link_of wire.now) }
 {
-    wire.sender == left_in(view, id) && since_in(view.entries.as_slice(), id) <= wire.opened
+    wire.sender == left_in(view, id) && view.since_of(MemberId(id)) <= wire.opened
 }
 
 /// Whether a link passes the test at a running member's door.
 fn passes(ring: &Ring, place: usize, wire: &Wire) -> bool
-    requires placed { IsPlaced (world_of ring.now) }
-    requires place { place < length ring.now.seats.items }
-    requires runs { runs_at (world_of ring.now) (suc place) ≡ true }
+    requires runs { IsRunningAt ring.now place }
     requires opened { wire.now.opened ≤ the_newest (world_of ring.now) }
     ensures { result ≡ the_test (world_of ring.now) (suc place) (link_of wire.now) }
 {
@@ -137,9 +135,7 @@ fn is_current(seat: &Seat, s: usize) -> bool
 /// Whether a link is open to the running member at a place.
 #[tactic(auto, using(crate::proofs::ShownParts::read_member, crate::proofs::ShownParts::read_link))]
 pub(crate) fn is_open(ring: &Ring, place: usize, s: usize) -> bool
-    requires placed { IsPlaced (world_of ring.now) }
-    requires place { place < length ring.now.seats.items }
-    requires runs { runs_at (world_of ring.now) (suc place) ≡ true }
+    requires runs { IsRunningAt ring.now place }
     requires link { s < length ring.now.wires.items }
     ensures { result ≡ open_is (world_of ring.now) (suc place) s }
 {
@@ -204,9 +200,7 @@ fn push_packets(
         ≡ walk.old.items ++ map (says round origin) (reverse (map packet_of packets.now))) }
 {
     for k in (0..packets.len()).rev() {
-        if walk.push(round.of_packet(&packets[k], origin)).is_err() {
-            return Err(OutOfMemory);
-        }
+        walk.push(round.of_packet(&packets[k], origin))?;
     }
     Ok(())
 }
@@ -220,9 +214,7 @@ fn push_open(
     origin: u32,
     place: usize,
 ) -> Result<(), OutOfMemory>
-    requires placed { IsPlaced (world_of ring.now) }
-    requires place { place < length ring.now.seats.items }
-    requires runs { runs_at (world_of ring.now) (suc place) ≡ true }
+    requires { IsRunningAt ring.now place }
     ensures { OnOk result (walk.new.items
         ≡ walk.old.items ++ said round part (world_of ring.now) origin (suc place)) }
 {
@@ -230,28 +222,6 @@ fn push_open(
         if is_open(ring, place, s) && is_counted(ring, part, origin, place, s) {
             push_packets(walk, round, origin as usize, packets_of(ring, place, s))?;
         }
-    }
-    Ok(())
-}
-
-/// Adds the number of the member at a place.
-fn push_own(
-    walk: &mut Vec<u64>,
-    ring: &Ring,
-    round: Round,
-    origin: u32,
-    place: usize,
-) -> Result<(), OutOfMemory>
-    requires placed { IsPlaced (world_of ring.now) }
-    requires place { place < length ring.now.seats.items }
-    ensures { OnOk result (walk.new.items
-        ≡ walk.old.items ++ the_number (reads round) (reads_row round) (world_of ring.now) origin (suc place) ∷ []) }
-{
-    if walk
-        .push(own_number(ring, round, origin as usize, place))
-        .is_err()
-    {
-        return Err(OutOfMemory);
     }
     Ok(())
 }
@@ -265,14 +235,12 @@ fn push_stop(
     origin: u32,
     place: usize,
 ) -> Result<(), OutOfMemory>
-    requires placed { IsPlaced (world_of ring.now) }
-    requires place { place < length ring.now.seats.items }
-    requires runs { runs_at (world_of ring.now) (suc place) ≡ true }
+    requires { IsRunningAt ring.now place }
     ensures { OnOk result (walk.new.items
         ≡ walk.old.items ++ stop_at round part (world_of ring.now) origin (suc place)) }
 {
     push_open(walk, ring, round, part, origin, place)?;
-    push_own(walk, ring, round, origin, place)?;
+    walk.push(own_number(ring, round, origin as usize, place))?;
     Ok(())
 }
 
@@ -343,9 +311,7 @@ fn push_running(running: &mut Vec<usize>, ring: &Ring, entries: &[Entry]) -> Res
 {
     for entry in entries {
         if let Some(place) = running_place(ring, entry.id.0 as usize) {
-            if running.push(place).is_err() {
-                return Err(OutOfMemory);
-            }
+            running.push(place)?;
         }
     }
     Ok(())
@@ -432,12 +398,7 @@ fn push_rounds(
 {
     push_round(walk, ring, Round::Got, origin, stops)?;
     push_round(walk, ring, Round::Forgot, origin, stops)?;
-    if walk
-        .push(ring.seats[owner].retired(origin as usize))
-        .is_err()
-    {
-        return Err(OutOfMemory);
-    }
+    walk.push(ring.seats[owner].retired(origin as usize))?;
     Ok(())
 }
 

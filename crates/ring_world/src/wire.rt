@@ -1,16 +1,14 @@
 //! A link of the machine.
-ghost use Rattle.std.specs.Prelude.{◌≡◌, ◌<◌, ◌+◌, ◌&&◌, false, not, is_some, length, map, slice_index_or, IfOk};
+ghost use Rattle.std.specs.Prelude.{◌≡◌, ◌<◌, ◌+◌, ◌&&◌, false, not, is_some, length, slice_index_or, IfOk};
 ghost use Rattle.std.specs.Prelude.{OnOk, OnErr, vec_len, vec_capacity};
-ghost use Rattle.std.specs.List.{range_with_len};
 ghost use Rattle.credit_flow.specs.Credit.{is_blocked as blocked_is};
 ghost use Rattle.ring_world.specs.Rows.{no_numbers, next_numbers as the_next_numbers, is_sent as sent_is};
 ghost use Rattle.ring_world.specs.Refusal.{is_empty as empty_is};
 ghost use Rattle.ring_world.specs.Machine.{row_at, numbers_at as the_numbers};
 ghost use Rattle.ring_world.specs.Walk.{oldest as the_oldest};
-ghost use Rattle.ring_world.specs.Step.{next_packet as the_next_packet, next_lines, pushed, popped, finished};
-ghost use Rattle.ring_world.specs.Step.{ended as is_ended};
+ghost use Rattle.ring_world.specs.Step.{next_lines, pushed, popped, finished, ended as is_ended};
 ghost use Rattle.ring_world.specs.Event.{has_nothing_new as nothing_is_new, holds_nothing as nothing_is_held};
-ghost use Rattle.ring_world.specs.Shows.{member_of, link_of, packet_of, gained_on, link_opened, link_at_first};
+ghost use Rattle.ring_world.specs.Shows.{member_of, link_of, packet_of, packet_in, gained_on, link_new, link_opened};
 
 use crate::numbers::{Numbers, numbers_at};
 use crate::phase::Ending;
@@ -43,14 +41,20 @@ pub struct Wire {
 }
 
 impl Wire {
-    /// A link as a ring with this credit opens.
-    pub(crate) fn opening(alloc: Global, credit: CreditSpec, sender: u32, receiver: u32) -> Wire
-        ensures { link_of result ≡ link_at_first credit sender receiver }
+    /// A link opens in a version, with its whole credit and nothing on it.
+    pub(crate) fn new(
+        alloc: Global,
+        credit: CreditSpec,
+        sender: u32,
+        receiver: u32,
+        opened: u32,
+    ) -> Wire
+        ensures { link_of result ≡ link_new credit sender receiver opened }
     {
         Wire {
             sender,
             receiver,
-            opened: 1,
+            opened,
             packets: Vec::new(alloc),
             ending: None,
             over: false,
@@ -65,47 +69,21 @@ impl Wire {
         }
     }
 
-    /// A link opens in a version, with a first packet of these rows.
+    /// A link opens in a version, with a first packet of its sender's rows.
     pub(crate) fn open(
         alloc: Global,
         credit: CreditSpec,
-        sender: u32,
+        id: u32,
         receiver: u32,
         version: u32,
-        seat: &Seat,
+        sender: &Seat,
     ) -> Result<Wire, OutOfMemory>
         ensures { IfOk result (λ wire. link_of wire
-            ≡ link_opened credit.initial credit.more sender receiver version
-            (member_of seat.now).rows) }
+            ≡ link_opened credit id receiver version (member_of sender.now).rows) }
     {
-        let none = Vec::new(alloc);
-        let numbers = next_numbers(alloc, true, &none, seat)?;
-        let sent = match Vec::from_slice(alloc, &numbers) {
-            Ok(sent) => sent,
-            Err(_) => return Err(OutOfMemory),
-        };
-        let mut packets = Vec::new(alloc);
-        if packets.push(Parcel { version, numbers }).is_err() {
-            return Err(OutOfMemory);
-        }
-        let mut outgoing = CreditOut::new(credit);
-        outgoing.send();
-        Ok(Wire {
-            sender,
-            receiver,
-            opened: version,
-            packets,
-            ending: None,
-            over: false,
-            fresh: false,
-            sent: Parcel {
-                version,
-                numbers: sent,
-            },
-            outgoing,
-            incoming: CreditIn::new(credit),
-            grants: Vec::new(alloc),
-        })
+        let mut wire = Wire::new(alloc, credit, id, receiver, version);
+        wire.put(alloc, version, sender)?;
+        Ok(wire)
     }
 
     /// Whether the sender has no credit left.
@@ -132,28 +110,23 @@ impl Wire {
         (0..size).all(|id| self.is_sent(sender, id))
     }
 
-    /// The sender puts its next packet.
-    pub(crate) fn put(&mut self, alloc: Global, sender: &Seat) -> Result<(), OutOfMemory>
+    /// The sender puts its next packet, in this version of its view.
+    pub(crate) fn put(
+        &mut self,
+        alloc: Global,
+        version: u32,
+        sender: &Seat,
+    ) -> Result<(), OutOfMemory>
         requires { blocked_is (link_of self.old).flow.sender ≡ false }
         ensures ok { OnOk result (link_of self.new
-            ≡ pushed (link_of self.old)
-            (the_next_packet (member_of sender.now) (link_of self.old).sending)) }
+            ≡ pushed (link_of self.old) (packet_in version (member_of sender.now) (link_of self.old).sending)) }
         ensures err { OnErr result (link_of self.new ≡ link_of self.old) }
     {
         let numbers = next_numbers(alloc, self.fresh, &self.sent.numbers, sender)?;
-        let sent = match Vec::from_slice(alloc, &numbers) {
-            Ok(sent) => sent,
-            Err(_) => return Err(OutOfMemory),
-        };
-        let parcel = Parcel {
-            version: sender.version,
-            numbers,
-        };
-        if self.packets.push(parcel).is_err() {
-            return Err(OutOfMemory);
-        }
+        let sent = Vec::from_slice(alloc, &numbers)?;
+        self.packets.push(Parcel { version, numbers })?;
         self.sent = Parcel {
-            version: sender.version,
+            version,
             numbers: sent,
         };
         self.fresh = false;
@@ -188,9 +161,7 @@ impl Wire {
         ensures same { link_of self.new ≡ link_of self.old }
         ensures room { OnOk result (vec_len self.new.grants < vec_capacity self.new.grants) }
     {
-        if self.grants.reserve(1).is_err() {
-            return Err(OutOfMemory);
-        }
+        self.grants.reserve(1)?;
         Ok(())
     }
 
@@ -202,9 +173,7 @@ impl Wire {
     {
         self.packets.remove(0);
         if let Some(grant) = self.incoming.took() {
-            if self.grants.push(grant).is_err() {
-                unreachable!()
-            }
+            self.grants.push_reserved(grant);
         }
     }
 
@@ -254,27 +223,6 @@ fn next_line(fresh: bool, sent: &[Numbers], sender: &Seat, id: usize) -> Numbers
     Numbers { lo, got, forgot }
 }
 
-/// The numbers of the origins of ids below `size`.
-fn next_lines_to(
-    alloc: Global,
-    size: usize,
-    fresh: bool,
-    sent: &[Numbers],
-    sender: &Seat,
-) -> Result<Vec<Numbers>, OutOfMemory>
-    ensures { IfOk result (λ packet. packet.items
-        ≡ map (λ p. the_next_numbers fresh (row_at (member_of sender.now) p)
-        (slice_index_or sent.now p no_numbers)) (range_with_len 0 size)) }
-{
-    match (0..size)
-        .map(|id| next_line(fresh, sent, sender, id))
-        .collect(alloc)
-    {
-        Ok(packet) => Ok(packet),
-        Err(_) => Err(OutOfMemory),
-    }
-}
-
 /// The numbers of a member's rows, beside those last sent.
 fn next_numbers(
     alloc: Global,
@@ -285,6 +233,9 @@ fn next_numbers(
     ensures { IfOk result (λ packet. packet.items
         ≡ next_lines fresh (member_of sender.now).rows sent.now) }
 {
-    let numbers = next_lines_to(alloc, sender.rows.len(), fresh, sent, sender)?;
+    let mut numbers = Vec::new(alloc);
+    for id in 0..sender.rows.len() {
+        numbers.push(next_line(fresh, sent, sender, id))?;
+    }
     Ok(numbers)
 }

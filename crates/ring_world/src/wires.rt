@@ -26,7 +26,7 @@ pub(crate) fn put(
         (next_packet (member_of sender.now) (link_in wires.old out).sending))) }
     ensures err { OnErr result (map link_of wires.new ≡ map link_of wires.old) }
 {
-    wires[out].put(alloc, sender)?;
+    wires[out].put(alloc, sender.version, sender)?;
     Ok(())
 }
 

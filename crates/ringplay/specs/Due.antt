@@ -1,10 +1,13 @@
 -- What is due before anything is written, as the parts of the top call hand it on.
-use Rattle.std.specs.Prelude.{◌≡◌, ◌⊎◌, ℕ, ◌<◌, ◌≤◌, List, [], ◌++◌, length, take, codes, None}
+use Rattle.std.specs.Prelude.{◌≡◌, ◌⊎◌, ℕ, ◌<◌, ◌≤◌, List, [], ◌++◌, length, take, codes, Some, None, Result, Err, IfOk}
 use Rattle.ringplay.specs.declared.call.Cause.{Cause}
 use Rattle.ringplay.specs.declared.call.Cause.TheVariants as causes
 use Rattle.ringplay.specs.declared.call.Due.{Due}
 use Rattle.ringplay.specs.declared.call.Ended.{Ended}
+use Rattle.ringplay.specs.declared.play.Played.{Played}
 use Rattle.ringplay.specs.declared.word.Mode.{Mode}
+use Rattle.ring_script.specs.declared.fault.ScriptFault.{ScriptFault}
+use Rattle.ring_script.specs.declared.fault.ScriptFault.TheVariants as faults
 use Rattle.ring_script.specs.Words.{lines_of}
 use Rattle.ring_script.specs.Reading.{IsFirstFault}
 use Rattle.ringplay.specs.Report.{newline}
@@ -25,6 +28,11 @@ IsFaultDue mode bytes due = (line : ℕ) × (kind : ℕ) × IsFirstFault (gramma
 -- the bytes have too many lines
 abbrev pub IsLargeDue : List ℕ → Due → Type 0
 IsLargeDue bytes due = (most_lines < length (lines_of bytes)) × IsLineDue causes.TooLarge (codes "too large" ++ newline) due
+
+-- what the bytes ask for was done, or the fault that is told is their first
+pub record DoesAsAsked (mode : Mode) (bytes : List ℕ) (result : Result Played ScriptFault) : Type 0 where
+  pub ok : IfOk result (λ played. WasDone mode bytes played.journal.items played.text.items (Some played.cluster))
+  pub fault : (line kind : ℕ) → result ≡ Err (faults.At line kind) → IsFirstFault (grammar_of mode) bytes line kind
 
 -- the lines are not too many, and what they ask for was done or the first fault told; or they are; or memory was wanted
 abbrev pub IsDueToInput : Mode → List ℕ → Due → Type 0

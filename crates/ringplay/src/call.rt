@@ -1,13 +1,13 @@
 //! The top call: all that the program does, over any source and sink.
-ghost use Rattle.std.specs.Prelude.{◌≡◌, ◌⊎◌, ℕ, List, [], Some, Err, IfSome, IfOk};
+ghost use Rattle.std.specs.Prelude.{◌≡◌, ◌⊎◌, ℕ, List, [], Some, IfSome};
 ghost use Rattle.std.specs.Io.KnownBytes.{IsAtEnd};
 ghost use Rattle.ring_io.specs.Contents.{Gains};
 ghost use Rattle.ring_io.specs.Count.{Rose};
 ghost use Rattle.ringplay.specs.declared.word.Mode.{Mode};
 ghost use Rattle.ringplay.specs.Words.{Asks, AsksNothing};
 ghost use Rattle.ring_script.specs.Reading.{IsRight, IsFirstFault};
-ghost use Rattle.ringplay.specs.Due.{IsLineDue, IsDueToInput, IsWritten};
-ghost use Rattle.ringplay.specs.Call.{Answers, IsDue, IsUnlessFailed, IsWithin, IsTooLarge, IsRefused, WasDone};
+ghost use Rattle.ringplay.specs.Due.{IsLineDue, DoesAsAsked, IsDueToInput, IsWritten};
+ghost use Rattle.ringplay.specs.Call.{Answers, IsDue, IsUnlessFailed, IsWithin, IsTooLarge, IsRefused};
 ghost use Rattle.ringplay.specs.Call.{grammar_of, fault_line, status_of};
 
 use crate::play::{Played, play};
@@ -15,7 +15,7 @@ use crate::step::step;
 use crate::word::{Mode, Word, mode_of};
 use ring_cluster::Cluster;
 use ring_io::{Gate, ReadEnd, Sink, Source, read_all, write_all};
-use ring_names::{Items, OutOfMemory};
+use ring_names::Items;
 use ring_script::{ScriptFault, line_count, read_script, read_steps};
 use ring_world::Event;
 use std::alloc::Global;
@@ -141,10 +141,7 @@ fn done<T: Threads, G: Gate>(
     bytes: Vec<u8>,
     gate: &G,
 ) -> Result<Played, ScriptFault>
-    ensures ok { IfOk result (λ played. WasDone mode bytes.items played.journal.items played.text.items
-        (Some played.cluster)) }
-    ensures fault { (line kind : ℕ) → result ≡ Err (ScriptFault.At line kind)
-        → IsFirstFault (grammar_of mode) bytes.items line kind }
+    ensures { DoesAsAsked mode bytes.items result }
 {
     match mode {
         Mode::Play => done_by_script(threads, alloc, bytes, gate),
@@ -158,31 +155,21 @@ fn done_by_script<T: Threads, G: Gate>(
     bytes: Vec<u8>,
     gate: &G,
 ) -> Result<Played, ScriptFault>
-    ensures ok { IfOk result (λ played. WasDone Mode.Play bytes.items played.journal.items played.text.items
-        (Some played.cluster)) }
-    ensures fault { (line kind : ℕ) → result ≡ Err (ScriptFault.At line kind)
-        → IsFirstFault (grammar_of Mode.Play) bytes.items line kind }
+    ensures { DoesAsAsked Mode.Play bytes.items result }
 {
     let script = read_script(alloc, &bytes)?;
     drop(bytes);
-    match play(threads, alloc, script, gate) {
-        Ok(played) => Ok(played),
-        Err(OutOfMemory) => Err(ScriptFault::OutOfMemory),
-    }
+    let played = play(threads, alloc, script, gate)?;
+    Ok(played)
 }
 
 fn done_by_steps(alloc: Global, bytes: Vec<u8>) -> Result<Played, ScriptFault>
-    ensures ok { IfOk result (λ played. WasDone Mode.Step bytes.items played.journal.items played.text.items
-        (Some played.cluster)) }
-    ensures fault { (line kind : ℕ) → result ≡ Err (ScriptFault.At line kind)
-        → IsFirstFault (grammar_of Mode.Step) bytes.items line kind }
+    ensures { DoesAsAsked Mode.Step bytes.items result }
 {
     let steps = read_steps(alloc, &bytes)?;
     drop(bytes);
-    match step(alloc, steps) {
-        Ok(played) => Ok(played),
-        Err(OutOfMemory) => Err(ScriptFault::OutOfMemory),
-    }
+    let played = step(alloc, steps)?;
+    Ok(played)
 }
 
 /// The first fault of an input that is no script, or no step file.

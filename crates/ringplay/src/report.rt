@@ -162,7 +162,7 @@ fn push_member(
     let member = member_at(cluster, place);
     push_state(out, member, cluster.view())?;
     push_counts(alloc, out, &counts(member))?;
-    push_heard_while_up(out, cluster, count, place)?;
+    push_heard(out, cluster, count, place)?;
     Ok(())
 }
 
@@ -295,8 +295,8 @@ fn push_count(
     Ok(())
 }
 
-/// What a member that is up has received.
-fn push_heard_while_up(
+/// What a member that is up has received of each, its own messages among them.
+fn push_heard(
     out: &mut Vec<u8>,
     cluster: &Cluster,
     count: usize,
@@ -308,25 +308,12 @@ fn push_heard_while_up(
         ++ while_up (the_member (state_of cluster.now) (place + 1)).phase
         (heard_lines (state_of cluster.now) (place + 1))) }
 {
-    match member_at(cluster, place).phase() {
-        Phase::Up => push_heard(out, cluster, count, place),
-        Phase::Waiting | Phase::Stopped => Ok(()),
-    }
-}
-
-/// What a member has received of each, its own messages among them.
-fn push_heard(
-    out: &mut Vec<u8>,
-    cluster: &Cluster,
-    count: usize,
-    place: usize,
-) -> Result<(), OutOfMemory>
-    requires count { count ≡ length (cluster.now).names }
-    requires within { place < count }
-    ensures { OnOk result (out.new.items ≡ out.old.items ++ heard_lines (state_of cluster.now) (place + 1)) }
-{
     cluster.is_going();
     let member = member_at(cluster, place);
+    match member.phase() {
+        Phase::Up => {}
+        Phase::Waiting | Phase::Stopped => return Ok(()),
+    }
     for origin in 0..count {
         push_heard_of(out, member, member_at(cluster, origin))?;
     }

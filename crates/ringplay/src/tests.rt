@@ -4,6 +4,8 @@
 ghost use Rattle.std.specs.Prelude.{◌<◌};
 
 mod cluster;
+mod machine;
+mod member;
 
 use crate::call::{Cause, Ended, ring_call};
 use crate::word::Word;

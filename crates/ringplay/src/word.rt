@@ -34,10 +34,8 @@ impl Word {
     pub fn new(alloc: Global, text: &str) -> Result<Word, OutOfMemory>
         ensures { IfOk result (λ word. word ≡ text.now) }
     {
-        match String::from_str(alloc, text) {
-            Ok(text) => Ok(Word { text }),
-            Err(_) => Err(OutOfMemory),
-        }
+        let text = String::from_str(alloc, text)?;
+        Ok(Word { text })
     }
 
     fn is(&self, text: &str) -> bool

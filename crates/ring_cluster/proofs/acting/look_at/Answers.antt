@@ -1,13 +1,7 @@
-use Rattle.std.proofs.Common.{map, set, get_or, sym, subst}
-use Rattle.std.proofs.lemmas.List.{get_or-map}
-use Rattle.ring_cluster.specs.Parties.{shown_of, no_shown}
 use Rattle.ring_cluster.specs.Looking.{HasLooked, kept_post, loose_seen}
-use Rattle.ring_cluster.proofs.Nodes.{new_shown}
+use Rattle.ring_cluster.proofs.Nodes.{at_place}
 use Rattle.ring_cluster.proofs.acting.look_at.Goals as goal
 
 pub returns-in-Ok-clause-ok : goal.returns-in-Ok-clause-ok
 returns-in-Ok-clause-ok c =
-    subst (λ a. HasLooked c.args.view a (get_or (map shown_of (set c.args.nodes.now c.args.i c.look.new.node)) c.args.i no_shown) (kept_post c.in-Ok.looked.opened) (loose_seen c.in-Ok.looked.loose))
-    (sym (get_or-map shown_of c.args.nodes.now c.args.i c.index-nodes-i.result no_shown c.requires.within))
-    (subst (λ b. HasLooked c.args.view (shown_of (get_or c.args.nodes.now c.args.i c.index-nodes-i.result)) b (kept_post c.in-Ok.looked.opened) (loose_seen c.in-Ok.looked.loose))
-    (sym (new_shown c.args.nodes.now c.args.i c.look.new.node c.requires.within)) c.in-Ok.ensures.ok)
+    at_place (λ a b. HasLooked c.args.view a b (kept_post c.in-Ok.looked.opened) (loose_seen c.in-Ok.looked.loose)) c.args.nodes.now c.args.i c.index-nodes-i.result c.look.new.node c.requires.within c.in-Ok.ensures.ok

@@ -1,9 +1,25 @@
+use Rattle.std.proofs.Common.{rules}
+use Rattle.ring_cluster.proofs.Doing.{own_falls}
 use Rattle.ring_cluster.proofs.Owed.{but_handed}
 use Rattle.ring_cluster.proofs.Turning.{own_works, works_same}
 use Rattle.ring_cluster.proofs.driver.happens.Goals as goal
 
-pub returns-in-Ok-clause-works : goal.returns-in-Ok-clause-works
-returns-in-Ok-clause-works c = own_works c.args.cluster.now c.happen.new.self c.args.event.now c.is_going.ensures c.requires.own c.in-Ok.ensures.ok
+pub returns-in-Ok : goal.returns-in-Ok
+returns-in-Ok c = record {
+  works = own_works c.args.cluster.now c.happen.new.self c.args.event.now c.is_going.ensures c.requires.own c.in-Ok.ensures.ok;
+  falls = λ _. own_falls c.args.cluster.now c.happen.new.self c.args.event.now c.requires.less c.in-Ok.ensures.enabled c.in-Ok.ensures.ok;
+  stays = λ x. cc;
+}
 
-pub returns-in-Err-OutOfMemory-clause-works : goal.returns-in-Err-OutOfMemory-clause-works
-returns-in-Err-OutOfMemory-clause-works c = works_same c.args.cluster.now c.happen.new.self (but_handed c.args.cluster.now c.happen.new.self c.in-Err-OutOfMemory.ensures.err)
+pub returns-in-Err-NotEnabled : goal.returns-in-Err-NotEnabled
+returns-in-Err-NotEnabled c =
+    let same = but_handed c.args.cluster.now c.happen.new.self c.in-Err-NotEnabled.ensures.err in
+    let refused = c.in-Err-NotEnabled.ensures.reason c.in-Err-NotEnabled.field-0-0 c.in-Err-NotEnabled.field-0-is in
+    record { works = works_same c.args.cluster.now c.happen.new.self same; falls = λ x. cc; stays = λ _. (same, λ none. cc) }
+
+pub returns-in-Err-OutOfMemory : goal.returns-in-Err-OutOfMemory
+returns-in-Err-OutOfMemory c = record {
+  works = works_same c.args.cluster.now c.happen.new.self (but_handed c.args.cluster.now c.happen.new.self c.in-Err-OutOfMemory.ensures.err);
+  falls = search rules;
+  stays = search rules;
+}

@@ -15,6 +15,6 @@ ask_for_view-requires-clause-view c = (marked (newest c.args.registrar.now) c.ar
 pub read_answer-requires-clause-stands : goal.read_answer-requires-clause-stands
 read_answer-requires-clause-stands c =
     let view : marked (newest c.args.registrar.now) c.args.dead.0 ≡ c.in-Ok-ask_for_view.view = cc (sym (ap (answered c.args.registrar.now) c.in-Ok.ensures.request) ∙ c.in-Ok-ask_for_view.ensures.view) in
-    let known : is_in c.args.node.now.id.0 (ids (newest c.args.registrar.now)) ≡ true = not_refused_first _ _ _ (sym (ap (request_refusal c.args.registrar.now) c.in-Ok.ensures.request) ∙ c.in-Ok-ask_for_view.ensures.enabled) in
+    let known : is_in c.args.node.now.id.0 (ids (newest c.args.registrar.now)) ≡ true = not_refused_first _ _ _ (sym (ap (request_refusal c.args.registrar.now) c.in-Ok.ensures.request) ∙ c.in-Ok-ask_for_view.ensures.judged.enabled) in
     let same : c.ask.new.self.id.0 ≡ c.args.node.now.id.0 = ap (λ h. h.id) c.in-Ok.ensures.ok in
     ap (λ g. is_in c.ask.new.self.id.0 (ids g)) (sym view) ∙ ap (is_in c.ask.new.self.id.0) (ids-marked (newest c.args.registrar.now) c.args.dead.0) ∙ ap (λ x. is_in x (ids (newest c.args.registrar.now))) same ∙ known

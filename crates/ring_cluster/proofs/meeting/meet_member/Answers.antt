@@ -1,6 +1,7 @@
 use Rattle.std.proofs.Common.{◌<◌, ◌-◌, length, arith}
 use Rattle.ring_cluster.specs.Parties.{out_seen}
-use Rattle.ring_cluster.proofs.Meets.{member_met, others_stay, member_stays}
+use Rattle.ring_cluster.proofs.Meets.{member_met, member_stays}
+use Rattle.ring_cluster.proofs.Nodes.{written_shown}
 use Rattle.ring_cluster.proofs.meeting.meet_member.Goals as goal
 
 pub returns-clause-met : goal.returns-clause-met
@@ -11,7 +12,7 @@ returns-clause-met c = λ b.
 pub returns-clause-others : goal.returns-clause-others
 returns-clause-others c = λ b.
     let l : c.args.name.now.to.0 - 1 < length c.args.nodes.now = omega arith in
-    others_stay c.args.nodes.now (c.args.name.now.to.0 - 1) c.meet_node.new.node l
+    written_shown c.args.nodes.now (c.args.name.now.to.0 - 1) c.meet_node.new.node l
 
 pub returns-clause-still : goal.returns-clause-still
 returns-clause-still c = λ b.

@@ -1,8 +1,14 @@
+use Rattle.std.proofs.Common.{rules}
 use Rattle.ring_cluster.proofs.Takes.{end_refusal}
 use Rattle.ring_cluster.proofs.node.take_end.Goals as goal
 
-pub returns-in-Err-Refused-clause-refused : goal.returns-in-Err-Refused-clause-refused
-returns-in-Err-Refused-clause-refused c = λ r x. cc (end_refusal c.args.node.now c.take_end.new.self _ c.in-Err-Refused.reason c.in-Err-Refused.field-0-is c.requires c.in-Err-Refused.ensures.looks c.in-Err-Refused.ensures.fault, x)
-
-pub returns-in-Err-Refused-clause-reason : goal.returns-in-Err-Refused-clause-reason
-returns-in-Err-Refused-clause-reason c = λ r x. cc (end_refusal c.args.node.now c.take_end.new.self _ c.in-Err-Refused.reason c.in-Err-Refused.field-0-is c.requires c.in-Err-Refused.ensures.looks c.in-Err-Refused.ensures.fault, x)
+pub returns-in-Err : goal.returns-in-Err
+returns-in-Err c =
+    record {
+      judged = record {
+        enabled = search rules;
+        reason = λ r x. end_refusal c.args.node.now c.take_end.new.self c.in-Err.fault r (c.refused.ensures.only r x) c.requires c.in-Err.ensures.looks c.in-Err.ensures.fault;
+      };
+      ok = search rules;
+      err = search rules;
+    }

@@ -6,7 +6,11 @@ use Rattle.ring_world.proofs.Enabled.{running_phase, take_effect}
 use Rattle.ring_world.proofs.arms.take.Goals as goal
 
 pub take-requires-clause-up : goal.take-requires-clause-up
-take-requires-clause-up c = running_phase (world_of c.args.ring.now) (suc c.args.place) _ (c.requires.placed.none_waits (suc c.args.place)) c.requires.enabled
+take-requires-clause-up c = record {
+  placed = c.requires.placed;
+  place = c.requires.place;
+  up = running_phase (world_of c.args.ring.now) (suc c.args.place) _ (c.requires.placed.none_waits (suc c.args.place)) c.requires.enabled;
+}
 
 pub returns-clause-ok : goal.returns-clause-ok
 returns-clause-ok c =

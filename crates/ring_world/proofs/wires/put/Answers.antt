@@ -1,6 +1,12 @@
-use Rattle.ring_world.specs.Shows.{member_of}
+use Rattle.std.proofs.Common.{◌≡◌, sym, subst}
+use Rattle.ring_world.specs.Step.{pushed, next_packet}
+use Rattle.ring_world.specs.Shows.{member_of, link_of}
 use Rattle.ring_world.proofs.ShownParts.{pushed_wires}
 use Rattle.ring_world.proofs.wires.put.Goals as goal
 
 pub returns-clause-ok : goal.returns-clause-ok
-returns-clause-ok c = pushed_wires c.args.wires.now c.args.out c.index-wires-out.result c.put.new.self (member_of c.args.sender.now) c.requires.out c.index-wires-out.is (cc (c.index-wires-out.is, c.in_ok-put.ensures.ok))
+returns-clause-ok c =
+    let x = c.index-wires-out.result in
+    let m = member_of c.args.sender.now in
+    pushed_wires c.args.wires.now c.args.out x c.put.new.self m c.requires.out c.index-wires-out.is
+    (subst (λ y. link_of c.put.new.self ≡ pushed (link_of y) (next_packet m (link_of y).sending)) (sym c.index-wires-out.is) c.in_ok-put.ensures.ok)

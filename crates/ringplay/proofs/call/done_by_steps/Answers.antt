@@ -1,8 +1,8 @@
-use Rattle.std.proofs.Common.{subst}
+use Rattle.std.proofs.Common.{subst, rules}
 use Rattle.ring_script.specs.Reading.{AreStepsOf}
 use Rattle.ringplay.proofs.call.done_by_steps.Goals as goal
 
-pub returns-in-Ok-clause-ok : goal.returns-in-Ok-clause-ok
-returns-in-Ok-clause-ok c =
+pub returns : goal.returns
+returns c =
     let steps = c.in_ok-steps.steps in
-    (steps, subst (λ bytes. AreStepsOf bytes steps) c.deref.ensures.value c.in_ok-steps.ensures.steps, c.in-Ok.ensures)
+    record { ok = (steps, subst (λ bytes. AreStepsOf bytes steps) c.deref.ensures.value c.in_ok-steps.ensures.steps, c.in_ok-played.ensures); fault = search rules }

@@ -1,10 +1,13 @@
-use Rattle.std.proofs.Common.{◌≡◌, ◌+◌, ◌-◌, ◌<◌, ◌≤◌, ◌++◌, ◌∙◌, ap, arith}
+use Rattle.std.proofs.Common.{◌≡◌, ◌+◌, ◌-◌, ◌<◌, ◌≤◌, ◌++◌, ◌∙◌, sym, ap, arith}
 use Rattle.std.specs.List.{flat_map, range_with_len}
+use Rattle.ring_world.specs.declared.phase.Phase.TheVariants.{Up}
+use Rattle.ring_world.specs.Machine.{member_at as the_member}
 use Rattle.ring_world.specs.Step.{size}
+use Rattle.gm_member.specs.Held.{Held}
 use Rattle.gm_member.specs.Shown.{held_of}
 use Rattle.ring_cluster.specs.Seen.{state_of}
 use Rattle.ring_cluster.proofs.Named.{going_many}
-use Rattle.ringplay.specs.Report.{heard_from}
+use Rattle.ringplay.specs.Report.{heard_from, heard_lines, while_up}
 use Rattle.ringplay.proofs.Reports.{heard_more}
 use Rattle.ringplay.proofs.report.push_heard.Goals as goal
 
@@ -24,4 +27,6 @@ returns c =
     let k = c.args.cluster.now in
     let w = state_of k in
     let all : c.loop-origin.origin ≡ size w - 1 = omega (arith, going_many k c.is_going.ensures) in
+    let up : (the_member w (c.args.place + 1)).phase ≡ Up = sym (ap (λ (h : Held). h.phase) c.member_at-member.ensures.stands) ∙ sym c.phase.ensures ∙ c.in-Up.is in
     c.loop-origin.invariant ∙ ap (λ n. c.args.out.now.items ++ flat_map (heard_from w (c.args.place + 1)) (range_with_len 1 n)) all
+    ∙ ap (λ p. c.args.out.now.items ++ while_up p (heard_lines w (c.args.place + 1))) (sym up)

@@ -13,7 +13,7 @@ returns c =
     let w = state_of k in
     let h = held_of c.member_at-member.result.now in
     let within : c.args.place + 1 < size w = omega (arith, going_many k c.is_going.ensures) in
-    lines_stand w (c.args.place + 1) h c.view.result.now c.args.out.now.items c.push_state.new.out.items c.push_counts.new.out.items c.push_heard_while_up.new.out.items
+    lines_stand w (c.args.place + 1) h c.view.result.now c.args.out.now.items c.push_state.new.out.items c.push_counts.new.out.items c.push_heard.new.out.items
     (going_fit k c.is_going.ensures) (omega arith) within c.member_at-member.ensures.stands c.view.ensures c.in_ok-push_state.ensures
     (c.in_ok-push_counts.ensures ∙ ap (λ n. c.push_state.new.out.items ++ counts_lines n) c.counts.ensures)
-    c.in_ok-push_heard_while_up.ensures
+    c.in_ok-push_heard.ensures

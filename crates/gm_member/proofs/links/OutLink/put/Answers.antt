@@ -8,4 +8,4 @@ pub send-requires : goal.send-requires
 send-requires g c = may_send (map row_of c.args.known.now) (out_of c.args.self.now) c.requires.enabled
 
 pub returns-clause-packet : goal.returns-clause-packet
-returns-clause-packet g c = (c.in-Some.end, c.put.new.self, c.in-Some.is, refl, subst (λ k. g.O.LinkOut.puts c.in-Some.end (on_link k) c.put.new.self) c.in-Ok.ensures c.in-Ok-put.ensures.ok)
+returns-clause-packet g c = (c.in-Some.end, c.put.new.self, c.in-Some.is, refl, subst (λ k. g.O.LinkOut.puts c.in-Some.end (on_link k) c.put.new.self) c.in_ok-packet.ensures c.in-Ok.ensures.ok)

@@ -1,8 +1,9 @@
-use Rattle.std.proofs.Common.{◌≡◌, Option, Some, None, refl, sym, ◌∙◌}
+use Rattle.std.proofs.Common.{◌≡◌, Option, Some, None, refl, ◌∙◌}
+use Rattle.std.proofs.lemmas.Result.{on_ok_weaker}
 use Rattle.ring_names.specs.declared.reason.Reason.TheVariants.{NoOutLink}
 use Rattle.gm_member.specs.Held.{Held, Outgoing, put_refused, on_some, out_refused, parcel_on}
 use Rattle.gm_member.specs.Stands.{WhereItStands, IsPutPacket}
-use Rattle.gm_member.proofs.Calls.{up_later}
+use Rattle.gm_member.proofs.Calls.{up_later, on_ok_both}
 use Rattle.gm_member.specs.Shown.{held_of}
 use Rattle.gm_member.proofs.Lifts.{put_lifts, put_packet_lifts, put_refusal_lifts}
 use Rattle.gm_member.proofs.member.Member.put.Goals as goal
@@ -15,14 +16,11 @@ put_out_lifts h e = by_out h.out refl (up_later h (on_some h.out NoOutLink (out_
     by_out None is k = cc
     by_out (Some o) is k = (o, is, put_packet_lifts h o is)
 
-pub returns-in-Ok-clause-steps : goal.returns-in-Ok-clause-steps
-returns-in-Ok-clause-steps g c = put_lifts (held_of c.args.self.now) (held_of c.put_next.new.self) c.in-Ok.ensures.enabled c.in-Ok.ensures.ok
+pub returns-clause-steps : goal.returns-clause-steps
+returns-clause-steps g c = on_ok_both c.put_next.result (put_lifts (held_of c.args.self.now) (held_of c.put_next.new.self)) c.put_next.ensures.heeds.enabled c.put_next.ensures.puts.ok
 
-pub returns-in-Ok-clause-put : goal.returns-in-Ok-clause-put
-returns-in-Ok-clause-put g c = put_out_lifts (held_of c.args.self.now) c.in-Ok.ensures.enabled
+pub returns-clause-put : goal.returns-clause-put
+returns-clause-put g c = on_ok_weaker c.put_next.result (put_out_lifts (held_of c.args.self.now)) c.put_next.ensures.heeds.enabled
 
-pub returns-in-Ok-clause-not_enabled : goal.returns-in-Ok-clause-not_enabled
-returns-in-Ok-clause-not_enabled g c = λ credit names events x are r l n s q e. cc (sym e ∙ sym (put_refusal_lifts (held_of c.args.self.now) credit names events x are r l n s) ∙ c.in-Ok.ensures.enabled)
-
-pub returns-in-Err-clause-not_enabled : goal.returns-in-Err-clause-not_enabled
-returns-in-Err-clause-not_enabled g c = λ credit names events x are r l n s q e. c.in-Err.ensures.refused q (put_refusal_lifts (held_of c.args.self.now) credit names events x are r l n s ∙ e)
+pub returns-clause-not_enabled : goal.returns-clause-not_enabled
+returns-clause-not_enabled g c = λ credit names events x are r l n s q e. c.put_next.ensures.heeds.refused q (put_refusal_lifts (held_of c.args.self.now) credit names events x are r l n s ∙ e)

@@ -1,7 +1,8 @@
 use Rattle.gm_member.specs.Shown.{held_of}
+use Rattle.gm_member.proofs.Calls.{on_ok_both}
 use Rattle.gm_member.proofs.Fit.{reached_fit}
 use Rattle.gm_member.proofs.DoorLifts.{refresh_lifts}
 use Rattle.gm_member.proofs.member.Member.refresh.Goals as goal
 
-pub returns-in-Ok-clause-steps : goal.returns-in-Ok-clause-steps
-returns-in-Ok-clause-steps g c = refresh_lifts reached_fit (held_of c.args.self.now) (held_of c.refresh_next.new.self) c.args.view c.in-Ok.ensures.enabled c.in-Ok.ensures.ok
+pub returns-clause-steps : goal.returns-clause-steps
+returns-clause-steps g c = on_ok_both c.refresh_next.result (refresh_lifts reached_fit (held_of c.args.self.now) (held_of c.refresh_next.new.self) c.args.view) c.refresh_next.ensures.back.enabled c.refresh_next.ensures.refreshes.ok

@@ -1,0 +1,11 @@
+use Rattle.std.proofs.Common.{sym, ◌∙◌}
+use Rattle.ring_cluster.proofs.Owed.{but_refl}
+use Rattle.ring_cluster.proofs.Turning.{works_refl}
+use Rattle.ring_cluster.proofs.driver.work_turn.Goals as goal
+
+pub returns-then-not-runs : goal.returns-then-not-runs
+returns-then-not-runs c = record {
+  works = works_refl c.args.cluster.now;
+  falls = λ x. cc;
+  stays = λ _. (but_refl c.args.cluster.now, λ runs. let no = sym c.runs.ensures ∙ c.if-not-runs.true in cc);
+}
