@@ -49,37 +49,38 @@ fn play(rt: &impl Abort, spec: Option<CreditSpec>, times: u32, line: &str) -> Re
     Ok(())
 }
 
-#[test]
-fn spends_and_gains_one(rt: HostRuntime) -> Result<(), Fail> {
-    play(
-        &rt,
-        CreditSpec::new(1, 1),
+/// The initial credit and the further one, how many times the ends do what a line says, and the line: what is spent
+/// and gained at credit 1, the grants at each so many loads, and what is held back.
+const LINES: [(u32, u32, u32, &str); 5] = [
+    (
+        1,
+        1,
         1,
         "blocked=0 send blocked=1 took=1 gain blocked=0 send peer_down blocked=0",
-    )
-}
-
-#[test]
-fn grants_at_each_so_many_loads(rt: HostRuntime) -> Result<(), Fail> {
-    play(&rt, CreditSpec::new(8, 4), 32, "took took took took=4")?;
-    play(&rt, CreditSpec::new(64, 1), 128, "took=1")?;
-    play(
-        &rt,
-        CreditSpec::new(64, 64),
+    ),
+    (8, 4, 32, "took took took took=4"),
+    (64, 1, 128, "took=1"),
+    (
+        64,
+        64,
         2,
         "took took took took took took took took took took took took took took took took \
          took took took took took took took took took took took took took took took took \
          took took took took took took took took took took took took took took took took \
          took took took took took took took took took took took took took took took took=64",
-    )
-}
-
-#[test]
-fn holds_grants_back(rt: HostRuntime) -> Result<(), Fail> {
-    play(
-        &rt,
-        CreditSpec::new(8, 4),
+    ),
+    (
+        8,
+        4,
         1,
         "hold took took took took took took took took release=8 release=0 took took took took=4",
-    )
+    ),
+];
+
+#[test]
+fn plays_each_line(rt: HostRuntime) -> Result<(), Fail> {
+    for (initial, more, times, line) in LINES {
+        play(&rt, CreditSpec::new(initial, more), times, line)?;
+    }
+    Ok(())
 }

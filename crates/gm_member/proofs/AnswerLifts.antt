@@ -19,7 +19,7 @@ use Rattle.gm_member.specs.Stands.{WhereItStands, StepsTo, with_own_link}
 use Rattle.gm_member.specs.Questions.{OfView}
 use Rattle.gm_member.proofs.Doors.{view_version}
 use Rattle.gm_member.proofs.Fit.{IsFit, reached_fit}
-use Rattle.gm_member.proofs.DoorLifts.{refresh_lifts}
+use Rattle.gm_member.proofs.Lifts.{refresh_lifts}
 
 -- who has a question open is up
 pub asks_up : (asked : Bool) (phase : Phase) → asked ≡ true → is_up_where asked phase ≡ true → phase ≡ Up
@@ -45,7 +45,7 @@ answer_lifts h h' v up e credit names events x are r some l s is =
     let within : (member_at w x).version ≤ newest w = fit.good.inv.is_ring.held x in
     let own : h.view.version ≡ (member_at w x).version = ap (λ (k : Held). k.view.version) s ∙ view_version w (member_at w x).version fit.good within in
     let newer : nat_lt v.version h.view.version ≡ false = le-ltb v.version h.view.version (omega (arith, numbered, within, own)) in
-    refresh_lifts reached_fit (answered_held h) h' v (answered_enabled h v.version up newer) e credit names events x are r some l s
+    refresh_lifts (answered_held h) h' v (answered_enabled h v.version up newer) e credit names events x are r some l s
     (omega (arith, numbered)) (is ∙ ap (view_at w) (sym numbered))
 
 -- what holds of the view that was answered

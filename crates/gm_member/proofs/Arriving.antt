@@ -3,11 +3,12 @@ use Rattle.std.proofs.Common.{◌≡◌, ℕ, ◌++◌, ◌∷◌, [], List, Boo
 use Rattle.std.specs.Prelude.{◌&&◌}
 use Rattle.std.specs.List.{filter}
 use Rattle.ring_names.specs.declared.numbers.CreditSpec.{CreditSpec}
+use Rattle.group_view.specs.Link.{is_ring}
 use Rattle.group_view.specs.View.{Group}
 use Rattle.group_view.specs.declared.request.Deposited.{Deposited}
 use Rattle.gm_member.specs.Held.{Incoming, fresh_in, stays}
 use Rattle.gm_member.specs.View.{in_of, end_of}
-use Rattle.gm_member.specs.Arrivals.{is_ring, is_ring_link, joins, arrived_link, joined_links, given_end}
+use Rattle.gm_member.specs.Arrivals.{is_ring_link, joins, arrived_link, joined_links, given_end}
 
 -- one more of those that a test lets through
 pub came_more : {A B : Type 0} (p : A → Bool) (f : A → B) (x : A) (rest : List A) (zs : List B) → (zs ++ cond (p x) (f x ∷ []) []) ++ map f (filter p rest) ≡ zs ++ map f (filter p (x ∷ rest))

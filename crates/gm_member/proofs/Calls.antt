@@ -1,5 +1,5 @@
 -- What the calls of a member need of what it holds.
-use Rattle.std.proofs.Common.{◌≡◌, ◌⊎◌, ◌<◌, Bool, true, false, List, Option, Some, None, inl, inr, sym, subst, ◌∙◌, ⊎_elim, arith}
+use Rattle.std.proofs.Common.{◌≡◌, ◌<◌, Bool, true, false, List, Option, Some, None, sym, subst, arith}
 use Rattle.std.proofs.lemmas.Bool.Decides.{nat_tests}
 use Rattle.std.specs.Prelude.{Result, Ok, Err, OnOk, IfOk, IfNone, MatchOption}
 use Rattle.ring_names.specs.declared.reason.Reason.{Reason}
@@ -10,10 +10,7 @@ use Rattle.ring_world.specs.Refusal.{or_else, refuse_if}
 use Rattle.ring_world.specs.Machine.{is_waiting}
 use Rattle.ring_world.specs.Event.{is_stopped}
 use Rattle.ring_world.proofs.Refusals.{none_of}
-use Rattle.gm_member.specs.declared.fault.MemberFault.{MemberFault}
-use Rattle.gm_member.specs.declared.fault.MemberFault.TheVariants as faults
 use Rattle.gm_member.specs.Held.{Held, Outgoing, up_refused, on_some, put_refused, out_refused, has_nothing_new}
-use Rattle.gm_member.specs.Calls.{IsRefusal}
 use Rattle.gm_member.proofs.DoorParts.{up_refused_none}
 
 -- something may be put only where there is credit
@@ -33,18 +30,6 @@ on_ok_both (Err e) f p q = tt
 pub if_ok_both : {A E P : Type 0} {Q R : A → Type 0} (r : Result A E) → ((a : A) → P → Q a → R a) → OnOk r P → IfOk r Q → IfOk r R
 if_ok_both (Ok a) f p q = f a p q
 if_ok_both (Err e) f p q = tt
-
--- why one failed that hands back what it was given
-pub handed_fault : {X : Type 0} (failing : Option Reason) (given : X) (e : X × MemberFault) → (e.0 ≡ given) × (((e.1 ≡ faults.OutOfMemory) × (failing ≡ None)) ⊎ IsRefusal failing e.1)
-    → (e.0 ≡ given) × ((e.1 ≡ faults.OutOfMemory) ⊎ IsRefusal failing e.1)
-handed_fault failing given e p = (p.0, ⊎_elim (λ (k : (e.1 ≡ faults.OutOfMemory) × (failing ≡ None)). inl k.0) (λ (k : IsRefusal failing e.1). inr k) p.1)
-
--- and where memory was wanted, no condition fails
-pub handed_memory : {X : Type 0} (failing : Option Reason) (given : X) (e : X × MemberFault) → (e.0 ≡ given) × (((e.1 ≡ faults.OutOfMemory) × (failing ≡ None)) ⊎ IsRefusal failing e.1)
-    → e.1 ≡ faults.OutOfMemory → failing ≡ None
-handed_memory failing given e p memory =
-    ⊎_elim (λ (k : (e.1 ≡ faults.OutOfMemory) × (failing ≡ None)). k.1)
-    (λ (k : IsRefusal failing e.1). let clash : faults.OutOfMemory ≡ faults.Refused k.0 = sym memory ∙ k.1 in cc) p.1
 
 -- ---- conditions
 

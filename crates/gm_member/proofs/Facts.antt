@@ -1,14 +1,15 @@
 -- What follows for single members, rows and packets.
-use Rattle.std.proofs.Common.{◌≡◌, ℕ, zero, suc, ◌+◌, ◌-◌, ◌<◌, ◌≤◌, List, [], ◌∷◌, length, get_or, false, Bool, refl, sym, ap, subst, ◌∙◌, arith}
+use Rattle.std.proofs.Common.{◌≡◌, ℕ, zero, suc, ◌+◌, ◌-◌, ◌<◌, ◌≤◌, List, [], ◌∷◌, length, get_or, false, Bool, Some, refl, sym, ap, subst, ◌∙◌, arith}
 use Rattle.std.proofs.lemmas.Bool.{false≢true}
 use Rattle.std.proofs.lemmas.List.{get_or_past}
 use Rattle.group_view.specs.Since.{no_group}
+use Rattle.ring_world.specs.declared.event.Event.{Event}
 use Rattle.ring_world.specs.declared.numbers.Numbers.{Numbers}
 use Rattle.ring_world.specs.Rows.{Row, no_row, no_numbers, next_numbers}
 use Rattle.ring_world.specs.Refusal.{is_empty}
-use Rattle.ring_world.specs.Machine.{World, Packet, Member, Sending, no_packet, no_member, row_at, numbers_at, member_at, link_at, view_at, newest}
-use Rattle.ring_world.specs.Walk.{oldest}
+use Rattle.ring_world.specs.Machine.{World, Packet, Member, Sending, no_packet, no_member, row_at, numbers_at, member_at, link_at, view_at, newest, oldest}
 use Rattle.ring_world.specs.Step.{size, log_of, next_lines, next_packet}
+use Rattle.ring_world.specs.Event.{id_of, by_of, of_member, at_found, refused_at, done_at, refusal, effect}
 use Rattle.ring_world.specs.Lawful.{row_of, NumbersAreWithin, PacketsAreWithin}
 use Rattle.ring_world.proofs.Happens.{HasViews}
 use Rattle.ring_world.proofs.Sent.{next_line_at}
@@ -16,6 +17,14 @@ use Rattle.gm_member.specs.Held.{known_at, numbers_of}
 use Rattle.gm_member.specs.Stands.{held_in, outgoing_in}
 use Rattle.gm_member.proofs.Places.{tabled_at}
 use Rattle.gm_member.proofs.Fit.{IsFit}
+
+-- ---- an event of the member that its name finds
+
+pub refused_there : (w : World) (x : ℕ) (e : Event) → id_of w (by_of e) ≡ Some x → refusal w e ≡ refused_at w e x
+refused_there w x e named = ap (λ o. of_member o (refused_at w e)) named
+
+pub done_there : (w : World) (x : ℕ) (e : Event) → id_of w (by_of e) ≡ Some x → effect w e ≡ done_at w e x
+done_there w x e named = ap (λ o. at_found o w (done_at w e)) named
 
 -- ---- ids that nobody has
 

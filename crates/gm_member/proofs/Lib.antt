@@ -1,7 +1,6 @@
 pub mod AnswerLifts
 pub mod Arriving
 pub mod Calls
-pub mod DoorLifts
 pub mod DoorLists
 pub mod DoorParts
 pub mod Doors

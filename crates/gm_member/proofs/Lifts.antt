@@ -1,5 +1,5 @@
 -- From what a member holds to every state in which it stands.
-use Rattle.std.proofs.Common.{◌≡◌, ℕ, ◌+◌, ◌-◌, ◌<◌, ◌≤◌, false, List, [], length, Option, Some, None, refl, sym, ap, subst, ◌∙◌, arith}
+use Rattle.std.proofs.Common.{◌≡◌, ℕ, ◌+◌, ◌-◌, ◌<◌, ◌≤◌, false, List, [], length, Option, Some, None, refl, sym, ap, subst, ◌∙◌, arith, is_some}
 use Rattle.std.specs.Prelude.{option_map}
 use Rattle.ring_names.specs.declared.message.Message.{Message}
 use Rattle.ring_names.specs.declared.message.Message.TheVariants.{Cast}
@@ -10,52 +10,55 @@ use Rattle.ring_world.specs.declared.event.Event.{Event}
 use Rattle.ring_world.specs.declared.event.Event.TheVariants as event
 use Rattle.ring_world.specs.declared.phase.Phase.{Phase}
 use Rattle.ring_world.specs.declared.phase.Phase.TheVariants.{Up}
-use Rattle.ring_world.specs.declared.phase.Ending.TheVariants.{Halted}
 use Rattle.ring_world.specs.Refusal.{refuse_if, or_else, is_empty}
-use Rattle.ring_world.specs.Machine.{World, member_at, link_at, is_waiting}
-use Rattle.ring_world.specs.Walk.{oldest}
-use Rattle.ring_world.specs.Step.{size, log_of, publish_at, put_on as put_in, gain_on, leave_link, stop_at, end_out, opening}
-use Rattle.ring_world.specs.Event.{of_member, is_stopped, on_link, running_refusal, up_refusal, put_refusal, end_refusal, gain_refusal, refusal, at_found, last}
-use Rattle.ring_world.proofs.Enabled.{up_phase, up_later, running_phase, running_later}
+use Rattle.ring_world.specs.Machine.{World, member_at, link_at, is_waiting, oldest, view_at, newest}
+use Rattle.ring_world.specs.Step.{size, log_of, put_on as put_in, gain_on, leave_link, opening, current_is}
+use Rattle.ring_world.specs.Event.{is_stopped, on_link, running_refusal, up_refusal, put_refusal, end_refusal, gain_refusal, refusal, at_found, last, id_of, by_of, refresh_refusal, refused_at, done_at}
+use Rattle.ring_world.proofs.Enabled.{up_later, up_none, running_none}
 use Rattle.gm_member.specs.declared.taken.Taken.{Taken}
 use Rattle.gm_member.specs.Parcels.{Parcel}
-use Rattle.gm_member.specs.Held.{Held, Outgoing, known_at, active_refused, up_refused, published_held, put_refused, put_held, parcel_on, take_refused, took_held, gain_refused, gained_held, ended_held, stopped_held}
+use Rattle.gm_member.specs.Held.{Held, Outgoing, known_at, active_refused, up_refused, published_held, put_refused, put_held, parcel_on, take_refused, took_held, gain_refused, gained_held, ended_held, stopped_held, pick_refused, picked_held, refresh_refused, refreshed_held}
 use Rattle.gm_member.specs.News.{news_of}
-use Rattle.gm_member.specs.Stands.{held_in, outgoing_in, WhereItStands, StepsTo, publishing, StandsFor, IsPutPacket, IsNextPacket, IsNextGrant, IsNextEnd, taken_in}
+use Rattle.gm_member.specs.Stands.{held_in, outgoing_in, WhereItStands, StepsTo, publishing, StandsFor, IsPutPacket, IsNextPacket, IsNextGrant, IsNextEnd, taken_in, with_own_link}
 use Rattle.gm_member.proofs.Fit.{IsFit, reached_fit}
-use Rattle.gm_member.proofs.Facts.{version_is}
+use Rattle.gm_member.proofs.Facts.{version_is, refused_there, done_there}
 use Rattle.gm_member.proofs.PublishStands.{publish_stands, publish_number}
 use Rattle.gm_member.proofs.PutStands.{put_refuses, put_stands, put_packet, leaving}
 use Rattle.gm_member.proofs.TakeStands.{TakesFrom, take_refuses, take_enabled, take_does, take_stands, news_are, end_may}
 use Rattle.gm_member.proofs.GainStands.{gain_refuses, gain_stands}
+use Rattle.ring_world.proofs.Refusals.{up_is}
 use Rattle.gm_member.proofs.StopStands.{stop_stands}
 use Rattle.gm_member.proofs.EndStands.{end_stands}
+use Rattle.group_view.specs.View.{Group}
+use Rattle.ring_world.specs.OpenLinks.{version_of}
+use Rattle.ring_world.proofs.WhatRefuses.{MayLook}
+use Rattle.ring_world.proofs.Refusals.{not_less}
+use Rattle.ring_world.proofs.Happens.{IsGood}
+use Rattle.gm_member.proofs.Doors.{view_version}
+use Rattle.gm_member.proofs.DoorParts.{up_refused_none}
+use Rattle.gm_member.proofs.PickStands.{PicksAt, picks_some, pick_stands, MayPick, may_pick}
+use Rattle.gm_member.proofs.RefreshStands.{refresh_refuses_too, refresh_stands}
+use Rattle.gm_member.proofs.Refusals.{pick_refusal_is}
 
 -- ---- in one state
 
--- who is up may act
-pub up_is : (w : World) (x : ℕ) (later : Option Reason) → (member_at w x).phase ≡ Up → up_refusal w x later ≡ later
-up_is w x later up = ap (λ (g : Phase). or_else (refuse_if (is_stopped g) reason.Stopped) (or_else (refuse_if (is_waiting g) reason.Waiting) later)) up
-
+-- who is up runs
 pub running_is : (w : World) (x : ℕ) (later : Option Reason) → (member_at w x).phase ≡ Up → running_refusal w x later ≡ later
 running_is w x later up = ap (λ (g : Phase). or_else (refuse_if (is_stopped g) reason.Stopped) later) up
 
-pub publish_steps : (w : World) (x : ℕ) (m : Message) → IsFit w → 1 ≤ x → x < size w → up_refused (held_in w x) None ≡ None → StepsTo w x (publishing (member_at w x).name m) (published_held (held_in w x) m)
-publish_steps w x (Cast body) f some lt e = (
-  ap (λ o. of_member o (λ y. up_refusal w y None)) (f.named x some lt) ∙ e,
-  publish_stands w x (Cast body) f some lt ∙ ap (λ o. held_in (at_found o w (λ y. publish_at w y (Cast body))) x) (sym (f.named x some lt)),
-)
+-- an event of the member at x that is enabled, where what it does leaves it with h
+steps_there : (w : World) (x : ℕ) (e : Event) (h : Held) → id_of w (by_of e) ≡ Some x → refused_at w e x ≡ None → h ≡ held_in (done_at w e x) x → StepsTo w x e h
+steps_there w x e h named en is = (refused_there w x e named ∙ en, is ∙ ap (λ v. held_in v x) (sym (done_there w x e named)))
 
--- the refusal of a put is the ring's
-pub put_refusal_is : (w : World) (x : ℕ) → IsFit w → 1 ≤ x → x < size w → put_refused (held_in w x) ≡ refusal w (event.Put (member_at w x).name)
-put_refusal_is w x f some lt = put_refuses w x f ∙ sym (ap (λ o. of_member o (λ y. up_refusal w y (on_link (member_at w y).out reason.NoOutLink (put_refusal w y)))) (f.named x some lt))
+pub publish_steps : (w : World) (x : ℕ) (m : Message) → IsFit w → 1 ≤ x → x < size w → up_refused (held_in w x) None ≡ None → StepsTo w x (publishing (member_at w x).name m) (published_held (held_in w x) m)
+publish_steps w x (Cast body) f some lt e =
+    steps_there w x (event.Cast (member_at w x).name body) (published_held (held_in w x) (Cast body)) (f.named x some lt) e (publish_stands w x (Cast body) f some lt)
 
 pub put_steps : (w : World) (x : ℕ) → IsFit w → 1 ≤ x → x < size w → put_refused (held_in w x) ≡ None → StepsTo w x (event.Put (member_at w x).name) (put_held (held_in w x))
-put_steps w x f some lt e = (
-  sym (put_refusal_is w x f some lt) ∙ e,
-  by_out (member_at w x).out refl (up_later w x (on_link (member_at w x).out reason.NoOutLink (put_refusal w x)) (sym (put_refuses w x f) ∙ e))
-      ∙ ap (λ o. held_in (at_found o w (λ y. at_found (member_at w y).out w (put_in w y))) x) (sym (f.named x some lt)),
-)
+put_steps w x f some lt e =
+    let acts : up_refusal w x (on_link (member_at w x).out reason.NoOutLink (put_refusal w x)) ≡ None = sym (put_refuses w x f) ∙ e in
+    steps_there w x (event.Put (member_at w x).name) (put_held (held_in w x)) (f.named x some lt) acts
+    (by_out (member_at w x).out refl (up_later w x (on_link (member_at w x).out reason.NoOutLink (put_refusal w x)) acts))
   where
     by_out : (o : Option ℕ) → (member_at w x).out ≡ o → on_link o reason.NoOutLink (put_refusal w x) ≡ None → put_held (held_in w x) ≡ held_in (at_found o w (put_in w x)) x
     by_out None is k = cc
@@ -80,46 +83,33 @@ takes_of w x k s f some lt up is l n = record {
 }
 
 -- who may take is up, and has a link
-pub record MayTake (w : World) (x : ℕ) : Type 0 where
-  pub up : (member_at w x).phase ≡ Up
-  pub there : on_link (member_at w x).current reason.NoCurrentLink (λ _. None) ≡ None
+has_link : (w : World) (x : ℕ) → IsFit w → take_refused (held_in w x) None ≡ None → ((member_at w x).phase ≡ Up) × (on_link (member_at w x).current reason.NoCurrentLink (λ _. None) ≡ None)
+has_link w x f e = running_none w x (on_link (member_at w x).current reason.NoCurrentLink (λ _. None)) (f.good.none_waits x) (sym (take_refuses w x None) ∙ e)
 
-may_take : (w : World) (x : ℕ) → IsFit w → take_refused (held_in w x) None ≡ None → MayTake w x
-may_take w x f e =
-    let later : Option Reason = on_link (member_at w x).current reason.NoCurrentLink (λ _. None) in
-    let acts : running_refusal w x later ≡ None = sym (take_refuses w x None) ∙ e in
-    record { up = running_phase w x later (f.good.none_waits x) acts; there = running_later w x later acts }
+-- what a member needs in order to take this packet
+abbrev pub MayTakeIt : Parcel → Held → Type 0
+MayTakeIt k h = (take_refused h None ≡ None) × (k.view ≤ h.view.version)
 
-pub take_steps : (w : World) (x : ℕ) (k : Parcel) → IsFit w → 1 ≤ x → x < size w → take_refused (held_in w x) None ≡ None → k.view ≤ (held_in w x).view.version → IsNextPacket w x k → StepsTo w x (event.Take (member_at w x).name) (took_held (held_in w x) k)
-take_steps w x k f some lt e l n = by_current (member_at w x).current refl may.there
+pub take_steps : (w : World) (x : ℕ) (k : Parcel) → IsFit w → 1 ≤ x → x < size w → MayTakeIt k (held_in w x) → IsNextPacket w x k → StepsTo w x (event.Take (member_at w x).name) (took_held (held_in w x) k)
+take_steps w x k f some lt e n = by_current (member_at w x).current refl may.1
   where
-    may : MayTake w x
-    may = may_take w x f e
+    may : ((member_at w x).phase ≡ Up) × (on_link (member_at w x).current reason.NoCurrentLink (λ _. None) ≡ None)
+    may = has_link w x f e.0
 
     by_current : (c : Option ℕ) → (member_at w x).current ≡ c → on_link c reason.NoCurrentLink (λ _. None) ≡ None → StepsTo w x (event.Take (member_at w x).name) (took_held (held_in w x) k)
     by_current None is m = cc
     by_current (Some s) is m =
-        let t : TakesFrom w x s = takes_of w x k s f some lt may.up is l (n s is) in
+        let t : TakesFrom w x s = takes_of w x k s f some lt may.0 is e.1 (n s is) in
         (take_enabled w x s f t, take_stands w x s k f t (n s is).1.lines ∙ ap (λ v. held_in v x) (sym (take_does w x s f t)))
 
 pub gain_steps : (w : World) (x amount : ℕ) → IsFit w → 1 ≤ x → x < size w → gain_refused (held_in w x) ≡ None → IsNextGrant w x amount → StepsTo w x (event.Gain (member_at w x).name) (gained_held (held_in w x) amount)
-gain_steps w x amount f some lt e n = (
-  ap (λ o. of_member o (λ y. up_refusal w y (on_link (member_at w y).out reason.NoOutLink (gain_refusal w)))) (f.named x some lt)
-      ∙ up_is w x (on_link (member_at w x).out reason.NoOutLink (gain_refusal w)) up
-      ∙ refused (member_at w x).out n there,
-  by_out (member_at w x).out refl there
-      ∙ ap (λ o. held_in (at_found o w (λ y. at_found (member_at w y).out w (gain_on w))) x) (sym (f.named x some lt)),
-)
+gain_steps w x amount f some lt e n =
+    let later : Option Reason = on_link (member_at w x).out reason.NoOutLink (λ _. None) in
+    let acts = up_none w x later (sym (gain_refuses w x) ∙ e) in
+    steps_there w x (event.Gain (member_at w x).name) (gained_held (held_in w x) amount) (f.named x some lt)
+    (up_is w x (on_link (member_at w x).out reason.NoOutLink (gain_refusal w)) acts.0 ∙ refused (member_at w x).out n acts.1)
+    (by_out (member_at w x).out refl acts.1)
   where
-    acts : up_refusal w x (on_link (member_at w x).out reason.NoOutLink (λ _. None)) ≡ None
-    acts = sym (gain_refuses w x) ∙ e
-
-    up : (member_at w x).phase ≡ Up
-    up = up_phase w x (on_link (member_at w x).out reason.NoOutLink (λ _. None)) acts
-
-    there : on_link (member_at w x).out reason.NoOutLink (λ _. None) ≡ None
-    there = up_later w x (on_link (member_at w x).out reason.NoOutLink (λ _. None)) acts
-
     refused : (c : Option ℕ) → ((o : ℕ) → c ≡ Some o → (is_empty (link_at w o).flow.grants ≡ false) × (oldest_grant (link_at w o).flow.grants ≡ amount)) → on_link c reason.NoOutLink (λ _. None) ≡ None → on_link c reason.NoOutLink (gain_refusal w) ≡ None
     refused None m k = k
     refused (Some o) m k = ap (λ b. refuse_if b reason.NoGrant) (m o refl).0
@@ -129,17 +119,12 @@ gain_steps w x amount f some lt e n = (
     by_out (Some o) is k = ap (gained_held (held_in w x)) (sym (n o is).1) ∙ gain_stands w x o f is
 
 pub end_steps : (w : World) (x : ℕ) → IsFit w → 1 ≤ x → x < size w → take_refused (held_in w x) None ≡ None → IsNextEnd w x → StepsTo w x (event.TakeEnd (member_at w x).name) (ended_held (held_in w x))
-end_steps w x f some lt e n = (
-  ap (λ o. of_member o (λ y. running_refusal w y (on_link (member_at w y).current reason.NoCurrentLink (end_refusal w)))) (f.named x some lt)
-      ∙ running_is w x (on_link (member_at w x).current reason.NoCurrentLink (end_refusal w)) may.up
-      ∙ refused (member_at w x).current n may.there,
-  by_current (member_at w x).current refl may.there
-      ∙ ap (λ o. held_in (at_found o w (λ y. at_found (member_at w y).current w (leave_link w y))) x) (sym (f.named x some lt)),
-)
+end_steps w x f some lt e n =
+    let may = has_link w x f e in
+    steps_there w x (event.TakeEnd (member_at w x).name) (ended_held (held_in w x)) (f.named x some lt)
+    (running_is w x (on_link (member_at w x).current reason.NoCurrentLink (end_refusal w)) may.0 ∙ refused (member_at w x).current n may.1)
+    (by_current (member_at w x).current refl may.1)
   where
-    may : MayTake w x
-    may = may_take w x f e
-
     refused : (c : Option ℕ) → ((s : ℕ) → c ≡ Some s → ((link_at w s).packets ≡ []) × ((link_at w s).ending ≡ None → ⊥)) → on_link c reason.NoCurrentLink (λ _. None) ≡ None → on_link c reason.NoCurrentLink (end_refusal w) ≡ None
     refused None m k = k
     refused (Some s) m k = end_may w s (m s refl).0 (m s refl).1
@@ -149,10 +134,46 @@ end_steps w x f some lt e n = (
     by_current (Some s) is k = end_stands w x s f lt is
 
 pub stop_steps : (w : World) (x : ℕ) → IsFit w → 1 ≤ x → x < size w → active_refused (held_in w x) None ≡ None → StepsTo w x (event.Stop (member_at w x).name) (stopped_held (held_in w x))
-stop_steps w x f some lt e = (
-  ap (λ o. of_member o (λ y. running_refusal w y None)) (f.named x some lt) ∙ e,
-  stop_stands w x f lt ∙ ap (λ o. held_in (at_found o w (λ y. end_out Halted (stop_at w y) (member_at w y).out)) x) (sym (f.named x some lt)),
-)
+stop_steps w x f some lt e = steps_there w x (event.Stop (member_at w x).name) (stopped_held (held_in w x)) (f.named x some lt) e (stop_stands w x f lt)
+
+pub pick_steps : (w : World) (x : ℕ) → IsFit w → 1 ≤ x → x < size w → pick_refused (held_in w x) ≡ None → StepsTo w x (event.Pick (member_at w x).name) (picked_held (held_in w x))
+pick_steps w x f some lt e =
+    let p : MayPick w x = may_pick w x e in
+    let k : PicksAt w x p.place = picks_some w x p.place f.good p.none p.first in (
+      sym (pick_refusal_is w x f some lt) ∙ e,
+      pick_stands w x p.place lt f.good p.none p.first
+          ∙ sym (ap (λ o. held_in (at_found o w (λ t. current_is w x (Some t))) x) k.found)
+          ∙ ap (λ v. held_in v x) (sym (done_there w x (event.Pick (member_at w x).name) (f.named x some lt))),
+    )
+
+-- a refresh that the member doesn't refuse, of a view that is there
+may_look : (w : World) (x v : ℕ) → x < size w → IsGood w → v ≤ newest w → refresh_refused (held_in w x) v ≡ None → MayLook w x v
+may_look w x v l h upto e =
+    let u = up_refused_none (held_in w x) _ e in
+    let own : (view_at w (version_of w x)).version ≡ version_of w x = view_version w (version_of w x) h (h.inv.is_ring.held x) in
+    let later : (view_at w (version_of w x)).version ≤ v = not_less v (view_at w (version_of w x)).version _ u.2 in
+    record { is_member = l; up = u.0; later = omega arith; upto = upto }
+
+-- what is refused of none
+none_some : {A B : Type 0} (o : Option A) (p : Option B) → o ≡ None → is_some o ≡ is_some p → p ≡ None
+none_some o None e k = refl
+none_some None (Some b) e k = cc
+none_some (Some a) p e k = cc
+
+-- the member after a refresh, with the link that it opens to itself
+abbrev pub refreshed_alone : Group → Held → Held
+refreshed_alone v h = with_own_link h v (refreshed_held h v)
+
+-- a view that is one of the ring's
+abbrev pub IsThere : World → Group → Type 0
+IsThere w v = (v.version ≤ newest w) × (v ≡ view_at w v.version)
+
+pub refresh_steps : (w : World) (x : ℕ) (v : Group) → IsFit w → 1 ≤ x → x < size w → refresh_refused (held_in w x) v.version ≡ None → IsThere w v → StepsTo w x (event.Refresh (member_at w x).name v.version) (refreshed_alone v (held_in w x))
+refresh_steps w x v f some lt e there =
+    steps_there w x (event.Refresh (member_at w x).name v.version) (refreshed_alone v (held_in w x)) (f.named x some lt)
+    (none_some (refresh_refused (held_in w x) v.version) (up_refusal w x (refresh_refusal w x v.version)) e (refresh_refuses_too w x v.version f.good there.0))
+    (ap (λ (g : Group). with_own_link (held_in w x) (record g { version = v.version }) (refreshed_held (held_in w x) g)) there.1
+    ∙ refresh_stands w x v.version (may_look w x v.version lt f.good there.0 e) f.good)
 
 -- ---- in every state of every run
 
@@ -162,51 +183,50 @@ lifts h P each credit names events x are r some lt s =
     let w : World = last (opening credit names) events in
     subst (P w x) (sym s) (each w x (reached_fit credit names events are r) some lt)
 
--- the member after a step, however it is told
-told : (w : World) (x : ℕ) (e : Event) (h h' : Held) → h' ≡ h → StepsTo w x e h → StepsTo w x e h'
-told w x e h h' is t = (t.0, is ∙ t.1)
+-- a call of a member of which this holds, and which leaves it with what the step makes of it, is the event where P holds
+pub steps_where : (R : Held → Type 0) (P : World → ℕ → Type 0) (event : List ℕ → Event) (step : Held → Held)
+    → ((w : World) (x : ℕ) → IsFit w → 1 ≤ x → x < size w → R (held_in w x) → P w x → StepsTo w x (event (member_at w x).name) (step (held_in w x)))
+    → (h h' : Held) → R h → h' ≡ step h → WhereItStands h (λ w x. P w x → StepsTo w x (event h.name) h')
+steps_where R P event step each h h' en is credit names events x are r some lt s p =
+    let t : StepsTo (last (opening credit names) events) x (event h.name) (step h) = lifts h (λ w y k. R k → P w y → StepsTo w y (event k.name) (step k)) each credit names events x are r some lt s en p in
+    (t.0, is ∙ t.1)
 
-pub publish_lifts : (h h' : Held) (m : Message) → up_refused h None ≡ None → h' ≡ published_held h m → WhereItStands h (λ w x. StepsTo w x (publishing h.name m) h')
-publish_lifts h h' m en e credit names events x are r some lt s =
-    told (last (opening credit names) events) x (publishing h.name m) (published_held h m) h' e
-    (lifts h (λ w y k. up_refused k None ≡ None → StepsTo w y (publishing k.name m) (published_held k m)) (λ w y f a b. publish_steps w y m f a b) credit names events x are r some lt s en)
+-- and in every state
+pub steps_lift : (R : Held → Type 0) (event : List ℕ → Event) (step : Held → Held)
+    → ((w : World) (x : ℕ) → IsFit w → 1 ≤ x → x < size w → R (held_in w x) → StepsTo w x (event (member_at w x).name) (step (held_in w x)))
+    → (h h' : Held) → R h → h' ≡ step h → WhereItStands h (λ w x. StepsTo w x (event h.name) h')
+steps_lift R event step each h h' en is credit names events x are r some lt s =
+    steps_where R (λ _ _. Unit {0}) event step (λ w y f a b k _. each w y f a b k) h h' en is credit names events x are r some lt s tt
+
+-- what the ring refuses where P holds, a call refuses that is refused for the first failing condition
+pub refuses_where : {A : Type 0} (failing : Held → Option Reason) (P : World → ℕ → Type 0) (event : List ℕ → Event) (a : A) (answer : Reason → A)
+    → ((w : World) (x : ℕ) → IsFit w → 1 ≤ x → x < size w → P w x → failing (held_in w x) ≡ refusal w (event (member_at w x).name))
+    → (h : Held) → ((r : Reason) → failing h ≡ Some r → a ≡ answer r) → WhereItStands h (λ w x. P w x → (r : Reason) → refusal w (event h.name) ≡ Some r → a ≡ answer r)
+refuses_where failing P event a answer each h refused credit names events x are r some lt s p q e =
+    refused q (lifts h (λ w y k. P w y → failing k ≡ refusal w (event k.name)) each credit names events x are r some lt s p ∙ e)
+
+-- and in every state
+pub refuses_too : {A : Type 0} (failing : Held → Option Reason) (event : List ℕ → Event) (a : A) (answer : Reason → A)
+    → ((w : World) (x : ℕ) → IsFit w → 1 ≤ x → x < size w → failing (held_in w x) ≡ refusal w (event (member_at w x).name))
+    → (h : Held) → ((r : Reason) → failing h ≡ Some r → a ≡ answer r) → WhereItStands h (λ w x. (r : Reason) → refusal w (event h.name) ≡ Some r → a ≡ answer r)
+refuses_too failing event a answer each h refused credit names events x are r some lt s =
+    refuses_where failing (λ _ _. Unit {0}) event a answer (λ w y f b l _. each w y f b l) h refused credit names events x are r some lt s tt
 
 pub number_lifts : (h : Held) (n : ℕ) → n ≡ (known_at h.rows (h.id - 1)).got + 1 → WhereItStands h (λ w x. n ≡ length (log_of w x) + 1)
 number_lifts h n e credit names events x are r some lt s =
     e ∙ lifts h (λ w y k. (known_at k.rows (k.id - 1)).got + 1 ≡ length (log_of w y) + 1) publish_number credit names events x are r some lt s
 
-pub put_lifts : (h h' : Held) → put_refused h ≡ None → h' ≡ put_held h → WhereItStands h (λ w x. StepsTo w x (event.Put h.name) h')
-put_lifts h h' en e credit names events x are r some lt s =
-    told (last (opening credit names) events) x (event.Put h.name) (put_held h) h' e
-    (lifts h (λ w y k. put_refused k ≡ None → StepsTo w y (event.Put k.name) (put_held k)) put_steps credit names events x are r some lt s en)
-
 pub put_packet_lifts : (h : Held) (o : Outgoing) → h.out ≡ Some o → WhereItStands h (λ w x. IsPutPacket w x (parcel_on h.view.version h.rows o))
 put_packet_lifts h o e credit names events x are r some lt s =
     lifts h (λ w y k. k.out ≡ Some o → IsPutPacket w y (parcel_on k.view.version k.rows o)) (λ w y f a b. put_is w y o f a b) credit names events x are r some lt s e
-
-pub put_refusal_lifts : (h : Held) → WhereItStands h (λ w x. put_refused h ≡ refusal w (event.Put h.name))
-put_refusal_lifts h = lifts h (λ w y k. put_refused k ≡ refusal w (event.Put k.name)) put_refusal_is
-
-pub take_lifts : (h h' : Held) (k : Parcel) → take_refused h None ≡ None → k.view ≤ h.view.version → h' ≡ took_held h k → WhereItStands h (λ w x. IsNextPacket w x k → StepsTo w x (event.Take h.name) h')
-take_lifts h h' k en v e credit names events x are r some lt s n =
-    told (last (opening credit names) events) x (event.Take h.name) (took_held h k) h' e
-    (lifts h (λ w y g. take_refused g None ≡ None → k.view ≤ g.view.version → IsNextPacket w y k → StepsTo w y (event.Take g.name) (took_held g k)) (λ w y f a b. take_steps w y k f a b) credit names events x are r some lt s en v n)
 
 pub news_lift : (h : Held) (k : Parcel) (t : List Taken) → t ≡ news_of h k → WhereItStands h (λ w x. IsNextPacket w x k → t ≡ taken_in w (member_at w x).current x)
 news_lift h k t e credit names events x are r some lt s n =
     e ∙ lifts h (λ w y g. IsNextPacket w y k → news_of g k ≡ taken_in w (member_at w y).current y) (λ w y f a b. news_are w y k f) credit names events x are r some lt s n
 
-pub gain_lifts : (h h' : Held) (amount : ℕ) → gain_refused h ≡ None → h' ≡ gained_held h amount → WhereItStands h (λ w x. IsNextGrant w x amount → StepsTo w x (event.Gain h.name) h')
-gain_lifts h h' amount en e credit names events x are r some lt s n =
-    told (last (opening credit names) events) x (event.Gain h.name) (gained_held h amount) h' e
-    (lifts h (λ w y k. gain_refused k ≡ None → IsNextGrant w y amount → StepsTo w y (event.Gain k.name) (gained_held k amount)) (λ w y f a b. gain_steps w y amount f a b) credit names events x are r some lt s en n)
-
-pub end_lifts : (h h' : Held) → take_refused h None ≡ None → h' ≡ ended_held h → WhereItStands h (λ w x. IsNextEnd w x → StepsTo w x (event.TakeEnd h.name) h')
-end_lifts h h' en e credit names events x are r some lt s n =
-    told (last (opening credit names) events) x (event.TakeEnd h.name) (ended_held h) h' e
-    (lifts h (λ w y k. take_refused k None ≡ None → IsNextEnd w y → StepsTo w y (event.TakeEnd k.name) (ended_held k)) end_steps credit names events x are r some lt s en n)
-
-pub stop_lifts : (h h' : Held) → active_refused h None ≡ None → h' ≡ stopped_held h → WhereItStands h (λ w x. StepsTo w x (event.Stop h.name) h')
-stop_lifts h h' en e credit names events x are r some lt s =
-    told (last (opening credit names) events) x (event.Stop h.name) (stopped_held h) h' e
-    (lifts h (λ w y k. active_refused k None ≡ None → StepsTo w y (event.Stop k.name) (stopped_held k)) stop_steps credit names events x are r some lt s en)
+-- a refresh to one of the ring's views, with the link that a member that is alone opens to itself
+pub refresh_lifts : (h h' : Held) (v : Group) → refresh_refused h v.version ≡ None → h' ≡ refreshed_held h v
+    → WhereItStands h (λ w x. v.version ≤ newest w → v ≡ view_at w v.version → StepsTo w x (event.Refresh h.name v.version) (with_own_link h v h'))
+refresh_lifts h h' v en e credit names events x are r some lt s upto is =
+    steps_where (λ k. refresh_refused k v.version ≡ None) (λ w _. IsThere w v) (λ name. event.Refresh name v.version) (refreshed_alone v) (λ w y f a b. refresh_steps w y v f a b)
+    h (with_own_link h v h') en (ap (with_own_link h v) e) credit names events x are r some lt s (upto, is)

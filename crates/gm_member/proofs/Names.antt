@@ -117,7 +117,7 @@ part_nobody w w' (open_part x z e) h = ap (λ v. log_of v 0) e ∙ same_log w.me
     same_log [] i y k = refl
     same_log (m ∷ ms) zero y k = k
     same_log (m ∷ ms) (suc i) y k = refl
-part_nobody w w' (still_part k) h = k.log 0 ∙ h
+part_nobody w w' (still_part k) h = k.same.log 0 ∙ h
 
 pub reached_nobody : (credit : CreditSpec) (names : List (List ℕ)) (events : List Event) → AreOpeningNames names → IsRun (opening credit names) events → log_of (last (opening credit names) events) 0 ≡ []
 reached_nobody credit names events are r = run_keeps (λ w. log_of w 0 ≡ []) part_nobody (opening credit names) events (opening_good credit names are) r refl

@@ -5,6 +5,7 @@ use Rattle.std.specs.List.{filter, range_with_len}
 use Rattle.std.proofs.lemmas.Bool.{cases_lt, false≢true}
 use Rattle.std.proofs.lemmas.List.{length-set, length_push, get_or_append_left, get_or_push, set-set, map-append}
 use Rattle.group_view.proofs.Passing.{right_inside}
+use Rattle.group_view.specs.Ring.{is_in}
 use Rattle.ring_world.specs.View.{ids, is_live, right_of}
 use Rattle.ring_world.specs.declared.phase.Ending.TheVariants.{Moved}
 use Rattle.ring_world.specs.Machine.{Member, Link, World, no_link, no_sending, member_at, link_at, view_at, newest, left, runs, runs_phase}
@@ -16,11 +17,12 @@ use Rattle.ring_world.proofs.Lists.{at_set, set_nothing}
 use Rattle.ring_world.proofs.Rounds.{nat_eq-is}
 use Rattle.ring_world.proofs.Good.{kept_true}
 use Rattle.ring_world.proofs.Views.{right_is}
+use Rattle.group_view.proofs.Marks.{right_is as right_of_entry}
 use Rattle.ring_world.proofs.Happens.{IsGood}
 use Rattle.gm_member.specs.Held.{Incoming, fresh_in, sends_to}
 use Rattle.gm_member.specs.Stands.{incoming_in, outgoing_in, held_in}
 use Rattle.gm_member.proofs.DoorLists.{filter_agree, made_agree, filter_more}
-use Rattle.gm_member.proofs.Doors.{OpenedRight, comes_is}
+use Rattle.ring_world.proofs.FromLeft.{OpenedRight, comes_is}
 use Rattle.gm_member.proofs.DoorParts.{waits_by, member_same}
 
 -- ---- the link that opens
@@ -130,10 +132,11 @@ waits_old w x v y c u s l = ap (λ (k : Link). (nat_eq k.receiver y && (not (is_
 pub new_right : (w : World) (x v : ℕ) → MayLook w x v → IsGood w → OpenedRight w (new_link w x v)
 new_right w x v m h =
     let rx : runs w x ≡ true = ap runs_phase m.up in
+    let there : is_in x (ids (view_at w v)) ≡ true = h.inv.is_ring.stands x v rx m.later m.upto in
     record {
       upto = m.upto;
       from_left = ap (left w v) (sym (right_is w v x (view_at w v) refl)) ∙ h.inv.is_ring.front x v v rx m.later (omega arith) m.upto;
-      known = right_inside (is_live (view_at w v)) x (ids (view_at w v)) (h.inv.is_ring.stands x v rx m.later m.upto);
+      known = subst (λ z. is_in z (ids (view_at w v)) ≡ true) (sym (right_of_entry (view_at w v).entries x there)) (right_inside (is_live (view_at w v)) x (ids (view_at w v)) there);
     }
 
 -- so it passes the test of its receiver in each view

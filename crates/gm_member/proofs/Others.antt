@@ -1,16 +1,18 @@
 -- Where one member steps, each other holds what it held, whether it runs or has stopped.
-use Rattle.std.proofs.Common.{◌≡◌, ◌≢◌, ℕ, ◌<◌, List, length, set, Option, Some, None, refl, sym, ap, ◌∙◌}
+use Rattle.std.proofs.Common.{◌≡◌, ◌≢◌, ℕ, ◌<◌, length, map, Some, None, refl, sym, ap, ◌∙◌}
+use Rattle.std.specs.Prelude.{option_map}
+use Rattle.std.specs.List.{filter, range_with_len}
 use Rattle.std.proofs.lemmas.List.{length-set, get_or-set_same, get_or-set_other}
 use Rattle.ring_names.specs.declared.message.Message.{Message}
 use Rattle.ring_world.specs.declared.phase.Ending.TheVariants.{Halted}
-use Rattle.ring_world.specs.Machine.{World, Member, Link, no_link, no_member, member_at, link_at}
-use Rattle.ring_world.specs.Step.{with_member, with_link, publish_at, published, put_on as put_in, pushed, gain_on, take_from, taker, popped, leave_link, with_current, finished, stop_at, stopped, ended, end_out}
+use Rattle.ring_world.specs.Machine.{World, Member, Link, no_link, no_member, member_at, link_at, view_at}
+use Rattle.ring_world.specs.Step.{with_member, with_link, publish_at, published, put_on as put_in, pushed, gain_on, take_from, taker, popped, leave_link, with_current, finished, stop_at, stopped, end_out}
 use Rattle.gm_member.specs.Stands.{held_in, outgoing_in, incoming_in}
 use Rattle.gm_member.proofs.Fit.{IsFit}
-use Rattle.gm_member.proofs.Parts.{held_is, seen, seen_same, incoming_seen, outgoing_of, outgoing_same, there_same, current_same, waits_same, door_still, door_but, other_waits_not}
+use Rattle.gm_member.proofs.Parts.{held_is, held_by, seen, incoming_seen, outgoing_of, outgoing_same, there_same, waits_same, door_but, other_waits_not, link_held, still_held}
+use Rattle.gm_member.proofs.DoorParts.{waits_by, member_other}
 use Rattle.gm_member.proofs.PutStands.{leaving}
 use Rattle.gm_member.proofs.GainStands.{regained_on}
-use Rattle.gm_member.proofs.StopStands.{ShowSame, end_shows, all_show, stopped_with}
 
 -- ---- whose a link is
 
@@ -28,25 +30,17 @@ other_door w x y s f ex ne is = ne (sym is ∙ (f.own_ends.current x s ex).1)
 
 -- ---- steps
 
+-- another member is written
+pub member_others : (w : World) (x y : ℕ) (m : Member) → y ≢ x → held_in (with_member w x m) y ≡ held_in w y
+member_others w x y m ne =
+    ap (λ k. held_by y k (view_at w k.version) (option_map (outgoing_in w) k.out) (option_map (incoming_in w) k.current) (map (incoming_in w) (filter (waits_by w y k.current k.version) (range_with_len 0 (length w.links)))) w.initial w.more) (member_other w x y m ne)
+
 pub publish_others : (w : World) (x y : ℕ) (m : Message) → y ≢ x → held_in w y ≡ held_in (publish_at w x m) y
-publish_others w x y m ne =
-    let w' : World = publish_at w x m in
-    let h = held_in w y in
-    let same : member_at w' y ≡ member_at w y = get_or-set_other w.members x y (published x m (member_at w x)) no_member ne in
-    sym (held_is w' y (member_at w y) h.out h.current h.door same refl refl
-    (door_still w w' y refl refl (ap (λ (z : Member). z.current) same) (ap (λ (z : Member). z.version) same) (λ j. refl)))
+publish_others w x y m ne = sym (member_others w x y (published x m (member_at w x)) ne)
 
 -- the link on which x sends is written, and shows its receiver the same
 out_others : (w : World) (x o y : ℕ) (l : Link) → IsFit w → (member_at w x).out ≡ Some o → y ≢ x → seen l ≡ seen (link_at w o) → held_in w y ≡ held_in (with_link w o l) y
-out_others w x o y l f is ne shows =
-    let w' : World = with_link w o l in
-    let h = held_in w y in
-    let ol : o < length w.links = (f.own_ends.out x o is).0 in
-    let same : (j : ℕ) → seen (link_at w' j) ≡ seen (link_at w j) = λ j. seen_same w o j l ol shows in
-    sym (held_is w' y (member_at w y) h.out h.current h.door refl
-    (there_same (outgoing_in w') (outgoing_in w) (member_at w y).out (λ j e. ap outgoing_of (get_or-set_other w.links o j l no_link (other_out w x y o j f is e ne))))
-    (current_same w w' (member_at w y).current same)
-    (door_still w w' y (length-set w.links o l) refl refl refl same))
+out_others w x o y l f is ne shows = link_held w o y l (f.own_ends.out x o is).0 shows (λ j e. ap outgoing_of (get_or-set_other w.links o j l no_link (other_out w x y o j f is e ne)))
 
 pub put_others : (w : World) (x o y : ℕ) → IsFit w → (member_at w x).out ≡ Some o → y ≢ x → held_in w y ≡ held_in (put_in w x o) y
 put_others w x o y f is ne = out_others w x o y (pushed (link_at w o) (leaving w x o)) f is ne refl
@@ -80,19 +74,5 @@ take_others w x s y f is ne = current_others w x s y (taker w x s) (popped (link
 pub end_others : (w : World) (x s y : ℕ) → IsFit w → (member_at w x).current ≡ Some s → y ≢ x → held_in w y ≡ held_in (leave_link w x s) y
 end_others w x s y f is ne = current_others w x s y (with_current None (member_at w x)) (finished (link_at w s)) f is ne refl refl
 
-shows_others : (w : World) (x y : ℕ) (ls : List Link) → y ≢ x → ShowSame w ls → held_in w y ≡ held_in (stopped_with w x ls) y
-shows_others w x y ls ne e =
-    let w' : World = stopped_with w x ls in
-    let h = held_in w y in
-    let same : member_at w' y ≡ member_at w y = get_or-set_other w.members x y (stopped (member_at w x)) no_member ne in
-    sym (held_is w' y (member_at w y) h.out h.current h.door same
-    (there_same (outgoing_in w') (outgoing_in w) (member_at w y).out (λ j _. e.out_of j))
-    (current_same w w' (member_at w y).current e.seen_by)
-    (door_still w w' y e.many refl (ap (λ (z : Member). z.current) same) (ap (λ (z : Member). z.version) same) e.seen_by))
-
 pub stop_others : (w : World) (x y : ℕ) → IsFit w → y ≢ x → held_in w y ≡ held_in (end_out Halted (stop_at w x) (member_at w x).out) y
-stop_others w x y f ne = by_out (member_at w x).out refl
-  where
-    by_out : (o : Option ℕ) → (member_at w x).out ≡ o → held_in w y ≡ held_in (end_out Halted (stop_at w x) o) y
-    by_out None e = shows_others w x y w.links ne (all_show w)
-    by_out (Some o) e = shows_others w x y (set w.links o (ended Halted (link_at w o))) ne (end_shows w o (f.own_ends.out x o e).0)
+stop_others w x y f ne = sym (member_others w x y (stopped (member_at w x)) ne) ∙ still_held Halted (stop_at w x) (member_at w x).out y (λ o e. (f.own_ends.out x o e).0)

@@ -1,11 +1,11 @@
--- What the other members hold after one has picked, refreshed or marked: as before, but for a link that opens to one of them.
+-- What the other members hold after one has refreshed: as before, but for a link that opens to one of them.
 use Rattle.std.proofs.Common.{◌≡◌, ◌≢◌, ℕ, ◌<◌, Bool, true, false, cond, nat_eq, [], ◌∷◌, ◌++◌, length, map, Option, Some, None, refl, sym, ap, ◌∙◌}
 use Rattle.std.specs.Prelude.{option_map}
 use Rattle.std.specs.List.{filter, range_with_len}
 use Rattle.std.proofs.lemmas.List.{append-nil}
 use Rattle.ring_world.specs.View.{right_of}
 use Rattle.ring_world.specs.Machine.{World, Member, member_at, view_at}
-use Rattle.ring_world.specs.Step.{with_member, with_current, current_is, moved_to}
+use Rattle.ring_world.specs.Step.{moved_to}
 use Rattle.ring_world.specs.Event.{refreshed}
 use Rattle.ring_world.proofs.WhatRefuses.{MayLook}
 use Rattle.ring_world.proofs.Happens.{IsGood}
@@ -13,21 +13,10 @@ use Rattle.gm_member.specs.Held.{fresh_in}
 use Rattle.gm_member.specs.Stands.{incoming_in, outgoing_in, waits_for, door_in, held_in}
 use Rattle.gm_member.proofs.Parts.{held_by, held_same}
 use Rattle.gm_member.proofs.DoorParts.{waits_by, member_other}
+use Rattle.gm_member.proofs.Others.{member_others}
 use Rattle.gm_member.proofs.OpenDoors.{sends_right, arriving, sending_member, opened_world, old_links, refresh_looks, refresh_opens, incoming_old, outgoing_old, door_after}
 use Rattle.gm_member.proofs.RefreshStands.{current_lt, nothing_opens}
 use Rattle.gm_member.proofs.WithinLinks.{IsWithin}
-
--- ---- what is written of another member
-
-pub member_others : (w : World) (x y : ℕ) (m : Member) → y ≢ x → held_in (with_member w x m) y ≡ held_in w y
-member_others w x y m ne =
-    ap (λ k. held_by y k (view_at w k.version) (option_map (outgoing_in w) k.out) (option_map (incoming_in w) k.current) (map (incoming_in w) (filter (waits_by w y k.current k.version) (range_with_len 0 (length w.links)))) w.initial w.more) (member_other w x y m ne)
-
--- a pick
-pub pick_others : (w : World) (x y : ℕ) (c : Option ℕ) → y ≢ x → held_in (current_is w x c) y ≡ held_in w y
-pick_others w x y c ne = member_others w x y (with_current c (member_at w x)) ne
-
--- ---- a refresh
 
 -- where a link opens
 opens_others : (w : World) (x v y : ℕ) → MayLook w x v → IsGood w → IsWithin w y → y ≢ x → held_in (opened_world w x v (old_links w x)) y ≡ record (held_in w y) { door = door_in w y ++ cond (nat_eq (right_of (view_at w v) x) y) (fresh_in w.initial w.more x v ∷ []) [] }

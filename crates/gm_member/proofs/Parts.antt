@@ -3,15 +3,17 @@ use Rattle.std.proofs.Common.{◌≡◌, ◌≢◌, ℕ, ◌+◌, ◌<◌, Bool,
 use Rattle.std.specs.Prelude.{◌&&◌, option_map, slice_index_or}
 use Rattle.std.specs.List.{filter, range_with_len}
 use Rattle.std.proofs.lemmas.Bool.{cases_eq, false≢true}
+use Rattle.std.proofs.lemmas.List.{length-set, get_or-set_same}
 use Rattle.credit_flow.specs.Credit.{Counted}
 use Rattle.group_view.specs.Since.{no_group}
 use Rattle.group_view.specs.View.{Group, entry_in}
+use Rattle.ring_world.specs.declared.phase.Ending.{Ending}
 use Rattle.ring_world.specs.declared.phase.Phase.{Phase}
 use Rattle.ring_world.specs.Rows.{Row}
 use Rattle.ring_world.specs.View.{left_at}
-use Rattle.ring_world.specs.Machine.{World, Member, Link, no_link, row_at, numbers_at, member_at, link_at, view_at}
+use Rattle.ring_world.specs.Machine.{World, Member, Link, no_link, no_member, row_at, numbers_at, member_at, link_at, view_at}
 use Rattle.ring_world.specs.OpenLinks.{is_place, is_current, passes}
-use Rattle.ring_world.specs.Step.{with_link}
+use Rattle.ring_world.specs.Step.{size, with_member, with_link, ended, end_out}
 use Rattle.ring_world.proofs.Lists.{at_set}
 use Rattle.ring_world.proofs.Rounds.{nat_eq-is, nat_eq-same}
 use Rattle.gm_member.specs.Parcels.{places}
@@ -176,3 +178,33 @@ outgoing_of l = record {
 -- a written link shows the same
 pub outgoing_same : (w : World) (s j : ℕ) (l : Link) → s < length w.links → outgoing_of l ≡ outgoing_of (link_at w s) → outgoing_of (link_at (with_link w s l) j) ≡ outgoing_of (link_at w j)
 outgoing_same w s j l lt e = at_set (λ i a. outgoing_of a ≡ outgoing_of (link_at w i)) w.links s j l no_link lt e (λ _. refl)
+
+-- ---- writes
+
+-- a member is written that takes from the same link, and has the same view
+pub written_held : (w : World) (x : ℕ) (y : Member) → x < size w → y.current ≡ (member_at w x).current → y.version ≡ (member_at w x).version
+    → held_in (with_member w x y) x ≡ held_by x y (view_at w y.version) (option_map (outgoing_in w) y.out) (option_map (incoming_in w) y.current) (door_in w x) w.initial w.more
+written_held w x y lt c v =
+    let w' : World = with_member w x y in
+    let now : member_at w' x ≡ y = get_or-set_same w.members x y no_member lt in
+    held_is w' x y (option_map (outgoing_in w) y.out) (option_map (incoming_in w) y.current) (door_in w x) now refl refl
+    (door_still w w' x refl refl (ap (λ (z : Member). z.current) now ∙ c) (ap (λ (z : Member). z.version) now ∙ v) (λ j. refl))
+
+-- a link is written that shows its receiver the same, and also its sender, where that is y
+pub link_held : (w : World) (o y : ℕ) (l : Link) → o < length w.links → seen l ≡ seen (link_at w o) → ((j : ℕ) → (member_at w y).out ≡ Some j → outgoing_of (link_at (with_link w o l) j) ≡ outgoing_of (link_at w j))
+    → held_in w y ≡ held_in (with_link w o l) y
+link_held w o y l lt shows out =
+    let w' : World = with_link w o l in
+    let h = held_in w y in
+    let same : (j : ℕ) → seen (link_at w' j) ≡ seen (link_at w j) = λ j. seen_same w o j l lt shows in
+    sym (held_is w' y (member_at w y) h.out h.current h.door refl
+    (there_same (outgoing_in w') (outgoing_in w) (member_at w y).out out)
+    (current_same w w' (member_at w y).current same)
+    (door_still w w' y (length-set w.links o l) refl refl refl same))
+
+-- a link ends, where there is one
+pub still_held : (why : Ending) (w : World) (o : Option ℕ) (y : ℕ) → ((k : ℕ) → o ≡ Some k → k < length w.links) → held_in w y ≡ held_in (end_out why w o) y
+still_held why w None y lt = refl
+still_held why w (Some o) y lt =
+    let l : Link = ended why (link_at w o) in
+    link_held w o y l (lt o refl) refl (λ j _. outgoing_same w o j l (lt o refl) refl)

@@ -39,12 +39,12 @@ first_is w x h none =
     ∙ sym (position_finds (is_at_door w x) w.links no_link)
 
 -- a place of the door, what stands there, and where that stands among the links
-pub record Picks (w : World) (x i : ℕ) : Type 0 where
+pub record PicksAt (w : World) (x i : ℕ) : Type 0 where
   pub there : i < length (door_links w x)
   pub found : at_door w x ≡ Some (door_link w x i)
   pub is : door_at (held_in w x).door i ≡ incoming_in w (door_link w x i)
 
-pub picks_some : (w : World) (x i : ℕ) → IsGood w → (member_at w x).current ≡ None → first_at_door (held_in w x) ≡ Some i → Picks w x i
+pub picks_some : (w : World) (x i : ℕ) → IsGood w → (member_at w x).current ≡ None → first_at_door (held_in w x) ≡ Some i → PicksAt w x i
 picks_some w x i h none e =
     let there : i < length (door_in w x) = (position-Some (is_for (view_at w (member_at w x).version) x) (door_in w x) i no_incoming e).0 in
     let within : i < length (door_links w x) = omega (arith, length-map (door_links w x) (incoming_in w)) in
@@ -71,7 +71,7 @@ pick_refuses w x h = ap (λ later. or_else (refuse_if (is_stopped (member_at w x
     by_first : (member_at w x).current ≡ None → (o : Option ℕ) → first_at_door (held_in w x) ≡ o → mine o ≡ pick_refusal w x
     by_first none None e = sym (ap (λ o. on_link o reason.NoLinkAtDoor (λ s. version_refusal (link_at w s).opened (member_at w x).version)) (picks_none w x h none e))
     by_first none (Some i) e =
-        let p : Picks w x i = picks_some w x i h none e in
+        let p : PicksAt w x i = picks_some w x i h none e in
         ap (λ (l : Incoming). version_refusal l.opened version) p.is
         ∙ ap (version_refusal (link_at w (door_link w x i)).opened) (view_version w (member_at w x).version h (h.inv.is_ring.held x))
         ∙ sym (ap (λ o. on_link o reason.NoLinkAtDoor (λ s. version_refusal (link_at w s).opened (member_at w x).version)) p.found)
@@ -83,7 +83,7 @@ pick_refuses w x h = ap (λ later. or_else (refuse_if (is_stopped (member_at w x
 -- ---- what the member holds then
 
 -- the links that wait once x takes from one of them
-picked_waits : (w : World) (x s : ℕ) → x < size w → (member_at w x).current ≡ None → (k : ℕ) → waits_for (current_is w x (Some s)) x k ≡ (waits_for w x k && not (nat_eq s k))
+pub picked_waits : (w : World) (x s : ℕ) → x < size w → (member_at w x).current ≡ None → (k : ℕ) → waits_for (current_is w x (Some s)) x k ≡ (waits_for w x k && not (nat_eq s k))
 picked_waits w x s l none k =
     ap (λ m. waits_by w x m.current m.version k) (member_same w x (with_current (Some s) (member_at w x)) l)
     ∙ tests (nat_eq (link_at w k).receiver x) (nat_eq s k) (link_at w k).over _
@@ -98,7 +98,7 @@ pub pick_stands : (w : World) (x i : ℕ) → x < size w → IsGood w → (membe
 pick_stands w x i l h none e =
     let s : ℕ = door_link w x i in
     let w' : World = current_is w x (Some s) in
-    let p : Picks w x i = picks_some w x i h none e in
+    let p : PicksAt w x i = picks_some w x i h none e in
     let y = member_at w x in
     ap (λ o. at_some o (held_in w x) (picked_at (held_in w x))) e
     ∙ held_same x y (view_at w y.version) (view_at w y.version) (option_map (outgoing_in w) y.out) (option_map (outgoing_in w) y.out) (Some (door_at (door_in w x) i)) (Some (incoming_in w s)) (without i (door_in w x)) (door_in w' x) w.initial w.more

@@ -3,15 +3,15 @@ use Rattle.std.proofs.Common.{◌≡◌, ℕ, ◌+◌, ◌-◌, ◌<◌, ◌≤�
 use Rattle.std.proofs.lemmas.List.{get_or-set_same, get_or-set_other}
 use Rattle.ring_names.specs.declared.message.Message.{Message}
 use Rattle.ring_world.specs.Rows.{no_row, published_row}
-use Rattle.ring_world.specs.Machine.{World, Member, no_member, row_at, member_at}
+use Rattle.ring_world.specs.Machine.{World, Member, row_at, member_at}
 use Rattle.ring_world.specs.Step.{size, log_of, published, publish_at}
 use Rattle.ring_world.specs.Lawful.{row_of}
-use Rattle.gm_member.specs.Held.{Held, known_at, published_held}
+use Rattle.gm_member.specs.Held.{known_at, published_held}
 use Rattle.gm_member.specs.Stands.{held_in}
 use Rattle.gm_member.proofs.Places.{tabled_set}
 use Rattle.gm_member.proofs.Fit.{IsFit}
 use Rattle.gm_member.proofs.Facts.{place_few, held_row, own_row}
-use Rattle.gm_member.proofs.Parts.{held_is, rows_of, door_still}
+use Rattle.gm_member.proofs.Parts.{rows_of, written_held}
 
 pub published_rows_are : (w : World) (x : ℕ) (m : Message) → IsFit w → 1 ≤ x → x < size w → set (held_in w x).rows (x - 1) (published_row (known_at (held_in w x).rows (x - 1)) m) ≡ rows_of (published x m (member_at w x))
 published_rows_are w x m f some lt =
@@ -27,12 +27,8 @@ published_rows_are w x m f some lt =
 
 pub publish_stands : (w : World) (x : ℕ) (m : Message) → IsFit w → 1 ≤ x → x < size w → published_held (held_in w x) m ≡ held_in (publish_at w x m) x
 publish_stands w x m f some lt =
-    let w' : World = publish_at w x m in
-    let h : Held = held_in w x in
-    let now : member_at w' x ≡ published x m (member_at w x) = get_or-set_same w.members x (published x m (member_at w x)) no_member lt in
-    ap (λ rs. record h { rows = rs }) (published_rows_are w x m f some lt)
-    ∙ sym (held_is w' x (published x m (member_at w x)) h.out h.current h.door now refl refl
-    (door_still w w' x refl refl (ap (λ (y : Member). y.current) now) (ap (λ (y : Member). y.version) now) (λ j. refl)))
+    ap (λ rs. record (held_in w x) { rows = rs }) (published_rows_are w x m f some lt)
+    ∙ sym (written_held w x (published x m (member_at w x)) lt refl refl)
 
 -- the number that a publish answers
 pub publish_number : (w : World) (x : ℕ) → IsFit w → 1 ≤ x → x < size w → (known_at (held_in w x).rows (x - 1)).got + 1 ≡ length (log_of w x) + 1

@@ -14,3 +14,6 @@ published_rows rows i x y m l e g = map-set row_of rows i y ∙ ap (set (map row
 
 pub rewrite_row : (rows : List Known) (i : ℕ) (x y : Known) → i < length rows → x ≡ get_or rows i x → row_of y ≡ row_of x → map row_of (set rows i y) ≡ map row_of rows
 rewrite_row rows i x y l e g = map-set row_of rows i y ∙ ap (set (map row_of rows) i) (g ∙ sym (read_row rows i x l e)) ∙ set-get_or (map row_of rows) i no_row
+
+-- what a message that joins a row does to the rows
+pub ruleset row_writes = (published_rows, rewrite_row, read_row)

@@ -12,12 +12,11 @@ use Rattle.ring_world.specs.declared.event.Event.TheVariants as event
 use Rattle.ring_world.specs.declared.numbers.Numbers.{Numbers}
 use Rattle.ring_world.specs.declared.phase.Phase.{Phase}
 use Rattle.ring_world.specs.declared.phase.Phase.TheVariants.{Up}
-use Rattle.ring_world.specs.Rows.{Row, no_row, no_numbers}
+use Rattle.ring_world.specs.Rows.{Row, no_row, no_numbers, taken_row}
 use Rattle.ring_world.specs.Refusal.{refuse_if, or_else, is_empty}
-use Rattle.ring_world.specs.Machine.{World, Packet, Member, no_link, no_member, row_at, numbers_at, member_at, link_at, view_at}
-use Rattle.ring_world.specs.Walk.{oldest}
-use Rattle.ring_world.specs.Step.{size, with_member, log_of, is_owned, taken_row, taker, popped, take_from}
-use Rattle.ring_world.specs.Event.{of_member, on_link, is_stopped, running_refusal, take_refusal, end_refusal, version_refusal, refusal, at_found, taken_by, effect}
+use Rattle.ring_world.specs.Machine.{World, Packet, Member, no_link, no_member, row_at, numbers_at, member_at, link_at, view_at, oldest}
+use Rattle.ring_world.specs.Step.{size, with_member, log_of, is_owned, taker, popped, take_from}
+use Rattle.ring_world.specs.Event.{on_link, is_stopped, running_refusal, take_refusal, end_refusal, version_refusal, refusal, effect}
 use Rattle.ring_world.specs.Lawful.{row_of}
 use Rattle.ring_world.proofs.Take.{row_at-taker, take_row}
 use Rattle.ring_world.proofs.Enabled.{take_effect}
@@ -28,7 +27,7 @@ use Rattle.gm_member.specs.Stands.{held_in, outgoing_in, incoming_in, lines_in, 
 use Rattle.gm_member.proofs.Places.{map-range_same, tabled_at}
 use Rattle.gm_member.proofs.Parcels.{accepted_row-own, accepted_row-other, line_news_is}
 use Rattle.gm_member.proofs.Fit.{IsFit}
-use Rattle.gm_member.proofs.Facts.{log_past, row_past, oldest_within, oldest_nothing, held_row}
+use Rattle.gm_member.proofs.Facts.{log_past, row_past, oldest_within, oldest_nothing, held_row, refused_there, done_there}
 use Rattle.gm_member.proofs.Parts.{held_is, rows_of, seen, incoming_seen, outgoing_same, there_same, waits_same, door_but, current_waits_not}
 use Rattle.gm_member.proofs.PutStands.{on_some_link}
 
@@ -100,14 +99,14 @@ pub record TakesFrom (w : World) (x s : ℕ) : Type 0 where
 
 pub take_enabled : (w : World) (x s : ℕ) → IsFit w → TakesFrom w x s → refusal w (event.Take (member_at w x).name) ≡ None
 take_enabled w x s f t =
-    ap (λ o. of_member o (λ y. running_refusal w y (on_link (member_at w y).current reason.NoCurrentLink (take_refusal w y)))) (f.named x t.some t.is_member)
+    refused_there w x (event.Take (member_at w x).name) (f.named x t.some t.is_member)
     ∙ ap (λ (g : Phase). or_else (refuse_if (is_stopped g) reason.Stopped) (on_link (member_at w x).current reason.NoCurrentLink (take_refusal w x))) t.up
     ∙ ap (λ c. on_link c reason.NoCurrentLink (take_refusal w x)) t.current
     ∙ packet_may w x s t.has t.version
 
 pub take_does : (w : World) (x s : ℕ) → IsFit w → TakesFrom w x s → effect w (event.Take (member_at w x).name) ≡ take_from w x s
 take_does w x s f t =
-    ap (λ o. at_found o w (λ y. at_found (member_at w y).current w (taken_by (member_at w y).phase w y))) (f.named x t.some t.is_member)
+    done_there w x (event.Take (member_at w x).name) (f.named x t.some t.is_member)
     ∙ take_effect w x s (member_at w x).current (member_at w x).phase t.current t.up
 
 -- ---- the packet

@@ -1,21 +1,15 @@
 -- Links that come to a member from the registrar.
-use Rattle.std.specs.Prelude.{ℕ, Bool, true, false, not, ◌&&◌, ◌++◌, List, map, Option, Some}
+use Rattle.std.specs.Prelude.{ℕ, Bool, not, ◌&&◌, ◌++◌, List, map, Option, Some}
 use Rattle.std.specs.List.{filter}
 use Rattle.ring_names.specs.declared.numbers.CreditSpec.{CreditSpec}
 use Rattle.credit_flow.specs.Credit.{none_taken}
 use Rattle.group_view.specs.View.{Group, as_id}
-use Rattle.group_view.specs.declared.link.LinkKind.{LinkKind}
-use Rattle.group_view.specs.declared.link.LinkKind.TheVariants as kind
+use Rattle.group_view.specs.Link.{is_ring}
 use Rattle.group_view.specs.declared.link.LinkName.{LinkName}
 use Rattle.group_view.specs.declared.request.Deposited.{Deposited}
 use Rattle.gm_member.specs.declared.links.InLink.{InLink}
 use Rattle.gm_member.specs.Held.{Held, Incoming, fresh_in, stays}
 use Rattle.gm_member.specs.Shown.{Ends}
-
--- whether a link is one of the ring
-abbrev pub is_ring : LinkKind → Bool
-is_ring kind.Ring = true
-is_ring kind.Copy = false
 
 module _ {I : Type 0} where
   -- whether a link that has come is one of the ring

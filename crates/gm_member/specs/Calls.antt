@@ -1,12 +1,17 @@
--- What the calls of a member do: the contract of the own part of each, from which the clauses of the public call follow.
-use Rattle.std.specs.Prelude.{◌≡◌, ◌⊎◌, ◌+◌, ◌-◌, ◌≤◌, ℕ, Bool, List, Option, Some, None, MatchOption, Result, Err, OnOk, OnErr, IfOk, IfErr}
+-- What the calls of a member do.
+use Rattle.std.specs.Prelude.{◌≡◌, ◌⊎◌, ◌+◌, ◌-◌, ◌≤◌, ℕ, Bool, List, [], ◌∷◌, Option, Some, None, is_some, MatchOption, IfSome, IfNone, Result, Err, OnOk, OnErr, IfOk, IfErr}
 use Rattle.std.specs.declared.vec.Vec.{Vec}
 use Rattle.std.specs.declared.alloc.Global.{Global}
 use Rattle.ring_names.specs.declared.message.Message.{Message}
 use Rattle.ring_names.specs.declared.reason.Reason.{Reason}
 use Rattle.group_view.specs.View.{Group}
+use Rattle.group_view.specs.declared.link.LinkName.{LinkName}
 use Rattle.group_view.specs.declared.request.Request.{Request}
+use Rattle.ring_world.specs.declared.event.Event.{Event}
+use Rattle.ring_world.specs.Machine.{World}
+use Rattle.ring_world.specs.Event.{refusal}
 use Rattle.ordered_link.specs.declared.item.EndReason.{EndReason}
+use Rattle.ordered_link.specs.declared.item.EndReason.TheVariants.{Stopped}
 use Rattle.ordered_link.specs.declared.item.Item.{Item}
 use Rattle.gm_member.specs.declared.fault.MemberFault.{MemberFault}
 use Rattle.gm_member.specs.declared.fault.MemberFault.TheVariants as faults
@@ -15,15 +20,20 @@ use Rattle.gm_member.specs.declared.packet.Load.{Load}
 use Rattle.gm_member.specs.declared.taken.Taken.{Taken}
 use Rattle.gm_member.specs.Parcels.{Parcel}
 use Rattle.gm_member.specs.News.{news_of}
-use Rattle.gm_member.specs.Held.{Held, known_at, published_held, put_refused, put_held, take_refused, took_held, ended_held, refreshed_held}
+use Rattle.gm_member.specs.Held.{Held, known_at, active_refused, published_held, put_refused, put_held, take_refused, took_held, gain_refused, gained_held, ended_held, stopped_held, pick_refused, first_at_door, picked_held}
+use Rattle.gm_member.specs.Stands.{WhereItStands, StepsTo}
 use Rattle.gm_member.specs.Ends.{IsPutFault, IsTakeFault, IsEndRefusal}
-use Rattle.gm_member.specs.Shown.{held_of, ends_of, OutIsReady, PutsOn, LooksOut, LooksIn, TookOn, LeavesOn, LooksBy, MovesTo}
+use Rattle.gm_member.specs.Shown.{Ends, held_of, ends_of, in_name_of, in_end, with_in, has_in, KeepsSpare, OutIsReady, PutsOn, LooksOut, LooksIn, TookOn, LeavesOn, EndsOn, PicksOn, LooksBy, MovesTo}
 
 -- ---- conditions, by the first that fails
 
 -- the call was refused for it
 abbrev pub IsRefusal : Option Reason → MemberFault → Type 0
 IsRefusal failing fault = (r : Reason) × (fault ≡ faults.Refused r) × (failing ≡ Some r)
+
+-- it was refused for it, or no condition fails and memory was wanted
+abbrev pub IsFault : Option Reason → MemberFault → Type 0
+IsFault failing fault = ((fault ≡ faults.OutOfMemory) × (failing ≡ None)) ⊎ IsRefusal failing fault
 
 -- A call is done only where no condition fails, and is refused for the first that does.
 pub record Heeds {A : Type 0} (failing : Option Reason) (result : Result A MemberFault) : Type 0 where
@@ -34,7 +44,7 @@ pub record Heeds {A : Type 0} (failing : Option Reason) (result : Result A Membe
 pub record HandsBack {A X : Type 0} (failing : Option Reason) (given : X) (result : Result A (X × MemberFault)) : Type 0 where
   pub enabled : OnOk result (failing ≡ None)
   pub refused : (r : Reason) → failing ≡ Some r → result ≡ Err (given, faults.Refused r)
-  pub fault : IfErr result (λ e. (e.0 ≡ given) × (((e.1 ≡ faults.OutOfMemory) × (failing ≡ None)) ⊎ IsRefusal failing e.1))
+  pub fault : IfErr result (λ e. (e.0 ≡ given) × IsFault failing e.1)
 
 -- ---- the calls, from a member m to n
 
@@ -43,7 +53,15 @@ module _ {O I : Type 0} where
   abbrev pub SameSelf : Member O I → Member O I → Type 0
   SameSelf m n = (n.id ≡ m.id) × (n.credit ≡ m.credit) × (n.known ≡ m.known)
 
-  -- and the links, with the ends that it has replaced or left; there may be more room for these
+  -- the links to it, with the ends of those that it has left
+  abbrev pub KeepsIns : Member O I → Member O I → Type 0
+  KeepsIns m n = (n.current ≡ m.current) × (n.door ≡ m.door) × (n.old_ins ≡ m.old_ins)
+
+  -- the link on which it sends, with the ends of those that it has replaced
+  abbrev pub KeepsOuts : Member O I → Member O I → Type 0
+  KeepsOuts m n = (n.out ≡ m.out) × (n.old_outs ≡ m.old_outs)
+
+  -- all links, with the ends that it has replaced or left; there may be more room for these
   abbrev pub SameLinks : Member O I → Member O I → Type 0
   SameLinks m n = (n.out ≡ m.out) × (n.current ≡ m.current) × (n.door ≡ m.door) × (n.old_outs.items ≡ m.old_outs.items) × (n.old_ins ≡ m.old_ins)
 
@@ -81,17 +99,82 @@ module _ {O I : Type 0} where
     pub err : OnErr result (held_of n ≡ held_of m)
     pub looks : OnErr result (LooksIn looked m n)
 
-  -- A call that only a condition can fail: the member then holds h, with P of its ends; else all of it is as it was.
+  -- A call that only a condition can fail: the member then holds h, and P of its ends; else all of it is as it was.
   pub record Acts (failing : Option Reason) (h : Held) (P : Type 0) (m n : Member O I) (result : Result (Unit {0}) MemberFault) : Type 0 where
     pub ok : OnOk result (held_of n ≡ h)
     pub ends : OnOk result P
     pub fault : IfErr result (λ fault. IsRefusal failing fault)
     pub err : OnErr result (n ≡ m)
 
-  -- The member reads a view, and the answer is what is to be asked of the registrar then.
-  pub record Refreshes (are_fresh : ℕ → O → I → Type 0) (free : O → ℕ) (ended : O → Bool) (puts : O → Item Load → O → Type 0) (view : Group) (m n : Member O I) (result : Result (Vec (Request I) Global) (Group × MemberFault)) : Type 0 where
-    pub ok : OnOk result (held_of n ≡ refreshed_held (held_of m) view)
+  -- It stops, and the link on which it sends ends.
+  abbrev pub Stops : (O → Item Load → O → Type 0) → Member O I → Member O I → Result (Unit {0}) MemberFault → Type 0
+  Stops puts m n result = Acts (active_refused (held_of m) None) (stopped_held (held_of m)) (EndsOn puts Stopped m n) m n result
+
+  -- A grant becomes credit of the link on which it sends.
+  abbrev pub Gains : ℕ → Member O I → Member O I → Result (Unit {0}) MemberFault → Type 0
+  Gains amount m n result = Acts (gain_refused (held_of m)) (gained_held (held_of m) amount) (ends_of n ≡ record (ends_of m) { kept = None }) m n result
+
+  -- It takes from now on from the first link at its door that it may.
+  abbrev pub PicksUp : Member O I → Member O I → Result (Unit {0}) MemberFault → Type 0
+  PicksUp m n result = Acts (pick_refused (held_of m)) (picked_held (held_of m)) ((i : ℕ) × (first_at_door (held_of m) ≡ Some i) × PicksOn i m n) m n result
+
+  -- The member reads a view and then holds h, and the answer is what is to be asked of the registrar then.
+  pub record Reads {E : Type 0} (are_fresh : ℕ → O → I → Type 0) (free : O → ℕ) (ended : O → Bool) (puts : O → Item Load → O → Type 0) (h : Held) (view : Group) (m n : Member O I) (result : Result (Vec (Request I) Global) E) : Type 0 where
+    pub ok : OnOk result (held_of n ≡ h)
     pub links : OnOk result (LooksBy view m n)
     pub moves : IfOk result (λ requests. MovesTo are_fresh free ended puts view m n requests.items)
     pub err : OnErr result (held_of n ≡ held_of m)
     pub err_ends : OnErr result (ends_of n ≡ ends_of m)
+
+-- ---- ends that are lent and given up
+
+module _ {O I : Type 0} where
+  -- An end comes back, and these are the ends that the member then has.
+  pub record Gives (e : Ends O I) (m n : Member O I) : Type 0 where
+    pub ends : ends_of n ≡ e
+    pub held : held_of n ≡ held_of m
+    pub kept : KeepsSpare m n
+
+  -- This end is lent, where it is there, and these are the ends that the member then has.
+  pub record Lends {A : Type 0} (end : Option A) (e : Ends O I) (m n : Member O I) (result : Option A) : Type 0 where
+    pub lent : result ≡ end
+    pub ends : ends_of n ≡ e
+    pub held : held_of n ≡ held_of m
+    pub kept : KeepsSpare m n
+
+  -- an end to the member comes back to a place
+  abbrev pub GivesIn : ℕ → I → Member O I → Member O I → Type 0
+  GivesIn place end m n = Gives (with_in (ends_of m) place (Some end)) m n
+
+  -- the one at a place is lent
+  abbrev pub LendsIn : ℕ → Member O I → Member O I → Option I → Type 0
+  LendsIn place m n result = Lends (in_end (ends_of m) place) (with_in (ends_of m) place None) m n result
+
+  -- The oldest of these ends is given up, where there is one, and these are the ends that the member then has.
+  pub record GivesUp {A : Type 0} (old new : List (LinkName × A)) (e : Ends O I) (m n : Member O I) (result : Option (LinkName × A)) : Type 0 where
+    pub some : IfSome result (λ end. old ≡ end ∷ new)
+    pub none : IfNone result (old ≡ [])
+    pub still : IfNone result (n ≡ m)
+    pub ends : ends_of n ≡ e
+    pub held : held_of n ≡ held_of m
+    pub kept : KeepsSpare m n
+
+-- This is the name of the link at a place: none exactly where no such link is there.
+pub record NamesIn (h : Held) (place : ℕ) (result : Option LinkName) : Type 0 where
+  pub named : result ≡ in_name_of h place
+  pub there : is_some result ≡ has_in h place
+
+-- ---- the ring's events, wherever the member stands in a state of a run
+
+module _ {O I : Type 0} where
+  -- what was done is the event
+  abbrev pub IsEvent : Event → Member O I → Member O I → Type 0
+  IsEvent e m n = WhereItStands (held_of m) (λ w x. StepsTo w x e (held_of n))
+
+  -- the call is refused where P holds and the event is, for the same reason
+  abbrev pub RefusesWhere : {A : Type 0} → (World → ℕ → Type 0) → Event → Member O I → Result A MemberFault → Type 0
+  RefusesWhere P e m result = WhereItStands (held_of m) (λ w x. P w x → (r : Reason) → refusal w e ≡ Some r → result ≡ Err (faults.Refused r))
+
+  -- it is refused where the event is
+  abbrev pub RefusesAs : {A : Type 0} → Event → Member O I → Result A MemberFault → Type 0
+  RefusesAs e m result = WhereItStands (held_of m) (λ w x. (r : Reason) → refusal w e ≡ Some r → result ≡ Err (faults.Refused r))

@@ -10,7 +10,7 @@ use Rattle.gm_member.specs.declared.packet.Load.{Load}
 use Rattle.gm_member.specs.declared.fault.MemberFault.{MemberFault}
 use Rattle.gm_member.specs.declared.fault.MemberFault.TheVariants as faults
 use Rattle.gm_member.specs.Parcels.{Parcel}
-use Rattle.gm_member.specs.Loads.{parcel_in, on_link, GrantsIf}
+use Rattle.gm_member.specs.Loads.{parcel_in, as_item, GrantsIf}
 
 module _ {O : Type 0} where
   -- the end is there, and hasn't ended
@@ -19,7 +19,7 @@ module _ {O : Type 0} where
 
   -- the packet was put on the end
   abbrev pub EndPuts : (O → Item Load → O → Type 0) → Parcel → Option O → Option O → Type 0
-  EndPuts puts k a b = (o : O) × (p : O) × (a ≡ Some o) × (b ≡ Some p) × puts o (on_link k) p
+  EndPuts puts k a b = (o : O) × (p : O) × (a ≡ Some o) × (b ≡ Some p) × puts o (as_item k) p
 
   -- the end may know more
   abbrev pub EndLooks : (O → O → Type 0) → Option O → Option O → Type 0
@@ -74,7 +74,7 @@ module _ {I : Type 0} where
   -- a packet was taken after a look, and a grant given where one is due
   abbrev pub EndTook : (I → Option ℕ) → (I → Item Load → I → Type 0) → (I → I → Type 0) → (I → ℕ → I → Type 0) → Option ℕ → Parcel → Option I → Option I → Type 0
   EndTook waiting takes looked sends due k a b =
-      (i : I) × (j : I) × (y : I) × (z : I) × (a ≡ Some i) × looked i j × takes j (on_link k) y × (waiting y ≡ None)
+      (i : I) × (j : I) × (y : I) × (z : I) × (a ≡ Some i) × looked i j × takes j (as_item k) y × (waiting y ≡ None)
       × GrantsIf due sends y z × (b ≡ Some z)
 
   -- the end of the link was taken after a look

@@ -11,8 +11,8 @@ abbrev pub parcel_in : Load → Parcel
 parcel_in (load.Packet k) = k
 
 -- a packet as it stands on a link
-abbrev pub on_link : Parcel → Item Load
-on_link k = item.Load (load.Packet k)
+abbrev pub as_item : Parcel → Item Load
+as_item k = item.Load (load.Packet k)
 
 -- a grant was given where one is due
 abbrev pub GrantsIf : {I : Type 0} → Option ℕ → (I → ℕ → I → Type 0) → I → I → Type 0

@@ -10,7 +10,7 @@ use Rattle.ring_world.specs.Rows.{Row}
 use Rattle.gm_member.specs.declared.packet.Load.{Load}
 use Rattle.gm_member.specs.declared.links.OutLink.{OutLink}
 use Rattle.gm_member.specs.declared.spare.Spare.{Spare}
-use Rattle.gm_member.specs.Loads.{on_link}
+use Rattle.gm_member.specs.Loads.{as_item}
 use Rattle.gm_member.specs.View.{out_of}
 use Rattle.gm_member.specs.Held.{fresh_out, put_on, lines_on, next_sent, parcel_on}
 
@@ -32,5 +32,5 @@ module _ {O I : Type 0} where
     pub kept : l.kept ≡ None
     pub end : O
     pub there : l.end ≡ Some end
-    pub packet : puts s.out (on_link (parcel_on version rows (fresh_out credit.initial credit.more to.0 version))) end
+    pub packet : puts s.out (as_item (parcel_on version rows (fresh_out credit.initial credit.more to.0 version))) end
     pub deposit : requests ≡ Deposit by to version Ring s.link ∷ []

@@ -12,8 +12,7 @@ use Rattle.ring_world.specs.declared.event.Event.TheVariants as event
 use Rattle.ring_world.specs.Rows.{most_members}
 use Rattle.ring_world.specs.Refusal.{is_empty}
 use Rattle.ring_world.specs.View.{right_of}
-use Rattle.ring_world.specs.Machine.{World, Packet, row_at, numbers_at, member_at, link_at, view_at}
-use Rattle.ring_world.specs.Walk.{oldest}
+use Rattle.ring_world.specs.Machine.{World, Packet, row_at, numbers_at, member_at, link_at, view_at, oldest}
 use Rattle.ring_world.specs.OpenLinks.{is_door_link, passes}
 use Rattle.ring_world.specs.Step.{size, log_of, is_owned, next_packet, opening}
 use Rattle.ring_world.specs.Event.{refusal, effect, IsRun, last}

@@ -7,29 +7,22 @@ use group_view::LinkName;
 use ordered_link::{LinkIn, LinkPair};
 
 impl<O: LinkPair<Load, In = I>, I: LinkIn<Load> + Drop> Member<O, I> {
-    ghost use Rattle.std.specs.Prelude.{◌≡◌, ◌<◌, ◌∷◌, ◌-◌, [], ℕ, suc, zero, List, length, drop, None, Some, IfSome};
-    ghost use Rattle.std.specs.Prelude.{IfNone, IsSome, slice_set, slice_index_or, nat_lt, is_some, true};
-    ghost use Rattle.group_view.specs.declared.link.LinkName.{LinkName};
-    ghost use Rattle.gm_member.specs.Shown.{held_of, ends_of, in_name_of, in_end, with_in, has_in, KeepsSpare};
+    ghost use Rattle.std.specs.Prelude.{◌≡◌, length, None, Some, slice_set, slice_index_or, nat_lt, is_some, true};
+    ghost use Rattle.gm_member.specs.Shown.{held_of, ends_of, in_end, has_in};
+    ghost use Rattle.gm_member.specs.Calls.{Gives, GivesIn, Lends, LendsIn, GivesUp, NamesIn};
 
     /// Lends the end of a link to the member: of the one from which it takes at place 0, of those at its door, the
     /// oldest first, from place 1 on. None where no such link is there, or its end is lent. The caller gives it back
     /// to the same place before any other call. It wants no memory.
     pub fn lend_in(&mut self, place: u32) -> Option<I>
-        ensures lent { result ≡ in_end (ends_of self.old) place }
-        ensures ends { ends_of self.new ≡ with_in (ends_of self.old) place None }
-        ensures held { held_of self.new ≡ held_of self.old }
-        ensures kept { KeepsSpare self.old self.new }
+        ensures { LendsIn place self.old self.new result }
     {
         self.lend_at(place as usize)
     }
 
     /// `lend_in` at any place.
     pub fn lend_at(&mut self, place: usize) -> Option<I>
-        ensures lent { result ≡ in_end (ends_of self.old) place }
-        ensures ends { ends_of self.new ≡ with_in (ends_of self.old) place None }
-        ensures held { held_of self.new ≡ held_of self.old }
-        ensures kept { KeepsSpare self.old self.new }
+        ensures { LendsIn place self.old self.new result }
     {
         if place == 0 {
             return self.lend_current();
@@ -41,9 +34,7 @@ impl<O: LinkPair<Load, In = I>, I: LinkIn<Load> + Drop> Member<O, I> {
     pub fn give_in(&mut self, place: u32, link: I)
         requires there { has_in (held_of self.old) place ≡ true }
         requires lent { in_end (ends_of self.old) place ≡ None }
-        ensures ends { ends_of self.new ≡ with_in (ends_of self.old) place (Some link) }
-        ensures held { held_of self.new ≡ held_of self.old }
-        ensures kept { KeepsSpare self.old self.new }
+        ensures { GivesIn place link self.old self.new }
     {
         self.give_at(place as usize, link);
     }
@@ -52,9 +43,7 @@ impl<O: LinkPair<Load, In = I>, I: LinkIn<Load> + Drop> Member<O, I> {
     pub fn give_at(&mut self, place: usize, link: I)
         requires there { has_in (held_of self.old) place ≡ true }
         requires lent { in_end (ends_of self.old) place ≡ None }
-        ensures ends { ends_of self.new ≡ with_in (ends_of self.old) place (Some link) }
-        ensures held { held_of self.new ≡ held_of self.old }
-        ensures kept { KeepsSpare self.old self.new }
+        ensures { GivesIn place link self.old self.new }
     {
         if place == 0 {
             return self.give_current(link);
@@ -64,10 +53,7 @@ impl<O: LinkPair<Load, In = I>, I: LinkIn<Load> + Drop> Member<O, I> {
 
     /// Lends the end of the link from which the member takes: none where it isn't there.
     fn lend_current(&mut self) -> Option<I>
-        ensures lent { result ≡ (ends_of self.old).link }
-        ensures ends { ends_of self.new ≡ record (ends_of self.old) { link = None } }
-        ensures held { held_of self.new ≡ held_of self.old }
-        ensures kept { KeepsSpare self.old self.new }
+        ensures { Lends (ends_of self.old).link (record (ends_of self.old) { link = None }) self.old self.new result }
     {
         match &mut self.current {
             Some(link) => link.end.take(),
@@ -79,9 +65,7 @@ impl<O: LinkPair<Load, In = I>, I: LinkIn<Load> + Drop> Member<O, I> {
     fn give_current(&mut self, link: I)
         requires takes { is_some (held_of self.old).current ≡ true }
         requires lent { (ends_of self.old).link ≡ None }
-        ensures ends { ends_of self.new ≡ record (ends_of self.old) { link = Some link } }
-        ensures held { held_of self.new ≡ held_of self.old }
-        ensures kept { KeepsSpare self.old self.new }
+        ensures { Gives (record (ends_of self.old) { link = Some link }) self.old self.new }
     {
         match &mut self.current {
             Some(current) => current.end = Some(link),
@@ -92,11 +76,9 @@ impl<O: LinkPair<Load, In = I>, I: LinkIn<Load> + Drop> Member<O, I> {
     /// Lends the end of the link at a place of the member's door, from 0: none where no link stands there, or its end
     /// is lent.
     fn lend_at_door(&mut self, place: usize) -> Option<I>
-        ensures lent { result ≡ slice_index_or (ends_of self.old).door place None }
-        ensures ends { ends_of self.new ≡ record (ends_of self.old)
-            { door = slice_set (ends_of self.old).door place None } }
-        ensures held { held_of self.new ≡ held_of self.old }
-        ensures kept { KeepsSpare self.old self.new }
+        ensures { Lends (slice_index_or (ends_of self.old).door place None)
+            (record (ends_of self.old) { door = slice_set (ends_of self.old).door place None })
+            self.old self.new result }
     {
         if place >= self.door.len() {
             return None;
@@ -109,10 +91,8 @@ impl<O: LinkPair<Load, In = I>, I: LinkIn<Load> + Drop> Member<O, I> {
     fn give_at_door(&mut self, place: usize, link: I)
         requires there { nat_lt place (length (held_of self.old).door) ≡ true }
         requires lent { slice_index_or (ends_of self.old).door place None ≡ None }
-        ensures ends { ends_of self.new ≡ record (ends_of self.old)
-            { door = slice_set (ends_of self.old).door place (Some link) } }
-        ensures held { held_of self.new ≡ held_of self.old }
-        ensures kept { KeepsSpare self.old self.new }
+        ensures { Gives (record (ends_of self.old) { door = slice_set (ends_of self.old).door place (Some link) })
+            self.old self.new }
     {
         let waiting = &mut self.door[place];
         waiting.end = Some(link);
@@ -121,16 +101,14 @@ impl<O: LinkPair<Load, In = I>, I: LinkIn<Load> + Drop> Member<O, I> {
     /// The name of a link to the member, of the one from which it takes at place 0, of those at its door from place 1
     /// on: none exactly where no such link is there.
     pub fn in_name(&self, place: u32) -> Option<LinkName>
-        ensures named { result ≡ in_name_of (held_of self.now) place }
-        ensures there { is_some result ≡ has_in (held_of self.now) place }
+        ensures { NamesIn (held_of self.now) place result }
     {
         self.name_at(place as usize)
     }
 
     /// `in_name` at any place.
     pub fn name_at(&self, place: usize) -> Option<LinkName>
-        ensures named { result ≡ in_name_of (held_of self.now) place }
-        ensures there { is_some result ≡ has_in (held_of self.now) place }
+        ensures { NamesIn (held_of self.now) place result }
     {
         if place == 0 {
             return match &self.current {
@@ -147,12 +125,8 @@ impl<O: LinkPair<Load, In = I>, I: LinkIn<Load> + Drop> Member<O, I> {
     /// The oldest of the ends that the member has replaced, with the name of its link: none exactly where there is
     /// none. It is given up.
     pub fn old_out(&mut self) -> Option<(LinkName, O)>
-        ensures some { IfSome result (λ old. (ends_of self.old).old_outs ≡ old ∷ (ends_of self.new).old_outs) }
-        ensures none { IfNone result ((ends_of self.old).old_outs ≡ []) }
-        ensures still { IfNone result (self.new ≡ self.old) }
-        ensures ends { ends_of self.new ≡ record (ends_of self.old) { old_outs = (ends_of self.new).old_outs } }
-        ensures held { held_of self.new ≡ held_of self.old }
-        ensures kept { KeepsSpare self.old self.new }
+        ensures { GivesUp (ends_of self.old).old_outs (ends_of self.new).old_outs
+            (record (ends_of self.old) { old_outs = (ends_of self.new).old_outs }) self.old self.new result }
     {
         if self.old_outs.is_empty() {
             return None;
@@ -162,12 +136,8 @@ impl<O: LinkPair<Load, In = I>, I: LinkIn<Load> + Drop> Member<O, I> {
 
     /// The oldest of the ends that the member has left, likewise.
     pub fn old_in(&mut self) -> Option<(LinkName, I)>
-        ensures some { IfSome result (λ old. (ends_of self.old).old_ins ≡ old ∷ (ends_of self.new).old_ins) }
-        ensures none { IfNone result ((ends_of self.old).old_ins ≡ []) }
-        ensures still { IfNone result (self.new ≡ self.old) }
-        ensures ends { ends_of self.new ≡ record (ends_of self.old) { old_ins = (ends_of self.new).old_ins } }
-        ensures held { held_of self.new ≡ held_of self.old }
-        ensures kept { KeepsSpare self.old self.new }
+        ensures { GivesUp (ends_of self.old).old_ins (ends_of self.new).old_ins
+            (record (ends_of self.old) { old_ins = (ends_of self.new).old_ins }) self.old self.new result }
     {
         if self.old_ins.is_empty() {
             return None;

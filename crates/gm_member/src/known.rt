@@ -20,6 +20,13 @@ pub struct Known {
     pub(crate) retired: u64,
 }
 
+/// What was sent of an origin of which nothing was.
+const NO_NUMBERS: Numbers = Numbers {
+    lo: 0,
+    got: 0,
+    forgot: 0,
+};
+
 fn copied(alloc: Global, messages: &[Message]) -> Result<Vec<Message>, OutOfMemory>
     ensures { IfOk result (λ v. v.items ≡ messages.now) }
 {
@@ -52,18 +59,12 @@ pub(crate) fn nothing_known(alloc: Global, n: usize) -> Result<Vec<Known>, OutOf
 pub(crate) fn nothing_sent(alloc: Global, n: usize) -> Result<Vec<Numbers>, OutOfMemory>
     ensures { IfOk result (λ v. v.items ≡ map (λ (_ : ℕ). no_numbers) (range_with_len 0 n)) }
 {
-    let sent = (0..n)
-        .map(|_p| Numbers {
-            lo: 0,
-            got: 0,
-            forgot: 0,
-        })
-        .collect(alloc)?;
+    let sent = (0..n).map(|_p| NO_NUMBERS).collect(alloc)?;
     Ok(sent)
 }
 
 /// A message joins the list at a place, and its number there is answered.
-#[tactic(auto, using(crate::proofs::RowViews::published_rows, crate::proofs::RowViews::rewrite_row, crate::proofs::RowViews::read_row))]
+#[tactic(auto, using(crate::proofs::RowViews::row_writes))]
 pub(crate) fn push_at(known: &mut [Known], i: usize, message: Message) -> Result<u64, Message>
     requires { i < length known.old }
     ensures ok { OnOk result (map row_of known.new
@@ -84,11 +85,7 @@ fn sent_at(sent: &[Numbers], p: usize) -> Numbers
 {
     match sent.get(p) {
         Some(numbers) => *numbers,
-        None => Numbers {
-            lo: 0,
-            got: 0,
-            forgot: 0,
-        },
+        None => NO_NUMBERS,
     }
 }
 

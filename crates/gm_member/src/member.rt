@@ -80,8 +80,9 @@ impl<O: LinkPair<Load, In = I>, I: LinkIn<Load> + Drop> Member<O, I> {
     ghost use Rattle.gm_member.specs.Shown.{LooksOut, LooksIn, TookOn, LeavesOn, EndsOn, KeepsGrant, NoGrantBack};
     ghost use Rattle.gm_member.specs.Shown.{GrantIsBack, LooksBy, MovesOn, IsReadyToMove, SendsOn, MovesTo, PicksOn};
     ghost use Rattle.gm_member.specs.Shown.{KeepsSpare, OutIsOpen};
-    ghost use Rattle.gm_member.specs.Calls.{Heeds, HandsBack, Publishes, Puts, Takes, TakesEnd, Acts, Refreshes};
-    ghost use Rattle.gm_member.specs.Calls.{SameSelf, SameLinks};
+    ghost use Rattle.gm_member.specs.Calls.{Heeds, HandsBack, Publishes, Puts, Takes, TakesEnd, Stops, Gains, PicksUp};
+    ghost use Rattle.gm_member.specs.Calls.{Reads, IsEvent, RefusesAs, RefusesWhere, SameSelf, SameLinks, KeepsIns};
+    ghost use Rattle.gm_member.specs.Calls.{KeepsOuts, Gives, Lends};
 
     /// A member of the ring's opening, which has published and heard nothing. The caller gives its id in the ring,
     /// the view in which the ring opens, the credit of the ring's links, the end of the link to its right neighbour
@@ -219,21 +220,11 @@ impl<O: LinkPair<Load, In = I>, I: LinkIn<Load> + Drop> Member<O, I> {
     /// A message joins the member's own log, and its number there, from 1, is answered. Refused with `Stopped`,
     /// `Waiting`, and `AwaitingAnswer` while a question of the member's own is open. As `gm:broadcast`.
     pub fn publish(&mut self, message: Message) -> Result<u64, (Message, MemberFault)>
-        ensures enabled { OnOk result (up_refused (held_of self.old) None ≡ None) }
-        ensures ok { OnOk result (held_of self.new ≡ published_held (held_of self.old) message) }
-        ensures number { IfOk result (λ n.
-            n ≡ (known_at (held_of self.old).rows ((held_of self.old).id - 1)).got + 1) }
-        ensures refused { (r : Reason) → up_refused (held_of self.old) None ≡ Some r
-            → result ≡ Err (message, MemberFault.Refused r) }
-        ensures fault { IfErr result (λ e. (e.0 ≡ message) × ((e.1 ≡ MemberFault.OutOfMemory)
-            ⊎ (r : Reason) × (e.1 ≡ MemberFault.Refused r) × (up_refused (held_of self.old) None ≡ Some r))) }
-        ensures memory { IfErr result (λ e. e.1 ≡ MemberFault.OutOfMemory → up_refused (held_of self.old) None ≡ None) }
-        ensures err { OnErr result (held_of self.new ≡ held_of self.old) }
-        ensures ends { ends_of self.new ≡ ends_of self.old }
+        ensures back { HandsBack (up_refused (held_of self.old) None) message result }
+        ensures publishes { Publishes message self.old self.new result }
 
         // Wherever the member stands in a state of a run, this is the ring's event.
-        ensures steps { OnOk result (WhereItStands (held_of self.old) (λ w x.
-            StepsTo w x (publishing (held_of self.old).name message) (held_of self.new))) }
+        ensures steps { OnOk result (IsEvent (publishing (held_of self.old).name message) self.old self.new) }
         ensures logged { IfOk result (λ n.
             WhereItStands (held_of self.old) (λ w x. n ≡ length (log_of w x) + 1)) }
         ensures not_enabled { WhereItStands (held_of self.old) (λ w x. (r : Reason)
@@ -261,10 +252,7 @@ impl<O: LinkPair<Load, In = I>, I: LinkIn<Load> + Drop> Member<O, I> {
     /// Lends the end of the link on which the member sends: none where it isn't there. The caller gives it back before
     /// any other call.
     pub fn lend_out(&mut self) -> Option<O>
-        ensures lent { result ≡ (ends_of self.old).out }
-        ensures ends { ends_of self.new ≡ record (ends_of self.old) { out = None } }
-        ensures held { held_of self.new ≡ held_of self.old }
-        ensures kept { KeepsSpare self.old self.new }
+        ensures { Lends (ends_of self.old).out (record (ends_of self.old) { out = None }) self.old self.new result }
     {
         match &mut self.out {
             Some(link) => link.end.take(),
@@ -276,9 +264,7 @@ impl<O: LinkPair<Load, In = I>, I: LinkIn<Load> + Drop> Member<O, I> {
     pub fn give_out(&mut self, out: O)
         requires lent { (ends_of self.old).out ≡ None }
         requires sends { IsSome (held_of self.old).out }
-        ensures ends { ends_of self.new ≡ record (ends_of self.old) { out = Some out } }
-        ensures held { held_of self.new ≡ held_of self.old }
-        ensures kept { KeepsSpare self.old self.new }
+        ensures { Gives (record (ends_of self.old) { out = Some out }) self.old self.new }
     {
         match &mut self.out {
             Some(link) => link.end = Some(out),
@@ -313,27 +299,16 @@ impl<O: LinkPair<Load, In = I>, I: LinkIn<Load> + Drop> Member<O, I> {
     /// its activity. Refused as `put_refusal` says, and then with `LinkFull` where the link handed the packet back.
     pub fn put(&mut self) -> Result<(), MemberFault>
         requires { OutIsReady O.ended self.old }
-        ensures enabled { OnOk result (put_refused (held_of self.old) ≡ None) }
-        ensures ok { OnOk result (held_of self.new ≡ put_held (held_of self.old)) }
-        ensures packet { OnOk result (PutsOn O.puts self.old self.new) }
-        ensures refused { (r : Reason) → put_refused (held_of self.old) ≡ Some r
-            → result ≡ Err (MemberFault.Refused r) }
-        ensures fault { IfErr result (λ fault.
-            ((r : Reason) × (fault ≡ MemberFault.Refused r) × (put_refused (held_of self.old) ≡ Some r))
-            ⊎ ((put_refused (held_of self.old) ≡ None) × IsPutFault O.free fault (ends_of self.new).out)) }
-        ensures err { OnErr result (held_of self.new ≡ held_of self.old) }
-        ensures looks { OnErr result (LooksOut O.looked self.old self.new) }
-        ensures ready { OutIsReady O.ended self.new }
+        ensures heeds { Heeds (put_refused (held_of self.old)) result }
+        ensures puts { Puts O.free O.ended O.puts O.looked self.old self.new result }
 
         // Wherever the member stands in a state of a run, this is the ring's event, and the packet is the one that it
         // puts.
-        ensures steps { OnOk result (WhereItStands (held_of self.old) (λ w x.
-            StepsTo w x (Put (held_of self.old).name) (held_of self.new))) }
+        ensures steps { OnOk result (IsEvent (Put (held_of self.old).name) self.old self.new) }
         ensures put { OnOk result ((o : Outgoing) × ((held_of self.old).out ≡ Some o)
             × WhereItStands (held_of self.old) (λ w x. IsPutPacket w x
             (parcel_on (held_of self.old).view.version (held_of self.old).rows o))) }
-        ensures not_enabled { WhereItStands (held_of self.old) (λ w x. (r : Reason)
-            → refusal w (Put (held_of self.old).name) ≡ Some r → result ≡ Err (MemberFault.Refused r)) }
+        ensures not_enabled { RefusesAs (Put (held_of self.old).name) self.old result }
     {
         self.put_next()
     }
@@ -375,21 +350,8 @@ impl<O: LinkPair<Load, In = I>, I: LinkIn<Load> + Drop> Member<O, I> {
     /// member's. As `gm:handle_msg` of an activity.
     pub fn take(&mut self) -> Result<Vec<Taken>, MemberFault>
         requires { InIsReady self.old }
-        ensures enabled { OnOk result (take_refused (held_of self.old) None ≡ None) }
-        ensures ok { IfOk result (λ taken. (k : Parcel)
-            × (k.view ≤ (held_of self.old).view.version)
-            × (held_of self.new ≡ took_held (held_of self.old) k)
-            × (taken.items ≡ news_of (held_of self.old) k)
-            × TookOn I.waiting I.takes I.looked I.sends k self.old self.new) }
-        ensures refused { (r : Reason) → take_refused (held_of self.old) None ≡ Some r
-            → result ≡ Err (MemberFault.Refused r) }
-        ensures fault { IfErr result (λ fault.
-            ((r : Reason) × (fault ≡ MemberFault.Refused r) × (take_refused (held_of self.old) None ≡ Some r))
-            ⊎ ((take_refused (held_of self.old) None ≡ None)
-            × MatchOption self.new.current ⊥ (λ l. IsTakeFault I.known I.waiting (held_of self.old).view.version
-            fault l.end))) }
-        ensures err { OnErr result (held_of self.new ≡ held_of self.old) }
-        ensures looks { OnErr result (LooksIn I.looked self.old self.new) }
+        ensures heeds { Heeds (take_refused (held_of self.old) None) result }
+        ensures takes { Takes I.known I.waiting I.takes I.looked I.sends self.old self.new result }
 
         // Wherever the member stands in a state of a run and the packet is the oldest on its link, this is the ring's
         // event, and the messages are those of the logs.
@@ -398,9 +360,9 @@ impl<O: LinkPair<Load, In = I>, I: LinkIn<Load> + Drop> Member<O, I> {
             × WhereItStands (held_of self.old) (λ w x. IsNextPacket w x k
             → StepsTo w x (Take (held_of self.old).name) (held_of self.new)
             × (taken.items ≡ taken_in w (member_at w x).current x))) }
-        ensures not_enabled { WhereItStands (held_of self.old) (λ w x.
-            ((s : ℕ) → (member_at w x).current ≡ Some s → the_take_refusal w x s ≡ None)
-            → (r : Reason) → refusal w (Take (held_of self.old).name) ≡ Some r → result ≡ Err (MemberFault.Refused r)) }
+        ensures not_enabled { RefusesWhere
+            (λ w x. (s : ℕ) → (member_at w x).current ≡ Some s → the_take_refusal w x s ≡ None)
+            (Take (held_of self.old).name) self.old result }
     {
         self.take_next()
     }
@@ -429,25 +391,15 @@ impl<O: LinkPair<Load, In = I>, I: LinkIn<Load> + Drop> Member<O, I> {
     /// goes down.
     pub fn take_end(&mut self) -> Result<EndReason, MemberFault>
         requires { InIsReady self.old }
-        ensures enabled { OnOk result (take_refused (held_of self.old) None ≡ None) }
-        ensures ok { OnOk result (held_of self.new ≡ ended_held (held_of self.old)) }
-        ensures leaves { IfOk result (λ reason. LeavesOn I.takes I.looked reason self.old self.new) }
-        ensures refused { (r : Reason) → take_refused (held_of self.old) None ≡ Some r
-            → result ≡ Err (MemberFault.Refused r) }
-        ensures fault { IfErr result (λ fault. (r : Reason) × (fault ≡ MemberFault.Refused r)
-            × ((take_refused (held_of self.old) None ≡ Some r)
-            ⊎ ((take_refused (held_of self.old) None ≡ None)
-            × MatchOption self.new.current ⊥ (λ l. IsEndRefusal I.known I.waiting r l.end)))) }
-        ensures err { OnErr result (held_of self.new ≡ held_of self.old) }
-        ensures looks { OnErr result (LooksIn I.looked self.old self.new) }
+        ensures heeds { Heeds (take_refused (held_of self.old) None) result }
+        ensures takes { TakesEnd I.known I.waiting I.takes I.looked self.old self.new result }
 
         // Wherever the member stands in a state of a run and the end is next on its link, this is the ring's event.
         ensures steps { OnOk result (WhereItStands (held_of self.old) (λ w x. IsNextEnd w x
             → StepsTo w x (TakeEnd (held_of self.old).name) (held_of self.new))) }
-        ensures not_enabled { WhereItStands (held_of self.old) (λ w x.
-            ((s : ℕ) → (member_at w x).current ≡ Some s → the_end_refusal w s ≡ None)
-            → (r : Reason) → refusal w (TakeEnd (held_of self.old).name) ≡ Some r → result
-            ≡ Err (MemberFault.Refused r)) }
+        ensures not_enabled { RefusesWhere
+            (λ w x. (s : ℕ) → (member_at w x).current ≡ Some s → the_end_refusal w s ≡ None)
+            (TakeEnd (held_of self.old).name) self.old result }
     {
         self.take_end_next()
     }
@@ -477,8 +429,8 @@ impl<O: LinkPair<Load, In = I>, I: LinkIn<Load> + Drop> Member<O, I> {
             ≡ self.old.old_ins.items ++ left_end (ring_link l.from.0 self.old.id.0 l.opened) l.end) }
         ensures current { self.new.current ≡ None }
         ensures same { SameSelf self.old self.new }
-        ensures others { (self.new.out ≡ self.old.out) × (self.new.door ≡ self.old.door)
-            × (self.new.old_outs ≡ self.old.old_outs) }
+        ensures outs { KeepsOuts self.old self.new }
+        ensures door { self.new.door ≡ self.old.door }
         ensures kept { self.new.spare ≡ self.old.spare }
     {
         let Some(link) = self.current.take() else {
@@ -496,20 +448,12 @@ impl<O: LinkPair<Load, In = I>, I: LinkIn<Load> + Drop> Member<O, I> {
     /// question of the member's own is open. It wants no memory. As a process of `gm` that goes down.
     pub fn stop(&mut self) -> Result<(), MemberFault>
         requires { OutIsReady O.ended self.old }
-        ensures enabled { OnOk result (active_refused (held_of self.old) None ≡ None) }
-        ensures ok { OnOk result (held_of self.new ≡ stopped_held (held_of self.old)) }
-        ensures ends { OnOk result (EndsOn O.puts EndReason.Stopped self.old self.new) }
-        ensures refused { (r : Reason) → active_refused (held_of self.old) None ≡ Some r
-            → result ≡ Err (MemberFault.Refused r) }
-        ensures fault { IfErr result (λ fault.
-            (r : Reason) × (fault ≡ MemberFault.Refused r) × (active_refused (held_of self.old) None ≡ Some r)) }
-        ensures err { OnErr result (self.new ≡ self.old) }
+        ensures heeds { Heeds (active_refused (held_of self.old) None) result }
+        ensures acts { Stops O.puts self.old self.new result }
 
         // Wherever the member stands in a state of a run, this is the ring's event.
-        ensures steps { OnOk result (WhereItStands (held_of self.old) (λ w x.
-            StepsTo w x (Stop (held_of self.old).name) (held_of self.new))) }
-        ensures not_enabled { WhereItStands (held_of self.old) (λ w x. (r : Reason)
-            → refusal w (Stop (held_of self.old).name) ≡ Some r → result ≡ Err (MemberFault.Refused r)) }
+        ensures steps { OnOk result (IsEvent (Stop (held_of self.old).name) self.old self.new) }
+        ensures not_enabled { RefusesAs (Stop (held_of self.old).name) self.old result }
     {
         self.stop_next()
     }
@@ -518,8 +462,7 @@ impl<O: LinkPair<Load, In = I>, I: LinkIn<Load> + Drop> Member<O, I> {
     fn stop_next(&mut self) -> Result<(), MemberFault>
         requires { OutIsReady O.ended self.old }
         ensures heeds { Heeds (active_refused (held_of self.old) None) result }
-        ensures acts { Acts (active_refused (held_of self.old) None) (stopped_held (held_of self.old))
-            (EndsOn O.puts EndReason.Stopped self.old self.new) self.old self.new result }
+        ensures acts { Stops O.puts self.old self.new result }
     {
         if let Some(reason) = self.activity() {
             return Err(MemberFault::Refused(reason));
@@ -588,22 +531,16 @@ impl<O: LinkPair<Load, In = I>, I: LinkIn<Load> + Drop> Member<O, I> {
     /// with `Stopped`, `Waiting`, `AwaitingAnswer`, and with `NoOutLink` where the member sends on no link. It wants no
     /// memory. As `credit_flow:handle_bump_msg`.
     pub fn gain(&mut self, amount: u32) -> Result<(), MemberFault>
-        ensures enabled { OnOk result (gain_refused (held_of self.old) ≡ None) }
-        ensures ok { OnOk result (held_of self.new ≡ gained_held (held_of self.old) amount) }
-        ensures ends { OnOk result (ends_of self.new ≡ record (ends_of self.old) { kept = None }) }
-        ensures refused { (r : Reason) → gain_refused (held_of self.old) ≡ Some r
-            → result ≡ Err (MemberFault.Refused r) }
-        ensures fault { IfErr result (λ fault.
-            (r : Reason) × (fault ≡ MemberFault.Refused r) × (gain_refused (held_of self.old) ≡ Some r)) }
-        ensures err { OnErr result (self.new ≡ self.old) }
+        ensures heeds { Heeds (gain_refused (held_of self.old)) result }
+        ensures acts { Gains amount self.old self.new result }
 
         // Wherever the member stands in a state of a run and the grant is the oldest on its way back, this is the
         // ring's event.
         ensures steps { OnOk result (WhereItStands (held_of self.old) (λ w x. IsNextGrant w x amount
             → StepsTo w x (Gain (held_of self.old).name) (held_of self.new))) }
-        ensures not_enabled { WhereItStands (held_of self.old) (λ w x.
-            ((o : ℕ) → (member_at w x).out ≡ Some o → the_gain_refusal w o ≡ None)
-            → (r : Reason) → refusal w (Gain (held_of self.old).name) ≡ Some r → result ≡ Err (MemberFault.Refused r)) }
+        ensures not_enabled { RefusesWhere
+            (λ w x. (o : ℕ) → (member_at w x).out ≡ Some o → the_gain_refusal w o ≡ None)
+            (Gain (held_of self.old).name) self.old result }
     {
         self.regain(amount)
     }
@@ -611,8 +548,7 @@ impl<O: LinkPair<Load, In = I>, I: LinkIn<Load> + Drop> Member<O, I> {
     /// The member's own part of `gain`.
     fn regain(&mut self, amount: u32) -> Result<(), MemberFault>
         ensures heeds { Heeds (gain_refused (held_of self.old)) result }
-        ensures acts { Acts (gain_refused (held_of self.old)) (gained_held (held_of self.old) amount)
-            (ends_of self.new ≡ record (ends_of self.old) { kept = None }) self.old self.new result }
+        ensures acts { Gains amount self.old self.new result }
     {
         if let Some(reason) = self.up_refusal() {
             return Err(MemberFault::Refused(reason));
@@ -636,8 +572,8 @@ impl<O: LinkPair<Load, In = I>, I: LinkIn<Load> + Drop> Member<O, I> {
         ensures left { self.new.old_ins.items ≡ self.old.old_ins.items
             ++ left_current view.now self.old.id.0 self.old.current }
         ensures same { SameSelf self.old self.new }
-        ensures others { (self.new.out ≡ self.old.out) × (self.new.door ≡ self.old.door)
-            × (self.new.old_outs ≡ self.old.old_outs) }
+        ensures outs { KeepsOuts self.old self.new }
+        ensures door { self.new.door ≡ self.old.door }
         ensures kept { self.new.spare ≡ self.old.spare }
     {
         let Some(link) = &self.current else {
@@ -654,9 +590,9 @@ impl<O: LinkPair<Load, In = I>, I: LinkIn<Load> + Drop> Member<O, I> {
         requires { is_in self.old.id.0 (ids view) ≡ true }
         ensures held { held_of self.new ≡ looked_held (held_of self.old) view }
         ensures links { LooksBy view self.old self.new }
-        ensures others { (self.new.out ≡ self.old.out) × (self.new.old_outs ≡ self.old.old_outs) }
-        ensures same { (self.new.id ≡ self.old.id) × (self.new.credit ≡ self.old.credit)
-            × (self.new.known ≡ self.old.known) × (self.new.view ≡ view) }
+        ensures others { KeepsOuts self.old self.new }
+        ensures same { SameSelf self.old self.new }
+        ensures view { self.new.view ≡ view }
         ensures kept { self.new.spare ≡ self.old.spare }
     {
         self.keep_current(&view);
@@ -671,8 +607,7 @@ impl<O: LinkPair<Load, In = I>, I: LinkIn<Load> + Drop> Member<O, I> {
         ensures moves { MovesOn O.puts self.old self.new }
         ensures same { (self.new.id ≡ self.old.id) × (self.new.view ≡ self.old.view)
             × (self.new.credit ≡ self.old.credit) }
-        ensures others { (self.new.current ≡ self.old.current) × (self.new.door ≡ self.old.door)
-            × (self.new.old_ins ≡ self.old.old_ins) }
+        ensures others { KeepsIns self.old self.new }
         ensures room { vec_capacity self.old.old_outs ≤ vec_capacity self.new.old_outs }
         ensures len { vec_len self.new.old_outs ≤ vec_len self.old.old_outs + 1 }
         ensures kept { self.new.spare ≡ self.old.spare }
@@ -715,8 +650,7 @@ impl<O: LinkPair<Load, In = I>, I: LinkIn<Load> + Drop> Member<O, I> {
         ensures held { held_of self.new ≡ record (held_of self.old) { out = Some (first_out (held_of self.old) to.0) } }
         ensures sends { SendsOn O.are_fresh O.free O.ended O.puts self.old.view.version to self.old self.new
             result.items }
-        ensures others { (self.new.current ≡ self.old.current) × (self.new.door ≡ self.old.door)
-            × (self.new.old_ins ≡ self.old.old_ins) }
+        ensures others { KeepsIns self.old self.new }
         ensures kept { self.new.spare ≡ self.old.spare }
     {
         self.move_on();
@@ -766,19 +700,9 @@ impl<O: LinkPair<Load, In = I>, I: LinkIn<Load> + Drop> Member<O, I> {
     pub fn refresh(&mut self, view: View) -> Result<Vec<Request<I>>, (View, MemberFault)>
         requires stands { is_in self.old.id.0 (ids view) ≡ true }
         requires ready { OutIsReady O.ended self.old }
-        ensures enabled { OnOk result (refresh_refused (held_of self.old) view.version ≡ None) }
-        ensures ok { OnOk result (held_of self.new ≡ refreshed_held (held_of self.old) view) }
-        ensures links { OnOk result (LooksBy view self.old self.new) }
-        ensures moves { IfOk result (λ requests. MovesTo O.are_fresh O.free O.ended O.puts view self.old self.new
-            requests.items) }
-        ensures refused { (r : Reason) → refresh_refused (held_of self.old) view.version ≡ Some r
-            → result ≡ Err (view, MemberFault.Refused r) }
-        ensures fault { IfErr result (λ e. (e.0 ≡ view)
-            × (((e.1 ≡ MemberFault.OutOfMemory) × (refresh_refused (held_of self.old) view.version ≡ None))
-            ⊎ (r : Reason) × (e.1 ≡ MemberFault.Refused r)
-            × (refresh_refused (held_of self.old) view.version ≡ Some r))) }
-        ensures err { OnErr result (held_of self.new ≡ held_of self.old) }
-        ensures err_ends { OnErr result (ends_of self.new ≡ ends_of self.old) }
+        ensures back { HandsBack (refresh_refused (held_of self.old) view.version) view result }
+        ensures reads { Reads O.are_fresh O.free O.ended O.puts (refreshed_held (held_of self.old) view) view
+            self.old self.new result }
 
         // Wherever the member stands in a state of a run, and the view is one of the ring's, this is the ring's
         // event. A member that is left alone stands there once the link that it opens to itself has come to its door.
@@ -795,7 +719,8 @@ impl<O: LinkPair<Load, In = I>, I: LinkIn<Load> + Drop> Member<O, I> {
         requires stands { is_in self.old.id.0 (ids view) ≡ true }
         requires ready { OutIsReady O.ended self.old }
         ensures back { HandsBack (refresh_refused (held_of self.old) view.version) view result }
-        ensures refreshes { Refreshes O.are_fresh O.free O.ended O.puts view self.old self.new result }
+        ensures reads { Reads O.are_fresh O.free O.ended O.puts (refreshed_held (held_of self.old) view) view
+            self.old self.new result }
     {
         if let Some(reason) = self.refresh_refusal(version(&view)) {
             return Err((view, MemberFault::Refused(reason)));
@@ -850,21 +775,12 @@ impl<O: LinkPair<Load, In = I>, I: LinkIn<Load> + Drop> Member<O, I> {
     /// `pick_refusal` says. It wants no memory. As `gm` that gets its first message, a `catchup`, from a new left
     /// neighbour.
     pub fn pick(&mut self) -> Result<(), MemberFault>
-        ensures enabled { OnOk result (pick_refused (held_of self.old) ≡ None) }
-        ensures ok { OnOk result (held_of self.new ≡ picked_held (held_of self.old)) }
-        ensures picks { OnOk result ((i : ℕ) × (the_first_at_door (held_of self.old) ≡ Some i)
-            × PicksOn i self.old self.new) }
-        ensures refused { (r : Reason) → pick_refused (held_of self.old) ≡ Some r
-            → result ≡ Err (MemberFault.Refused r) }
-        ensures fault { IfErr result (λ fault.
-            (r : Reason) × (fault ≡ MemberFault.Refused r) × (pick_refused (held_of self.old) ≡ Some r)) }
-        ensures err { OnErr result (self.new ≡ self.old) }
+        ensures heeds { Heeds (pick_refused (held_of self.old)) result }
+        ensures acts { PicksUp self.old self.new result }
 
         // Wherever the member stands in a state of a run, this is the ring's event.
-        ensures steps { OnOk result (WhereItStands (held_of self.old) (λ w x.
-            StepsTo w x (Pick (held_of self.old).name) (held_of self.new))) }
-        ensures not_enabled { WhereItStands (held_of self.old) (λ w x. (r : Reason)
-            → refusal w (Pick (held_of self.old).name) ≡ Some r → result ≡ Err (MemberFault.Refused r)) }
+        ensures steps { OnOk result (IsEvent (Pick (held_of self.old).name) self.old self.new) }
+        ensures not_enabled { RefusesAs (Pick (held_of self.old).name) self.old result }
     {
         self.pick_next()
     }
@@ -872,9 +788,7 @@ impl<O: LinkPair<Load, In = I>, I: LinkIn<Load> + Drop> Member<O, I> {
     /// The member's own part of `pick`.
     fn pick_next(&mut self) -> Result<(), MemberFault>
         ensures heeds { Heeds (pick_refused (held_of self.old)) result }
-        ensures acts { Acts (pick_refused (held_of self.old)) (picked_held (held_of self.old))
-            ((i : ℕ) × (the_first_at_door (held_of self.old) ≡ Some i) × PicksOn i self.old self.new)
-            self.old self.new result }
+        ensures acts { PicksUp self.old self.new result }
     {
         if let Some(reason) = self.pick_refusal() {
             return Err(MemberFault::Refused(reason));

@@ -37,7 +37,7 @@ impl<O: LinkPair<Load, In = I>, I: LinkIn<Load> + Drop> Member<O, I> {
     ghost use Rattle.gm_member.specs.Shown.{When, held_of, ends_of, OutIsReady, LooksBy, MovesTo, IsReadyToMove};
     ghost use Rattle.gm_member.specs.Shown.{SpareIsReady, SpareIsSound, HasRoom};
     ghost use Rattle.gm_member.specs.Arrivals.{incoming_of, with_arrived};
-    ghost use Rattle.gm_member.specs.Calls.{SameSelf, SameLinks};
+    ghost use Rattle.gm_member.specs.Calls.{Heeds, IsFault, Reads, SameSelf, SameLinks, KeepsIns, KeepsOuts};
     ghost use Rattle.gm_member.specs.Questions.{may_bring_view, has_link as has_a_link, asked_for, OfView, OfLinks};
     ghost use Rattle.gm_member.specs.Questions.{OfWord, answered_by};
 
@@ -48,9 +48,9 @@ impl<O: LinkPair<Load, In = I>, I: LinkIn<Load> + Drop> Member<O, I> {
         ensures ends { ends_of self.new ≡ ends_of self.old }
         ensures room { OnOk result (HasRoom links self.new) }
         ensures memory { HasRoom links self.old → IsOk result }
-        ensures out { (self.new.out ≡ self.old.out) × (self.new.old_outs ≡ self.old.old_outs) }
-        ensures same { (self.new.id ≡ self.old.id) × (self.new.credit ≡ self.old.credit)
-            × (self.new.known ≡ self.old.known) × (self.new.spare ≡ self.old.spare) }
+        ensures outs { KeepsOuts self.old self.new }
+        ensures same { SameSelf self.old self.new }
+        ensures spare { self.new.spare ≡ self.old.spare }
     {
         let Some(ends) = self.ends_with(links) else {
             return Err(OutOfMemory);
@@ -77,14 +77,10 @@ impl<O: LinkPair<Load, In = I>, I: LinkIn<Load> + Drop> Member<O, I> {
     /// `Waiting`, and `AwaitingAnswer` while an earlier question is open. As `gm:record_dead_member_in_group` and
     /// `gm:read_group`.
     pub fn ask(&mut self, what: Ask) -> Result<Request<I>, MemberFault>
-        ensures enabled { OnOk result (ask_refused (held_of self.old) ≡ None) }
+        ensures heeds { Heeds (ask_refused (held_of self.old)) result }
+        ensures fault { IfErr result (IsFault (ask_refused (held_of self.old))) }
         ensures ok { OnOk result (held_of self.new ≡ asking_held (held_of self.old)) }
         ensures request { IfOk result (λ r. r ≡ asked_for (held_of self.old) what) }
-        ensures refused { (r : Reason) → ask_refused (held_of self.old) ≡ Some r
-            → result ≡ Err (MemberFault.Refused r) }
-        ensures fault { IfErr result (λ fault. ((fault ≡ MemberFault.OutOfMemory)
-            × (ask_refused (held_of self.old) ≡ None))
-            ⊎ (r : Reason) × (fault ≡ MemberFault.Refused r) × (ask_refused (held_of self.old) ≡ Some r)) }
         ensures err { OnErr result (held_of self.new ≡ held_of self.old) }
         ensures ends { ends_of self.new ≡ ends_of self.old }
         ensures room { (n : ℕ) → HasRoom n self.old → HasRoom n self.new }
@@ -103,8 +99,7 @@ impl<O: LinkPair<Load, In = I>, I: LinkIn<Load> + Drop> Member<O, I> {
     fn make_ready(&mut self, what: Ask) -> Result<(), OutOfMemory>
         ensures held { held_of self.new ≡ held_of self.old }
         ensures ends { ends_of self.new ≡ ends_of self.old }
-        ensures ins { (self.new.current ≡ self.old.current) × (self.new.door ≡ self.old.door)
-            × (self.new.old_ins ≡ self.old.old_ins) }
+        ensures ins { KeepsIns self.old self.new }
         ensures same { (self.new.phase ≡ self.old.phase) × (self.new.id ≡ self.old.id) }
         ensures spare { OnOk result (When (may_bring_view what) (SpareIsReady O.are_fresh O.free O.ended self.new)) }
         ensures sound { OnOk result (SpareIsSound O.are_fresh O.free O.ended self.new) }
@@ -197,9 +192,8 @@ impl<O: LinkPair<Load, In = I>, I: LinkIn<Load> + Drop> Member<O, I> {
     fn close(&mut self)
         ensures held { held_of self.new ≡ answered_held (held_of self.old) }
         ensures ends { ends_of self.new ≡ ends_of self.old }
-        ensures ins { (self.new.current ≡ self.old.current) × (self.new.door ≡ self.old.door)
-            × (self.new.old_ins ≡ self.old.old_ins) }
-        ensures outs { (self.new.out ≡ self.old.out) × (self.new.old_outs ≡ self.old.old_outs) }
+        ensures ins { KeepsIns self.old self.new }
+        ensures outs { KeepsOuts self.old self.new }
         ensures same { SameSelf self.old self.new }
         ensures spare { self.new.spare ≡ None }
     {
@@ -229,13 +223,9 @@ impl<O: LinkPair<Load, In = I>, I: LinkIn<Load> + Drop> Member<O, I> {
         requires stands { is_in self.old.id.0 (ids view) ≡ true }
         requires ready { OutIsReady O.ended self.old }
         requires sound { SpareIsSound O.are_fresh O.free O.ended self.old }
-        ensures ok { OnOk result (held_of self.new ≡ refreshed_held (answered_held (held_of self.old)) view) }
-        ensures links { OnOk result (LooksBy view self.old self.new) }
-        ensures moves { IfOk result (λ requests. MovesTo O.are_fresh O.free O.ended O.puts view self.old self.new
-            requests.items) }
+        ensures reads { Reads O.are_fresh O.free O.ended O.puts (refreshed_held (answered_held (held_of self.old)) view)
+            view self.old self.new result }
         ensures dropped { OnOk result (self.new.spare ≡ None) }
-        ensures err { OnErr result (held_of self.new ≡ held_of self.old) }
-        ensures err_ends { OnErr result (ends_of self.new ≡ ends_of self.old) }
         ensures err_spare { OnErr result (self.new.spare ≡ None) }
         ensures back { IfErr result (λ e. e.0 ≡ view) }
         ensures memory { IsSome self.old.spare → IsOk result }
@@ -262,9 +252,8 @@ impl<O: LinkPair<Load, In = I>, I: LinkIn<Load> + Drop> Member<O, I> {
         ensures dropped { OnOk result (self.new.spare ≡ None) }
         ensures err { OnErr result (held_of self.new ≡ held_of self.old) }
         ensures err_ends { OnErr result (ends_of self.new ≡ ends_of self.old) }
-        ensures err_same { OnErr result ((self.new.id ≡ self.old.id) × (self.new.credit ≡ self.old.credit)
-            × (self.new.known ≡ self.old.known)
-            × (self.new.spare ≡ self.old.spare) × (self.new.old_outs ≡ self.old.old_outs)) }
+        ensures err_same { OnErr result (SameSelf self.old self.new) }
+        ensures err_kept { OnErr result ((self.new.spare ≡ self.old.spare) × (self.new.old_outs ≡ self.old.old_outs)) }
         ensures back { IfErr result (λ e. e.0 ≡ links) }
         ensures memory { HasRoom (length links.items) self.old → IsOk result }
     {

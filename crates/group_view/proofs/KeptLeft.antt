@@ -1,10 +1,8 @@
 -- `since`, and the same left neighbour in all versions from one up to another: they say one thing.
-use Rattle.std.proofs.Common.{◌≡◌, ℕ, ◌+◌, ◌-◌, ◌≤◌, ◌<◌, true, List, sym, ap, ◌∙◌, arith, nat_eq}
+use Rattle.std.proofs.Common.{◌≡◌, ℕ, ◌≤◌, List, sym, ◌∙◌, arith}
 use Rattle.std.specs.Prelude.{◌↔◌}
 use Rattle.group_view.specs.View.{Group}
-use Rattle.group_view.specs.Since.{left_at, KeepsLeft, keeps_left, IsSince}
-use Rattle.group_view.proofs.Lists.{all_range, at_range}
-use Rattle.group_view.proofs.Rings.{nat_eq-is, nat_eq-same}
+use Rattle.group_view.specs.Since.{left_at, KeepsLeft, IsSince}
 
 -- there is one such version
 pub since_unique : (views : List Group) (y v u w : ℕ) → IsSince views y v u → IsSince views y v w → u ≡ w
@@ -29,17 +27,3 @@ since_keeps views y v u s opened h pos l k =
 
 pub since_is_keeping : (views : List Group) (y v u s opened : ℕ) → IsSince views y v u → 1 ≤ opened → opened ≤ v → ((u ≤ opened) × (left_at views v y ≡ s)) ↔ KeepsLeft views y s opened v
 since_is_keeping views y v u s opened h pos l = (λ p. keeps_since views y v u s opened h p.0 p.1, λ k. since_keeps views y v u s opened h pos l k)
-
--- ---- the test
-
-pub keeps_left_true : (views : List Group) (y s opened v : ℕ) → KeepsLeft views y s opened v → keeps_left views y s opened v ≡ true
-unfolding keeps_left
-keeps_left_true views y s opened v h =
-    all_range (λ u. nat_eq (left_at views u y) s) opened (v + 1 - opened)
-    (λ u l m. let upto : u ≤ v = omega arith in ap (λ n. nat_eq n s) (h u l upto) ∙ nat_eq-same s)
-
-pub keeps_left_says : (views : List Group) (y s opened v : ℕ) → keeps_left views y s opened v ≡ true → KeepsLeft views y s opened v
-unfolding keeps_left
-keeps_left_says views y s opened v h = λ u l m.
-    let inside : u < opened + (v + 1 - opened) = omega arith in
-    nat_eq-is (left_at views u y) s (at_range (λ u. nat_eq (left_at views u y) s) opened (v + 1 - opened) u h l inside)

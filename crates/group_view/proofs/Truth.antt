@@ -21,3 +21,8 @@ later_false false c e = e
 pub other_true : (b c : Bool) → cond b false c ≡ true → c ≡ true
 other_true true c e = absurd (false≢true e)
 other_true false c e = e
+
+-- a test by its outcome
+pub cond_itself : (b : Bool) → cond b true false ≡ b
+cond_itself true = refl
+cond_itself false = refl

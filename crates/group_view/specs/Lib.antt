@@ -6,3 +6,4 @@ pub mod Kept
 pub mod Parts
 pub mod Seen
 pub mod Laws
+pub mod Link

@@ -1,8 +1,7 @@
 -- The views of a group by version, and since when a left neighbour has been it.
-use Rattle.std.specs.Prelude.{◌≡◌, ℕ, ◌+◌, ◌-◌, ◌≤◌, Bool, true, nat_eq, List, [], ◌∷◌, length, slice_index_or, None}
-use Rattle.std.specs.List.{list_all, range_with_len}
+use Rattle.std.specs.Prelude.{◌≡◌, ℕ, ◌≤◌, true, List, [], ◌∷◌, length, slice_index_or, None}
 use Rattle.group_view.specs.Ring.{is_in}
-use Rattle.group_view.specs.View.{Group, ids, entry_in, left_of, right_of}
+use Rattle.group_view.specs.View.{Group, ids, entry_in, left_of}
 
 -- nobody
 abbrev pub no_group : Group
@@ -12,20 +11,13 @@ no_group = record { version = 0; entries = []; master = None; term = 0; next_id 
 abbrev pub view_at : List Group → ℕ → Group
 view_at views v = slice_index_or (no_group ∷ views) v no_group
 
--- the neighbours in the view of a version
+-- the left neighbour in the view of a version
 unfoldable pub left_at : List Group → ℕ → ℕ → ℕ
 left_at views v y = left_of (view_at views v).entries y
-
-unfoldable pub right_at : List Group → ℕ → ℕ → ℕ
-right_at views v y = right_of (view_at views v).entries y
 
 -- the left neighbour of y is s in each view from one version up to another; nothing is asked where the first is above the other
 abbrev pub KeepsLeft : List Group → ℕ → ℕ → ℕ → ℕ → Type 0
 KeepsLeft views y s opened v = (u : ℕ) → opened ≤ u → u ≤ v → left_at views u y ≡ s
-
--- the same as a test
-unfoldable pub keeps_left : List Group → ℕ → ℕ → ℕ → ℕ → Bool
-keeps_left views y s opened v = list_all (λ u. nat_eq (left_at views u y) s) (range_with_len opened (v + 1 - opened))
 
 -- u is the least version up to v such that y's left neighbour is the same in every view from u up to v
 pub record IsSince (views : List Group) (y v u : ℕ) : Type 0 where

@@ -1,5 +1,6 @@
 -- What every list of steps keeps.
 use Rattle.std.proofs.Common.{◌≡◌, ℕ, Bool, true, false, List, [], ◌∷◌, ◌++◌, Option, Some, refl, sym, ap, ◌∙◌, append_assoc, arith, inl, inr}
+use Rattle.std.specs.List.{flat_map}
 use Rattle.std.proofs.lemmas.List.{append-nil, map-append}
 use Rattle.std.proofs.lemmas.Grind.{common_steps}
 use Rattle.ordered_link.specs.declared.item.Item.{Item}
@@ -8,7 +9,7 @@ use Rattle.ordered_link.specs.declared.plain.PlainOut.{PlainOut}
 use Rattle.ordered_link.specs.declared.plain.PlainIn.{PlainIn}
 use Rattle.ordered_link.specs.Steps.{is_end, ArePlainEnds, IsFreshPair}
 use Rattle.ordered_link.specs.Waiting.{Sends}
-use Rattle.ordered_link.specs.Runs.{Step, put, taken, gained, granted, looked, met, Does, AreSteps, put_by, taken_by, gained_by, granted_by, puts_of, takes_of, gains_of, grants_of, items_held, grants_held, list_of, AreLoads, AreLoadsThenEnd, KeepsOrder}
+use Rattle.ordered_link.specs.Runs.{Step, put, taken, gained, granted, looked, met, Does, AreSteps, put_by, taken_by, gained_by, granted_by, puts_of, items_held, grants_held, list_of, AreLoads, AreLoadsThenEnd, KeepsOrder}
 
 -- a step, and then others
 joined : {A : Type 0} (t ts a b c p ps : List A) → t ++ b ≡ a ++ p → ts ++ c ≡ b ++ ps → t ++ ts ++ c ≡ a ++ (p ++ ps)
@@ -42,13 +43,13 @@ module _ {T : Type 0} where
   step_grants looked o o' i i' (out, (items, (sent, count, initial))) = sent_grants o.back.items o'.back.items i.given.items i'.given.items i.late i'.late (ap (λ e. e.back.items) out) sent
   step_grants met o o' i i' h = grind (arith, common_steps, h.grants, h.met.given, h.late)
 
-  pub run_items : (steps : List (Step T)) (o o' : PlainOut T) (i i' : PlainIn T) → AreSteps steps o i o' i' → takes_of steps ++ items_held o' i' ≡ items_held o i ++ puts_of steps
-  run_items [] o o' i i' h = grind (arith, common_steps)
-  run_items (s ∷ rest) o o' i i' (p, q, does, are) = joined (taken_by s) (takes_of rest) (items_held o i) (items_held p q) (items_held o' i') (put_by s) (puts_of rest) (step_items s o p i q does) (run_items rest p o' q i' are)
-
-  pub run_grants : (steps : List (Step T)) (o o' : PlainOut T) (i i' : PlainIn T) → AreSteps steps o i o' i' → gains_of steps ++ grants_held o' i' ≡ grants_held o i ++ grants_of steps
-  run_grants [] o o' i i' h = grind (arith, common_steps)
-  run_grants (s ∷ rest) o o' i i' (p, q, does, are) = joined (gained_by s) (gains_of rest) (grants_held o i) (grants_held p q) (grants_held o' i') (granted_by s) (grants_of rest) (step_grants s o p i q does) (run_grants rest p o' q i' are)
+  -- what each step keeps in order, any list of them keeps in order
+  run_kept : {A : Type 0} (held : PlainOut T → PlainIn T → List A) (out_by in_by : Step T → List A)
+      → ((s : Step T) (o o' : PlainOut T) (i i' : PlainIn T) → Does s o i o' i' → out_by s ++ held o' i' ≡ held o i ++ in_by s)
+      → (steps : List (Step T)) (o o' : PlainOut T) (i i' : PlainIn T) → AreSteps steps o i o' i' → flat_map out_by steps ++ held o' i' ≡ held o i ++ flat_map in_by steps
+  run_kept held out_by in_by kept [] o o' i i' (out, link) = rw out (rw link (sym (append-nil (held o i))))
+  run_kept held out_by in_by kept (s ∷ rest) o o' i i' (p, q, does, are) =
+      joined (out_by s) (flat_map out_by rest) (held o i) (held p q) (held o' i') (in_by s) (flat_map in_by rest) (kept s o p i q does) (run_kept held out_by in_by kept rest p o' q i' are)
 
   -- one step leaves ends of one pair
   pub step_ends : (s : Step T) (o o' : PlainOut T) (i i' : PlainIn T) → Does s o i o' i' → ArePlainEnds o i → ArePlainEnds o' i'
@@ -99,8 +100,8 @@ module _ {T : Type 0} where
   fresh_keeps n o o' i i' steps f h =
       let form : IsInForm o'.ended (puts_of steps) = run_form steps [] o o' i i' h (record { loads = λ _. ([], refl); ended_form = λ ended. cc }) in
       record {
-        items = run_items steps o o' i i' h ∙ grind (arith, common_steps, f.items);
-        grants = run_grants steps o o' i i' h ∙ grind (arith, common_steps, f.grants);
+        items = run_kept items_held taken_by put_by step_items steps o o' i i' h ∙ grind (arith, common_steps, f.items);
+        grants = run_kept grants_held gained_by granted_by step_grants steps o o' i i' h ∙ grind (arith, common_steps, f.grants);
         loads = form.loads;
         ended = form.ended_form;
       }

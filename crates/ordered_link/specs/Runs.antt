@@ -1,5 +1,6 @@
 -- What is done with one plain pair, step by step.
 use Rattle.std.specs.Prelude.{◌≡◌, ℕ, ◌++◌, List, [], ◌∷◌, Option, Some, None, true, false, map}
+use Rattle.std.specs.List.{flat_map}
 use Rattle.ordered_link.specs.declared.item.EndReason.{EndReason}
 use Rattle.ordered_link.specs.declared.item.Item.{Item}
 use Rattle.ordered_link.specs.declared.item.Item.TheVariants.{Load, End}
@@ -58,23 +59,19 @@ module _ {T : Type 0} where
 
   -- all that these steps put
   abbrev pub puts_of : List (Step T) → List (Item T)
-  puts_of [] = []
-  puts_of (s ∷ rest) = put_by s ++ puts_of rest
+  puts_of steps = flat_map put_by steps
 
   -- all that they took
   abbrev pub takes_of : List (Step T) → List (Item T)
-  takes_of [] = []
-  takes_of (s ∷ rest) = taken_by s ++ takes_of rest
+  takes_of steps = flat_map taken_by steps
 
   -- the grants that came back and were taken
   abbrev pub gains_of : List (Step T) → List ℕ
-  gains_of [] = []
-  gains_of (s ∷ rest) = gained_by s ++ gains_of rest
+  gains_of steps = flat_map gained_by steps
 
   -- the grants that were given
   abbrev pub grants_of : List (Step T) → List ℕ
-  grants_of [] = []
-  grants_of (s ∷ rest) = granted_by s ++ grants_of rest
+  grants_of steps = flat_map granted_by steps
 
   -- the items on the link: those of the in end, then those that wait in the out end
   abbrev pub items_held : PlainOut T → PlainIn T → List (Item T)

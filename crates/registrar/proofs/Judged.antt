@@ -17,7 +17,7 @@ use Rattle.ring_world.specs.Step.{size}
 use Rattle.ring_world.specs.Event.{id_of, of_member, is_stopped, up_refusal, running_refusal, is_neighbour, left_neighbour, refusal}
 use Rattle.ring_world.specs.Event as event
 use Rattle.ring_world.proofs.Happens.{IsGood}
-use Rattle.ring_world.proofs.Refusals.{id_within}
+use Rattle.ring_world.proofs.Refusals.{id_within, up_is}
 use Rattle.registrar.specs.Registry.{Registry, is_known}
 use Rattle.registrar.specs.Registry as registry
 use Rattle.registrar.specs.Asked.{is_left, is_beside, has_more, mark_refusal, stop_refusal, unknown_refusal}
@@ -41,30 +41,18 @@ module _ {I : Type 0} where
 
 -- ---- the asker
 
--- neighbours of who has an entry
-left_same : (g : Group) (x : ℕ) → is_in x (ids g.entries) ≡ true → left_of g.entries x ≡ ring.left_of g x
-left_same g x i = ap (λ b. cond b (left_in (is_live g.entries) x (ids g.entries)) x) i
-
-right_same : (g : Group) (x : ℕ) → is_in x (ids g.entries) ≡ true → right_of g.entries x ≡ ring.right_of g x
-right_same g x i = ap (λ b. cond b (right_in (is_live g.entries) x (ids g.entries)) x) i
-
 -- the asker is live in its view
-asker_stands : (w : World) (name : List ℕ) (x v : ℕ) → IsGood w → IsAsker w name x v → is_in x (ids (machine.view_at w v).entries) ≡ true
-asker_stands w name x v h a = h.inv.is_ring.stands x v (ap runs_phase a.up) (omega (arith, a.holds)) (omega (arith, a.holds, h.inv.is_ring.held x))
-
 asker_lives : (w : World) (name : List ℕ) (x v : ℕ) → IsGood w → IsAsker w name x v → is_live (machine.view_at w v).entries x ≡ true
 asker_lives w name x v h a = h.inv.is_ring.lives x v (ap runs_phase a.up) (omega (arith, a.holds)) (omega (arith, a.holds, h.inv.is_ring.held x))
 
 -- its left neighbour
 is_left_same : (w : World) (name : List ℕ) (x v d : ℕ) → IsGood w → IsAsker w name x v → is_left (machine.view_at w v) x d ≡ nat_eq d (left_neighbour w x)
 is_left_same w name x v d h a =
-    ap (nat_eq d) (left_same (machine.view_at w v) x (asker_stands w name x v h a))
-    ∙ sym (ap (λ n. nat_eq d (ring.left_of (machine.view_at w n) x)) a.holds)
+    sym (ap (λ n. nat_eq d (ring.left_of (machine.view_at w n) x)) a.holds)
 
 is_right_same : (w : World) (name : List ℕ) (x v d : ℕ) → IsGood w → IsAsker w name x v → nat_eq d (right_of (machine.view_at w v).entries x) ≡ nat_eq d (ring.right_of (machine.view_at w (member_at w x).version) x)
 is_right_same w name x v d h a =
-    ap (nat_eq d) (right_same (machine.view_at w v) x (asker_stands w name x v h a))
-    ∙ sym (ap (λ n. nat_eq d (ring.right_of (machine.view_at w n) x)) a.holds)
+    sym (ap (λ n. nat_eq d (ring.right_of (machine.view_at w n) x)) a.holds)
 
 -- and its neighbours
 beside_same : (w : World) (name : List ℕ) (x v d : ℕ) → IsGood w → IsAsker w name x v → is_beside (machine.view_at w v) x d ≡ is_neighbour w x d
@@ -80,10 +68,6 @@ and_same a a' b b' e k = by_case a k ∙ ap (λ c. c && b') e
     by_case : (c : Bool) → (c ≡ true → b ≡ b') → (c && b) ≡ (c && b')
     by_case true k = k refl
     by_case false k = refl
-
--- a member that is up is judged by what comes later
-up_is : (w : World) (x : ℕ) (later : Option Reason) → (member_at w x).phase ≡ Up → up_refusal w x later ≡ later
-up_is w x later e = ap (λ f. or_else (refuse_if (is_stopped f) reason.Stopped) (or_else (refuse_if (machine.is_waiting f) reason.Waiting) later)) e
 
 -- the conditions of a mark but for the names
 abbrev pub refusals : Bool → Bool → Bool → Bool → Option Reason

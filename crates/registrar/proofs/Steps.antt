@@ -1,39 +1,42 @@
 -- Where nothing refuses it, what is done for a request is the event.
 use Rattle.std.proofs.Common.{◌≡◌, ℕ, ◌+◌, ◌<◌, ◌≤◌, Bool, true, false, cond, List, ◌∷◌, [], ◌++◌, Some, refl, sym, ap, subst, ◌∙◌, arith}
+use Rattle.std.proofs.lemmas.List.{length-set}
 use Rattle.group_view.specs.Ring.{is_in}
 use Rattle.group_view.specs.View.{Group}
 use Rattle.group_view.specs.Change.{marked}
 use Rattle.group_view.specs.Since.{no_group}
+use Rattle.group_view.proofs.Truth.{cond_itself}
 use Rattle.group_view.proofs.Rings.{is_in-append, nat_eq-same, nat_eq-not}
 use Rattle.ring_world.specs.Machine as machine
 use Rattle.ring_world.specs.declared.phase.Ending.TheVariants.{Halted}
 use Rattle.ring_world.specs.declared.event.Event.{Event}
 use Rattle.ring_world.specs.declared.event.Event.TheVariants.{Mark, Stop, Refresh}
-use Rattle.ring_world.specs.Machine.{Member, World, member_at, newest}
-use Rattle.ring_world.specs.Step.{size, opening, with_view, stop_at, end_out}
+use Rattle.ring_world.specs.Machine.{Member, World, no_member, member_at, newest}
+use Rattle.ring_world.specs.Step.{size, opening, with_view, stop_at, stopped, end_out}
 use Rattle.ring_world.specs.Event.{id_of, is_stopped, at_found, refreshed, effect}
+use Rattle.ring_world.proofs.Lists.{at_set}
 use Rattle.ring_world.proofs.Refusals.{id_within}
 use Rattle.ring_names.specs.declared.numbers.CreditSpec.{CreditSpec}
-use Rattle.ring_world.proofs.First.{first_at, first_size}
+use Rattle.ring_world.proofs.First.{first_member}
 use Rattle.registrar.specs.Registry.{Registry}
 use Rattle.registrar.specs.Registry as registry
 use Rattle.registrar.specs.Handled.{with_stopped}
 use Rattle.registrar.specs.Handled as handled
 use Rattle.registrar.specs.Stands.{StandsIn, IsOwn}
-use Rattle.registrar.proofs.Members.{IsSame, same_effect, same_refreshed, stop_views, stop_many, stop_phase}
+use Rattle.registrar.proofs.Members.{Told, told, told_effect, told_refreshed, told_ended, stopped_same, many_same}
 use Rattle.registrar.proofs.Judged.{newest_same}
 
 module _ {I : Type 0} where
   -- with the views of another state, in which just those have stopped that have here
-  stands_same : (w w' : World) (r : Registry I) → IsSame w w' → StandsIn w r → StandsIn w' r
+  stands_same : (w w' : World) (r : Registry I) → told w' ≡ told w → StandsIn w r → StandsIn w' r
   stands_same w w' r k s = record {
-    views = k.views ∙ s.views;
-    stopped = λ q a b. s.stopped q a (omega (arith, b, k.many)) ∙ sym (k.stopped q);
+    views = ap (λ (t : Told). t.views) k ∙ s.views;
+    stopped = λ q a b. s.stopped q a (omega (arith, b, many_same w w' k)) ∙ sym (stopped_same w w' q k);
   }
 
   -- what else members do leaves the registrar where it stands
   pub own_stands : (w : World) (r : Registry I) (e : Event) → IsOwn e → StandsIn w r → StandsIn (effect w e) r
-  own_stands w r e h s = stands_same w (effect w e) r (same_effect w e h) s
+  own_stands w r e h s = stands_same w (effect w e) r (told_effect w e h) s
 
   -- with a view more
   stands_view : (w : World) (r : Registry I) (g g' : Group) → g ≡ g' → StandsIn w r → StandsIn (with_view w g) (handled.with_view r g')
@@ -46,7 +49,7 @@ module _ {I : Type 0} where
       → StandsIn (effect w (Mark name dead_name)) (handled.with_view r (marked (registry.newest r) d))
   mark_stands w r x d name dead_name s from to =
       subst (λ k. StandsIn k (handled.with_view r (marked (registry.newest r) d))) (sym is)
-      (stands_same next (refreshed next x (newest w + 1)) _ (same_refreshed next x (newest w + 1))
+      (stands_same next (refreshed next x (newest w + 1)) _ (told_refreshed next x (newest w + 1))
       (stands_view w r (marked (machine.view_at w (newest w)) d) (marked (registry.newest r) d) (ap (λ g. marked g d) (sym (newest_same w r s))) s))
     where
       next : World
@@ -59,18 +62,28 @@ module _ {I : Type 0} where
 
   pub refresh_stands : (w : World) (r : Registry I) (x v : ℕ) (name : List ℕ) → StandsIn w r → id_of w name ≡ Some x → StandsIn (effect w (Refresh name v)) r
   refresh_stands w r x v name s from =
-      subst (λ k. StandsIn k r) (sym (ap (λ o. at_found o w (λ y. refreshed w y v)) from)) (stands_same w (refreshed w x v) r (same_refreshed w x v) s)
+      subst (λ k. StandsIn k r) (sym (ap (λ o. at_found o w (λ y. refreshed w y v)) from)) (stands_same w (refreshed w x v) r (told_refreshed w x v) s)
 
   pub stop_stands : (w : World) (r : Registry I) (x : ℕ) (name : List ℕ) → StandsIn w r → id_of w name ≡ Some x → StandsIn (effect w (Stop name)) (with_stopped r x)
   stop_stands w r x name s from =
       subst (λ k. StandsIn k (with_stopped r x)) (sym (ap (λ o. at_found o w (λ y. end_out Halted (stop_at w y) (member_at w y).out)) from)) (record {
-        views = stop_views w x (member_at w x).out ∙ s.views;
-        stopped = λ q a b. stop_phase (λ k f. 1 ≤ k → k < size w → is_in k (r.stopped ++ x ∷ []) ≡ is_stopped f) w x q (member_at w x).out there
-            (λ c e. is_in-append x r.stopped (x ∷ []) ∙ last (is_in x r.stopped) ∙ refl)
-            (λ ne c e. is_in-append q r.stopped (x ∷ []) ∙ ap (λ t. cond (is_in q r.stopped) true (cond t true false)) (nat_eq-not q x ne) ∙ rest (is_in q r.stopped) ∙ s.stopped q c e)
-            a (omega (arith, b, stop_many w x (member_at w x).out));
+        views = ap (λ (t : Told). t.views) same ∙ s.views;
+        stopped = λ q a b. at_set (λ k (y : Member). 1 ≤ k → k < size w → is_in k (r.stopped ++ x ∷ []) ≡ is_stopped y.phase) w.members x q (stopped (member_at w x)) no_member there
+            (λ c e. is_in-append x r.stopped (x ∷ []) ∙ last (is_in x r.stopped))
+            (λ ne c e. is_in-append q r.stopped (x ∷ []) ∙ ap (λ t. cond (is_in q r.stopped) true (cond t true false)) (nat_eq-not q x ne) ∙ cond_itself (is_in q r.stopped) ∙ s.stopped q c e)
+            a (omega (arith, b, many_same next after same, length-set w.members x (stopped (member_at w x))))
+            ∙ sym (stopped_same next after q same);
       })
     where
+      next : World
+      next = stop_at w x
+
+      after : World
+      after = end_out Halted next (member_at w x).out
+
+      same : told after ≡ told next
+      same = told_ended Halted next (member_at w x).out
+
       there : x < size w
       there = (id_within w name x from).1
 
@@ -78,13 +91,9 @@ module _ {I : Type 0} where
       last true = refl
       last false = ap (λ t. cond t true false) (nat_eq-same x)
 
-      rest : (t : Bool) → cond t true false ≡ t
-      rest true = refl
-      rest false = refl
-
 -- at the opening nobody has stopped
 pub opening_stands : {I : Type 0} (credit : CreditSpec) (names : List (List ℕ)) → StandsIn {I = I} (opening credit names) (registry.founded names)
 opening_stands credit names = record {
   views = refl;
-  stopped = λ q a b. sym (ap (λ (m : Member). is_stopped m.phase) (first_at credit names q a (omega (arith, b, first_size credit names))));
+  stopped = λ q a b. sym (ap (λ (m : Member). is_stopped m.phase) (first_member credit names q a b));
 }

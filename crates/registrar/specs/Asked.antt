@@ -1,10 +1,9 @@
 -- Why a request is refused: the first of its conditions that fails.
-use Rattle.std.specs.Prelude.{ℕ, Bool, true, false, ◌&&◌, ◌||◌, not, nat_eq, nat_le, List, Option}
+use Rattle.std.specs.Prelude.{ℕ, Bool, ◌&&◌, ◌||◌, not, nat_eq, nat_le, List, Option}
 use Rattle.std.specs.List.{list_any}
 use Rattle.ring_names.specs.declared.reason.Reason.{Reason}
 use Rattle.ring_names.specs.declared.reason.Reason.TheVariants as reason
-use Rattle.group_view.specs.declared.link.LinkKind.{LinkKind}
-use Rattle.group_view.specs.declared.link.LinkKind.TheVariants as kind
+use Rattle.group_view.specs.Link.{is_ring}
 use Rattle.group_view.specs.declared.request.Request.{Request}
 use Rattle.group_view.specs.declared.request.Request.TheVariants.{Mark, Refresh, Stopped, Deposit, Collect}
 use Rattle.group_view.specs.Ring.{is_in}
@@ -25,11 +24,6 @@ is_beside g x d = is_live g.entries x && (is_left g x d || nat_eq d (right_of g.
 -- the version from which x's left neighbour in a view has been it
 abbrev pub since_in : Group → ℕ → ℕ
 since_in g x = (entry_in g.entries x).since
-
--- whether a link is one of the ring
-abbrev pub is_ring : LinkKind → Bool
-is_ring kind.Ring = true
-is_ring kind.Copy = false
 
 module _ {I : Type 0} where
   -- whether a link of the ring goes from d to x, and was opened at a version or later

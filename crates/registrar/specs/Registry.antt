@@ -67,6 +67,14 @@ module _ {I : Type 0} where
     pub stands : IsSome (name_in r place)
     pub lent : end_in r place ≡ None
 
+  -- The end at a place is lent, where one is there.
+  pub record Lends (old : Registry I) (place : ℕ) (result : Option I) (new : Registry I) : Type 0 where
+    pub lent : result ≡ end_in old place
+    pub stands : new ≡ end_is old place None
+    pub found : IsSome result → IsSome (name_in new place)
+    pub away : end_in new place ≡ None
+    pub others : AreHere old.links → AreHereBut place new.links
+
   -- an end comes back to a place
   pub record Gives (old : Registry I) (place : ℕ) (end : I) (new : Registry I) : Type 0 where
     pub stands : new ≡ end_is old place (Some end)

@@ -1,16 +1,16 @@
 //! The registrar.
-ghost use Rattle.std.specs.Prelude.{◌≡◌, ◌↔◌, ◌≤◌, IfOk, OnOk, IfErr, OnErr, IfSome, IsSome, Some, None, length};
+ghost use Rattle.std.specs.Prelude.{◌≡◌, ◌↔◌, ◌≤◌, false, IfOk, OnOk, IfErr, OnErr, IfSome, IsSome, Some, None, length};
 ghost use Rattle.std.specs.List.{filter};
 ghost use Rattle.ring_names.specs.declared.reason.Reason.{Reason};
 ghost use Rattle.group_view.specs.Change.{AreOpeningNames, marked, mark_refusal as group_refusal};
 ghost use Rattle.group_view.specs.Ring.{is_in};
 ghost use Rattle.group_view.specs.Since.{view_at};
 ghost use Rattle.registrar.specs.Registry.{AreHere, AreHereBut, newest as the_newest, founded, is_known, is_for};
-ghost use Rattle.registrar.specs.Registry.{name_in, end_in, end_is, IsLent, Gives};
+ghost use Rattle.registrar.specs.Registry.{name_in, end_in, end_is, IsLent, Lends, Gives};
 ghost use Rattle.registrar.specs.Asked.{mark_refusal as the_mark_refusal, unknown_refusal};
 ghost use Rattle.registrar.specs.Asked.{stop_refusal as the_stop_refusal, request_refusal};
 ghost use Rattle.registrar.specs.Handled.{with_view, with_stopped, with_link, without_links, links_for, handled};
-ghost use Rattle.registrar.specs.Handled.{answered};
+ghost use Rattle.registrar.specs.Handled.{answered, hands_over};
 ghost use Rattle.registrar.specs.Stands.{StandsIn, WhereAsked};
 ghost use Rattle.ring_names.specs.declared.numbers.CreditSpec.{CreditSpec};
 ghost use Rattle.ring_world.specs.Event.{refusal, effect};
@@ -92,11 +92,7 @@ impl<I: Drop> Registrar<I> {
     /// none where no link stands there, and where it is lent. The caller gives it back to that place before
     /// the next request. It wants no memory.
     pub fn lend_in(&mut self, place: u32) -> Option<I>
-        ensures lent { result ≡ end_in self.old place }
-        ensures stands { self.new ≡ end_is self.old place None }
-        ensures found { IsSome result → IsSome (name_in self.new place) }
-        ensures away { end_in self.new place ≡ None }
-        ensures others { AreHere self.old.links → AreHereBut place self.new.links }
+        ensures { Lends self.old place result self.new }
     {
         self.lend_at(place as usize)
     }
@@ -281,31 +277,6 @@ impl<I: Drop> Registrar<I> {
         ensures back { IfErr result (λ e. e.0 ≡ request) }
     {
         match request {
-            Request::Mark {
-                by,
-                dead,
-                view,
-                has_current,
-            } => match self.mark(dead) {
-                Ok(next) => Ok(Answer::Viewed(next)),
-                Err(fault) => Err((
-                    Request::Mark {
-                        by,
-                        dead,
-                        view,
-                        has_current,
-                    },
-                    fault,
-                )),
-            },
-            Request::Refresh { by } => match self.view().copy() {
-                Ok(view) => Ok(Answer::Viewed(view)),
-                Err(fault) => Err((Request::Refresh { by }, fault)),
-            },
-            Request::Stopped { by } => match self.note(by) {
-                Ok(()) => Ok(Answer::Noted),
-                Err(fault) => Err((Request::Stopped { by }, fault)),
-            },
             Request::Deposit {
                 by,
                 to,
@@ -333,10 +304,30 @@ impl<I: Drop> Registrar<I> {
                     fault,
                 )),
             },
-            Request::Collect { by } => match self.collect(by) {
-                Ok(links) => Ok(Answer::Links(links)),
-                Err(fault) => Err((Request::Collect { by }, fault)),
+            other => match self.answer(&other) {
+                Ok(answer) => Ok(answer),
+                Err(fault) => Err((other, fault)),
             },
+        }
+    }
+
+    /// The same of a request that hands over no link.
+    fn answer(&mut self, request: &Request<I>) -> Result<Answer<I>, OutOfMemory>
+        requires allowed { request_refusal self.old request.now ≡ None }
+        requires none { hands_over request.now ≡ false }
+        ensures ok { OnOk result (self.new ≡ handled self.old request.now) }
+        ensures answer { IfOk result (λ a. a ≡ answered self.old request.now) }
+        ensures err { OnErr result (self.new ≡ self.old) }
+    {
+        match request {
+            Request::Mark { dead, .. } => Ok(Answer::Viewed(self.mark(*dead)?)),
+            Request::Refresh { .. } => Ok(Answer::Viewed(self.view().copy()?)),
+            Request::Stopped { by } => {
+                self.note(*by)?;
+                Ok(Answer::Noted)
+            }
+            Request::Collect { by } => Ok(Answer::Links(self.collect(*by)?)),
+            Request::Deposit { .. } => unreachable!(),
         }
     }
 

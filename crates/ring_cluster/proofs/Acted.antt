@@ -15,9 +15,9 @@ use Rattle.ring_cluster.specs.Ends.{OutSeen}
 use Rattle.ring_cluster.specs.Parties.{ANode, Parties, parties, posted, with_node, shown_of, no_shown, in_seen}
 use Rattle.ring_cluster.specs.Behind.{behind}
 use Rattle.ring_cluster.specs.Looking.{HasLooked, kept_post}
-use Rattle.ring_cluster.specs.Acting.{is_alone, alone_refused, DoesAlone}
+use Rattle.ring_cluster.specs.Acting.{is_alone, DoesAlone}
 use Rattle.ring_cluster.specs.Acting.{Stops, Acts, LooksAt, posting, viewing}
-use Rattle.ring_cluster.specs.Refused.{id_of_name, act_refused, marked_in}
+use Rattle.ring_cluster.specs.Refused.{id_of_name, marked_in}
 
 -- the member at a place is another
 one_other : (nodes nodes' : List ANode) (r : Registry (PlainIn Load)) (i : ℕ) → map shown_of nodes' ≡ set (map shown_of nodes) i (get_or (map shown_of nodes') i no_shown)
@@ -25,12 +25,6 @@ one_other : (nodes nodes' : List ANode) (r : Registry (PlainIn Load)) (i : ℕ) 
 one_other nodes nodes' r i e = ap (λ ns. record (parties nodes r []) { nodes = ns }) e
 
 -- ---- by itself
-
-pub alone_refuses : (e : Event) (i : ℕ) (nodes : List ANode) (r : Registry (PlainIn Load)) → is_alone e ≡ true → alone_refused e (get_or (map shown_of nodes) i no_shown) ≡ act_refused e i r (parties nodes r [])
-alone_refuses (Stop by) i nodes r k = cc
-alone_refuses (Mark by dead) i nodes r k = cc
-alone_refuses (Refresh by version) i nodes r k = cc
-alone_refuses e i nodes r k = refl
 
 pub alone_acts : (e : Event) (i d : ℕ) (nodes nodes' : List ANode) (r : Registry (PlainIn Load)) → is_alone e ≡ true
     → DoesAlone e (get_or (map shown_of nodes) i no_shown) (get_or (map shown_of nodes') i no_shown)

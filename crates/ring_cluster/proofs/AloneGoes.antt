@@ -9,7 +9,8 @@ use Rattle.ring_world.specs.Machine.{World}
 use Rattle.ring_world.specs.Event.{by_of, id_of, refusal, effect}
 use Rattle.ring_cluster.specs.Ends.{OutSeen}
 use Rattle.ring_cluster.specs.Parties.{Parties}
-use Rattle.ring_cluster.specs.Standing.{Stand, StandLoose}
+use Rattle.ring_cluster.specs.Standing.{Stand}
+use Rattle.ring_cluster.specs.Loose.{StandMoved}
 use Rattle.ring_cluster.specs.Acting.{Acts}
 use Rattle.ring_cluster.proofs.Lawful.{IsLawfulAt}
 use Rattle.ring_cluster.proofs.CastGoes.{cast_goes}
@@ -27,7 +28,7 @@ IsAlone (Refresh by version) x q = ⊥
 IsAlone (Pick by) x q = NonePosted q x
 IsAlone e x q = ⊤
 
-pub alone_goes : (credit : CreditSpec) (w : World) (e : Event) (i d : ℕ) (q q' : Parties) (loose : Option (LinkName × OutSeen)) → IsLawfulAt credit w → refusal w e ≡ None → id_of w (by_of e) ≡ Some (i + 1) → IsAlone e (i + 1) q → Stand credit.initial w q → Acts e i d q q' loose → StandLoose credit.initial (effect w e) q' loose
+pub alone_goes : (credit : CreditSpec) (w : World) (e : Event) (i d : ℕ) (q q' : Parties) (loose : Option (LinkName × OutSeen)) → IsLawfulAt credit w → refusal w e ≡ None → id_of w (by_of e) ≡ Some (i + 1) → IsAlone e (i + 1) q → Stand credit.initial w q → Acts e i d q q' loose → StandMoved credit.initial (i + 1) (effect w e) q' loose
 alone_goes credit w (Cast by body) i d q q' loose h r found alone st a = cast_goes credit w by body i d q q' loose h found st a
 alone_goes credit w (Put by) i d q q' loose h r found alone st a = put_goes credit w by i d q q' loose h r found st a
 alone_goes credit w (Take by) i d q q' loose h r found alone st a = take_goes credit w by i d q q' loose h r found st a

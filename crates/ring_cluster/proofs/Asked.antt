@@ -1,19 +1,21 @@
 -- What a member that has nothing to do is refused.
-use Rattle.std.proofs.Common.{◌≡◌, ◌≢◌, ℕ, zero, suc, ◌+◌, ◌<◌, ◌≤◌, Bool, true, false, cond, not, nat_lt, List, [], ◌∷◌, length, get_or, Option, Some, None, is_some, refl, sym, ap, subst, ◌∙◌, arith}
+use Rattle.std.proofs.Common.{◌≡◌, ◌≢◌, ℕ, ◌<◌, ◌≤◌, Bool, true, false, cond, not, nat_lt, List, [], ◌∷◌, length, get_or, Option, Some, None, is_some, refl, sym, ap, subst, ◌∙◌, arith, ⊎_elim}
 use Rattle.std.specs.List.{position_or_len}
-use Rattle.std.proofs.lemmas.Bool.{false≢true, and_parts, lt-ltb, not-true}
+use Rattle.std.proofs.lemmas.Bool.{false≢true, and_parts, lt-ltb, not-true, false_from_ne_true, cases_lt}
 use Rattle.std.proofs.lemmas.List.Quantifiers.{position-Some}
 use Rattle.ring_names.specs.declared.reason.Reason.{Reason}
 use Rattle.ring_names.specs.declared.reason.Reason.TheVariants as reason
 use Rattle.ring_world.specs.Refusal.{refuse_if, or_else, is_empty}
 use Rattle.ring_world.specs.declared.phase.Phase.TheVariants.{Up}
-use Rattle.ring_world.specs.Machine.{World, Packet, Link, no_packet, no_link, member_at, link_at, newest}
-use Rattle.ring_world.specs.Walk.{oldest}
-use Rattle.ring_world.specs.Event.{id_of, of_member, on_link, is_stopped, running_refusal, up_refusal, holds_nothing, is_at_door, at_door, pick_refusal, put_refusal, take_refusal, end_refusal, gain_refusal, version_refusal}
+use Rattle.ring_world.specs.Machine.{World, Packet, Link, no_packet, no_link, member_at, link_at, newest, oldest}
+use Rattle.ring_world.specs.Event.{id_of, of_member, on_link, is_stopped, running_refusal, up_refusal, holds_nothing, is_at_door, at_door, pick_refusal, put_refusal, take_refusal, end_refusal, gain_refusal, version_refusal, by_of, is_for_up, phase_refusal, further_refusal, refused_at, refusal}
 use Rattle.ring_world.proofs.OwnerStops.{AllPackets, IsPacket}
 use Rattle.ring_world.proofs.Happens.{IsGood}
 use Rattle.gm_member.proofs.TakeStands.{version_may}
 use Rattle.ring_cluster.specs.Idle.{HasNothingToDo}
+use Rattle.std.proofs.lemmas.List.Sums.{prefix_len_passes}
+use Rattle.ring_world.specs.declared.event.Event.{Event}
+use Rattle.ring_world.specs.declared.event.Event.TheVariants.{Put, Take, TakeEnd, Gain, Pick}
 
 -- ---- what a refusal says
 
@@ -36,11 +38,19 @@ running_refused : (w : World) (x : ℕ) (later : Option Reason) → (member_at w
 running_refused w x later up h = later_refused (is_stopped (member_at w x).phase) reason.Stopped later (ap is_stopped up) h
 
 -- where it must not wait either
-pub up_refused : (w : World) (x : ℕ) (later : Option Reason) → IsGood w → (member_at w x).phase ≡ Up → up_refusal w x later ≢ None → later ≢ None
+up_refused : (w : World) (x : ℕ) (later : Option Reason) → IsGood w → (member_at w x).phase ≡ Up → up_refusal w x later ≢ None → later ≢ None
 up_refused w x later g up h = later_refused _ reason.Waiting later (g.none_waits x) (running_refused w x _ up h)
 
+-- so of an event of one that is up
+pub further_refused : (w : World) (x : ℕ) (e : Event) → IsGood w → id_of w (by_of e) ≡ Some x → (member_at w x).phase ≡ Up → refusal w e ≢ None → further_refusal w e x ≢ None
+further_refused w x e g named up h = by_phase (is_for_up e) (found_refused (id_of w (by_of e)) x (refused_at w e) named h)
+  where
+    by_phase : (for_up : Bool) → phase_refusal for_up w x (further_refusal w e x) ≢ None → further_refusal w e x ≢ None
+    by_phase true = up_refused w x (further_refusal w e x) g up
+    by_phase false = running_refused w x (further_refusal w e x) up
+
 -- of a link that is there
-pub link_refused : (o : Option ℕ) (missing : Reason) (later : ℕ → Option Reason) (s : ℕ) → o ≡ Some s → on_link o missing later ≢ None → later s ≢ None
+link_refused : (o : Option ℕ) (missing : Reason) (later : ℕ → Option Reason) (s : ℕ) → o ≡ Some s → on_link o missing later ≢ None → later s ≢ None
 link_refused o missing later s e h = subst (λ k. on_link k missing later ≢ None) e h
 
 -- what a member is refused, by its id
@@ -53,15 +63,19 @@ pub record IsRefused (w : World) (y : ℕ) : Type 0 where
 
 -- that is what it is refused by its name
 pub refused_by_id : (w : World) (y : ℕ) → IsGood w → id_of w (member_at w y).name ≡ Some y → (member_at w y).phase ≡ Up → HasNothingToDo w y → IsRefused w y
-refused_by_id w y g named up h =
-    let id : Option ℕ = id_of w (member_at w y).name in
-    record {
-      pick = λ e. later_refused (is_some (member_at w y).current) reason.HasCurrentLink (pick_refusal w y) (ap is_some e) (up_refused w y _ g up (found_refused id y _ named h.pick));
-      take = λ s e. link_refused (member_at w y).current reason.NoCurrentLink (take_refusal w y) s e (running_refused w y _ up (found_refused id y _ named h.take));
-      take_end = λ s e. link_refused (member_at w y).current reason.NoCurrentLink (end_refusal w) s e (running_refused w y _ up (found_refused id y _ named h.take_end));
-      gain = λ o e. link_refused (member_at w y).out reason.NoOutLink (gain_refusal w) o e (up_refused w y _ g up (found_refused id y _ named h.gain));
-      put = λ o e. link_refused (member_at w y).out reason.NoOutLink (put_refusal w y) o e (up_refused w y _ g up (found_refused id y _ named h.put));
-    }
+refused_by_id w y g named up h = record {
+  pick = λ e. later_refused (is_some (member_at w y).current) reason.HasCurrentLink (pick_refusal w y) (ap is_some e) (asked (Pick name) named h.pick);
+  take = λ s e. link_refused (member_at w y).current reason.NoCurrentLink (take_refusal w y) s e (asked (Take name) named h.take);
+  take_end = λ s e. link_refused (member_at w y).current reason.NoCurrentLink (end_refusal w) s e (asked (TakeEnd name) named h.take_end);
+  gain = λ o e. link_refused (member_at w y).out reason.NoOutLink (gain_refusal w) o e (asked (Gain name) named h.gain);
+  put = λ o e. link_refused (member_at w y).out reason.NoOutLink (put_refusal w y) o e (asked (Put name) named h.put);
+}
+  where
+    name : List ℕ
+    name = (member_at w y).name
+
+    asked : (e : Event) → id_of w (by_of e) ≡ Some y → refusal w e ≢ None → further_refusal w e y ≢ None
+    asked e by = further_refused w y e g by up
 
 -- ---- takes
 
@@ -108,29 +122,16 @@ door_is_empty w y g new refused = by_door (at_door w y) refl
         let late : version_refusal (link_at w s).opened (member_at w y).version ≢ None = link_refused (at_door w y) reason.NoLinkAtDoor (λ k. version_refusal (link_at w k).opened (member_at w y).version) s e refused in
         absurd (late (version_may (link_at w s).opened (member_at w y).version (omega (arith, g.inv.linked.opened s lt))))
 
--- the first place that passes is no later than another
-first_within : {X : Type 0} (p : X → Bool) (xs : List X) (k : ℕ) (d : X) → k < length xs → p (get_or xs k d) ≡ true → position_or_len p xs ≤ k
-first_within p [] k d lt h = absurd (omega arith)
-first_within p (x ∷ xs) k d lt h = by_case (p x) refl k lt h (λ j l e. first_within p xs j d l e)
-  where
-    by_case : (b : Bool) → p x ≡ b → (k : ℕ) → k < length (x ∷ xs) → p (get_or (x ∷ xs) k d) ≡ true → ((j : ℕ) → j < length xs → p (get_or xs j d) ≡ true → position_or_len p xs ≤ j) → cond (not b) (1 + position_or_len p xs) 0 ≤ k
-    by_case true e k l h ih = omega arith
-    by_case false e zero l h ih = absurd (false≢true (sym e ∙ h))
-    by_case false e (suc k) l h ih = omega (arith, ih k (omega arith) h)
-
 -- so no link passes the test at the door
 pub none_passes : (w : World) (y s : ℕ) → s < length w.links → at_door w y ≡ None → is_at_door w y (link_at w s) ≡ false
-none_passes w y s lt none = by_test (is_at_door w y (link_at w s)) refl
+none_passes w y s lt none = false_from_ne_true (is_at_door w y (link_at w s)) (λ passes. ⊎_elim
+    (λ (before : s < n). false≢true (sym (not-true (is_at_door w y (link_at w s)) (prefix_len_passes (λ l. not (is_at_door w y l)) w.links s no_link before)) ∙ passes))
+    (λ (from : n ≤ s). false≢true (sym (by_found (nat_lt n (length w.links)) none) ∙ lt-ltb n (length w.links) (omega arith)))
+    (cases_lt s n))
   where
     n : ℕ
     n = position_or_len (is_at_door w y) w.links
 
-    by_found : (b : Bool) → nat_lt n (length w.links) ≡ b → cond b (Some n) None ≡ None → b ≡ false
-    by_found true e k = cc
-    by_found false e k = refl
-
-    by_test : (b : Bool) → is_at_door w y (link_at w s) ≡ b → b ≡ false
-    by_test false e = refl
-    by_test true e =
-        let within : n ≤ s = first_within (is_at_door w y) w.links s no_link lt e in
-        absurd (false≢true (sym (by_found (nat_lt n (length w.links)) refl none) ∙ lt-ltb n (length w.links) (omega arith)))
+    by_found : (b : Bool) → cond b (Some n) None ≡ None → b ≡ false
+    by_found true e = cc
+    by_found false e = refl

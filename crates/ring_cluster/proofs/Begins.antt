@@ -13,7 +13,7 @@ use Rattle.ring_world.specs.View.{ids, left_of, right_of}
 use Rattle.ring_world.specs.Machine.{Link, Member, no_link, member_at, link_at, row_at, numbers_at, left, runs, runs_phase}
 use Rattle.ring_world.specs.Step.{size, opening, opening_link, opening_member}
 use Rattle.ring_world.specs.Event.{is_stopped}
-use Rattle.ring_world.proofs.First.{first_at, first_size}
+use Rattle.ring_world.proofs.First.{first_size, first_member}
 use Rattle.ring_world.proofs.Lists.{get_or-mapped}
 use Rattle.ring_world.proofs.Rounds.{nat_eq-is, nat_eq-same}
 use Rattle.ring_world.proofs.Views.{left_is}
@@ -42,9 +42,6 @@ module _ (credit : CreditSpec) (names : List (List ℕ)) (are : AreOpeningNames 
   fit : IsFit (opening credit names)
   fit = reached_fit credit names [] are tt
 
-  member_is : (x : ℕ) → 1 ≤ x → x < size (opening credit names) → member_at (opening credit names) x ≡ opening_member names x
-  member_is x a b = first_at credit names x a (omega (arith, b, first_size credit names))
-
   many : length (opening credit names).links ≡ length names
   many = length-map-range_with_len (opening_link credit names) 1 (length names)
 
@@ -52,11 +49,11 @@ module _ (credit : CreditSpec) (names : List (List ℕ)) (are : AreOpeningNames 
   link_is s l = get_or-map-range_with_len (opening_link credit names) 1 (length names) s (s + 1) no_link (omega (arith, many)) (omega arith)
 
   up_at : (x : ℕ) → 1 ≤ x → x < size (opening credit names) → runs (opening credit names) x ≡ true
-  up_at x a b = ap (λ (m : Member). runs_phase m.phase) (member_is x a b)
+  up_at x a b = ap (λ (m : Member). runs_phase m.phase) (first_member credit names x a b)
 
   -- the link from which a member takes: its place, its sender and its receiver
   current_is : (x : ℕ) → 1 ≤ x → x < size (opening credit names) → (member_at (opening credit names) x).current ≡ Some (left_of (opening_group names) x - 1)
-  current_is x a b = ap (λ (m : Member). m.current) (member_is x a b)
+  current_is x a b = ap (λ (m : Member). m.current) (first_member credit names x a b)
 
   current_lt : (x : ℕ) → 1 ≤ x → x < size (opening credit names) → left_of (opening_group names) x - 1 < length (opening credit names).links
   current_lt x a b = fit.good.inv.current.lt x (left_of (opening_group names) x - 1) (up_at x a b) (current_is x a b)
@@ -116,7 +113,7 @@ module _ (credit : CreditSpec) (names : List (List ℕ)) (are : AreOpeningNames 
   held_first : (x : ℕ) → 1 ≤ x → x < size (opening credit names) → held_in (opening credit names) x ≡ founded credit (slice_index_or ([] ∷ names) x []) x (opening_group names)
   held_first x a b =
       held_is (opening credit names) x (opening_member names x) (Some (fresh_outgoing credit.initial credit.more (right_of (opening_group names) x) 1)) (Some (fresh_incoming credit.initial credit.more (left_of (opening_group names) x) 1)) []
-      (member_is x a b) (ap Some (out_is x a b)) (ap Some (in_is x a b)) (ap (map (incoming_in (opening credit names))) (no_door x a b))
+      (first_member credit names x a b) (ap Some (out_is x a b)) (ap Some (in_is x a b)) (ap (map (incoming_in (opening credit names))) (no_door x a b))
       ∙ ap (λ rows. held_from x (slice_index_or ([] ∷ names) x []) Up (opening_group names) rows (Some (fresh_outgoing credit.initial credit.more (right_of (opening_group names) x) 1)) (Some (fresh_incoming credit.initial credit.more (left_of (opening_group names) x) 1)) [] credit.initial credit.more) (rows_are x)
 
   -- the ends of its links, by their places
@@ -137,9 +134,9 @@ module _ (credit : CreditSpec) (names : List (List ℕ)) (are : AreOpeningNames 
     held = ap (λ i. founded credit (slice_index_or names (x - 1) []) i (opening_group names)) (omega (arith, a))
         ∙ ap (λ name. founded credit name x (opening_group names)) (name_at x a)
         ∙ ap (λ (h : Held). record h { door = [] }) (sym (held_first x a b));
-    out = sym (ap (λ (m : Member). option_map (λ (_ : ℕ). fresh_out credit.initial) m.out) (member_is x a b));
+    out = sym (ap (λ (m : Member). option_map (λ (_ : ℕ). fresh_out credit.initial) m.out) (first_member credit names x a b));
     kept = refl;
-    link = sym (ap (λ (m : Member). option_map (λ (_ : ℕ). fresh_in credit.initial) m.current) (member_is x a b));
+    link = sym (ap (λ (m : Member). option_map (λ (_ : ℕ). fresh_in credit.initial) m.current) (first_member credit names x a b));
     ends = refl;
     old_outs = refl;
     old_ins = refl;
@@ -162,7 +159,7 @@ module _ (credit : CreditSpec) (names : List (List ℕ)) (are : AreOpeningNames 
         count = omega (arith, length-map-range_with_len (opened_at credit names) 0 (length names), first_size credit names);
         each = member_stands;
         views = refl;
-        stopped = λ x a b. sym (ap (λ (m : Member). is_stopped m.phase) (member_is x a b));
+        stopped = λ x a b. sym (ap (λ (m : Member). is_stopped m.phase) (first_member credit names x a b));
         post = refl;
         within = λ s i. absurd (false≢true i);
         carry = λ s l _. carries_first s l;

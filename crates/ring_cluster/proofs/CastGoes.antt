@@ -19,7 +19,8 @@ use Rattle.gm_member.proofs.PublishStands.{publish_stands}
 use Rattle.gm_member.proofs.Others.{publish_others}
 use Rattle.ring_cluster.specs.Ends.{OutSeen, packet_in}
 use Rattle.ring_cluster.specs.Parties.{Parties, node_at, with_node}
-use Rattle.ring_cluster.specs.Standing.{Places, MemberStands, Stand, StandLoose}
+use Rattle.ring_cluster.specs.Standing.{Places, MemberStands, Stand}
+use Rattle.ring_cluster.specs.Loose.{StandMoved}
 use Rattle.ring_cluster.specs.Acting.{Acts}
 use Rattle.ring_cluster.proofs.Rows.{carried_grown}
 use Rattle.ring_cluster.proofs.Lawful.{IsLawfulAt}
@@ -46,7 +47,7 @@ cast_packets w x m (k ∷ ks) lt h =
 
 -- ---- the parties
 
-pub cast_goes : (credit : CreditSpec) (w : World) (by body : List ℕ) (i d : ℕ) (q q' : Parties) (loose : Option (LinkName × OutSeen)) → IsLawfulAt credit w → id_of w by ≡ Some (i + 1) → Stand credit.initial w q → Acts (Cast by body) i d q q' loose → StandLoose credit.initial (effect w (Cast by body)) q' loose
+pub cast_goes : (credit : CreditSpec) (w : World) (by body : List ℕ) (i d : ℕ) (q q' : Parties) (loose : Option (LinkName × OutSeen)) → IsLawfulAt credit w → id_of w by ≡ Some (i + 1) → Stand credit.initial w q → Acts (Cast by body) i d q q' loose → StandMoved credit.initial (i + 1) (effect w (Cast by body)) q' loose
 cast_goes credit w by body i d q q' loose h found st (b, casts, is, none) =
     let x : ℕ = i + 1 in
     let m : Message = message.Cast body in
@@ -61,7 +62,7 @@ cast_goes credit w by body i d q q' loose h found st (b, casts, is, none) =
       is = casts;
     } in
     let a : MemberStands w p x (node_at q i) = stands_at credit.initial w q p i st.stand lt in
-    goes_so credit.initial w' (effect w (Cast by body)) (with_node q i b) q' loose (found_does (id_of w by) x w (λ y. publish_at w y m) found) is none
+    goes_so credit.initial x w' (effect w (Cast by body)) (with_node q i b) q' loose (found_does (id_of w by) x w (λ y. publish_at w y m) found) is none
     (steps credit w w' q q.stopped p i b st h lt (record {
       leaves = ways_leave w w' x ways;
       post = refl;

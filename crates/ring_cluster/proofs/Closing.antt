@@ -38,10 +38,10 @@ use Rattle.ring_cluster.specs.Ends.{OutSeen}
 use Rattle.ring_cluster.specs.Parties.{ANode, Shown, Posted, Parties, parties, posted, node_at, with_node, shown_of, in_seen}
 use Rattle.ring_cluster.specs.Seen.{state}
 use Rattle.ring_cluster.specs.Standing.{MemberStands, StandAfter, IsJournal}
-use Rattle.ring_cluster.specs.Loose.{StandBetween, BetweenAfter}
-use Rattle.ring_cluster.specs.Meeting.{LooseAfter, MayMeet, MeetsIn}
+use Rattle.ring_cluster.specs.Loose.{StandBetween, StandMoved, BetweenAfter, moved_by}
+use Rattle.ring_cluster.specs.Meeting.{MayMeet, MeetsIn}
 use Rattle.ring_cluster.specs.Acting.{alone_refused, stop_refused, look_refused, posting, newest_of, viewing, LooksAt, Acts}
-use Rattle.ring_cluster.specs.Refused.{id_named, NothingWaits, mark_refused, act_refused, marked_in}
+use Rattle.ring_cluster.specs.Refused.{id_named, NothingWaits, mark_refused, act_refused, marked_in, office_of}
 use Rattle.ring_cluster.specs.Looking.{CanLook, IsPublished}
 use Rattle.ring_cluster.specs.Behind.{behind}
 use Rattle.ring_cluster.specs.declared.undelivered.Undelivered.{Undelivered}
@@ -92,14 +92,10 @@ module _ (credit : CreditSpec) (names : List (List ℕ)) (events : List Event) w
   found_place q name i e = omega (arith, (found_within q name (i + 1) e).1)
 
   -- a member refuses an event just where the ring does, for the same reason
-  pub refused_is : (nodes : List ANode) (r : Registry (PlainIn Load)) (e : Event) (i : ℕ) → StandAfter credit names events (parties nodes r []) → id_named (parties nodes r []) (by_of e) ≡ Some (i + 1)
-      → ((node_at (parties nodes r []) i).held.phase ≡ Up → NothingWaits (i + 1) (parties nodes r []))
-      → act_refused e i r (parties nodes r []) ≡ refusal (state credit names events) e
-  refused_is nodes r e i s named waits = by_event e (sym (found q (by_of e) s) ∙ named) (found_place q (by_of e) i named)
+  pub refused_is : (q : Parties) (e : Event) (i : ℕ) → StandAfter credit names events q → id_named q (by_of e) ≡ Some (i + 1) → ((node_at q i).held.phase ≡ Up → NothingWaits (i + 1) q)
+      → act_refused e i q ≡ refusal (state credit names events) e
+  refused_is q e i s named waits = by_event e (sym (found q (by_of e) s) ∙ named) (found_place q (by_of e) i named)
     where
-      q : Parties
-      q = parties nodes r []
-
       w : World
       w = state credit names events
 
@@ -116,22 +112,22 @@ module _ (credit : CreditSpec) (names : List (List ℕ)) (events : List Event) w
       pick_up by k l Stopped e = not_up Stopped (λ n. cc) e l _ _ ∙ sym (ap (λ o. of_member o (λ y. up_refusal w y (or_else (refuse_if (is_some (member_at w y).current) reason.HasCurrentLink) (pick_refusal w y)))) k)
 
       marked_later : ℕ → Option Reason
-      marked_later d = mark_refusal r (node_at q i).held.id d (node_at q i).held.view.version (is_some (node_at q i).held.current || is_some (first_at_door (node_at q i).held))
+      marked_later d = mark_refusal (office_of q) (node_at q i).held.id d (node_at q i).held.view.version (is_some (node_at q i).held.current || is_some (first_at_door (node_at q i).held))
 
-      mark_up : (by dead : List ℕ) (d : ℕ) → id_of w by ≡ Some (i + 1) → id_of w dead ≡ Some d → i < length q.nodes → (f : Phase) → (node_at q i).held.phase ≡ f → mark_refused r (node_at q i) (Some d) ≡ refusal w (Mark by dead)
+      mark_up : (by dead : List ℕ) (d : ℕ) → id_of w by ≡ Some (i + 1) → id_of w dead ≡ Some d → i < length q.nodes → (f : Phase) → (node_at q i).held.phase ≡ f → mark_refused (office_of q) (node_at q i) (Some d) ≡ refusal w (Mark by dead)
       mark_up by dead d k e l Up f =
           let id : (node_at q i).held.id ≡ i + 1 = id_after credit names events q i s l in
-          ap (λ x. up_refused (node_at q i).held (mark_refusal r x d (node_at q i).held.view.version (is_some (node_at q i).held.current || is_some (first_at_door (node_at q i).held)))) id
-          ∙ mark_asked_refuses credit w nodes r [] (i + 1) d by dead (node_at q i) (lawful_after credit names events s.journal) k e s.stand (waits f) (ap (node_at q) (sym (place i)))
+          ap (λ x. up_refused (node_at q i).held (mark_refusal (office_of q) x d (node_at q i).held.view.version (is_some (node_at q i).held.current || is_some (first_at_door (node_at q i).held)))) id
+          ∙ mark_asked_refuses credit w q (i + 1) d by dead (node_at q i) (lawful_after credit names events s.journal) k e s.stand (waits f) (ap (node_at q) (sym (place i)))
       mark_up by dead d k e l Waiting f = not_up Waiting (λ n. cc) f l _ _ ∙ sym (ap (λ o. of_member o (λ y. up_refusal w y (of_member (id_of w dead) (event.mark_refusal w y)))) k)
       mark_up by dead d k e l Stopped f = not_up Stopped (λ n. cc) f l _ _ ∙ sym (ap (λ o. of_member o (λ y. up_refusal w y (of_member (id_of w dead) (event.mark_refusal w y)))) k)
 
-      by_dead : (by dead : List ℕ) (o : Option ℕ) → id_of w by ≡ Some (i + 1) → id_of w dead ≡ o → i < length q.nodes → mark_refused r (node_at q i) o ≡ refusal w (Mark by dead)
-      by_dead by dead None k d l = subst (λ j. mark_refused r (node_at q j) None ≡ refusal w (Mark by dead)) (place i) (mark_unknown credit w q (i + 1) by dead (lawful_after credit names events s.journal) k d s.stand)
+      by_dead : (by dead : List ℕ) (o : Option ℕ) → id_of w by ≡ Some (i + 1) → id_of w dead ≡ o → i < length q.nodes → mark_refused (office_of q) (node_at q i) o ≡ refusal w (Mark by dead)
+      by_dead by dead None k d l = subst (λ j. mark_refused (office_of q) (node_at q j) None ≡ refusal w (Mark by dead)) (place i) (mark_unknown credit w q (i + 1) by dead (lawful_after credit names events s.journal) k d s.stand)
       by_dead by dead (Some d) k e l = mark_up by dead d k e l (node_at q i).held.phase refl
 
-      by_event : (f : Event) → id_of w (by_of f) ≡ Some (i + 1) → i < length q.nodes → act_refused f i r q ≡ refusal w f
-      by_event (Mark by dead) k l = ap (mark_refused r (node_at q i)) (found q dead s) ∙ by_dead by dead (id_of w dead) k refl l
+      by_event : (f : Event) → id_of w (by_of f) ≡ Some (i + 1) → i < length q.nodes → act_refused f i q ≡ refusal w f
+      by_event (Mark by dead) k l = ap (mark_refused (office_of q) (node_at q i)) (found q dead s) ∙ by_dead by dead (id_of w dead) k refl l
       by_event (Refresh by version) k l = subst (λ j. look_refused (newest_of q).version (node_at q j) version ≡ refusal w (Refresh by version)) (place i) (look_refuses credit w q (i + 1) version by (lawful_after credit names events s.journal) k s.stand)
       by_event (Pick by) k l = pick_up by k l (node_at q i).held.phase refl
       by_event f k l = alone f k tt
@@ -203,28 +199,20 @@ module _ (credit : CreditSpec) (names : List (List ℕ)) (events : List Event) w
       by_event (Pick by) e k l = up (λ y. or_else (refuse_if (is_some (member_at w y).current) reason.HasCurrentLink) (pick_refusal w y)) (id_of w by) k e l
       by_event f e k l = tt
 
-  pub acted : (nodes nodes' : List ANode) (r r' : Registry (PlainIn Load)) (late : List Posted) (e : Event) (i : ℕ) (loose : Option (LinkName × OutSeen)) → StandAfter credit names events (parties nodes r [])
-      → act_refused e i r (parties nodes r []) ≡ None → id_named (parties nodes r []) (by_of e) ≡ Some (i + 1)
-      → ((node_at (parties nodes r []) i).held.phase ≡ Up → NothingWaits (i + 1) (parties nodes r [])) → length events + 1 < 2 ^ 59
-      → Acts e i (marked_in e (parties nodes r [])) (parties nodes r []) (parties nodes' r' late) loose
-      → BetweenAfter credit names (events ++ e ∷ []) (parties nodes' r' late) loose
-  acted nodes nodes' r r' late e i loose s refused named waits few a = record {
+  pub acted : (q q' : Parties) (e : Event) (i : ℕ) (loose : Option (LinkName × OutSeen)) → StandAfter credit names events q → act_refused e i q ≡ None → id_named q (by_of e) ≡ Some (i + 1)
+      → ((node_at q i).held.phase ≡ Up → NothingWaits (i + 1) q) → length events + 1 < 2 ^ 59 → Acts e i (marked_in e q) q q' loose
+      → BetweenAfter credit names (events ++ e ∷ []) (moved_by (i + 1) (state credit names (events ++ e ∷ []))) q' loose
+  acted q q' e i loose s refused named waits few a = record {
     journal = journal;
     stand = stand;
     goes = λ name o k. goes name o (subst (Acts e i (marked_in e q) q q') k a);
   }
     where
-      q : Parties
-      q = parties nodes r []
-
-      q' : Parties
-      q' = parties nodes' r' late
-
       w : World
       w = state credit names events
 
       enabled : refusal w e ≡ None
-      enabled = sym (refused_is nodes r e i s named waits) ∙ refused
+      enabled = sym (refused_is q e i s named waits) ∙ refused
 
       journal : IsJournal credit names (events ++ e ∷ [])
       journal = record {
@@ -236,8 +224,8 @@ module _ (credit : CreditSpec) (names : List (List ℕ)) (events : List Event) w
       after : state credit names (events ++ e ∷ []) ≡ effect w e
       after = last_append (opening credit names) events (e ∷ [])
 
-      stand : StandBetween credit.initial (state credit names (events ++ e ∷ [])) q' loose
-      stand = subst (λ u. StandBetween credit.initial u q' loose) (sym after)
+      stand : StandMoved credit.initial (i + 1) (state credit names (events ++ e ∷ [])) q' loose
+      stand = subst (λ u. StandMoved credit.initial (i + 1) u q' loose) (sym after)
           (each_goes credit w e i (marked_in e q) q q' loose (lawful_after credit names events s.journal)
           (subst (IsLawfulAt credit) after (lawful_after credit names (events ++ e ∷ []) journal))
           enabled (sym (found q (by_of e) s) ∙ named) (may_go q e i s enabled named waits) s.stand a)
@@ -248,18 +236,26 @@ module _ (credit : CreditSpec) (names : List (List ℕ)) (events : List Event) w
           let many : length q'.nodes ≡ length q.nodes = many_after q q' e i (marked_in e q) loose a in
           (in_old.0, omega (arith, in_old.1, many, s.stand.stand.count, stand.stand.count))
 
+  -- there are as many members then
+  pub still_there : (q q' q'' : Parties) (e : Event) (i : ℕ) (loose : Option (LinkName × OutSeen)) (ids : List ℕ) → i < length q.nodes → Acts e i (marked_in e q) q q' loose
+      → BetweenAfter credit names (events ++ e ∷ []) ids q' loose → BetweenAfter credit names (events ++ e ∷ []) ids q'' None → i < length q''.nodes
+  still_there q q' q'' e i loose ids l a b later =
+      let many : length q'.nodes ≡ length q.nodes = many_after q q' e i (marked_in e q) loose a in
+      omega (arith, l, many, b.stand.stand.count, later.stand.stand.count)
+
   -- ---- the loose end meets its other end
 
-  pub between_may : (q : Parties) (name : LinkName) (o : OutSeen) (loose : Option (LinkName × OutSeen)) → loose ≡ Some (name, o) → BetweenAfter credit names events q loose → MayMeet q name o
-  between_may q name o loose e b =
-      loose_may credit (state credit names events) q name o (lawful_after credit names events b.journal) (go_after credit names events b.journal) (b.goes name o e)
-      (subst (StandBetween credit.initial (state credit names events) q) e b.stand)
+  pub between_may : (ids : List ℕ) (q : Parties) (name : LinkName) (o : OutSeen) (loose : Option (LinkName × OutSeen)) → loose ≡ Some (name, o) → BetweenAfter credit names events ids q loose → MayMeet q name o
+  between_may ids q name o loose e b =
+      loose_may credit (state credit names events) ids q name o (lawful_after credit names events b.journal) (go_after credit names events b.journal) (b.goes name o e)
+      (subst (StandBetween credit.initial (state credit names events) ids q) e b.stand)
 
-  pub between_meets : (q q' : Parties) (name : LinkName) (o o' : OutSeen) (loose : Option (LinkName × OutSeen)) → loose ≡ Some (name, o) → BetweenAfter credit names events q loose → MeetsIn q name o q q' o' → LooseAfter credit names events q'
-  between_meets q q' name o o' loose e b m = record {
+  pub between_meets : (ids : List ℕ) (q q' : Parties) (name : LinkName) (o o' : OutSeen) (loose : Option (LinkName × OutSeen)) → loose ≡ Some (name, o) → BetweenAfter credit names events ids q loose → MeetsIn q name o q q' o' → BetweenAfter credit names events ids q' None
+  between_meets ids q q' name o o' loose e b m = record {
     journal = b.journal;
-    stand = loose_meets credit (state credit names events) q q' name o o' (lawful_after credit names events b.journal) (go_after credit names events b.journal) (b.goes name o e)
-        (subst (StandBetween credit.initial (state credit names events) q) e b.stand) m;
+    stand = loose_meets credit (state credit names events) ids q q' name o o' (lawful_after credit names events b.journal) (go_after credit names events b.journal) (b.goes name o e)
+        (subst (StandBetween credit.initial (state credit names events) ids q) e b.stand) m;
+    goes = λ other l k. cc;
   }
 
   -- ---- what the calls of a member need

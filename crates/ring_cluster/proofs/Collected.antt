@@ -4,6 +4,7 @@ use Rattle.std.specs.Prelude.{◌&&◌, option_map}
 use Rattle.std.specs.List.{filter}
 use Rattle.std.proofs.lemmas.List.{append-nil, map-append}
 use Rattle.ordered_link.specs.declared.plain.PlainIn.{PlainIn}
+use Rattle.group_view.specs.Link.{is_ring}
 use Rattle.group_view.specs.declared.link.LinkKind.TheVariants.{Ring}
 use Rattle.group_view.specs.declared.link.LinkName.{LinkName}
 use Rattle.group_view.specs.declared.request.Deposited.{Deposited}
@@ -12,7 +13,7 @@ use Rattle.registrar.specs.Registry.{Registry, AreHere, is_for, beside}
 use Rattle.registrar.specs.Handled.{without_links, deposited, links_for}
 use Rattle.gm_member.specs.declared.packet.Load.{Load}
 use Rattle.gm_member.specs.Held.{Held, asking_held, answered_held, collected_held}
-use Rattle.gm_member.specs.Arrivals.{is_ring, is_ring_link, joins, arrived_in, incoming_of, given_end, with_arrived}
+use Rattle.gm_member.specs.Arrivals.{is_ring_link, joins, arrived_in, incoming_of, given_end, with_arrived}
 use Rattle.gm_member.specs.Shown.{held_of, ends_of}
 use Rattle.ring_cluster.specs.Ends.{InSeen}
 use Rattle.ring_cluster.specs.Parties.{ANode, Shown, Posted, ends_seen, in_seen, shown_of, posted}

@@ -16,12 +16,12 @@ use Rattle.ring_world.proofs.Happens.{IsGood}
 use Rattle.gm_member.specs.Held.{Held, Incoming, stays, collected_held}
 use Rattle.gm_member.specs.Stands.{incoming_in, waits_for, held_in}
 use Rattle.gm_member.proofs.Doors.{waits_is}
-use Rattle.ring_cluster.specs.Parties.{Shown, Posted, Parties, EndsSeen, node_at, with_node}
+use Rattle.ring_cluster.specs.Parties.{Shown, Posted, Parties, EndsSeen, node_at}
 use Rattle.ring_cluster.specs.Standing.{Places, MemberStands, Stand, name_of, is_to}
 use Rattle.ring_cluster.specs.Acting.{waits_at, received, is_kept_by, Collects, CollectsAt}
 use Rattle.ring_cluster.proofs.Writing.{in_filter, map_agree}
 use Rattle.ring_cluster.proofs.Placing.{posted_is}
-use Rattle.ring_cluster.proofs.Showing.{stands_of, each_set}
+use Rattle.ring_cluster.proofs.Showing.{each_set}
 use Rattle.ring_cluster.proofs.Meetings.{waiting_at}
 
 -- Nobody has taken from a link at a door.
@@ -154,7 +154,7 @@ collect_stands initial w q q' x g fresh a l c st =
     let b : Shown = c.0 in
     subst (Stand initial w) (sym c.2) (record {
       places = without_to w x p;
-      stand = stands_of initial w (record (with_node q (x - 1) b) { post = filter (λ d. not (waits_at x d)) q.post }) (without_to w x p) (record {
+      stand = record {
         count = (let same : length (set q.nodes (x - 1) b) ≡ length q.nodes = length-set q.nodes (x - 1) b in omega (arith, same, st.stand.count));
         each = each_set w w q p (without_to w x p) x b st.stand.count a l (collected w q p x b g fresh st.stand.post (st.stand.each x a l) c.1)
             (λ z k m ne. not_collected w p x z (node_at q (z - 1)) ne (st.stand.each z k m));
@@ -162,7 +162,8 @@ collect_stands initial w q q' x g fresh a l c st =
         stopped = st.stand.stopped;
         post = ap (filter (λ d. not (waits_at x d))) st.stand.post ∙ filter_map (λ d. not (waits_at x d)) (waiting_at w p) p.post;
         within = λ s e. st.stand.within s (and_parts (not (is_to w x s)) (is_in s p.post) (sym (in_filter (λ k. not (is_to w x k)) s p.post) ∙ e)).1;
-      }) st.stand.carry;
+        carry = st.stand.carry;
+      };
       met = st.met;
       known = st.known;
     })

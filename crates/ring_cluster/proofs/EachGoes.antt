@@ -1,5 +1,5 @@
 -- Whatever a member has done, the parties stand in the state after the ring's event.
-use Rattle.std.proofs.Common.{◌≡◌, ℕ, ◌+◌, [], Option, Some, None, sym, subst}
+use Rattle.std.proofs.Common.{◌≡◌, ℕ, ◌+◌, [], Option, Some, None}
 use Rattle.std.specs.Prelude.{⊤}
 use Rattle.std.specs.List.{filter}
 use Rattle.ring_names.specs.declared.numbers.CreditSpec.{CreditSpec}
@@ -10,12 +10,11 @@ use Rattle.ring_world.specs.Machine.{World}
 use Rattle.ring_world.specs.Event.{by_of, id_of, refusal, effect}
 use Rattle.ring_cluster.specs.Ends.{OutSeen}
 use Rattle.ring_cluster.specs.Parties.{Parties}
-use Rattle.ring_cluster.specs.Standing.{Stand, StandLoose}
-use Rattle.ring_cluster.specs.Loose.{StandBetween}
+use Rattle.ring_cluster.specs.Standing.{Stand}
+use Rattle.ring_cluster.specs.Loose.{StandMoved}
 use Rattle.ring_cluster.specs.Acting.{Acts, waits_at}
 use Rattle.ring_cluster.proofs.Lawful.{IsLawfulAt}
 use Rattle.ring_cluster.proofs.AloneGoes.{alone_goes}
-use Rattle.ring_cluster.proofs.Joining.{loose_between}
 use Rattle.ring_cluster.proofs.Marking.{refresh_between, mark_between}
 
 -- What an event needs besides: that no link waits for the member of id x that picks, or has another view, and that d is whom it has marked.
@@ -25,11 +24,7 @@ MayGo w (Refresh by version) x d q = filter (waits_at x) q.post ≡ []
 MayGo w (Pick by) x d q = filter (waits_at x) q.post ≡ []
 MayGo w e x d q = ⊤
 
--- where nothing is loose
-nothing_loose : (initial : ℕ) (w : World) (q : Parties) (loose : Option (LinkName × OutSeen)) → loose ≡ None → StandLoose initial w q loose → StandBetween initial w q loose
-nothing_loose initial w q loose e st = subst (StandBetween initial w q) (sym e) (loose_between initial w q (subst (StandLoose initial w q) e st))
-
-pub each_goes : (credit : CreditSpec) (w : World) (e : Event) (i d : ℕ) (q q' : Parties) (loose : Option (LinkName × OutSeen)) → IsLawfulAt credit w → IsLawfulAt credit (effect w e) → refusal w e ≡ None → id_of w (by_of e) ≡ Some (i + 1) → MayGo w e (i + 1) d q → Stand credit.initial w q → Acts e i d q q' loose → StandBetween credit.initial (effect w e) q' loose
+pub each_goes : (credit : CreditSpec) (w : World) (e : Event) (i d : ℕ) (q q' : Parties) (loose : Option (LinkName × OutSeen)) → IsLawfulAt credit w → IsLawfulAt credit (effect w e) → refusal w e ≡ None → id_of w (by_of e) ≡ Some (i + 1) → MayGo w e (i + 1) d q → Stand credit.initial w q → Acts e i d q q' loose → StandMoved credit.initial (i + 1) (effect w e) q' loose
 each_goes credit w (Mark by dead) i d q q' loose h h' r found may st a = mark_between credit w q q' i d by dead loose h h' r found may.0 st may.1 a
 each_goes credit w (Refresh by version) i d q q' loose h h' r found may st a = refresh_between credit w q q' i d version by loose h h' r found st may a
-each_goes credit w e i d q q' loose h h' r found may st a = nothing_loose credit.initial (effect w e) q' loose a.3 (alone_goes credit w e i d q q' loose h r found may st a)
+each_goes credit w e i d q q' loose h h' r found may st a = alone_goes credit w e i d q q' loose h r found may st a

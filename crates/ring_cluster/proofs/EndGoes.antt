@@ -24,7 +24,8 @@ use Rattle.gm_member.proofs.EndStands.{end_other, end_stands, waits_without}
 use Rattle.gm_member.proofs.Others.{end_others}
 use Rattle.ring_cluster.specs.Ends.{OutSeen}
 use Rattle.ring_cluster.specs.Parties.{Shown, Parties, node_at, with_node}
-use Rattle.ring_cluster.specs.Standing.{Places, MemberStands, Stand, StandLoose, has_in}
+use Rattle.ring_cluster.specs.Standing.{Places, MemberStands, Stand, has_in}
+use Rattle.ring_cluster.specs.Loose.{StandMoved}
 use Rattle.ring_cluster.specs.Acting.{Acts}
 use Rattle.ring_cluster.proofs.Lawful.{IsLawfulAt}
 use Rattle.ring_cluster.proofs.Frames.{same_of, same_link_of, same_filter, carries_same, goes_stands}
@@ -114,6 +115,7 @@ module _ (credit : CreditSpec) (w : World) (x s : ℕ) (h : IsLawfulAt credit w)
     outs = λ y _. end_outs y;
     currents = λ y ne. ap (λ (z : Member). z.current) (other y ne);
     doors = λ y _. end_doors y;
+    keeps = λ j has e. absurd (end_apart j has (let both : Some j ≡ Some s = sym e ∙ is in cc));
   }
 
   -- x stands then without that link
@@ -125,7 +127,7 @@ module _ (credit : CreditSpec) (w : World) (x s : ℕ) (h : IsLawfulAt credit w)
 
 -- ---- the parties
 
-pub end_goes : (credit : CreditSpec) (w : World) (by : List ℕ) (i d : ℕ) (q q' : Parties) (loose : Option (LinkName × OutSeen)) → IsLawfulAt credit w → refusal w (TakeEnd by) ≡ None → id_of w by ≡ Some (i + 1) → Stand credit.initial w q → Acts (TakeEnd by) i d q q' loose → StandLoose credit.initial (effect w (TakeEnd by)) q' loose
+pub end_goes : (credit : CreditSpec) (w : World) (by : List ℕ) (i d : ℕ) (q q' : Parties) (loose : Option (LinkName × OutSeen)) → IsLawfulAt credit w → refusal w (TakeEnd by) ≡ None → id_of w by ≡ Some (i + 1) → Stand credit.initial w q → Acts (TakeEnd by) i d q q' loose → StandMoved credit.initial (i + 1) (effect w (TakeEnd by)) q' loose
 end_goes credit w by i d q q' loose h enabled found st (b, (n, rest, ends_link, next, eb), is, none) =
     let x : ℕ = i + 1 in
     let lt : i + 1 < size w = (id_within w by x found).1 in
@@ -136,7 +138,7 @@ end_goes credit w by i d q q' loose h enabled found st (b, (n, rest, ends_link, 
     let current : (member_at w x).current ≡ Some s = there.1 in
     let w' : World = leave_link w x s in
     let does : effect w (TakeEnd by) ≡ w' = found_does (id_of w by) x w (λ y. at_found (member_at w y).current w (leave_link w y)) found ∙ found_does (member_at w x).current s w (leave_link w x) current in
-    goes_so credit.initial w' (effect w (TakeEnd by)) (with_node q i b) q' loose does is none
+    goes_so credit.initial x w' (effect w (TakeEnd by)) (with_node q i b) q' loose does is none
     (steps credit w w' q q.stopped p i b st h lt (record {
       leaves = end_leaves credit w x s h lt current;
       post = refl;

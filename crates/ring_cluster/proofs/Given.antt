@@ -3,6 +3,7 @@ use Rattle.std.proofs.Common.{ℕ, ◌<◌, ◌≤◌, not, List, [], ◌∷◌,
 use Rattle.std.specs.Prelude.{◌&&◌}
 use Rattle.std.proofs.lemmas.Bool.{cases_lt}
 use Rattle.std.proofs.lemmas.List.{length_push}
+use Rattle.std.proofs.lemmas.List.Elements.{All-nil, All-drop}
 use Rattle.ring_names.specs.declared.numbers.CreditSpec.{CreditSpec}
 use Rattle.credit_flow.specs.Credit.{is_grant_next}
 use Rattle.group_view.specs.Change.{AreOpeningNames}
@@ -11,11 +12,11 @@ use Rattle.ring_world.specs.Machine.{Link, World, no_link, link_at}
 use Rattle.ring_world.specs.Step.{popped, opened_link, with_link, opening}
 use Rattle.ring_world.specs.Event.{IsRun, last}
 use Rattle.ring_world.proofs.Lists.{at_set, at_push, get_or_beyond}
-use Rattle.ring_world.proofs.First.{first_link_at}
+use Rattle.ring_world.proofs.First.{first_link}
 use Rattle.ring_world.proofs.Happens.{IsGood, opening_good}
 use Rattle.ring_world.proofs.Parts.{Part, cast_part, put_part, take_part, gain_part, stop_part, open_part, still_part, run_keeps}
 use Rattle.ring_world.proofs.LinkCredit.{LinkIsKept, IsCredited, part_credited, opening_credited}
-use Rattle.ring_cluster.proofs.Grants.{ArePositive, ArePositive-drop, ArePositive-count, ArePositive-with_grant}
+use Rattle.ring_cluster.proofs.Grants.{ArePositive, ArePositive-count, ArePositive-with_grant}
 
 -- on each link
 abbrev pub AllGive : World → Type 0
@@ -39,11 +40,11 @@ part_gives initial more positive w w' (cast_part x m some lt e) h = subst AllGiv
 part_gives initial more positive w w' (put_part x o lt free e) h = subst AllGive (sym e) (link_gives w o _ lt (h.gives o) h.gives)
 part_gives initial more positive w w' (take_part y s some t lt g e) h =
     subst AllGive (sym e) (λ j. at_set (λ i k. ArePositive k.flow.grants) w.links s j (popped (link_at w s)) no_link lt (popped_gives initial more (link_at w s) positive (h.credited.links s lt) (h.gives s)) (λ _. h.gives j))
-part_gives initial more positive w w' (gain_part o lt some e) h = subst AllGive (sym e) (link_gives w o _ lt (ArePositive-drop (link_at w o).flow.grants (h.gives o)) h.gives)
+part_gives initial more positive w w' (gain_part o lt some e) h = subst AllGive (sym e) (link_gives w o _ lt (All-drop (λ g. 0 < g) 1 (link_at w o).flow.grants (h.gives o)) h.gives)
 part_gives initial more positive w w' (stop_part x lt e) h = subst AllGive (sym e) h.gives
 part_gives initial more positive w w' (open_part x z e) h = subst AllGive (sym e) (λ s. ⊎_elim
-    (λ (lt : s < length (w.links ++ opened_link w x z ∷ [])). at_push (λ j k. ArePositive k.flow.grants) w.links s (opened_link w x z) no_link (omega (arith, length_push w.links (opened_link w x z))) tt (λ _. h.gives s))
-    (λ (ge : length (w.links ++ opened_link w x z ∷ []) ≤ s). subst (λ (k : Link). ArePositive k.flow.grants) (sym (get_or_beyond (w.links ++ opened_link w x z ∷ []) s no_link ge)) tt)
+    (λ (lt : s < length (w.links ++ opened_link w x z ∷ [])). at_push (λ j k. ArePositive k.flow.grants) w.links s (opened_link w x z) no_link (omega (arith, length_push w.links (opened_link w x z))) (All-nil (λ g. 0 < g)) (λ _. h.gives s))
+    (λ (ge : length (w.links ++ opened_link w x z ∷ []) ≤ s). subst (λ (k : Link). ArePositive k.flow.grants) (sym (get_or_beyond (w.links ++ opened_link w x z ∷ []) s no_link ge)) (All-nil (λ g. 0 < g)))
     (cases_lt s (length (w.links ++ opened_link w x z ∷ []))))
 part_gives initial more positive w w' (still_part k) h = λ s. subst (λ f. ArePositive f.grants) (sym (k.flow s)) (h.gives s)
 
@@ -53,10 +54,7 @@ part_giving initial more positive covered w w' p h = record { credited = part_cr
 opening_giving : (credit : CreditSpec) (names : List (List ℕ)) → IsGiving credit.initial credit.more (opening credit names)
 opening_giving credit names = record {
   credited = opening_credited credit names;
-  gives = λ s. ⊎_elim
-      (λ (lt : s < length (opening credit names).links). first_link_at credit names s (λ l. ArePositive l.flow.grants) lt (λ i. tt))
-      (λ (ge : length (opening credit names).links ≤ s). subst (λ (k : Link). ArePositive k.flow.grants) (sym (get_or_beyond (opening credit names).links s no_link ge)) tt)
-      (cases_lt s (length (opening credit names).links));
+  gives = λ s. first_link credit names s (λ l. ArePositive l.flow.grants) (λ i. All-nil (λ g. 0 < g)) (All-nil (λ g. 0 < g));
 }
 
 -- so there are never more grants than credit

@@ -1,21 +1,20 @@
 -- A link that hasn't ended is the one on which its running sender sends.
-use Rattle.std.proofs.Common.{◌≡◌, ◌≢◌, ℕ, suc, ◌+◌, ◌-◌, ◌<◌, Bool, true, false, nat_eq, List, length, set, Option, Some, None, if◌then◌else◌, refl, sym, ap, subst, ◌∙◌, arith}
-use Rattle.std.proofs.lemmas.List.{length-set, length_push}
-use Rattle.std.proofs.lemmas.List.FromFn.{get_or-map-range_with_len, length-map-range_with_len}
+use Rattle.std.proofs.Common.{◌≡◌, ◌≢◌, ℕ, ◌+◌, ◌-◌, ◌<◌, true, List, length, set, get_or, Option, Some, None, refl, sym, ap, subst, ◌∙◌, arith}
+use Rattle.std.proofs.lemmas.List.{length-set, length_push, get_or-set_same}
 use Rattle.ring_names.specs.declared.numbers.CreditSpec.{CreditSpec}
 use Rattle.group_view.specs.Change.{AreOpeningNames, marked}
 use Rattle.ring_world.specs.declared.event.Event.{Event}
 use Rattle.ring_world.specs.declared.phase.Ending.{Ending}
 use Rattle.ring_world.specs.declared.phase.Ending.TheVariants.{Moved, Halted}
-use Rattle.ring_world.specs.View.{right_of}
 use Rattle.ring_world.specs.Machine.{Member, Link, World, no_link, no_member, member_at, link_at, view_at, newest, runs, runs_phase}
-use Rattle.ring_world.specs.Step.{size, published, taker, popped, pushed, next_packet, current_is, with_current, finished, ended, ended_so, stop_at, stopped, end_out, with_member, with_link, with_view, look_at, moved_to, open_to, opened_link, opening, opening_link, opening_member}
-use Rattle.ring_world.specs.Event.{send_to, refreshed, refusal, effect, IsRun, last}
+use Rattle.ring_world.specs.Step.{size, published, taker, popped, pushed, next_packet, current_is, with_current, finished, ended, ended_so, stop_at, stopped, end_out, with_member, with_link, with_view, moved_to, opening}
+use Rattle.ring_world.specs.Event.{refreshed, refusal, effect, IsRun, last}
 use Rattle.ring_world.proofs.Lists.{at_set, at_push}
-use Rattle.ring_world.proofs.Kept.{Inv}
-use Rattle.ring_world.proofs.KeptMore.{mark_keeps}
+use Rattle.ring_world.proofs.First.{first_at, first_link_is, first_links}
 use Rattle.ring_world.proofs.Cases.{each_event}
 use Rattle.ring_world.proofs.Happens.{IsGood, run_events, opening_good}
+use Rattle.gm_member.proofs.OpenDoors.{new_link, sending_member, opened_world, old_links, old_many}
+use Rattle.ring_cluster.proofs.Refreshed.{refresh_cases}
 
 -- x runs and sends on the link o
 abbrev pub SendsThere : Member → ℕ → Type 0
@@ -44,80 +43,39 @@ has_ended : (why : Ending) (e : Option Ending) → ended_so why e ≢ None
 has_ended why None k = cc
 has_ended why (Some first) k = cc
 
+-- where a link ends, one that goes on did before, and is another
+goes_before : (why : Ending) (w : World) (o : Option ℕ) (s : ℕ) → ((k : ℕ) → o ≡ Some k → k < length w.links) → (link_at (end_out why w o) s).ending ≡ None → ((link_at w s).ending ≡ None) × (o ≢ Some s) × ((link_at (end_out why w o) s).sender ≡ (link_at w s).sender)
+goes_before why w None s there e = (e, λ k. cc, refl)
+goes_before why w (Some o) s there e =
+    at_set (λ i a. a.ending ≡ None → ((link_at w i).ending ≡ None) × (Some o ≢ Some i) × (a.sender ≡ (link_at w i).sender)) w.links o s (ended why (link_at w o)) no_link (there o refl)
+    (λ goes. absurd (has_ended why (link_at w o).ending goes)) (λ ne goes. (goes, λ (k : Some o ≡ Some s). let is : s ≡ o = cc in ne is, refl)) e
+
+-- so where x becomes y, and what it sends on ends, the links of the others go on
+others_go : (why : Ending) (w : World) (x : ℕ) (y : Member) (o : Option ℕ) (s : ℕ) → x < size w → ((k : ℕ) → o ≡ Some k → k < length w.links) → GoOn w → (member_at w x).out ≡ o → s < length w.links → (link_at (end_out why w o) s).ending ≡ None
+    → SendsThere (get_or (set w.members x y) (link_at (end_out why w o) s).sender no_member) s
+others_go why w x y o s lt there h out sl e =
+    let k = goes_before why w o s there e in
+    subst (λ q. SendsThere (get_or (set w.members x y) q no_member) s) (sym k.2)
+    (at_set (λ i a. SendsThere (member_at w i) s → SendsThere a s) w.members x (link_at w s).sender y no_member lt (λ b. absurd (k.1 (sym out ∙ b.1))) (λ _ b. b) (h s sl k.0))
+
 -- a stop
-stop_goes : (w : World) (x : ℕ) → x < size w → runs w x ≡ true → Inv w → GoOn w → GoOn (end_out Halted (stop_at w x) (member_at w x).out)
-stop_goes w x lt rx inv h = by_out (member_at w x).out refl
-  where
-    w1 : World
-    w1 = stop_at w x
-
-    still : (s : ℕ) → s < length w.links → (link_at w s).ending ≡ None → (member_at w x).out ≢ Some s → SendsThere (member_at w1 (link_at w s).sender) s
-    still s sl e other =
-        at_set (λ i a. SendsThere (member_at w i) s → SendsThere a s) w.members x (link_at w s).sender (stopped (member_at w x)) no_member lt
-        (λ k. absurd (other k.1)) (λ _ k. k) (h s sl e)
-
-    by_out : (o : Option ℕ) → (member_at w x).out ≡ o → GoOn (end_out Halted w1 o)
-    by_out None out s sl e = still s sl e (λ k. let bad : None ≡ Some s = sym out ∙ k in cc)
-    by_out (Some o) out s sl e =
-        let l : Link = ended Halted (link_at w o) in
-        at_set (λ i a. i < length w.links → a.ending ≡ None → SendsThere (member_at w1 a.sender) i) w.links o s l no_link (inv.linked.out_lt x o rx out)
-        (λ _ e. absurd (has_ended Halted (link_at w o).ending e))
-        (λ ne k e. still s k e (λ both. let same : Some o ≡ Some s = sym out ∙ both in ne (let is : s ≡ o = cc in is))) (omega (arith, length-set w.links o l)) e
-
--- a link opens, where its sender had no other that hasn't ended
-open_goes : (w : World) (x z : ℕ) → x < size w → runs w x ≡ true → ((s : ℕ) → s < length w.links → (link_at w s).ending ≡ None → (link_at w s).sender ≢ x) → GoOn w → GoOn (open_to w x z)
-open_goes w x z lt rx no_other h s sl =
-    at_push (λ i a. a.ending ≡ None → SendsThere (member_at w1 a.sender) i) w.links s new no_link (omega (arith, length_push w.links new))
-    (λ _. at_set (λ i a. i ≡ x → SendsThere a (length w.links)) w.members x x m no_member lt (λ _. (rx, refl)) (λ ne e. absurd (ne e)) refl)
-    (λ l e. at_set (λ i a. i ≢ x → SendsThere (member_at w i) s → SendsThere a s) w.members x (link_at w s).sender m no_member lt (λ ne. absurd (ne refl)) (λ _ _ k. k) (no_other s l e) (h s l e))
-  where
-    new : Link
-    new = opened_link w x z
-
-    m : Member
-    m = record (member_at w x) { out = Some (length w.links) }
-
-    w1 : World
-    w1 = open_to w x z
+stop_goes : (w : World) (x : ℕ) (o : Option ℕ) → x < size w → ((k : ℕ) → o ≡ Some k → k < length w.links) → GoOn w → (member_at w x).out ≡ o → GoOn (end_out Halted (stop_at w x) o)
+stop_goes w x None lt there h out s sl e = others_go Halted w x (stopped (member_at w x)) None s lt there h out sl e
+stop_goes w x (Some o) lt there h out s sl e = others_go Halted w x (stopped (member_at w x)) (Some o) s lt there h out (omega (arith, length-set w.links o (ended Halted (link_at w o)))) e
 
 -- a refresh
-refresh_goes : (w : World) (x v : ℕ) → x < size w → runs w x ≡ true → Inv w → GoOn w → GoOn (refreshed w x v)
-refresh_goes w x v lt rx inv h = by_out (member_at w x).out refl
+refresh_goes : (w : World) (x v : ℕ) → x < size w → runs w x ≡ true → ((k : ℕ) → (member_at w x).out ≡ Some k → k < length w.links) → GoOn w → GoOn (refreshed w x v)
+refresh_goes w x v lt rx there h = refresh_cases GoOn w x v lt (λ _. member_goes w x (moved_to w x v) lt refl refl h)
+    (λ _ s sl.
+    at_push (λ i a. a.ending ≡ None → SendsThere (member_at (opened_world w x v (old_links w x)) a.sender) i) (old_links w x) s (new_link w x v) no_link (omega (arith, length_push (old_links w x) (new_link w x v)))
+    (λ _. (ap (λ (m : Member). runs_phase m.phase) here ∙ rx, ap (λ (m : Member). m.out) here ∙ ap (λ k. Some k) (sym (old_many w x))))
+    (λ l e. others_go Moved w x y (member_at w x).out s lt there h refl (omega (arith, old_many w x)) e))
   where
-    w1 : World
-    w1 = look_at w x v
+    y : Member
+    y = sending_member w x v (length w.links)
 
-    z : ℕ
-    z = right_of (view_at w v) x
-
-    h1 : GoOn w1
-    h1 = member_goes w x (moved_to w x v) lt refl refl h
-
-    there : x < size w1
-    there = omega (arith, length-set w.members x (moved_to w x v))
-
-    runs_still : runs w1 x ≡ true
-    runs_still = at_set (λ i a. runs w i ≡ true → runs_phase a.phase ≡ true) w.members x x (moved_to w x v) no_member lt (λ r. r) (λ _ r. r) rx
-
-    -- what x sends on, it has as its out link
-    its : (s : ℕ) → s < length w.links → (link_at w s).ending ≡ None → (link_at w s).sender ≡ x → (member_at w x).out ≡ Some s
-    its s sl e from = subst (λ q. (member_at w q).out ≡ Some s) from (h s sl e).1
-
-    by_receiver : (o : ℕ) → (member_at w x).out ≡ Some o → (b : Bool) → GoOn (if b then w1 else open_to (with_link w1 o (ended Moved (link_at w o))) x z)
-    by_receiver o out true = h1
-    by_receiver o out false =
-        let l : Link = ended Moved (link_at w o) in
-        let ol : o < length w.links = inv.linked.out_lt x o rx out in
-        let many : length (set w.links o l) ≡ length w.links = length-set w.links o l in
-        open_goes (with_link w1 o l) x z there runs_still
-        (λ s sl. at_set (λ i a. i < length w.links → a.ending ≡ None → a.sender ≢ x) w.links o s l no_link ol
-        (λ _ e. absurd (has_ended Moved (link_at w o).ending e))
-        (λ ne k e from. let both : Some o ≡ Some s = sym out ∙ its s k e from in ne (let is : s ≡ o = cc in is)) (omega arith))
-        (link_goes w1 o l ol refl (λ e. absurd (has_ended Moved (link_at w o).ending e)) h1)
-
-    by_out : (o : Option ℕ) → (member_at w x).out ≡ o → GoOn (send_to w1 x z o)
-    by_out None out = open_goes w1 x z there runs_still (λ s sl e from. let bad : None ≡ Some s = sym out ∙ its s sl e from in cc) h1
-    by_out (Some o) out = by_receiver o out (nat_eq (link_at w o).receiver z)
+    here : get_or (set w.members x y) x no_member ≡ y
+    here = get_or-set_same w.members x y no_member lt
 
 -- ---- every state of every run
 
@@ -129,29 +87,19 @@ event_goes w e g r h = each_event GoOn w e g.none_waits (record {
   takes = λ y s u m. link_goes (with_member w y (taker w y s)) s (popped (link_at w s)) (g.inv.current.lt y s (ap runs_phase m.up) m.current) refl (λ e2. e2) (member_goes w y (taker w y s) m.is_member refl refl h);
   leaves = λ y s u current k. link_goes (current_is w y None) s (finished (link_at w s)) (g.inv.current.lt y s (ap runs_phase u.up) current) refl (λ e2. e2) (member_goes w y (with_current None (member_at w y)) u.lt refl refl h);
   gains = λ x o u out k. link_goes w o _ (g.inv.linked.out_lt x o (ap runs_phase u.up) out) refl (λ e2. e2) h;
-  stops = λ x u. stop_goes w x u.lt (ap runs_phase u.up) g.inv h;
-  marks = λ x d u m. mark x d u.lt (ap runs_phase u.up) (ap runs_phase m.rests);
-  refreshes = λ x v u m. refresh_goes w x v m.is_member (ap runs_phase m.up) g.inv h;
+  stops = λ x u. stop_goes w x (member_at w x).out u.lt (λ k. g.inv.linked.out_lt x k (ap runs_phase u.up)) h refl;
+  marks = λ x d u m. refresh_goes (with_view w (marked (view_at w (newest w)) d)) x (newest w + 1) u.lt (ap runs_phase u.up) (λ k. g.inv.linked.out_lt x k (ap runs_phase u.up)) h;
+  refreshes = λ x v u m. refresh_goes w x v u.lt (ap runs_phase u.up) (λ k. g.inv.linked.out_lt x k (ap runs_phase u.up)) h;
   picks = λ y s u none door upto. member_goes w y (with_current (Some s) (member_at w y)) u.lt refl refl h;
 }) r
-  where
-    mark : (x d : ℕ) → x < size w → runs w x ≡ true → runs w d ≡ false → GoOn (refreshed (with_view w (marked (view_at w (newest w)) d)) x (newest w + 1))
-    mark x d lt rx rests = refresh_goes (with_view w (marked (view_at w (newest w)) d)) x (newest w + 1) lt rx (mark_keeps w d rests g.inv) h
-
--- every event of a run
-run_goes : (w : World) (es : List Event) → IsGood w → IsRun w es → GoOn w → GoOn (last w es)
-run_goes = run_events GoOn event_goes
 
 -- each member of the opening sends on the link at its own place
 opening_goes : (credit : CreditSpec) (names : List (List ℕ)) → GoOn (opening credit names)
 opening_goes credit names s sl e =
-    let w : World = opening credit names in
-    let lt : s < length names = omega (arith, length-map-range_with_len (opening_link credit names) 1 (length names)) in
-    let from : (link_at w s).sender ≡ suc s = ap (λ a. a.sender) (get_or-map-range_with_len (opening_link credit names) 1 (length names) s (suc s) no_link lt (omega arith)) in
-    let member : member_at w (suc s) ≡ opening_member names (suc s) = get_or-map-range_with_len (opening_member names) 1 (length names) s (suc s) no_member lt (omega arith) in
-    let place : suc s - 1 ≡ s = omega arith in
-    subst (λ q. SendsThere (member_at w q) s) (sym from) (subst (λ a. SendsThere a s) (sym member) (refl, ap (λ k. Some k) place))
+    let place : s + 1 - 1 ≡ s = omega arith in
+    subst (λ (l : Link). SendsThere (member_at (opening credit names) l.sender) s) (sym (first_link_is credit names s sl))
+    (subst (λ m. SendsThere m s) (sym (first_at credit names (s + 1) (omega arith) (omega (arith, first_links credit names)))) (refl, ap (λ k. Some k) place))
 
 -- so in every state of every run of a ring with these names
 pub reached_goes : (credit : CreditSpec) (names : List (List ℕ)) (es : List Event) → AreOpeningNames names → IsRun (opening credit names) es → GoOn (last (opening credit names) es)
-reached_goes credit names es are r = run_goes (opening credit names) es (opening_good credit names are) r (opening_goes credit names)
+reached_goes credit names es are r = run_events GoOn event_goes (opening credit names) es (opening_good credit names are) r (opening_goes credit names)

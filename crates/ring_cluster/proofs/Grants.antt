@@ -1,8 +1,9 @@
 -- Each grant under way is of some credit, so there are never more grants than the credit of a link.
-use Rattle.std.proofs.Common.{◌≡◌, ℕ, ◌+◌, ◌<◌, Option, Some, None, List, [], ◌∷◌, ◌++◌, refl, sym, ◌∙◌, append_assoc, ◌≤◌, Bool, true, false, if◌then◌else◌, length, sum, drop, arith, ap, ⊎_elim}
+use Rattle.std.proofs.Common.{◌≡◌, ℕ, ◌+◌, ◌<◌, Option, Some, None, List, [], ◌∷◌, ◌++◌, refl, sym, ◌∙◌, append_assoc, ◌≤◌, Bool, true, false, if◌then◌else◌, length, sum, suc, arith, ap, ⊎_elim}
 use Rattle.credit_flow.specs.Link.{with_grant}
-use Rattle.std.specs.Prelude.{⊤}
+use Rattle.std.specs.Prelude.{All}
 use Rattle.std.proofs.lemmas.Grind.{common_steps}
+use Rattle.std.proofs.lemmas.List.Elements.{All-push}
 use Rattle.ordered_link.specs.declared.plain.PlainIn.{PlainIn}
 use Rattle.ordered_link.specs.Waiting.{Sends}
 use Rattle.ordered_link.specs.Steps.{PlainSends}
@@ -18,24 +19,18 @@ append-with_grant xs ys (Some grant) = sym (append_assoc xs ys (grant ∷ []))
 
 -- each is of some credit
 abbrev pub ArePositive : List ℕ → Type 0
-ArePositive [] = ⊤
-ArePositive (g ∷ gs) = (0 < g) × ArePositive gs
-
-pub ArePositive-push : (gs : List ℕ) (g : ℕ) → 0 < g → ArePositive gs → ArePositive (gs ++ g ∷ [])
-ArePositive-push [] g l h = (l, tt)
-ArePositive-push (x ∷ xs) g l h = (h.0, ArePositive-push xs g l h.1)
-
-pub ArePositive-drop : (gs : List ℕ) → ArePositive gs → ArePositive (drop 1 gs)
-ArePositive-drop [] h = tt
-ArePositive-drop (g ∷ gs) h = h.1
+ArePositive = All (λ g. 0 < g)
 
 -- so there are no more of them than their credit together
 pub ArePositive-count : (gs : List ℕ) → ArePositive gs → length gs ≤ sum gs
 ArePositive-count [] h = omega arith
-ArePositive-count (g ∷ gs) h = let l : 0 < g = h.0 in let k : length gs ≤ sum gs = ArePositive-count gs h.1 in grind (arith, common_steps)
+ArePositive-count (g ∷ gs) h =
+    let l : 0 < g = h 0 0 (omega arith) in
+    let k : length gs ≤ sum gs = ArePositive-count gs (λ j d lt. h (suc j) d (omega arith)) in
+    grind (arith, common_steps)
 
 pub ArePositive-with_grant : (b : Bool) (more : ℕ) (gs : List ℕ) → 0 < more → ArePositive gs → ArePositive (with_grant gs (if b then Some more else None))
-ArePositive-with_grant true more gs l h = ArePositive-push gs more l h
+ArePositive-with_grant true more gs l h = All-push (λ g. 0 < g) gs more h l
 ArePositive-with_grant false more gs l h = h
 
 -- ---- a take

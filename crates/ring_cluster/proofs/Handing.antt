@@ -1,5 +1,5 @@
 -- Links that members hand over to the registrar: the parties stay the same, and none is refused.
-use Rattle.std.proofs.Common.{◌≡◌, ℕ, zero, suc, ◌<◌, Bool, true, false, cond, not, nat_eq, List, [], ◌∷◌, ◌++◌, length, get_or, map, Option, Some, None, refl, sym, ap, subst, ◌∙◌, arith}
+use Rattle.std.proofs.Common.{◌≡◌, ℕ, zero, suc, ◌<◌, Bool, true, false, cond, not, nat_eq, List, [], ◌∷◌, ◌++◌, length, get_or, map, Option, Some, None, refl, sym, ap, ◌∙◌, arith}
 use Rattle.std.specs.Prelude.{option_map, IsSome}
 use Rattle.std.specs.List.{filter}
 use Rattle.std.proofs.lemmas.List.{append-nil, map-append}
@@ -9,11 +9,10 @@ use Rattle.group_view.specs.Ring.{is_in}
 use Rattle.group_view.specs.declared.link.LinkName.{LinkName}
 use Rattle.group_view.specs.declared.request.Deposited.{Deposited}
 use Rattle.group_view.specs.View.{Group, as_id, ids as ids_of}
-use Rattle.group_view.proofs.Passing.{left_inside}
-use Rattle.ring_world.specs.View.{ids, is_live}
+use Rattle.ring_world.specs.View.{ids}
 use Rattle.ring_world.specs.Machine.{World, link_at, view_at, newest}
 use Rattle.ring_world.proofs.Rounds.{nat_eq-is}
-use Rattle.ring_world.proofs.Views.{left_is}
+use Rattle.ring_world.proofs.FromLeft.{sender_known}
 use Rattle.ring_world.proofs.Happens.{IsGood}
 use Rattle.registrar.specs.declared.standing.Standing.{Standing}
 use Rattle.registrar.specs.Registry.{Registry, is_known, beside, AreHere}
@@ -54,8 +53,7 @@ none_lent initial w nodes r behind p st = each r.links p.post st.post
 pub knows_both : (w : World) (r : Registry (PlainIn Load)) (s : ℕ) → IsGood w → StandsIn w r → s < length w.links → (is_known r (link_at w s).sender ≡ true) × (is_known r (link_at w s).receiver ≡ true)
 knows_both w r s h st l = (
   now (link_at w s).sender
-      (subst (λ q. is_in q (ids (view_at w (link_at w s).opened)) ≡ true) (sym (left_is w (link_at w s).opened (link_at w s).receiver (view_at w (link_at w s).opened) refl) ∙ h.inv.linked.from_left s l)
-      (left_inside (is_live (view_at w (link_at w s).opened)) (link_at w s).receiver (ids (view_at w (link_at w s).opened)) (h.inv.is_ring.distinct (link_at w s).opened (h.inv.linked.opened s l)) (h.inv.history.known s l))),
+      (sender_known w s h l),
   now (link_at w s).receiver (h.inv.history.known s l),
 )
   where

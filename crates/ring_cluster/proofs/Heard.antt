@@ -9,7 +9,8 @@ use Rattle.group_view.specs.Change.{AreOpeningNames}
 use Rattle.group_view.proofs.Rings.{rotated_is}
 use Rattle.ring_world.specs.declared.event.Event.{Event}
 use Rattle.ring_world.specs.Machine.{World, numbers_at, member_at, ring, runs}
-use Rattle.ring_world.specs.Walk.{NeverRises, numbers, counted, only, no_but, is_early, number, round_of, retired_by, stopped_from, running_from}
+use Rattle.ring_world.specs.OpenLinks.{NeverRises, number}
+use Rattle.ring_world.proofs.CountedWalk.{numbers, counted, only, no_but, is_early, round_of, retired_by, stopped_from, running_from}
 use Rattle.ring_world.specs.Step.{log_of, opening}
 use Rattle.ring_world.specs.Event.{IsRun, last}
 use Rattle.ring_world.specs.Lawful.{row_of}

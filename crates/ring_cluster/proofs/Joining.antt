@@ -1,12 +1,13 @@
 -- Where the parties stand when the ends of a link have met.
-use Rattle.std.proofs.Common.{◌≡◌, ◌≢◌, ℕ, ◌+◌, ◌-◌, ◌<◌, ◌≤◌, Bool, true, false, length, get_or, set, Option, Some, None, refl, sym, ap, subst, ◌∙◌, arith, ⊎_elim, inl, inr}
+use Rattle.std.proofs.Common.{◌≡◌, ◌≢◌, ℕ, ◌-◌, ◌<◌, ◌≤◌, Bool, true, false, cond, nat_eq, List, [], ◌∷◌, length, get_or, set, Option, Some, None, refl, sym, ap, subst, ◌∙◌, ⊎_elim, inl}
 use Rattle.std.specs.Prelude.{option_map, ◌⊎◌}
 use Rattle.std.proofs.lemmas.Bool.{false≢true, cases_eq, cases_lt}
 use Rattle.std.proofs.lemmas.List.{set_past}
 use Rattle.std.proofs.lemmas.Option.{none-some}
 use Rattle.ring_names.specs.declared.numbers.CreditSpec.{CreditSpec}
 use Rattle.group_view.specs.declared.link.LinkName.{LinkName}
-use Rattle.group_view.proofs.Rings.{nat_eq-same}
+use Rattle.group_view.specs.Ring.{is_in}
+use Rattle.group_view.proofs.Rings.{nat_eq-same, nat_eq-not}
 use Rattle.ring_world.specs.Machine.{World, member_at, link_at}
 use Rattle.ring_world.specs.OpenLinks.{is_place}
 use Rattle.ring_world.specs.Step.{size}
@@ -20,12 +21,12 @@ use Rattle.gm_member.specs.Stands.{outgoing_in}
 use Rattle.gm_member.proofs.OwnEnds.{OwnEnds}
 use Rattle.ring_cluster.specs.Ends.{OutSeen, InSeen, Carries, HaveMet, HasRested, Fits, Meets}
 use Rattle.ring_cluster.specs.Parties.{Shown, Posted, Parties, no_shown, node_at, with_node, with_out, with_in, in_end_at}
-use Rattle.ring_cluster.specs.Standing.{Places, MemberStands, StandIn, Stand, StandLoose, StandMet, DroppedHaveMet, HaveDone, name_of, has_out, has_in}
-use Rattle.ring_cluster.specs.Loose.{StandBetween, IsNowhere}
+use Rattle.ring_cluster.specs.Standing.{Places, MemberStands, Shows, StandIn, Stand, HaveDone, name_of, has_out, has_in}
+use Rattle.ring_cluster.specs.Loose.{StandBetween, DroppedHaveMet, OthersHaveMet, IsNowhere}
 use Rattle.ring_cluster.proofs.Lawful.{IsLawfulAt}
 use Rattle.ring_cluster.proofs.Writing.{placed, placed_same, placed_other, at_in}
 use Rattle.ring_cluster.proofs.Placing.{GoBetween, name_is_unique, name_found}
-use Rattle.ring_cluster.proofs.Showing.{shows_of, stands_of, with_outs, with_ins, out_shows, out_hidden, in_shows, in_posts}
+use Rattle.ring_cluster.proofs.Showing.{stands_of, with_outs, with_ins, out_shows, out_hidden, in_shows, in_posts}
 use Rattle.ring_cluster.proofs.Known.{known_met}
 use Rattle.ring_cluster.proofs.Meetings.{carries_fit, meets_carry, met_rests, found_at, found_posted, found_nowhere, posted_at, posted_place}
 
@@ -95,9 +96,6 @@ out_known w initial q p x o name own st a l e named =
 
 -- ---- a loose end
 
-pub loose_between : (initial : ℕ) (w : World) (q : Parties) → StandLoose initial w q None → StandBetween initial w q None
-loose_between initial w q l = record { places = l.places; stand = l.stand; dropped = l.dropped; fits = λ s o sl h e. cc; known = l.known }
-
 -- of the loose end only one name is that
 pub first_same : (a b : LinkName × OutSeen) → Some a ≡ Some b → a.0 ≡ b.0
 first_same a b e = let is : a ≡ b = cc in ap (λ (c : LinkName × OutSeen). c.0) is
@@ -129,9 +127,9 @@ record LooseLink (w : World) (p : Places) (name : LinkName) (o : OutSeen) (end :
   out : p.outs link ≡ o
 
 -- at a member
-loose_at : (credit : CreditSpec) (w : World) (q : Parties) (y place : ℕ) (name : LinkName) (o : OutSeen) → IsLawfulAt credit w → (b : StandBetween credit.initial w q (Some (name, o))) → 1 ≤ y → y < size w → in_name_of (node_at q (y - 1)).held place ≡ Some name
+loose_at : (credit : CreditSpec) (w : World) (ids : List ℕ) (q : Parties) (y place : ℕ) (name : LinkName) (o : OutSeen) → IsLawfulAt credit w → (b : StandBetween credit.initial w ids q (Some (name, o))) → 1 ≤ y → y < size w → in_name_of (node_at q (y - 1)).held place ≡ Some name
     → LooseLink w b.places name o (in_end_at (node_at q (y - 1)).ends place)
-loose_at credit w q y place name o g b a l named =
+loose_at credit w ids q y place name o g b a l named =
     let p : Places = b.places in
     let f = placed_at w credit.initial q p y place name g.fit.good g.fit.own_ends b.stand a l named in
     let s : ℕ = f.0 in
@@ -140,9 +138,9 @@ loose_at credit w q y place name o g b a l named =
     record { link = s; within = f.1; named = f.2; has = k.1; shown = k.2; none = fits.0; out = fits.1 }
 
 -- or in the post
-loose_posted : (credit : CreditSpec) (w : World) (q : Parties) (j : ℕ) (d : Posted) (name : LinkName) (o : OutSeen) → IsLawfulAt credit w → GoBetween w → (b : StandBetween credit.initial w q (Some (name, o))) → j < length q.post → (get_or q.post j d).name ≡ name
+loose_posted : (credit : CreditSpec) (w : World) (ids : List ℕ) (q : Parties) (j : ℕ) (d : Posted) (name : LinkName) (o : OutSeen) → IsLawfulAt credit w → GoBetween w → (b : StandBetween credit.initial w ids q (Some (name, o))) → j < length q.post → (get_or q.post j d).name ≡ name
     → LooseLink w b.places name o (get_or q.post j d).end
-loose_posted credit w q j d name o g go b l named =
+loose_posted credit w ids q j d name o g go b l named =
     let p : Places = b.places in
     let f = posted_at credit.initial w q p j d b.stand l in
     let s : ℕ = get_or p.post j 0 in
@@ -152,46 +150,57 @@ loose_posted credit w q j d name o g go b l named =
     let fits : (has_out w s ≡ false) × (p.outs s ≡ o) = b.fits s o sl k.0 (ap (λ i. Some (i, o)) (sym its)) in
     record { link = s; within = sl; named = its; has = k.0; shown = k.1; none = fits.0; out = fits.1 }
 
--- it has met its other end at a member
-pub loose_met_at : (credit : CreditSpec) (w : World) (q : Parties) (y place : ℕ) (name : LinkName) (o : OutSeen) (n : InSeen) (o' : OutSeen) (n' : InSeen) → IsLawfulAt credit w → StandBetween credit.initial w q (Some (name, o)) → 1 ≤ y → y < size w
+-- ---- the ends of a link meet
+
+-- those of the others have met as before, where whoever sends on one and is none of the second list is none of the first
+others_met : (w : World) (p : Places) (s : ℕ) (o' : OutSeen) (n' : InSeen) (ids ids' : List ℕ) → HaveMet o' n' → ((t : ℕ) → t ≢ s → has_out w t ≡ true → is_in (link_at w t).sender ids' ≡ false → is_in (link_at w t).sender ids ≡ false)
+    → OthersHaveMet w p ids → OthersHaveMet w (with_both p s o' n') ids'
+others_met w p s o' n' ids ids' m fewer old t l h o apart = each_placed (λ _ a b. HaveMet a b) p s o' n' t (λ same. m) (λ ne. old t l h o (fewer t ne o apart))
+
+-- and nothing is loose
+both_met : {C : ℕ → Type 0} (initial : ℕ) (w : World) (ids ids' : List ℕ) (q q' : Parties) (loose : Option (LinkName × OutSeen)) (b : StandBetween initial w ids q loose) (s : ℕ) (o' : OutSeen) (n' : InSeen) → Meets (b.places.outs s) (b.places.ins s) o' n' → has_in w s ≡ true
+    → Shows C w q' (with_both b.places s o' n') → DroppedHaveMet w (with_both b.places s o' n') None → ((t : ℕ) → t ≢ s → has_out w t ≡ true → is_in (link_at w t).sender ids' ≡ false → is_in (link_at w t).sender ids ≡ false)
+    → StandBetween initial w ids' q' None
+both_met initial w ids ids' q q' loose b s o' n' m has shows dropped fewer = record {
+  places = with_both b.places s o' n';
+  stand = stands_of initial w q' (with_both b.places s o' n') shows (met_carry initial w q b.places s o' n' b.stand m);
+  dropped = dropped;
+  fits = λ t e l h k. cc;
+  met = others_met w b.places s o' n' ids ids' m.met fewer b.met;
+  known = known_met w b.places s o' n' has b.known;
+}
+
+-- a loose one has met its other end at a member
+pub loose_met_at : (credit : CreditSpec) (w : World) (ids : List ℕ) (q : Parties) (y place : ℕ) (name : LinkName) (o : OutSeen) (n : InSeen) (o' : OutSeen) (n' : InSeen) → IsLawfulAt credit w → StandBetween credit.initial w ids q (Some (name, o)) → 1 ≤ y → y < size w
     → in_name_of (node_at q (y - 1)).held place ≡ Some name → in_end_at (node_at q (y - 1)).ends place ≡ Some n → Meets o n o' n'
-    → StandLoose credit.initial w (with_node q (y - 1) (with_in (node_at q (y - 1)) place n')) None
-loose_met_at credit w q y place name o n o' n' g b a l named end m =
+    → StandBetween credit.initial w ids (with_node q (y - 1) (with_in (node_at q (y - 1)) place n')) None
+loose_met_at credit w ids q y place name o n o' n' g b a l named end m =
     let p : Places = b.places in
-    let f : LooseLink w p name o (in_end_at (node_at q (y - 1)).ends place) = loose_at credit w q y place name o g b a l named in
+    let f : LooseLink w p name o (in_end_at (node_at q (y - 1)).ends place) = loose_at credit w ids q y place name o g b a l named in
     let s : ℕ = f.link in
     let meets : Meets (p.outs s) (p.ins s) o' n' = meets_so o (p.outs s) n (p.ins s) o' n' (in_end_at (node_at q (y - 1)).ends place) f.out end f.shown m in
-    record {
-      places = with_both p s o' n';
-      stand = stands_of credit.initial w (with_node q (y - 1) (with_in (node_at q (y - 1)) place n')) (with_both p s o' n')
-          (in_shows w q (with_outs p s o') y place s n' g.fit.good g.fit.own_ends a l f.within (named ∙ ap Some (sym f.named)) (out_hidden w q p s o' g.fit.own_ends f.none (shows_of credit.initial w q p b.stand)))
-          (met_carry credit.initial w q p s o' n' b.stand meets);
-      dropped = loose_dropped w p s name o o' n' g.fit.good f.within f.named m.met b.dropped;
-      known = known_met w p s o' n' f.has b.known;
-    }
+    both_met credit.initial w ids ids q (with_node q (y - 1) (with_in (node_at q (y - 1)) place n')) (Some (name, o)) b s o' n' meets f.has
+    (in_shows w q (with_outs p s o') y place s n' g.fit.good g.fit.own_ends a l f.within (named ∙ ap Some (sym f.named)) (out_hidden w q p s o' g.fit.own_ends f.none b.stand))
+    (loose_dropped w p s name o o' n' g.fit.good f.within f.named m.met b.dropped) (λ t ne out apart. apart)
 
 -- in the post
-pub loose_met_posted : (credit : CreditSpec) (w : World) (q : Parties) (j : ℕ) (d : Posted) (name : LinkName) (o : OutSeen) (n : InSeen) (o' : OutSeen) (n' : InSeen) → IsLawfulAt credit w → GoBetween w → StandBetween credit.initial w q (Some (name, o)) → j < length q.post
+pub loose_met_posted : (credit : CreditSpec) (w : World) (ids : List ℕ) (q : Parties) (j : ℕ) (d : Posted) (name : LinkName) (o : OutSeen) (n : InSeen) (o' : OutSeen) (n' : InSeen) → IsLawfulAt credit w → GoBetween w → StandBetween credit.initial w ids q (Some (name, o)) → j < length q.post
     → (get_or q.post j d).name ≡ name → (get_or q.post j d).end ≡ Some n → Meets o n o' n'
-    → StandLoose credit.initial w (record q { post = set q.post j (record { name = name; end = Some n' }) }) None
-loose_met_posted credit w q j d name o n o' n' g go b l named end m =
+    → StandBetween credit.initial w ids (record q { post = set q.post j (record { name = name; end = Some n' }) }) None
+loose_met_posted credit w ids q j d name o n o' n' g go b l named end m =
     let p : Places = b.places in
-    let f : LooseLink w p name o (get_or q.post j d).end = loose_posted credit w q j d name o g go b l named in
+    let f : LooseLink w p name o (get_or q.post j d).end = loose_posted credit w ids q j d name o g go b l named in
     let s : ℕ = f.link in
     let place = posted_place w credit.initial q p j s d g.fit.good b.stand l f.within (named ∙ sym f.named) in
     let meets : Meets (p.outs s) (p.ins s) o' n' = meets_so o (p.outs s) n (p.ins s) o' n' (get_or q.post j d).end f.out end f.shown m in
-    subst (λ i. StandLoose credit.initial w (record q { post = set q.post j (record { name = i; end = Some n' }) }) None) f.named (record {
-      places = with_both p s o' n';
-      stand = stands_of credit.initial w (record q { post = set q.post j (record { name = name_of w s; end = Some n' }) }) (with_both p s o' n')
-          (in_posts w q (with_outs p s o') j s n' g.fit.own_ends go place.0 place.1 (out_hidden w q p s o' g.fit.own_ends f.none (shows_of credit.initial w q p b.stand)))
-          (met_carry credit.initial w q p s o' n' b.stand meets);
-      dropped = loose_dropped w p s name o o' n' g.fit.good f.within f.named m.met b.dropped;
-      known = known_met w p s o' n' f.has b.known;
-    })
+    subst (λ i. StandBetween credit.initial w ids (record q { post = set q.post j (record { name = i; end = Some n' }) }) None) f.named
+    (both_met credit.initial w ids ids q (record q { post = set q.post j (record { name = name_of w s; end = Some n' }) }) (Some (name, o)) b s o' n' meets f.has
+    (in_posts w q (with_outs p s o') j s n' g.fit.own_ends go place.0 place.1 (out_hidden w q p s o' g.fit.own_ends f.none b.stand))
+    (loose_dropped w p s name o o' n' g.fit.good f.within f.named m.met b.dropped) (λ t ne out apart. apart))
 
 -- its other end is nowhere
-pub loose_gone : (credit : CreditSpec) (w : World) (q : Parties) (name : LinkName) (o : OutSeen) → IsLawfulAt credit w → GoBetween w → StandBetween credit.initial w q (Some (name, o)) → IsNowhere q name → StandLoose credit.initial w q None
-loose_gone credit w q name o g go b none = record {
+pub loose_gone : (credit : CreditSpec) (w : World) (ids : List ℕ) (q : Parties) (name : LinkName) (o : OutSeen) → IsLawfulAt credit w → GoBetween w → StandBetween credit.initial w ids q (Some (name, o)) → IsNowhere q name → StandBetween credit.initial w ids q None
+loose_gone credit w ids q name o g go b none = record {
   places = b.places;
   stand = b.stand;
   dropped = λ t l h out. ⊎_elim
@@ -200,18 +209,16 @@ loose_gone credit w q name o g go b none = record {
       let is : name ≡ name_of w t = first_same (name, o) (name_of w t, b.places.outs t) e in
       absurd (false≢true (sym (found_nowhere credit w q b.places t g go b.stand l (subst (IsNowhere q) is none)) ∙ h)))
       (b.dropped t l h out);
+  fits = λ t e l h k. cc;
+  met = b.met;
   known = b.known;
 }
 
 -- ---- the out ends of members, one after the other
 
--- of members of ids up to 0 there is none
-pub loose_met : (credit : CreditSpec) (w : World) (q : Parties) → GoBetween w → StandLoose credit.initial w q None → StandMet 0 credit.initial w q
-loose_met credit w q go l = record { places = l.places; stand = l.stand; dropped = l.dropped; met = λ s sl h o le. absurd (omega (arith, le, (go.sender s sl).0)); known = l.known }
-
 -- all have met
-pub met_all : (credit : CreditSpec) (w : World) (q : Parties) (k : ℕ) → GoBetween w → k + 1 ≡ size w → StandMet k credit.initial w q → Stand credit.initial w q
-met_all credit w q k go many m = record {
+pub met_all : (initial : ℕ) (w : World) (q : Parties) → StandBetween initial w [] q None → Stand initial w q
+met_all initial w q m = record {
   places = m.places;
   stand = m.stand;
   met = λ s sl h. by_out s sl h (has_out w s) refl;
@@ -219,7 +226,7 @@ met_all credit w q k go many m = record {
 }
   where
     by_out : (s : ℕ) → s < length w.links → has_in w s ≡ true → (b : Bool) → has_out w s ≡ b → HaveDone b (m.places.outs s) (m.places.ins s)
-    by_out s sl h true e = m.met s sl h e (omega (arith, (go.sender s sl).1))
+    by_out s sl h true e = m.met s sl h e refl
     by_out s sl h false e = ⊎_elim
         (λ (r : HasRested (m.places.outs s) (m.places.ins s)). r)
         (λ (n : None ≡ Some (name_of w s, m.places.outs s)). cc)
@@ -229,23 +236,15 @@ met_all credit w q k go many m = record {
 sends_it : (w : World) (s : ℕ) → has_out w s ≡ true → (member_at w (link_at w s).sender).out ≡ Some s
 sends_it w s h = place_is (member_at w (link_at w s).sender).out s h
 
--- who sends on a link and has an id up to k + 1 has one up to k, or is x
-one_more : (w : World) (k x t : ℕ) → x ≡ k + 1 → has_out w t ≡ true → (link_at w t).sender ≤ k + 1 → ((link_at w t).sender ≤ k) ⊎ ((member_at w x).out ≡ Some t)
-one_more w k x t is o le = ⊎_elim
-    (λ (lt : (link_at w t).sender < k + 1). inl (omega arith))
-    (λ (ge : k + 1 ≤ (link_at w t).sender). (let who : (link_at w t).sender ≡ x = omega arith in inr (ap (λ y. (member_at w y).out) (sym who) ∙ sends_it w t o)))
-    (cases_lt (link_at w t).sender (k + 1))
+-- who sends on a link that isn't that of x, and is none of these, is none of these and x
+one_fewer : (w : World) (ids : List ℕ) (x t : ℕ) → has_out w t ≡ true → ((member_at w x).out ≡ Some t → ⊥) → is_in (link_at w t).sender ids ≡ false → is_in (link_at w t).sender (x ∷ ids) ≡ false
+one_fewer w ids x t o ne apart =
+    let other : nat_eq (link_at w t).sender x ≡ false = nat_eq-not (link_at w t).sender x (λ (who : (link_at w t).sender ≡ x). ne (sym (ap (λ y. (member_at w y).out) who) ∙ sends_it w t o)) in
+    ap (λ b. cond b true (is_in (link_at w t).sender ids)) other ∙ apart
 
--- the links of one sender more
-met_more : (w : World) (p : Places) (k x s : ℕ) (o' : OutSeen) (n' : InSeen) → x ≡ k + 1 → (member_at w x).out ≡ Some s → HaveMet o' n'
-    → ((t : ℕ) → t < length w.links → has_in w t ≡ true → has_out w t ≡ true → (link_at w t).sender ≤ k → HaveMet (p.outs t) (p.ins t))
-    → (t : ℕ) → t < length w.links → has_in w t ≡ true → has_out w t ≡ true → (link_at w t).sender ≤ k + 1 → HaveMet ((with_both p s o' n').outs t) ((with_both p s o' n').ins t)
-met_more w p k x s o' n' is out m old t l h o le =
-    each_placed (λ _ a b. HaveMet a b) p s o' n' t (λ same. m)
-    (λ ne. ⊎_elim
-    (λ (before : (link_at w t).sender ≤ k). old t l h o before)
-    (λ (its : (member_at w x).out ≡ Some t). (let both : Some t ≡ Some s = sym its ∙ out in absurd (ne cc)))
-    (one_more w k x t is o le))
+-- so of each link but s, where x sends on that
+fewer_but : (w : World) (ids : List ℕ) (x s : ℕ) → (member_at w x).out ≡ Some s → (t : ℕ) → t ≢ s → has_out w t ≡ true → is_in (link_at w t).sender ids ≡ false → is_in (link_at w t).sender (x ∷ ids) ≡ false
+fewer_but w ids x s out t ne o apart = one_fewer w ids x t o (λ its. (let both : Some t ≡ Some s = sym its ∙ out in ne cc)) apart
 
 -- what was dropped isn't that link
 dropped_more : (w : World) (p : Places) (s : ℕ) (o' : OutSeen) (n' : InSeen) → has_out w s ≡ true → DroppedHaveMet w p None → DroppedHaveMet w (with_both p s o' n') None
@@ -255,32 +254,30 @@ dropped_more w p s o' n' has d t l h none =
     (λ ne. d t l h none)
 
 -- a member that sends on no link from which may be taken
-met_so : (initial : ℕ) (w : World) (q : Parties) (k x : ℕ) → x ≡ k + 1 → ((t : ℕ) → has_in w t ≡ true → (member_at w x).out ≡ Some t → ⊥) → StandMet k initial w q → StandMet (k + 1) initial w q
-met_so initial w q k x is none m = record {
+met_so : (initial : ℕ) (w : World) (ids : List ℕ) (q : Parties) (x : ℕ) → ((t : ℕ) → has_in w t ≡ true → (member_at w x).out ≡ Some t → ⊥) → StandBetween initial w (x ∷ ids) q None → StandBetween initial w ids q None
+met_so initial w ids q x none m = record {
   places = m.places;
   stand = m.stand;
   dropped = m.dropped;
-  met = λ t tl h o le. ⊎_elim
-      (λ (before : (link_at w t).sender ≤ k). m.met t tl h o before)
-      (λ (its : (member_at w x).out ≡ Some t). absurd (none t h its))
-      (one_more w k x t is o le);
+  fits = m.fits;
+  met = λ t tl h o apart. m.met t tl h o (one_fewer w ids x t o (none t h) apart);
   known = m.known;
 }
 
 -- one that sends on none
-pub met_none : (credit : CreditSpec) (w : World) (q : Parties) (k x : ℕ) → x ≡ k + 1 → x < size w → (node_at q (x - 1)).ends.out ≡ None → StandMet k credit.initial w q → StandMet (k + 1) credit.initial w q
-met_none credit w q k x is l none m =
-    let mine : MemberStands w m.places x (node_at q (x - 1)) = m.stand.each x (omega arith) l in
-    met_so credit.initial w q k x is (λ t _ its. none-some (m.places.outs t) (sym none ∙ mine.out ∙ ap (option_map m.places.outs) its)) m
+pub met_none : (credit : CreditSpec) (w : World) (ids : List ℕ) (q : Parties) (x : ℕ) → 1 ≤ x → x < size w → (node_at q (x - 1)).ends.out ≡ None → StandBetween credit.initial w (x ∷ ids) q None → StandBetween credit.initial w ids q None
+met_none credit w ids q x some l none m =
+    let mine : MemberStands w m.places x (node_at q (x - 1)) = m.stand.each x some l in
+    met_so credit.initial w ids q x (λ t _ its. none-some (m.places.outs t) (sym none ∙ mine.out ∙ ap (option_map m.places.outs) its)) m
 
 -- one whose link has no other end
-pub met_gone : (credit : CreditSpec) (w : World) (q : Parties) (k x : ℕ) (o : OutSeen) (name : LinkName) → IsLawfulAt credit w → GoBetween w → x ≡ k + 1 → x < size w → (node_at q (x - 1)).ends.out ≡ Some o → out_name_of (node_at q (x - 1)).held ≡ Some name → IsNowhere q name
-    → StandMet k credit.initial w q → StandMet (k + 1) credit.initial w q
-met_gone credit w q k x o name g go is l out named none m =
-    let f = out_known w credit.initial q m.places x o name g.fit.own_ends m.stand (omega arith) l out named in
+pub met_gone : (credit : CreditSpec) (w : World) (ids : List ℕ) (q : Parties) (x : ℕ) (o : OutSeen) (name : LinkName) → IsLawfulAt credit w → GoBetween w → 1 ≤ x → x < size w → (node_at q (x - 1)).ends.out ≡ Some o → out_name_of (node_at q (x - 1)).held ≡ Some name → IsNowhere q name
+    → StandBetween credit.initial w (x ∷ ids) q None → StandBetween credit.initial w ids q None
+met_gone credit w ids q x o name g go some l out named none m =
+    let f = out_known w credit.initial q m.places x o name g.fit.own_ends m.stand some l out named in
     let s : ℕ = f.0 in
     let gone : has_in w s ≡ false = found_nowhere credit w q m.places s g go m.stand f.2 (subst (IsNowhere q) f.4 none) in
-    met_so credit.initial w q k x is (λ t h its.
+    met_so credit.initial w ids q x (λ t h its.
     let both : Some t ≡ Some s = sym its ∙ f.1 in
     let same : t ≡ s = cc in
     false≢true (sym gone ∙ ap (has_in w) (sym same) ∙ h)) m
@@ -295,67 +292,56 @@ held_still q i j o = ⊎_elim
     (cases_lt i (length q.nodes))
 
 -- at a member
-pub met_at : (credit : CreditSpec) (w : World) (q : Parties) (k x y place : ℕ) (name : LinkName) (o : OutSeen) (n : InSeen) (o' : OutSeen) (n' : InSeen) → IsLawfulAt credit w → x ≡ k + 1 → x < size w → (node_at q (x - 1)).ends.out ≡ Some o → out_name_of (node_at q (x - 1)).held ≡ Some name
+pub met_at : (credit : CreditSpec) (w : World) (ids : List ℕ) (q : Parties) (x y place : ℕ) (name : LinkName) (o : OutSeen) (n : InSeen) (o' : OutSeen) (n' : InSeen) → IsLawfulAt credit w → 1 ≤ x → x < size w → (node_at q (x - 1)).ends.out ≡ Some o → out_name_of (node_at q (x - 1)).held ≡ Some name
     → 1 ≤ y → y < size w → in_name_of (node_at q (y - 1)).held place ≡ Some name → in_end_at (node_at q (y - 1)).ends place ≡ Some n → Meets o n o' n'
-    → StandMet k credit.initial w q
-    → StandMet (k + 1) credit.initial w (with_node (with_node q (x - 1) (with_out (node_at q (x - 1)) o')) (y - 1) (with_in (node_at (with_node q (x - 1) (with_out (node_at q (x - 1)) o')) (y - 1)) place n'))
-met_at credit w q k x y place name o n o' n' g is xl out named a l found end m met =
+    → StandBetween credit.initial w (x ∷ ids) q None
+    → StandBetween credit.initial w ids (with_node (with_node q (x - 1) (with_out (node_at q (x - 1)) o')) (y - 1) (with_in (node_at (with_node q (x - 1) (with_out (node_at q (x - 1)) o')) (y - 1)) place n')) None
+met_at credit w ids q x y place name o n o' n' g some xl out named a l found end m met =
     let p : Places = met.places in
-    let f = out_known w credit.initial q p x o name g.fit.own_ends met.stand (omega arith) xl out named in
+    let f = out_known w credit.initial q p x o name g.fit.own_ends met.stand some xl out named in
     let s : ℕ = f.0 in
     let its : in_name_of (node_at q (y - 1)).held place ≡ Some (name_of w s) = found ∙ ap Some f.4 in
     let c = found_at credit w q p y place s g met.stand a l f.2 its in
     let meets : Meets (p.outs s) (p.ins s) o' n' = meets_so o (p.outs s) n (p.ins s) o' n' (in_end_at (node_at q (y - 1)).ends place) f.3 end c.2 m in
     let q1 : Parties = with_node q (x - 1) (with_out (node_at q (x - 1)) o') in
-    record {
-      places = with_both p s o' n';
-      stand = stands_of credit.initial w (with_node q1 (y - 1) (with_in (node_at q1 (y - 1)) place n')) (with_both p s o' n')
-          (in_shows w q1 (with_outs p s o') y place s n' g.fit.good g.fit.own_ends a l f.2 (ap (λ h. in_name_of h place) (held_still q (x - 1) (y - 1) o') ∙ its)
-          (out_shows w q p x s o' g.fit.own_ends (omega arith) xl f.1 (shows_of credit.initial w q p met.stand)))
-          (met_carry credit.initial w q p s o' n' met.stand meets);
-      dropped = dropped_more w p s o' n' f.5 met.dropped;
-      met = met_more w p k x s o' n' is f.1 m.met met.met;
-      known = known_met w p s o' n' c.1 met.known;
-    }
+    both_met credit.initial w (x ∷ ids) ids q (with_node q1 (y - 1) (with_in (node_at q1 (y - 1)) place n')) None met s o' n' meets c.1
+    (in_shows w q1 (with_outs p s o') y place s n' g.fit.good g.fit.own_ends a l f.2 (ap (λ h. in_name_of h place) (held_still q (x - 1) (y - 1) o') ∙ its)
+    (out_shows w q p x s o' g.fit.own_ends some xl f.1 met.stand))
+    (dropped_more w p s o' n' f.5 met.dropped) (fewer_but w ids x s f.1)
 
 -- in the post
-pub met_posted : (credit : CreditSpec) (w : World) (q : Parties) (k x j : ℕ) (d : Posted) (name : LinkName) (o : OutSeen) (n : InSeen) (o' : OutSeen) (n' : InSeen) → IsLawfulAt credit w → GoBetween w → x ≡ k + 1 → x < size w → (node_at q (x - 1)).ends.out ≡ Some o → out_name_of (node_at q (x - 1)).held ≡ Some name
-    → j < length q.post → (get_or q.post j d).name ≡ name → (get_or q.post j d).end ≡ Some n → Meets o n o' n'
-    → StandMet k credit.initial w q
-    → StandMet (k + 1) credit.initial w (record (with_node q (x - 1) (with_out (node_at q (x - 1)) o')) { post = set q.post j (record { name = name; end = Some n' }) })
-met_posted credit w q k x j d name o n o' n' g go is xl out named l found end m met =
+pub met_posted : (credit : CreditSpec) (w : World) (ids : List ℕ) (q : Parties) (x j : ℕ) (d : Posted) (name : LinkName) (o : OutSeen) (n : InSeen) (o' : OutSeen) (n' : InSeen) → IsLawfulAt credit w → GoBetween w → 1 ≤ x → x < size w → (node_at q (x - 1)).ends.out ≡ Some o
+    → out_name_of (node_at q (x - 1)).held ≡ Some name → j < length q.post → (get_or q.post j d).name ≡ name → (get_or q.post j d).end ≡ Some n → Meets o n o' n'
+    → StandBetween credit.initial w (x ∷ ids) q None
+    → StandBetween credit.initial w ids (record (with_node q (x - 1) (with_out (node_at q (x - 1)) o')) { post = set q.post j (record { name = name; end = Some n' }) }) None
+met_posted credit w ids q x j d name o n o' n' g go some xl out named l found end m met =
     let p : Places = met.places in
-    let f = out_known w credit.initial q p x o name g.fit.own_ends met.stand (omega arith) xl out named in
+    let f = out_known w credit.initial q p x o name g.fit.own_ends met.stand some xl out named in
     let s : ℕ = f.0 in
     let c = found_posted credit w q p j s d g go met.stand l f.2 (found ∙ f.4) in
     let place = posted_place w credit.initial q p j s d g.fit.good met.stand l f.2 (found ∙ f.4) in
     let meets : Meets (p.outs s) (p.ins s) o' n' = meets_so o (p.outs s) n (p.ins s) o' n' (get_or q.post j d).end f.3 end c.1 m in
     let q1 : Parties = with_node q (x - 1) (with_out (node_at q (x - 1)) o') in
-    subst (λ i. StandMet (k + 1) credit.initial w (record q1 { post = set q.post j (record { name = i; end = Some n' }) })) (sym f.4) (record {
-      places = with_both p s o' n';
-      stand = stands_of credit.initial w (record q1 { post = set q.post j (record { name = name_of w s; end = Some n' }) }) (with_both p s o' n')
-          (in_posts w q1 (with_outs p s o') j s n' g.fit.own_ends go place.0 place.1 (out_shows w q p x s o' g.fit.own_ends (omega arith) xl f.1 (shows_of credit.initial w q p met.stand)))
-          (met_carry credit.initial w q p s o' n' met.stand meets);
-      dropped = dropped_more w p s o' n' f.5 met.dropped;
-      met = met_more w p k x s o' n' is f.1 m.met met.met;
-      known = known_met w p s o' n' c.0 met.known;
-    })
+    subst (λ i. StandBetween credit.initial w ids (record q1 { post = set q.post j (record { name = i; end = Some n' }) }) None) (sym f.4)
+    (both_met credit.initial w (x ∷ ids) ids q (record q1 { post = set q.post j (record { name = name_of w s; end = Some n' }) }) None met s o' n' meets c.0
+    (in_posts w q1 (with_outs p s o') j s n' g.fit.own_ends go place.0 place.1 (out_shows w q p x s o' g.fit.own_ends some xl f.1 met.stand))
+    (dropped_more w p s o' n' f.5 met.dropped) (fewer_but w ids x s f.1))
 
 -- ---- the ends that are found are there, and may meet
 
 -- of a loose end
-loose_fits : (credit : CreditSpec) (w : World) (q : Parties) (name : LinkName) (o : OutSeen) (end : Option InSeen) (b : StandBetween credit.initial w q (Some (name, o))) → LooseLink w b.places name o end → (n : InSeen) × (end ≡ Some n) × Fits o n
-loose_fits credit w q name o end b f =
+loose_fits : (credit : CreditSpec) (w : World) (ids : List ℕ) (q : Parties) (name : LinkName) (o : OutSeen) (end : Option InSeen) (b : StandBetween credit.initial w ids q (Some (name, o))) → LooseLink w b.places name o end → (n : InSeen) × (end ≡ Some n) × Fits o n
+loose_fits credit w ids q name o end b f =
     let p : Places = b.places in
     let s : ℕ = f.link in
     (p.ins s, f.shown, subst (λ i. Fits i (p.ins s)) f.out (carries_fit w credit.initial (link_at w s) (p.outs s) (p.ins s) (b.stand.carry s f.within f.has)))
 
 -- at a member
-pub loose_there_at : (credit : CreditSpec) (w : World) (q : Parties) (y place : ℕ) (name : LinkName) (o : OutSeen) → IsLawfulAt credit w → StandBetween credit.initial w q (Some (name, o)) → 1 ≤ y → y < size w → in_name_of (node_at q (y - 1)).held place ≡ Some name
+pub loose_there_at : (credit : CreditSpec) (w : World) (ids : List ℕ) (q : Parties) (y place : ℕ) (name : LinkName) (o : OutSeen) → IsLawfulAt credit w → StandBetween credit.initial w ids q (Some (name, o)) → 1 ≤ y → y < size w → in_name_of (node_at q (y - 1)).held place ≡ Some name
     → (n : InSeen) × (in_end_at (node_at q (y - 1)).ends place ≡ Some n) × Fits o n
-loose_there_at credit w q y place name o g b a l named = loose_fits credit w q name o (in_end_at (node_at q (y - 1)).ends place) b (loose_at credit w q y place name o g b a l named)
+loose_there_at credit w ids q y place name o g b a l named = loose_fits credit w ids q name o (in_end_at (node_at q (y - 1)).ends place) b (loose_at credit w ids q y place name o g b a l named)
 
 -- in the post
-pub loose_there_posted : (credit : CreditSpec) (w : World) (q : Parties) (j : ℕ) (d : Posted) (name : LinkName) (o : OutSeen) → IsLawfulAt credit w → GoBetween w → StandBetween credit.initial w q (Some (name, o)) → j < length q.post → (get_or q.post j d).name ≡ name
+pub loose_there_posted : (credit : CreditSpec) (w : World) (ids : List ℕ) (q : Parties) (j : ℕ) (d : Posted) (name : LinkName) (o : OutSeen) → IsLawfulAt credit w → GoBetween w → StandBetween credit.initial w ids q (Some (name, o)) → j < length q.post → (get_or q.post j d).name ≡ name
     → (n : InSeen) × ((get_or q.post j d).end ≡ Some n) × Fits o n
-loose_there_posted credit w q j d name o g go b l named = loose_fits credit w q name o (get_or q.post j d).end b (loose_posted credit w q j d name o g go b l named)
+loose_there_posted credit w ids q j d name o g go b l named = loose_fits credit w ids q name o (get_or q.post j d).end b (loose_posted credit w ids q j d name o g go b l named)

@@ -27,18 +27,11 @@ all_know initial w q st s l o = by_in (has_in w s) refl
         sym (append-nil (p.outs s).back) ∙ ap (λ gs. (p.outs s).back ++ gs) (sym met.given) ∙ (st.stand.carry s l i).grants
     by_in false i = st.known s l i o
 
--- To its sender a link is as it was: the sender has its out end if it had it, the same grants have come back, and the same were given.
-pub record SameGrants (w w' : World) (p p' : Places) (s : ℕ) : Type 0 where
-  pub out : has_out w' s ≡ has_out w s
-  pub back : (p'.outs s).back ≡ (p.outs s).back
-  pub grants : (link_at w' s).flow.grants ≡ (link_at w s).flow.grants
-
--- senders still know after an event that leaves so each link that its receiver has left by then
-pub known_still : (initial : ℕ) (w w' : World) (q : Parties) (p' : Places) (st : Stand initial w q) → length w'.links ≡ length w.links → ((s : ℕ) → s < length w.links → has_in w' s ≡ false → SameGrants w w' st.places p' s) → SendersKnow w' p'
-known_still initial w w' q p' st many same s l i o =
-    let sl : s < length w.links = omega (arith, many) in
-    let k : SameGrants w w' st.places p' s = same s sl i in
-    k.back ∙ all_know initial w q st s sl (sym k.out ∙ o) ∙ sym k.grants
+-- senders still know where they have the out ends that they had, and of each link that its receiver has left by then the same grants have come
+-- back, and the same were given
+pub known_still : (initial : ℕ) (w w' : World) (q : Parties) (p' : Places) (st : Stand initial w q) → length w'.links ≡ length w.links → ((s : ℕ) → has_out w' s ≡ has_out w s)
+    → ((s : ℕ) → has_in w' s ≡ false → ((p'.outs s).back ≡ (st.places.outs s).back) × ((link_at w' s).flow.grants ≡ (link_at w s).flow.grants)) → SendersKnow w' p'
+known_still initial w w' q p' st many outs same s l i o = let k = same s i in k.0 ∙ all_know initial w q st s (omega (arith, many)) (sym (outs s) ∙ o) ∙ sym k.1
 
 -- a link that its receiver has left isn't one from which its receiver may take
 pub not_left : (w : World) (j s : ℕ) → has_in w j ≡ false → has_in w s ≡ true → j ≢ s

@@ -9,6 +9,7 @@ pub mod CastGoes
 pub mod Closing
 pub mod Collected
 pub mod Collections
+pub mod Delivered
 pub mod Doing
 pub mod EachGoes
 pub mod EndGoes
@@ -61,6 +62,7 @@ pub mod Reached
 pub mod Ready
 pub mod Receivers
 pub mod RefreshFalls
+pub mod Refreshed
 pub mod Refreshing
 pub mod Refusals
 pub mod Refusing

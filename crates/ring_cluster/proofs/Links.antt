@@ -7,14 +7,13 @@ use Rattle.ring_names.specs.declared.numbers.CreditSpec.{CreditSpec}
 use Rattle.ring_names.specs.declared.reason.Reason.TheVariants as reason
 use Rattle.credit_flow.specs.Credit.{is_blocked}
 use Rattle.group_view.specs.Ring.{is_in}
-use Rattle.group_view.proofs.Neighbours.{right_of_left}
 use Rattle.ring_world.specs.Rows.{is_sent}
 use Rattle.ring_world.specs.declared.numbers.Numbers.{Numbers}
 use Rattle.ring_world.specs.declared.phase.Phase.TheVariants.{Up}
-use Rattle.ring_world.specs.View.{ids, is_live}
+use Rattle.ring_world.specs.View.{is_live, right_of}
 use Rattle.ring_world.specs.Machine.{World, Link, numbers_at, member_at, link_at, view_at, newest, ring, left, right, runs, is_kept}
 use Rattle.ring_world.specs.Step.{size, is_owned}
-use Rattle.ring_world.specs.OpenLinks.{version_of, comes_from_left, passes, is_current, is_open}
+use Rattle.ring_world.specs.OpenLinks.{version_of, comes_from_left, passes, is_current, is_door_link, is_open}
 use Rattle.ring_world.specs.Lawful.{row_of}
 use Rattle.ring_world.specs.Event.{has_nothing_new, holds_nothing, left_neighbour, since, is_at_door, at_door}
 use Rattle.group_view.proofs.Lists.{at_range}
@@ -23,7 +22,7 @@ use Rattle.ring_world.proofs.Rounds.{nat_eq-is, nat_eq-same}
 use Rattle.ring_world.proofs.Views.{left_is, right_is}
 use Rattle.ring_world.proofs.Cases.{up_of}
 use Rattle.ring_world.proofs.Happens.{IsGood}
-use Rattle.ring_world.proofs.Ended.{SendsOn, runs_lt}
+use Rattle.ring_world.proofs.Ended.{SendsOn, TakesOn, runs_lt}
 use Rattle.ring_world.proofs.LinkCredit.{LinkIsKept}
 use Rattle.ring_world.proofs.OpenWalk.{passes_is, place_is}
 use Rattle.ring_cluster.specs.Idle.{IsIdle}
@@ -32,6 +31,7 @@ use Rattle.ring_cluster.proofs.Sent.{Has}
 use Rattle.ring_cluster.proofs.Asked.{IsRefused, refused_by_id, is_refused, later_refused, takes_nothing, none_left, nothing_held, not_ended, door_is_empty, none_passes}
 use Rattle.ring_cluster.proofs.Reached.{IsReached}
 use Rattle.ring_cluster.proofs.Truth.{none_is}
+use Rattle.group_view.proofs.Passing.{are_mutual}
 
 -- ---- small steps
 
@@ -56,18 +56,15 @@ pub record IsEven (w : World) (y p : ℕ) : Type 0 where
   pub got : low (is_owned (view_at w (newest w)) y (left w (newest w) y) p) (row_of w y p) ≡ (row_of w (left w (newest w) y) p).got
   pub forgot : low_forgot (is_owned (view_at w (newest w)) y (left w (newest w) y) p) (row_of w y p) ≡ (row_of w (left w (newest w) y) p).forgot
 
--- the link o goes from the left neighbour of y to y: the one sends on it, and the other takes from it
+-- the left neighbour of y sends on the link o, and y takes from it
 pub record IsTie (w : World) (y o : ℕ) : Type 0 where
   pub out : (member_at w (left w (newest w) y)).out ≡ Some o
   pub current : (member_at w y).current ≡ Some o
-  pub lt : o < length w.links
-  pub sender : (link_at w o).sender ≡ left w (newest w) y
-  pub receiver : (link_at w o).receiver ≡ y
+  pub sends : SendsOn w.links (left w (newest w) y) o
 
--- the link s goes to y, which hasn't taken its end, and is kept up to the newest view
+-- y may take from the link s, which is kept up to the newest view
 pub record IsKeptTo (w : World) (y s : ℕ) : Type 0 where
-  pub receiver : (link_at w s).receiver ≡ y
-  pub goes_on : (link_at w s).over ≡ false
+  pub takes : TakesOn w.links y s
   pub kept : is_kept w (link_at w s) (newest w) ≡ true
 
 -- ---- in a state in which no running member has anything to do
@@ -106,41 +103,41 @@ module _ (w : World) (h : IsReached w) (idle : IsIdle w) where
   nothing_at_door y r e = door_is_empty w y good (idle y r).newest ((refused y r).pick e)
 
   -- a link that is kept stands at the door of its receiver until it is over
-  pub kept_at_door : (y s : ℕ) → runs w y ≡ true → s < length w.links → (link_at w s).receiver ≡ y → (link_at w s).over ≡ false → is_kept w (link_at w s) (newest w) ≡ true → is_at_door w y (link_at w s) ≡ true
-  kept_at_door y s r sl to goes_on kept =
+  pub kept_at_door : (y s : ℕ) → runs w y ≡ true → IsKeptTo w y s → is_at_door w y (link_at w s) ≡ true
+  kept_at_door y s r k =
       let l : Link = link_at w s in
       let v : ℕ = version_of w y in
       let new : v ≡ newest w = (idle y r).newest in
-      let test : passes w y l ≡ true = passes_is w y s good sl to ∙ ap (is_kept w l) new ∙ kept in
-      let late : max v l.opened ≡ v = omega (arith, good.inv.linked.opened s sl) in
+      let test : passes w y l ≡ true = passes_is w y s good k.takes.lt k.takes.receiver ∙ ap (is_kept w l) new ∙ k.kept in
+      let late : max v l.opened ≡ v = omega (arith, good.inv.linked.opened s k.takes.lt) in
       let comes : comes_from_left w y l v ≡ true = ap (comes_from_left w y l) (sym late) ∙ test in
       let passed : (nat_eq l.sender (left_neighbour w y) && nat_le (since w y) l.opened) ≡ true = ap (λ q. nat_eq l.sender q && nat_le (since w y) l.opened) (sym (left_is w v y (view_at w v) refl)) ∙ comes in
-      and_from (nat_eq l.receiver y) (not l.over && (nat_eq l.sender (left_neighbour w y) && nat_le (since w y) l.opened)) (ap (λ q. nat_eq q y) to ∙ nat_eq-same y)
-      (and_from (not l.over) (nat_eq l.sender (left_neighbour w y) && nat_le (since w y) l.opened) (ap not goes_on) passed)
+      and_from (nat_eq l.receiver y) (not l.over && (nat_eq l.sender (left_neighbour w y) && nat_le (since w y) l.opened)) (ap (λ q. nat_eq q y) k.takes.receiver ∙ nat_eq-same y)
+      (and_from (not l.over) (nat_eq l.sender (left_neighbour w y) && nat_le (since w y) l.opened) (ap not k.takes.goes_on) passed)
 
   -- the sender of a link that is kept is its receiver's left neighbour
-  pub kept_from_left : (y s : ℕ) → s < length w.links → (link_at w s).receiver ≡ y → is_kept w (link_at w s) (newest w) ≡ true → left w (newest w) y ≡ (link_at w s).sender
-  kept_from_left y s sl to kept = ap (left w (newest w)) (sym to) ∙ true_kept w (link_at w s) (newest w) kept (newest w) (good.inv.linked.opened s sl) (omega arith)
+  pub kept_from_left : (y s : ℕ) → IsKeptTo w y s → left w (newest w) y ≡ (link_at w s).sender
+  kept_from_left y s k = ap (left w (newest w)) (sym k.takes.receiver) ∙ true_kept w (link_at w s) (newest w) k.kept (newest w) (good.inv.linked.opened s k.takes.lt) (omega arith)
 
   -- where that one runs, it sends on the link
-  pub kept_is_out : (y s : ℕ) → runs w y ≡ true → runs w (left w (newest w) y) ≡ true → s < length w.links → (link_at w s).receiver ≡ y → is_kept w (link_at w s) (newest w) ≡ true → (member_at w (left w (newest w) y)).out ≡ Some s
-  kept_is_out y s ry rx sl to kept =
+  pub kept_is_out : (y s : ℕ) → runs w y ≡ true → runs w (left w (newest w) y) ≡ true → IsKeptTo w y s → (member_at w (left w (newest w) y)).out ≡ Some s
+  kept_is_out y s ry rx k =
       let l : Link = link_at w s in
-      let from : left w (newest w) y ≡ l.sender = kept_from_left y s sl to kept in
+      let from : left w (newest w) y ≡ l.sender = kept_from_left y s k in
       let rs : runs w l.sender ≡ true = subst (λ q. runs w q ≡ true) from rx in
       let new : (member_at w l.sender).version ≡ newest w = (idle l.sender rs).newest in
       let out : (member_at w l.sender).out ≡ Some s =
-      good.inv.linked.is_out s sl rs (subst (Kept w l) (sym new) (true_kept w l (newest w) kept))
-      (subst (λ u. is_live (view_at w u) l.receiver ≡ true) (sym new) (subst (λ q. is_live (view_at w (newest w)) q ≡ true) (sym to) (lives_there y ry))) in
+      good.inv.linked.is_out s k.takes.lt rs (subst (Kept w l) (sym new) (true_kept w l (newest w) k.kept))
+      (subst (λ u. is_live (view_at w u) l.receiver ≡ true) (sym new) (subst (λ q. is_live (view_at w (newest w)) q ≡ true) (sym k.takes.receiver) (lives_there y ry))) in
       subst (λ q. (member_at w q).out ≡ Some s) (sym from) out
 
   -- the current link is kept up to the newest view
-  pub current_is_kept : (y s : ℕ) → runs w y ≡ true → (member_at w y).current ≡ Some s → is_kept w (link_at w s) (newest w) ≡ true
-  current_is_kept y s r e = ap (is_kept w (link_at w s)) (sym (idle y r).newest) ∙ good.inv.current.kept_yet y s r e
+  pub current_is_kept : (y s : ℕ) → runs w y ≡ true → (member_at w y).current ≡ Some s → IsKeptTo w y s
+  current_is_kept y s r e = record { takes = h.fit.ends.takes y s r e; kept = ap (is_kept w (link_at w s)) (sym (idle y r).newest) ∙ good.inv.current.kept_yet y s r e }
 
   -- where the left neighbour runs, its out link is the current link
   pub current_is_out : (y : ℕ) → runs w y ≡ true → runs w (left w (newest w) y) ≡ true → (o : ℕ) × IsTie w y o
-  current_is_out y ry rx = (o, record { out = e; current = by_current (member_at w y).current refl; lt = lt; sender = sends.sender; receiver = to })
+  current_is_out y ry rx = (o, record { out = e; current = by_current (member_at w y).current refl; sends = sends })
     where
       v : ℕ
       v = newest w
@@ -148,38 +145,30 @@ module _ (w : World) (h : IsReached w) (idle : IsIdle w) where
       x : ℕ
       x = left w v y
 
-      found : (o : ℕ) × ((member_at w x).out ≡ Some o)
-      found = some_of (member_at w x).out (idle x rx).sends
-
       o : ℕ
-      o = found.0
+      o = (some_of (member_at w x).out (idle x rx).sends).0
 
       e : (member_at w x).out ≡ Some o
-      e = found.1
+      e = (some_of (member_at w x).out (idle x rx).sends).1
 
       sends : SendsOn w.links x o
       sends = h.fit.ends.sends x o rx e
 
-      lt : o < length w.links
-      lt = sends.lt
-
-      to : (link_at w o).receiver ≡ y
-      to =
-          good.inv.linked.out_to x o rx e ∙ ap (λ u. right w u x) (idle x rx).newest ∙ right_is w v x (view_at w v) refl
-          ∙ right_of_left (is_live (view_at w v)) x y (ids (view_at w v)) (good.inv.is_ring.distinct v (omega arith)) (stands_there y ry) (lives_there y ry) (sym (left_is w v y (view_at w v) refl))
-
-      kept : is_kept w (link_at w o) v ≡ true
-      kept = kept_true w (link_at w o) v (out_stays w x o good.inv.is_ring good.inv.linked rx e)
-
-      goes_on : (link_at w o).over ≡ false
-      goes_on = false_from_ne_true (link_at w o).over (λ over. false≢true (sym (ap is_some sends.goes_on) ∙ h.fit.ends.ended o over))
+      stays : IsKeptTo w y o
+      stays = record {
+        takes = record {
+          lt = sends.lt;
+          receiver =
+              good.inv.linked.out_to x o rx e ∙ ap (λ u. right w u x) (idle x rx).newest ∙ right_is w v x (view_at w v) refl
+              ∙ ap (right_of (view_at w v)) (left_is w v y (view_at w v) refl) ∙ (are_mutual (view_at w v).entries y (good.inv.is_ring.distinct v (omega arith)) (lives_there y ry)).right_of_left;
+          goes_on = false_from_ne_true (link_at w o).over (λ over. false≢true (sym (ap is_some sends.goes_on) ∙ h.fit.ends.ended o over));
+        };
+        kept = kept_true w (link_at w o) v (out_stays w x o good.inv.is_ring good.inv.linked rx e);
+      }
 
       by_current : (c : Option ℕ) → (member_at w y).current ≡ c → (member_at w y).current ≡ Some o
-      by_current None k =
-          absurd (false≢true (sym (none_passes w y o lt (nothing_at_door y ry k)) ∙ kept_at_door y o ry lt to goes_on kept))
-      by_current (Some c) k =
-          let out : (member_at w x).out ≡ Some c = kept_is_out y c ry rx (good.inv.current.lt y c ry k) (good.inv.current.receiver y c ry k) (current_is_kept y c ry k) in
-          k ∙ sym out ∙ e
+      by_current None k = absurd (false≢true (sym (none_passes w y o sends.lt (nothing_at_door y ry k)) ∙ kept_at_door y o ry stays))
+      by_current (Some c) k = k ∙ sym (kept_is_out y c ry rx (current_is_kept y c ry k)) ∙ e
 
   -- a link that is open to y goes to y, isn't over, and is kept up to the newest view
   pub open_is_kept : (y s : ℕ) → runs w y ≡ true → s < length w.links → is_open w y s ≡ true → IsKeptTo w y s
@@ -189,26 +178,22 @@ module _ (w : World) (h : IsReached w) (idle : IsIdle w) where
       l = link_at w s
 
       by_current : (b : Bool) → is_current w y s ≡ b → IsKeptTo w y s
-      by_current true e =
-          let c = place_is (member_at w y).current s e in
-          record { receiver = good.inv.current.receiver y s ry c; goes_on = (h.fit.ends.takes y s ry c).goes_on; kept = current_is_kept y s ry c }
+      by_current true e = current_is_kept y s ry (place_is (member_at w y).current s e)
       by_current false e =
-          let door : ((nat_eq l.receiver y && (not (is_current w y s) && not l.over)) && passes w y l) ≡ true = or_second (is_current w y s) ((nat_eq l.receiver y && (not (is_current w y s) && not l.over)) && passes w y l) e opens in
-          let a = and_parts (nat_eq l.receiver y && (not (is_current w y s) && not l.over)) (passes w y l) door in
+          let door : (is_door_link w y s && passes w y l) ≡ true = or_second (is_current w y s) (is_door_link w y s && passes w y l) e opens in
+          let a = and_parts (is_door_link w y s) (passes w y l) door in
           let b = and_parts (nat_eq l.receiver y) (not (is_current w y s) && not l.over) a.0 in
           let to : l.receiver ≡ y = nat_eq-is l.receiver y b.0 in
           record {
-            receiver = to;
-            goes_on = not-true l.over (and_parts (not (is_current w y s)) (not l.over) b.1).1;
+            takes = record { lt = sl; receiver = to; goes_on = not-true l.over (and_parts (not (is_current w y s)) (not l.over) b.1).1 };
             kept = ap (is_kept w l) (sym (idle y ry).newest) ∙ sym (passes_is w y s good sl to) ∙ a.1;
           }
 
   -- so where the left neighbour runs, no other link is open to y
   pub open_is_current : (y s : ℕ) → runs w y ≡ true → runs w (left w (newest w) y) ≡ true → s < length w.links → is_open w y s ≡ true → (member_at w y).current ≡ Some s
   open_is_current y s ry rx sl opens =
-      let k : IsKeptTo w y s = open_is_kept y s ry sl opens in
       let tie = current_is_out y ry rx in
-      tie.1.current ∙ sym tie.1.out ∙ kept_is_out y s ry rx sl k.receiver k.kept
+      tie.1.current ∙ sym tie.1.out ∙ kept_is_out y s ry rx (open_is_kept y s ry sl opens)
 
   -- where the left neighbour has stopped, y takes from no link
   pub no_current : (y : ℕ) → runs w y ≡ true → runs w (left w (newest w) y) ≡ false → (member_at w y).current ≡ None
@@ -217,10 +202,9 @@ module _ (w : World) (h : IsReached w) (idle : IsIdle w) where
       by_current : (c : Option ℕ) → (member_at w y).current ≡ c → c ≡ None
       by_current None e = refl
       by_current (Some s) e =
-          let sl : s < length w.links = good.inv.current.lt y s ry e in
-          let from : left w (newest w) y ≡ (link_at w s).sender = kept_from_left y s sl (good.inv.current.receiver y s ry e) (current_is_kept y s ry e) in
+          let k : IsKeptTo w y s = current_is_kept y s ry e in
           let goes : (link_at w s).ending ≡ None = none_is (link_at w s).ending (not_ended (link_at w s) (current_holds_nothing y s ry e)) in
-          absurd (false≢true (sym rests ∙ ap (runs w) from ∙ (h.goes s sl goes).0))
+          absurd (false≢true (sym rests ∙ ap (runs w) (kept_from_left y s k) ∙ (h.goes s k.takes.lt goes).0))
 
   -- and can pick none
   pub no_door : (y : ℕ) → runs w y ≡ true → runs w (left w (newest w) y) ≡ false → at_door w y ≡ None
@@ -228,9 +212,7 @@ module _ (w : World) (h : IsReached w) (idle : IsIdle w) where
 
   -- so no link is open to y
   pub none_is_open : (y s : ℕ) → runs w y ≡ true → runs w (left w (newest w) y) ≡ false → s < length w.links → is_open w y s ≡ false
-  none_is_open y s ry rests sl = false_from_ne_true (is_open w y s) (λ opens.
-      let k : IsKeptTo w y s = open_is_kept y s ry sl opens in
-      false≢true (sym (none_passes w y s sl (no_door y ry rests)) ∙ kept_at_door y s ry sl k.receiver k.goes_on k.kept))
+  none_is_open y s ry rests sl = false_from_ne_true (is_open w y s) (λ opens. false≢true (sym (none_passes w y s sl (no_door y ry rests)) ∙ kept_at_door y s ry (open_is_kept y s ry sl opens)))
 
   -- no link that is open to a running member holds anything
   pub open_holds_nothing : (y s : ℕ) → runs w y ≡ true → s < length w.links → is_open w y s ≡ true → holds_nothing (link_at w s) ≡ true
@@ -246,7 +228,7 @@ module _ (w : World) (h : IsReached w) (idle : IsIdle w) where
   pub left_has_credit : (y o : ℕ) → runs w y ≡ true → runs w (left w (newest w) y) ≡ true → IsTie w y o → is_blocked (link_at w o).flow.sender ≡ false
   left_has_credit y o ry rx t =
       let grants : (link_at w o).flow.grants ≡ [] = none_left (link_at w o).flow.grants (is_refused _ reason.NoGrant ((refused (left w (newest w) y) rx).gain o t.out)) in
-      kept_is_free h.credit (link_at w o) (h.credited.links o t.lt) (nothing_held (link_at w o) (current_holds_nothing y o ry t.current)) grants
+      kept_is_free h.credit (link_at w o) (h.credited.links o t.sends.lt) (nothing_held (link_at w o) (current_holds_nothing y o ry t.current)) grants
 
   -- and so it has sent all its numbers
   pub left_has_sent : (y o p : ℕ) → runs w y ≡ true → runs w (left w (newest w) y) ≡ true → IsTie w y o → p < size w → is_sent (row_of w (left w (newest w) y) p) (numbers_at (link_at w o).sending.sent p) ≡ true
@@ -264,7 +246,7 @@ module _ (w : World) (h : IsReached w) (idle : IsIdle w) where
       let last : Numbers = numbers_at (link_at w o).sending.sent p in
       let sent : is_sent (row_of w x p) last ≡ true = left_has_sent y o p ry rx tie.1 pl in
       let has : Has (is_owned (view_at w (member_at w y).version) y (link_at w o).sender p) (row_of w y p) last = h.sent y o p ry tie.1.current pl (nothing_held (link_at w o) (current_holds_nothing y o ry tie.1.current)) in
-      let now : Has (is_owned (view_at w (newest w)) y x p) (row_of w y p) last = subst (λ u. Has (is_owned (view_at w u) y x p) (row_of w y p) last) (idle y ry).newest (subst (λ q. Has (is_owned (view_at w (member_at w y).version) y q p) (row_of w y p) last) tie.1.sender has) in
+      let now : Has (is_owned (view_at w (newest w)) y x p) (row_of w y p) last = subst (λ u. Has (is_owned (view_at w u) y x p) (row_of w y p) last) (idle y ry).newest (subst (λ q. Has (is_owned (view_at w (member_at w y).version) y q p) (row_of w y p) last) tie.1.sends.sender has) in
       record {
         got = now.got ∙ sym (sent_got (row_of w x p) last sent);
         forgot = now.forgot ∙ sym (sent_forgot (row_of w x p) last sent);

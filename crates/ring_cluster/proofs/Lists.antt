@@ -1,11 +1,13 @@
 -- Lists: what stands at their places, and what is made of each element.
-use Rattle.std.proofs.Common.{◌≡◌, ℕ, ◌+◌, ◌<◌, false, List, [], ◌∷◌, drop, length, sym, ◌∙◌, arith, refl, zero, suc, ◌++◌, slice_get, Some, ap, append_assoc, map, get_or, set}
+use Rattle.std.proofs.Common.{◌≡◌, ℕ, ◌+◌, ◌<◌, false, List, [], ◌∷◌, drop, length, sym, ◌∙◌, arith, refl, zero, suc, ◌++◌, slice_get, Some, ap, map, get_or, set}
 use Rattle.std.proofs.lemmas.Bool.{false≢true}
 use Rattle.ring_world.specs.Refusal.{is_empty}
 use Rattle.std.specs.Prelude.{IsSome, IfSome, Option, None, Some}
-use Rattle.std.specs.List.{flat_map, range_with_len}
+use Rattle.std.specs.List.{range_with_len}
 use Rattle.std.proofs.lemmas.List.FromFn.{map-range_with_len_more}
 use Rattle.std.proofs.lemmas.List.{length-map, get_or-map, map-set, get_or-set_same, map-append}
+pub use Rattle.std.proofs.lemmas.Grind.{flat_map-append}
+pub use Rattle.std.proofs.lemmas.Option.{slice_get_within}
 
 -- on a list with an element, one fewer is left when the first goes
 pub length-rest : {A : Type 0} (xs : List A) → is_empty xs ≡ false → length (drop 1 xs) + 1 ≡ length xs
@@ -17,16 +19,7 @@ pub if_some_from : {A : Type 0} (P Q : A → Type 0) (o : Option A) → (IsSome 
 if_some_from P Q None h p = p
 if_some_from P Q (Some x) h p = h refl x p
 
-pub flat_map-append : {A B : Type 0} (f : A → List B) (xs ys : List A) → flat_map f (xs ++ ys) ≡ flat_map f xs ++ flat_map f ys
-flat_map-append f [] ys = refl
-flat_map-append f (x ∷ xs) ys = ap (λ zs. f x ++ zs) (flat_map-append f xs ys) ∙ sym (append_assoc (f x) (flat_map f xs) (flat_map f ys))
-
 -- what stands at a place of a list with one more
-pub slice_get_within : {A : Type 0} (xs : List A) (k : ℕ) (x : A) → slice_get xs k ≡ Some x → k < length xs
-slice_get_within [] k x e = cc
-slice_get_within (y ∷ ys) zero x e = omega arith
-slice_get_within (y ∷ ys) (suc k) x e = omega (arith, slice_get_within ys k x e)
-
 pub slice_get_front : {A : Type 0} (xs ys : List A) (k : ℕ) → k < length xs → slice_get (xs ++ ys) k ≡ slice_get xs k
 slice_get_front [] ys k l = absurd (omega arith)
 slice_get_front (x ∷ xs) ys zero l = refl

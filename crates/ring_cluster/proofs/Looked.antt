@@ -18,7 +18,7 @@ use Rattle.gm_member.specs.declared.packet.Load.{Load}
 use Rattle.gm_member.specs.declared.links.OutLink.{OutLink}
 use Rattle.gm_member.specs.declared.links.InLink.{InLink}
 use Rattle.gm_member.specs.Parcels.{Parcel}
-use Rattle.gm_member.specs.Loads.{on_link}
+use Rattle.gm_member.specs.Loads.{as_item}
 use Rattle.gm_member.specs.View.{row_of, out_of, in_of, end_of, ring_link, kept_link, stays_at}
 use Rattle.gm_member.specs.Held.{at_some, parcel_on, refreshed_held, sends_to, stays, is_for, fresh_out as unsent_on}
 use Rattle.gm_member.specs.Ends.{EndGets}
@@ -53,9 +53,9 @@ link_kept v x (Some l) = by_test (is_for v x (in_of l)) refl
 -- ---- the link on which it sends
 
 -- the out end of a new link, with its first packet
-opened_seen : (initial : ℕ) (k : Parcel) (o e : PlainOut Load) (n : PlainIn Load) → IsFreshPair initial o n → PlainPuts o (on_link k) e → out_seen e ≡ opened_out initial (sent_of k)
+opened_seen : (initial : ℕ) (k : Parcel) (o e : PlainOut Load) (n : PlainIn Load) → IsFreshPair initial o n → PlainPuts o (as_item k) e → out_seen e ≡ opened_out initial (sent_of k)
 opened_seen initial k o e n f p =
-    let waiting : map content e.waiting.items ≡ Some (sent_of k) ∷ [] = ap (map content) p.0 ∙ ap (λ xs. map content (xs ++ on_link k ∷ [])) f.items.0 in
+    let waiting : map content e.waiting.items ≡ Some (sent_of k) ∷ [] = ap (map content) p.0 ∙ ap (λ xs. map content (xs ++ as_item k ∷ [])) f.items.0 in
     let back : e.back.items ≡ [] = ap (λ b. b.items) p.2 ∙ f.grants.0 in
     let size : e.initial ≡ initial = p.3 ∙ f.initial.0 in
     let free : e.free ≡ initial = omega (arith, p.1, f.free.0) in

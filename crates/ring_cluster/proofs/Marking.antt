@@ -1,5 +1,5 @@
 -- A refresh and a mark, as steps of the ring: the parties stand in the state after them.
-use Rattle.std.proofs.Common.{◌≡◌, ℕ, zero, suc, ◌+◌, ◌-◌, ◌<◌, ◌≤◌, Bool, true, false, not, nat_eq, nat_le, List, [], ◌∷◌, ◌++◌, length, get_or, max, Option, Some, None, refl, sym, ap, subst, ◌∙◌, arith}
+use Rattle.std.proofs.Common.{◌≡◌, ℕ, ◌+◌, ◌-◌, ◌<◌, ◌≤◌, Bool, true, false, not, nat_eq, nat_le, List, [], ◌∷◌, ◌++◌, length, get_or, max, Option, Some, None, refl, sym, ap, subst, ◌∙◌, arith}
 use Rattle.std.specs.Prelude.{◌&&◌}
 use Rattle.std.specs.List.{filter}
 use Rattle.std.proofs.lemmas.Bool.{false≢true}
@@ -9,7 +9,7 @@ use Rattle.group_view.specs.View.{Group, entry_in}
 use Rattle.group_view.specs.Change.{marked}
 use Rattle.group_view.specs.Since.{no_group}
 use Rattle.group_view.specs.Since as since
-use Rattle.ring_world.specs.Rows.{no_row, no_numbers, next_numbers, Row}
+use Rattle.ring_world.specs.Rows.{no_numbers}
 use Rattle.ring_world.specs.declared.event.Event.TheVariants.{Mark, Refresh}
 use Rattle.ring_world.specs.View.{right_of}
 use Rattle.ring_world.specs.Machine.{World, Link, numbers_at, member_at, link_at, view_at, newest, left, row_at}
@@ -36,10 +36,11 @@ use Rattle.gm_member.proofs.Fit.{IsFit}
 use Rattle.gm_member.proofs.MarkStands.{mark_view, mark_world, mark_good, mark_look, mark_newest, view_held}
 use Rattle.gm_member.proofs.OpenDoors.{sends_right}
 use Rattle.gm_member.proofs.OwnEnds.{OwnEnds}
+use Rattle.gm_member.proofs.RefreshStands.{first_lines}
 use Rattle.ring_cluster.specs.Ends.{OutSeen, opened_out, fresh_in}
 use Rattle.ring_cluster.specs.Parties.{Parties, node_at, with_node}
 use Rattle.ring_cluster.specs.Standing.{Places, Stand, has_in}
-use Rattle.ring_cluster.specs.Loose.{StandBetween}
+use Rattle.ring_cluster.specs.Loose.{StandMoved}
 use Rattle.ring_cluster.specs.Acting.{Loosens, looked_ends, first_sent, LooksAt, Acts, newest_of, viewing, posting, waits_at}
 use Rattle.ring_cluster.proofs.Lawful.{IsLawfulAt}
 use Rattle.ring_cluster.proofs.Known.{all_know}
@@ -50,18 +51,13 @@ use Rattle.ring_cluster.proofs.Opens.{opens_on}
 
 -- ---- the first packet of a link
 
-next_of_none : (rows : List Row) (p : ℕ) → get_or (next_lines true rows []) p no_numbers ≡ next_numbers true (get_or rows p no_row) no_numbers
-next_of_none [] p = refl
-next_of_none (r ∷ rows) zero = refl
-next_of_none (r ∷ rows) (suc p) = next_of_none rows p
-
 -- its lines are the ring's
 pub first_packet : (w : World) (x i m z n k : ℕ) → IsFit w → lines_on (held_in w x).rows (unsent_on i m z n) ≡ lines_in w (record { version = k; numbers = next_lines true (member_at w x).rows [] })
 first_packet w x i m z n k f =
     map-range_same (λ p. carried_now true p (known_at (held_in w x).rows p) (numbers_of nothing_sent p)) (λ p. carried_in (log_of w (p + 1)) p (numbers_at (record { version = k; numbers = next_lines true (member_at w x).rows [] }) (p + 1))) 64
     (λ p l. ap (λ r. carried_now true p r (numbers_of nothing_sent p)) (held_row w x p l)
     ∙ ap (carried_now true p (row_at (member_at w x) (p + 1))) (tabled_at (λ (_ : ℕ). no_numbers) 64 p no_numbers l)
-    ∙ carried_same true p (log_of w (p + 1)) (row_at (member_at w x) (p + 1)) no_numbers (numbers_at (record { version = k; numbers = next_lines true (member_at w x).rows [] }) (p + 1)) (next_of_none (member_at w x).rows (p + 1)) (f.lawful.in_order x (p + 1)))
+    ∙ carried_same true p (log_of w (p + 1)) (row_at (member_at w x) (p + 1)) no_numbers (numbers_at (record { version = k; numbers = next_lines true (member_at w x).rows [] }) (p + 1)) (first_lines (member_at w x).rows (p + 1)) (f.lawful.in_order x (p + 1)))
 
 -- ---- one of the two ways to look
 
@@ -73,25 +69,25 @@ when_true false A e a = absurd (false≢true e)
 -- what a member holds for which no link waits
 pub held_whole : (initial : ℕ) (w : World) (q : Parties) (x : ℕ) → 1 ≤ x → x < size w → Stand initial w q → filter (waits_at x) q.post ≡ [] → (node_at q (x - 1)).held ≡ held_in w x
 held_whole initial w q x a l st none =
-    whole_held w st.places x (node_at q (x - 1)) (st.stand.each x a l) (none_waits w q st.places x st.stand.post none)
+    whole_held w st.places x (node_at q (x - 1)) (st.stand.each x a l) (none_waits initial w q x st none)
 
-pub looks_stand : (initial : ℕ) (u : World) (x v : ℕ) (q q' : Parties) (loose : Option (LinkName × OutSeen)) → IsLooking initial u x v → Stand initial u q → filter (waits_at x) q.post ≡ [] → LooksAt (view_at u v) (x - 1) q q' loose → StandBetween initial (refreshed u x v) q' loose
-looks_stand initial u x v q q' loose k st none (b, new, how, is) = subst (λ t. StandBetween initial (refreshed u x v) t loose) (sym is) (by_out (sends_right u x v) refl (subst (λ (h : Held). sends_of h ≡ sends_right u x v) (sym (held_whole initial u q x k.some k.may.is_member st none)) refl))
+pub looks_stand : (initial : ℕ) (u : World) (x v : ℕ) (q q' : Parties) (loose : Option (LinkName × OutSeen)) → IsLooking initial u x v → Stand initial u q → filter (waits_at x) q.post ≡ [] → LooksAt (view_at u v) (x - 1) q q' loose → StandMoved initial x (refreshed u x v) q' loose
+looks_stand initial u x v q q' loose k st none (b, new, how, is) = subst (λ t. StandMoved initial x (refreshed u x v) t loose) (sym is) (by_out (sends_right u x v) refl (subst (λ (h : Held). sends_of h ≡ sends_right u x v) (sym (held_whole initial u q x k.some k.may.is_member st none)) refl))
   where
     sends_of : Held → Bool
     sends_of h = sends_to h.out (right_of (view_at u v) h.id)
 
-    by_out : (c : Bool) → sends_right u x v ≡ c → sends_of (node_at q (x - 1)).held ≡ sends_right u x v → StandBetween initial (refreshed u x v) (posting new (with_node q (x - 1) b)) loose
+    by_out : (c : Bool) → sends_right u x v ≡ c → sends_of (node_at q (x - 1)).held ≡ sends_right u x v → StandMoved initial x (refreshed u x v) (posting new (with_node q (x - 1) b)) loose
     by_out true e s =
         let w : (b ≡ record { held = refreshed_held (node_at q (x - 1)).held (view_at u v); ends = looked_ends (view_at u v) (node_at q (x - 1)) }) × (new ≡ None) × (loose ≡ None) = when_true (sends_of (node_at q (x - 1)).held) _ (s ∙ e) how.0 in
-        subst (λ n. StandBetween initial (refreshed u x v) (posting n (with_node q (x - 1) b)) loose) (sym w.1)
-        (subst (StandBetween initial (refreshed u x v) (with_node q (x - 1) b)) (sym w.2) (looks_on initial u x v q b k e st none w.0))
+        subst (λ n. StandMoved initial x (refreshed u x v) (posting n (with_node q (x - 1) b)) loose) (sym w.1)
+        (subst (StandMoved initial x (refreshed u x v) (with_node q (x - 1) b)) (sym w.2) (looks_on initial u x v q b k e st none w.0))
     by_out false e s =
         let w : (b ≡ record { held = refreshed_held (node_at q (x - 1)).held (view_at u v); ends = record (looked_ends (view_at u v) (node_at q (x - 1))) { out = Some (opened_out (node_at q (x - 1)).held.initial (first_sent (node_at q (x - 1)) (view_at u v))) } })
         × (new ≡ Some (record { name = ring_link (node_at q (x - 1)).held.id (right_of (view_at u v) (node_at q (x - 1)).held.id) (view_at u v).version; end = Some (fresh_in (node_at q (x - 1)).held.initial) }))
         × Loosens (node_at q (x - 1)).held.id (node_at q (x - 1)).held.out (node_at q (x - 1)).ends.out loose
         = when_true (not (sends_of (node_at q (x - 1)).held)) _ (ap not (s ∙ e)) how.1 in
-        subst (λ n. StandBetween initial (refreshed u x v) (posting n (with_node q (x - 1) b)) loose) (sym w.1) (opens_on initial u x v q b _ loose k e st none w.0 refl w.2)
+        subst (λ n. StandMoved initial x (refreshed u x v) (posting n (with_node q (x - 1) b)) loose) (sym w.1) (opens_on initial u x v q b _ loose k e st none w.0 refl w.2)
 
 -- ---- a refresh
 
@@ -121,11 +117,11 @@ view_is : (w : World) (q : Parties) (v : ℕ) → w.views ≡ no_group ∷ q.vie
 view_is w q v e = ap (λ vs. get_or vs v no_group) (sym e)
 
 pub refresh_between : (credit : CreditSpec) (w : World) (q q' : Parties) (i d v : ℕ) (by : List ℕ) (loose : Option (LinkName × OutSeen)) → IsLawfulAt credit w → IsLawfulAt credit (effect w (Refresh by v)) → refusal w (Refresh by v) ≡ None → id_of w by ≡ Some (i + 1)
-    → Stand credit.initial w q → filter (waits_at (i + 1)) q.post ≡ [] → Acts (Refresh by v) i d q q' loose → StandBetween credit.initial (effect w (Refresh by v)) q' loose
+    → Stand credit.initial w q → filter (waits_at (i + 1)) q.post ≡ [] → Acts (Refresh by v) i d q q' loose → StandMoved credit.initial (i + 1) (effect w (Refresh by v)) q' loose
 refresh_between credit w q q' i d v by loose g g' r named st none acts =
     let back : i + 1 - 1 ≡ i = omega arith in
     let at : LooksAt (view_at w v) (i + 1 - 1) q q' loose = subst (λ k. LooksAt (view_at w v) k q q' loose) (sym back) (subst (λ t. LooksAt t i q q' loose) (view_is w q v st.stand.views) acts) in
-    subst (λ u. StandBetween credit.initial u q' loose) (sym (refresh_is w (i + 1) v by named)) (looks_stand credit.initial w (i + 1) v q q' loose (refresh_looking credit w (i + 1) v by g g' named r) st none at)
+    subst (λ u. StandMoved credit.initial (i + 1) u q' loose) (sym (refresh_is w (i + 1) v by named)) (looks_stand credit.initial w (i + 1) v q q' loose (refresh_looking credit w (i + 1) v by g g' named r) st none at)
 
 -- ---- a view is added
 
@@ -202,7 +198,7 @@ pub newest_is : (w : World) (q : Parties) → w.views ≡ no_group ∷ q.views �
 newest_is w q e = let many : length q.views ≡ newest w = omega (arith, ap length e) in ap (since.view_at q.views) many ∙ view_is w q (newest w) e
 
 pub mark_between : (credit : CreditSpec) (w : World) (q q' : Parties) (i d : ℕ) (by dead : List ℕ) (loose : Option (LinkName × OutSeen)) → IsLawfulAt credit w → IsLawfulAt credit (effect w (Mark by dead)) → refusal w (Mark by dead) ≡ None → id_of w by ≡ Some (i + 1) → id_of w dead ≡ Some d
-    → Stand credit.initial w q → filter (waits_at (i + 1)) q.post ≡ [] → Acts (Mark by dead) i d q q' loose → StandBetween credit.initial (effect w (Mark by dead)) q' loose
+    → Stand credit.initial w q → filter (waits_at (i + 1)) q.post ≡ [] → Acts (Mark by dead) i d q q' loose → StandMoved credit.initial (i + 1) (effect w (Mark by dead)) q' loose
 mark_between credit w q q' i d by dead loose g g' r named there st none acts =
     let back : i + 1 - 1 ≡ i = omega arith in
     let u : World = mark_world w d in
@@ -210,6 +206,6 @@ mark_between credit w q q' i d by dead loose g g' r named there st none acts =
     let is : marked (newest_of q) d ≡ mark_view w d = ap (λ t. marked t d) (newest_is w q st.stand.views) in
     let acts' : LooksAt (mark_view w d) i (viewing (mark_view w d) q) q' loose = subst (λ t. LooksAt t i (viewing t q) q' loose) is acts in
     let at : LooksAt (view_at u v) (i + 1 - 1) (viewing (mark_view w d) q) q' loose = subst (λ k. LooksAt (view_at u v) k (viewing (mark_view w d) q) q' loose) (sym back) (subst (λ t. LooksAt t i (viewing (mark_view w d) q) q' loose) (sym (mark_newest w d g.fit.good)) acts') in
-    subst (λ t. StandBetween credit.initial t q' loose) (sym (mark_is w (i + 1) d by dead named there))
+    subst (λ t. StandMoved credit.initial (i + 1) t q' loose) (sym (mark_is w (i + 1) d by dead named there))
     (looks_stand credit.initial u (i + 1) v (viewing (mark_view w d) q) q' loose (mark_looking credit w (i + 1) d by dead g g' named there r)
     (view_stands credit.initial w (mark_view w d) q g.fit.good g.fit.own_ends st) none at)

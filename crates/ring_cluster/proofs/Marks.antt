@@ -1,7 +1,7 @@
 -- In an idle ring in which nobody can have its right neighbour marked dead, who is live runs; and it is quiet where no entry is dead.
 use Rattle.std.proofs.Common.{◌≡◌, ◌≢◌, ◌⊎◌, inl, inr, ℕ, zero, suc, ◌+◌, ◌-◌, ◌<◌, ◌≤◌, Bool, true, false, not, nat_eq, List, get_or, Some, None, is_some, refl, sym, ap, subst, ◌∙◌, ⊎_elim, arith}
 use Rattle.std.specs.Prelude.{◌&&◌, ◌||◌, All}
-use Rattle.std.proofs.lemmas.Bool.{false≢true, cases_lt, cases_eq, or_right}
+use Rattle.std.proofs.lemmas.Bool.{false≢true, true_from_ne_false, cases_lt, cases_eq, or_right}
 use Rattle.ring_names.specs.declared.numbers.CreditSpec.{CreditSpec}
 use Rattle.ring_names.specs.declared.reason.Reason.{Reason}
 use Rattle.ring_names.specs.declared.reason.Reason.TheVariants as reason
@@ -11,24 +11,25 @@ use Rattle.group_view.specs.Ring.{is_in, left_in}
 use Rattle.group_view.specs.View.{is_live_mark}
 use Rattle.group_view.specs.Change.{AreOpeningNames}
 use Rattle.group_view.proofs.Rings.{nat_eq-is, nat_eq-same}
-use Rattle.group_view.proofs.Neighbours.{right_of_left}
-use Rattle.group_view.proofs.Passing.{live_in}
+use Rattle.group_view.proofs.Marks.{left_is as left_of_entry}
+use Rattle.group_view.proofs.Passing.{live_in, are_mutual}
 use Rattle.ring_world.specs.declared.event.Event.{Event}
 use Rattle.ring_world.specs.declared.phase.Phase.{Phase}
-use Rattle.ring_world.specs.declared.phase.Phase.TheVariants.{Waiting, Up, Stopped}
+use Rattle.ring_world.specs.declared.event.Event.TheVariants.{Mark}
 use Rattle.ring_world.specs.Refusal.{refuse_if, or_else}
 use Rattle.ring_world.specs.View.{is_live, right_of}
 use Rattle.ring_world.specs.Machine.{World, member_at, view_at, newest, ring, left, right, runs, runs_phase}
 use Rattle.ring_world.specs.Step.{size, opening}
-use Rattle.ring_world.specs.Event.{id_of, is_stopped, of_member, up_refusal, left_neighbour, is_neighbour, is_still_taken, at_door, mark_refusal, IsRun, last}
+use Rattle.ring_world.specs.Event.{id_of, is_stopped, left_neighbour, is_neighbour, is_still_taken, at_door, mark_refusal, IsRun, last}
 use Rattle.ring_world.specs.Quiet.{IsSettled, IsQuiet}
 use Rattle.ring_world.proofs.Period.{right_lives}
+use Rattle.ring_world.proofs.Refusals.{runs_from}
 use Rattle.ring_world.proofs.Views.{left_is, right_is}
 use Rattle.ring_world.proofs.Ended.{runs_lt}
 use Rattle.ring_world.proofs.Opening.{range_in}
 use Rattle.ring_cluster.specs.Idle.{IsIdle, MarksNobody}
 use Rattle.ring_cluster.proofs.Round.{round}
-use Rattle.ring_cluster.proofs.Asked.{found_refused, up_refused}
+use Rattle.ring_cluster.proofs.Asked.{found_refused, further_refused}
 use Rattle.ring_cluster.proofs.Reached.{IsReached, reached}
 use Rattle.ring_cluster.proofs.Links.{up_there, some_id, stands_there, lives_there, no_current, no_door}
 use Rattle.ring_cluster.proofs.Rest.{entry_at, idle_rests}
@@ -39,9 +40,7 @@ none_fails a b c d r1 r2 r3 r4 ea eb ec ed = rw (ea, eb, ec, ed) refl
 
 -- who doesn't run has stopped
 has_stopped : (f : Phase) → runs_phase f ≡ false → is_stopped f ≡ true
-has_stopped Waiting e = absurd (false≢true (sym e))
-has_stopped Up e = absurd (false≢true (sym e))
-has_stopped Stopped e = refl
+has_stopped f rests = true_from_ne_false (is_stopped f) (λ e. false≢true (sym rests ∙ runs_from f e))
 
 -- ---- an idle ring in which nobody can be marked
 module _ (w : World) (h : IsReached w) (idle : IsIdle w) (marks : MarksNobody w) where
@@ -71,8 +70,7 @@ module _ (w : World) (h : IsReached w) (idle : IsIdle w) (marks : MarksNobody w)
       asked : mark_refusal w x d ≢ None
       asked =
           found_refused (id_of w (member_at w d).name) d (mark_refusal w x) named
-          (up_refused w x (of_member (id_of w (member_at w d).name) (mark_refusal w x)) h.fit.good (up_there w h idle x rx)
-          (found_refused (id_of w (member_at w x).name) x (λ k. up_refusal w k (of_member (id_of w (member_at w d).name) (mark_refusal w k))) (h.fit.named x (some_id w h idle x rx) (runs_lt w x rx)) (marks x rx)))
+          (further_refused w x (Mark (member_at w x).name (member_at w d).name) h.fit.good (h.fit.named x (some_id w h idle x rx) (runs_lt w x rx)) (up_there w h idle x rx) (marks x rx))
 
       beside : is_neighbour w x d ≡ true
       beside =
@@ -102,7 +100,8 @@ module _ (w : World) (h : IsReached w) (idle : IsIdle w) (marks : MarksNobody w)
       round (is_live v) p (ring w) (h.fit.good.inv.is_ring.distinct (newest w) (omega arith)) (stands_there w h idle p rp) (lives_there w h idle p rp) (λ y. runs w y ≡ true) rp
       (λ y iy ly ne rl.
       let x : ℕ = left_in (is_live v) y (ring w) in
-      let is : right w (newest w) x ≡ y = right_is w (newest w) x v refl ∙ right_of_left (is_live v) x y (ring w) (h.fit.good.inv.is_ring.distinct (newest w) (omega arith)) iy ly refl in
+      let is : right w (newest w) x ≡ y =
+      right_is w (newest w) x v refl ∙ ap (right_of v) (sym (left_of_entry v.entries y iy)) ∙ (are_mutual v.entries y (h.fit.good.inv.is_ring.distinct (newest w) (omega arith)) ly).right_of_left in
       subst (λ q. runs w q ≡ true) is (right_runs x rl))
       z (live_in v.entries z lz) lz
 

@@ -1,5 +1,5 @@
 -- The members of a cluster by their names, and what they may do.
-use Rattle.std.proofs.Common.{◌≡◌, ℕ, suc, ◌+◌, ◌-◌, ◌<◌, ◌≤◌, true, false, List, [], ◌∷◌, ◌++◌, length, map, get_or, Option, Some, None, refl, sym, ap, subst, ◌∙◌, arith}
+use Rattle.std.proofs.Common.{◌≡◌, ℕ, suc, ◌+◌, ◌-◌, ◌<◌, ◌≤◌, true, false, List, [], ◌∷◌, length, map, get_or, Option, Some, None, refl, sym, ap, subst, ◌∙◌, arith}
 use Rattle.std.specs.Prelude.{MatchOption}
 use Rattle.std.proofs.lemmas.Bool.{false≢true, le-ltb}
 use Rattle.std.proofs.lemmas.List.{length-map, get_or-map}
@@ -14,7 +14,7 @@ use Rattle.ring_world.specs.declared.phase.Phase.TheVariants.{Waiting, Up, Stopp
 use Rattle.ring_world.specs.Refusal.{refuse_if, or_else}
 use Rattle.ring_world.specs.Machine.{Member, World, no_member, member_at, newest, runs, runs_phase, is_waiting}
 use Rattle.ring_world.specs.Step.{size, opening}
-use Rattle.ring_world.specs.Event.{id_of, of_member, is_stopped, up_refusal, refresh_refusal, refusal, effect, IsRun, last}
+use Rattle.ring_world.specs.Event.{id_of, of_member, is_stopped, up_refusal, refresh_refusal, refusal, IsRun}
 use Rattle.ring_world.proofs.Cases.{up_of}
 use Rattle.gm_member.proofs.Names.{NamesAre, reached_names}
 use Rattle.gm_member.proofs.Fit.{IsFit, reached_fit}
@@ -35,12 +35,6 @@ use Rattle.ring_cluster.proofs.MarkFalls.{mark_lowers}
 -- what holds of a value that is there
 pub from_some : {A : Type 0} (P : Type 0) (Q : A → Type 0) (o : Option A) (x : A) → o ≡ Some x → MatchOption o P Q → Q x
 from_some P Q o x e h = subst (λ k. MatchOption k P Q) e h
-
--- ---- a run and one event more
-
-pub last_push : (w : World) (es : List Event) (e : Event) → last w (es ++ e ∷ []) ≡ effect (last w es) e
-last_push w [] e = refl
-last_push w (f ∷ es) e = last_push (effect w f) es e
 
 -- ---- names and sizes
 

@@ -7,7 +7,7 @@ use Rattle.ring_world.specs.Machine.{World, member_at, link_at, newest, runs}
 use Rattle.ring_world.specs.OpenLinks.{version_of, passes, is_current, is_door_link, is_place}
 use Rattle.ring_world.proofs.Rounds.{nat_eq-same}
 use Rattle.ring_world.proofs.Good.{kept_true, out_stays}
-use Rattle.gm_member.proofs.Doors.{opened_right, comes_is}
+use Rattle.ring_world.proofs.FromLeft.{opened_right, comes_is}
 use Rattle.ring_cluster.specs.Standing.{has_in, has_out}
 use Rattle.ring_cluster.proofs.Lawful.{IsLawfulAt}
 

@@ -23,5 +23,7 @@ pub at_place : (P : Shown → Shown → Type 0) (xs : List ANode) (i : ℕ) (d y
 at_place P xs i d y l h =
     subst (λ a. P a (shown_at (set xs i y) i)) (sym (get_or-map shown_of xs i d no_shown l)) (subst (P (shown_of (get_or xs i d))) (sym (new_shown xs i y l)) h)
 
--- what a read of a member shows, and a write
-pub ruleset nodes = (read_shown, same_shown, written_shown, new_shown)
+-- the same, of a member that was read there
+pub at_read : (P : Shown → Shown → Type 0) (xs : List ANode) (i : ℕ) (x y : ANode) → i < length xs → x ≡ get_or xs i x → P (shown_of x) (shown_of y)
+    → P (shown_at xs i) (shown_at (set xs i y) i)
+at_read P xs i x y l e h = at_place P xs i x y l (subst (λ z. P (shown_of z) (shown_of y)) e h)

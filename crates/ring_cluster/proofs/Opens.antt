@@ -8,20 +8,20 @@ use Rattle.std.proofs.lemmas.List.Elements.{filter-append}
 use Rattle.std.proofs.lemmas.Option.{none-some}
 use Rattle.group_view.specs.declared.link.LinkName.{LinkName}
 use Rattle.group_view.specs.Ring.{is_in}
-use Rattle.group_view.proofs.Rings.{is_in-append, nat_eq-same, nat_eq-not}
+use Rattle.group_view.proofs.Rings.{is_in-append, nat_eq-same, nat_eq-not, head_differs}
 use Rattle.group_view.proofs.Neighbours.{filter_agree_in}
 use Rattle.ring_world.specs.declared.phase.Ending.{Ending}
 use Rattle.ring_world.specs.declared.phase.Ending.TheVariants.{Moved}
 use Rattle.ring_world.specs.View.{right_of}
 use Rattle.ring_world.specs.Machine.{World, Member, Link, no_link, no_sending, member_at, link_at, view_at, runs_phase, is_kept}
 use Rattle.ring_world.specs.OpenLinks.{is_place, version_of}
-use Rattle.ring_world.specs.Step.{size, next_packet, moved_to, kept_current, ended, end_out}
+use Rattle.ring_world.specs.Step.{size, next_packet, moved_to, ended, end_out}
 use Rattle.ring_world.specs.Event.{refreshed, is_stopped}
 use Rattle.ring_world.proofs.WhatRefuses.{MayLook}
 use Rattle.ring_world.proofs.Rounds.{nat_eq-is}
 use Rattle.ring_world.proofs.Happens.{IsGood}
 use Rattle.ring_world.proofs.OpenWalk.{place_is}
-use Rattle.registrar.proofs.Members.{same_refreshed}
+use Rattle.registrar.proofs.Members.{told_refreshed, stopped_same}
 use Rattle.gm_member.specs.Held.{Held, refreshed_held, fresh_out as unsent_on, lines_on, parcel_on}
 use Rattle.gm_member.specs.View.{ring_link}
 use Rattle.gm_member.specs.Stands.{outgoing_in, waits_for, door_links, held_in, lines_in}
@@ -31,21 +31,22 @@ use Rattle.gm_member.proofs.DoorParts.{waits_by, member_same, member_other}
 use Rattle.gm_member.proofs.OpenDoors.{sends_right, new_link, sending_member, opened_world, old_links, refresh_opens, old_many, link_old, link_new, links_more, incoming_old, waits_old, waits_new}
 use Rattle.gm_member.proofs.OthersStand.{refresh_others}
 use Rattle.gm_member.proofs.OwnEnds.{OwnEnds}
-use Rattle.gm_member.proofs.RefreshStands.{current_lt, door_stays, refresh_stands}
-use Rattle.ring_cluster.specs.Ends.{OutSeen, InSeen, Sent, Carries, HasRested, packet_in, end_items, opened_out, fresh_in}
+use Rattle.gm_member.proofs.RefreshStands.{current_lt, kept_lt, door_stays, refresh_stands}
+use Rattle.ring_cluster.specs.Ends.{OutSeen, InSeen, Sent, Carries, HasRested, packet_in, end_items, opened_out, fresh_in, HaveMet}
 use Rattle.ring_cluster.specs.Parties.{Shown, Posted, Parties, node_at, with_node}
-use Rattle.ring_cluster.specs.Standing.{Places, MemberStands, Stand, HaveDone, DroppedHaveMet, SendersKnow, name_of, is_to, has_out, has_in}
-use Rattle.ring_cluster.specs.Loose.{LooseFits, StandBetween}
+use Rattle.ring_cluster.specs.Standing.{Places, MemberStands, Stand, HaveDone, SendersKnow, name_of, is_to, has_out, has_in}
+use Rattle.ring_cluster.specs.Loose.{LooseFits, DroppedHaveMet, OthersHaveMet, StandMoved, moved_by, sender_to}
 use Rattle.ring_cluster.specs.Acting.{EndsOut, Loosens, name_out, looked_ends, first_sent, sent_of, waits_at}
 use Rattle.ring_cluster.proofs.Writing.{placed, placed_same, placed_other, map_agree}
 use Rattle.ring_cluster.proofs.Placing.{name_is_unique}
-use Rattle.ring_cluster.proofs.Showing.{stands_of, each_set}
+use Rattle.ring_cluster.proofs.Showing.{each_set}
 use Rattle.ring_cluster.proofs.Meetings.{waiting_at}
 use Rattle.ring_cluster.proofs.Joining.{first_same}
 use Rattle.ring_cluster.proofs.Known.{Knows, all_know}
 use Rattle.ring_cluster.proofs.Frames.{same_lines, carries_logs, opened_carries}
 use Rattle.ring_cluster.proofs.Lookers.{filter_both, whole_held, looker, beholder}
 use Rattle.ring_cluster.proofs.Refreshing.{IsLooking, AfterLook, keeps_it, look_has, logs_set, none_waits}
+use Rattle.ring_cluster.proofs.OneEvent.{met_both}
 
 -- ---- lists
 
@@ -78,15 +79,6 @@ link_was u x v s ne l = get_or_append_left (old_links u x) (new_link u x v ∷ [
     by_out : (c : Option ℕ) → (member_at u x).out ≡ c → get_or (end_out Moved u c).links s no_link ≡ link_at u s
     by_out None e = refl
     by_out (Some o) e = get_or-set_other u.links o s (ended Moved (link_at u o)) no_link (λ (same : s ≡ o). ne (e ∙ ap Some (sym same)))
-
--- whatever stays of a current link is no later one
-kept_lt : (n : ℕ) (kept : ℕ → Bool) (c : Option ℕ) → is_place c n ≡ false → is_place (kept_current kept c) n ≡ false
-kept_lt n kept None e = refl
-kept_lt n kept (Some s) e = by_test (kept s)
-  where
-    by_test : (b : Bool) → is_place (cond b (Some s) None) n ≡ false
-    by_test true = e
-    by_test false = refl
 
 -- ---- its old out end
 
@@ -196,22 +188,24 @@ pub opens_on : (initial : ℕ) (u : World) (x v : ℕ) (q : Parties) (b : Shown)
     → b ≡ record { held = refreshed_held (node_at q (x - 1)).held (view_at u v); ends = record (looked_ends (view_at u v) (node_at q (x - 1))) { out = Some (opened_out (node_at q (x - 1)).held.initial (first_sent (node_at q (x - 1)) (view_at u v))) } }
     → new ≡ record { name = ring_link (node_at q (x - 1)).held.id (right_of (view_at u v) (node_at q (x - 1)).held.id) (view_at u v).version; end = Some (fresh_in (node_at q (x - 1)).held.initial) }
     → Loosens (node_at q (x - 1)).held.id (node_at q (x - 1)).held.out (node_at q (x - 1)).ends.out loose
-    → StandBetween initial (refreshed u x v) (record (with_node q (x - 1) b) { post = q.post ++ new ∷ [] }) loose
-opens_on initial u x v q b new loose k e st none eb en el = subst (λ w. StandBetween initial w (record (with_node q (x - 1) b) { post = q.post ++ new ∷ [] }) loose) (sym is_opened) (record {
+    → StandMoved initial x (refreshed u x v) (record (with_node q (x - 1) b) { post = q.post ++ new ∷ [] }) loose
+opens_on initial u x v q b new loose k e st none eb en el = subst (λ w. StandMoved initial x w (record (with_node q (x - 1) b) { post = q.post ++ new ∷ [] }) loose) (sym is_opened) (record {
   places = p';
-  stand = stands_of initial u' (record (with_node q (x - 1) b) { post = q.post ++ new ∷ [] }) p' (record {
+  stand = record {
     count = (let same : length (set q.nodes (x - 1) b) ≡ length q.nodes = length-set q.nodes (x - 1) b in omega (arith, same, many, st.stand.count));
     each = λ z c m. each_set u u' q p p' x b st.stand.count k.some k.may.is_member mine other z c (omega (arith, m, many));
     views = st.stand.views;
-    stopped = λ z c m. st.stand.stopped z c (omega (arith, m, many)) ∙ sym (sym (ap (λ w. is_stopped (member_at w z).phase) is_opened) ∙ (same_refreshed u x v).stopped z);
+    stopped = λ z c m. st.stand.stopped z c (omega (arith, m, many)) ∙ sym (sym (ap (λ w. is_stopped (member_at w z).phase) is_opened) ∙ stopped_same u (refreshed u x v) z (told_refreshed u x v));
     post = ap (λ xs. xs ++ new ∷ []) (st.stand.post ∙ sym posts) ∙ ap (λ d. map (waiting_at u' p') p.post ++ d ∷ []) new_is ∙ sym (map-append (waiting_at u' p') p.post (n ∷ []));
     within = λ s i. ⊎_elim
         (λ (j : is_in s p.post ≡ true). let l : s < n = st.stand.within s j in omega (arith, l, more))
         (λ (j : s ≡ n). omega (arith, j, more))
         (in_push s n p.post i);
-  }) carries;
+    carry = carries;
+  };
   dropped = dropped;
   fits = fits;
+  met = met;
   known = known;
 })
   where
@@ -242,11 +236,8 @@ opens_on initial u x v q b new loose k e st none eb en el = subst (λ w. StandBe
     more : length u'.links ≡ n + 1
     more = links_more u x v
 
-    waits_none : filter (is_to u x) p.post ≡ []
-    waits_none = none_waits u q p x st.stand.post none
-
     held_at : a.held ≡ held_in u x
-    held_at = whole_held u p x a h waits_none
+    held_at = whole_held u p x a h (none_waits initial u q x st none)
 
     old : (outs : ℕ → OutSeen) × OldEnds u x p loose outs
     old = old_ends u x p loose k.own
@@ -304,7 +295,7 @@ opens_on initial u x v q b new loose k e st none eb en el = subst (λ w. StandBe
     no_current = current_lt u x n (member_at u x).current (λ s i. (k.own.current x s i).0)
 
     mine : MemberStands u' p' x b
-    mine = looker u u' p p' x v a b (Some o_new) k.may k.good h waits_none
+    mine = looker u u' p p' x v a b (Some o_new) k.may k.good h (none_waits initial u q x st none)
         (ap (λ (m : Shown). m.held) eb) (ap (λ (m : Shown). m.ends) eb)
         (sym (ap (option_map p'.outs) out_here ∙ ap Some (placed_same outs n o_new)))
         after.current_here
@@ -315,7 +306,7 @@ opens_on initial u x v q b new loose k e st none eb en el = subst (λ w. StandBe
         (ap (λ (m : Member). waits_by u' x m.current m.version n) here ∙ waits_new u x v x (sending_member u x v n).current v k.may k.good k.may.upto (kept_lt n (λ s. is_kept u (link_at u s) v) (member_at u x).current no_current))
         (λ s l. after.waits_here s l)
         ∙ ap (λ xs. xs ++ cond (nat_eq (right_of (view_at u v) x) x) (n ∷ []) []) (sym (filter_both (waits_for u x) (keeps_it u x v) (range_with_len 0 n)))
-        ∙ ap (λ ys. filter (keeps_it u x v) (door_links u x) ++ (ys ++ cond (nat_eq (right_of (view_at u v) x) x) (n ∷ []) [])) (sym waits_none)
+        ∙ ap (λ ys. filter (keeps_it u x v) (door_links u x) ++ (ys ++ cond (nat_eq (right_of (view_at u v) x) x) (n ∷ []) [])) (sym (none_waits initial u q x st none))
         ∙ ap (λ ys. filter (keeps_it u x v) (door_links u x) ++ ys) (sym (post_opens u x v x p.post st.stand.within)))
 
     other : (z : ℕ) → 1 ≤ z → z < size u → z ≢ x → MemberStands u' p' z (node_at q (z - 1))
@@ -399,13 +390,27 @@ opens_on initial u x v q b new loose k e st none eb en el = subst (λ w. StandBe
             let rested : HasRested (p.outs s) (p.ins s) = subst (λ c. HaveDone c (p.outs s) (p.ins s)) (had_none lt j) (st.met s lt (look_has u u' x v s k.own after lt i)) in
             inl (subst (λ t. HasRested t (p'.ins s)) (sym (outs_old s lt ∙ old.1.same s no)) (subst (HasRested (p.outs s)) (sym (ins_old s lt)) rested))
 
-    -- of an old link with its out end, which isn't that on which x sent
+    -- an old link with its out end isn't that on which x sent, and had it before
+    others_old : (s : ℕ) → s < n → has_out u' s ≡ true → ((member_at u x).out ≡ Some s → ⊥) × (has_out u s ≡ true)
+    others_old s l o =
+        let ne : (link_at u s).sender ≢ x = λ (same : (link_at u s).sender ≡ x). false≢true (sym (has_none s l same) ∙ o) in (
+          λ t. ne (k.own.out x s t).1,
+          sym (ap (λ y. is_place (member_at u' y).out s) (after.sender s l) ∙ ap (λ c. is_place c s) (after.out_other (link_at u s).sender ne)) ∙ o,
+        )
+
+    met : OthersHaveMet u' p' (moved_by x u')
+    met s l i o apart = ⊎_elim
+        (λ (lt : s < n).
+        let was = others_old s lt o in
+        subst (HaveMet (p'.outs s)) (sym (ins_old s lt)) (subst (λ t. HaveMet t (p.ins s)) (sym (outs_old s lt ∙ old.1.same s was.0))
+        (met_both (has_out u s) (p.outs s) (p.ins s) was.1 (st.met s lt (look_has u u' x v s k.own after lt i)))))
+        (λ (ge : n ≤ s). let is : s ≡ n = omega (arith, l, more) in absurd (head_differs (link_at u' s).sender x (sender_to x u') apart (sym (ap (λ t. (link_at u' t).sender) is ∙ ap (λ (t : Link). t.sender) (link_new u x v)))))
+        (cases_lt s n)
+
     known_old : (s : ℕ) → s < n → has_out u' s ≡ true → Knows u' p' s
     known_old s l o =
-        let ne : (link_at u s).sender ≢ x = λ (same : (link_at u s).sender ≡ x). false≢true (sym (has_none s l same) ∙ o) in
-        let no : (member_at u x).out ≡ Some s → ⊥ = λ t. ne (k.own.out x s t).1 in
-        let had : has_out u s ≡ true = sym (ap (λ y. is_place (member_at u' y).out s) (after.sender s l) ∙ ap (λ c. is_place c s) (after.out_other (link_at u s).sender ne)) ∙ o in
-        ap (λ (t : OutSeen). t.back) (outs_old s l ∙ old.1.same s no) ∙ all_know initial u q st s l had ∙ ap (λ (t : Link). t.flow.grants) (sym (link_was u x v s no l))
+        let was = others_old s l o in
+        ap (λ (t : OutSeen). t.back) (outs_old s l ∙ old.1.same s was.0) ∙ all_know initial u q st s l was.1 ∙ ap (λ (t : Link). t.flow.grants) (sym (link_was u x v s was.0 l))
 
     -- no grant was given on the new one
     known_new : Knows u' p' n

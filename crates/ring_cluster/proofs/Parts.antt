@@ -1,104 +1,155 @@
--- What single writes do to the parts of what a ring has to do.
-use Rattle.std.proofs.Common.{◌≡◌, ◌≢◌, ℕ, ◌+◌, ◌-◌, ◌*◌, ◌<◌, ◌≤◌, Bool, true, false, not, nat_eq, max, List, length, get_or, Option, Some, None, is_some, if◌then◌else◌, refl, ap, ◌∙◌, arith}
-use Rattle.std.specs.Prelude.{◌&&◌}
+-- What a step of a member does to the parts of what a ring has to do, and that it falls.
+use Rattle.std.proofs.Common.{◌≡◌, ◌≢◌, ℕ, ◌+◌, ◌*◌, ◌<◌, ◌≤◌, List, length, set, get_or, Option, Some, None, if◌then◌else◌, refl, sym, ap, subst, ◌∙◌, ⊎_elim, arith}
 use Rattle.std.specs.List.{list_all, range_with_len}
-use Rattle.ring_world.specs.Rows.{Row, no_row, is_sent}
-use Rattle.ring_world.specs.Machine.{Member, Link, World, no_member, no_link, member_at, link_at, numbers_at, newest}
-use Rattle.ring_world.specs.OpenLinks.{version_of, comes_from_left, passes, is_place, is_current}
+use Rattle.std.proofs.lemmas.Bool.{cases_eq}
+use Rattle.std.proofs.lemmas.List.{length-set, get_or-set_same, get_or-set_other}
+use Rattle.ring_world.specs.Rows.{no_row, is_sent}
+use Rattle.ring_world.specs.Machine.{Member, Link, World, no_link, row_at, member_at, link_at, numbers_at, newest}
 use Rattle.ring_world.specs.Step.{size, log_of}
-use Rattle.ring_world.specs.Event.{has_nothing_new}
-use Rattle.ring_world.specs.Lawful.{row_of}
-use Rattle.ring_cluster.specs.Work.{items, place_by, weight_at, on_links, marks_left, stale_by, stale_at, stale, dirty_on, dirty_at, dirty, lag_at, lag_by, lag, work}
-use Rattle.ring_cluster.proofs.Sums.{sum_le, sum_at}
+use Rattle.ring_world.specs.Event.{has_nothing_new, by_of, further_refusal, done_at, effect, id_of, of_member, is_for_up, refused_at, at_found}
+use Rattle.ring_world.specs.declared.event.Event.{Event}
+use Rattle.ring_world.specs.Laws.{GoesOn}
+use Rattle.ring_world.proofs.Cases.{IsUp, acts}
+use Rattle.gm_member.proofs.Fit.{IsFit}
+use Rattle.ring_cluster.specs.Work.{items, place_at, weight_at, on_links, marks_left, stale_by, stale, dirty_on, dirty_at, dirty, lag_row, lag_at, lag_by, lag, work, sum_below, LeavesLess}
+use Rattle.ring_cluster.proofs.Places.{IsWritten, NoneRises, event_places}
+use Rattle.ring_cluster.proofs.Sums.{sum_le, sum_at, sum_ids}
 
--- ---- the number
+-- ---- amounts
 
--- where the newest view stays, and no more members are stale, it falls as the rest does
-pub less_of : (m m' s s' d d' g g' k k' : ℕ) → m' ≤ m → s' ≤ s → 3 * d' + 3 * g' + k' < 3 * d + 3 * g + k → 585 * m' + 9 * s' + (3 * d' + 3 * g' + k') < 585 * m + 9 * s + (3 * d + 3 * g + k)
-less_of m m' s s' d d' g g' k k' a b c = omega arith
+-- an amount of each part of `work`
+pub record Amount : Type 0 where
+  pub marks : ℕ
+  pub stale : ℕ
+  pub dirty : ℕ
+  pub lag : ℕ
+  pub links : ℕ
 
--- the same of two states
-pub work_less : (w w' : World) → marks_left w' ≤ marks_left w → stale w' ≤ stale w → 3 * dirty w' + 3 * lag w' + on_links w' < 3 * dirty w + 3 * lag w + on_links w → work w' < work w
-work_less w w' a b c = less_of (marks_left w) (marks_left w') (stale w) (stale w') (dirty w) (dirty w') (lag w) (lag w') (on_links w) (on_links w') a b c
+-- as `work` counts it
+abbrev pub worth : Amount → ℕ
+worth a = 585 * a.marks + 9 * a.stale + (3 * a.dirty + 3 * a.lag + a.links)
 
--- ---- the weight of a link
+-- nothing of any
+abbrev pub nothing : Amount
+nothing = record { marks = 0; stale = 0; dirty = 0; lag = 0; links = 0 }
 
--- the place of a link, whatever stands at its place
-abbrev pub place_in : World → ℕ → Link → ℕ
-place_in w t l = place_by l.over (is_current w l.receiver t) (passes w l.receiver l)
+-- where what is taken counts for more than what is added, the whole falls
+less_of : (m m' s s' d d' g g' k k' : ℕ) (less more : Amount) → m' + less.marks ≤ m + more.marks → s' + less.stale ≤ s + more.stale → d' + less.dirty ≤ d + more.dirty → g' + less.lag ≤ g + more.lag → k' + less.links ≤ k + more.links
+    → worth more < worth less → 585 * m' + 9 * s' + (3 * d' + 3 * g' + k') < 585 * m + 9 * s + (3 * d + 3 * g + k)
+less_of m m' s s' d d' g g' k k' less more a b c e i h = omega arith
 
--- and its weight
-abbrev pub weight_in : World → ℕ → Link → ℕ
-weight_in w t l = 2 * items l + place_in w t l + length l.flow.grants
+-- ---- a member is written
 
--- no place is above 2
-pub place_most : (o c d : Bool) → place_by o c d ≤ 2
-place_most true c d = omega arith
-place_most false true d = omega arith
-place_most false false true = omega arith
-place_most false false false = omega arith
+-- the others are as stale as they were
+pub stale_written : (w w' : World) (x : ℕ) (y : Member) (a b : ℕ) → 1 ≤ x → x < size w → newest w' ≡ newest w → IsWritten w w' x y → stale_by (newest w) y + a ≤ stale_by (newest w) (member_at w x) + b → stale w' + a ≤ stale w + b
+stale_written w w' x y a b some lt top k own =
+    sum_ids (size w) (size w') (λ q. stale_by (newest w) (member_at w q)) (λ q. stale_by (newest w') (member_at w' q)) x a b k.many some lt
+    (λ q ne. let same : stale_by (newest w') (member_at w' q) ≡ stale_by (newest w) (member_at w q) = now q ∙ ap (stale_by (newest w)) (k.others q ne) in omega (arith, same))
+    (subst (λ n. n + a ≤ stale_by (newest w) (member_at w x) + b) (sym (now x ∙ ap (stale_by (newest w)) k.here)) own)
+  where
+    now : (q : ℕ) → stale_by (newest w') (member_at w' q) ≡ stale_by (newest w) (member_at w' q)
+    now q = ap (λ v. stale_by v (member_at w' q)) top
 
--- it reads of the members whether the receiver takes from the link, and the version of the receiver's view
-pub members_place : (w : World) (ms : List Member) (ls : List Link) (t : ℕ) (l : Link) → is_place (get_or ms l.receiver no_member).current t ≡ is_current w l.receiver t → (get_or ms l.receiver no_member).version ≡ version_of w l.receiver → place_in (record w { members = ms; links = ls }) t l ≡ place_in w t l
-members_place w ms ls t l e v =
-    ap (λ b. place_by l.over b (comes_from_left w l.receiver l (max (get_or ms l.receiver no_member).version l.opened))) e
-    ∙ ap (λ n. place_by l.over (is_current w l.receiver t) (comes_from_left w l.receiver l (max n l.opened))) v
+-- ---- a link is written
 
--- so the weight of a link that isn't written stays where they do
-pub members_weigh : (w : World) (ms : List Member) (ls : List Link) (t : ℕ) → get_or ls t no_link ≡ link_at w t → is_place (get_or ms (link_at w t).receiver no_member).current t ≡ is_current w (link_at w t).receiver t → (get_or ms (link_at w t).receiver no_member).version ≡ version_of w (link_at w t).receiver → weight_at (record w { members = ms; links = ls }) t ≡ weight_at w t
-members_weigh w ms ls t same e v =
-    ap (weight_in (record w { members = ms; links = ls }) t) same
-    ∙ ap (λ p. 2 * items (link_at w t) + p + length (link_at w t).flow.grants) (members_place w ms ls t (link_at w t) e v)
+-- what a member has to send goes by its rows and the sending side of its link
+pub dirty_same : (n : ℕ) (w w' : World) (y y' : Member) (o : Option ℕ) → y'.rows ≡ y.rows → ((k : ℕ) → o ≡ Some k → (link_at w' k).sending ≡ (link_at w k).sending) → dirty_on n w' y' o ≡ dirty_on n w y o
+dirty_same n w w' y y' None e h = refl
+dirty_same n w w' y y' (Some k) e h =
+    ap (λ rs. if list_all (λ p. is_sent (get_or rs p no_row) (numbers_at (link_at w' k).sending.sent p)) (range_with_len 0 n) then 0 else 1) e
+    ∙ ap (λ s. if has_nothing_new n y s then 0 else 1) (h k refl)
 
--- what the weight of one link changes by
-pub links_at : (w w' : World) (s a b : ℕ) → length w'.links ≡ length w.links → s < length w.links → ((t : ℕ) → t < length w.links → t ≢ s → weight_at w' t ≤ weight_at w t) → weight_at w' s + a ≤ weight_at w s + b → on_links w' + a ≤ on_links w + b
-links_at w w' s a b many l h here = sum_at (length w.links) (length w'.links) (weight_at w) (weight_at w') s a b many l h here
+-- what lies on the links changes by one link, where the others stay, and none rises from its place
+pub links_written : (w w' : World) (s : ℕ) (l : Link) (a b : ℕ) → s < length w.links → length w'.links ≡ length w.links → link_at w' s ≡ l → ((t : ℕ) → t ≢ s → link_at w' t ≡ link_at w t) → NoneRises w w'
+    → (2 * items l + place_at w' s + length l.flow.grants) + a ≤ weight_at w s + b → on_links w' + a ≤ on_links w + b
+links_written w w' s l a b there many here others places own =
+    sum_at (length w.links) (length w'.links) (weight_at w) (weight_at w') s a b many there
+    (λ t tl ne. subst (λ (k : Link). 2 * items k + place_at w' t + length k.flow.grants ≤ weight_at w t) (sym (others t ne))
+    (falls (items (link_at w t)) (place_at w' t) (place_at w t) (length (link_at w t).flow.grants) (places t tl)))
+    (subst (λ (k : Link). (2 * items k + place_at w' s + length k.flow.grants) + a ≤ weight_at w s + b) (sym here) own)
+  where
+    falls : (i p' p g : ℕ) → p' ≤ p → 2 * i + p' + g ≤ 2 * i + p + g
+    falls i p' p g h = omega arith
 
--- ---- members
+-- so where the link at s becomes l
+pub link_set : (w : World) (ms : List Member) (s : ℕ) (l : Link) (a b : ℕ) → s < length w.links → NoneRises w (record w { members = ms; links = set w.links s l })
+    → (2 * items l + place_at (record w { members = ms; links = set w.links s l }) s + length l.flow.grants) + a ≤ weight_at w s + b → on_links (record w { members = ms; links = set w.links s l }) + a ≤ on_links w + b
+link_set w ms s l a b sl places own =
+    links_written w (record w { members = ms; links = set w.links s l }) s l a b sl (length-set w.links s l) (get_or-set_same w.links s l no_link sl) (λ t ne. get_or-set_other w.links s t l no_link ne) places own
 
--- whether a member is stale goes by the version of its view and its out link
-stale_same : (v : ℕ) (y y' : Member) → y'.version ≡ y.version → y'.out ≡ y.out → stale_by v y' ≡ stale_by v y
-stale_same v y y' e o = ap (λ u. if not (nat_eq u v && is_some y'.out) then 1 else 0) e ∙ ap (λ k. if not (nat_eq y.version v && is_some k) then 1 else 0) o
+-- ---- a step
 
--- what it has to send, by its rows
-rows_dirty : (n : ℕ) (w : World) (y y' : Member) (o : Option ℕ) → y'.rows ≡ y.rows → dirty_on n w y' o ≡ dirty_on n w y o
-rows_dirty n w y y' None e = refl
-rows_dirty n w y y' (Some k) e = ap (λ rs. if list_all (λ p. is_sent (get_or rs p no_row) (numbers_at (link_at w k).sending.sent p)) (range_with_len 0 n) then 0 else 1) e
+-- how far a member with these rows is behind the logs of w
+abbrev pub lag_with : World → Member → ℕ
+lag_with w y = sum_below (size w) (λ p. lag_row (length (log_of w p)) (row_at y p))
 
--- and by the sending side of its link
-pub sending_same : (n : ℕ) (w w' : World) (y : Member) (o : Option ℕ) → ((k : ℕ) → o ≡ Some k → (link_at w' k).sending ≡ (link_at w k).sending) → dirty_on n w' y o ≡ dirty_on n w y o
-sending_same n w w' y None h = refl
-sending_same n w w' y (Some k) h = ap (λ s. if has_nothing_new n y s then 0 else 1) (h k refl)
+-- A step by which x becomes y. Its log stays, and on the others' out links what was last sent; it takes `less` of each part
+-- and adds `more` at most.
+pub record Step (w w' : World) (x : ℕ) (y : Member) (less more : Amount) : Type 0 where
+  pub member : IsWritten w w' x y
+  pub log : y.log ≡ log_of w x
+  pub sent : (q j : ℕ) → q ≢ x → (member_at w q).out ≡ Some j → (link_at w' j).sending ≡ (link_at w j).sending
+  pub marks : marks_left w' + less.marks ≤ marks_left w + more.marks
+  pub stale : stale w' + less.stale ≤ stale w + more.stale
+  pub dirty : dirty_on (size w) w' y y.out + less.dirty ≤ dirty_at (size w) w x + more.dirty
+  pub lag : lag_with w y + less.lag ≤ lag_by w x + more.lag
+  pub links : on_links w' + less.links ≤ on_links w + more.links
 
--- how far a row is behind a log of this length
-abbrev pub lag_row : ℕ → Row → ℕ
-lag_row n r = (n - r.got) + (n - r.forgot) + (n - r.retired)
+module _ (w w' : World) (x : ℕ) (y : Member) (less more : Amount) (u : IsUp w x) (k : Step w w' x y less more) where
+  -- no log changes
+  logs : (p : ℕ) → log_of w' p ≡ log_of w p
+  logs p = ⊎_elim
+      (λ (same : p ≡ x). ap (log_of w') same ∙ ap (λ (m : Member). m.log) k.member.here ∙ k.log ∙ ap (log_of w) (sym same))
+      (λ (ne : p ≢ x). ap (λ (m : Member). m.log) (k.member.others p ne))
+      (cases_eq p x)
 
--- no more members are stale where nobody's version and out link change
-pub same_stale : (w w' : World) → size w' ≡ size w → newest w' ≡ newest w → ((q : ℕ) → (member_at w' q).version ≡ version_of w q) → ((q : ℕ) → (member_at w' q).out ≡ (member_at w q).out) → stale w' ≤ stale w
-same_stale w w' many top version out =
-    sum_le (size w - 1) (size w' - 1) (stale_at w) (stale_at w') (ap (λ n. n - 1) many)
-    (λ k _. let same : stale_at w' k ≡ stale_at w k =
-    ap (λ v. stale_by v (member_at w' (k + 1))) top
-    ∙ stale_same (newest w) (member_at w (k + 1)) (member_at w' (k + 1)) (version (k + 1)) (out (k + 1)) in omega (arith, same))
+  -- what a member has to send, as it is then
+  dirty_now : (q : ℕ) (m : Member) → member_at w' q ≡ m → dirty_at (size w') w' q ≡ dirty_on (size w) w' m m.out
+  dirty_now q m is = ap (λ n. dirty_at n w' q) k.member.many ∙ ap (λ (z : Member). dirty_on (size w) w' z z.out) is
 
--- what a member has to send stays where its rows, its out link and what was last sent on that do
-pub dirty_same : (n : ℕ) (w w' : World) (k : ℕ) → (member_at w' k).rows ≡ (member_at w k).rows → (member_at w' k).out ≡ (member_at w k).out → ((j : ℕ) → (member_at w k).out ≡ Some j → (link_at w' j).sending ≡ (link_at w j).sending) → dirty_at n w' k ≡ dirty_at n w k
-dirty_same n w w' k rows out sending =
-    rows_dirty n w' (member_at w k) (member_at w' k) (member_at w' k).out rows
-    ∙ ap (dirty_on n w' (member_at w k)) out
-    ∙ sending_same n w w' (member_at w k) (member_at w k).out sending
+  -- all members together
+  dirties : dirty w' + less.dirty ≤ dirty w + more.dirty
+  dirties =
+      sum_at (size w) (size w') (dirty_at (size w) w) (dirty_at (size w') w') x less.dirty more.dirty k.member.many u.lt
+      (λ q _ ne. let same : dirty_at (size w') w' q ≡ dirty_at (size w) w q = dirty_now q (member_at w q) (k.member.others q ne) ∙ dirty_same (size w) w w' (member_at w q) (member_at w q) (member_at w q).out refl (λ j. k.sent q j ne) in omega (arith, same))
+      (subst (λ n. n + less.dirty ≤ dirty_at (size w) w x + more.dirty) (sym (dirty_now x y k.member.here)) k.dirty)
 
--- and so does the number of members with something to send
-pub same_dirty : (w w' : World) → size w' ≡ size w → ((q : ℕ) → (member_at w' q).rows ≡ (member_at w q).rows) → ((q : ℕ) → (member_at w' q).out ≡ (member_at w q).out) → ((q j : ℕ) → (member_at w q).out ≡ Some j → (link_at w' j).sending ≡ (link_at w j).sending) → dirty w' ≤ dirty w
-same_dirty w w' many rows out sending =
-    sum_le (size w) (size w') (dirty_at (size w) w) (dirty_at (size w') w') many
-    (λ k _. let same : dirty_at (size w') w' k ≡ dirty_at (size w) w k = ap (λ n. dirty_at n w' k) many ∙ dirty_same (size w) w w' k (rows k) (out k) (sending k) in omega (arith, same))
+  -- how far it is behind
+  lag_now : (q : ℕ) (m : Member) → member_at w' q ≡ m → lag_by w' q ≤ lag_with w m
+  lag_now q m is = sum_le (size w) (size w') (λ p. lag_row (length (log_of w p)) (row_at m p)) (lag_at w' q) k.member.many
+      (λ p _. let same : lag_at w' q p ≡ lag_row (length (log_of w p)) (row_at m p) = ap (λ l. lag_row (length l) (row_at (member_at w' q) p)) (logs p) ∙ ap (λ (z : Member). lag_row (length (log_of w p)) (row_at z p)) is in omega (arith, same))
 
--- nobody is more behind where rows and logs stay
-pub same_lag : (w w' : World) → size w' ≡ size w → ((q : ℕ) → (member_at w' q).rows ≡ (member_at w q).rows) → ((q : ℕ) → (member_at w' q).log ≡ log_of w q) → lag w' ≤ lag w
-same_lag w w' many rows logs =
-    sum_le (size w - 1) (size w' - 1) (λ i. lag_by w (i + 1)) (λ i. lag_by w' (i + 1)) (ap (λ n. n - 1) many)
-    (λ i _. sum_le (size w) (size w') (lag_at w (i + 1)) (lag_at w' (i + 1)) many
-    (λ p _. let same : lag_at w' (i + 1) p ≡ lag_at w (i + 1) p =
-    ap (λ l. lag_row (length l) (row_of w' (i + 1) p)) (logs p) ∙ ap (λ rs. lag_row (length (log_of w p)) (get_or rs p no_row)) (rows (i + 1)) in omega (arith, same)))
+  -- and all of them
+  lags : lag w' + less.lag ≤ lag w + more.lag
+  lags =
+      sum_ids (size w) (size w') (lag_by w) (lag_by w') x less.lag more.lag k.member.many u.some u.lt
+      (λ q ne. lag_now q (member_at w q) (k.member.others q ne))
+      (own (lag_by w' x) (lag_with w y) (lag_by w x) less.lag more.lag (lag_now x y k.member.here) k.lag)
+    where
+      own : (g' g l a b : ℕ) → g' ≤ g → g + a ≤ l + b → g' + a ≤ l + b
+      own g' g l a b h i = omega arith
+
+  -- it leaves less to do, where what it takes counts for more
+  pub step_falls : worth more < worth less → work w' < work w
+  step_falls h = less_of (marks_left w) (marks_left w') (stale w) (stale w') (dirty w) (dirty w') (lag w) (lag w') (on_links w) (on_links w') less more k.marks k.stale dirties lags k.links h
+
+-- ---- an enabled event
+
+-- the state w' follows on w by an enabled event
+pub record Follows (w w' : World) : Type 0 where
+  pub goes : GoesOn w w'
+  pub places : NoneRises w w'
+
+-- and there is less to do
+abbrev pub Lowers : World → World → Type 0
+Lowers w w' = Follows w w' → work w' < work w
+
+-- so an event of x leaves less to do where that does which x does, being up
+pub leaves_less : (w : World) (x : ℕ) (e : Event) → IsFit w → 1 ≤ x → x < size w → by_of e ≡ (member_at w x).name → (IsUp w x → further_refusal w e x ≡ None → Lowers w (done_at w e x)) → LeavesLess w e
+leaves_less w x e f some lt by h r =
+    let named : id_of w (by_of e) ≡ Some x = ap (id_of w) by ∙ f.named x some lt in
+    let does : effect w e ≡ done_at w e x = ap (λ o. at_found o w (done_at w e)) named in
+    let u = acts w (is_for_up e) x (further_refusal w e x) f.good.none_waits (subst (λ o. of_member o (refused_at w e) ≡ None) named r) in
+    subst (λ v. work v < work w) (sym does)
+    (h (record { some = some; lt = lt; up = u.0 }) u.1
+    (subst (Follows w) does (record { goes = f.goes e r; places = event_places w e f.good r })))

@@ -13,7 +13,7 @@ use Rattle.ring_world.specs.declared.phase.Ending.TheVariants.{Moved}
 use Rattle.ring_world.specs.View.{right_of}
 use Rattle.ring_world.specs.Machine.{Member, Link, World, no_member, member_at, link_at, view_at, newest, is_waiting, runs, runs_phase}
 use Rattle.ring_world.specs.Step.{published, taker, with_current, with_view, with_link, moved_to, look_at, open_to, ended}
-use Rattle.ring_world.specs.Event.{is_asked, at_found, taken_by, refreshed, effect, id_of, at_door}
+use Rattle.ring_world.specs.Event.{is_asked, by_of, at_found, taken_by, done_at, refreshed, effect, id_of, at_door}
 use Rattle.ring_world.proofs.NoneWaits.{NoneWaits}
 use Rattle.ring_world.proofs.Composed.{refresh_composed}
 use Rattle.ring_cluster.specs.Turns.{SamePhases}
@@ -73,14 +73,18 @@ marked_same w v x n = same_trans w (with_view w v) (refreshed (with_view w v) x 
 pub cast_phases : (w : World) (by body : List ℕ) → SamePhases w (effect w (Cast by body))
 cast_phases w by body = found_same w (id_of w by) _ (λ x. same_set w x (published x (message.Cast body) (member_at w x)) w.links w.views refl)
 
--- a member's own event
+-- what a member does by itself
+done_phases : (w : World) (e : Event) (x : ℕ) → NoneWaits w → is_asked e ≡ false → SamePhases w (done_at w e x)
+done_phases w (Cast by body) x n own = absurd (false≢true (sym own))
+done_phases w (Put by) x n own = found_same w (member_at w x).out _ (λ o. record { many = refl; phase = λ q. refl })
+done_phases w (Take by) x n own = found_same w (member_at w x).current _ (λ s. take_same w x s (member_at w x).phase (n x))
+done_phases w (TakeEnd by) x n own = found_same w (member_at w x).current _ (λ s. same_set w x (with_current None (member_at w x)) _ w.views refl)
+done_phases w (Gain by) x n own = found_same w (member_at w x).out _ (λ o. record { many = refl; phase = λ q. refl })
+done_phases w (Stop by) x n own = absurd (false≢true (sym own))
+done_phases w (Mark by dead) x n own = found_same w (id_of w dead) _ (λ d. marked_same w (marked (view_at w (newest w)) d) x _)
+done_phases w (Refresh by version) x n own = refreshed_same w x version
+done_phases w (Pick by) x n own = found_same w (at_door w x) _ (λ s. same_set w x (with_current (Some s) (member_at w x)) w.links w.views refl)
+
+-- so its event
 pub own_phases : (w : World) (e : Event) → NoneWaits w → is_asked e ≡ false → SamePhases w (effect w e)
-own_phases w (Cast by body) n own = absurd (false≢true (sym own))
-own_phases w (Put by) n own = found_same w (id_of w by) _ (λ x. found_same w (member_at w x).out _ (λ o. record { many = refl; phase = λ q. refl }))
-own_phases w (Take by) n own = found_same w (id_of w by) _ (λ x. found_same w (member_at w x).current _ (λ s. take_same w x s (member_at w x).phase (n x)))
-own_phases w (TakeEnd by) n own = found_same w (id_of w by) _ (λ x. found_same w (member_at w x).current _ (λ s. same_set w x (with_current None (member_at w x)) _ w.views refl))
-own_phases w (Gain by) n own = found_same w (id_of w by) _ (λ x. found_same w (member_at w x).out _ (λ o. record { many = refl; phase = λ q. refl }))
-own_phases w (Stop by) n own = absurd (false≢true (sym own))
-own_phases w (Mark by dead) n own = found_same w (id_of w by) _ (λ x. found_same w (id_of w dead) _ (λ d. marked_same w (marked (view_at w (newest w)) d) x _))
-own_phases w (Refresh by version) n own = found_same w (id_of w by) _ (λ x. refreshed_same w x version)
-own_phases w (Pick by) n own = found_same w (id_of w by) _ (λ x. found_same w (at_door w x) _ (λ s. same_set w x (with_current (Some s) (member_at w x)) w.links w.views refl))
+own_phases w e n own = found_same w (id_of w (by_of e)) (done_at w e) (λ x. done_phases w e x n own)

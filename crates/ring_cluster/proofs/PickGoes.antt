@@ -2,7 +2,7 @@
 use Rattle.std.proofs.Common.{◌≡◌, ◌≢◌, nat_eq, ℕ, ◌+◌, ◌<◌, Bool, true, false, not, List, [], ◌++◌, length, map, get_or, Option, Some, None, is_some, refl, sym, ap, ◌∙◌, ⊎_elim, append-nil}
 use Rattle.std.specs.Prelude.{◌&&◌, ◌||◌, option_map}
 use Rattle.std.specs.List.{filter, range_with_len}
-use Rattle.std.proofs.lemmas.Bool.{cases_eq, and_right}
+use Rattle.std.proofs.lemmas.Bool.{cases_eq}
 use Rattle.std.proofs.lemmas.List.{length-set, get_or-map}
 use Rattle.std.proofs.lemmas.List.Quantifiers.{position-Some}
 use Rattle.ring_names.specs.declared.numbers.CreditSpec.{CreditSpec}
@@ -21,13 +21,14 @@ use Rattle.gm_member.specs.Held.{first_at_door, picked_held, without}
 use Rattle.gm_member.specs.Stands.{held_in, incoming_in, waits_for, door_links}
 use Rattle.gm_member.proofs.Parts.{waits_seen}
 use Rattle.gm_member.proofs.DoorLists.{filter_without}
-use Rattle.gm_member.proofs.DoorParts.{waits_by, without_made, member_same, member_other}
+use Rattle.gm_member.proofs.DoorParts.{without_made, member_same, member_other}
 use Rattle.gm_member.proofs.Doors.{pickable_is_door}
-use Rattle.gm_member.proofs.PickStands.{Picks as PicksAt, picks_some, pick_stands, door_link}
-use Rattle.gm_member.proofs.OthersStand.{pick_others}
+use Rattle.gm_member.proofs.PickStands.{PicksAt, picked_waits, picks_some, pick_stands, door_link}
+use Rattle.gm_member.proofs.Others.{member_others}
 use Rattle.ring_cluster.specs.Ends.{OutSeen}
 use Rattle.ring_cluster.specs.Parties.{Shown, Parties, Posted, node_at, with_node}
-use Rattle.ring_cluster.specs.Standing.{Places, MemberStands, Stand, StandLoose, is_to, has_in}
+use Rattle.ring_cluster.specs.Standing.{Places, MemberStands, Stand, is_to, has_in}
+use Rattle.ring_cluster.specs.Loose.{StandMoved}
 use Rattle.ring_cluster.specs.Acting.{Acts}
 use Rattle.ring_cluster.proofs.Lawful.{IsLawfulAt}
 use Rattle.ring_cluster.proofs.Truth.{none_is}
@@ -56,17 +57,7 @@ module _ (w : World) (x s : ℕ) (lt : x < size w) (none : (member_at w x).curre
   pick_outs y = same_of (λ (z : Member). z.out) w x (with_current (Some s) (member_at w x)) lt refl y
 
   pub pick_waits : (k : ℕ) → waits_for (current_is w x (Some s)) x k ≡ (waits_for w x k && not (nat_eq s k))
-  pick_waits k =
-      ap (λ m. waits_by w x m.current m.version k) now
-      ∙ tests (nat_eq (link_at w k).receiver x) (nat_eq s k) (link_at w k).over _
-      ∙ ap (λ c. waits_by w x c (member_at w x).version k && not (nat_eq s k)) (sym none)
-    where
-      tests : (r b o p : Bool) → ((r && (not b && not o)) && p) ≡ (((r && (not false && not o)) && p) && not b)
-      tests false b o p = refl
-      tests true true o p = sym (and_right (not o && p) false refl)
-      tests true false true p = refl
-      tests true false false true = refl
-      tests true false false false = refl
+  pick_waits = picked_waits w x s lt none
 
   pub pick_door : (i : ℕ) → i < length (door_links w x) → get_or (door_links w x) i 0 ≡ s → door_links (current_is w x (Some s)) x ≡ without i (door_links w x)
   pick_door i there e =
@@ -110,6 +101,7 @@ module _ (w : World) (x s : ℕ) (lt : x < size w) (none : (member_at w x).curre
     outs = λ y _. pick_outs y;
     currents = λ y ne. ap (λ (z : Member). z.current) (other y ne);
     doors = pick_other_door;
+    keeps = λ j has e. (let both : Some j ≡ None = sym e ∙ none in cc);
   }
 
 -- ---- the parties
@@ -147,13 +139,13 @@ pick_it w p x i a b credit h lt none first nobody m e =
       old_ins = ap (λ (g : Shown). g.ends.old_ins) e ∙ m.old_ins;
     }
 
-pub pick_goes : (credit : CreditSpec) (w : World) (by : List ℕ) (i d : ℕ) (q q' : Parties) (loose : Option (LinkName × OutSeen)) → IsLawfulAt credit w → refusal w (Pick by) ≡ None → id_of w by ≡ Some (i + 1) → NonePosted q (i + 1) → Stand credit.initial w q → Acts (Pick by) i d q q' loose → StandLoose credit.initial (effect w (Pick by)) q' loose
+pub pick_goes : (credit : CreditSpec) (w : World) (by : List ℕ) (i d : ℕ) (q q' : Parties) (loose : Option (LinkName × OutSeen)) → IsLawfulAt credit w → refusal w (Pick by) ≡ None → id_of w by ≡ Some (i + 1) → NonePosted q (i + 1) → Stand credit.initial w q → Acts (Pick by) i d q q' loose → StandMoved credit.initial (i + 1) (effect w (Pick by)) q' loose
 pick_goes credit w by i d q q' loose h enabled found nobody st (b, (j, first, eb), is, none_loose) =
     let x : ℕ = i + 1 in
     let lt : i + 1 < size w = (id_within w by x found).1 in
     let p : Places = st.places in
     let a : MemberStands w p x (node_at q i) = stands_at credit.initial w q p i st.stand lt in
-    let empty : filter (is_to w x) p.post ≡ [] = none_waits w q p x st.stand.post nobody in
+    let empty : filter (is_to w x) p.post ≡ [] = none_waits credit.initial w q x st nobody in
     let acts = found_later (id_of w by) x (λ y. up_refusal w y (or_else (refuse_if (is_some (member_at w y).current) reason.HasCurrentLink) (pick_refusal w y))) found enabled in
     let none : (member_at w x).current ≡ None = none_is (member_at w x).current (none_of (is_some (member_at w x).current) reason.HasCurrentLink (pick_refusal w x) (up_later w x _ acts)).0 in
     let first_in : first_at_door (held_in w x) ≡ Some j = ap first_at_door (sym (whole_held w p x (node_at q i) a empty)) ∙ first in
@@ -162,12 +154,12 @@ pick_goes credit w by i d q q' loose h enabled found nobody st (b, (j, first, eb
     let here : waits_for w x s ≡ true = door_waits w x s credit h none at in
     let w' : World = current_is w x (Some s) in
     let does : effect w (Pick by) ≡ w' = found_does (id_of w by) x w (λ y. at_found (at_door w y) w (λ t. current_is w y (Some t))) found ∙ found_does (at_door w x) s w (λ t. current_is w x (Some t)) at in
-    goes_so credit.initial w' (effect w (Pick by)) (with_node q i b) q' loose does is none_loose
+    goes_so credit.initial x w' (effect w (Pick by)) (with_node q i b) q' loose does is none_loose
     (steps credit w w' q q.stopped p i b st h lt (record {
       leaves = pick_leaves w x s lt none here;
       post = refl;
       it = pick_it w p x j (node_at q i) b credit h lt none first_in empty a eb;
-      held = λ y ne. sym (pick_others w x y (Some s) ne);
+      held = λ y ne. sym (member_others w x y (with_current (Some s) (member_at w x)) ne);
       told = same_phases w x (with_current (Some s) (member_at w x)) q.stopped lt refl;
       outs = λ t _. refl;
       ins = λ t _. refl;

@@ -6,15 +6,14 @@ use Rattle.std.proofs.lemmas.Bool.{false≢true, and_parts, cases_lt, or_right}
 use Rattle.std.proofs.lemmas.Option.{slice_get-map, slice_get_within, get_or_from_slice_get, slice_get-get_or}
 use Rattle.group_view.specs.declared.link.LinkName.{LinkName}
 use Rattle.group_view.specs.Ring.{is_in, AreDistinct}
-use Rattle.group_view.proofs.Passing.{left_inside}
 use Rattle.group_view.proofs.Rings.{distinct_parts, distinct_second, is_in-append, nat_eq-same}
-use Rattle.ring_world.specs.View.{ids, is_live}
+use Rattle.ring_world.specs.View.{ids}
 use Rattle.ring_world.specs.Machine.{World, member_at, link_at, view_at, newest, ring, left}
 use Rattle.ring_world.specs.OpenLinks.{is_place, is_current, is_door_link, passes}
 use Rattle.ring_world.specs.Step.{size}
 use Rattle.ring_world.proofs.Rounds.{nat_eq-is}
 use Rattle.ring_world.proofs.Good.{kept_true}
-use Rattle.ring_world.proofs.Views.{left_is}
+use Rattle.ring_world.proofs.FromLeft.{sender_known}
 use Rattle.ring_world.proofs.Standing.{distinct_first}
 use Rattle.ring_world.proofs.Opening.{distinct_range, range_in}
 use Rattle.ring_world.proofs.Happens.{IsGood}
@@ -60,8 +59,7 @@ pub record GoBetween (w : World) : Type 0 where
 pub go_between : (w : World) → IsGood w → HasEachId w → GoBetween w
 go_between w h ids_are = record {
   sender = λ s l. known s l (link_at w s).sender
-      (subst (λ q. is_in q (ids (view_at w (link_at w s).opened)) ≡ true) (sym (left_is w (link_at w s).opened (link_at w s).receiver (view_at w (link_at w s).opened) refl) ∙ h.inv.linked.from_left s l)
-      (left_inside (is_live (view_at w (link_at w s).opened)) (link_at w s).receiver (ids (view_at w (link_at w s).opened)) (h.inv.is_ring.distinct (link_at w s).opened (h.inv.linked.opened s l)) (h.inv.history.known s l)));
+      (sender_known w s h l);
   receiver = λ s l. known s l (link_at w s).receiver (h.inv.history.known s l);
 }
   where

@@ -5,9 +5,8 @@ use Rattle.ring_names.specs.declared.numbers.CreditSpec.{CreditSpec}
 use Rattle.group_view.specs.declared.link.LinkName.{LinkName}
 use Rattle.ring_world.specs.declared.event.Event.TheVariants.{Put}
 use Rattle.ring_world.specs.Machine.{World, Packet, Link, member_at, link_at}
-use Rattle.ring_world.specs.Step.{size, pushed, put_on}
+use Rattle.ring_world.specs.Step.{size, pushed}
 use Rattle.ring_world.specs.Event.{id_of, put_refusal, refusal, effect}
-use Rattle.ring_world.proofs.Refusals.{id_within}
 use Rattle.gm_member.specs.Parcels.{Parcel}
 use Rattle.gm_member.specs.Held.{Held, Outgoing, put_held, parcel_on}
 use Rattle.gm_member.specs.Stands.{held_in, outgoing_in, StandsFor}
@@ -15,14 +14,14 @@ use Rattle.gm_member.proofs.Fit.{IsFit}
 use Rattle.gm_member.proofs.PutStands.{leaving, put_stands, put_packet}
 use Rattle.gm_member.proofs.Others.{put_others}
 use Rattle.ring_cluster.specs.Ends.{Sent, OutSeen, InSeen, packet_in, end_items, Carries}
-use Rattle.ring_cluster.specs.Parties.{Shown, Parties, node_at, with_node}
-use Rattle.ring_cluster.specs.Standing.{Places, MemberStands, Stand, StandLoose}
+use Rattle.ring_cluster.specs.Parties.{Shown, Parties, node_at}
+use Rattle.ring_cluster.specs.Standing.{Places, MemberStands, Stand}
+use Rattle.ring_cluster.specs.Loose.{StandMoved}
 use Rattle.ring_cluster.specs.Acting.{sent_of, PutsOut, Acts}
 use Rattle.ring_cluster.proofs.Lawful.{IsLawfulAt}
 use Rattle.ring_cluster.proofs.NamedLinks.{out_unended}
-use Rattle.ring_cluster.proofs.Frames.{link_ways}
 use Rattle.ring_cluster.proofs.OneEvent.{made_of, stands_at, held_but_door}
-use Rattle.ring_cluster.proofs.Steps.{OnOut, on_out, goes_so, sends_once}
+use Rattle.ring_cluster.proofs.Steps.{OnOut, on_out, goes_out}
 
 -- ---- one link
 
@@ -58,34 +57,24 @@ put_sent w x s g out f some lt e is =
 
 -- ---- the parties
 
-pub put_goes : (credit : CreditSpec) (w : World) (by : List ℕ) (i d : ℕ) (q q' : Parties) (loose : Option (LinkName × OutSeen)) → IsLawfulAt credit w → refusal w (Put by) ≡ None → id_of w by ≡ Some (i + 1) → Stand credit.initial w q → Acts (Put by) i d q q' loose → StandLoose credit.initial (effect w (Put by)) q' loose
+pub put_goes : (credit : CreditSpec) (w : World) (by : List ℕ) (i d : ℕ) (q q' : Parties) (loose : Option (LinkName × OutSeen)) → IsLawfulAt credit w → refusal w (Put by) ≡ None → id_of w by ≡ Some (i + 1) → Stand credit.initial w q → Acts (Put by) i d q q' loose → StandMoved credit.initial (i + 1) (effect w (Put by)) q' loose
 put_goes credit w by i d q q' loose h enabled found st (b, (out, o, o', held_out, ends_out, puts, eb), is, none) =
     let x : ℕ = i + 1 in
-    let lt : i + 1 < size w = (id_within w by x found).1 in
     let p : Places = st.places in
     let m : Shown = node_at q i in
-    let a : MemberStands w p x m = stands_at credit.initial w q p i st.stand lt in
-    let on : OnOut w (effect w (Put by)) x (put_on w x) = on_out w by x (put_refusal w) (put_on w) enabled found in
+    let on : OnOut w (effect w (Put by)) x (λ t. pushed (link_at w t) (leaving w x t)) = on_out credit w by x (put_refusal w) (λ y t. pushed (link_at w t) (leaving w y t)) h enabled found in
+    let a : MemberStands w p x m = stands_at credit.initial w q p i st.stand on.is_member in
     let s : ℕ = on.link in
-    let l : Link = pushed (link_at w s) (leaving w x s) in
     let same_held : m.held ≡ record (held_in w x) { door = m.held.door } = held_but_door w p x m a in
     let same_outgoing : outgoing_in w s ≡ out = made_of (outgoing_in w) (member_at w x).out s out on.is (sym (ap (λ (g : Held). g.out) same_held) ∙ held_out) in
     let same_end : p.outs s ≡ o = made_of p.outs (member_at w x).out s o on.is (sym a.out ∙ ends_out) in
     let k : Sent = sent_of (parcel_on m.held.view.version m.held.rows out) in
-    let its : Some k ≡ packet_in w (leaving w x s) = put_sent w x s m.held out h.fit (omega arith) lt same_held same_outgoing in
-    goes_so credit.initial (put_on w x s) (effect w (Put by)) (with_node q i b) q' loose on.so is none
-    (sends_once credit w w.members q q.stopped i s l o' b st h lt (record {
-      out = on.is;
-      run = on.run;
-      ways = link_ways w s l (h.fit.own_ends.out x s on.is).0 refl;
-      logs = λ r. refl;
-      does = record {
-        does = λ (g : Held). put_held g;
-        but_door = λ g ds. refl;
-        stands = put_stands w x s h.fit (omega arith) lt on.is;
-        is = eb;
-      };
-      held = λ y ne. put_others w x s y h.fit on.is ne;
-      told = λ y r. r;
-      carries = put_carries credit.initial w (link_at w s) (p.outs s) o' (p.ins s) k (leaving w x s) (out_unended credit w x s h on.run on.is) its (subst (λ e. PutsOut e k o') (sym same_end) puts);
-    }))
+    let its : Some k ≡ packet_in w (leaving w x s) = put_sent w x s m.held out h.fit (omega arith) on.is_member same_held same_outgoing in
+    goes_out credit w (effect w (Put by)) q q' i loose (λ t. pushed (link_at w t) (leaving w x t)) o' b st h on refl is none (λ y ne. put_others w x s y h.fit on.is ne)
+    (record {
+      does = λ (g : Held). put_held g;
+      but_door = λ g ds. refl;
+      stands = put_stands w x s h.fit (omega arith) on.is_member on.is;
+      is = eb;
+    })
+    (put_carries credit.initial w (link_at w s) (p.outs s) o' (p.ins s) k (leaving w x s) (out_unended credit w x s h on.run on.is) its (subst (λ e. PutsOut e k o') (sym same_end) puts))

@@ -1,5 +1,5 @@
 -- The links whose out ends meet go to members: where the other end is looked for is a place among them.
-use Rattle.std.proofs.Common.{◌≡◌, ℕ, ◌-◌, ◌<◌, ◌≤◌, Bool, true, false, not, length, Option, Some, None, refl, sym, subst, ◌∙◌}
+use Rattle.std.proofs.Common.{◌≡◌, ℕ, ◌-◌, ◌<◌, ◌≤◌, Bool, true, false, not, List, length, Option, Some, None, refl, sym, subst, ◌∙◌}
 use Rattle.std.proofs.lemmas.Option.{none-some}
 use Rattle.std.specs.Prelude.{option_map}
 use Rattle.ring_names.specs.declared.numbers.CreditSpec.{CreditSpec}
@@ -14,7 +14,8 @@ use Rattle.gm_member.specs.Stands.{outgoing_in}
 use Rattle.gm_member.proofs.OwnEnds.{OwnEnds}
 use Rattle.ring_cluster.specs.Ends.{OutSeen}
 use Rattle.ring_cluster.specs.Parties.{Shown, Parties, node_at}
-use Rattle.ring_cluster.specs.Standing.{Places, MemberStands, Stand, StandMet, name_of}
+use Rattle.ring_cluster.specs.Standing.{Places, MemberStands, Stand, name_of}
+use Rattle.ring_cluster.specs.Loose.{StandBetween}
 use Rattle.ring_cluster.specs.Acting.{Loosens, LooksAt}
 use Rattle.ring_cluster.proofs.Lawful.{IsLawfulAt}
 use Rattle.ring_cluster.proofs.Placing.{GoBetween}
@@ -25,8 +26,8 @@ abbrev pub GoesIn : World → LinkName → Type 0
 GoesIn w name = (1 ≤ name.to.0) × (name.to.0 < size w)
 
 -- that on which a member sends
-pub out_goes_in : (credit : CreditSpec) (w : World) (q : Parties) (k x : ℕ) (o : OutSeen) (name : LinkName) → IsLawfulAt credit w → GoBetween w → 1 ≤ x → x < size w → StandMet k credit.initial w q → (node_at q (x - 1)).ends.out ≡ Some o → out_name_of (node_at q (x - 1)).held ≡ Some name → GoesIn w name
-out_goes_in credit w q k x o name g go a l met out named =
+pub out_goes_in : (credit : CreditSpec) (w : World) (ids : List ℕ) (q : Parties) (x : ℕ) (o : OutSeen) (name : LinkName) → IsLawfulAt credit w → GoBetween w → 1 ≤ x → x < size w → StandBetween credit.initial w ids q None → (node_at q (x - 1)).ends.out ≡ Some o → out_name_of (node_at q (x - 1)).held ≡ Some name → GoesIn w name
+out_goes_in credit w ids q x o name g go a l met out named =
     let f = out_placed w credit.initial q met.places x o g.fit.own_ends met.stand a l out in
     let both : Some name ≡ Some (name_of w f.0) = sym named ∙ f.5 in
     let is : name ≡ name_of w f.0 = cc in

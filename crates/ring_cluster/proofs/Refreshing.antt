@@ -13,22 +13,23 @@ use Rattle.ring_world.proofs.WhatRefuses.{MayLook}
 use Rattle.ring_world.proofs.KeptLook.{kept_current-Some}
 use Rattle.ring_world.proofs.Happens.{IsGood}
 use Rattle.ring_world.proofs.Ended.{EndsRight}
-use Rattle.registrar.proofs.Members.{same_refreshed}
+use Rattle.registrar.proofs.Members.{told_refreshed, stopped_same}
 use Rattle.gm_member.specs.Held.{Held, stays, refreshed_held, fresh_out as unsent_on, lines_on}
 use Rattle.gm_member.specs.Stands.{incoming_in, waits_for, door_links, held_in, lines_in}
 use Rattle.gm_member.proofs.DoorLists.{filter_agree}
 use Rattle.gm_member.proofs.DoorParts.{waits_by, member_same, member_other}
 use Rattle.gm_member.proofs.OpenDoors.{sends_right, refresh_looks}
-use Rattle.gm_member.proofs.OthersStand.{member_others}
+use Rattle.gm_member.proofs.Others.{member_others}
 use Rattle.gm_member.proofs.OwnEnds.{OwnEnds}
 use Rattle.gm_member.proofs.RefreshStands.{door_stays, refresh_stands}
 use Rattle.ring_cluster.specs.Parties.{Shown, Parties, node_at, with_node}
 use Rattle.ring_cluster.specs.Standing.{Places, MemberStands, Stand, HaveDone, is_to, has_out, has_in}
-use Rattle.ring_cluster.specs.Loose.{StandBetween}
+use Rattle.ring_cluster.specs.Loose.{StandMoved}
 use Rattle.ring_cluster.specs.Acting.{looked_ends, waits_at}
-use Rattle.ring_cluster.proofs.Showing.{stands_of, each_set}
+use Rattle.ring_cluster.proofs.Showing.{each_set}
 use Rattle.ring_cluster.proofs.Meetings.{waiting_at}
 use Rattle.ring_cluster.proofs.Collections.{filter_map}
+use Rattle.ring_cluster.proofs.OneEvent.{met_both}
 use Rattle.ring_cluster.proofs.Known.{known_still}
 use Rattle.ring_cluster.proofs.Frames.{carries_logs}
 use Rattle.ring_cluster.proofs.Lookers.{filter_both, looker, beholder, had_before}
@@ -92,8 +93,10 @@ map_nil : {A : Type 0} (f : ℕ → A) (xs : List ℕ) → map f xs ≡ [] → x
 map_nil f [] e = refl
 map_nil f (x ∷ xs) e = cc
 
-pub none_waits : (w : World) (q : Parties) (p : Places) (x : ℕ) → q.post ≡ map (waiting_at w p) p.post → filter (waits_at x) q.post ≡ [] → filter (is_to w x) p.post ≡ []
-none_waits w q p x post none = map_nil (waiting_at w p) (filter (is_to w x) p.post) (sym (filter_map (waits_at x) (waiting_at w p) p.post) ∙ sym (ap (filter (waits_at x)) post) ∙ none)
+pub none_waits : (initial : ℕ) (w : World) (q : Parties) (x : ℕ) (st : Stand initial w q) → filter (waits_at x) q.post ≡ [] → filter (is_to w x) st.places.post ≡ []
+none_waits initial w q x st none =
+    let p : Places = st.places in
+    map_nil (waiting_at w p) (filter (is_to w x) p.post) (sym (filter_map (waits_at x) (waiting_at w p) p.post) ∙ sym (ap (filter (waits_at x)) st.stand.post) ∙ none)
 
 -- ---- it sends on as it did
 
@@ -115,10 +118,10 @@ looks_after u x v m g = record {
 
 pub looks_on : (initial : ℕ) (u : World) (x v : ℕ) (q : Parties) (b : Shown) → IsLooking initial u x v → sends_right u x v ≡ true → Stand initial u q → filter (waits_at x) q.post ≡ []
     → b ≡ record { held = refreshed_held (node_at q (x - 1)).held (view_at u v); ends = looked_ends (view_at u v) (node_at q (x - 1)) }
-    → StandBetween initial (refreshed u x v) (with_node q (x - 1) b) None
-looks_on initial u x v q b k e st none eb = subst (λ w. StandBetween initial w (with_node q (x - 1) b) None) (sym (refresh_looks u x v e)) (record {
+    → StandMoved initial x (refreshed u x v) (with_node q (x - 1) b) None
+looks_on initial u x v q b k e st none eb = subst (λ w. StandMoved initial x w (with_node q (x - 1) b) None) (sym (refresh_looks u x v e)) (record {
   places = p;
-  stand = stands_of initial u' (with_node q (x - 1) b) p (record {
+  stand = record {
     count = (let same : length (set q.nodes (x - 1) b) ≡ length q.nodes = length-set q.nodes (x - 1) b in let many : length (set u.members x (moved_to u x v)) ≡ size u = length-set u.members x (moved_to u x v) in omega (arith, same, many, st.stand.count));
     each = λ z c m. each_set u u' q p p x b st.stand.count k.some k.may.is_member mine
         (λ y c2 m2 ne. beholder u u' p p y (node_at q (y - 1)) k.own (st.stand.each y c2 m2) (after.out_other y ne) (after.current_other y ne)
@@ -128,14 +131,15 @@ looks_on initial u x v q b k e st none eb = subst (λ w. StandBetween initial w 
         z c (let many : length (set u.members x (moved_to u x v)) ≡ size u = length-set u.members x (moved_to u x v) in omega (arith, m, many));
     views = st.stand.views;
     stopped = λ z c m. (let many : length (set u.members x (moved_to u x v)) ≡ size u = length-set u.members x (moved_to u x v) in
-        st.stand.stopped z c (omega (arith, m, many)) ∙ sym (sym (ap (λ w. is_stopped (member_at w z).phase) (refresh_looks u x v e)) ∙ (same_refreshed u x v).stopped z));
+        st.stand.stopped z c (omega (arith, m, many)) ∙ sym (sym (ap (λ w. is_stopped (member_at w z).phase) (refresh_looks u x v e)) ∙ stopped_same u (refreshed u x v) z (told_refreshed u x v)));
     post = st.stand.post;
     within = st.stand.within;
-  })
-      (λ s l h. carries_logs initial u u' (link_at u s) (p.outs s) (p.ins s) after.logs (st.stand.carry s l (look_has u u' x v s k.own after l h)));
+    carry = λ s l h. carries_logs initial u u' (link_at u s) (p.outs s) (p.ins s) after.logs (st.stand.carry s l (look_has u u' x v s k.own after l h));
+  };
   dropped = λ s l h o. inl (subst (λ c. HaveDone c (p.outs s) (p.ins s)) (sym (outs s) ∙ o) (st.met s l (look_has u u' x v s k.own after l h)));
   fits = λ s o l h c. cc;
-  known = known_still initial u u' q p st refl (λ s _ _. record { out = outs s; back = refl; grants = refl });
+  met = λ s l h o _. met_both (has_out u s) (p.outs s) (p.ins s) (sym (outs s) ∙ o) (st.met s l (look_has u u' x v s k.own after l h));
+  known = known_still initial u u' q p st refl outs (λ s _. (refl, refl));
 })
   where
     p : Places
@@ -150,9 +154,6 @@ looks_on initial u x v q b k e st none eb = subst (λ w. StandBetween initial w 
     after : AfterLook u u' x v
     after = looks_after u x v k.may k.good
 
-    waits_none : filter (is_to u x) p.post ≡ []
-    waits_none = none_waits u q p x st.stand.post none
-
     out_here : (member_at u' x).out ≡ (member_at u x).out
     out_here = ap (λ (m : Member). m.out) (member_same u x (moved_to u x v) k.may.is_member)
 
@@ -163,7 +164,7 @@ looks_on initial u x v q b k e st none eb = subst (λ w. StandBetween initial w 
         (cases_eq (link_at u s).sender x)
 
     mine : MemberStands u' p x b
-    mine = looker u u' p p x v a b a.ends.out k.may k.good (st.stand.each x k.some k.may.is_member) waits_none
+    mine = looker u u' p p x v a b a.ends.out k.may k.good (st.stand.each x k.some k.may.is_member) (none_waits initial u q x st none)
         (ap (λ (m : Shown). m.held) eb) (ap (λ (m : Shown). m.ends) eb)
         ((st.stand.each x k.some k.may.is_member).out ∙ ap (option_map p.outs) (sym out_here))
         after.current_here
@@ -172,4 +173,4 @@ looks_on initial u x v q b k e st none eb = subst (λ w. StandBetween initial w 
         (filter_agree (waits_for u' x) (λ s. waits_for u x s && keeps_it u x v s) 0 (length u.links) (λ s i j. after.waits_here s (omega arith))
         ∙ sym (filter_both (waits_for u x) (keeps_it u x v) (range_with_len 0 (length u.links)))
         ∙ sym (append-nil (filter (keeps_it u x v) (door_links u x)))
-        ∙ ap (λ ys. filter (keeps_it u x v) (door_links u x) ++ ys) (sym waits_none))
+        ∙ ap (λ ys. filter (keeps_it u x v) (door_links u x) ++ ys) (sym (none_waits initial u q x st none)))

@@ -20,8 +20,7 @@ use Rattle.gm_member.specs.Stands.{held_in, outgoing_in}
 use Rattle.gm_member.proofs.Facts.{version_is}
 use Rattle.gm_member.proofs.TakeStands.{nothing_to_take, no_end_to_take, end_is_next, end_may, packet_is_next, packet_by_version}
 use Rattle.gm_member.proofs.PickStands.{pick_refuses}
-use Rattle.gm_member.proofs.Lifts.{put_refusal_is}
-use Rattle.gm_member.proofs.Refusals.{publish_refusal_is, stop_refusal_is, take_refusal_is, end_refusal_is}
+use Rattle.gm_member.proofs.Refusals.{publish_refusal_is, put_refusal_is, stop_refusal_is, take_refusal_is, end_refusal_is}
 use Rattle.ring_cluster.specs.Ends.{packet_in, end_items, items_in, Carries, HaveMet}
 use Rattle.ring_cluster.specs.Parties.{Shown, Parties, node_at}
 use Rattle.ring_cluster.specs.Standing.{Places, MemberStands, StandIn, Stand, AllHaveMet, has_in, has_out}
@@ -134,5 +133,5 @@ module _ (credit : CreditSpec) (w : World) (q : Parties) (x : ℕ) (h : IsLawful
 
   pub pick_refusal_is : NonePosted q x → pick_refused (node_at q (x - 1)).held ≡ refusal w (Pick (member_at w x).name)
   pick_refusal_is nobody =
-      ap pick_refused (whole_held w p x m stands (none_waits w q p x st.stand.post nobody)) ∙ pick_refuses w x h.fit.good
+      ap pick_refused (whole_held w p x m stands (none_waits credit.initial w q x st nobody)) ∙ pick_refuses w x h.fit.good
       ∙ sym (ap (λ o. of_member o (λ y. up_refusal w y (or_else (refuse_if (is_some (member_at w y).current) reason.HasCurrentLink) (pick_refusal w y)))) (h.fit.named x some lt))

@@ -1,5 +1,5 @@
 -- Why a member's refresh or mark is refused: as the ring's.
-use Rattle.std.proofs.Common.{◌≡◌, ℕ, ◌-◌, ◌<◌, ◌≤◌, Bool, true, false, cond, nat_eq, nat_lt, nat_le, List, [], ◌∷◌, ◌++◌, map, Option, Some, None, is_some, refl, sym, ap, ◌∙◌, arith}
+use Rattle.std.proofs.Common.{◌≡◌, ℕ, ◌-◌, ◌<◌, ◌≤◌, Bool, true, false, cond, nat_eq, nat_lt, nat_le, List, [], ◌∷◌, ◌++◌, map, Option, Some, None, is_some, refl, sym, ap, ◌∙◌, arith, not}
 use Rattle.std.specs.Prelude.{◌&&◌, ◌||◌, option_map}
 use Rattle.std.specs.List.{filter}
 use Rattle.ring_names.specs.declared.reason.Reason.{Reason}
@@ -7,7 +7,8 @@ use Rattle.ring_names.specs.declared.reason.Reason.TheVariants as reason
 use Rattle.ring_names.specs.declared.numbers.CreditSpec.{CreditSpec}
 use Rattle.ordered_link.specs.declared.plain.PlainIn.{PlainIn}
 use Rattle.gm_member.specs.declared.packet.Load.{Load}
-use Rattle.group_view.specs.View.{Group}
+use Rattle.group_view.specs.Link.{is_ring}
+use Rattle.group_view.specs.View.{Group, is_live}
 use Rattle.group_view.specs.Since.{view_at}
 use Rattle.ring_world.specs.Refusal.{refuse_if, or_else}
 use Rattle.ring_world.specs.declared.phase.Phase.{Phase}
@@ -20,8 +21,8 @@ use Rattle.ring_world.specs.Event as event
 use Rattle.ring_world.proofs.Happens.{IsGood}
 use Rattle.ring_world.proofs.Refusals.{id_within}
 use Rattle.registrar.specs.declared.standing.Standing.{Standing}
-use Rattle.registrar.specs.Registry.{Registry}
-use Rattle.registrar.specs.Asked.{mark_refusal, is_ring, is_ring_from, waits_from, since_in}
+use Rattle.registrar.specs.Registry.{Registry, is_known, newest as newest_view}
+use Rattle.registrar.specs.Asked.{mark_refusal, is_ring_from, waits_from, since_in, is_left, is_beside}
 use Rattle.registrar.specs.Stands.{StandsIn}
 use Rattle.registrar.proofs.Judged.{mark_judged}
 use Rattle.gm_member.specs.Held.{Held, up_refused, first_at_door}
@@ -32,9 +33,10 @@ use Rattle.ring_cluster.specs.Parties.{ANode, Shown, Posted, Parties, node_at, p
 use Rattle.ring_cluster.specs.Standing.{MemberStands, Stand}
 use Rattle.ring_cluster.specs.Acting.{look_refused, newest_of, waits_at}
 use Rattle.ring_cluster.proofs.Lawful.{IsLawfulAt}
-use Rattle.ring_cluster.proofs.Handing.{registrar_stands}
 use Rattle.ring_cluster.proofs.Marking.{held_whole, newest_is}
 use Rattle.ring_cluster.proofs.Truth.{made_some}
+use Rattle.group_view.specs.Ring.{is_in}
+use Rattle.ring_cluster.specs.Refused.{standing_of, office_of, mark_refused}
 
 -- ---- a refresh
 
@@ -107,30 +109,51 @@ mark_unknown credit w q x name dead g named none st =
     ∙ sym (ap (λ o. of_member o (λ y. up_refusal w y (of_member (id_of w dead) (event.mark_refusal w y)))) named)
 
 -- no link of the ring waits at the registrar where none is posted for x
-none_from : (d x since : ℕ) (ls : List (Standing (PlainIn Load))) (behind : List Posted) → filter (waits_at x) (map posted ls ++ behind) ≡ [] → waits_from ls d x since ≡ false
-none_from d x since [] behind e = refl
-none_from d x since (a ∷ ls) behind e = by_test (nat_eq a.name.to.0 x) refl e (λ k. none_from d x since ls behind k)
+none_from : (d x since : ℕ) (ps : List Posted) → filter (waits_at x) ps ≡ [] → waits_from (map standing_of ps) d x since ≡ false
+none_from d x since [] e = refl
+none_from d x since (a ∷ ps) e = by_test (nat_eq a.name.to.0 x) refl e (λ k. none_from d x since ps k)
   where
     not_third : (f g : Bool) (l : Bool) → (f && (g && (false && l))) ≡ false
     not_third true true l = refl
     not_third true false l = refl
     not_third false g l = refl
 
-    by_test : (b : Bool) → nat_eq a.name.to.0 x ≡ b → cond b (posted a ∷ filter (waits_at x) (map posted ls ++ behind)) (filter (waits_at x) (map posted ls ++ behind)) ≡ [] → (filter (waits_at x) (map posted ls ++ behind) ≡ [] → waits_from ls d x since ≡ false)
-        → (is_ring_from d x since a || waits_from ls d x since) ≡ false
+    by_test : (b : Bool) → nat_eq a.name.to.0 x ≡ b → cond b (a ∷ filter (waits_at x) ps) (filter (waits_at x) ps) ≡ [] → (filter (waits_at x) ps ≡ [] → waits_from (map standing_of ps) d x since ≡ false)
+        → (is_ring_from d x since (standing_of a) || waits_from (map standing_of ps) d x since) ≡ false
     by_test true k h ih = cc
     by_test false k h ih =
-        ap (λ b. (is_ring a.name.kind && (nat_eq a.name.from.0 d && (b && nat_le since a.name.view))) || waits_from ls d x since) k
-        ∙ ap (λ b. b || waits_from ls d x since) (not_third (is_ring a.name.kind) (nat_eq a.name.from.0 d) (nat_le since a.name.view))
+        ap (λ b. (is_ring a.name.kind && (nat_eq a.name.from.0 d && (b && nat_le since a.name.view))) || waits_from (map standing_of ps) d x since) k
+        ∙ ap (λ b. b || waits_from (map standing_of ps) d x since) (not_third (is_ring a.name.kind) (nat_eq a.name.from.0 d) (nat_le since a.name.view))
         ∙ ih h
 
 -- the member's conditions, and then the registrar's, are the ring's
-pub mark_asked_refuses : (credit : CreditSpec) (w : World) (nodes : List ANode) (r : Registry (PlainIn Load)) (behind : List Posted) (x d : ℕ) (name dead : List ℕ) (m : Shown) → IsLawfulAt credit w → id_of w name ≡ Some x → id_of w dead ≡ Some d
-    → Stand credit.initial w (parties nodes r behind) → filter (waits_at x) (parties nodes r behind).post ≡ [] → m ≡ node_at (parties nodes r behind) (x - 1)
-    → up_refused m.held (mark_refusal r x d m.held.view.version (is_some m.held.current || is_some (first_at_door m.held))) ≡ refusal w (Mark name dead)
-mark_asked_refuses credit w nodes r behind x d name dead m g named there st none is =
-    let q : Parties = parties nodes r behind in
+pub mark_asked_refuses : (credit : CreditSpec) (w : World) (q : Parties) (x d : ℕ) (name dead : List ℕ) (m : Shown) → IsLawfulAt credit w → id_of w name ≡ Some x → id_of w dead ≡ Some d
+    → Stand credit.initial w q → filter (waits_at x) q.post ≡ [] → m ≡ node_at q (x - 1)
+    → up_refused m.held (mark_refusal (office_of q) x d m.held.view.version (is_some m.held.current || is_some (first_at_door m.held))) ≡ refusal w (Mark name dead)
+mark_asked_refuses credit w q x d name dead m g named there st none is =
     let at : (1 ≤ x) × (x < size w) = id_within w name x named in
     let held : m.held ≡ held_in w x = ap (λ (k : Shown). k.held) is ∙ held_whole credit.initial w q x at.0 at.1 st none in
-    ap (λ (k : Held). up_refused k (mark_refusal r x d k.view.version (is_some k.current || is_some (first_at_door k)))) held
-    ∙ mark_refuses w r x d name dead g.fit.good (registrar_stands credit.initial w nodes r behind st.places st.stand) named there (λ since. none_from d x since r.links behind none)
+    let office : StandsIn w (office_of q) = record { views = st.stand.views; stopped = st.stand.stopped } in
+    ap (λ (k : Held). up_refused k (mark_refusal (office_of q) x d k.view.version (is_some k.current || is_some (first_at_door k)))) held
+    ∙ mark_refuses w (office_of q) x d name dead g.fit.good office named there (λ since. none_from d x since q.post none)
+
+-- ---- the registrar, and what is shown of it
+
+-- the same links wait
+same_waits : (d x since : ℕ) (ls : List (Standing (PlainIn Load))) → waits_from (map standing_of (map posted ls ++ [])) d x since ≡ waits_from ls d x since
+same_waits d x since [] = refl
+same_waits d x since (a ∷ ls) = ap (λ b. is_ring_from d x since a || b) (same_waits d x since ls)
+
+-- it has the same conditions for a mark
+pub mark_same : (nodes : List ANode) (r : Registry (PlainIn Load)) (m : Shown) (d : ℕ) → mark_refused (office_of (parties nodes r [])) m (Some d) ≡ mark_refused r m (Some d)
+mark_same nodes r m d =
+    let g : Group = view_at r.views m.held.view.version in
+    let x : ℕ = m.held.id in
+    let has : Bool = is_some m.held.current || is_some (first_at_door m.held) in
+    ap (λ b. up_refused m.held (or_else (refuse_if (not (is_known r x)) reason.UnknownMember)
+    (or_else (refuse_if (not (is_known r d)) reason.UnknownMember)
+    (or_else (refuse_if (not (is_beside g x d)) reason.NotNeighbour)
+    (or_else (refuse_if (not (is_live (newest_view r).entries d)) reason.AlreadyDead)
+    (or_else (refuse_if (not (is_in d r.stopped)) reason.NotStopped)
+    (refuse_if (is_left g x d && (has || b)) reason.LinkNotEnded)))))))
+    (same_waits d x (since_in g x) r.links)

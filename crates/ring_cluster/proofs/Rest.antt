@@ -13,6 +13,7 @@ use Rattle.group_view.specs.Change.{AreOpeningNames}
 use Rattle.group_view.proofs.Rings.{nat_eq-is, nat_eq-same, nat_eq-not, sym_test, not_equal_in, distinct_others}
 use Rattle.group_view.proofs.Neighbours.{filter_empty_at, left_gap, IsLeft, itself, other, left_is_left}
 use Rattle.ring_world.specs.declared.event.Event.{Event}
+use Rattle.ring_world.specs.Rows.{Row}
 use Rattle.ring_world.specs.View.{is_live}
 use Rattle.ring_world.specs.Machine.{World, view_at, newest, ring, left, runs, runs_phase}
 use Rattle.ring_world.specs.Step.{size, log_of, is_owned, opening}
@@ -20,14 +21,14 @@ use Rattle.ring_world.specs.Event.{IsRun, last}
 use Rattle.ring_world.specs.Lawful.{row_of}
 use Rattle.ring_world.specs.Quiet.{IsSettled, IsAtRest, IsQuiet}
 use Rattle.ring_world.proofs.Good.{low, low_forgot}
-use Rattle.ring_world.proofs.Views.{left_is}
 use Rattle.ring_world.proofs.Ended.{runs_lt}
 use Rattle.group_view.proofs.Truth.{later_true}
 use Rattle.ring_world.proofs.Opening.{range_in}
 use Rattle.ring_cluster.specs.Idle.{IsIdle, NobodyStopped}
 use Rattle.ring_cluster.proofs.Round.{round_same}
 use Rattle.ring_cluster.proofs.Reached.{IsReached, reached}
-use Rattle.ring_cluster.proofs.Links.{IsEven, up_there, some_id, stands_there, lives_there, open_holds_nothing, neighbours_agree}
+use Rattle.ring_cluster.proofs.Links.{up_there, some_id, stands_there, lives_there, open_holds_nothing, neighbours_agree}
+use Rattle.ring_world.proofs.Views.{left_in_view}
 
 -- ---- entries
 
@@ -96,12 +97,12 @@ module _ (w : World) (h : IsReached w) (idle : IsIdle w) (settled : All (IsSettl
   runs_there z l = settled_runs w (view_at w (newest w)).entries z settled l
 
   -- the left neighbour as the list of ids has it
-  left_in_is : (y : ℕ) → left w (newest w) y ≡ left_in (is_live (view_at w (newest w))) y (ring w)
-  left_in_is y = left_is w (newest w) y (view_at w (newest w)) refl
+  left_in_is : (y : ℕ) → is_in y (ring w) ≡ true → left w (newest w) y ≡ left_in (is_live (view_at w (newest w))) y (ring w)
+  left_in_is y = left_in_view w (newest w) y
 
   -- the left neighbour of a running member is live and runs
   left_lives : (y : ℕ) → runs w y ≡ true → (is_in (left w (newest w) y) (ring w) ≡ true) × (is_live (view_at w (newest w)) (left w (newest w) y) ≡ true)
-  left_lives y ry = by_left (left_is_left (is_live (view_at w (newest w))) (left w (newest w) y) y (ring w) (distinct_others y (ring w) distinct (stands_there w h idle y ry)) (stands_there w h idle y ry) (sym (left_in_is y)))
+  left_lives y ry = by_left (left_is_left (is_live (view_at w (newest w))) (left w (newest w) y) y (ring w) (distinct_others y (ring w) distinct (stands_there w h idle y ry)) (stands_there w h idle y ry) (sym (left_in_is y (stands_there w h idle y ry))))
     where
       by_left : IsLeft (is_live (view_at w (newest w))) (left w (newest w) y) y (ring w) → (is_in (left w (newest w) y) (ring w) ≡ true) × (is_live (view_at w (newest w)) (left w (newest w) y) ≡ true)
       by_left (itself e) = (ap (λ q. is_in q (ring w)) e ∙ stands_there w h idle y ry, ap (is_live (view_at w (newest w))) e ∙ lives_there w h idle y ry)
@@ -122,41 +123,32 @@ module _ (w : World) (h : IsReached w) (idle : IsIdle w) (settled : All (IsSettl
       iy = stands_there w h idle y ry
 
       gap : filter (is_live (view_at w (newest w))) (before y (others x (ring w))) ≡ []
-      gap = left_gap (is_live (view_at w (newest w))) x y (ring w) distinct (distinct_others y (ring w) distinct iy) iy (sym (left_in_is y))
+      gap = left_gap (is_live (view_at w (newest w))) x y (ring w) distinct (distinct_others y (ring w) distinct iy) iy (sym (left_in_is y iy))
 
       by_test : (b : Bool) → is_in p (before y (others x (ring w))) ≡ b → b ≡ false
       by_test true e = absurd (false≢true (sym (filter_empty_at (is_live (view_at w (newest w))) p (before y (others x (ring w))) gap e) ∙ lp))
       by_test false e = refl
 
-  -- of another, a member has got what its left neighbour has
-  same_got : (p : ℕ) → runs w p ≡ true → (y : ℕ) → is_in y (ring w) ≡ true → is_live (view_at w (newest w)) y ≡ true → y ≢ p → (row_of w y p).got ≡ (row_of w (left_in (is_live (view_at w (newest w))) y (ring w)) p).got
-  same_got p rp y iy ly ne =
+  -- what each other member has of p as its left neighbour has it, and p as it has come round, p has as it first had it
+  came_round : (of : Bool → Row → ℕ) (part : Row → ℕ) → ((r : Row) → of false r ≡ part r) → (p : ℕ) → runs w p ≡ true
+      → ((y : ℕ) → runs w y ≡ true → of (is_owned (view_at w (newest w)) y (left w (newest w) y) p) (row_of w y p) ≡ part (row_of w (left w (newest w) y) p)) → of true (row_of w p p) ≡ part (row_of w p p)
+  came_round of part late p rp even =
+      let x : ℕ = left w (newest w) p in
+      let there = left_lives p rp in
+      let own : is_owned (view_at w (newest w)) p x p ≡ true = rw (nat_eq-same p) refl in
+      subst (λ b. of b (row_of w p p) ≡ part (row_of w x p)) own (even p rp)
+      ∙ round_same (is_live (view_at w (newest w))) p (ring w) (λ k. part (row_of w k p)) distinct (stands_there w h idle p rp) (lives_there w h idle p rp)
+      (λ y iy ly ne.
       let ry : runs w y ≡ true = runs_there y ly in
-      let even : IsEven w y p = neighbours_agree w h idle y p ry (left_runs y ry) (runs_lt w p rp) in
-      subst (λ b. low b (row_of w y p) ≡ (row_of w (left w (newest w) y) p).got) (not_answered y p ry (lives_there w h idle p rp) ne) even.got ∙ ap (λ q. (row_of w q p).got) (left_in_is y)
-
-  -- and of what was forgotten
-  same_forgot : (p : ℕ) → runs w p ≡ true → (y : ℕ) → is_in y (ring w) ≡ true → is_live (view_at w (newest w)) y ≡ true → y ≢ p → (row_of w y p).forgot ≡ (row_of w (left_in (is_live (view_at w (newest w))) y (ring w)) p).forgot
-  same_forgot p rp y iy ly ne =
-      let ry : runs w y ≡ true = runs_there y ly in
-      let even : IsEven w y p = neighbours_agree w h idle y p ry (left_runs y ry) (runs_lt w p rp) in
-      subst (λ b. low_forgot b (row_of w y p) ≡ (row_of w (left w (newest w) y) p).forgot) (not_answered y p ry (lives_there w h idle p rp) ne) even.forgot ∙ ap (λ q. (row_of w q p).forgot) (left_in_is y)
+      sym (late (row_of w y p)) ∙ subst (λ b. of b (row_of w y p) ≡ part (row_of w (left w (newest w) y) p)) (not_answered y p ry (lives_there w h idle p rp) ne) (even y ry) ∙ ap (λ q. part (row_of w q p)) (left_in_is y iy))
+      x there.0 there.1
 
   -- all that a member published has come round to it, and the acknowledgement too
   pub all_come_round : (p : ℕ) → runs w p ≡ true → (row_of w p p).retired ≡ length (log_of w p)
   all_come_round p rp =
-      let v = view_at w (newest w) in
-      let x : ℕ = left w (newest w) p in
-      let ip : is_in p (ring w) ≡ true = stands_there w h idle p rp in
-      let lp : is_live v p ≡ true = lives_there w h idle p rp in
-      let there = left_lives p rp in
-      let got : (row_of w x p).got ≡ (row_of w p p).got = round_same (is_live v) p (ring w) (λ k. (row_of w k p).got) distinct ip lp (same_got p rp) x there.0 there.1 in
-      let forgot : (row_of w x p).forgot ≡ (row_of w p p).forgot = round_same (is_live v) p (ring w) (λ k. (row_of w k p).forgot) distinct ip lp (same_forgot p rp) x there.0 there.1 in
-      let even : IsEven w p p = neighbours_agree w h idle p p rp (left_runs p rp) (runs_lt w p rp) in
-      let own : is_owned v p x p ≡ true = rw (nat_eq-same p) refl in
-      let once : (row_of w p p).forgot ≡ (row_of w x p).got = subst (λ b. low b (row_of w p p) ≡ (row_of w x p).got) own even.got in
-      let twice : (row_of w p p).retired ≡ (row_of w x p).forgot = subst (λ b. low_forgot b (row_of w p p) ≡ (row_of w x p).forgot) own even.forgot in
-      twice ∙ forgot ∙ once ∙ got ∙ h.fit.sized.own p (some_id w h idle p rp) (runs_lt w p rp)
+      came_round low_forgot (λ r. r.forgot) (λ r. refl) p rp (λ y ry. (neighbours_agree w h idle y p ry (left_runs y ry) (runs_lt w p rp)).forgot)
+      ∙ came_round low (λ r. r.got) (λ r. refl) p rp (λ y ry. (neighbours_agree w h idle y p ry (left_runs y ry) (runs_lt w p rp)).got)
+      ∙ h.fit.sized.own p (some_id w h idle p rp) (runs_lt w p rp)
 
   -- so the ring rests
   pub idle_rests : IsAtRest w

@@ -1,8 +1,7 @@
 -- What was last sent over a current link that holds no packet, its receiver has.
-use Rattle.std.proofs.Common.{◌≡◌, ◌≢◌, ℕ, ◌+◌, ◌<◌, ◌≤◌, Bool, true, false, not, nat_eq, List, [], ◌∷◌, ◌++◌, length, drop, get_or, set, Option, Some, None, is_some, refl, sym, ap, subst, ◌∙◌, ⊎_elim, if◌then◌else◌, arith}
-use Rattle.std.proofs.lemmas.Bool.{and_parts, false≢true, cases_eq, not-true}
-use Rattle.std.proofs.lemmas.List.{length-set, get_or-set_other}
-use Rattle.std.proofs.lemmas.List.Quantifiers.{position-Some}
+use Rattle.std.proofs.Common.{◌≡◌, ◌≢◌, ℕ, ◌+◌, ◌<◌, ◌≤◌, Bool, true, false, nat_eq, List, [], ◌∷◌, length, drop, get_or, set, Some, None, refl, sym, ap, subst, ◌∙◌, ⊎_elim, arith}
+use Rattle.std.proofs.lemmas.Bool.{false≢true, cases_eq}
+use Rattle.std.proofs.lemmas.List.{length-set, get_or-set_other, length_push, get_or_append_left, get_or-set_same}
 use Rattle.ring_names.specs.declared.message.Message.{Message}
 use Rattle.ring_names.specs.declared.numbers.CreditSpec.{CreditSpec}
 use Rattle.group_view.specs.View.{Group}
@@ -10,38 +9,57 @@ use Rattle.group_view.specs.Change.{AreOpeningNames, marked}
 use Rattle.ring_world.specs.declared.numbers.Numbers.{Numbers}
 use Rattle.ring_world.specs.declared.event.Event.{Event}
 use Rattle.ring_world.specs.declared.phase.Ending.TheVariants.{Moved, Halted}
-use Rattle.ring_world.specs.Rows.{Row, no_row, published_row}
+use Rattle.ring_world.specs.Rows.{Row, no_row, published_row, taken_row}
 use Rattle.ring_world.specs.Refusal.{is_empty}
 use Rattle.ring_world.specs.View.{ids, right_of}
-use Rattle.ring_world.specs.Machine.{Packet, Member, Link, World, no_packet, no_link, no_member, row_at, numbers_at, member_at, link_at, view_at, newest, runs, runs_phase, is_kept}
-use Rattle.ring_world.specs.Walk.{oldest}
-use Rattle.ring_world.specs.Step.{size, log_of, put_on, pushed, popped, next_packet, gain_on, publish_at, published, take_from, taker, taken_row, is_owned, current_is, with_current, leave_link, stop_at, stopped, end_out, ended, with_member, with_link, with_view, look_at, moved_to, open_to, opened_link, opening}
-use Rattle.ring_world.specs.Event.{is_at_door, at_door, send_to, refreshed, refusal, effect, IsRun, last}
+use Rattle.ring_world.specs.Machine.{Packet, Member, Link, World, no_packet, no_link, no_member, row_at, numbers_at, member_at, link_at, view_at, newest, runs, runs_phase, oldest}
+use Rattle.ring_world.specs.Step.{size, log_of, put_on, pushed, popped, next_packet, gain_on, publish_at, published, take_from, taker, is_owned, current_is, with_current, leave_link, stop_at, stopped, end_out, ended, with_member, with_link, with_view, look_at, moved_to, open_to, opened_link, opening}
+use Rattle.ring_world.specs.Event.{at_door, refreshed, refusal, effect, IsRun, last}
 use Rattle.ring_world.proofs.Good.{low, low_forgot}
 use Rattle.ring_world.proofs.WhatRefuses.{MayTake}
-use Rattle.ring_world.proofs.Lists.{at_set, at_push}
-use Rattle.ring_world.proofs.Rounds.{nat_eq-is, nat_eq-same}
+use Rattle.ring_world.proofs.Lists.{at_set}
+use Rattle.ring_world.proofs.Rounds.{nat_eq-same}
 use Rattle.ring_world.proofs.Open.{with_opened}
 use Rattle.ring_world.proofs.Take.{row_at-taker}
-use Rattle.ring_world.proofs.Kept.{Inv}
-use Rattle.ring_world.proofs.KeptLook.{kept_current-Some}
+use Rattle.ring_world.proofs.Kept.{Inv, not_empty_push}
 use Rattle.ring_world.proofs.KeptCast.{gained_rows}
 use Rattle.ring_world.proofs.KeptMore.{mark_keeps}
 use Rattle.ring_world.proofs.Happens.{IsGood, run_events, opening_good, door_pickable}
-use Rattle.ring_world.proofs.Cases.{each_event}
+use Rattle.ring_world.proofs.FromLeft.{found_at_door}
+use Rattle.ring_world.proofs.Cases.{each_event, IsUp}
 use Rattle.ring_world.proofs.First.{first_row, first_link}
 use Rattle.ring_world.proofs.Lines.{IsChain, HasFirst, LinesRight, Still}
 use Rattle.ring_world.proofs.LinesKept.{cast_still, gain_still, end_still, stop_still, leave_still, look_still, out_still, view_ids, version_some, own_ids, mark_still, mark_ids}
 use Rattle.ring_world.proofs.NoGap.{event_lines, reached_lines}
+use Rattle.ring_world.specs.declared.phase.Ending.{Ending}
+use Rattle.ring_world.proofs.Composed.{end_composed, refresh_composed}
+use Rattle.ring_world.proofs.Ended.{door_link}
 
 -- a row has what numbers say: where it is answered for, they have come round
 pub record Has (own : Bool) (r : Row) (k : Numbers) : Type 0 where
   pub got : low own r ≡ k.got
   pub forgot : low_forgot own r ≡ k.forgot
 
+-- what was last sent on a link of an origin, its receiver y has
+abbrev pub HasAt : World → ℕ → Member → Link → ℕ → Type 0
+HasAt w y m l p = Has (is_owned (view_at w m.version) y l.sender p) (row_at m p) (numbers_at l.sending.sent p)
+
 -- in a state: of each current link without packets, and each origin
 abbrev pub HasSent : World → Type 0
-HasSent w = (y s p : ℕ) → runs w y ≡ true → (member_at w y).current ≡ Some s → p < size w → (link_at w s).packets ≡ [] → Has (is_owned (view_at w (member_at w y).version) y (link_at w s).sender p) (row_at (member_at w y) p) (numbers_at (link_at w s).sending.sent p)
+HasSent w = (y s p : ℕ) → runs w y ≡ true → (member_at w y).current ≡ Some s → p < size w → (link_at w s).packets ≡ [] → HasAt w y (member_at w y) (link_at w s) p
+
+-- who runs takes from a link that is there
+abbrev TakesThere : World → Type 0
+TakesThere w = (y s : ℕ) → runs w y ≡ true → (member_at w y).current ≡ Some s → s < length w.links
+
+-- both
+record Sends (w : World) : Type 0 where
+  has : HasSent w
+  there : TakesThere w
+
+-- so where the invariants hold
+sends : (w : World) → Inv w → HasSent w → Sends w
+sends w inv h = record { has = h; there = inv.current.lt }
 
 -- ---- steps that leave the packets where they are
 
@@ -50,14 +68,17 @@ abbrev pub StillHas : World → World → Type 0
 StillHas w w' = (y z p : ℕ) (k : Numbers) → Has (is_owned (view_at w (member_at w y).version) y z p) (row_at (member_at w y) p) k → Has (is_owned (view_at w (member_at w y).version) y z p) (row_at (member_at w' y) p) k
 
 -- such a step keeps it
-still_has : (w w' : World) → Still w w' → StillHas w w' → HasSent w → HasSent w'
-still_has w w' k rows h y s p r e l empty =
-    let old : Has (is_owned (view_at w (member_at w y).version) y (link_at w s).sender p) (row_at (member_at w y) p) (numbers_at (link_at w s).sending.sent p) =
-    h y s p (k.runs_less y r) (k.current y s e) (omega (arith, k.same_size)) (sym (k.lines s).packets ∙ empty) in
-    let now : Has (is_owned (view_at w (member_at w y).version) y (link_at w s).sender p) (row_at (member_at w' y) p) (numbers_at (link_at w s).sending.sent p) = rows y (link_at w s).sender p (numbers_at (link_at w s).sending.sent p) old in
-    subst (λ z. Has (is_owned (view_at w' (member_at w' y).version) y z p) (row_at (member_at w' y) p) (numbers_at (link_at w' s).sending.sent p)) (sym (k.lines s).sender)
-    (subst (λ a. Has (is_owned (view_at w' (member_at w' y).version) y (link_at w s).sender p) (row_at (member_at w' y) p) (numbers_at a.sent p)) (sym (k.lines s).sending)
-    (subst (λ b. Has b (row_at (member_at w' y) p) (numbers_at (link_at w s).sending.sent p)) (sym (k.owned y (link_at w s).sender p r)) now))
+still_sends : (w w' : World) → Still w w' → StillHas w w' → Sends w → Sends w'
+still_sends w w' k rows h = record {
+  has = λ y s p r e l empty.
+      let z : ℕ = (link_at w s).sender in
+      let last : Numbers = numbers_at (link_at w s).sending.sent p in
+      let now : Has (is_owned (view_at w (member_at w y).version) y z p) (row_at (member_at w' y) p) last = rows y z p last (h.has y s p (k.runs_less y r) (k.current y s e) (omega (arith, k.same_size)) (sym (k.lines s).packets ∙ empty)) in
+      subst (λ q. Has (is_owned (view_at w' (member_at w' y).version) y q p) (row_at (member_at w' y) p) (numbers_at (link_at w' s).sending.sent p)) (sym (k.lines s).sender)
+      (subst (λ a. Has (is_owned (view_at w' (member_at w' y).version) y z p) (row_at (member_at w' y) p) (numbers_at a.sent p)) (sym (k.lines s).sending)
+      (subst (λ b. Has b (row_at (member_at w' y) p) last) (sym (k.owned y z p r)) now));
+  there = λ y s r e. omega (arith, k.many, h.there y s (k.runs_less y r) (k.current y s e));
+}
 
 -- a member is written with its rows
 same_rows : (w : World) (x : ℕ) (m : Member) (ls : List Link) → x < size w → m.rows ≡ (member_at w x).rows → StillHas w (record w { members = set w.members x m; links = ls })
@@ -89,17 +110,12 @@ cast_rows w x m lt y z p k =
     other : p ≢ x → Has own (row_at (member_at w x) p) k → Has own (row_at (published x m (member_at w x)) p) k
     other ne h = subst (λ r. Has own r k) (sym (get_or-set_other (member_at w x).rows x p (published_row (row_at (member_at w x) x) m) no_row ne)) h
 
--- a packet joins, and so the link isn't empty
-not_nothing : (ks : List Packet) (k : Packet) → ks ++ k ∷ [] ≢ []
-not_nothing [] k e = cc
-not_nothing (j ∷ ks) k e = cc
-
 -- a put
 put_has : (w : World) (x o : ℕ) → o < length w.links → HasSent w → HasSent (put_on w x o)
 put_has w x o lt h y s p r e l empty =
     let new : Link = pushed (link_at w o) (next_packet (member_at w x) (link_at w o).sending) in
     at_set (λ i a. (member_at w y).current ≡ Some i → a.packets ≡ [] → Has (is_owned (view_at w (member_at w y).version) y a.sender p) (row_at (member_at w y) p) (numbers_at a.sending.sent p)) w.links o s new no_link lt
-    (λ _ bad. absurd (not_nothing (link_at w o).packets (next_packet (member_at w x) (link_at w o).sending) bad)) (λ _ c none. h y s p r c l none) e empty
+    (λ _ bad. absurd (false≢true (sym (not_empty_push (link_at w o).packets (next_packet (member_at w x) (link_at w o).sending)) ∙ ap is_empty bad))) (λ _ c none. h y s p r c l none) e empty
 
 -- the last packet of a link is what was last sent
 last_is_sent : (ks : List Packet) (sent : Packet) → is_empty ks ≡ false → drop 1 ks ≡ [] → IsChain ks sent → sent ≡ get_or ks 0 no_packet
@@ -114,88 +130,70 @@ taken_has false log r k = record { got = refl; forgot = refl }
 
 -- a take
 take_has : (w : World) (y s : ℕ) → MayTake w y s → Inv w → LinesRight w → HasSent w → HasSent (take_from w y s)
-take_has w y s m inv lines h z t p r e l empty =
-    let pl : p < size w = omega (arith, length-set w.members y (taker w y s)) in
-    let same : (member_at w' z).current ≡ (member_at w z).current = at_set (λ i a. a.current ≡ (member_at w i).current) w.members y z (taker w y s) no_member m.is_member refl (λ _. refl) in
-    let view : (member_at w' z).version ≡ (member_at w z).version = at_set (λ i a. a.version ≡ (member_at w i).version) w.members y z (taker w y s) no_member m.is_member refl (λ _. refl) in
-    let ran : runs w' z ≡ runs w z = at_set (λ i a. runs_phase a.phase ≡ runs w i) w.members y z (taker w y s) no_member m.is_member refl (λ _. refl) in
-    subst (λ v. Has (is_owned (view_at w v) z (link_at w' t).sender p) (row_at (member_at w' z) p) (numbers_at (link_at w' t).sending.sent p)) (sym view)
-    (at_set (λ i a. i ≡ z → Has (is_owned (view_at w (member_at w i).version) i (link_at w' t).sender p) (row_at a p) (numbers_at (link_at w' t).sending.sent p)) w.members y z (taker w y s) no_member m.is_member
-    (λ is. mine t p pl (ap (λ q. (member_at w q).current) is ∙ sym same ∙ e) empty)
-    (λ ne _. others z t p pl ne (sym ran ∙ r) (sym same ∙ e) empty) refl)
+take_has w y s m inv lines h z t p r e l empty = ⊎_elim mine other (cases_eq z y)
   where
     w' : World
     w' = take_from w y s
 
-    ry : runs w y ≡ true
-    ry = ap runs_phase m.up
+    there : s < length w.links
+    there = inv.current.lt y s (ap runs_phase m.up) m.current
 
-    lt : s < length w.links
-    lt = inv.current.lt y s ry m.current
+    pl : p < size w
+    pl = omega (arith, length-set w.members y (taker w y s))
 
-    old : Link
-    old = link_at w s
+    -- of the taker, which has what the packet says
+    mine : z ≡ y → HasAt w' z (member_at w' z) (link_at w' t) p
+    mine is =
+        let own : Bool = is_owned (view_at w (member_at w y).version) y (link_at w s).sender p in
+        let now : member_at w' z ≡ taker w y s = ap (member_at w') is ∙ get_or-set_same w.members y (taker w y s) no_member m.is_member in
+        let same : t ≡ s = (let both : Some s ≡ Some t = sym m.current ∙ ap (λ (a : Member). a.current) (sym now) ∙ e in cc) in
+        let old : link_at w' t ≡ popped (link_at w s) = ap (link_at w') same ∙ get_or-set_same w.links s (popped (link_at w s)) no_link there in
+        subst (λ q. HasAt w' q (member_at w' z) (link_at w' t) p) (sym is)
+        (subst (λ a. HasAt w' y a (link_at w' t) p) (sym now)
+        (subst (λ a. HasAt w' y (taker w y s) a p) (sym old)
+        (subst (λ a. Has own a (numbers_at (link_at w s).sending.sent p)) (sym (row_at-taker w y s p pl))
+        (subst (λ k. Has own (taken_row own (log_of w p) (row_at (member_at w y) p) (numbers_at (oldest (link_at w s)) p)) (numbers_at k p))
+        (sym (last_is_sent (link_at w s).packets (link_at w s).sending.sent m.has (sym (ap (λ (a : Link). a.packets) old) ∙ empty) (lines.chain s there)))
+        (taken_has own (log_of w p) (row_at (member_at w y) p) (numbers_at (oldest (link_at w s)) p))))))
 
-    new : Link
-    new = popped old
-
-    at_link : (p : ℕ) → p < size w → new.packets ≡ [] → Has (is_owned (view_at w (member_at w y).version) y new.sender p) (row_at (taker w y s) p) (numbers_at new.sending.sent p)
-    at_link p pl none =
-        let own : Bool = is_owned (view_at w (member_at w y).version) y old.sender p in
-        subst (λ a. Has own a (numbers_at old.sending.sent p)) (sym (row_at-taker w y s p pl))
-        (subst (λ k. Has own (taken_row own (log_of w p) (row_at (member_at w y) p) (numbers_at (oldest old) p)) (numbers_at k p)) (sym (last_is_sent old.packets old.sending.sent m.has none (lines.chain s lt)))
-        (taken_has own (log_of w p) (row_at (member_at w y) p) (numbers_at (oldest old) p)))
-
-    mine : (t p : ℕ) → p < size w → (member_at w y).current ≡ Some t → (link_at w' t).packets ≡ [] → Has (is_owned (view_at w (member_at w y).version) y (link_at w' t).sender p) (row_at (taker w y s) p) (numbers_at (link_at w' t).sending.sent p)
-    mine t p pl c =
-        let same : t ≡ s = (let both : Some s ≡ Some t = sym m.current ∙ c in cc) in
-        at_set (λ i a. i ≡ s → a.packets ≡ [] → Has (is_owned (view_at w (member_at w y).version) y a.sender p) (row_at (taker w y s) p) (numbers_at a.sending.sent p)) w.links s t new no_link lt
-        (λ _ none. at_link p pl none) (λ ne k. absurd (ne k)) same
-
-    others : (z t p : ℕ) → p < size w → z ≢ y → runs w z ≡ true → (member_at w z).current ≡ Some t → (link_at w' t).packets ≡ [] → Has (is_owned (view_at w (member_at w z).version) z (link_at w' t).sender p) (row_at (member_at w z) p) (numbers_at (link_at w' t).sending.sent p)
-    others z t p pl ne rz =
-        at_set (λ i a. (member_at w z).current ≡ Some i → a.packets ≡ [] → Has (is_owned (view_at w (member_at w z).version) z a.sender p) (row_at (member_at w z) p) (numbers_at a.sending.sent p)) w.links s t new no_link lt
-        (λ c _. absurd (ne (sym (inv.current.receiver z s rz c) ∙ inv.current.receiver y s ry m.current))) (λ _ c none. h z t p rz c pl none)
+    -- of another, which takes from another link
+    other : z ≢ y → HasAt w' z (member_at w' z) (link_at w' t) p
+    other ne =
+        let now : member_at w' z ≡ member_at w z = get_or-set_other w.members y z (taker w y s) no_member ne in
+        let rz : runs w z ≡ true = ap (λ (a : Member). runs_phase a.phase) (sym now) ∙ r in
+        let c : (member_at w z).current ≡ Some t = ap (λ (a : Member). a.current) (sym now) ∙ e in
+        let apart : t ≢ s = λ (same : t ≡ s). ne (sym (inv.current.receiver z t rz c) ∙ ap (λ k. (link_at w k).receiver) same ∙ inv.current.receiver y s (ap runs_phase m.up) m.current) in
+        let old : link_at w' t ≡ link_at w t = get_or-set_other w.links s t (popped (link_at w s)) no_link apart in
+        subst (λ a. HasAt w' z a (link_at w' t) p) (sym now) (subst (λ a. HasAt w' z (member_at w z) a p) (sym old) (h z t p rz c pl (sym (ap (λ (a : Link). a.packets) old) ∙ empty)))
 
 -- the end of a link was taken
-leave_has : (w : World) (y s : ℕ) → y < size w → s < length w.links → (member_at w y).current ≡ Some s → HasSent w → HasSent (leave_link w y s)
-leave_has w y s yl lt c h = still_has w (leave_link w y s) (leave_still w y s yl lt c) (same_rows w y (with_current None (member_at w y)) (leave_link w y s).links yl refl) h
+leave_sends : (w : World) (y s : ℕ) → y < size w → s < length w.links → (member_at w y).current ≡ Some s → Sends w → Sends (leave_link w y s)
+leave_sends w y s yl lt c = still_sends w (leave_link w y s) (leave_still w y s yl lt c) (same_rows w y (with_current None (member_at w y)) (leave_link w y s).links yl refl)
 
 -- a link ends
-end_has : (w : World) (o : ℕ) (w' : World) → o < length w.links → w' ≡ with_link w o (ended Moved (link_at w o)) → HasSent w → HasSent w'
-end_has w o w' lt e h = subst HasSent (sym e) (still_has w (with_link w o (ended Moved (link_at w o))) (end_still w o Moved lt) (no_rows w (with_link w o (ended Moved (link_at w o))) refl) h)
+end_sends : (why : Ending) (w : World) (o : ℕ) → o < length w.links → Sends w → Sends (with_link w o (ended why (link_at w o)))
+end_sends why w o lt = still_sends w (with_link w o (ended why (link_at w o))) (end_still w o why lt) (no_rows w (with_link w o (ended why (link_at w o))) refl)
 
 -- a stop
-stop_has : (w : World) (x : ℕ) → x < size w → runs w x ≡ true → Inv w → HasSent w → HasSent (end_out Halted (stop_at w x) (member_at w x).out)
-stop_has w x lt rx inv h = by_out (member_at w x).out refl
-  where
-    now : HasSent (stop_at w x)
-    now = still_has w (stop_at w x) (stop_still w x lt) (same_rows w x (stopped (member_at w x)) w.links lt refl) h
-
-    by_out : (o : Option ℕ) → (member_at w x).out ≡ o → HasSent (end_out Halted (stop_at w x) o)
-    by_out None e = now
-    by_out (Some o) e =
-        let w1 : World = stop_at w x in
-        still_has w1 (with_link w1 o (ended Halted (link_at w1 o))) (end_still w1 o Halted (inv.linked.out_lt x o rx e)) (no_rows w1 (with_link w1 o (ended Halted (link_at w1 o))) refl) now
+stop_sends : (w : World) (x : ℕ) → x < size w → runs w x ≡ true → Inv w → Sends w → Sends (end_out Halted (stop_at w x) (member_at w x).out)
+stop_sends w x lt rx inv h =
+    end_composed Sends Halted (stop_at w x) (member_at w x).out (λ o e. end_sends Halted (stop_at w x) o (inv.linked.out_lt x o rx e))
+    (still_sends w (stop_at w x) (stop_still w x lt) (same_rows w x (stopped (member_at w x)) w.links lt refl) h)
 
 -- the link that is picked has its first packet
-pick_has : (w : World) (y s : ℕ) → y < size w → runs w y ≡ true → is_some (member_at w y).current ≡ false → at_door w y ≡ Some s → is_kept w (link_at w s) (member_at w y).version ≡ true → LinesRight w → HasSent w → HasSent (current_is w y (Some s))
-pick_has w y s yl ry none door kept lines h z t p r e l empty =
-    let pl : p < size w = omega (arith, length-set w.members y m) in
-    at_set (λ i a. runs_phase a.phase ≡ true → a.current ≡ Some t → Has (is_owned (view_at w a.version) i (link_at w t).sender p) (row_at a p) (numbers_at (link_at w t).sending.sent p)) w.members y z m no_member yl
+pick_has : (w : World) (y s : ℕ) → IsUp w y → (member_at w y).current ≡ None → at_door w y ≡ Some s → (link_at w s).opened ≤ (member_at w y).version → IsGood w → LinesRight w → HasSent w → HasSent (current_is w y (Some s))
+pick_has w y s u none door upto g lines h z t p r e l empty =
+    at_set (λ i a. runs_phase a.phase ≡ true → a.current ≡ Some t → HasAt w i a (link_at w t) p) w.members y z m no_member u.lt
     (λ _ c. let same : s ≡ t = cc in absurd (has_none (link_at w s).packets first (ap (λ j. (link_at w j).packets) same ∙ empty)))
-    (λ _ r2 c. h z t p r2 c pl empty) r e
+    (λ _ r2 c. h z t p r2 c (omega (arith, length-set w.members y m)) empty) r e
   where
     m : Member
     m = with_current (Some s) (member_at w y)
 
-    found : (s < length w.links) × (is_at_door w y (link_at w s) ≡ true)
-    found = let f = position-Some (is_at_door w y) w.links s no_link door in (f.0, f.1)
-
     first : HasFirst (link_at w s).packets
     first =
-        let a = and_parts (nat_eq (link_at w s).receiver y) _ found.1 in
-        lines.untouched y s found.0 ry (nat_eq-is (link_at w s).receiver y a.0) (not-true (link_at w s).over (and_parts (not (link_at w s).over) _ a.1).0) kept (λ c. false≢true (sym none ∙ ap is_some c))
+        let d = door_link w y s door in
+        lines.untouched y s d.lt (ap runs_phase u.up) d.receiver d.goes_on ((door_pickable w y s door upto g).kept_yet s refl) (λ c. let bad : None ≡ Some s = sym none ∙ c in cc)
 
     has_none : (ks : List Packet) → HasFirst ks → ks ≢ []
     has_none [] f k = f
@@ -204,8 +202,13 @@ pick_has w y s yl ry none door kept lines h z t p r e l empty =
 -- ---- a refresh
 
 -- the current link was there before another opened
-open_has : (w : World) (x z : ℕ) → x < size w → ((y s : ℕ) → runs w y ≡ true → (member_at w y).current ≡ Some s → s < length w.links) → HasSent w → HasSent (open_to w x z)
-open_has w x z lt within h = still_has w1 (open_to w x z) (out_still w x z lt) (same_rows w1 x (record (member_at w x) { out = Some (length w.links) }) w1.links lt refl) now
+open_sends : (w : World) (x z : ℕ) → x < size w → Sends w → Sends (open_to w x z)
+open_sends w x z lt h = still_sends w1 (open_to w x z) (out_still w x z lt) (same_rows w1 x (record (member_at w x) { out = Some (length w.links) }) w1.links lt refl) (record {
+  has = λ y s p r e l.
+      let old : link_at w1 s ≡ link_at w s = get_or_append_left w.links (new ∷ []) no_link s (h.there y s r e) in
+      subst (λ a. a.packets ≡ [] → HasAt w y (member_at w y) a p) (sym old) (h.has y s p r e l);
+  there = λ y s r e. omega (arith, h.there y s r e, length_push w.links new);
+})
   where
     new : Link
     new = opened_link w x z
@@ -213,75 +216,41 @@ open_has w x z lt within h = still_has w1 (open_to w x z) (out_still w x z lt) (
     w1 : World
     w1 = with_opened w new
 
-    now : HasSent w1
-    now y s p r e l =
-        let sl : s < length w.links = within y s r e in
-        at_push (λ i a. i < length w.links → a.packets ≡ [] → Has (is_owned (view_at w (member_at w y).version) y a.sender p) (row_at (member_at w y) p) (numbers_at a.sending.sent p)) w.links s new no_link (omega arith)
-        (λ bad _. absurd (omega arith)) (λ _ _ none. h y s p r e l none) sl
-
 -- a whole refresh
-refresh_has : (w : World) (x v : ℕ) → x < size w → runs w x ≡ true → (member_at w x).version ≤ v → ids (view_at w v) ≡ ids (view_at w (member_at w x).version) → Inv w → HasSent w → HasSent (refreshed w x v)
-refresh_has w x v lt rx later same inv h = by_out (member_at w x).out refl
-  where
-    w1 : World
-    w1 = look_at w x v
-
-    z : ℕ
-    z = right_of (view_at w v) x
-
-    looked : HasSent w1
-    looked = still_has w w1 (look_still w x v lt later same) (same_rows w x (moved_to w x v) w.links lt refl) h
-
-    there : x < size w1
-    there = omega (arith, length-set w.members x (moved_to w x v))
-
-    within : (y s : ℕ) → runs w1 y ≡ true → (member_at w1 y).current ≡ Some s → s < length w.links
-    within y s =
-        at_set (λ i a. runs_phase a.phase ≡ true → a.current ≡ Some s → s < length w.links) w.members x y (moved_to w x v) no_member lt
-        (λ r e. inv.current.lt x s r (kept_current-Some (λ j. is_kept w (link_at w j) v) (member_at w x).current s e).0) (λ _ r e. inv.current.lt y s r e)
-
-    by_receiver : (o : ℕ) → (member_at w x).out ≡ Some o → (b : Bool) → HasSent (if b then w1 else open_to (with_link w1 o (ended Moved (link_at w o))) x z)
-    by_receiver o e true = looked
-    by_receiver o e false =
-        let sl : o < length w.links = inv.linked.out_lt x o rx e in
-        let many : length (set w.links o (ended Moved (link_at w o))) ≡ length w.links = length-set w.links o (ended Moved (link_at w o)) in
-        open_has (with_link w1 o (ended Moved (link_at w o))) x z there (λ y s r c. let k : s < length w.links = within y s r c in omega arith)
-        (end_has w1 o (with_link w1 o (ended Moved (link_at w o))) sl refl looked)
-
-    by_out : (o : Option ℕ) → (member_at w x).out ≡ o → HasSent (send_to w1 x z o)
-    by_out None e = open_has w1 x z there within looked
-    by_out (Some o) e = by_receiver o e (nat_eq (link_at w o).receiver z)
+refresh_sends : (w : World) (x v : ℕ) → x < size w → runs w x ≡ true → (member_at w x).version ≤ v → ids (view_at w v) ≡ ids (view_at w (member_at w x).version) → Inv w → Sends w → Sends (refreshed w x v)
+refresh_sends w x v lt rx later same inv h =
+    refresh_composed Sends w x v (λ o e. end_sends Moved (look_at w x v) o (inv.linked.out_lt x o rx e))
+    (λ u members. open_sends u x (right_of (view_at w v) x) (omega (arith, ap length members, length-set w.members x (moved_to w x v))))
+    (still_sends w (look_at w x v) (look_still w x v lt later same) (same_rows w x (moved_to w x v) w.links lt refl) h)
 
 -- a mark
-mark_has : (w : World) (x d : ℕ) → x < size w → runs w x ≡ true → runs w d ≡ false → ids (view_at (with_view w (marked (view_at w (newest w)) d)) (newest w + 1)) ≡ ids (view_at (with_view w (marked (view_at w (newest w)) d)) (member_at w x).version) → IsGood w → HasSent w → HasSent (refreshed (with_view w (marked (view_at w (newest w)) d)) x (newest w + 1))
-mark_has w x d lt rx rests same good h =
-    let g : Group = marked (view_at w (newest w)) d in
-    let held : (member_at w x).version ≤ newest w = good.inv.is_ring.held x in
-    refresh_has (with_view w g) x (newest w + 1) lt rx (omega arith) same (mark_keeps w d rests good.inv)
-    (still_has w (with_view w g) (mark_still w g good.inv.is_ring) (no_rows w (with_view w g) refl) h)
+mark_sends : (w : World) (x d : ℕ) → IsUp w x → runs w d ≡ false → IsGood w → Sends w → Sends (refreshed (with_view w (marked (view_at w (newest w)) d)) x (newest w + 1))
+mark_sends w x d u rests g h =
+    let v : Group = marked (view_at w (newest w)) d in
+    refresh_sends (with_view w v) x (newest w + 1) u.lt (ap runs_phase u.up) (omega (arith, g.inv.is_ring.held x)) (mark_ids w x d u.up g) (mark_keeps w d rests g.inv)
+    (still_sends w (with_view w v) (mark_still w v g.inv.is_ring) (no_rows w (with_view w v) refl) h)
 
 -- ---- every state of every run
 
 -- one event more
 event_has : (w : World) (e : Event) → IsGood w → refusal w e ≡ None → LinesRight w → HasSent w → HasSent (effect w e)
 event_has w e g r lines h = each_event HasSent w e g.none_waits (record {
-  casts = λ x m u. still_has w (publish_at w x m) (cast_still w x m u.lt) (cast_rows w x m u.lt) h;
+  casts = λ x m u. (still_sends w (publish_at w x m) (cast_still w x m u.lt) (cast_rows w x m u.lt) now).has;
   puts = λ x o u out k. put_has w x o (g.inv.linked.out_lt x o (ap runs_phase u.up) out) h;
   takes = λ y s u m. take_has w y s m g.inv lines h;
-  leaves = λ y s u current k. leave_has w y s u.lt (g.inv.current.lt y s (ap runs_phase u.up) current) current h;
-  gains = λ x o u out k. still_has w (gain_on w o) (gain_still w o (g.inv.linked.out_lt x o (ap runs_phase u.up) out)) (no_rows w (gain_on w o) refl) h;
-  stops = λ x u. stop_has w x u.lt (ap runs_phase u.up) g.inv h;
-  marks = λ x d u m. mark_has w x d u.lt (ap runs_phase u.up) (ap runs_phase m.rests) (mark_ids w x d u.up g) g h;
+  leaves = λ y s u current k. (leave_sends w y s u.lt (g.inv.current.lt y s (ap runs_phase u.up) current) current now).has;
+  gains = λ x o u out k. (still_sends w (gain_on w o) (gain_still w o (g.inv.linked.out_lt x o (ap runs_phase u.up) out)) (no_rows w (gain_on w o) refl) now).has;
+  stops = λ x u. (stop_sends w x u.lt (ap runs_phase u.up) g.inv now).has;
+  marks = λ x d u m. (mark_sends w x d u (ap runs_phase m.rests) g now).has;
   refreshes = λ x v u m.
       let rx : runs w x ≡ true = ap runs_phase m.up in
       let some : 1 ≤ v = omega (arith, version_some w x g.inv.is_ring g.views rx, m.later) in
-      refresh_has w x v m.is_member rx m.later (view_ids w v g.views some m.upto ∙ sym (own_ids w x g.inv.is_ring g.views rx)) g.inv h;
-  picks = λ y s u none door upto. pick_has w y s u.lt (ap runs_phase u.up) (ap is_some none) door ((door_pickable w y s u.lt u.up door upto g).kept_yet s refl) lines h;
+      (refresh_sends w x v m.is_member rx m.later (view_ids w v g.views some m.upto ∙ sym (own_ids w x g.inv.is_ring g.views rx)) g.inv now).has;
+  picks = λ y s u none door upto. pick_has w y s u none door upto g lines h;
 }) r
-
--- every event of a run
-run_has : (w : World) (es : List Event) → IsGood w → IsRun w es → LinesRight w × HasSent w → LinesRight (last w es) × HasSent (last w es)
-run_has = run_events (λ w. LinesRight w × HasSent w) (λ w e g r h. (event_lines w e g r h.0, event_has w e g r h.0 h.1))
+  where
+    now : Sends w
+    now = sends w g.inv h
 
 -- nobody knows anything, and nothing was sent
 opening_has : (credit : CreditSpec) (names : List (List ℕ)) → HasSent (opening credit names)
@@ -298,5 +267,5 @@ opening_has credit names y s p r e l empty =
 -- so in every state of every run of a ring with these names
 pub reached_has : (credit : CreditSpec) (names : List (List ℕ)) (es : List Event) → AreOpeningNames names → IsRun (opening credit names) es → HasSent (last (opening credit names) es)
 reached_has credit names es are r =
-    let good : IsGood (opening credit names) = opening_good credit names are in
-    (run_has (opening credit names) es good r (reached_lines credit names [] are tt, opening_has credit names)).1
+    (run_events (λ w. LinesRight w × HasSent w) (λ w e g k h. (event_lines w e g k h.0, event_has w e g k h.0 h.1))
+    (opening credit names) es (opening_good credit names are) r (reached_lines credit names [] are tt, opening_has credit names)).1

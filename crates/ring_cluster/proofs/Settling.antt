@@ -6,7 +6,6 @@ use Rattle.ring_script.specs.declared.command.Command.{Command}
 use Rattle.group_view.specs.Ring.{is_in}
 use Rattle.group_view.specs.View.{right_of as right_of_entries}
 use Rattle.group_view.proofs.Rings.{nat_eq-is}
-use Rattle.group_view.proofs.Marks.{right_is as right_of_is}
 use Rattle.group_view.proofs.Passing.{live_in}
 use Rattle.ring_world.specs.View.{is_live}
 use Rattle.ring_world.specs.Machine.{World, member_at, view_at, newest, right, runs}
@@ -44,8 +43,7 @@ right_there w x h r =
 -- the view finds it
 pub right_found : (w : World) (x : ℕ) → IsReached w → runs w x ≡ true → right_of_entries (view_at w (newest w)).entries x ≡ right w (newest w) x
 right_found w x h r =
-    right_of_is (view_at w (newest w)).entries x (h.fit.good.inv.is_ring.stands x (newest w) r (h.fit.good.inv.is_ring.held x) (omega arith))
-    ∙ sym (right_is w (newest w) x (view_at w (newest w)) refl)
+    sym (right_is w (newest w) x (view_at w (newest w)) refl)
 
 -- ---- who has nothing to do
 

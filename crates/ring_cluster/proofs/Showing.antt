@@ -1,15 +1,13 @@
 -- The parties stand as before where one end of a link shows something else.
-use Rattle.std.proofs.Common.{◌≡◌, ◌≢◌, ℕ, ◌+◌, ◌-◌, ◌<◌, ◌≤◌, true, false, nat_eq, if◌then◌else◌, List, ◌∷◌, Option, length, get_or, set, map, Some, refl, sym, ap, subst, ◌∙◌, arith, ⊎_elim}
+use Rattle.std.proofs.Common.{◌≡◌, ◌≢◌, ℕ, ◌+◌, ◌-◌, ◌<◌, ◌≤◌, true, false, nat_eq, if◌then◌else◌, List, Option, length, get_or, set, map, Some, refl, sym, ap, subst, ◌∙◌, arith, ⊎_elim}
 use Rattle.std.specs.Prelude.{option_map}
 use Rattle.std.proofs.lemmas.Bool.{false≢true, cases_eq, false_from_ne_true}
 use Rattle.std.proofs.lemmas.List.{length-set, get_or-set_same, get_or-set_other}
 use Rattle.group_view.specs.Ring.{is_in}
-use Rattle.group_view.specs.Since.{no_group}
 use Rattle.group_view.proofs.Rings.{nat_eq-same}
 use Rattle.ring_world.specs.Machine.{World, member_at, link_at}
 use Rattle.ring_world.specs.OpenLinks.{is_place}
 use Rattle.ring_world.specs.Step.{size}
-use Rattle.ring_world.specs.Event.{is_stopped}
 use Rattle.ring_world.proofs.Happens.{IsGood}
 use Rattle.gm_member.specs.Stands.{waits_for}
 use Rattle.gm_member.specs.Shown.{in_name_of}
@@ -17,25 +15,14 @@ use Rattle.gm_member.proofs.OwnEnds.{OwnEnds}
 use Rattle.gm_member.proofs.Parts.{there_same, current_waits_not}
 use Rattle.ring_cluster.specs.Ends.{OutSeen, InSeen, Carries}
 use Rattle.ring_cluster.specs.Parties.{Shown, Parties, no_shown, node_at, with_node, with_out, with_in}
-use Rattle.ring_cluster.specs.Standing.{Places, MemberStands, StandIn, name_of, is_to, has_out, has_in}
+use Rattle.ring_cluster.specs.Standing.{Places, MemberStands, Shows, StandIn, name_of, is_to, has_out, has_in}
 use Rattle.ring_cluster.proofs.Writing.{placed, placed_same, placed_other, at_in, distinct_filter, map_other, set_made}
 use Rattle.ring_cluster.proofs.Placing.{GoBetween, StandsAt, at_receives, stood_is, posted_is, stood_once, posted_once, stood_not_posted, name_stands}
 
--- ---- the parties, but for what ends carry
+-- ---- the parties, and their ends
 
-pub record Shows (w : World) (q : Parties) (p : Places) : Type 0 where
-  pub count : length q.nodes + 1 ≡ size w
-  pub each : (x : ℕ) → 1 ≤ x → x < size w → MemberStands w p x (node_at q (x - 1))
-  pub views : w.views ≡ no_group ∷ q.views
-  pub stopped : (x : ℕ) → 1 ≤ x → x < size w → is_in x q.stopped ≡ is_stopped (member_at w x).phase
-  pub post : q.post ≡ map (λ s. record { name = name_of w s; end = Some (p.ins s) }) p.post
-  pub within : (s : ℕ) → is_in s p.post ≡ true → s < length w.links
-
-pub shows_of : (initial : ℕ) (w : World) (q : Parties) (p : Places) → StandIn initial w q p → Shows w q p
-shows_of initial w q p h = record { count = h.count; each = h.each; views = h.views; stopped = h.stopped; post = h.post; within = h.within }
-
--- and with it
-pub stands_of : (initial : ℕ) (w : World) (q : Parties) (p : Places) → Shows w q p → ((s : ℕ) → s < length w.links → has_in w s ≡ true → Carries w initial (link_at w s) (p.outs s) (p.ins s)) → StandIn initial w q p
+-- the parties show the state as they did, and ends carry their links
+pub stands_of : {C : ℕ → Type 0} (initial : ℕ) (w : World) (q : Parties) (p : Places) → Shows C w q p → ((s : ℕ) → s < length w.links → has_in w s ≡ true → Carries w initial (link_at w s) (p.outs s) (p.ins s)) → StandIn initial w q p
 stands_of initial w q p h c = record { count = h.count; each = h.each; views = h.views; stopped = h.stopped; post = h.post; within = h.within; carry = c }
 
 -- another end is shown
@@ -81,7 +68,7 @@ out_here : (w : World) (p : Places) (x s : ℕ) (o : OutSeen) (m : Shown) → (m
 out_here w p x s o m e h = out_as w p x s o m (Some o) (sym (ap (option_map (placed p.outs s o)) e ∙ ap Some (placed_same p.outs s o))) h
 
 -- of the link on which x sends
-pub out_shows : (w : World) (q : Parties) (p : Places) (x s : ℕ) (o : OutSeen) → OwnEnds w → 1 ≤ x → x < size w → (member_at w x).out ≡ Some s → Shows w q p → Shows w (with_node q (x - 1) (with_out (node_at q (x - 1)) o)) (with_outs p s o)
+pub out_shows : {C : ℕ → Type 0} (w : World) (q : Parties) (p : Places) (x s : ℕ) (o : OutSeen) → OwnEnds w → 1 ≤ x → x < size w → (member_at w x).out ≡ Some s → Shows C w q p → Shows C w (with_node q (x - 1) (with_out (node_at q (x - 1)) o)) (with_outs p s o)
 out_shows w q p x s o own a l e h = record {
   count = (let same : length (set q.nodes (x - 1) (with_out (node_at q (x - 1)) o)) ≡ length q.nodes = length-set q.nodes (x - 1) (with_out (node_at q (x - 1)) o) in omega (arith, same, h.count));
   each = each_set w w q p (with_outs p s o) x (with_out (node_at q (x - 1)) o) h.count a l (out_here w p x s o (node_at q (x - 1)) e (h.each x a l))
@@ -90,10 +77,11 @@ out_shows w q p x s o own a l e h = record {
   stopped = h.stopped;
   post = h.post;
   within = h.within;
+  carry = h.carry;
 }
 
 -- of one that no member has
-pub out_hidden : (w : World) (q : Parties) (p : Places) (s : ℕ) (o : OutSeen) → OwnEnds w → has_out w s ≡ false → Shows w q p → Shows w q (with_outs p s o)
+pub out_hidden : {C : ℕ → Type 0} (w : World) (q : Parties) (p : Places) (s : ℕ) (o : OutSeen) → OwnEnds w → has_out w s ≡ false → Shows C w q p → Shows C w q (with_outs p s o)
 out_hidden w q p s o own none h = record {
   count = h.count;
   each = λ z c m. out_other w p z s o (node_at q (z - 1))
@@ -102,6 +90,7 @@ out_hidden w q p s o own none h = record {
   stopped = h.stopped;
   post = h.post;
   within = h.within;
+  carry = h.carry;
 }
 
 -- ---- an in end
@@ -166,8 +155,8 @@ at_not_posted w p x place s m h o a = ⊎_elim
     a
 
 -- of a link that stands at a member
-pub in_shows : (w : World) (q : Parties) (p : Places) (y place s : ℕ) (n : InSeen) → IsGood w → OwnEnds w → 1 ≤ y → y < size w → s < length w.links → in_name_of (node_at q (y - 1)).held place ≡ Some (name_of w s) → Shows w q p
-    → Shows w (with_node q (y - 1) (with_in (node_at q (y - 1)) place n)) (with_ins p s n)
+pub in_shows : {C : ℕ → Type 0} (w : World) (q : Parties) (p : Places) (y place s : ℕ) (n : InSeen) → IsGood w → OwnEnds w → 1 ≤ y → y < size w → s < length w.links → in_name_of (node_at q (y - 1)).held place ≡ Some (name_of w s) → Shows C w q p
+    → Shows C w (with_node q (y - 1) (with_in (node_at q (y - 1)) place n)) (with_ins p s n)
 in_shows w q p y place s n g own a l sl named h =
     let mine : MemberStands w p y (node_at q (y - 1)) = h.each y a l in
     let at : StandsAt w y mine.door place s = name_stands w p y place s (node_at q (y - 1)) mine g own sl named in
@@ -183,11 +172,12 @@ in_shows w q p y place s n g own a l sl named h =
       post = h.post ∙ sym (map_other (λ k. record { name = name_of w k; end = Some (p.ins k) }) (λ k. record { name = name_of w k; end = Some (placed p.ins s n k) }) p.post s gone
           (λ k ne. ap (λ i. record { name = name_of w k; end = Some i }) (placed_other p.ins s n k ne)));
       within = h.within;
+      carry = h.carry;
     }
 
 -- of one that waits
-pub in_posts : (w : World) (q : Parties) (p : Places) (j s : ℕ) (n : InSeen) → OwnEnds w → GoBetween w → j < length p.post → get_or p.post j 0 ≡ s → Shows w q p
-    → Shows w (record q { post = set q.post j (record { name = name_of w s; end = Some n }) }) (with_ins p s n)
+pub in_posts : {C : ℕ → Type 0} (w : World) (q : Parties) (p : Places) (j s : ℕ) (n : InSeen) → OwnEnds w → GoBetween w → j < length p.post → get_or p.post j 0 ≡ s → Shows C w q p
+    → Shows C w (record q { post = set q.post j (record { name = name_of w s; end = Some n }) }) (with_ins p s n)
 in_posts w q p j s n own go jl e h =
     let there : is_in s p.post ≡ true = subst (λ t. is_in t p.post ≡ true) e (at_in p.post j jl) in
     let y : ℕ = (link_at w s).receiver in
@@ -204,4 +194,5 @@ in_posts w q p j s n own go jl e h =
           (posted_once w p y (node_at q (y - 1)) (h.each y k.0 k.1)) (nat_eq-same y) jl e
           (ap (λ i. record { name = name_of w s; end = Some i }) (placed_same p.ins s n)) (λ k ne. ap (λ i. record { name = name_of w k; end = Some i }) (placed_other p.ins s n k ne));
       within = h.within;
+      carry = h.carry;
     }

@@ -19,7 +19,7 @@ use Rattle.gm_member.specs.declared.packet.Load.{Load}
 use Rattle.gm_member.specs.declared.links.OutLink.{OutLink}
 use Rattle.gm_member.specs.declared.links.InLink.{InLink}
 use Rattle.gm_member.specs.Parcels.{Parcel}
-use Rattle.gm_member.specs.Loads.{on_link}
+use Rattle.gm_member.specs.Loads.{as_item}
 use Rattle.gm_member.specs.Held.{Held, Outgoing, at_some, up_refused, on_some, put_refused, out_refused, put_held, gain_refused, gained_held, first_at_door, picked_held, without}
 use Rattle.gm_member.specs.View.{out_of, end_of}
 use Rattle.gm_member.specs.Ends.{EndLooks, IsPutFault}
@@ -57,9 +57,9 @@ in_there l = option_map in_seen (at_some l None (λ x. x.end))
 
 -- ---- a put
 
-shown_put : (o p : PlainOut Load) (k : Parcel) → PlainPuts o (on_link k) p → PutsOut (out_seen o) (sent_of k) (out_seen p)
+shown_put : (o p : PlainOut Load) (k : Parcel) → PlainPuts o (as_item k) p → PutsOut (out_seen o) (sent_of k) (out_seen p)
 shown_put o p k e = record {
-  waiting = ap (map content) e.0 ∙ map-append content o.waiting.items (on_link k ∷ []);
+  waiting = ap (map content) e.0 ∙ map-append content o.waiting.items (as_item k ∷ []);
   free = e.1;
   back = ap (λ v. v.items) e.2;
   initial = e.3;

@@ -1,5 +1,5 @@
 -- Where one member steps by itself: from what is its own in the step, that all parties stand in the state after it.
-use Rattle.std.proofs.Common.{◌≡◌, ◌≢◌, inl, nat_eq, ℕ, ◌+◌, ◌-◌, ◌<◌, ◌≤◌, true, false, List, length, map, set, Option, Some, None, refl, sym, ap, subst, ◌∙◌, ⊎_elim, arith}
+use Rattle.std.proofs.Common.{◌≡◌, ◌≢◌, inl, nat_eq, ℕ, ◌+◌, ◌-◌, ◌<◌, ◌≤◌, true, false, List, [], ◌∷◌, length, map, set, Option, Some, None, refl, sym, ap, subst, ◌∙◌, ⊎_elim, arith}
 use Rattle.std.specs.Prelude.{option_map}
 use Rattle.std.proofs.lemmas.Bool.{false≢true, cases_eq}
 use Rattle.std.proofs.lemmas.List.{length-set, get_or-set_same, get_or-set_other}
@@ -8,58 +8,71 @@ use Rattle.ring_names.specs.declared.reason.Reason.{Reason}
 use Rattle.ring_names.specs.declared.reason.Reason.TheVariants as reason
 use Rattle.group_view.specs.declared.link.LinkName.{LinkName}
 use Rattle.group_view.specs.Ring.{is_in}
+use Rattle.group_view.proofs.Rings.{in_head, in_tail, head_differs}
 use Rattle.ring_world.specs.Machine.{World, Link, Member, no_link, member_at, link_at, runs, runs_phase}
 use Rattle.ring_world.specs.Step.{size, log_of, with_member}
 use Rattle.ring_world.specs.Event.{id_of, of_member, up_refusal, on_link, at_found, is_stopped}
 use Rattle.ring_world.proofs.Enabled.{up_phase, up_later}
+use Rattle.ring_world.proofs.Refusals.{id_within}
+use Rattle.gm_member.specs.Held.{at_some}
 use Rattle.gm_member.specs.Stands.{held_in, waits_for, door_links}
 use Rattle.gm_member.proofs.OwnEnds.{OwnEnds}
 use Rattle.gm_member.proofs.Parts.{current_waits_not, other_waits_not}
-use Rattle.ring_cluster.specs.Ends.{OutSeen, InSeen, Carries, HasRested}
+use Rattle.ring_cluster.specs.Ends.{OutSeen, InSeen, Carries, HaveMet, HasRested}
 use Rattle.ring_cluster.specs.Parties.{Shown, Parties, node_at, with_node}
-use Rattle.ring_cluster.specs.Standing.{Places, MemberStands, Stand, StandLoose, name_of, has_out, has_in}
+use Rattle.ring_cluster.specs.Standing.{Places, MemberStands, Stand, name_of, has_out, has_in}
+use Rattle.ring_cluster.specs.Loose.{StandMoved, moved_by, sender_to}
 use Rattle.ring_cluster.proofs.Lawful.{IsLawfulAt}
 use Rattle.ring_cluster.proofs.Writing.{placed_same, placed_other, map_agree}
 use Rattle.ring_cluster.proofs.Placing.{posted_is}
 use Rattle.ring_cluster.proofs.NamedLinks.{out_has, out_is_open}
 use Rattle.ring_cluster.proofs.Showing.{with_outs, each_set}
 use Rattle.ring_cluster.proofs.Meetings.{waiting_at}
-use Rattle.ring_cluster.proofs.Frames.{SameWays, same_of, same_name, same_to, same_in, same_out, same_doors, carries_logs, carries_same, Does, goes_stands, stays_stands}
-use Rattle.ring_cluster.proofs.OneEvent.{found_later, found_does, link_there, stands_at, met_rested}
+use Rattle.ring_cluster.proofs.Frames.{SameWays, way, link_ways, same_of, same_name, same_to, same_in, same_out, same_doors, carries_logs, carries_same, Does, goes_stands, stays_stands}
+use Rattle.ring_cluster.proofs.OneEvent.{found_later, found_does, link_there, stands_at, met_rested, met_both}
 use Rattle.ring_cluster.proofs.Known.{known_still, not_left}
 
 -- ---- the event
 
 -- where the event changes the state so, the parties are these, and nothing is loose
-pub goes_so : (initial : ℕ) (w w' : World) (q q' : Parties) (loose : Option (LinkName × OutSeen)) → w' ≡ w → q' ≡ q → loose ≡ None → StandLoose initial w q None → StandLoose initial w' q' loose
-goes_so initial w w' q q' loose ew eq none st =
-    subst (λ v. StandLoose initial v q' loose) (sym ew)
-    (subst (λ r. StandLoose initial w r loose) (sym eq)
-    (subst (StandLoose initial w q) (sym none) st))
+pub goes_so : (initial x : ℕ) (w w' : World) (q q' : Parties) (loose : Option (LinkName × OutSeen)) → w' ≡ w → q' ≡ q → loose ≡ None → StandMoved initial x w q None → StandMoved initial x w' q' loose
+goes_so initial x w w' q q' loose ew eq none st =
+    subst (λ v. StandMoved initial x v q' loose) (sym ew)
+    (subst (λ r. StandMoved initial x w r loose) (sym eq)
+    (subst (StandMoved initial x w q) (sym none) st))
 
--- What an event of x does on the link on which x sends, where it may happen: x runs, and has such a link.
-pub record OnOut (w w' : World) (x : ℕ) (does : ℕ → World) : Type 0 where
+-- the state in which the members are these, and link s is l
+abbrev pub sends_in : World → List Member → ℕ → Link → World
+sends_in w ms s l = record w { members = ms; links = set w.links s l }
+
+-- What an event of x does that writes the link on which x sends, where it may happen: x runs, and has such a link.
+pub record OnOut (w w' : World) (x : ℕ) (becomes : ℕ → Link) : Type 0 where
   pub link : ℕ
   pub is : (member_at w x).out ≡ Some link
+  pub is_member : x < size w
+  pub within : link < length w.links
   pub run : runs w x ≡ true
-  pub so : w' ≡ does link
+  pub so : w' ≡ sends_in w w.members link (becomes link)
 
-pub on_out : (w : World) (by : List ℕ) (x : ℕ) (later : ℕ → ℕ → Option Reason) (does : ℕ → ℕ → World) → of_member (id_of w by) (λ y. up_refusal w y (on_link (member_at w y).out reason.NoOutLink (later y))) ≡ None → id_of w by ≡ Some x
-    → OnOut w (at_found (id_of w by) w (λ y. at_found (member_at w y).out w (does y))) x (does x)
-on_out w by x later does enabled found =
+pub on_out : (credit : CreditSpec) (w : World) (by : List ℕ) (x : ℕ) (later : ℕ → ℕ → Option Reason) (becomes : ℕ → ℕ → Link) → IsLawfulAt credit w → of_member (id_of w by) (λ y. up_refusal w y (on_link (member_at w y).out reason.NoOutLink (later y))) ≡ None → id_of w by ≡ Some x
+    → OnOut w (at_found (id_of w by) w (λ y. at_found (member_at w y).out w (λ s. sends_in w w.members s (becomes y s)))) x (becomes x)
+on_out credit w by x later becomes h enabled found =
     let acts = found_later (id_of w by) x (λ y. up_refusal w y (on_link (member_at w y).out reason.NoOutLink (later y))) found enabled in
     let there = link_there (member_at w x).out reason.NoOutLink (later x) (up_later w x _ acts) in
     record {
       link = there.0;
       is = there.1;
+      is_member = (id_within w by x found).1;
+      within = (h.fit.own_ends.out x there.0 there.1).0;
       run = ap runs_phase (up_phase w x _ acts);
-      so = found_does (id_of w by) x w (λ y. at_found (member_at w y).out w (does y)) found ∙ found_does (member_at w x).out there.0 w (does x) there.1;
+      so = found_does (id_of w by) x w (λ y. at_found (member_at w y).out w (λ s. sends_in w w.members s (becomes y s))) found ∙ found_does (member_at w x).out there.0 w (λ s. sends_in w w.members s (becomes x s)) there.1;
     }
 
 -- ---- what is left as it was
 
 -- What a step of x leaves of links and of the other members: links have their names, and are open only where they were; their senders have their
--- out ends as before; the others send on and take from the links that they did, and have the same links at their doors.
+-- out ends as before; the others send on and take from the links that they did, and have the same links at their doors; x itself takes from the
+-- link from which it did, where that is still open.
 pub record Leaves (w w' : World) (x : ℕ) : Type 0 where
   pub size_is : size w' ≡ size w
   pub many : length w'.links ≡ length w.links
@@ -70,6 +83,7 @@ pub record Leaves (w w' : World) (x : ℕ) : Type 0 where
   pub outs : (y : ℕ) → y ≢ x → (member_at w' y).out ≡ (member_at w y).out
   pub currents : (y : ℕ) → y ≢ x → (member_at w' y).current ≡ (member_at w y).current
   pub doors : (y : ℕ) → y ≢ x → door_links w' y ≡ door_links w y
+  pub keeps : (s : ℕ) → has_in w' s ≡ true → (member_at w x).current ≡ Some s → (member_at w' x).current ≡ Some s
 
 -- so where links go their ways
 pub ways_leave : (w w' : World) (x : ℕ) → SameWays w w' → Leaves w w' x
@@ -83,6 +97,7 @@ ways_leave w w' x h = record {
   outs = λ y _. h.outs y;
   currents = λ y _. h.currents y;
   doors = λ y _. same_doors w w' y h;
+  keeps = λ s _ e. h.currents x ∙ e;
 }
 
 -- notices are as they were where a member is written that has stopped no more than before
@@ -116,6 +131,10 @@ carries_at initial w w' p p' s l logs is others now j c = ⊎_elim
 
 -- ---- all parties
 
+-- who sends on the link from which x takes is among those whose ends may have moved
+in_moved : (x : ℕ) (w : World) (s : ℕ) → (member_at w x).current ≡ Some s → is_in (link_at w s).sender (moved_by x w) ≡ true
+in_moved x w s e = in_tail (link_at w s).sender x (sender_to x w) (ap (λ c. is_in (link_at w s).sender (at_some c [] (λ t. (link_at w t).sender ∷ []))) e ∙ in_head (link_at w s).sender [])
+
 -- The member at place i steps: it stands at its id x in the state after that, and the others hold what they held. Only ends of the links on which x
 -- sends and from which it takes show something else, and they carry these; who gave notice then is in ids.
 pub record Steps (initial : ℕ) (w w' : World) (q : Parties) (ids : List ℕ) (p p' : Places) (x : ℕ) (b : Shown) : Type 0 where
@@ -132,7 +151,7 @@ pub record Steps (initial : ℕ) (w w' : World) (q : Parties) (ids : List ℕ) (
 
 -- so all parties stand in that state, and ends have still to meet
 pub steps : (credit : CreditSpec) (w w' : World) (q : Parties) (ids : List ℕ) (p' : Places) (i : ℕ) (b : Shown) (st : Stand credit.initial w q) → IsLawfulAt credit w → i + 1 < size w → Steps credit.initial w w' q ids st.places p' (i + 1) b
-    → StandLoose credit.initial w' (record (with_node q i b) { stopped = ids }) None
+    → StandMoved credit.initial (i + 1) w' (record (with_node q i b) { stopped = ids }) None
 steps credit w w' q ids p' i b st h lt k = record {
   places = p';
   stand = record {
@@ -150,7 +169,14 @@ steps credit w w' q ids p' i b st h lt k = record {
       let ne : (member_at w x).out ≢ Some s = λ e. false≢true (sym before ∙ out_has credit w x s h e) in
       let rested : HasRested (p.outs s) (p.ins s) = met_rested (has_out w s) (p.outs s) (p.ins s) before (st.met s (omega (arith, left.many)) (left.opens s has)) in
       inl (subst (λ o. HasRested o (p'.ins s)) (sym (k.outs s ne)) (k.rests s (p.outs s) rested));
-  known = known_still credit.initial w w' q p' st left.many (λ s _ gone. record { out = left.has_outs s; back = (k.knows s gone).0; grants = (k.knows s gone).1 });
+  fits = λ s o l has e. cc;
+  met = λ s l has o apart.
+      let from : (link_at w' s).sender ≡ (link_at w s).sender = ap (λ (n : LinkName). n.from.0) (left.names s) in
+      let not_out : (member_at w x).out ≢ Some s = λ e. head_differs (link_at w' s).sender x (sender_to x w') apart (sym (from ∙ (h.fit.own_ends.out x s e).1)) in
+      let not_in : (member_at w x).current ≢ Some s = λ e. false≢true (sym apart ∙ in_moved x w' s (left.keeps s has e)) in
+      subst (HaveMet (p'.outs s)) (sym (k.ins s not_in)) (subst (λ a. HaveMet a (p.ins s)) (sym (k.outs s not_out))
+      (met_both (has_out w s) (p.outs s) (p.ins s) (sym (left.has_outs s) ∙ o) (st.met s (omega (arith, left.many)) (left.opens s has))));
+  known = known_still credit.initial w w' q p' st left.many left.has_outs k.knows;
 }
   where
     x : ℕ
@@ -202,10 +228,6 @@ ways_stand w w' p p' x m b out link h post ins does eo el a = goes_stands w w' p
 
 -- ---- the end with which a member sends
 
--- the state in which the members are these, and link s is l
-abbrev pub sends_in : World → List Member → ℕ → Link → World
-sends_in w ms s l = record w { members = ms; links = set w.links s l }
-
 -- The member at place i does something to the link s on which it sends: that became l, and its out end o.
 pub record SendsOnce (credit : CreditSpec) (w : World) (ms : List Member) (q : Parties) (ids : List ℕ) (p : Places) (i s : ℕ) (l : Link) (o : OutSeen) (b : Shown) : Type 0 where
   pub out : (member_at w (i + 1)).out ≡ Some s
@@ -219,7 +241,7 @@ pub record SendsOnce (credit : CreditSpec) (w : World) (ms : List Member) (q : P
 
 -- so all parties stand then, with all else as it was
 pub sends_once : (credit : CreditSpec) (w : World) (ms : List Member) (q : Parties) (ids : List ℕ) (i s : ℕ) (l : Link) (o : OutSeen) (b : Shown) (st : Stand credit.initial w q) → IsLawfulAt credit w → i + 1 < size w → SendsOnce credit w ms q ids st.places i s l o b
-    → StandLoose credit.initial (sends_in w ms s l) (record (with_node q i b) { stopped = ids }) None
+    → StandMoved credit.initial (i + 1) (sends_in w ms s l) (record (with_node q i b) { stopped = ids }) None
 sends_once credit w ms q ids i s l o b st h lt k =
     let x : ℕ = i + 1 in
     let p : Places = st.places in
@@ -245,3 +267,20 @@ sends_once credit w ms q ids i s l o b st h lt k =
           let ne : j ≢ s = not_left w j s (sym (same_in w w' j k.ways) ∙ gone) (out_is_open credit w x s h k.run k.out) in
           (ap (λ (e : OutSeen). e.back) (other j ne), ap (λ (t : Link). t.flow.grants) (other_link j ne));
     })
+
+-- so where an event writes that link, and nothing else of the state
+pub goes_out : (credit : CreditSpec) (w w' : World) (q q' : Parties) (i : ℕ) (loose : Option (LinkName × OutSeen)) (becomes : ℕ → Link) (o : OutSeen) (b : Shown) (st : Stand credit.initial w q) → IsLawfulAt credit w → (on : OnOut w w' (i + 1) becomes) → way (becomes on.link) ≡ way (link_at w on.link)
+    → q' ≡ with_node q i b → loose ≡ None → ((y : ℕ) → y ≢ i + 1 → held_in w y ≡ held_in (sends_in w w.members on.link (becomes on.link)) y) → Does w (sends_in w w.members on.link (becomes on.link)) (i + 1) (node_at q i) b (Some o) (node_at q i).ends.link
+    → (Carries w credit.initial (link_at w on.link) (st.places.outs on.link) (st.places.ins on.link) → Carries w credit.initial (becomes on.link) o (st.places.ins on.link)) → StandMoved credit.initial (i + 1) w' q' loose
+goes_out credit w w' q q' i loose becomes o b st h on same is none held does carries =
+    goes_so credit.initial (i + 1) (sends_in w w.members on.link (becomes on.link)) w' (with_node q i b) q' loose on.so is none
+    (sends_once credit w w.members q q.stopped i on.link (becomes on.link) o b st h on.is_member (record {
+      out = on.is;
+      run = on.run;
+      ways = link_ways w on.link (becomes on.link) on.within same;
+      logs = λ r. refl;
+      does = does;
+      held = held;
+      told = λ y r. r;
+      carries = carries;
+    }))

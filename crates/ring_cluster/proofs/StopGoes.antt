@@ -15,7 +15,7 @@ use Rattle.ring_world.specs.Machine.{World, Link, Member, member_at, link_at, ru
 use Rattle.ring_world.specs.Step.{size, stopped, stop_at, ended, ended_so, end_out}
 use Rattle.ring_world.specs.Event.{id_of, running_refusal, refusal, effect, is_stopped}
 use Rattle.ring_world.proofs.Rounds.{nat_eq-same, nat_eq-not}
-use Rattle.group_view.proofs.Truth.{later_true}
+use Rattle.group_view.proofs.Truth.{later_true, cond_itself}
 use Rattle.ring_world.proofs.Enabled.{running_phase}
 use Rattle.ring_world.proofs.Refusals.{id_within}
 use Rattle.gm_member.specs.Held.{Held, stopped_held}
@@ -26,11 +26,11 @@ use Rattle.gm_member.proofs.StopStands.{stop_stands}
 use Rattle.gm_member.proofs.Others.{stop_others}
 use Rattle.ring_cluster.specs.Ends.{OutSeen, InSeen, packet_in, end_items, Carries}
 use Rattle.ring_cluster.specs.Parties.{Shown, Parties, node_at, with_node}
-use Rattle.ring_cluster.specs.Standing.{Places, MemberStands, Stand, StandLoose}
+use Rattle.ring_cluster.specs.Standing.{Places, MemberStands, Stand}
+use Rattle.ring_cluster.specs.Loose.{StandMoved}
 use Rattle.ring_cluster.specs.Acting.{EndsOut, EndsIts, Acts}
 use Rattle.ring_cluster.proofs.Lawful.{IsLawfulAt}
 use Rattle.ring_cluster.proofs.NamedLinks.{out_unended}
-use Rattle.ring_cluster.proofs.Truth.{itself}
 use Rattle.ring_cluster.proofs.Frames.{SameWays, same_of, link_ways, member_ways, ways_both, carries_logs, Does}
 use Rattle.ring_cluster.proofs.OneEvent.{found_later, found_does, stands_at}
 use Rattle.ring_cluster.proofs.Steps.{goes_so, ways_leave, steps, ways_stand, sends_once}
@@ -69,7 +69,7 @@ stop_told w x ids lt y e =
     ap (λ k. cond was true (cond k true false)) (ap (λ z. nat_eq z x) is ∙ nat_eq-same x) ∙ later_true {c = true} was refl
     ∙ sym (ap (λ z. is_stopped (member_at (stop_at w x) z).phase) is ∙ ap (λ (a : Member). is_stopped a.phase) (member_same w x (stopped (member_at w x)) lt)))
     (λ (ne : y ≢ x).
-    ap (λ k. cond was true (cond k true false)) (nat_eq-not y x ne) ∙ itself was
+    ap (λ k. cond was true (cond k true false)) (nat_eq-not y x ne) ∙ cond_itself was
     ∙ sym (ap (λ (a : Member). is_stopped a.phase) (member_other w x y (stopped (member_at w x)) ne)))
     (cases_eq y x)
   where
@@ -98,7 +98,7 @@ stop_leaves w x y o f e ne = stop_others w x y f ne ∙ ap (λ c. held_in (stopp
 -- with and without a link on which it sends
 stop_steps : (credit : CreditSpec) (w : World) (i : ℕ) (q : Parties) (b : Shown) (o : Option ℕ) (st : Stand credit.initial w q) → IsLawfulAt credit w → i + 1 < size w → runs w (i + 1) ≡ true → (member_at w (i + 1)).out ≡ o
     → EndsIts (option_map st.places.outs o) b.ends.out → b ≡ record { held = stopped_held (node_at q i).held; ends = record (node_at q i).ends { out = b.ends.out } }
-    → StandLoose credit.initial (stopped_in w (i + 1) o) (record (with_node q i b) { stopped = q.stopped ++ (i + 1) ∷ [] }) None
+    → StandMoved credit.initial (i + 1) (stopped_in w (i + 1) o) (record (with_node q i b) { stopped = q.stopped ++ (i + 1) ∷ [] }) None
 stop_steps credit w i q b None st h lt run e none eb =
     let x : ℕ = i + 1 in
     let p : Places = st.places in
@@ -137,7 +137,7 @@ stop_steps credit w i q b (Some s) st h lt run e (o', ends, now) eb =
       carries = end_carries credit.initial w (link_at w s) l (p.outs s) o' (p.ins s) goes_on refl ended_now refl ends;
     })
 
-pub stop_goes : (credit : CreditSpec) (w : World) (by : List ℕ) (i d : ℕ) (q q' : Parties) (loose : Option (LinkName × OutSeen)) → IsLawfulAt credit w → refusal w (Stop by) ≡ None → id_of w by ≡ Some (i + 1) → Stand credit.initial w q → Acts (Stop by) i d q q' loose → StandLoose credit.initial (effect w (Stop by)) q' loose
+pub stop_goes : (credit : CreditSpec) (w : World) (by : List ℕ) (i d : ℕ) (q q' : Parties) (loose : Option (LinkName × OutSeen)) → IsLawfulAt credit w → refusal w (Stop by) ≡ None → id_of w by ≡ Some (i + 1) → Stand credit.initial w q → Acts (Stop by) i d q q' loose → StandMoved credit.initial (i + 1) (effect w (Stop by)) q' loose
 stop_goes credit w by i d q q' loose h enabled found st (b, (ends, eb), is, none) =
     let x : ℕ = i + 1 in
     let lt : i + 1 < size w = (id_within w by x found).1 in
@@ -146,5 +146,5 @@ stop_goes credit w by i d q q' loose h enabled found st (b, (ends, eb), is, none
     let up : (member_at w x).phase ≡ Up = running_phase w x _ (h.fit.good.none_waits x) acts in
     let w' : World = stopped_in w x (member_at w x).out in
     let does : effect w (Stop by) ≡ w' = found_does (id_of w by) x w (λ y. end_out Halted (stop_at w y) (member_at w y).out) found in
-    goes_so credit.initial w' (effect w (Stop by)) (record (with_node q i b) { stopped = q.stopped ++ x ∷ [] }) q' loose does is none
+    goes_so credit.initial x w' (effect w (Stop by)) (record (with_node q i b) { stopped = q.stopped ++ x ∷ [] }) q' loose does is none
     (stop_steps credit w i q b (member_at w x).out st h lt (ap runs_phase up) refl (subst (λ c. EndsIts c b.ends.out) a.out ends) eb)

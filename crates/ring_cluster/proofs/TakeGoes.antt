@@ -11,8 +11,7 @@ use Rattle.group_view.specs.declared.link.LinkName.{LinkName}
 use Rattle.ring_world.specs.declared.event.Event.TheVariants.{Take}
 use Rattle.ring_world.specs.declared.phase.Phase.TheVariants.{Up}
 use Rattle.ring_world.specs.Refusal.{is_empty}
-use Rattle.ring_world.specs.Machine.{World, Packet, Link, no_link, no_packet, member_at, link_at}
-use Rattle.ring_world.specs.Walk.{oldest}
+use Rattle.ring_world.specs.Machine.{World, Packet, Link, no_link, no_packet, member_at, link_at, oldest}
 use Rattle.ring_world.specs.Step.{size, with_member, taker, popped, take_from}
 use Rattle.ring_world.specs.Event.{id_of, running_refusal, on_link, take_refusal, holds_nothing, at_found, taken_by, refusal, effect}
 use Rattle.ring_world.proofs.Enabled.{running_phase, running_later, take_effect}
@@ -26,7 +25,8 @@ use Rattle.gm_member.proofs.TakeStands.{TakesFrom, take_stands}
 use Rattle.gm_member.proofs.Others.{take_others}
 use Rattle.ring_cluster.specs.Ends.{Sent, OutSeen, InSeen, packet_in, end_items, Carries, HasRested}
 use Rattle.ring_cluster.specs.Parties.{Shown, Parties, node_at, with_node}
-use Rattle.ring_cluster.specs.Standing.{Places, MemberStands, Stand, StandLoose}
+use Rattle.ring_cluster.specs.Standing.{Places, MemberStands, Stand}
+use Rattle.ring_cluster.specs.Loose.{StandMoved}
 use Rattle.ring_cluster.specs.Acting.{sent_of, due_of, TakesIn, Acts}
 use Rattle.ring_cluster.proofs.Grants.{append-with_grant}
 use Rattle.ring_cluster.proofs.Lawful.{IsLawfulAt}
@@ -95,7 +95,7 @@ take_ways w x s lt sl =
 -- the end of the link s from which x takes shows something else
 take_steps : (credit : CreditSpec) (w : World) (i s : ℕ) (q : Parties) (b : Shown) (n : InSeen) (k : Parcel) (st : Stand credit.initial w q) → IsLawfulAt credit w → TakesFrom w (i + 1) s
     → TakesIn (due_of (node_at q i).held) (st.places.ins s) (sent_of k) n → b ≡ record { held = took_held (node_at q i).held k; ends = record (node_at q i).ends { link = Some n } }
-    → StandLoose credit.initial (take_from w (i + 1) s) (with_node q i b) None
+    → StandMoved credit.initial (i + 1) (take_from w (i + 1) s) (with_node q i b) None
 take_steps credit w i s q b n k st h t takes e =
     let x : ℕ = i + 1 in
     let w' : World = take_from w x s in
@@ -141,7 +141,7 @@ take_steps credit w i s q b n k st h t takes e =
           (refl, ap (λ (c : Link). c.flow.grants) (other_link j ne));
     })
 
-pub take_goes : (credit : CreditSpec) (w : World) (by : List ℕ) (i d : ℕ) (q q' : Parties) (loose : Option (LinkName × OutSeen)) → IsLawfulAt credit w → refusal w (Take by) ≡ None → id_of w by ≡ Some (i + 1) → Stand credit.initial w q → Acts (Take by) i d q q' loose → StandLoose credit.initial (effect w (Take by)) q' loose
+pub take_goes : (credit : CreditSpec) (w : World) (by : List ℕ) (i d : ℕ) (q q' : Parties) (loose : Option (LinkName × OutSeen)) → IsLawfulAt credit w → refusal w (Take by) ≡ None → id_of w by ≡ Some (i + 1) → Stand credit.initial w q → Acts (Take by) i d q q' loose → StandMoved credit.initial (i + 1) (effect w (Take by)) q' loose
 take_goes credit w by i d q q' loose h enabled found st (b, (k, n, n', ends_link, takes, eb), is, none) =
     let x : ℕ = i + 1 in
     let lt : i + 1 < size w = (id_within w by x found).1 in
@@ -165,4 +165,4 @@ take_goes credit w by i d q q' loose h enabled found st (b, (k, n, n', ends_link
     let same_end : p.ins s ≡ n = made_of p.ins (member_at w x).current s n current (sym a.link ∙ ends_link) in
     let its : TakesIn (due_of (node_at q i).held) (p.ins s) (sent_of k) n' = subst (λ e. TakesIn (due_of (node_at q i).held) e (sent_of k) n') (sym same_end) takes in
     let does : effect w (Take by) ≡ take_from w x s = found_does (id_of w by) x w (λ y. at_found (member_at w y).current w (taken_by (member_at w y).phase w y)) found ∙ take_effect w x s (member_at w x).current (member_at w x).phase current up in
-    goes_so credit.initial (take_from w x s) (effect w (Take by)) (with_node q i b) q' loose does is none (take_steps credit w i s q b n' k st h t its eb)
+    goes_so credit.initial x (take_from w x s) (effect w (Take by)) (with_node q i b) q' loose does is none (take_steps credit w i s q b n' k st h t its eb)

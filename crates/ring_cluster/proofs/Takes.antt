@@ -1,6 +1,6 @@
 -- What the calls show by which a member over plain ends takes from a link.
 use Rattle.std.proofs.Common.{◌≡◌, ℕ, ◌+◌, ◌<◌, ◌≤◌, Bool, true, false, List, [], ◌∷◌, map, length, Option, Some, None, refl, sym, ap, subst, ◌∙◌, ⊎_elim, arith}
-use Rattle.std.specs.Prelude.{◌⊎◌, MatchOption, ⊤, option_map, nat_lt}
+use Rattle.std.specs.Prelude.{◌⊎◌, Err, MatchOption, ⊤, option_map, nat_lt}
 use Rattle.std.proofs.lemmas.Bool.Decides.{nat_tests}
 use mathlib.Core.List.{IsPrefix}
 use Rattle.ring_names.specs.declared.reason.Reason.{Reason}
@@ -19,25 +19,28 @@ use Rattle.gm_member.specs.declared.fault.MemberFault.TheVariants as faults
 use Rattle.gm_member.specs.declared.packet.Load.{Load}
 use Rattle.gm_member.specs.declared.links.InLink.{InLink}
 use Rattle.gm_member.specs.Parcels.{Parcel}
-use Rattle.gm_member.specs.Loads.{on_link, parcel_in, GrantsIf}
+use Rattle.gm_member.specs.Loads.{as_item, parcel_in, GrantsIf}
 use Rattle.gm_member.specs.Held.{Held, Incoming, at_some, on_some, take_refused, took_held}
 use Rattle.gm_member.specs.View.{in_of, end_of}
 use Rattle.gm_member.specs.Ends.{EndLooks, NothingIsNext, EndIsNext, PacketIsNext, IsTakeRefusal, IsEndRefusal, IsTakeFault}
 use Rattle.gm_member.specs.Shown.{held_of, ends_of, LooksIn, TookOn, SameOut}
 use Rattle.gm_member.proofs.TakeStands.{version_may}
 use Rattle.ring_cluster.specs.Ends.{Sent, InSeen}
-use Rattle.ring_cluster.specs.Parties.{ANode, content, out_seen, in_seen, named_out, named_in, ends_seen, shown_of}
+use Rattle.ring_cluster.specs.Parties.{ANode, Shown, content, out_seen, in_seen, named_out, named_in, ends_seen, shown_of}
 use Rattle.ring_cluster.specs.Acting.{IsReady, TakesIn, TakesPacket, sent_of, due_of, items_refused, end_refused, first_item, packet_refused, link_end_refused}
+use Rattle.ring_world.specs.declared.world.Refused.{Refused}
+use Rattle.ring_world.specs.declared.world.Refused.TheVariants.{NotEnabled}
+use Rattle.ring_cluster.specs.Tried.{Tries}
 use Rattle.ring_cluster.proofs.Grants.{nothing_sent, granted}
 use Rattle.ring_cluster.proofs.Shown.{end_there, kept_there, in_there, ends_same, shown_same}
 
 -- ---- a packet that was taken
 
-shown_take : (due : Option ℕ) (k : Parcel) (i j a b : PlainIn Load) → i.late ≡ None → ((q : Sent) (rest : List (Option Sent)) → (in_seen i).items ≡ Some q ∷ rest → 0 < i.free) → PlainLooked i j → PlainTakes j (on_link k) a → GrantsIf due PlainSends a b → TakesIn due (in_seen i) (sent_of k) (in_seen b)
+shown_take : (due : Option ℕ) (k : Parcel) (i j a b : PlainIn Load) → i.late ≡ None → ((q : Sent) (rest : List (Option Sent)) → (in_seen i).items ≡ Some q ∷ rest → 0 < i.free) → PlainLooked i j → PlainTakes j (as_item k) a → GrantsIf due PlainSends a b → TakesIn due (in_seen i) (sent_of k) (in_seen b)
 shown_take due k i j a b late room looked takes grants =
     let first : (j.given.items ≡ i.given.items) × (j.late ≡ None) = nothing_sent i.given.items j.given.items i.late j.late late looked.1.0 in
     let second : (a.given.items ≡ j.given.items) × (a.late ≡ None) = nothing_sent j.given.items a.given.items j.late a.late first.1 takes.1.0 in
-    let all : i.items.items ≡ on_link k ∷ a.items.items = sym (ap (λ v. v.items) looked.0) ∙ takes.0 in
+    let all : i.items.items ≡ as_item k ∷ a.items.items = sym (ap (λ v. v.items) looked.0) ∙ takes.0 in
     let given : a.given.items ≡ i.given.items = second.0 ∙ first.0 in
     let slots : length a.given.items + a.free ≡ length i.given.items + i.free = takes.1.1 ∙ looked.1.1 in
     let free : 0 < a.free =
@@ -216,7 +219,7 @@ take_refusal m n fault r is ready looks why = ⊎_elim
 
 pub take_enabled : (m n : ANode) (k : Parcel) → TookOn (λ e. e.late) PlainTakes PlainLooked PlainSends k m n → k.view ≤ (held_of m).view.version → take_refused (held_of m) None ≡ None → packet_refused (shown_of m) ≡ None
 take_enabled m n k (l, l', ml, nl, (i, j, a, b, li, looked, takes, waits, grants, lb), same) older enabled =
-    let all : i.items.items ≡ on_link k ∷ a.items.items = sym (ap (λ v. v.items) looked.0) ∙ takes.0 in
+    let all : i.items.items ≡ as_item k ∷ a.items.items = sym (ap (λ v. v.items) looked.0) ∙ takes.0 in
     later_take (held_of m) _ enabled
     ∙ ap (λ s. items_refused (held_of m).view.version (first_item s)) (in_is m l i ml li)
     ∙ ap (λ xs. items_refused (held_of m).view.version (map content xs)) all
@@ -254,3 +257,10 @@ pub end_refusal : (m n : ANode) (fault : MemberFault) (r : Reason) → fault ≡
 end_refusal m n fault r is ready looks (q, why, refused) =
     let same : q ≡ r = cc (why, is) in
     end_refused_for m n q ready looks refused ∙ ap Some same
+
+-- ---- a step that wasn't done
+
+-- its fault is a refusal where the first condition that fails is that, and the member shows what it showed
+pub not_done : (refusal : Option Reason) (does : Shown → Shown → Type 0) (m n : Shown) (fault : MemberFault) (e : Refused) → ((r : Reason) → e ≡ NotEnabled r → fault ≡ faults.Refused r) → ((r : Reason) → fault ≡ faults.Refused r → refusal ≡ Some r)
+    → n ≡ m → Tries refusal does m n (Err e)
+not_done refusal does m n fault e only why same = record { judged = record { enabled = tt; reason = λ r x. why r (only r x) }; ok = tt; err = same }

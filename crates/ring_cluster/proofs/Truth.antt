@@ -1,12 +1,7 @@
 -- Tests, and what they say.
-use Rattle.std.proofs.Common.{◌≡◌, Bool, true, false, cond, Option, Some, None, is_some, refl, sym}
+use Rattle.std.proofs.Common.{◌≡◌, true, false, Option, Some, None, is_some, refl, sym}
 use Rattle.std.specs.Prelude.{option_map}
 use Rattle.std.proofs.lemmas.Bool.{false≢true}
-
--- a test by its outcome
-pub itself : (b : Bool) → cond b true false ≡ b
-itself true = refl
-itself false = refl
 
 -- what isn't some is none
 pub none_is : {A : Type 0} (o : Option A) → is_some o ≡ false → o ≡ None

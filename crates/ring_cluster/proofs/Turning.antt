@@ -12,7 +12,7 @@ use Rattle.ring_cluster.specs.Turns.{Works, TakesTurns, TakesRound, IsDoneAt, Re
 use Rattle.ring_cluster.proofs.Phases.{same_refl, same_trans, same_runs}
 use Rattle.ring_cluster.proofs.Owed.{but_refl, but_trans}
 use Rattle.ring_cluster.proofs.Playing.{HasGoneOn-refl, HasGoneOn-owing, HasGoneOn-trans}
-use Rattle.ring_cluster.proofs.Doing.{own_goes, own_stays, performed_goes, performed_shrinks, performed_elsewhere, performed_stays, begun_on, begun_later}
+use Rattle.ring_cluster.proofs.Doing.{own_falls, own_goes, own_stays, performed_goes, performed_shrinks, performed_elsewhere, performed_stays, begun_on, begun_later}
 
 pub given_refl : (c : Seen) → SameGiven c c
 given_refl c = (refl, refl)
@@ -185,3 +185,23 @@ passed_more c d e false false k h w falls rests = record {
       (λ (ne : i ≢ k). h.rests refl i (omega arith))
       (cases_eq i k);
 }
+
+-- ---- by what the driver does
+
+-- what a step of a member of its own does
+pub ruleset own_step = (own_falls, own_works, works_same)
+
+-- what a turn does
+pub ruleset one_turn = (performed_turns, performed_begun, works_turns, done_begun, turns_same)
+
+-- what a round does
+pub ruleset rounds = (begun_more, begun_none, round_trans, turns_round)
+
+-- what it does that all tasks of one member are done
+pub ruleset tasks = (performed_turns, performed_fewer, turns_trans, turns_same, turns_refl, done_at)
+
+-- and those of all members
+pub ruleset all_tasks = (done_more, done_none, round_trans, turns_round, all_done)
+
+-- what a drain does
+pub ruleset draining = (works_round, round_trans, done_still)

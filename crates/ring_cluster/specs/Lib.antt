@@ -3,6 +3,7 @@ pub mod Behind
 pub mod Collecting
 pub mod EachState
 pub mod Ends
+pub mod Gathered
 pub mod Heard
 pub mod Holds
 pub mod Idle

@@ -4,11 +4,8 @@ use Rattle.group_view.specs.declared.link.LinkName.{LinkName}
 use Rattle.gm_member.specs.Held.{Held}
 use Rattle.gm_member.specs.Shown.{in_name_of, out_name_of}
 use Rattle.ring_cluster.specs.Ends.{OutSeen, InSeen, Fits, Meets}
-use Rattle.ring_names.specs.declared.numbers.CreditSpec.{CreditSpec}
-use Rattle.ring_world.specs.declared.event.Event.{Event}
-use Rattle.ring_cluster.specs.Seen.{state}
-use Rattle.ring_cluster.specs.Standing.{IsJournal, StandLoose}
 use Rattle.ring_cluster.specs.Parties.{Shown, Posted, Parties, no_posted, node_at, with_node, with_in, with_out, in_end_at}
+use Rattle.ring_cluster.specs.Standing.{StandAfter}
 
 -- an end is there, which may meet the out end
 abbrev pub IsToMeet : OutSeen → Option InSeen → Type 0
@@ -115,10 +112,3 @@ MeetsOut i q q' =
     (((node_at q i).ends.out ≡ None) × (q' ≡ q))
     ⊎ (name : LinkName) × (o : OutSeen) × (o' : OutSeen) × (out_name_of (node_at q i).held ≡ Some name) × ((node_at q i).ends.out ≡ Some o)
     × MeetsIn q name o (with_node q i (with_out (node_at q i) o')) q' o'
-
--- ---- all out ends
-
--- The journal is a run, and the parties stand in its last state, in which ends still have to meet.
-pub record LooseAfter (credit : CreditSpec) (names : List (List ℕ)) (events : List Event) (q : Parties) : Type 0 where
-  pub journal : IsJournal credit names events
-  pub stand : StandLoose credit.initial (state credit names events) q None

@@ -1,5 +1,5 @@
 -- What the parties of a cluster show: its members with the ends of their links, and its registrar with the links that wait there.
-use Rattle.std.specs.Prelude.{◌≡◌, ℕ, ◌-◌, ◌++◌, false, List, [], map, nat_eq, slice_index_or, slice_set, if◌then◌else◌, Option, Some, None, option_map}
+use Rattle.std.specs.Prelude.{◌≡◌, ℕ, ◌-◌, ◌++◌, Bool, false, List, [], map, nat_eq, slice_index_or, slice_set, if◌then◌else◌, Option, Some, None, option_map}
 use Rattle.ordered_link.specs.declared.item.Item.{Item}
 use Rattle.ordered_link.specs.declared.item.Item.TheVariants as item
 use Rattle.ordered_link.specs.declared.plain.PlainOut.{PlainOut}
@@ -92,10 +92,6 @@ no_shown = record { held = no_held; ends = no_ends }
 abbrev pub shown_at : List ANode → ℕ → Shown
 shown_at nodes i = slice_index_or (map shown_of nodes) i no_shown
 
--- all members but the one at this place show what they showed
-abbrev pub OthersStay : ℕ → List ANode → List ANode → Type 0
-OthersStay i nodes nodes' = map shown_of nodes' ≡ slice_set (map shown_of nodes) i (shown_at nodes' i)
-
 -- ---- the registrar
 
 -- A link that waits for its receiver: its name, and its end, where it isn't lent.
@@ -124,6 +120,11 @@ pub record Parties : Type 0 where
 -- the parties, with these links behind those that stand at the registrar
 abbrev pub parties : List ANode → Registry (PlainIn Load) → List Posted → Parties
 parties nodes r behind = record { nodes = map shown_of nodes; views = r.views; stopped = r.stopped; post = map posted r.links ++ behind }
+
+-- What is seen of the parties: what they show, and whether the registrar is owed a link that waits behind those which stand there.
+pub record PartiesSeen : Type 0 where
+  pub all : Parties
+  pub owes : Bool
 
 -- the member at a place
 abbrev pub node_at : Parties → ℕ → Shown

@@ -1,16 +1,16 @@
 -- Why an event is refused, by what the parties show.
-use Rattle.std.specs.Prelude.{◌≡◌, ℕ, ◌+◌, ◌||◌, bytes_eq, List, [], Option, Some, None, option_map, position, is_some}
+use Rattle.std.specs.Prelude.{◌≡◌, ℕ, ◌+◌, ◌||◌, bytes_eq, List, [], Option, Some, None, map, option_map, position, is_some}
 use Rattle.std.specs.List.{filter}
 use Rattle.ring_names.specs.declared.reason.Reason.{Reason}
 use Rattle.ring_names.specs.declared.reason.Reason.TheVariants as reason
-use Rattle.ordered_link.specs.declared.plain.PlainIn.{PlainIn}
 use Rattle.ring_world.specs.declared.event.Event.{Event}
 use Rattle.ring_world.specs.declared.event.Event.TheVariants.{Mark, Refresh}
+use Rattle.registrar.specs.declared.standing.Standing.{Standing}
 use Rattle.registrar.specs.Registry.{Registry}
 use Rattle.registrar.specs.Asked.{mark_refusal}
-use Rattle.gm_member.specs.declared.packet.Load.{Load}
 use Rattle.gm_member.specs.Held.{at_some, up_refused, first_at_door}
-use Rattle.ring_cluster.specs.Parties.{Shown, Parties, node_at}
+use Rattle.ring_cluster.specs.Ends.{InSeen}
+use Rattle.ring_cluster.specs.Parties.{Shown, Posted, Parties, node_at}
 use Rattle.ring_cluster.specs.Acting.{waits_at, alone_refused, look_refused, newest_of}
 
 -- the id of the one of that name
@@ -25,16 +25,24 @@ id_named q name = id_of_name q.nodes name
 abbrev pub NothingWaits : ℕ → Parties → Type 0
 NothingWaits x q = filter (waits_at x) q.post ≡ []
 
+-- a link that waits at the registrar, by what it shows
+abbrev pub standing_of : Posted → Standing InSeen
+standing_of d = record { name = d.name; link = d.end }
+
+-- what the registrar keeps, by what the parties show
+abbrev pub office_of : Parties → Registry InSeen
+office_of q = record { views = q.views; stopped = q.stopped; links = map standing_of q.post }
+
 -- why a member doesn't have d marked dead by the registrar that keeps r; where nobody has the name of the one to be marked, as such
-abbrev pub mark_refused : Registry (PlainIn Load) → Shown → Option ℕ → Option Reason
+abbrev pub mark_refused : {I : Type 0} → Registry I → Shown → Option ℕ → Option Reason
 mark_refused r m None = up_refused m.held (Some reason.UnknownMember)
 mark_refused r m (Some d) = up_refused m.held (mark_refusal r m.held.id d m.held.view.version (is_some m.held.current || is_some (first_at_door m.held)))
 
 -- the first failing condition of an event of the member at place i
-abbrev pub act_refused : Event → ℕ → Registry (PlainIn Load) → Parties → Option Reason
-act_refused (Mark by dead) i r q = mark_refused r (node_at q i) (id_named q dead)
-act_refused (Refresh by version) i r q = look_refused (newest_of q).version (node_at q i) version
-act_refused e i r q = alone_refused e (node_at q i)
+abbrev pub act_refused : Event → ℕ → Parties → Option Reason
+act_refused (Mark by dead) i q = mark_refused (office_of q) (node_at q i) (id_named q dead)
+act_refused (Refresh by version) i q = look_refused (newest_of q).version (node_at q i) version
+act_refused e i q = alone_refused e (node_at q i)
 
 -- the id of the one that is to be marked
 abbrev pub marked_in : Event → Parties → ℕ

@@ -1,5 +1,5 @@
 -- When the parties of a cluster stand in a state of the ring.
-use Rattle.std.specs.Prelude.{◌≡◌, ℕ, ◌+◌, ◌-◌, ◌<◌, ◌≤◌, ◌^◌, ◌++◌, ◌∷◌, ◌⊎◌, Bool, true, false, List, [], length, map, nat_eq, Option, Some, None, option_map}
+use Rattle.std.specs.Prelude.{◌≡◌, ℕ, ◌+◌, ◌-◌, ◌<◌, ◌≤◌, ◌^◌, ◌++◌, ◌∷◌, Bool, true, false, List, [], length, map, nat_eq, Some, None, option_map}
 use Rattle.std.specs.List.{filter}
 use Rattle.ring_names.specs.declared.numbers.CreditSpec.{CreditSpec}
 use Rattle.group_view.specs.declared.link.LinkName.{LinkName}
@@ -53,16 +53,20 @@ pub record MemberStands (w : World) (p : Places) (x : ℕ) (m : Shown) : Type 0 
   pub old_outs : m.ends.old_outs ≡ []
   pub old_ins : m.ends.old_ins ≡ []
 
--- The parties stand in a state: each member at its id, the registrar with the views and the notices of those that have stopped, the links
--- that wait with their names and ends; and the ends of each link that its receiver may still take from carry it.
-pub record StandIn (initial : ℕ) (w : World) (q : Parties) (p : Places) : Type 0 where
+-- The parties show a state: each member at its id, the registrar with the views and the notices of those that have stopped, the links that
+-- wait with their names and ends; and this holds of each link that its receiver may still take from.
+pub record Shows (Holds : ℕ → Type 0) (w : World) (q : Parties) (p : Places) : Type 0 where
   pub count : length q.nodes + 1 ≡ size w
   pub each : (x : ℕ) → 1 ≤ x → x < size w → MemberStands w p x (node_at q (x - 1))
   pub views : w.views ≡ no_group ∷ q.views
   pub stopped : (x : ℕ) → 1 ≤ x → x < size w → is_in x q.stopped ≡ is_stopped (member_at w x).phase
   pub post : q.post ≡ map (λ s. record { name = name_of w s; end = Some (p.ins s) }) p.post
   pub within : (s : ℕ) → is_in s p.post ≡ true → s < length w.links
-  pub carry : (s : ℕ) → s < length w.links → has_in w s ≡ true → Carries w initial (link_at w s) (p.outs s) (p.ins s)
+  pub carry : (s : ℕ) → s < length w.links → has_in w s ≡ true → Holds s
+
+-- They stand in it: the ends of each such link carry it.
+abbrev pub StandIn : ℕ → World → Parties → Places → Type 0
+StandIn initial w q p = Shows (λ s. Carries w initial (link_at w s) (p.outs s) (p.ins s)) w q p
 
 -- the ends of a link have met, and where the out end was dropped, it had met the in end before
 abbrev pub HaveDone : Bool → OutSeen → InSeen → Type 0
@@ -85,28 +89,6 @@ pub record Stand (initial : ℕ) (w : World) (q : Parties) : Type 0 where
   pub met : AllHaveMet w places
   pub known : SendersKnow w places
 
--- ---- between an event and the meetings after it
-
--- each out end that was dropped had met its other end, but for this one, which was just replaced
-abbrev pub DroppedHaveMet : World → Places → Option (LinkName × OutSeen) → Type 0
-DroppedHaveMet w p loose = (s : ℕ) → s < length w.links → has_in w s ≡ true → has_out w s ≡ false
-    → HasRested (p.outs s) (p.ins s) ⊎ (loose ≡ Some (name_of w s, p.outs s))
-
--- The parties stand in a state in which ends still have to meet; an out end that was just replaced may be loose.
-pub record StandLoose (initial : ℕ) (w : World) (q : Parties) (loose : Option (LinkName × OutSeen)) : Type 0 where
-  pub places : Places
-  pub stand : StandIn initial w q places
-  pub dropped : DroppedHaveMet w places loose
-  pub known : SendersKnow w places
-
--- The same, where the ends of links on which members of ids up to k send have met.
-pub record StandMet (k : ℕ) (initial : ℕ) (w : World) (q : Parties) : Type 0 where
-  pub places : Places
-  pub stand : StandIn initial w q places
-  pub dropped : DroppedHaveMet w places None
-  pub met : (s : ℕ) → s < length w.links → has_in w s ≡ true → has_out w s ≡ true → (link_at w s).sender ≤ k → HaveMet (places.outs s) (places.ins s)
-  pub known : SendersKnow w places
-
 -- ---- a cluster
 
 -- The journal is a run of the ring of fewer than 2^59 events.
@@ -119,3 +101,11 @@ pub record IsJournal (credit : CreditSpec) (names : List (List ℕ)) (events : L
 pub record StandAfter (credit : CreditSpec) (names : List (List ℕ)) (events : List Event) (q : Parties) : Type 0 where
   pub journal : IsJournal credit names events
   pub stand : Stand credit.initial (state credit names events) q
+
+-- they stand after the journal of some cluster
+abbrev pub StandSomewhere : Parties → Type 0
+StandSomewhere q = (credit : CreditSpec) × (names : List (List ℕ)) × (events : List Event) × StandAfter credit names events q
+
+-- the others stand wherever these do
+abbrev pub StandStill : Parties → Parties → Type 0
+StandStill q q' = (credit : CreditSpec) (names : List (List ℕ)) (events : List Event) → StandAfter credit names events q → StandAfter credit names events q'

@@ -2,10 +2,10 @@
 use Rattle.std.specs.Prelude.{ℕ, zero, suc, ◌+◌, ◌-◌, ◌*◌, if◌then◌else◌, ◌≡◌, ◌<◌, ◌≤◌, Bool, true, ◌&&◌, not, nat_eq, length, List, is_some, Option, Some, None}
 use Rattle.std.specs.List.{sum_by}
 use Rattle.group_view.specs.declared.entry.Entry.{Entry}
-use Rattle.group_view.specs.declared.entry.Mark.{Mark}
-use Rattle.group_view.specs.declared.entry.Mark.TheVariants.{Live, Dead, Erased}
+use Rattle.group_view.specs.Kept.{changes_of}
 use Rattle.ring_world.specs.declared.event.Event.{Event}
 use Rattle.ring_world.specs.declared.event.Event.TheVariants.{Refresh}
+use Rattle.ring_world.specs.Rows.{Row}
 use Rattle.ring_world.specs.Machine.{Member, Link, World, member_at, link_at, view_at, newest}
 use Rattle.ring_world.specs.OpenLinks.{passes, is_current}
 use Rattle.ring_world.specs.Step.{size, log_of}
@@ -19,15 +19,10 @@ sum_below (suc n) f = sum_below n f + f n
 
 -- ---- the entries of the newest view
 
--- how often an entry's mark may still change: it dies, and is erased
-abbrev pub marks_after : Mark → ℕ
-marks_after Live = 2
-marks_after Dead = 1
-marks_after Erased = 0
-
--- the changes that are left to an entry: those of its mark, and its registration
+-- The changes that are left to an entry, of the four that each may see: its admission, its death, its erasure, and its
+-- registration.
 abbrev pub entry_left : Entry → ℕ
-entry_left e = marks_after e.mark + (if e.synced then 0 else 1)
+entry_left e = 4 - changes_of e
 
 -- those of all entries of the newest view
 abbrev pub marks_left : World → ℕ
@@ -64,9 +59,13 @@ dirty_at n w i = dirty_on n w (member_at w i) (member_at w i).out
 abbrev pub dirty : World → ℕ
 dirty w = sum_below (size w) (dirty_at (size w) w)
 
--- how many messages of origin p member q still has to get, to forget, and to retire
+-- how many messages of a log of this length a row has still to get, to forget, and to retire
+abbrev pub lag_row : ℕ → Row → ℕ
+lag_row n r = (n - r.got) + (n - r.forgot) + (n - r.retired)
+
+-- those of member q, of origin p
 abbrev pub lag_at : World → ℕ → ℕ → ℕ
-lag_at w q p = (length (log_of w p) - (row_of w q p).got) + (length (log_of w p) - (row_of w q p).forgot) + (length (log_of w p) - (row_of w q p).retired)
+lag_at w q p = lag_row (length (log_of w p)) (row_of w q p)
 
 -- of all origins
 abbrev pub lag_by : World → ℕ → ℕ

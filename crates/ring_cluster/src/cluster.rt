@@ -1,23 +1,15 @@
 //! The cluster.
-ghost use Rattle.std.specs.Prelude.{◌≡◌, ◌<◌, ◌∷◌, ◌++◌, [], ◌↔◌, ◌≤◌, ◌-◌, List, true, false, IsSome, MatchOption};
-ghost use Rattle.std.specs.Prelude.{drop, slice_set, IfOk, IfSome, OnOk, OnErr, bytes_eq, length, map};
-ghost use Rattle.std.specs.Prelude.{slice_index_or, replicate, vec_len, vec_capacity};
-ghost use Rattle.ring_cluster.specs.Parties.{parties, shown_of, no_shown};
-ghost use Rattle.ring_cluster.specs.Behind.{behind};
+ghost use Rattle.std.specs.Prelude.{◌≡◌, ◌<◌, ◌∷◌, ◌++◌, [], List, MatchOption, drop, slice_set, IfOk, IfSome};
+ghost use Rattle.std.specs.Prelude.{bytes_eq, length, replicate, vec_len, vec_capacity};
 ghost use Rattle.ring_cluster.specs.declared.agenda.Task.{Task};
 ghost use Rattle.ring_cluster.specs.Plays.{IsCommandTo, IsTaskOf, place_among as the_place, task_event, agenda_at};
-ghost use Rattle.ring_cluster.specs.Standing.{StandAfter};
 
 use crate::agenda::{Agenda, Task};
 use crate::driver::{drain, round};
 use crate::node::Node;
-use crate::opening::{Opening, copied, opening_parties};
-use crate::stepping::{hand_over, step};
-use crate::undelivered::Undelivered;
-use gm_member::Load;
+use crate::opening::copied;
+use crate::parties::Parties;
 use group_view::View;
-use ordered_link::PlainIn;
-use registrar::Registrar;
 use ring_io::Gate;
 use ring_names::{CreditSpec, MemberId, Name, OutOfMemory};
 use ring_script::Command;
@@ -40,9 +32,7 @@ pub struct Cluster {
     alloc: Global,
     credit: CreditSpec,
     names: Vec<Name>,
-    nodes: Vec<Node>,
-    registrar: Registrar<PlainIn<Load>>,
-    late: Option<Undelivered>,
+    parties: Parties,
     journal: Vec<Event>,
     agendas: Vec<Agenda>,
     rounds: u32,
@@ -104,16 +94,14 @@ impl Cluster {
         requires { AreOpeningNames members.now }
         ensures { IfOk result (λ c. c ≡ opening_seen credit members.now) }
     {
-        let Opening { nodes, registrar } = opening_parties(alloc, members, credit)?;
+        let parties = Parties::opening(alloc, members, credit)?;
         let names = copied(alloc, members)?;
         let agendas = opening_agendas(alloc, members.len())?;
         Ok(Cluster {
             alloc,
             credit,
             names,
-            nodes,
-            registrar,
-            late: None,
+            parties,
             journal: Vec::new(alloc),
             agendas,
             rounds: 0,
@@ -202,15 +190,8 @@ impl Cluster {
             → refusal (state_of self.old) event.now ≡ Some r) }
         ensures err { OnErr result (MayHandOver self.old self.new) }
     {
-        step(
-            self.credit,
-            &self.names,
-            &mut self.nodes,
-            &mut self.registrar,
-            &mut self.late,
-            &mut self.journal,
-            event,
-        )
+        self.parties
+            .step(self.credit, &self.names, &mut self.journal, event)
     }
 
     /// Hands over what is owed to the registrar.
@@ -218,14 +199,7 @@ impl Cluster {
         ensures ok { OnOk result (self.new ≡ owing false self.old) }
         ensures err { OnErr result ((self.new ≡ self.old) × ((self.old).owes ≡ true)) }
     {
-        hand_over(
-            self.credit,
-            &self.names,
-            &self.nodes,
-            &mut self.registrar,
-            &mut self.late,
-            &self.journal,
-        )
+        self.parties.hand_over()
     }
 
     /// The member at a place does the first of its tasks: whether it had one and hasn't stopped.
@@ -439,14 +413,14 @@ impl Cluster {
             ≡ record (held_in (state_of self.now) id.0) { door = (held_of m.now).door }) }
         ensures holds { IfSome result (λ m. HoldsOf (state_of self.now) id.0 (held_of m.now)) }
     {
-        node_at(&self.nodes, id)
+        self.parties.member(id)
     }
 
     /// The newest view of the group, as the registrar has it.
     pub fn view(&self) -> &View
         ensures { result.now ≡ view_at (state_of self.now) (newest (state_of self.now)) }
     {
-        self.registrar.view()
+        self.parties.view()
     }
 
     /// A copy of the journal: all that has happened, in order.
@@ -475,17 +449,6 @@ fn copied_events(alloc: Global, events: &[Event]) -> Result<Vec<Event>, OutOfMem
         }
     }
     Ok(all)
-}
-
-/// The member of that id, where the list has one.
-fn node_at(nodes: &[Node], id: MemberId) -> Option<&Node>
-    ensures there { IsSome result ↔ ((1 ≤ id.0) × (id.0 ≤ length nodes.now)) }
-    ensures held { IfSome result (λ m. shown_of m.now ≡ slice_index_or (map shown_of nodes.now) (id.0 - 1) no_shown) }
-{
-    if id.0 == 0 {
-        return None;
-    }
-    nodes.get(id.0 as usize - 1)
 }
 
 /// The next task of the member at a place.

@@ -1,5 +1,5 @@
 //! A member collects the links that wait for it at the registrar.
-ghost use Rattle.std.specs.Prelude.{◌≡◌, ◌+◌, ◌<◌, [], true, false, OnOk, OnErr, IfOk, None, List, length, map};
+ghost use Rattle.std.specs.Prelude.{◌≡◌, true, false, OnOk, OnErr, IfOk, None, List, length, map};
 ghost use Rattle.std.specs.List.{filter};
 ghost use Rattle.ordered_link.specs.declared.plain.PlainOut.{PlainOut as Out};
 ghost use Rattle.ordered_link.specs.declared.plain.PlainIn.{PlainIn as In};
@@ -14,21 +14,19 @@ ghost use Rattle.gm_member.specs.declared.packet.Load.{Load as Loaded};
 ghost use Rattle.gm_member.specs.Held.{asking_held};
 ghost use Rattle.gm_member.specs.Shown.{HasRoom, SpareIsSound, held_of, ends_of};
 ghost use Rattle.gm_member.specs.Questions.{asked_for};
-ghost use Rattle.ring_cluster.specs.Parties.{shown_of, shown_at, OthersStay, posted, parties};
-ghost use Rattle.ring_cluster.specs.Tried.{IsFreeAt};
+ghost use Rattle.ring_cluster.specs.Parties.{shown_of, posted};
 ghost use Rattle.ring_cluster.specs.Acting.{IsReady, waits_at, Collects};
-ghost use Rattle.ring_cluster.specs.Standing.{StandAfter};
-ghost use Rattle.ring_cluster.specs.Refused.{NothingWaits};
 ghost use Rattle.ring_cluster.specs.Collecting.{AreOfRing, given_links};
 
 use crate::looking::close;
 use crate::node::{Node, drop_old_ins};
+use crate::parties::Parties;
 use gm_member::{Ask, Load};
 use group_view::{Answer, Deposited, Request};
 use ordered_link::PlainIn;
 use registrar::Registrar;
-use ring_names::{CreditSpec, Items, Name, OutOfMemory};
-use ring_world::{Event, Phase};
+use ring_names::{Items, OutOfMemory};
+use ring_world::Phase;
 
 /// Whether a member is up.
 fn is_up(node: &Node) -> bool
@@ -41,59 +39,30 @@ fn is_up(node: &Node) -> bool
     }
 }
 
-/// The same of the member at a place.
-#[tactic(auto, using(crate::proofs::Nodes::nodes))]
-fn is_up_at(nodes: &[Node], i: usize) -> bool
-    requires { i < length nodes.now }
-    ensures up { result ≡ true → (shown_at nodes.now i).held.phase ≡ Up }
-    ensures all { (shown_at nodes.now i).held.phase ≡ Up → result ≡ true }
-{
-    is_up(&nodes[i])
-}
+impl Parties {
+    ghost use Rattle.std.specs.Prelude.{◌≡◌, ◌+◌, ◌<◌, false, OnOk, length};
+    ghost use Rattle.ring_world.specs.declared.phase.Phase.TheVariants.{Up};
+    ghost use Rattle.ring_cluster.specs.Parties.{node_at};
+    ghost use Rattle.ring_cluster.specs.Standing.{StandSomewhere, StandStill};
+    ghost use Rattle.ring_cluster.specs.Refused.{NothingWaits};
 
-/// The links that wait for the member at a place come to its door, where it is up, and none waits for it then. Want of
-/// memory leaves everything as it was.
-pub(crate) fn collect_up(
-    credit: CreditSpec,
-    names: &[Name],
-    nodes: &mut [Node],
-    registrar: &mut Registrar<PlainIn<Load>>,
-    events: &[Event],
-    i: usize,
-) -> Result<(), OutOfMemory>
-    requires within { i < length nodes.old }
-    requires standing { StandAfter credit names.now events.now (parties nodes.old registrar.old []) }
-    ensures standing { StandAfter credit names.now events.now (parties nodes.new registrar.new []) }
-    ensures none { OnOk result ((shown_at nodes.new i).held.phase ≡ Up
-        → NothingWaits (i + 1) (parties nodes.new registrar.new [])) }
-{
-    if !is_up_at(nodes, i) {
-        return Ok(());
+    /// The links that wait for the member at a place come to its door, where it is up, and none waits for it then. Want
+    /// of memory leaves everything as it was.
+    pub(crate) fn collect(&mut self, i: usize) -> Result<(), OutOfMemory>
+        requires within { i < length (self.old).all.nodes }
+        requires delivered { (self.old).owes ≡ false }
+        requires standing { StandSomewhere (self.old).all }
+        ensures standing { StandStill (self.old).all (self.new).all }
+        ensures delivered { (self.new).owes ≡ false }
+        ensures none { OnOk result ((node_at (self.new).all i).held.phase ≡ Up
+            → NothingWaits (i + 1) (self.new).all) }
+    {
+        if !is_up(&self.nodes[i]) {
+            return Ok(());
+        }
+        collect(&mut self.nodes[i], &mut self.registrar)?;
+        Ok(())
     }
-    collect_of(nodes, registrar, i)?;
-    Ok(())
-}
-
-/// The same of one that is up and known to the registrar.
-#[tactic(auto, using(crate::proofs::Nodes::nodes))]
-fn collect_of(
-    nodes: &mut [Node],
-    registrar: &mut Registrar<PlainIn<Load>>,
-    i: usize,
-) -> Result<(), OutOfMemory>
-    requires free { IsFreeAt nodes.old i }
-    requires up { (shown_at nodes.old i).held.phase ≡ Up }
-    requires here { AreHere (registrar.old).links }
-    requires ring { AreOfRing (registrar.old).links }
-    requires known { is_known registrar.old (shown_at nodes.old i).held.id ≡ true }
-    ensures ok { OnOk result (Collects (shown_at nodes.old i) (shown_at nodes.new i)
-        (filter (waits_at (shown_at nodes.old i).held.id) (map posted (registrar.old).links))) }
-    ensures nodes { OnOk result (OthersStay i nodes.old nodes.new) }
-    ensures registrar { OnOk result (registrar.new ≡ without_links registrar.old (shown_at nodes.old i).held.id) }
-    ensures err { OnErr result ((map shown_of nodes.new ≡ map shown_of nodes.old) × (registrar.new ≡ registrar.old)) }
-{
-    collect(&mut nodes[i], registrar)?;
-    Ok(())
 }
 
 /// The links that wait for a member come to its door, and the ends of those that it doesn't keep are dropped.

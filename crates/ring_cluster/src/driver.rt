@@ -46,7 +46,7 @@ impl OwnStep {
 }
 
 /// An event of a member of its own that leaves less to do, where it is enabled: whether it was.
-#[tactic(auto, using(crate::proofs::Doing::own_falls, crate::proofs::Turning::own_works, crate::proofs::Turning::works_same))]
+#[tactic(auto, using(crate::proofs::Turning::own_step))]
 fn happens(cluster: &mut Cluster, event: &Event) -> Result<bool, OutOfMemory>
     requires own { is_asked event.now ≡ false }
     requires less { LeavesLess (state_of cluster.old) event.now }
@@ -215,7 +215,7 @@ fn work_turn(cluster: &mut Cluster, place: usize) -> Result<bool, OutOfMemory>
 }
 
 /// The member at a place takes a turn: the head of its agenda, or a step of its own. Whether it did any.
-#[tactic(auto, using(crate::proofs::Turning::performed_turns, crate::proofs::Turning::performed_begun, crate::proofs::Turning::works_turns, crate::proofs::Turning::done_begun, crate::proofs::Turning::turns_same))]
+#[tactic(auto, using(crate::proofs::Turning::one_turn))]
 fn turn(cluster: &mut Cluster, place: usize) -> Result<bool, OutOfMemory>
     requires { place < length (cluster.old).names }
     ensures turns { TakesTurns place cluster.old cluster.new }
@@ -287,7 +287,7 @@ const BEFORE: u8 = 1;
 const AFTER: u8 = 2;
 
 /// Every member takes its turns, one member after another.
-#[tactic(auto, using(crate::proofs::Turning::begun_more, crate::proofs::Turning::begun_none, crate::proofs::Turning::round_trans, crate::proofs::Turning::turns_round))]
+#[tactic(auto, using(crate::proofs::Turning::rounds))]
 pub(crate) fn round<G: Gate>(cluster: &mut Cluster, turns: u32, gate: &G) -> Result<(), OutOfMemory>
     requires { 1 ≤ turns }
     ensures round { TakesRound cluster.old cluster.new }
@@ -302,7 +302,7 @@ pub(crate) fn round<G: Gate>(cluster: &mut Cluster, turns: u32, gate: &G) -> Res
 }
 
 /// The member at a place does all its tasks, where it runs.
-#[tactic(auto, using(crate::proofs::Turning::performed_turns, crate::proofs::Turning::performed_fewer, crate::proofs::Turning::turns_trans, crate::proofs::Turning::turns_same, crate::proofs::Turning::turns_refl, crate::proofs::Turning::done_at))]
+#[tactic(auto, using(crate::proofs::Turning::tasks))]
 fn finish(cluster: &mut Cluster, place: usize) -> Result<(), OutOfMemory>
     requires { place < length (cluster.old).names }
     ensures turns { TakesTurns place cluster.old cluster.new }
@@ -317,7 +317,7 @@ fn finish(cluster: &mut Cluster, place: usize) -> Result<(), OutOfMemory>
 }
 
 /// Every member that runs does all its tasks.
-#[tactic(auto, using(crate::proofs::Turning::done_more, crate::proofs::Turning::done_none, crate::proofs::Turning::round_trans, crate::proofs::Turning::turns_round, crate::proofs::Turning::all_done))]
+#[tactic(auto, using(crate::proofs::Turning::all_tasks))]
 fn finish_all(cluster: &mut Cluster) -> Result<(), OutOfMemory>
     ensures round { TakesRound cluster.old cluster.new }
     ensures done { OnOk result (AgendasAreDone cluster.new) }
@@ -366,7 +366,7 @@ fn work_out(cluster: &mut Cluster) -> Result<(), OutOfMemory>
 }
 
 /// All tasks of members that run are done, and then all work.
-#[tactic(auto, using(crate::proofs::Turning::works_round, crate::proofs::Turning::round_trans, crate::proofs::Turning::done_still))]
+#[tactic(auto, using(crate::proofs::Turning::draining))]
 pub(crate) fn drain(cluster: &mut Cluster) -> Result<(), OutOfMemory>
     ensures round { TakesRound cluster.old cluster.new }
     ensures done { OnOk result (AgendasAreDone cluster.new) }

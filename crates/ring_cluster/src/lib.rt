@@ -15,6 +15,7 @@ mod looking;
 mod meeting;
 mod node;
 mod opening;
+mod parties;
 mod stepping;
 mod undelivered;
 

@@ -30,11 +30,14 @@ use registrar::Registrar;
 use ring_names::{MemberId, OutOfMemory, Reason};
 use ring_world::Refused;
 
+/// An out end that its member has replaced, with the name of its link.
+pub(crate) type Loose = (LinkName, PlainOut<Load>);
+
 /// What a member that has another view hands on: the link that it opened, and the out end that it replaced.
 #[derive(Drop)]
 pub(crate) struct Looked {
     pub(crate) opened: Option<Undelivered>,
-    pub(crate) loose: Option<(LinkName, PlainOut<Load>)>,
+    pub(crate) loose: Option<Loose>,
 }
 
 /// The member reads a view, which isn't older than its own.

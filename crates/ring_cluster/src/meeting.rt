@@ -1,21 +1,15 @@
 //! The ends of each link meet.
-ghost use Rattle.std.specs.Prelude.{◌≡◌, ◌-◌, ◌≤◌, ◌<◌, ℕ, true, false, map, length, IfSome, IfNone, IsSome, List};
-ghost use Rattle.std.specs.Prelude.{None, Some, option_map, slice_index_or, slice_set};
+ghost use Rattle.std.specs.Prelude.{◌≡◌, ◌+◌, ◌-◌, ◌≤◌, ◌<◌, ℕ, true, false, map, length, IfSome, IfNone, IsSome, List, None, Some, option_map, slice_index_or, slice_set};
 ghost use Rattle.group_view.specs.declared.link.LinkName.{LinkName};
 ghost use Rattle.registrar.specs.Registry.{name_in, end_in};
 ghost use Rattle.gm_member.specs.Shown.{in_name_of, out_name_of};
 ghost use Rattle.ring_cluster.specs.Ends.{Fits, Meets, InSeen};
-ghost use Rattle.ring_cluster.specs.Parties.{shown_of, out_seen, in_seen, in_end_at, with_in, with_out, posted};
-ghost use Rattle.ring_cluster.specs.Parties.{no_shown, parties};
+ghost use Rattle.ring_cluster.specs.Parties.{shown_of, out_seen, in_seen, in_end_at, with_in, with_out, posted, no_shown};
 ghost use Rattle.ring_cluster.specs.Behind.{behind};
-ghost use Rattle.ring_cluster.specs.Meeting.{IsToMeet, MeetsEnd, HasNone, NodeMayMeet, NodeMeets, PostMayMeet};
-ghost use Rattle.ring_cluster.specs.Meeting.{PostMeets, NoneIsPosted, MayMeet, MeetsIn, MayMeetOut, MeetsOut};
-ghost use Rattle.ring_cluster.specs.Meeting.{LooseAfter, lent_out};
-ghost use Rattle.ring_cluster.specs.Standing.{StandAfter};
-ghost use Rattle.ring_names.specs.declared.numbers.CreditSpec.{CreditSpec};
-ghost use Rattle.ring_world.specs.declared.event.Event.{Event};
+ghost use Rattle.ring_cluster.specs.Meeting.{IsToMeet, MeetsEnd, HasNone, NodeMayMeet, NodeMeets, PostMayMeet, PostMeets, NoneIsPosted, lent_out};
 
 use crate::node::Node;
+use crate::parties::Parties;
 use crate::undelivered::Undelivered;
 use gm_member::Load;
 use group_view::LinkName;
@@ -214,28 +208,6 @@ fn meet_member(nodes: &mut [Node], out: &mut PlainOut<Load>, name: &LinkName) ->
     meet_node(&mut nodes[receiver], out, name)
 }
 
-/// Lets an out end meet the in end of the link of that name, wherever that stands. It takes no memory.
-pub(crate) fn meet_in(
-    nodes: &mut [Node],
-    registrar: &mut Registrar<PlainIn<Load>>,
-    late: &mut Option<Undelivered>,
-    out: &mut PlainOut<Load>,
-    name: &LinkName,
-)
-    requires { MayMeet (parties nodes.old registrar.old (behind late.old)) name.now (out_seen out.old) }
-    ensures { MeetsIn (parties nodes.old registrar.old (behind late.old)) name.now (out_seen out.old)
-        (parties nodes.old registrar.old (behind late.old))
-        (parties nodes.new registrar.new (behind late.new)) (out_seen out.new) }
-{
-    if meet_member(nodes, out, name) {
-        return;
-    }
-    if meet_posted(registrar, out, name) {
-        return;
-    }
-    meet_late(late, out, name);
-}
-
 /// The out end of a member, where it has one, with the name of its link.
 fn lend_out(node: &mut Node) -> Option<(LinkName, PlainOut<Load>)>
     ensures none { IfNone result ((shown_of node.old).ends.out ≡ None) }
@@ -258,39 +230,69 @@ fn give_out(node: &mut Node, out: PlainOut<Load>)
     node.give_out(out);
 }
 
-/// Lets the out end of the member at a place meet the in end of its link, where it has one. It takes no memory.
-pub(crate) fn meet_out(
-    nodes: &mut [Node],
-    registrar: &mut Registrar<PlainIn<Load>>,
-    late: &mut Option<Undelivered>,
-    i: usize,
-)
-    requires within { i < length nodes.old }
-    requires may { MayMeetOut (parties nodes.old registrar.old (behind late.old)) i }
-    ensures { MeetsOut i (parties nodes.old registrar.old (behind late.old))
-        (parties nodes.new registrar.new (behind late.new)) }
-{
-    let Some((name, mut out)) = lend_out(&mut nodes[i]) else {
-        return;
-    };
-    meet_in(nodes, registrar, late, &mut out, &name);
-    give_out(&mut nodes[i], out);
-}
+impl Parties {
+    ghost use Rattle.std.specs.Prelude.{◌≡◌, ◌<◌, length, IfSome};
+    ghost use Rattle.gm_member.specs.Shown.{in_name_of};
+    ghost use Rattle.ring_cluster.specs.Parties.{out_seen, node_at};
+    ghost use Rattle.ring_cluster.specs.Meeting.{MayMeet, MeetsIn, MayMeetOut, MeetsOut};
+    ghost use Rattle.ring_cluster.specs.Loose.{IsMember, sender_in, SendersSomewhere, MeetsSenders, MovedSomewhere, MeetsMoved};
 
-/// Lets the ends of each link meet, where the parties stand in a state of the ring in which they have to. It takes no
-/// memory.
-pub(crate) fn meet_all(
-    nodes: &mut [Node],
-    registrar: &mut Registrar<PlainIn<Load>>,
-    late: &mut Option<Undelivered>,
-)
-    requires { (credit : CreditSpec) × (names : List (List ℕ)) × (events : List Event)
-        × LooseAfter credit names events (parties nodes.old registrar.old (behind late.old)) }
-    ensures { (credit : CreditSpec) (names : List (List ℕ)) (events : List Event)
-        → LooseAfter credit names events (parties nodes.old registrar.old (behind late.old))
-        → StandAfter credit names events (parties nodes.new registrar.new (behind late.new)) }
-{
-    for i in 0..nodes.len() {
-        meet_out(nodes, registrar, late, i);
+    /// Lets an out end meet the in end of the link of that name, wherever that stands. It takes no memory.
+    pub(crate) fn meet_in(&mut self, out: &mut PlainOut<Load>, name: &LinkName)
+        requires { MayMeet (self.old).all name.now (out_seen out.old) }
+        ensures { MeetsIn (self.old).all name.now (out_seen out.old) (self.old).all (self.new).all (out_seen out.new) }
+    {
+        if meet_member(&mut self.nodes, out, name) {
+            return;
+        }
+        if meet_posted(&mut self.registrar, out, name) {
+            return;
+        }
+        meet_late(&mut self.late, out, name);
+    }
+
+    /// Lets the out end of the member at a place meet the in end of its link, where it has one. It takes no memory.
+    fn meet_out(&mut self, i: usize)
+        requires within { i < length (self.old).all.nodes }
+        requires may { MayMeetOut (self.old).all i }
+        ensures { MeetsOut i (self.old).all (self.new).all }
+    {
+        let Some((name, mut out)) = lend_out(&mut self.nodes[i]) else {
+            return;
+        };
+        self.meet_in(&mut out, &name);
+        give_out(&mut self.nodes[i], out);
+    }
+
+    /// The name of the link from which the member at a place takes, where it takes from one.
+    fn taken_from(&self, i: usize) -> Option<LinkName>
+        requires { i < length (self.now).all.nodes }
+        ensures { in_name_of (node_at (self.now).all i).held 0 ≡ result }
+    {
+        self.nodes[i].name_at(0)
+    }
+
+    /// Lets the out end of who sends on the link of that name meet its other end, where there is a name.
+    fn meet_sender(&mut self, name: Option<LinkName>)
+        requires from { IfSome name (λ n. IsMember n.from.0 (self.old).all) }
+        requires between { SendersSomewhere (sender_in name) (self.old).all }
+        ensures { MeetsSenders (sender_in name) (self.old).all (self.new).all }
+    {
+        let Some(name) = name else {
+            return;
+        };
+        self.meet_out(name.from.0 as usize - 1);
+    }
+
+    /// Lets the ends meet that an event of the member at a place may have moved: those of the link on which it sends,
+    /// and of that from which it takes. It takes no memory.
+    pub(crate) fn meet_moved(&mut self, i: usize)
+        requires within { i < length (self.old).all.nodes }
+        requires moved { MovedSomewhere i (self.old).all }
+        ensures { MeetsMoved i (self.old).all (self.new).all }
+    {
+        let taken = self.taken_from(i);
+        self.meet_out(i);
+        self.meet_sender(taken);
     }
 }

@@ -1,30 +1,23 @@
 //! The opening of a cluster.
-ghost use Rattle.std.specs.Prelude.{◌≡◌, ℕ, ◌+◌, ◌<◌, ◌≤◌, ◌++◌, ◌∷◌, IfOk, OnOk, [], None, true, length, map};
+ghost use Rattle.std.specs.Prelude.{◌≡◌, ◌+◌, ◌<◌, ◌≤◌, ◌++◌, ◌∷◌, IfOk, OnOk, [], true, length, map};
 ghost use Rattle.std.specs.Prelude.{slice_index_or};
 ghost use Rattle.std.specs.List.{range_with_len};
-ghost use Rattle.group_view.specs.Change.{AreOpeningNames, opening as opening_group};
+ghost use Rattle.group_view.specs.Change.{opening as opening_group};
 ghost use Rattle.group_view.specs.Ring.{is_in};
 ghost use Rattle.ring_world.specs.Rows.{most_members};
 ghost use Rattle.ring_world.specs.View.{ids};
 ghost use Rattle.gm_member.specs.Held.{founded};
-ghost use Rattle.ring_cluster.specs.Parties.{parties, shown_of};
+ghost use Rattle.ring_cluster.specs.Parties.{shown_of};
 ghost use Rattle.ring_cluster.specs.Opened.{opened_ends, opened_at};
-ghost use Rattle.ring_cluster.specs.Standing.{StandAfter};
 
 use crate::node::Node;
+use crate::parties::Parties;
 use gm_member::{Load, Member};
 use group_view::View;
 use ordered_link::{PlainIn, plain_pair};
 use registrar::Registrar;
 use ring_names::{CreditSpec, MemberId, Name, OutOfMemory};
 use std::alloc::Global;
-
-/// The members of the opening and the registrar.
-#[derive(Drop)]
-pub(crate) struct Opening {
-    pub(crate) nodes: Vec<Node>,
-    pub(crate) registrar: Registrar<PlainIn<Load>>,
-}
 
 /// The member at place k of the opening, with both ends of a fresh pair. Plain ends share no memory, so its in
 /// end may well meet the out end of its left neighbour.
@@ -74,20 +67,6 @@ fn push_node(nodes: &mut Vec<Node>, node: Node) -> Result<(), OutOfMemory>
     Ok(())
 }
 
-/// The parties of a ring that opens with these members, in ring order.
-pub(crate) fn opening_parties(
-    alloc: Global,
-    names: &[Name],
-    credit: CreditSpec,
-) -> Result<Opening, OutOfMemory>
-    requires { AreOpeningNames names.now }
-    ensures { IfOk result (λ o. StandAfter credit names.now [] (parties o.nodes.items o.registrar [])) }
-{
-    let registrar: Registrar<PlainIn<Load>> = Registrar::opening(alloc, names)?;
-    let nodes = opening_nodes(alloc, names, registrar.view(), credit)?;
-    Ok(Opening { nodes, registrar })
-}
-
 /// Names of one's own.
 pub(crate) fn copied(alloc: Global, names: &[Name]) -> Result<Vec<Name>, OutOfMemory>
     ensures { IfOk result (λ v. v.items ≡ names.now) }
@@ -99,4 +78,29 @@ pub(crate) fn copied(alloc: Global, names: &[Name]) -> Result<Vec<Name>, OutOfMe
         }
     }
     Ok(all)
+}
+
+impl Parties {
+    ghost use Rattle.std.specs.Prelude.{◌≡◌, [], false, IfOk};
+    ghost use Rattle.group_view.specs.Change.{AreOpeningNames};
+    ghost use Rattle.ring_cluster.specs.Standing.{StandAfter};
+
+    /// The parties of a ring that opens with these members, in ring order.
+    pub(crate) fn opening(
+        alloc: Global,
+        names: &[Name],
+        credit: CreditSpec,
+    ) -> Result<Parties, OutOfMemory>
+        requires { AreOpeningNames names.now }
+        ensures standing { IfOk result (λ p. StandAfter credit names.now [] p.all) }
+        ensures delivered { IfOk result (λ p. p.owes ≡ false) }
+    {
+        let registrar: Registrar<PlainIn<Load>> = Registrar::opening(alloc, names)?;
+        let nodes = opening_nodes(alloc, names, registrar.view(), credit)?;
+        Ok(Parties {
+            nodes,
+            registrar,
+            late: None,
+        })
+    }
 }

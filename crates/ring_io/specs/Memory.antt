@@ -31,6 +31,10 @@ pub record Held : Type 0 where
   pub bytes : List ℕ
   pub room : ℕ
 
+-- for how many further bytes there is room
+abbrev pub free_in : Held → ℕ
+free_in h = h.room - length h.bytes
+
 -- a source: the bytes left
 pub record Supply : Type 0 where
   pub left : List ℕ
@@ -40,32 +44,31 @@ pub record Supply : Type 0 where
 abbrev pub given_count : Supply → ℕ → ℕ
 given_count s room = min s.calls.most (min room (length s.left))
 
--- a sink: the bytes held, of `room` at most
+-- a sink: the bytes held
 pub record Store : Type 0 where
-  pub held : List ℕ
-  pub room : ℕ
+  pub held : Held
   pub calls : Calls
 
 -- whether the next call fails: it is listed, or there is no room
 abbrev pub is_next_refused : Store → Bool
-is_next_refused s = is_next_listed s.calls || length s.held == s.room
+is_next_refused s = is_next_listed s.calls || length s.held.bytes == s.held.room
 
 -- how many bytes the next call takes of a piece of this length, if it isn't refused
 abbrev pub taken_count : Store → ℕ → ℕ
-taken_count s len = min s.calls.most (min len (s.room - length s.held))
+taken_count s len = min s.calls.most (min len (free_in s.held))
 
--- a sink that never fails: the bytes kept, of `room` at most, and how many were lost
+-- a sink that never fails: the bytes held, and how many were lost
 pub record Kept : Type 0 where
-  pub bytes : List ℕ
-  pub room : ℕ
+  pub held : Held
   pub lost : ℕ
 
 -- the bytes given so far, if none was lost
 abbrev pub told_bytes : Kept → Option (List ℕ)
-told_bytes k = if k.lost == 0 then Some k.bytes else None
+told_bytes k = if k.lost == 0 then Some k.held.bytes else None
 
--- the bytes kept of these too while there is room, and the others counted
+-- the bytes held of these too while there is room, and the others counted
 abbrev pub kept_more : Kept → List ℕ → Kept
-kept_more k more =
-    let free = k.room - length k.bytes in
-    record k { bytes = k.bytes ++ take free more; lost = min (k.lost + (length more - free)) last_count }
+kept_more k more = record {
+  held = record k.held { bytes = k.held.bytes ++ take (free_in k.held) more };
+  lost = min (k.lost + (length more - free_in k.held)) last_count;
+}

@@ -85,7 +85,7 @@ impl Model for MemorySink {
 
     ghost Value = { Store };
 
-    ghost view = { λ s. record { held = s.held.bytes; room = s.held.room; calls = s.calls } };
+    ghost view = { λ s. record { held = s.held; calls = s.calls } };
 }
 
 impl MemorySink {
@@ -98,7 +98,7 @@ impl MemorySink {
         fails: Vec<u32>,
     ) -> Result<MemorySink, OutOfMemory>
         ensures { IfOk result (λ s. s
-            ≡ record { held = []; room = room; calls = no_calls most fails.items }) }
+            ≡ record { held = record { bytes = []; room = room }; calls = no_calls most fails.items }) }
     {
         Ok(MemorySink {
             held: Room::new(alloc, room)?,
@@ -108,14 +108,14 @@ impl MemorySink {
 
     /// The bytes held.
     pub fn bytes(&self) -> &[u8]
-        ensures { result.now ≡ (self.now).held }
+        ensures { result.now ≡ (self.now).held.bytes }
     {
         self.held.bytes()
     }
 }
 
 impl Sink for MemorySink {
-    ghost contents = { λ s. Some s.held };
+    ghost contents = { λ s. Some s.held.bytes };
 
     ghost faults = { λ s. s.calls.faults };
 
@@ -125,15 +125,15 @@ impl Sink for MemorySink {
         requires { 0 < length piece.now }
         ensures some { IfOk result (λ n. 0 < n) }
         ensures bound { IfOk result (λ n. n ≤ length piece.now) }
-        ensures bytes { WriteGains false (Some (self.old).held) (Some (self.new).held) result piece.now }
+        ensures bytes { WriteGains false (Some (self.old).held.bytes) (Some (self.new).held.bytes) result piece.now }
         ensures never_falls { (self.old).calls.faults ≤ (self.new).calls.faults }
         ensures failed { OnErr result (Rose (self.old).calls.faults (self.new).calls.faults) }
 
         // Exactly the listed calls fail and those that find no room, and the others take all that they may.
         ensures refused { IsErr result ↔ IsTrue (is_next_refused self.old) }
         ensures taken { IfOk result (λ n. n ≡ taken_count self.old (length piece.now)) }
-        ensures ok { IfOk result (λ n. self.new ≡ record self.old {
-          held = (self.old).held ++ take n piece.now;
+        ensures ok { IfOk result (λ n. self.new ≡ record {
+          held = record (self.old).held { bytes = (self.old).held.bytes ++ take n piece.now };
           calls = one_more (self.old).calls;
         }) }
         ensures err { OnErr result (self.new ≡ record self.old { calls = one_failed (self.old).calls }) }

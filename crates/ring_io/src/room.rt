@@ -1,5 +1,6 @@
 //! The bytes that a sink over memory holds.
-ghost use Rattle.std.specs.Prelude.{◌≡◌, ◌-◌, ◌≤◌, ◌++◌, ◌==◌, [], length, IfOk};
+ghost use Rattle.std.specs.Prelude.{◌≡◌, ◌≤◌, ◌++◌, ◌==◌, [], length, IfOk};
+ghost use Rattle.ring_io.specs.Memory.{free_in};
 
 use ring_names::OutOfMemory;
 use std::alloc::Global;
@@ -50,7 +51,7 @@ impl Room {
 
     /// For how many further bytes there is room.
     pub fn free(&self) -> usize
-        ensures free { result ≡ (self.now).room - length (self.now).bytes }
+        ensures free { result ≡ free_in self.now }
         ensures within { length (self.now).bytes ≤ (self.now).room }
     {
         self.room - self.bytes.len()
@@ -58,7 +59,7 @@ impl Room {
 
     /// Holds these bytes too.
     pub fn push(&mut self, more: &[u8])
-        requires { length more.now ≤ (self.old).room - length (self.old).bytes }
+        requires { length more.now ≤ free_in self.old }
         ensures { self.new ≡ record self.old { bytes = (self.old).bytes ++ more.now } }
     {
         match self.bytes.extend_from_slice(more) {

@@ -72,13 +72,13 @@ impl Model for SureSink {
 
     ghost Value = { Kept };
 
-    ghost view = { λ s. record { bytes = s.kept.bytes; room = s.kept.room; lost = s.lost } };
+    ghost view = { λ s. record { held = s.kept; lost = s.lost } };
 }
 
 impl SureSink {
     /// A sink that keeps the first `room` bytes.
     pub fn new(alloc: Global, room: usize) -> Result<SureSink, OutOfMemory>
-        ensures { IfOk result (λ s. s ≡ record { bytes = []; room = room; lost = 0 }) }
+        ensures { IfOk result (λ s. s ≡ record { held = record { bytes = []; room = room }; lost = 0 }) }
     {
         Ok(SureSink {
             kept: Room::new(alloc, room)?,
@@ -88,7 +88,7 @@ impl SureSink {
 
     /// The bytes kept.
     pub fn bytes(&self) -> &[u8]
-        ensures { result.now ≡ (self.now).bytes }
+        ensures { result.now ≡ (self.now).held.bytes }
     {
         self.kept.bytes()
     }

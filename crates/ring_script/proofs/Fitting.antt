@@ -45,31 +45,29 @@ is_text_line line h = text_by line (nat_lt 2000 (length line)) (list_all is_text
 
 module _ {X : Type 0} (grammar : Grammar) (says : List ℕ → List ℕ → X) (Fits : List (List ℕ) → X → Type 0)
     (fits : (members : List (List ℕ)) (word rest : List ℕ) → list_all is_text_byte rest ≡ true → grammar members word rest ≡ None → Fits members (says word rest)) where
+  -- the members stay the same
+  fit_more : (used more : List (ℕ × List ℕ)) → AreFit says Fits used → 0 < length used → members_of more ≡ members_of used → All (λ l. Fits (members_of used) l.1) (statements_of says more) → AreFit says Fits more
+  fit_more used more fit some same lines = record {
+    opening = λ _. subst CanOpen (sym same) (fit.opening some);
+    lines = subst (λ names. All (λ l. Fits names l.1) (statements_of says more)) (sym same) lines;
+  }
+
   fit_by : (used : List (ℕ × List ℕ)) (number : ℕ) (line : List ℕ) → AreFit says Fits used → list_all is_text_byte line ≡ true → fault_as grammar used line (head_in line) ≡ None
       → (h : Head) → head_in line ≡ h → AreFit says Fits (used ++ (number, line) ∷ [])
   fit_by used number line fit text e head.Members k =
       let adds = members_taken grammar says used number line k e in
-      record {
-        opening = λ some. subst CanOpen (sym adds.said.members) (members_open (words_of (behind_word line)) adds.right);
-        lines = subst (All (λ l. Fits (members_of (used ++ (number, line) ∷ [])) l.1)) (sym (adds.said.lines ∙ ap (statements_of says) adds.first)) (All-nil (λ l. Fits (members_of (used ++ (number, line) ∷ [])) l.1));
-      }
+      let F : ℕ × X → Type 0 = λ l. Fits (members_of (used ++ (number, line) ∷ [])) l.1 in
+      record { opening = λ some. subst CanOpen (sym adds.members) (members_open (words_of (behind_word line)) adds.right); lines = subst (All F) (sym adds.lines) (All-nil F) }
   fit_by used number line fit text e head.Credit k =
       let adds = credit_taken grammar says used number line k e in
-      record {
-        opening = λ some. subst CanOpen (sym adds.said.members) (fit.opening adds.some);
-        lines = subst (λ names. All (λ l. Fits names l.1) (statements_of says (used ++ (number, line) ∷ []))) (sym adds.said.members)
-            (subst (All (λ l. Fits (members_of used) l.1)) (sym adds.said.lines) fit.lines);
-      }
+      fit_more used (used ++ (number, line) ∷ []) fit adds.right adds.members (subst (All (λ l. Fits (members_of used) l.1)) (sym adds.lines) fit.lines)
   fit_by used number line fit text e head.Statement k =
       let adds = statement_taken grammar says used number line k e in
-      let right = fits (members_of used) (first_word line) (behind_word line) (behind_word_text line text) adds.right in
-      record {
-        opening = λ some. subst CanOpen (sym adds.said.members) (fit.opening adds.some);
-        lines = subst (λ names. All (λ l. Fits names l.1) (statements_of says (used ++ (number, line) ∷ []))) (sym adds.said.members)
-            (subst (All (λ l. Fits (members_of used) l.1)) (sym adds.said.lines)
-            (All-append (λ l. Fits (members_of used) l.1) (statements_of says used) ((number, says (first_word line) (behind_word line)) ∷ []) fit.lines
-            (All-cons (λ l. Fits (members_of used) l.1) (number, says (first_word line) (behind_word line)) [] right (All-nil (λ l. Fits (members_of used) l.1)))));
-      }
+      let right = fits (members_of used) (first_word line) (behind_word line) (behind_word_text line text) adds.right.1 in
+      let F : ℕ × X → Type 0 = λ l. Fits (members_of used) l.1 in
+      let one : ℕ × X = (number, says (first_word line) (behind_word line)) in
+      fit_more used (used ++ (number, line) ∷ []) fit adds.right.0 adds.members
+      (subst (All F) (sym adds.lines) (All-append F (statements_of says used) (one ∷ []) fit.lines (All-cons F one [] right (All-nil F))))
 
   -- ---- all lines
 

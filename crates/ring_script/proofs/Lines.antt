@@ -1,7 +1,9 @@
 -- The used lines among the first of a text, one line more.
-use Rattle.std.proofs.Common.{◌≡◌, ℕ, zero, suc, ◌+◌, ◌<◌, ◌≤◌, Bool, true, false, not, List, [], ◌∷◌, ◌++◌, None, length, take, drop, get_or, refl, sym, ap, ◌∙◌, subst, ⊎_elim, arith}
+use Rattle.std.proofs.Common.{◌≡◌, ℕ, zero, suc, ◌+◌, ◌-◌, ◌<◌, ◌≤◌, Bool, true, false, not, List, [], ◌∷◌, ◌++◌, None, length, take, drop, get_or, add-zero, refl, sym, ap, ◌∙◌, subst, ⊎_elim, arith}
 use Rattle.std.specs.List.{filter, enumerate_from}
 use Rattle.std.proofs.lemmas.Bool.{cases_lt}
+use Rattle.std.proofs.Math.Seq.{take-add}
+use Rattle.std.proofs.lemmas.List.{drop-drop, length-drop, get_or-drop, length-take-le, take_all}
 use Rattle.std.proofs.lemmas.List.Elements.{filter-append}
 use Rattle.ring_script.specs.Line.{Grammar, is_skipped}
 use Rattle.ring_script.specs.Reading.{used_of, fault_at, AreRight}
@@ -27,39 +29,27 @@ used_more lines line =
 
 -- ---- the first lines
 
-pub take_more : (n : ℕ) (lines rest : List (List ℕ)) (line : List ℕ) → drop n lines ≡ line ∷ rest → take (n + 1) lines ≡ take n lines ++ line ∷ []
-take_more zero [] rest line e = cc
-take_more zero (first ∷ lines) rest line e = let same : first ≡ line = cc in ap (λ x. x ∷ []) same
-take_more (suc n) [] rest line e = cc
-take_more (suc n) (first ∷ lines) rest line e =
-    let further : suc n + 1 ≡ suc (n + 1) = omega arith in
-    rw further (ap (λ xs. first ∷ xs) (take_more n lines rest line e))
+-- behind the first n lines stands this one, and then the others
+module _ (n : ℕ) (lines rest : List (List ℕ)) (line : List ℕ) (e : drop n lines ≡ line ∷ rest) where
+  pub take_more : take (n + 1) lines ≡ take n lines ++ line ∷ []
+  take_more = take-add n 1 lines ∙ ap (λ xs. take n lines ++ take 1 xs) e
 
-pub drop_more : (n : ℕ) (lines rest : List (List ℕ)) (line : List ℕ) → drop n lines ≡ line ∷ rest → drop (n + 1) lines ≡ rest
-drop_more zero [] rest line e = cc
-drop_more zero (first ∷ lines) rest line e = cc
-drop_more (suc n) [] rest line e = cc
-drop_more (suc n) (first ∷ lines) rest line e =
-    let further : suc n + 1 ≡ suc (n + 1) = omega arith in
-    rw further (drop_more n lines rest line e)
+  pub drop_more : drop (n + 1) lines ≡ rest
+  drop_more = sym (drop-drop 1 n lines) ∙ ap (drop 1) e
 
-pub line_at : (n : ℕ) (lines rest : List (List ℕ)) (line : List ℕ) → drop n lines ≡ line ∷ rest → (n < length lines) × (get_or lines n [] ≡ line)
-line_at zero [] rest line e = cc
-line_at zero (first ∷ lines) rest line e = (omega arith, cc)
-line_at (suc n) [] rest line e = cc
-line_at (suc n) (first ∷ lines) rest line e = let deeper = line_at n lines rest line e in (omega (arith, deeper.0), deeper.1)
+  pub line_at : (n < length lines) × (get_or lines n [] ≡ line)
+  line_at =
+      let left : length lines - n ≡ suc (length rest) = sym (length-drop n lines) ∙ ap length e in
+      (omega arith, ap (λ k. get_or lines k []) (sym (add-zero n)) ∙ sym (get_or-drop n lines 0 []) ∙ ap (λ xs. get_or xs 0 []) e)
 
-pub length_first : (n : ℕ) (lines rest : List (List ℕ)) (line : List ℕ) → drop n lines ≡ line ∷ rest → length (take n lines) ≡ n
-length_first zero lines rest line e = refl
-length_first (suc n) [] rest line e = cc
-length_first (suc n) (first ∷ lines) rest line e = ap suc (length_first n lines rest line e)
+  pub length_first : length (take n lines) ≡ n
+  length_first = let there : n < length lines = line_at.0 in length-take-le n lines (omega arith)
 
 -- nothing is left behind all lines
 pub all_lines : (n : ℕ) (lines : List (List ℕ)) → drop n lines ≡ [] → n ≤ length lines → (n ≡ length lines) × (take n lines ≡ lines)
-all_lines zero [] e l = (refl, refl)
-all_lines zero (first ∷ lines) e l = cc
-all_lines (suc n) [] e l = absurd (omega arith)
-all_lines (suc n) (first ∷ lines) e l = let deeper = all_lines n lines e (omega arith) in (ap suc deeper.0, ap (λ xs. first ∷ xs) deeper.1)
+all_lines n lines e l =
+    let none : length lines - n ≡ 0 = sym (length-drop n lines) ∙ ap length e in
+    (omega arith, take_all n lines (omega arith))
 
 -- ---- faults
 

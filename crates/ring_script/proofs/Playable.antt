@@ -2,23 +2,20 @@
 use Rattle.std.proofs.Common.{◌≡◌, ℕ, ◌+◌, ◌*◌, ◌≤◌, Bool, true, false, ◌&&◌, ◌==◌, not, nat_le, nat_lt, is_some, unwrap_or, List, [], ◌∷◌, Option, Some, None, length, get_or, refl, sym, subst, if◌then◌else◌, arith}
 use Rattle.std.specs.Prelude.{⊤}
 use Rattle.std.specs.List.{list_all, All, Contains}
-use Rattle.std.specs.Option.{option_or}
 use Rattle.std.specs.Str.Parse.{digits_value, digits_value_after}
 use Rattle.std.specs.Char.{digit_value}
 use Rattle.std.proofs.lemmas.Bool.{and_parts, leb-true, ltb-false, not-true}
 use Rattle.std.proofs.lemmas.Bool.Decides.{nat_tests}
-use Rattle.ring_names.specs.Name.{IsName}
 use Rattle.ring_names.specs.Body.{IsBody}
-use Rattle.ring_world.specs.Rows.{AreOpeningNames}
 use Rattle.ring_world.specs.declared.event.Event.{Event}
 use Rattle.ring_script.specs.declared.fault.Kind.{Kind}
 use Rattle.ring_script.specs.declared.fault.Kind.TheVariants.{UnknownName, BodyTooLong, BadNumber}
 use Rattle.ring_script.specs.declared.script.Keyword.{Keyword}
 use Rattle.ring_script.specs.declared.script.Keyword.TheVariants.{Cast, Go, Settle}
-use Rattle.ring_script.specs.declared.script.Script.{Script}
-use Rattle.ring_script.specs.declared.steps.Steps.{Steps}
+use Rattle.ring_script.specs.declared.command.Command.{Command}
+use Rattle.ring_script.specs.declared.text.Text.{Text}
 use Rattle.ring_script.specs.Words.{lines_of, words_of, behind_word, is_text_byte, is_digit, is_number, number_of, has_byte}
-use Rattle.ring_script.specs.Line.{body_in, is_among, one_word, a_word, name_fault, known_fault, number_fault, body_fault}
+use Rattle.ring_script.specs.Line.{body_in, is_among, one_word, name_fault, known_fault, number_fault, body_fault, cast_fault}
 use Rattle.ring_script.specs.Script.{keyword_of, command_fault, script_grammar, command_by, command_of, most_turns}
 use Rattle.ring_script.specs.Steps.{step_grammar, event_of}
 use Rattle.ring_script.specs.Reading.{used_of, members_of, IsScriptOf, AreStepsOf, IsCommandTo, IsPlayable, CanOpen}
@@ -73,7 +70,7 @@ short_by : (b : Bool) → (if b then Some BodyTooLong else None) ≡ None → b 
 short_by true h = cc
 short_by false h = refl
 
-cast_right : (members words : List (List ℕ)) (body : List ℕ) → list_all is_text_byte body ≡ true → a_word (λ by. option_or (known_fault members by) (body_fault body)) words ≡ None
+cast_right : (members words : List (List ℕ)) (body : List ℕ) → list_all is_text_byte body ≡ true → cast_fault (known_fault members) body words ≡ None
     → Contains members (get_or words 0 []) × IsBody body
 cast_right members [] body text e = cc
 cast_right members (name ∷ words) body text e =
@@ -93,18 +90,16 @@ command_right members None rest text e = cc
 -- ---- texts
 
 -- what a text spells as a script can be played
-pub script_playable : (bytes : List ℕ) (script : Script) → IsScriptOf bytes script → IsPlayable script
+pub script_playable : (bytes : List ℕ) (script : Text Command) → IsScriptOf bytes script → IsPlayable script
 script_playable bytes script h =
     let fit = text_fits script_grammar command_of IsCommandTo (λ members word rest text e. command_right members (keyword_of word) rest text e) bytes h.right in
-    let opens = fit.opening h.right.some in
     record {
-      opening = subst AreOpeningNames (sym h.members) opens.0;
-      names = subst (All IsName) (sym h.members) opens.1;
+      opens = subst CanOpen (sym h.members) (fit.opening h.right.some);
       commands = subst (λ names. All (λ line. IsCommandTo names line.1) script.lines) (sym h.members)
           (subst (All (λ line. IsCommandTo (members_of (used_of (lines_of bytes))) line.1)) (sym h.lines) fit.lines);
     }
 
 -- a ring can open with the members of a step file
-pub steps_open : (bytes : List ℕ) (steps : Steps) → AreStepsOf bytes steps → CanOpen steps.members
+pub steps_open : (bytes : List ℕ) (steps : Text Event) → AreStepsOf bytes steps → CanOpen steps.members
 steps_open bytes steps h =
     subst CanOpen (sym h.members) ((text_fits step_grammar event_of (λ members (e : Event). ⊤) (λ members word rest text e. tt) bytes h.right).opening h.right.some)

@@ -9,8 +9,8 @@ use Rattle.ring_script.specs.declared.line.Head.TheVariants as head
 use Rattle.ring_script.specs.declared.line.Next.{Next}
 use Rattle.ring_script.specs.declared.line.Next.TheVariants as next
 use Rattle.ring_script.specs.Words.{words_of, first_word, behind_word}
-use Rattle.ring_script.specs.Line.{Grammar, head_in, gives_credit, is_statement, members_fault, credit_in, fault_by}
-use Rattle.ring_script.specs.Reading.{next_of, members_of, credit_of, statements_of}
+use Rattle.ring_script.specs.Line.{Grammar, head_in, is_statement, members_fault, credit_in, fault_by}
+use Rattle.ring_script.specs.Reading.{next_of, members_of, credit_by, credit_of, statements_of}
 
 -- what is wrong with a line behind these used ones, by what it begins
 abbrev pub fault_as : Grammar → List (ℕ × List ℕ) → List ℕ → Head → Option Kind
@@ -43,71 +43,61 @@ statements_same : {X : Type 0} (says : List ℕ → List ℕ → X) (used : List
 statements_same says used number line e =
     statements_append says used ((number, line) ∷ []) ∙ ap (λ xs. statements_of says used ++ xs) (statements_by says number line false e) ∙ append-nil (statements_of says used)
 
--- ---- what the used lines say
+-- ---- what a line more leaves
 
--- this may stand next, and the used lines name these members, give this credit and make these statements
-pub record AreSaid {X : Type 0} (says : List ℕ → List ℕ → X) (used : List (ℕ × List ℕ)) (may : Next) (names : List (List ℕ)) (given : ℕ × ℕ) (made : List (ℕ × X)) : Type 0 where
-  pub next : next_of used ≡ may
-  pub members : members_of used ≡ names
-  pub credit : credit_of used ≡ given
-  pub lines : statements_of says used ≡ made
-
--- ---- a line with a statement
+-- With this line more this may stand next, the used lines name these members, give this credit and make these statements; and
+-- this was judged.
+pub record Leaves {X : Type 0} (says : List ℕ → List ℕ → X) (used : List (ℕ × List ℕ)) (number : ℕ) (line : List ℕ) (may : Next) (names : List (List ℕ)) (given : ℕ × ℕ) (made : List (ℕ × X)) (judged : Type 0) : Type 0 where
+  pub next : next_of (used ++ (number, line) ∷ []) ≡ may
+  pub members : members_of (used ++ (number, line) ∷ []) ≡ names
+  pub credit : credit_of (used ++ (number, line) ∷ []) ≡ given
+  pub lines : statements_of says (used ++ (number, line) ∷ []) ≡ made
+  pub right : judged
 
 -- Behind a right line with a statement only statements stand, and it adds the statement.
-pub record AddsStatement {X : Type 0} (grammar : Grammar) (says : List ℕ → List ℕ → X) (used : List (ℕ × List ℕ)) (number : ℕ) (line : List ℕ) : Type 0 where
-  pub said : AreSaid says (used ++ (number, line) ∷ []) next.Further (members_of used) (credit_of used) (statements_of says used ++ said_on says (number, line) ∷ [])
-  pub right : grammar (members_of used) (first_word line) (behind_word line) ≡ None
-  pub some : 0 < length used
+abbrev pub AddsStatement : {X : Type 0} → Grammar → (List ℕ → List ℕ → X) → List (ℕ × List ℕ) → ℕ → List ℕ → Type 0
+AddsStatement grammar says used number line =
+    Leaves says used number line next.Further (members_of used) (credit_of used) (statements_of says used ++ said_on says (number, line) ∷ [])
+    ((0 < length used) × (grammar (members_of used) (first_word line) (behind_word line) ≡ None))
 
 pub statement_taken : {X : Type 0} (grammar : Grammar) (says : List ℕ → List ℕ → X) (used : List (ℕ × List ℕ)) (number : ℕ) (line : List ℕ) → head_in line ≡ head.Statement
     → fault_as grammar used line (head_in line) ≡ None → AddsStatement grammar says used number line
 statement_taken grammar says [] number line k e = let wrong = sym (ap (fault_as grammar [] line) k) ∙ e in cc
 statement_taken grammar says (opening ∷ []) number line k e =
-    let plain : gives_credit (head_in line) ≡ false = ap gives_credit k in
     record {
-      said = record { next = refl; members = refl; credit = rw plain; lines = statements_more says (opening ∷ []) number line (ap is_statement k) };
-      right = sym (ap (fault_as grammar (opening ∷ []) line) k) ∙ e;
-      some = omega arith;
+      next = refl;
+      members = refl;
+      credit = ap (λ h. credit_by h (behind_word line)) k;
+      lines = statements_more says (opening ∷ []) number line (ap is_statement k);
+      right = (omega arith, sym (ap (fault_as grammar (opening ∷ []) line) k) ∙ e);
     }
 statement_taken grammar says (opening ∷ second ∷ further) number line k e = record {
-  said = record { next = refl; members = refl; credit = refl; lines = statements_more says (opening ∷ second ∷ further) number line (ap is_statement k) };
-  right = sym (ap (fault_as grammar (opening ∷ second ∷ further) line) k) ∙ e;
-  some = omega arith;
+  next = refl;
+  members = refl;
+  credit = refl;
+  lines = statements_more says (opening ∷ second ∷ further) number line (ap is_statement k);
+  right = (omega arith, sym (ap (fault_as grammar (opening ∷ second ∷ further) line) k) ∙ e);
 }
-
--- ---- the members
-
-pub record AddsMembers {X : Type 0} (says : List ℕ → List ℕ → X) (used : List (ℕ × List ℕ)) (number : ℕ) (line : List ℕ) : Type 0 where
-  pub said : AreSaid says (used ++ (number, line) ∷ []) next.Credit (words_of (behind_word line)) (credit_of used) (statements_of says used)
-  pub first : used ≡ []
-  pub right : members_fault (words_of (behind_word line)) ≡ None
 
 -- right members stand on the first used line
 pub members_taken : {X : Type 0} (grammar : Grammar) (says : List ℕ → List ℕ → X) (used : List (ℕ × List ℕ)) (number : ℕ) (line : List ℕ) → head_in line ≡ head.Members
-    → fault_as grammar used line (head_in line) ≡ None → AddsMembers says used number line
+    → fault_as grammar used line (head_in line) ≡ None
+    → Leaves says used number line next.Credit (words_of (behind_word line)) (credit_of used) [] (members_fault (words_of (behind_word line)) ≡ None)
 members_taken grammar says [] number line k e = record {
-  said = record { next = refl; members = refl; credit = refl; lines = statements_same says [] number line (ap is_statement k) };
-  first = refl;
+  next = refl;
+  members = refl;
+  credit = refl;
+  lines = statements_same says [] number line (ap is_statement k);
   right = sym (ap (fault_as grammar [] line) k) ∙ e;
 }
 members_taken grammar says (opening ∷ []) number line k e = let wrong = sym (ap (fault_as grammar (opening ∷ []) line) k) ∙ e in cc
 members_taken grammar says (opening ∷ second ∷ further) number line k e = let wrong = sym (ap (fault_as grammar (opening ∷ second ∷ further) line) k) ∙ e in cc
 
--- ---- the credit
-
-pub record AddsCredit {X : Type 0} (says : List ℕ → List ℕ → X) (used : List (ℕ × List ℕ)) (number : ℕ) (line : List ℕ) : Type 0 where
-  pub said : AreSaid says (used ++ (number, line) ∷ []) next.Further (members_of used) (credit_in (behind_word line)) (statements_of says used)
-  pub some : 0 < length used
-
 -- a right credit stands on the second
 pub credit_taken : {X : Type 0} (grammar : Grammar) (says : List ℕ → List ℕ → X) (used : List (ℕ × List ℕ)) (number : ℕ) (line : List ℕ) → head_in line ≡ head.Credit
-    → fault_as grammar used line (head_in line) ≡ None → AddsCredit says used number line
+    → fault_as grammar used line (head_in line) ≡ None
+    → Leaves says used number line next.Further (members_of used) (credit_in (behind_word line)) (statements_of says used) (0 < length used)
 credit_taken grammar says [] number line k e = let wrong = sym (ap (fault_as grammar [] line) k) ∙ e in cc
 credit_taken grammar says (opening ∷ []) number line k e =
-    let gives : gives_credit (head_in line) ≡ true = ap gives_credit k in
-    record {
-      said = record { next = refl; members = refl; credit = rw gives; lines = statements_same says (opening ∷ []) number line (ap is_statement k) };
-      some = omega arith;
-    }
+    record { next = refl; members = refl; credit = ap (λ h. credit_by h (behind_word line)) k; lines = statements_same says (opening ∷ []) number line (ap is_statement k); right = omega arith }
 credit_taken grammar says (opening ∷ second ∷ further) number line k e = let wrong = sym (ap (fault_as grammar (opening ∷ second ∷ further) line) k) ∙ e in cc

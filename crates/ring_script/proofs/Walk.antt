@@ -90,8 +90,7 @@ read_all {grammar = grammar} {says = says} {bytes = bytes} {reader = reader} h e
 -- else the reader has what the text spells
 pub text_read : {X : Type 0} {grammar : Grammar} {says : List ℕ → List ℕ → X} {bytes rest : List ℕ} {number : ℕ} {reader : Reader X} (h : IsReadUpTo grammar says bytes rest number reader) (text : Text X) → rest ≡ []
     → ((used : List (ℕ × List ℕ)) → HasRead says used reader → 0 < length used)
-    → text.members.items ≡ reader.members.items → text.credit ≡ reader.credit → text.lines.items ≡ reader.lines.items
-    → Spells grammar says bytes text.members.items text.credit text.lines.items
+    → text.members ≡ reader.members.items → text.credit ≡ reader.credit → text.lines ≡ reader.lines.items → Spells grammar says bytes text
 text_read {bytes = bytes} h text e some m c l =
     let all = read_all h e in
     record {

@@ -30,17 +30,10 @@ head_of word =
 abbrev pub head_in : List ℕ → Head
 head_in line = head_of (first_word line)
 
--- a line gives a credit
-abbrev pub gives_credit : Head → Bool
-gives_credit head.Members = false
-gives_credit head.Credit = true
-gives_credit head.Statement = false
-
 -- a line is a statement
 abbrev pub is_statement : Head → Bool
-is_statement head.Members = false
-is_statement head.Credit = false
 is_statement head.Statement = true
+is_statement _ = false
 
 -- Behind its first word stands the rest of a line.
 
@@ -58,19 +51,19 @@ body_in rest = behind_space (behind_word rest)
 
 -- ---- limits
 
--- the bytes of a line
+-- how many bytes a line has at most
 abbrev pub most_line_bytes : ℕ
 most_line_bytes = 2000
 
--- the members
+-- how many members there are at most
 abbrev pub most_names : ℕ
 most_names = 64
 
--- the bytes of a body
+-- how many bytes a body has at most
 abbrev pub most_body_bytes : ℕ
 most_body_bytes = 256
 
--- the initial credit of a link, in packets
+-- the greatest initial credit of a link, in packets
 abbrev pub most_credit : ℕ
 most_credit = 64
 
@@ -93,11 +86,6 @@ two_words fault [] = Some MissingWord
 two_words fault (first ∷ []) = Some MissingWord
 two_words fault (first ∷ second ∷ []) = fault first second
 two_words fault (first ∷ second ∷ other ∷ words) = Some ExtraWord
-
--- one is left, and it is judged; anything may stand behind it
-abbrev pub a_word : (List ℕ → Option Kind) → List (List ℕ) → Option Kind
-a_word fault [] = Some MissingWord
-a_word fault (word ∷ words) = fault word
 
 -- ---- one word
 
@@ -124,6 +112,11 @@ number_fault most word = if is_some (number_of most word) then None else Some Ba
 -- what is wrong with bytes of text as a body
 abbrev pub body_fault : List ℕ → Option Kind
 body_fault body = if nat_lt most_body_bytes (length body) then Some BodyTooLong else None
+
+-- behind `cast` a word is left, which is judged, and then this body; anything may stand behind the word
+abbrev pub cast_fault : (List ℕ → Option Kind) → List ℕ → List (List ℕ) → Option Kind
+cast_fault fault body [] = Some MissingWord
+cast_fault fault body (word ∷ words) = option_or (fault word) (body_fault body)
 
 -- ---- the opening
 
@@ -164,22 +157,14 @@ credit_in rest = (unwrap_or (number_of most_credit (operand_in rest)) 0, unwrap_
 abbrev pub Grammar : Type 0
 Grammar = List (List ℕ) → List ℕ → List ℕ → Option Kind
 
--- what is wrong with the first used line: it names the members
-abbrev pub opening_fault : Head → List ℕ → Option Kind
-opening_fault head.Members rest = members_fault (words_of rest)
-opening_fault head.Credit rest = Some NoMembers
-opening_fault head.Statement rest = Some NoMembers
-
--- what is wrong with a line that has a word: behind the first used one the next may give a credit, and each further one is
--- a statement
+-- what is wrong with a line that has a word: the first used one names the members, the next may give a credit, and each
+-- further one is a statement
 abbrev pub fault_by : Grammar → Next → Head → List (List ℕ) → List ℕ → List ℕ → Option Kind
-fault_by grammar next.Opening begins members word rest = opening_fault begins rest
-fault_by grammar next.Credit head.Members members word rest = Some Misplaced
+fault_by grammar next.Opening head.Members members word rest = members_fault (words_of rest)
+fault_by grammar next.Opening _ members word rest = Some NoMembers
 fault_by grammar next.Credit head.Credit members word rest = credit_fault (words_of rest)
-fault_by grammar next.Credit head.Statement members word rest = grammar members word rest
-fault_by grammar next.Further head.Members members word rest = Some Misplaced
-fault_by grammar next.Further head.Credit members word rest = Some Misplaced
-fault_by grammar next.Further head.Statement members word rest = grammar members word rest
+fault_by grammar _ head.Statement members word rest = grammar members word rest
+fault_by grammar _ _ members word rest = Some Misplaced
 
 -- what is wrong with a line before its words are read
 abbrev pub text_fault : List ℕ → Option Kind

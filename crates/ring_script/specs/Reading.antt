@@ -1,21 +1,22 @@
 -- What a text says as a script or a step file, or the first fault in it.
-use Rattle.std.specs.Prelude.{◌≡◌, ◌⊎◌, ℕ, ◌+◌, ◌<◌, ◌≤◌, not, if◌then◌else◌, Option, Some, None, List, [], ◌∷◌, length, take, map, All, Contains, ⊤}
+use Rattle.std.specs.Prelude.{◌≡◌, ◌⊎◌, ℕ, ◌+◌, ◌<◌, ◌≤◌, not, Option, Some, None, List, [], ◌∷◌, length, take, map, All, Contains, ⊤}
 use Rattle.std.specs.List.{filter, enumerate_from, slice_index_or}
-use Rattle.ring_names.specs.declared.numbers.CreditSpec.{CreditSpec}
 use Rattle.ring_names.specs.Name.{IsName}
 use Rattle.ring_names.specs.Body.{IsBody}
+use Rattle.ring_world.specs.declared.event.Event.{Event}
 use Rattle.ring_world.specs.Rows.{AreOpeningNames}
 use Rattle.ring_script.specs.declared.command.Command.{Command}
 use Rattle.ring_script.specs.declared.command.Command.TheVariants as command
 use Rattle.ring_script.specs.declared.fault.Kind.{Kind}
 use Rattle.ring_script.specs.declared.fault.Kind.TheVariants.{NoMembers}
+use Rattle.ring_script.specs.declared.line.Head.{Head}
+use Rattle.ring_script.specs.declared.line.Head.TheVariants as head
 use Rattle.ring_script.specs.declared.line.Next.{Next}
 use Rattle.ring_script.specs.declared.line.Next.TheVariants as next
-use Rattle.ring_script.specs.declared.script.Script.{Script}
-use Rattle.ring_script.specs.declared.steps.Steps.{Steps}
+use Rattle.ring_script.specs.declared.text.Text.{Text}
 use Rattle.ring_script.specs.Words.{lines_of, words_of, first_word, behind_word}
 use Rattle.ring_script.specs.Fault.{code_of}
-use Rattle.ring_script.specs.Line.{Grammar, is_skipped, head_in, gives_credit, is_statement, credit_in, fault_of}
+use Rattle.ring_script.specs.Line.{Grammar, is_skipped, head_in, is_statement, credit_in, fault_of}
 use Rattle.ring_script.specs.Script.{script_grammar, command_of, most_turns}
 use Rattle.ring_script.specs.Steps.{step_grammar, event_of}
 
@@ -40,11 +41,16 @@ members_of (opening ∷ further) = words_of (behind_word opening.1)
 abbrev pub usual_credit : ℕ × ℕ
 usual_credit = (8, 4)
 
+-- the credit that a line gives with this rest, which begins so
+abbrev pub credit_by : Head → List ℕ → ℕ × ℕ
+credit_by head.Credit rest = credit_in rest
+credit_by _ rest = usual_credit
+
 -- the credit on the second, where it gives one
 abbrev pub credit_of : List (ℕ × List ℕ) → ℕ × ℕ
 credit_of [] = usual_credit
 credit_of (opening ∷ []) = usual_credit
-credit_of (opening ∷ second ∷ further) = if gives_credit (head_in second.1) then credit_in (behind_word second.1) else usual_credit
+credit_of (opening ∷ second ∷ further) = credit_by (head_in second.1) (behind_word second.1)
 
 -- the statements, each behind the number of its line
 abbrev pub statements_of : {X : Type 0} → (List ℕ → List ℕ → X) → List (ℕ × List ℕ) → List (ℕ × X)
@@ -102,20 +108,20 @@ pub record JudgesEachText (grammar : Grammar) : Type 0 where
   pub never_both : (text : List ℕ) (line code : ℕ) → IsRight grammar text → IsFirstFault grammar text line code → ⊥
   pub one_fault : (text : List ℕ) (line code line' code' : ℕ) → IsFirstFault grammar text line code → IsFirstFault grammar text line' code' → (line ≡ line') × (code ≡ code')
 
--- a text spells this: it is right, and its used lines name these members, give this credit, and make these statements
-pub record Spells {X : Type 0} (grammar : Grammar) (says : List ℕ → List ℕ → X) (bytes : List ℕ) (names : List (List ℕ)) (given : CreditSpec) (statements : List (ℕ × X)) : Type 0 where
+-- bytes spell a text: they are right, and their used lines name its members, give its credit, and make its statements
+pub record Spells {X : Type 0} (grammar : Grammar) (says : List ℕ → List ℕ → X) (bytes : List ℕ) (text : Text X) : Type 0 where
   pub right : IsRight grammar bytes
-  pub members : names ≡ members_of (used_of (lines_of bytes))
-  pub credit : (given.initial, given.more) ≡ credit_of (used_of (lines_of bytes))
-  pub lines : statements ≡ statements_of says (used_of (lines_of bytes))
+  pub members : text.members ≡ members_of (used_of (lines_of bytes))
+  pub credit : (text.credit.initial, text.credit.more) ≡ credit_of (used_of (lines_of bytes))
+  pub lines : text.lines ≡ statements_of says (used_of (lines_of bytes))
 
--- a text spells this script
-abbrev pub IsScriptOf : List ℕ → Script → Type 0
-IsScriptOf bytes script = Spells script_grammar command_of bytes script.members script.credit script.lines
+-- they spell this script
+abbrev pub IsScriptOf : List ℕ → Text Command → Type 0
+IsScriptOf = Spells script_grammar command_of
 
 -- or these steps
-abbrev pub AreStepsOf : List ℕ → Steps → Type 0
-AreStepsOf bytes steps = Spells step_grammar event_of bytes steps.members steps.credit steps.lines
+abbrev pub AreStepsOf : List ℕ → Text Event → Type 0
+AreStepsOf = Spells step_grammar event_of
 
 -- ---- what can be played
 
@@ -130,7 +136,6 @@ IsCommandTo names (command.Go turns) = (1 ≤ turns) × (turns ≤ most_turns)
 IsCommandTo names command.Settle = ⊤
 
 -- a ring can open with the members, each of a fitting name, and be given the commands
-pub record IsPlayable (script : Script) : Type 0 where
-  pub opening : AreOpeningNames script.members
-  pub names : All IsName script.members
+pub record IsPlayable (script : Text Command) : Type 0 where
+  pub opens : CanOpen script.members
   pub commands : All (λ line. IsCommandTo script.members line.1) script.lines

@@ -9,7 +9,7 @@ use Rattle.ring_script.specs.declared.steps.EventWord.TheVariants as begins
 use Rattle.ring_script.specs.declared.steps.OwnStep.{OwnStep}
 use Rattle.ring_script.specs.declared.steps.OwnStep.TheVariants as own
 use Rattle.ring_script.specs.Words.{words_of, number_of}
-use Rattle.ring_script.specs.Line.{operand_in, second_in, body_in, one_word, two_words, a_word, name_fault, number_fault, body_fault}
+use Rattle.ring_script.specs.Line.{Grammar, operand_in, second_in, body_in, one_word, two_words, name_fault, number_fault, cast_fault}
 use Rattle.ring_world.specs.declared.event.Event.{Event}
 use Rattle.ring_world.specs.declared.event.Event.TheVariants as event
 
@@ -32,20 +32,20 @@ event_word_of word =
     else (if bytes_eq word (codes "refresh") then Some begins.Refresh
     else option_map begins.Own (own_step_of word)))
 
--- the version that a line can name
+-- the greatest version that a line can name
 abbrev pub most_version : ℕ
 most_version = 1000000
 
 -- `cast` has a name and a body; `mark` has two names; `refresh` has a name and a version; each other has a name
 abbrev pub event_fault : Option EventWord → List ℕ → Option Kind
-event_fault (Some begins.Cast) rest = a_word (λ by. option_or (name_fault by) (body_fault (body_in rest))) (words_of rest)
+event_fault (Some begins.Cast) rest = cast_fault name_fault (body_in rest) (words_of rest)
 event_fault (Some begins.Mark) rest = two_words (λ by dead. option_or (name_fault by) (name_fault dead)) (words_of rest)
 event_fault (Some begins.Refresh) rest = two_words (λ by version. option_or (name_fault by) (number_fault most_version version)) (words_of rest)
 event_fault (Some (begins.Own which)) rest = one_word name_fault (words_of rest)
 event_fault None rest = Some UnknownCommand
 
 -- what is wrong with an event, by its first word and its rest
-abbrev pub step_grammar : List (List ℕ) → List ℕ → List ℕ → Option Kind
+abbrev pub step_grammar : Grammar
 step_grammar members word rest = event_fault (event_word_of word) rest
 
 -- such a step of the member of this name

@@ -7,7 +7,7 @@ ghost use Rattle.ring_script.specs.Place.{left_in};
 ghost use Rattle.ring_script.specs.Fault.{Tells};
 ghost use Rattle.ring_script.specs.Line.{credit_in, is_among, name_fault, known_fault, number_fault, further_fault};
 ghost use Rattle.ring_script.specs.Line.{names_fault, members_fault, are_credit, credit_fault, body_fault, no_word};
-ghost use Rattle.ring_script.specs.Line.{one_word, two_words, a_word, most_credit};
+ghost use Rattle.ring_script.specs.Line.{one_word, two_words, most_credit};
 
 use crate::fault::{Kind, LineFault};
 use crate::words::{Words, number};

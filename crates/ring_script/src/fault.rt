@@ -11,7 +11,7 @@ use thiserror::Error;
 #[derive(Clone, Copy, PartialEq, Eq, Debug)]
 pub enum Kind {
     /// A byte is neither from the space to the tilde nor the line feed.
-    NotText,
+    NotText = 50,
     /// The line has more than 2,000 bytes.
     LineTooLong,
     /// The first word is no command.
@@ -43,21 +43,7 @@ impl Kind {
     pub fn code(&self) -> u32
         ensures { result ≡ code_of self.now }
     {
-        match self {
-            Kind::NotText => 50,
-            Kind::LineTooLong => 51,
-            Kind::UnknownCommand => 52,
-            Kind::MissingWord => 53,
-            Kind::ExtraWord => 54,
-            Kind::BadNumber => 55,
-            Kind::BadName => 56,
-            Kind::UnknownName => 57,
-            Kind::NameTaken => 58,
-            Kind::TooManyMembers => 59,
-            Kind::BodyTooLong => 60,
-            Kind::NoMembers => 61,
-            Kind::Misplaced => 62,
-        }
+        *self as u32
     }
 }
 

@@ -19,5 +19,5 @@ pub use command::Command;
 pub use fault::{Kind, ScriptFault};
 pub use script::{Script, read_script};
 pub use steps::{Steps, read_steps};
-pub use text::line_count;
+pub use text::{Text, line_count};
 pub use words::{Words, number};

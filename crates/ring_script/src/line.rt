@@ -4,12 +4,12 @@ ghost use Rattle.std.specs.List.{list_all, slice_index};
 ghost use Rattle.ring_script.specs.Words.{is_text_byte, is_blank, words_of, first_word, behind_word};
 ghost use Rattle.ring_script.specs.Place.{left_in};
 ghost use Rattle.ring_script.specs.Fault.{Tells};
-ghost use Rattle.ring_script.specs.Line.{is_skipped, head_of, head_in, text_fault, opening_fault, fault_by, Says};
+ghost use Rattle.ring_script.specs.Line.{is_skipped, head_of, head_in, text_fault, fault_by, Says};
 
 use crate::arguments::{read_credit, read_members};
 use crate::fault::{Kind, LineFault};
 use crate::statement::Statement;
-use crate::words::Words;
+use crate::words::{Words, by_word};
 use ring_names::{CreditSpec, Name};
 use std::alloc::Global;
 
@@ -51,13 +51,11 @@ impl Head {
     fn of(word: &[u8]) -> Head
         ensures { result ≡ head_of word.now }
     {
-        if word == b"members".as_slice() {
-            return Head::Members;
-        }
-        if word == b"credit".as_slice() {
-            return Head::Credit;
-        }
-        Head::Statement
+        by_word!(word;
+            b"members" => Head::Members,
+            b"credit" => Head::Credit,
+            _ => Head::Statement
+        )
     }
 }
 
@@ -119,56 +117,30 @@ pub(crate) fn read_said<S: Statement>(
 {
     let mut words = Words::of(line);
     let word = words.first();
-    match next {
-        Next::Opening => read_opening(alloc, word, words),
-        Next::Credit => read_second(alloc, members, word, words),
-        Next::Further => read_further(alloc, members, word, words),
-    }
+    read_by(alloc, next, members, word, words)
 }
 
-/// What the first used line says.
-fn read_opening<S: Statement>(alloc: Global, word: &[u8], rest: Words) -> Result<Said<S>, LineFault>
-    ensures fault { Tells (opening_fault (head_of word.now) (left_in rest.entry)) result }
-    ensures says { IfOk result (Says S.says word.now (left_in rest.entry)) }
-{
-    match Head::of(word) {
-        Head::Members => Ok(Said::Members(read_members(alloc, rest)?)),
-        Head::Credit | Head::Statement => Err(LineFault::Wrong(Kind::NoMembers)),
-    }
-}
-
-/// What the second says: it gives a credit, or is a statement.
-fn read_second<S: Statement>(
+/// What a line says that has this first word and this rest.
+fn read_by<S: Statement>(
     alloc: Global,
+    next: Next,
     members: &[Name],
     word: &[u8],
     rest: Words,
 ) -> Result<Said<S>, LineFault>
     requires text { list_all is_text_byte (left_in rest) ≡ true }
-    ensures fault { Tells (fault_by S.grammar Next.Credit (head_of word.now) members.now word.now
+    ensures fault { Tells (fault_by S.grammar next (head_of word.now) members.now word.now
         (left_in rest.entry)) result }
     ensures says { IfOk result (Says S.says word.now (left_in rest.entry)) }
 {
-    match Head::of(word) {
-        Head::Credit => Ok(Said::Credit(read_credit(rest)?)),
-        Head::Members | Head::Statement => read_further(alloc, members, word, rest),
-    }
-}
-
-/// What a further line says: it is a statement.
-fn read_further<S: Statement>(
-    alloc: Global,
-    members: &[Name],
-    word: &[u8],
-    rest: Words,
-) -> Result<Said<S>, LineFault>
-    requires text { list_all is_text_byte (left_in rest) ≡ true }
-    ensures fault { Tells (fault_by S.grammar Next.Further (head_of word.now) members.now word.now
-        (left_in rest.entry)) result }
-    ensures says { IfOk result (Says S.says word.now (left_in rest.entry)) }
-{
-    match Head::of(word) {
-        Head::Members | Head::Credit => Err(LineFault::Wrong(Kind::Misplaced)),
-        Head::Statement => Ok(Said::Statement(S::read(alloc, members, word, rest)?)),
+    match (next, Head::of(word)) {
+        (Next::Opening, Head::Members) => Ok(Said::Members(read_members(alloc, rest)?)),
+        (Next::Opening, Head::Credit | Head::Statement) => Err(LineFault::Wrong(Kind::NoMembers)),
+        (Next::Credit, Head::Credit) => Ok(Said::Credit(read_credit(rest)?)),
+        (Next::Credit | Next::Further, Head::Statement) => Ok(Said::Statement(S::read(
+            alloc, members, word, rest,
+        )?)),
+        (Next::Credit | Next::Further, Head::Members) => Err(LineFault::Wrong(Kind::Misplaced)),
+        (Next::Further, Head::Credit) => Err(LineFault::Wrong(Kind::Misplaced)),
     }
 }

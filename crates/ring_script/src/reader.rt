@@ -10,7 +10,7 @@ use crate::fault::{Kind, LineFault};
 use crate::line::{Next, Said, is_skipped_line, judge_text, read_said};
 use crate::statement::Statement;
 use crate::text::Text;
-use ring_names::{CreditSpec, Name};
+use ring_names::{CreditSpec, Items, Name};
 use std::alloc::Global;
 
 /// What is read of a text so far.
@@ -83,18 +83,18 @@ impl<S: Statement> Reader<S> {
     /// The text, where its members are named.
     pub(crate) fn finish(self) -> Result<Text<S>, Kind>
         ensures some { (used : List (ℕ × List ℕ)) → HasRead S.says used self → OnOk result (0 < length used) }
-        ensures members { IfOk result (λ text. text.members.items ≡ self.members.items) }
+        ensures members { IfOk result (λ text. text.members ≡ self.members.items) }
         ensures credit { IfOk result (λ text. text.credit ≡ self.credit) }
-        ensures lines { IfOk result (λ text. text.lines.items ≡ self.lines.items) }
+        ensures lines { IfOk result (λ text. text.lines ≡ self.lines.items) }
         ensures none { (used : List (ℕ × List ℕ)) → HasRead S.says used self
             → IfErr result (λ kind. (used ≡ []) × (kind ≡ Kind.NoMembers)) }
     {
         match self.next {
             Next::Opening => Err(Kind::NoMembers),
             Next::Credit | Next::Further => Ok(Text {
-                members: self.members,
+                members: Items::from_vec(self.members),
                 credit: self.credit,
-                lines: self.lines,
+                lines: Items::from_vec(self.lines),
             }),
         }
     }

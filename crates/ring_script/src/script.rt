@@ -13,21 +13,13 @@ use crate::arguments::{known_name, nothing_left, number_from, one_left, read_bod
 use crate::command::Command;
 use crate::fault::{Kind, LineFault, ScriptFault};
 use crate::statement::Statement;
-use crate::text::read_text;
-use crate::words::Words;
-use ring_names::{CreditSpec, Items, Name};
+use crate::text::{Text, read_text};
+use crate::words::{Words, by_word};
+use ring_names::Name;
 use std::alloc::Global;
 
-/// What a script says.
-#[derive(Drop, Debug)]
-pub struct Script {
-    /// The members with which the ring opens, in their order.
-    pub members: Items<Name>,
-    /// The credit of each link.
-    pub credit: CreditSpec,
-    /// What is then done with the ring, in order, each behind the number of its line.
-    pub lines: Items<(u32, Command)>,
-}
+/// What a script says: the commands that the ring is then given.
+pub type Script = Text<Command>;
 
 /// The command that the first word of a line begins.
 #[derive(Clone, Copy, PartialEq, Eq, Debug)]
@@ -45,16 +37,12 @@ impl Keyword {
     fn of(word: &[u8]) -> Option<Keyword>
         ensures { result ≡ keyword_of word.now }
     {
-        if word == b"cast".as_slice() {
-            return Some(Keyword::Cast);
-        }
-        if word == b"go".as_slice() {
-            return Some(Keyword::Go);
-        }
-        if word == b"settle".as_slice() {
-            return Some(Keyword::Settle);
-        }
-        None
+        by_word!(word;
+            b"cast" => Some(Keyword::Cast),
+            b"go" => Some(Keyword::Go),
+            b"settle" => Some(Keyword::Settle),
+            _ => None
+        )
     }
 }
 
@@ -112,7 +100,7 @@ fn read_settle(rest: Words) -> Result<Command, LineFault>
 /// Reads the script that the bytes spell. Each line is judged behind those before it, and the first one
 /// that is wrong is told with its first fault. The time is in proportion to the bytes. Want of memory is
 /// answered also where the lines are too many to be numbered.
-#[tactic(auto, using(crate::proofs::Exact::judges_each))]
+#[tactic(auto, using(crate::proofs::Exact::judges_each, crate::proofs::Playable::script_playable))]
 pub fn read_script(alloc: Global, bytes: &[u8]) -> Result<Script, ScriptFault>
     ensures script { IfOk result (IsScriptOf bytes.now) }
     ensures playable { IfOk result IsPlayable }
@@ -122,10 +110,5 @@ pub fn read_script(alloc: Global, bytes: &[u8]) -> Result<Script, ScriptFault>
     // A text is right or has a first fault, never both, and has one first fault alone.
     ensures judged { JudgesEachText script_grammar }
 {
-    let text = read_text::<Command>(alloc, bytes)?;
-    Ok(Script {
-        members: Items::from_vec(text.members),
-        credit: text.credit,
-        lines: Items::from_vec(text.lines),
-    })
+    read_text::<Command>(alloc, bytes)
 }

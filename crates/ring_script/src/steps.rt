@@ -11,23 +11,15 @@ ghost use Rattle.ring_script.specs.Reading.{AreStepsOf, IsFirstFault, CanOpen, J
 use crate::arguments::{name_from, number_from, one_left, read_body, two_left};
 use crate::fault::{Kind, LineFault, ScriptFault};
 use crate::statement::Statement;
-use crate::text::read_text;
-use crate::words::Words;
-use ring_names::{CreditSpec, Items, Name};
+use crate::text::{Text, read_text};
+use crate::words::{Words, by_word};
+use ring_names::Name;
 use ring_world::Event;
 use std::alloc::Global;
 
-/// What a step file says.
-#[derive(Drop, Debug)]
-pub struct Steps {
-    /// The members with which the ring opens, in their order.
-    pub members: Items<Name>,
-    /// The credit of each link.
-    pub credit: CreditSpec,
-    /// The events that are then tried, in order, each behind the number of its line. They name whom they
-    /// like: the ring refuses an event of a member that it hasn't.
-    pub lines: Items<(u32, Event)>,
-}
+/// What a step file says: the events that are then tried. They name whom they like: the ring refuses an event
+/// of a member that it hasn't.
+pub type Steps = Text<Event>;
 
 /// The event that the first word of a line begins.
 #[derive(Clone, Copy, PartialEq, Eq, Debug)]
@@ -61,17 +53,12 @@ impl EventWord {
     fn of(word: &[u8]) -> Option<EventWord>
         ensures { result ≡ event_word_of word.now }
     {
-        if word == b"cast".as_slice() {
-            return Some(EventWord::Cast);
-        }
-        if word == b"mark".as_slice() {
-            return Some(EventWord::Mark);
-        }
-        if word == b"refresh".as_slice() {
-            return Some(EventWord::Refresh);
-        }
-        let step = OwnStep::of(word)?;
-        Some(EventWord::Own(step))
+        by_word!(word;
+            b"cast" => Some(EventWord::Cast),
+            b"mark" => Some(EventWord::Mark),
+            b"refresh" => Some(EventWord::Refresh),
+            _ => Some(EventWord::Own(OwnStep::of(word)?))
+        )
     }
 }
 
@@ -80,25 +67,15 @@ impl OwnStep {
     fn of(word: &[u8]) -> Option<OwnStep>
         ensures { result ≡ own_step_of word.now }
     {
-        if word == b"put".as_slice() {
-            return Some(OwnStep::Put);
-        }
-        if word == b"take".as_slice() {
-            return Some(OwnStep::Take);
-        }
-        if word == b"takeend".as_slice() {
-            return Some(OwnStep::TakeEnd);
-        }
-        if word == b"gain".as_slice() {
-            return Some(OwnStep::Gain);
-        }
-        if word == b"stop".as_slice() {
-            return Some(OwnStep::Stop);
-        }
-        if word == b"pick".as_slice() {
-            return Some(OwnStep::Pick);
-        }
-        None
+        by_word!(word;
+            b"put" => Some(OwnStep::Put),
+            b"take" => Some(OwnStep::Take),
+            b"takeend" => Some(OwnStep::TakeEnd),
+            b"gain" => Some(OwnStep::Gain),
+            b"stop" => Some(OwnStep::Stop),
+            b"pick" => Some(OwnStep::Pick),
+            _ => None
+        )
     }
 
     /// The step as an event of the member of this name.
@@ -180,7 +157,7 @@ fn read_own(step: OwnStep, rest: Words) -> Result<Event, LineFault>
 /// Reads the steps that the bytes spell, exactly as `read_script` reads a script: each line is judged behind
 /// those before it, and the first one that is wrong is told with its first fault. The word of an event that the
 /// ring hasn't is no command.
-#[tactic(auto, using(crate::proofs::Exact::judges_each))]
+#[tactic(auto, using(crate::proofs::Exact::judges_each, crate::proofs::Playable::steps_open))]
 pub fn read_steps(alloc: Global, bytes: &[u8]) -> Result<Steps, ScriptFault>
     ensures steps { IfOk result (AreStepsOf bytes.now) }
     ensures opens { IfOk result (λ steps. CanOpen steps.members) }
@@ -190,10 +167,5 @@ pub fn read_steps(alloc: Global, bytes: &[u8]) -> Result<Steps, ScriptFault>
     // A text is right or has a first fault, never both, and has one first fault alone.
     ensures judged { JudgesEachText step_grammar }
 {
-    let text = read_text::<Event>(alloc, bytes)?;
-    Ok(Steps {
-        members: Items::from_vec(text.members),
-        credit: text.credit,
-        lines: Items::from_vec(text.lines),
-    })
+    read_text::<Event>(alloc, bytes)
 }

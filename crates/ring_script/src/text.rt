@@ -6,25 +6,24 @@ ghost use Rattle.ring_script.specs.Reading.{Spells, IsFirstFault};
 use crate::fault::{LineFault, ScriptFault};
 use crate::reader::Reader;
 use crate::statement::Statement;
-use ring_names::{CreditSpec, Name};
+use ring_names::{CreditSpec, Items, Name};
 use std::alloc::Global;
 
-/// What a text says.
+/// What a script or a step file says.
 #[derive(Drop, Debug)]
-pub(crate) struct Text<S> {
+pub struct Text<S> {
     /// The members with which the ring opens, in their order.
-    pub(crate) members: Vec<Name>,
+    pub members: Items<Name>,
     /// The credit of each link.
-    pub(crate) credit: CreditSpec,
-    /// The statements, each behind the number of its line.
-    pub(crate) lines: Vec<(u32, S)>,
+    pub credit: CreditSpec,
+    /// What its further lines say, in order, each behind the number of its line.
+    pub lines: Items<(u32, S)>,
 }
 
 /// Reads what the bytes spell. Each line is judged behind those before it, and the first one that is wrong is
 /// told with its first fault.
 pub(crate) fn read_text<S: Statement>(alloc: Global, bytes: &[u8]) -> Result<Text<S>, ScriptFault>
-    ensures spells { IfOk result (λ text. Spells S.grammar S.says bytes.now text.members.items text.credit
-        text.lines.items) }
+    ensures spells { IfOk result (Spells S.grammar S.says bytes.now) }
     ensures fault { (line kind : ℕ) → result ≡ Err (ScriptFault.At line kind)
         → IsFirstFault S.grammar bytes.now line kind }
 {

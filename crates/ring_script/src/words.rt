@@ -4,6 +4,15 @@ ghost use Rattle.std.specs.List.{list_all, prefix_len, slice_range};
 ghost use Rattle.ring_script.specs.Words.{is_space, is_inner, words_of, first_word, behind_word, behind_space};
 ghost use Rattle.ring_script.specs.Words.{IsNextWord, body_start, is_digit, is_number, number_of};
 
+/// What stands behind the word that is this one, or else behind `_`.
+macro_rules! by_word {
+    ($word:expr; $($text:literal => $answer:expr,)* _ => $other:expr) => {
+        $(if $word == $text.as_slice() { $answer } else)* { $other }
+    };
+}
+
+pub(crate) use by_word;
+
 /// The words of a line, one after another. They take no memory. Words are separated by one or more spaces;
 /// spaces at the start of the line and behind its last word belong to none.
 #[derive(Clone, Copy, Debug)]

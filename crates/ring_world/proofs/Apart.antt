@@ -8,7 +8,8 @@ use Rattle.group_view.proofs.Neighbours.{in-filter}
 use Rattle.ring_world.specs.declared.numbers.Numbers.{Numbers}
 use Rattle.ring_world.specs.Rows.{Row}
 use Rattle.ring_world.specs.Machine.{Up, World, Packet, Link, no_link, member_at, link_at, row_at, numbers_at, newest, ring, runs, is_kept, is_waiting}
-use Rattle.ring_world.specs.Walk.{NeverRises, newest_first, numbers, only, no_but, counted, is_early, block, round, round_of, retired_by, number, stopped_from, running_from, walk}
+use Rattle.ring_world.specs.OpenLinks.{NeverRises, number}
+use Rattle.ring_world.proofs.CountedWalk.{newest_first, numbers, only, no_but, counted, is_early, block, round, round_of, retired_by, stopped_from, running_from, walk}
 use Rattle.ring_world.proofs.Good.{IsRing}
 use Rattle.ring_world.proofs.Put.{number_up, runs_phase-Up}
 use Rattle.ring_world.proofs.Falling.{falls_across, in_blocks, each_in_round}

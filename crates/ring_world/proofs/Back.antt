@@ -6,7 +6,8 @@ use Rattle.group_view.specs.Ring.{rotated, is_in}
 use Rattle.ring_world.specs.Rows.{Row}
 use Rattle.ring_world.specs.declared.numbers.Numbers.{Numbers}
 use Rattle.ring_world.specs.Machine.{Packet, Link, World, row_at, numbers_at, member_at, link_at, ring, runs}
-use Rattle.ring_world.specs.Walk.{numbers, only, no_but, counted, is_early, number, round_of, retired_by, stopped_from, running_from, stopped_prefix, walk_over, walk}
+use Rattle.ring_world.proofs.CountedWalk.{numbers, only, no_but, counted, is_early, round_of, retired_by, stopped_from, running_from, stopped_prefix, walk_over, walk}
+use Rattle.ring_world.specs.OpenLinks.{number}
 use Rattle.ring_world.proofs.Weakens.{Weakens, same, equal, joined}
 use Rattle.ring_world.proofs.Links.{IsOr, kept, numbers_closed}
 use Rattle.ring_world.proofs.Rounds.{round_back}

@@ -7,8 +7,7 @@ use Rattle.ring_names.specs.declared.reason.Reason.{Reason}
 use Rattle.ring_names.specs.declared.reason.Reason.TheVariants as reason
 use Rattle.ring_world.specs.Refusal.{is_empty}
 use Rattle.group_view.specs.Change.{marked}
-use Rattle.ring_world.specs.Machine.{Phase, Waiting, Up, Stopped, Halted, World, member_at, link_at, view_at, newest, runs, runs_phase, is_waiting}
-use Rattle.ring_world.specs.Walk.{oldest}
+use Rattle.ring_world.specs.Machine.{Phase, Waiting, Up, Stopped, Halted, World, member_at, link_at, view_at, newest, runs, runs_phase, is_waiting, oldest}
 use Rattle.ring_world.specs.Step.{size, put_on, gain_on, publish_at, take_from, current_is, leave_link, stop_at, end_out, with_view}
 use Rattle.ring_world.specs.Event.{Event, Cast, Put, Take, TakeEnd, Gain, Stop, Mark, Refresh, Pick, id_of, of_member, on_link, put_refusal, take_refusal, end_refusal, gain_refusal, version_refusal, refresh_refusal, holds_nothing, at_door, mark_refusal, refreshed, by_of, is_for_up, phase_refusal, further_refusal, refused_at, refusal, at_found, taken_by, done_at, effect}
 use Rattle.ring_world.proofs.WhatRefuses.{MayTake, MayLook, MayMark}
@@ -46,7 +45,7 @@ up_of w y n r = by_phase (member_at w y).phase (n y) r
 -- ---- conditions
 
 -- who acts is up, and the further conditions hold
-acts : (w : World) (for_up : Bool) (x : ℕ) (later : Option Reason) → NoneWaits w → phase_refusal for_up w x later ≡ None → ((member_at w x).phase ≡ Up) × (later ≡ None)
+pub acts : (w : World) (for_up : Bool) (x : ℕ) (later : Option Reason) → NoneWaits w → phase_refusal for_up w x later ≡ None → ((member_at w x).phase ≡ Up) × (later ≡ None)
 acts w true x later n h = up_none w x later h
 acts w false x later n h = running_none w x later (n x) h
 
@@ -66,13 +65,13 @@ pub may_look : (w : World) (x v : ℕ) → x < size w → (member_at w x).phase 
 may_look w x v lt up h = record { is_member = lt; up = up; later = refresh_later w x v h; upto = refresh_upto w x v h }
 
 -- what is done at a link, where it is there
-at_link : (P : World → Type 0) (w : World) (missing : Reason) (later : ℕ → Option Reason) (f : ℕ → World) (o : Option ℕ) → on_link o missing later ≡ None
+pub at_link : (P : World → Type 0) (w : World) (missing : Reason) (later : ℕ → Option Reason) (f : ℕ → World) (o : Option ℕ) → on_link o missing later ≡ None
     → ((s : ℕ) → o ≡ Some s → later s ≡ None → P (f s)) → P (at_found o w f)
 at_link P w missing later f None h k = cc
 at_link P w missing later f (Some s) h k = k s refl h
 
 -- and at the member of a name
-at_named : (P : World → Type 0) (w : World) (name : List ℕ) (later : ℕ → Option Reason) (f : ℕ → World) → of_member (id_of w name) later ≡ None
+pub at_named : (P : World → Type 0) (w : World) (name : List ℕ) (later : ℕ → Option Reason) (f : ℕ → World) → of_member (id_of w name) later ≡ None
     → ((x : ℕ) → 1 ≤ x → x < size w → later x ≡ None → P (f x)) → P (at_found (id_of w name) w f)
 at_named P w name later f h k = by_id (id_of w name) refl h
   where

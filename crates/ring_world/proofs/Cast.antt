@@ -3,7 +3,7 @@ use Rattle.std.proofs.Common.{◌≡◌, ◌≢◌, ℕ, ◌<◌, refl, ap}
 use Rattle.std.proofs.lemmas.List.{get_or-set_other}
 use Rattle.ring_world.specs.Machine.{Up, World, row_at, member_at}
 use Rattle.ring_world.specs.Rows.{no_row, published_row}
-use Rattle.ring_world.specs.Walk.{walk}
+use Rattle.ring_world.proofs.CountedWalk.{walk}
 use Rattle.ring_world.specs.Step.{size, published, publish_at}
 use Rattle.ring_world.proofs.Weakens.{Weakens}
 use Rattle.ring_world.proofs.Back.{closes_walk}

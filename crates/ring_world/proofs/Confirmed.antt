@@ -6,7 +6,8 @@ use Rattle.group_view.specs.Change.{AreOpeningNames}
 use Rattle.group_view.proofs.Rings.{is_in-rotated, in_first}
 use Rattle.group_view.proofs.Neighbours.{in-filter}
 use Rattle.ring_world.specs.Machine.{Phase, Waiting, Up, Stopped, World, numbers_at, member_at, newest, ring, runs, runs_phase, is_waiting}
-use Rattle.ring_world.specs.Walk.{numbers, counted, only, no_but, is_early, number, round_of, retired_by, stopped_from, running_from}
+use Rattle.ring_world.proofs.CountedWalk.{numbers, counted, only, no_but, is_early, round_of, retired_by, stopped_from, running_from}
+use Rattle.ring_world.specs.OpenLinks.{number}
 use Rattle.ring_world.specs.Step.{opening}
 use Rattle.ring_world.specs.Event.{Event, IsRun, last}
 use Rattle.ring_world.specs.Lawful.{row_of, ConfirmedEverywhere}

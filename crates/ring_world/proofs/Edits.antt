@@ -5,7 +5,7 @@ use Rattle.std.proofs.lemmas.List.{append-nil}
 use Rattle.std.proofs.lemmas.Bool.{cases_eq}
 use Rattle.group_view.specs.Ring.{last_or}
 use Rattle.ring_world.specs.Machine.{Packet, Link, no_link}
-use Rattle.ring_world.specs.Walk.{block, round, numbers, only, no_but}
+use Rattle.ring_world.proofs.CountedWalk.{block, round, numbers, only, no_but}
 use Rattle.ring_world.proofs.Weakens.{Weakens, same, equal, then, joined, joined_right, joined_left, under, lose_one, lose_second, repeat}
 use Rattle.ring_world.proofs.Links.{numbers_split, AllZero}
 use Rattle.ring_world.proofs.Rounds.{Steps-map, front, round_back, blocks_lost, owner_lost}

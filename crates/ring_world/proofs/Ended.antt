@@ -1,27 +1,25 @@
 -- Links that were taken to their end hold nothing, and nothing is put on them later.
-use Rattle.std.proofs.Common.{◌≡◌, ◌≢◌, ℕ, zero, suc, ◌+◌, ◌<◌, ◌≤◌, Bool, true, false, cond, not, nat_eq, nat_le, List, [], ◌∷◌, ◌++◌, length, drop, get_or, map, Option, Some, None, is_some, if◌then◌else◌, refl, sym, ap, subst, ◌∙◌, ⊎_elim, arith}
+use Rattle.std.proofs.Common.{◌≡◌, ◌≢◌, ℕ, zero, suc, ◌+◌, ◌<◌, ◌≤◌, Bool, true, false, cond, not, nat_eq, List, [], ◌∷◌, ◌++◌, length, drop, get_or, map, Option, Some, None, is_some, if◌then◌else◌, refl, sym, ap, subst, ◌∙◌, ⊎_elim, arith}
 use Rattle.std.specs.Prelude.{◌&&◌}
 use Rattle.std.specs.List.{range_with_len}
-use Rattle.std.proofs.lemmas.Bool.{and_parts, false≢true, cases_lt}
+use Rattle.std.proofs.lemmas.Bool.{false≢true, cases_lt}
 use Rattle.std.proofs.lemmas.List.{length-set, length_push, get_or_append_left, get_or_push, get_or-set_same}
-use Rattle.std.proofs.lemmas.List.Quantifiers.{position-Some}
 use Rattle.ring_names.specs.declared.numbers.CreditSpec.{CreditSpec}
 use Rattle.ring_names.specs.declared.reason.Reason.TheVariants as reason
 use Rattle.ring_world.specs.Refusal.{is_empty}
 use Rattle.group_view.specs.View.{Group}
 use Rattle.group_view.specs.Change.{marked}
 use Rattle.ring_world.specs.View.{right_of}
-use Rattle.ring_world.specs.Machine.{Phase, Waiting, Up, Stopped, Packet, Member, Ending, Moved, Halted, Link, World, no_link, no_member, member_at, link_at, view_at, newest, runs, runs_phase}
+use Rattle.ring_world.specs.Machine.{Phase, Waiting, Up, Stopped, Packet, Member, Ending, Moved, Halted, Link, World, no_link, no_member, member_at, link_at, view_at, newest, runs, runs_phase, oldest}
 use Rattle.ring_world.specs.Step.{size, published, pushed, popped, next_packet, put_on, gain_on, taker, begun, current_is, with_current, leave_link, finished, ended, ended_so, stop_at, stopped, end_out, with_member, with_link, with_view, look_at, moved_to, kept_current, open_to, opened_link, opening_link, opening}
-use Rattle.ring_world.specs.Walk.{oldest}
-use Rattle.ring_world.specs.Event.{Event, end_refusal, holds_nothing, left_neighbour, since, is_at_door, at_door, send_to, refreshed, refusal, taken_by, effect, IsRun, last}
+use Rattle.ring_world.specs.Event.{Event, end_refusal, holds_nothing, at_door, send_to, refreshed, refusal, taken_by, effect, IsRun, last}
 use Rattle.ring_world.proofs.Lists.{at_set, at_push, get_or_beyond}
-use Rattle.ring_world.proofs.Rounds.{nat_eq-is}
 use Rattle.ring_world.proofs.Kept.{Inv}
 use Rattle.ring_world.proofs.Opening.{opening_inv}
 use Rattle.ring_world.proofs.Refusals.{none_of, refuse_none, open_after_end}
 use Rattle.ring_world.proofs.Cases.{each_event}
 use Rattle.ring_world.proofs.Happens.{IsGood, run_events}
+use Rattle.ring_world.proofs.FromLeft.{found_at_door}
 
 -- ---- what holds in every state
 
@@ -32,7 +30,7 @@ pub record SendsOn (ls : List Link) (x o : ℕ) : Type 0 where
   pub goes_on : (get_or ls o no_link).ending ≡ None
 
 -- the link from which y takes: it goes to y, and y hasn't taken its end
-pub record TakesFrom (ls : List Link) (y s : ℕ) : Type 0 where
+pub record TakesOn (ls : List Link) (y s : ℕ) : Type 0 where
   pub lt : s < length ls
   pub receiver : (get_or ls s no_link).receiver ≡ y
   pub goes_on : (get_or ls s no_link).over ≡ false
@@ -42,7 +40,7 @@ pub record EndsRight (w : World) : Type 0 where
   pub ended : (s : ℕ) → (link_at w s).over ≡ true → is_some (link_at w s).ending ≡ true
   pub nothing : (s : ℕ) → (link_at w s).over ≡ true → (link_at w s).packets ≡ []
   pub sends : (x o : ℕ) → runs w x ≡ true → (member_at w x).out ≡ Some o → SendsOn w.links x o
-  pub takes : (y s : ℕ) → runs w y ≡ true → (member_at w y).current ≡ Some s → TakesFrom w.links y s
+  pub takes : (y s : ℕ) → runs w y ≡ true → (member_at w y).current ≡ Some s → TakesOn w.links y s
 
 -- ---- one member or one link is written
 
@@ -55,12 +53,12 @@ runs_lt w x r =
     (cases_lt x (size w))
 
 -- what is written of a member sends and takes rightly
-ends_member : (w : World) (x : ℕ) (y : Member) → x < size w → ((o : ℕ) → runs_phase y.phase ≡ true → y.out ≡ Some o → SendsOn w.links x o) → ((s : ℕ) → runs_phase y.phase ≡ true → y.current ≡ Some s → TakesFrom w.links x s) → EndsRight w → EndsRight (with_member w x y)
+ends_member : (w : World) (x : ℕ) (y : Member) → x < size w → ((o : ℕ) → runs_phase y.phase ≡ true → y.out ≡ Some o → SendsOn w.links x o) → ((s : ℕ) → runs_phase y.phase ≡ true → y.current ≡ Some s → TakesOn w.links x s) → EndsRight w → EndsRight (with_member w x y)
 ends_member w x y lt out current h = record {
   ended = h.ended;
   nothing = h.nothing;
   sends = λ q o. at_set (λ k z. runs_phase z.phase ≡ true → z.out ≡ Some o → SendsOn w.links k o) w.members x q y no_member lt (out o) (λ _. h.sends q o);
-  takes = λ q s. at_set (λ k z. runs_phase z.phase ≡ true → z.current ≡ Some s → TakesFrom w.links k s) w.members x q y no_member lt (current s) (λ _. h.takes q s);
+  takes = λ q s. at_set (λ k z. runs_phase z.phase ≡ true → z.current ≡ Some s → TakesOn w.links k s) w.members x q y no_member lt (current s) (λ _. h.takes q s);
 }
 
 -- the links that it sends on and takes from stay
@@ -135,7 +133,7 @@ ends_leave w y s ry e ending holds h =
     ends_link w1 s (finished (link_at w s)) k.lt refl refl (λ _. ending) (λ _. holds) (λ z rz ez. (h1.sends z s rz ez).goes_on)
     (λ z rz ez. absurd (another z ez (sym (h1.takes z s rz ez).receiver ∙ k.receiver))) h1
   where
-    k : TakesFrom w.links y s
+    k : TakesOn w.links y s
     k = h.takes y s ry e
 
     w1 : World
@@ -269,21 +267,12 @@ ends_view w v h = record { ended = h.ended; nothing = h.nothing; sends = h.sends
 -- ---- a pick
 
 -- the link at y's door
-door_link : (w : World) (y s : ℕ) → at_door w y ≡ Some s → TakesFrom w.links y s
-door_link w y s e =
-    let f = position-Some (is_at_door w y) w.links s no_link e in
-    let l = link_at w s in
-    let a = and_parts (nat_eq l.receiver y) (not l.over && (nat_eq l.sender (left_neighbour w y) && nat_le (since w y) l.opened)) f.1 in
-    let b = and_parts (not l.over) (nat_eq l.sender (left_neighbour w y) && nat_le (since w y) l.opened) a.1 in
-    record { lt = f.0; receiver = nat_eq-is l.receiver y a.0; goes_on = is_false l.over b.0 }
-  where
-    is_false : (b : Bool) → not b ≡ true → b ≡ false
-    is_false true h = cc
-    is_false false h = refl
+pub door_link : (w : World) (y s : ℕ) → at_door w y ≡ Some s → TakesOn w.links y s
+door_link w y s e = let d = found_at_door w y s e in record { lt = d.there; receiver = d.receiver; goes_on = d.goes_on }
 
 -- y takes from it
 ends_pick : (w : World) (y s : ℕ) → runs w y ≡ true → at_door w y ≡ Some s → EndsRight w → EndsRight (current_is w y (Some s))
-ends_pick w y s ry e h = ends_member w y (with_current (Some s) (member_at w y)) (runs_lt w y ry) (λ o _ eo. h.sends y o ry eo) (λ t _ et. subst (TakesFrom w.links y) (let is : s ≡ t = cc in is) (door_link w y s e)) h
+ends_pick w y s ry e h = ends_member w y (with_current (Some s) (member_at w y)) (runs_lt w y ry) (λ o _ eo. h.sends y o ry eo) (λ t _ et. subst (TakesOn w.links y) (let is : s ≡ t = cc in is) (door_link w y s e)) h
 
 -- ---- events
 

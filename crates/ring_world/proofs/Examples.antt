@@ -4,7 +4,7 @@ use Rattle.ring_names.specs.declared.numbers.CreditSpec.{CreditSpec}
 use Rattle.ring_names.specs.declared.reason.Reason.TheVariants as reason
 use Rattle.ring_world.specs.View.{left_at, right_at}
 use Rattle.ring_world.specs.Machine.{World, is_kept_of}
-use Rattle.ring_world.specs.Walk.{walk}
+use Rattle.ring_world.proofs.CountedWalk.{walk}
 use Rattle.ring_world.specs.Step.{opening}
 use Rattle.ring_world.specs.Event.{Event, Cast, Put, Take, TakeEnd, Stop, Mark, Refresh, last, refusal}
 

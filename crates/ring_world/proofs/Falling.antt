@@ -5,7 +5,8 @@ use Rattle.std.proofs.lemmas.Bool.{false≢true}
 use Rattle.group_view.specs.Ring.{is_in}
 use Rattle.group_view.proofs.Rings.{nat_eq-is, in_first, in_second, in_tail}
 pub use Rattle.group_view.proofs.Rings.{in_head}
-use Rattle.ring_world.specs.Walk.{FallsFrom, NeverRises, block, round}
+use Rattle.ring_world.specs.OpenLinks.{FallsFrom, NeverRises}
+use Rattle.ring_world.proofs.CountedWalk.{block, round}
 
 -- ---- parts of a list that never rises
 

@@ -46,6 +46,10 @@ first_link_at credit names s P lt here = subst P (sym (first_link_is credit name
 pub first_size : (credit : CreditSpec) (names : List (List ℕ)) → size (opening credit names) ≡ length names + 1
 first_size credit names = omega (arith, length-map-range_with_len (opening_member names) 1 (length names))
 
+-- each of them
+pub first_member : (credit : CreditSpec) (names : List (List ℕ)) (q : ℕ) → 1 ≤ q → q < size (opening credit names) → member_at (opening credit names) q ≡ opening_member names q
+first_member credit names q some lt = first_at credit names q some (omega (arith, lt, first_size credit names))
+
 -- nobody knows anything
 pub first_row : (credit : CreditSpec) (names : List (List ℕ)) (q p : ℕ) → row_of (opening credit names) q p ≡ no_row
 first_row credit names q p = first_each credit names q (λ y. get_or y.rows p no_row ≡ no_row) (λ _ _. get_or-mapped (λ _. no_row) (range_with_len 0 (length names + 1)) p 0 no_row refl) refl

@@ -1,15 +1,11 @@
 -- What the code needs of a state, of the structs.
-use Rattle.std.proofs.Common.{◌≡◌, ℕ, suc, ◌<◌, ◌≤◌, ◌+◌, true, List, ◌∷◌, length, map, get_or, Some, None, option_map, bytes_eq, refl, sym, ap, ◌∙◌, arith}
+use Rattle.std.proofs.Common.{◌≡◌, ℕ, suc, ◌<◌, ◌≤◌, ◌+◌, true, List, length, map, get_or, Some, None, option_map, bytes_eq, refl, sym, ap, ◌∙◌, arith}
 use Rattle.std.proofs.lemmas.List.{length-map}
 use Rattle.std.specs.Prelude.{position, Option, IfSome, max}
-use Rattle.group_view.specs.View.{Group}
-use Rattle.group_view.specs.Since.{no_group}
-use Rattle.group_view.specs.Ring.{is_in}
 use Rattle.ring_world.specs.Event.{left_neighbour, since, at_door, id_of}
 use Rattle.ring_world.specs.declared.seat.Seat.{Seat}
 use Rattle.ring_world.specs.declared.wire.Wire.{Wire}
 use Rattle.ring_world.specs.declared.state.Ring.{Ring}
-use Rattle.ring_world.specs.View.{ids}
 use Rattle.ring_world.specs.Machine.{Up, row_at, newest, runs_phase, runs, member_at}
 use Rattle.ring_world.specs.Placed.{IsPlaced}
 use Rattle.ring_world.specs.Shows.{world_of, row_of, member_of, link_of, member_in, link_in, stands_at_door}
@@ -39,12 +35,6 @@ pub version_some : (r : Ring) (i : ℕ) (s : Seat) → IsPlaced (world_of r) →
 version_some r i s h l e up =
     let same : member_in r.seats.items i ≡ member_of s = read_member r.seats.items i s l e in
     omega (arith, ap (λ m. m.version) same, h.from_one (suc i) (ap runs_phase up))
-
--- it stands in the view of its version
-pub version_stands : (r : Ring) (i : ℕ) (s : Seat) (g : Group) → IsPlaced (world_of r) → i < length r.seats.items → s ≡ get_or r.seats.items i s → (member_in r.seats.items i).phase ≡ Up → g ≡ get_or (no_group ∷ r.views.items) s.version no_group → is_in (suc i) (ids g) ≡ true
-version_stands r i s g h l e up is =
-    let same : member_in r.seats.items i ≡ member_of s = read_member r.seats.items i s l e in
-    ap (λ k. is_in (suc i) (ids k)) is ∙ h.stands (suc i) s.version (ap runs_phase up) (omega (arith, ap (λ m. m.version) same)) (omega (arith, version_within r i s h l e))
 
 -- the link that stands first at a door
 pub door_first : (r : Ring) (i : ℕ) (left start : ℕ) (o : Option ℕ) → left ≡ left_neighbour (world_of r) (suc i) → start ≡ since (world_of r) (suc i) → o ≡ position (λ wire. stands_at_door (suc i) left start (link_of wire)) r.wires.items → o ≡ at_door (world_of r) (suc i)
@@ -91,17 +81,11 @@ same_version r i s l e = sym (ap (λ m. m.version) (read_member r.seats.items i 
 pub current_at : (r : Ring) (i o : ℕ) → IsPlaced (world_of r) → (member_in r.seats.items i).phase ≡ Up → (member_in r.seats.items i).current ≡ Some o → o < length r.wires.items
 current_at r i o h up e = omega (arith, length-map r.wires.items link_of, h.current (suc i) o (ap runs_phase up) e)
 
--- a link's opening, and where its receiver stands
+-- a link's opening
 pub link_some : (r : Ring) (s : ℕ) (l : Wire) → IsPlaced (world_of r) → s < length r.wires.items → l ≡ get_or r.wires.items s l → 1 ≤ l.opened
 link_some r s l h lt e =
     let same : link_in r.wires.items s ≡ link_of l = read_link r.wires.items s l lt e in
     omega (arith, ap (λ k. k.opened) same, h.opened s (omega (arith, length-map r.wires.items link_of)))
-
-pub link_door : (r : Ring) (s v : ℕ) (l : Wire) → IsPlaced (world_of r) → s < length r.wires.items → l ≡ get_or r.wires.items s l → v ≤ newest (world_of r) → (u : ℕ) → l.opened ≤ u → u ≤ v → is_in l.receiver (ids (get_or (no_group ∷ r.views.items) u no_group)) ≡ true
-link_door r s v l h lt e upto u a b =
-    let same : link_in r.wires.items s ≡ link_of l = read_link r.wires.items s l lt e in
-    ap (λ k. is_in k (ids (get_or (no_group ∷ r.views.items) u no_group))) (sym (ap (λ k. k.receiver) same))
-    ∙ h.door s u (omega (arith, length-map r.wires.items link_of)) (omega (arith, ap (λ k. k.opened) same)) (omega (arith, b, upto))
 
 pub out_some : (r : Ring) (i n : ℕ) (s : Seat) → IsPlaced (world_of r) → i < length r.seats.items → s ≡ get_or r.seats.items i s → (member_in r.seats.items i).phase ≡ Up → n ≡ length r.wires.items → IfSome s.out (λ o. o < n)
 out_some r i n s h l e up many = by_out s.out refl

@@ -3,7 +3,7 @@ use Rattle.std.proofs.Common.{◌≡◌, ℕ, Bool, true, false, cond, List, [],
 use Rattle.std.specs.List.{filter}
 use Rattle.std.proofs.lemmas.Bool.{false≢true}
 use Rattle.group_view.specs.Ring.{before, is_in}
-use Rattle.ring_world.specs.Walk.{stopped_prefix}
+use Rattle.ring_world.proofs.CountedWalk.{stopped_prefix}
 use Rattle.group_view.proofs.Rings.{sym_test, nat_eq-is}
 
 -- where none up to y runs, these are the stopped ones, and y is the first that runs

@@ -8,7 +8,8 @@ use Rattle.group_view.proofs.Rings.{nat_eq-is, nat_eq-same}
 use Rattle.ring_world.specs.View.{ids, is_live}
 use Rattle.group_view.specs.Ring.{first_or, is_in, AreDistinct}
 use Rattle.ring_world.specs.Machine.{is_kept_of, Waiting, Link, World, member_at, link_at, view_at, newest, left, right, runs, is_kept}
-use Rattle.ring_world.specs.Walk.{FallsFrom, NeverRises}
+use Rattle.ring_world.specs.OpenLinks.{FallsFrom, NeverRises}
+use Rattle.ring_world.specs.Step.{size}
 use Rattle.ring_world.proofs.Weakens.{FallsTo, Weakens, FallsFrom-FallsTo, FallsTo-FallsFrom}
 
 -- the number that the packets on the link to a member lead to: at the origin itself the one that comes round
@@ -96,3 +97,7 @@ FallsFrom-NeverRises a (x ∷ xs) h = h.1
 
 pub never_rises_still : (xs ys : List ℕ) → Weakens xs ys → NeverRises xs → NeverRises ys
 never_rises_still xs ys k h = FallsFrom-NeverRises (first_or 0 xs) ys (FallsTo-FallsFrom (first_or 0 xs) ys 0 (k (first_or 0 xs) 0 (NeverRises-FallsTo xs h)))
+
+-- each member has a row for each id
+abbrev pub HasRows : World → Type 0
+HasRows w = (q : ℕ) → 1 ≤ q → q < size w → length (member_at w q).rows ≡ size w

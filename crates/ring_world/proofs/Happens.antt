@@ -1,30 +1,23 @@
 -- Each event that may happen keeps the whole invariant.
-use Rattle.std.proofs.Common.{◌≡◌, ◌≢◌, ℕ, ◌+◌, ◌<◌, ◌≤◌, Bool, true, false, not, nat_eq, nat_le, List, [], ◌∷◌, ◌++◌, length, get_or, set, Option, Some, None, refl, sym, ap, subst, ◌∙◌, ⊎_elim, if◌then◌else◌, arith}
+use Rattle.std.proofs.Common.{◌≡◌, ◌≢◌, ℕ, ◌+◌, ◌<◌, ◌≤◌, Bool, true, false, nat_eq, List, [], ◌∷◌, ◌++◌, length, set, Option, Some, None, refl, sym, ap, subst, ◌∙◌, if◌then◌else◌, arith}
 use Rattle.std.specs.Prelude.{◌&&◌}
-use Rattle.std.proofs.lemmas.Bool.{and_parts, false≢true, leb-true, cases_lt}
+use Rattle.std.proofs.lemmas.Bool.{false≢true}
 use Rattle.std.proofs.lemmas.List.{length_push, get_or_append_left}
-use Rattle.std.proofs.lemmas.List.Quantifiers.{position-Some}
 use Rattle.ring_names.specs.declared.message.Message.{Message}
 use Rattle.ring_names.specs.declared.numbers.CreditSpec.{CreditSpec}
-use Rattle.group_view.specs.Ring.{is_in}
-use Rattle.group_view.specs.View.{Group, entry_in}
-use Rattle.group_view.specs.Since.{no_group, IsSince, KeepsLeft, since_at}
 use Rattle.group_view.specs.Change.{AreOpeningNames, marked, opening as opening_group}
 use Rattle.group_view.proofs.History.{Ends, mark_goes_on, opening_begins}
 use Rattle.group_view.proofs.Passing.{live_in}
-use Rattle.ring_world.specs.View.{ids, is_live, left_of, right_of, left_at, right_at}
+use Rattle.ring_world.specs.View.{is_live, right_of, right_at}
 use Rattle.ring_world.specs.Machine.{Waiting, Up, Stopped, Member, Moved, Halted, Link, World, no_link, no_member, member_at, link_at, view_at, newest, left, right, runs, runs_phase, is_kept}
 use Rattle.ring_world.specs.Step.{size, publish_at, put_on, take_from, current_is, with_current, finished, ended, stop_at, stopped, end_out, with_link, with_view, look_at, moved_to, open_to, opened_link, taker, published, opening}
 use Rattle.ring_world.proofs.WhatRefuses.{IsSameWay, MayTake, IsPickable, MayLook}
-use Rattle.ring_world.specs.Event.{Event, left_neighbour, since, is_at_door, at_door, send_to, refreshed, refusal, effect, IsRun, last}
+use Rattle.ring_world.specs.Event.{Event, at_door, send_to, refreshed, refusal, effect, IsRun, last}
 use Rattle.ring_world.specs.Machine as machine
-use Rattle.group_view.specs.Since as group
-use Rattle.group_view.proofs.KeptLeft.{keeps_since}
 use Rattle.ring_world.proofs.Rounds.{nat_eq-is, nat_eq-same}
-use Rattle.ring_world.proofs.Good.{kept_true}
 use Rattle.ring_world.proofs.Views.{view_new}
 use Rattle.ring_world.proofs.NoneWaits.{look_none, open_none, NoneWaits, waits_set}
-use Rattle.ring_world.proofs.Kept.{Inv, put_keeps}
+use Rattle.ring_world.proofs.Kept.{put_keeps}
 use Rattle.ring_world.proofs.KeptTake.{take_keeps}
 use Rattle.ring_world.proofs.KeptMore.{stop_keeps, current_keeps, mark_keeps, way_keeps}
 use Rattle.ring_world.proofs.KeptLook.{look_keeps}
@@ -33,19 +26,8 @@ use Rattle.ring_world.proofs.KeptCast.{cast_keeps}
 use Rattle.ring_world.proofs.Opening.{opening_inv, opening_phase}
 use Rattle.ring_world.proofs.Refusals.{open_after_end}
 use Rattle.ring_world.proofs.Cases.{each_event}
-
--- ---- what holds in every state
-
--- the views are those of a group that opened and changed
-pub record HasViews (w : World) : Type 0 where
-  pub groups : List Group
-  pub is : w.views ≡ no_group ∷ groups
-  pub ends : Ends groups (view_at w (newest w))
-
-pub record IsGood (w : World) : Type 0 where
-  pub inv : Inv w
-  pub none_waits : NoneWaits w
-  pub views : HasViews w
+pub use Rattle.ring_world.proofs.FromLeft.{HasViews, IsGood}
+use Rattle.ring_world.proofs.FromLeft.{StandsAtDoor, found_at_door, door_kept}
 
 pub opening_good : (credit : CreditSpec) (names : List (List ℕ)) → AreOpeningNames names → IsGood (opening credit names)
 opening_good credit names are = record {
@@ -188,79 +170,20 @@ mark_view_good w d rests lives h =
 
 -- ---- a pick
 
-left_is_group : (w : World) (h : HasViews w) (u y : ℕ) → is_in y (ids (view_at w u)) ≡ true → left w u y ≡ group.left_at h.groups u y
-unfolding left_at group.left_at
-left_is_group w h u y i =
-    let same : view_at w u ≡ group.view_at h.groups u = ap (λ vs. get_or vs u no_group) h.is in
-    ap (λ v. left_of v y) same ∙ sym (rw (sym (ap (λ v. is_in y (ids v)) same) ∙ i) refl)
-
-door_parts : (w : World) (y : ℕ) (l : Link) → is_at_door w y l ≡ true → (l.receiver ≡ y) × (l.sender ≡ left_neighbour w y) × (since w y ≤ l.opened)
-door_parts w y l h =
-    let a = and_parts (nat_eq l.receiver y) (not l.over && (nat_eq l.sender (left_neighbour w y) && nat_le (since w y) l.opened)) h in
-    let b = and_parts (not l.over) (nat_eq l.sender (left_neighbour w y) && nat_le (since w y) l.opened) a.1 in
-    let c = and_parts (nat_eq l.sender (left_neighbour w y)) (nat_le (since w y) l.opened) b.1 in
-    (nat_eq-is l.receiver y a.0, nat_eq-is l.sender (left_neighbour w y) c.0, leb-true (since w y) l.opened c.1)
-
 -- the link that may be picked
-pub door_pickable : (w : World) (y s : ℕ) → y < size w → (member_at w y).phase ≡ Up → at_door w y ≡ Some s → (link_at w s).opened ≤ (member_at w y).version → IsGood w → IsPickable w y (Some s)
-unfolding left_at group.left_at
-door_pickable w y s lt up e upto h = record {
-  lt = λ t k. subst (λ j. j < length w.links) (is t k) there;
-  receiver = λ t k. subst (λ j. (link_at w j).receiver ≡ y) (is t k) parts.0;
-  kept_yet = λ t k. subst (λ j. is_kept w (link_at w j) v ≡ true) (is t k) (kept_true w (link_at w s) v stays);
-  opened = λ t k. subst (λ j. (link_at w j).opened ≤ v) (is t k) upto;
+pub door_pickable : (w : World) (y s : ℕ) → at_door w y ≡ Some s → (link_at w s).opened ≤ (member_at w y).version → IsGood w → IsPickable w y (Some s)
+door_pickable w y s e upto h = record {
+  lt = λ t k. subst (λ j. j < length w.links) (is t k) d.there;
+  receiver = λ t k. subst (λ j. (link_at w j).receiver ≡ y) (is t k) d.receiver;
+  kept_yet = λ t k. subst (λ j. is_kept w (link_at w j) (member_at w y).version ≡ true) (is t k) (door_kept w y s h d upto);
+  opened = λ t k. subst (λ j. (link_at w j).opened ≤ (member_at w y).version) (is t k) upto;
 }
   where
-    v : ℕ
-    v = (member_at w y).version
+    d : StandsAtDoor w y s
+    d = found_at_door w y s e
 
     is : (t : ℕ) → Some s ≡ Some t → s ≡ t
     is t k = cc
-
-    found : (s < length w.links) × (is_at_door w y (link_at w s) ≡ true)
-    found = let f = position-Some (is_at_door w y) w.links s no_link e in (f.0, f.1)
-
-    there : s < length w.links
-    there = found.0
-
-    parts : ((link_at w s).receiver ≡ y) × ((link_at w s).sender ≡ left_neighbour w y) × (since w y ≤ (link_at w s).opened)
-    parts = door_parts w y (link_at w s) found.1
-
-    ry : runs w y ≡ true
-    ry = ap runs_phase up
-
-    stands : (u : ℕ) → v ≤ u → u ≤ newest w → is_in y (ids (view_at w u)) ≡ true
-    stands u a b = h.inv.is_ring.stands y u ry a b
-
-    some : 1 ≤ v
-    some = ⊎_elim (λ (zero_is : v < 1). absurd (false≢true (subst (λ k. is_in y (ids k) ≡ true) (nobody zero_is) (stands v (omega arith) (h.inv.is_ring.held y))))) (λ (ok : 1 ≤ v). ok) (cases_lt v 1)
-      where
-        nobody : v < 1 → view_at w v ≡ no_group
-        nobody k = ap (λ vs. get_or vs v no_group) h.views.is ∙ (let z : v ≡ 0 = omega arith in ap (λ n. get_or (no_group ∷ h.views.groups) n no_group) z)
-
-    many : v ≤ length h.views.groups
-    many = omega (arith, h.inv.is_ring.held y, ap length h.views.is)
-
-    same_view : view_at w v ≡ group.view_at h.views.groups v
-    same_view = ap (λ vs. get_or vs v no_group) h.views.is
-
-    dated : IsSince h.views.groups y v (since_at h.views.groups v y)
-    dated = h.views.ends.history.dated v y some many (sym (ap (λ k. is_in y (ids k)) same_view) ∙ stands v (omega arith) (h.inv.is_ring.held y))
-
-    since_is : since_at h.views.groups v y ≡ since w y
-    since_is = sym (ap (λ (k : Group). (entry_in k.entries y).since) same_view)
-
-    left_now : group.left_at h.views.groups v y ≡ (link_at w s).sender
-    left_now = sym (left_is_group w h.views v y (stands v (omega arith) (h.inv.is_ring.held y))) ∙ sym parts.1
-
-    keeps : KeepsLeft h.views.groups y (link_at w s).sender (link_at w s).opened v
-    keeps = keeps_since h.views.groups y v (since_at h.views.groups v y) (link_at w s).sender (link_at w s).opened dated (omega (arith, since_is, parts.2)) left_now
-
-    present : (u : ℕ) → (link_at w s).opened ≤ u → u ≤ v → is_in y (ids (view_at w u)) ≡ true
-    present u a b = subst (λ q. is_in q (ids (view_at w u)) ≡ true) parts.0 (h.inv.history.grows (link_at w s).receiver (link_at w s).opened u (h.inv.history.known s there) a (omega (arith, b, h.inv.is_ring.held y)))
-
-    stays : (u : ℕ) → (link_at w s).opened ≤ u → u ≤ v → left w u (link_at w s).receiver ≡ (link_at w s).sender
-    stays u a b = ap (left w u) parts.0 ∙ left_is_group w h.views u y (present u a b) ∙ keeps u a b
 
 -- ---- events
 
@@ -280,7 +203,7 @@ event_good w e h = each_event IsGood w e h.none_waits (record {
       let more : length w'.views ≡ length w.views + 1 = length_push w.views (marked (view_at w (newest w)) d) in
       refresh_good w' x (newest w + 1) u.lt u.up (omega (arith, h.inv.is_ring.held x)) (omega (arith, h.inv.is_ring.some)) (mark_view_good w d m.rests m.lives h);
   refreshes = λ x v u m. refresh_good w x v u.lt u.up m.later m.upto h;
-  picks = λ y s u none e upto. current_good w y (Some s) u.lt u.up (door_pickable w y s u.lt u.up e upto h) h;
+  picks = λ y s u none e upto. current_good w y (Some s) u.lt u.up (door_pickable w y s e upto h) h;
 })
 
 -- what each event keeps, every run keeps

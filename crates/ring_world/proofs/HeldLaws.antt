@@ -6,8 +6,7 @@ use Rattle.ring_world.specs.Machine.{Packet, World, member_at, link_at, row_at}
 use Rattle.ring_world.specs.Step.{size, log_of, opening}
 use Rattle.ring_world.specs.Lawful.{PacketsAreWithin}
 use Rattle.ring_world.specs.Laws.{IsLawful}
-use Rattle.ring_world.specs.Walk.{FallsFrom, NeverRises}
-use Rattle.ring_world.specs.OpenLinks.{the_walk, walk_named}
+use Rattle.ring_world.specs.OpenLinks.{the_walk, walk_named, FallsFrom, NeverRises}
 use Rattle.ring_world.specs.Event.{Event, id_of, refusal, effect, last}
 use Rattle.ring_world.specs.Reached.{IsReachedIn, IsRunning, state_of}
 use Rattle.ring_world.specs.declared.world.World.TheInside.{Inside}

@@ -6,11 +6,10 @@ use Rattle.std.proofs.lemmas.List.{take-append-le, take-append-drop, take-take, 
 use Rattle.ring_names.specs.declared.message.Message.{Message}
 use Rattle.ring_names.specs.declared.numbers.CreditSpec.{CreditSpec}
 use Rattle.ring_world.specs.declared.numbers.Numbers.{Numbers}
-use Rattle.ring_world.specs.Rows.{Row, published_row, messages_between}
+use Rattle.ring_world.specs.Rows.{Row, published_row, messages_between, taken_row}
 use Rattle.group_view.specs.Change.{AreOpeningNames}
-use Rattle.ring_world.specs.Machine.{World, no_member, row_at, numbers_at, member_at, link_at, view_at}
-use Rattle.ring_world.specs.Walk.{oldest}
-use Rattle.ring_world.specs.Step.{size, log_of, put_on, gain_on, published, publish_at, taken_row, is_owned, taker, take_from, stop_at, open_to, opening}
+use Rattle.ring_world.specs.Machine.{World, no_member, row_at, numbers_at, member_at, link_at, view_at, oldest}
+use Rattle.ring_world.specs.Step.{size, log_of, put_on, gain_on, published, publish_at, is_owned, taker, take_from, stopped, stop_at, open_to, opening}
 use Rattle.ring_world.proofs.WhatRefuses.{MayTake}
 use Rattle.ring_world.specs.Event.{Event, IsRun, refusal, effect, last}
 use Rattle.ring_world.specs.Lawful.{row_of, NumbersAreWithin, NeverFalls, HearsInOrder, HearsWhatFollows}
@@ -19,8 +18,9 @@ use Rattle.ring_world.proofs.Take.{taken_packet}
 use Rattle.ring_world.proofs.Happens.{IsGood, opening_good, event_good, reached_good}
 use Rattle.ring_world.proofs.First.{first_row}
 use Rattle.ring_world.proofs.Parts.{Part, cast_part, put_part, take_part, gain_part, stop_part, open_part, still_part, event_keeps}
-use Rattle.ring_world.proofs.OwnLogs.{IsLogged, IsSameRows, oldest_within, taker_row, take_log, cast_log, cast_log_other, published_at, part_logged, opening_logged}
-use Rattle.ring_world.proofs.NeverFalls.{taker_rises_all, still_same, stop_same, open_same, run_never_falls}
+use Rattle.ring_world.proofs.Parts.{IsSameRows, member_same}
+use Rattle.ring_world.proofs.OwnLogs.{IsLogged, oldest_within, taker_row, take_log, cast_log, cast_log_other, published_at, part_logged, opening_logged}
+use Rattle.ring_world.proofs.NeverFalls.{taker_rises_all, open_same, run_never_falls}
 
 -- before a take, no packet begins after what the taker has got, of the origins that the taker doesn't answer for
 abbrev pub HasNoGap : World → Type 0
@@ -114,9 +114,9 @@ part_order w w' (cast_part x m some lt e) l h = subst HearsInOrder (sym e) (cast
 part_order w w' (put_part x o lt free e) l h = subst HearsInOrder (sym e) (same_order w (put_on w x o) (record { many = refl; rows = λ q. refl; log = λ q. refl }) h)
 part_order w w' (take_part y s some m lt g e) l h = subst HearsInOrder (sym e) (take_order w y s m g.good g.no_gap l h)
 part_order w w' (gain_part o lt some e) l h = subst HearsInOrder (sym e) (same_order w (gain_on w o) (record { many = refl; rows = λ q. refl; log = λ q. refl }) h)
-part_order w w' (stop_part x lt e) l h = subst HearsInOrder (sym e) (same_order w (stop_at w x) (stop_same w x lt) h)
+part_order w w' (stop_part x lt e) l h = subst HearsInOrder (sym e) (same_order w (stop_at w x) (member_same w x (stopped (member_at w x)) refl refl) h)
 part_order w w' (open_part x z e) l h = subst HearsInOrder (sym e) (same_order w (open_to w x z) (open_same w x z) h)
-part_order w w' (still_part k) l h = same_order w w' (still_same w w' k) h
+part_order w w' (still_part k) l h = same_order w w' k.same h
 
 -- and the logs with it
 pub part_heard : (w w' : World) → Part IsGapless w w' → IsHeard w → IsHeard w'

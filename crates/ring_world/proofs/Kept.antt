@@ -5,7 +5,8 @@ use Rattle.std.proofs.lemmas.List.{length-set}
 use Rattle.ring_world.specs.Refusal.{is_empty}
 use Rattle.ring_world.specs.Machine.{Up, World, Packet, Member, Link, no_link, member_at, link_at, row_at, ring, runs, is_kept}
 use Rattle.group_view.specs.Ring.{is_in}
-use Rattle.ring_world.specs.Walk.{walk, NeverRises}
+use Rattle.ring_world.proofs.CountedWalk.{walk}
+use Rattle.ring_world.specs.OpenLinks.{NeverRises}
 use Rattle.ring_world.specs.Step.{size, pushed, next_packet, put_on}
 use Rattle.ring_world.proofs.Lists.{at_set}
 use Rattle.ring_world.proofs.Good.{IsRing, IsLinked, IsWaitingRight, never_rises_still}
@@ -25,9 +26,10 @@ pub record IsCurrent (w : World) : Type 0 where
 pub record IsNumbered (w : World) : Type 0 where
   pub zero : (x p : ℕ) → knows w (member_at w x).version p ≡ false → ((row_at (member_at w x) p).got ≡ 0) × ((row_at (member_at w x) p).forgot ≡ 0)
 
-pub record Inv (w : World) : Type 0 where
+-- what holds in every state, with this said of its links
+pub record Holds (Links : Type 0) (w : World) : Type 0 where
   pub is_ring : IsRing w
-  pub linked : IsLinked w
+  pub linked : Links
   pub history : IsHistory w
   pub ordered : IsOrdered w
   pub packed : IsPacked w
@@ -37,6 +39,10 @@ pub record Inv (w : World) : Type 0 where
   pub current : IsCurrent w
   pub origins : (p : ℕ) → 1 ≤ p → p < size w → is_in p (ring w) ≡ true
   pub walks : (p : ℕ) → 1 ≤ p → p < size w → NeverRises (walk w p)
+
+-- all of it
+abbrev pub Inv : World → Type 0
+Inv w = Holds (IsLinked w) w
 
 -- ---- packets
 

@@ -8,7 +8,8 @@ use Rattle.group_view.specs.Ring.{rotated, others, is_in}
 use Rattle.ring_world.specs.Machine.{Phase, Waiting, Up, Stopped, World, Packet, Member, Link, no_member, member_at, link_at, row_at, numbers_at, newest, ring, runs, runs_phase, is_kept}
 use Rattle.ring_world.specs.Rows.{Row, no_row, published_row}
 use Rattle.ring_world.specs.declared.numbers.Numbers.{Numbers}
-use Rattle.ring_world.specs.Walk.{FallsFrom, is_early, only, no_but, counted, counted_by, numbers, block, own_number, number, round_of, retired_by, walk_over, walk, NeverRises, running_from, stopped_from, stopped_prefix}
+use Rattle.ring_world.specs.OpenLinks.{FallsFrom, own_number, number, NeverRises}
+use Rattle.ring_world.proofs.CountedWalk.{is_early, only, no_but, counted, counted_by, numbers, block, round_of, retired_by, walk_over, walk, running_from, stopped_from, stopped_prefix}
 use Rattle.ring_world.specs.Step.{size, published, publish_at}
 use Rattle.ring_world.proofs.Lists.{at_set, set_nothing}
 use Rattle.group_view.proofs.Rings.{rotated_is}

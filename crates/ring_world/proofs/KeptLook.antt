@@ -5,19 +5,18 @@ use Rattle.std.proofs.lemmas.List.{length-set}
 use Rattle.std.proofs.lemmas.List.Elements.{filter_agree}
 use Rattle.ring_world.specs.Refusal.{is_empty}
 use Rattle.ring_world.proofs.WhatRefuses.{MayLook}
-use Rattle.group_view.specs.Ring.{rotated, is_in}
+use Rattle.group_view.specs.Ring.{rotated}
 use Rattle.ring_world.specs.Machine.{Waiting, Up, World, Member, no_member, member_at, link_at, row_at, newest, ring, right, runs, runs_phase, is_kept}
-use Rattle.ring_world.specs.Walk.{walk, NeverRises}
+use Rattle.ring_world.proofs.CountedWalk.{walk}
 use Rattle.ring_world.specs.Step.{size, look_at, moved_to, kept_current}
 use Rattle.ring_world.proofs.Lists.{at_set}
-use Rattle.ring_world.proofs.Good.{IsRing, IsWaitingRight, never_rises_still, IsLinked}
+use Rattle.ring_world.proofs.Good.{never_rises_still, IsLinked}
 use Rattle.ring_world.proofs.Period.{IsHistory}
-use Rattle.ring_world.proofs.Standing.{knows, IsOrdered}
-use Rattle.ring_world.proofs.OwnerStops.{IsPacked, IsRetiredRight}
+use Rattle.ring_world.proofs.Standing.{knows}
 use Rattle.ring_world.proofs.Views.{ring_less}
 use Rattle.ring_world.proofs.Linked.{Looks, linked_look}
 use Rattle.ring_world.proofs.Refresh.{look_walk}
-use Rattle.ring_world.proofs.Kept.{IsCurrent, IsNumbered, Inv, packets_stay}
+use Rattle.ring_world.proofs.Kept.{Holds, Inv, packets_stay}
 
 pub look_member : (w : World) (x v q : ℕ) (P : ℕ → Member → Type 0) → x < size w → P x (moved_to w x v) → (q ≢ x → P q (member_at w q)) → P q (member_at (look_at w x v) q)
 look_member w x v q P lt here other = at_set P w.members x q (moved_to w x v) no_member lt here other
@@ -51,17 +50,8 @@ kept_current-Some t (Some r) s e = by_test (t r) refl e
     by_test false k f = let bad : None ≡ Some s = f in cc
 
 -- all but the links, which a refresh may change
-pub record Rest (w : World) : Type 0 where
-  pub is_ring : IsRing w
-  pub history : IsHistory w
-  pub ordered : IsOrdered w
-  pub packed : IsPacked w
-  pub numbered : IsNumbered w
-  pub retired : IsRetiredRight w
-  pub waiting : IsWaitingRight w
-  pub current : IsCurrent w
-  pub origins : (p : ℕ) → 1 ≤ p → p < size w → is_in p (ring w) ≡ true
-  pub walks : (p : ℕ) → 1 ≤ p → p < size w → NeverRises (walk w p)
+abbrev pub Rest : World → Type 0
+Rest w = Holds (Unit {0}) w
 
 -- with its links that is the whole invariant
 pub whole : (w : World) → Rest w → IsLinked w → Inv w
@@ -77,6 +67,7 @@ look_rest w x v m h =
     let rows : (q p : ℕ) → row_at (member_at w' q) p ≡ row_at (member_at w q) p = λ q p. look_member w x v q (λ i z. row_at z p ≡ row_at (member_at w i) p) m.is_member refl (λ _. refl) in
     record {
       is_ring = ring_less w w' refl k.runs_less (λ q r. later q) views h.is_ring;
+      linked = tt;
       history = record { grows = h.history.grows; dies = h.history.dies; known = h.history.known };
       ordered = record { part = h.ordered.part; order = h.ordered.order };
       packed = record { packets = λ s l. packets_stay w w'.members w.links (link_at w s) (link_at w s).packets (h.packed.packets s l) };

@@ -8,8 +8,9 @@ use Rattle.ring_world.proofs.WhatRefuses.{IsSameWay, IsPickable}
 use Rattle.ring_world.specs.View.{ids}
 use Rattle.group_view.specs.Ring.{rotated, is_in}
 use Rattle.group_view.specs.View.{Group}
-use Rattle.ring_world.specs.Machine.{Phase, Waiting, Up, Stopped, Link, World, Member, no_link, no_member, numbers_at, member_at, link_at, view_at, row_at, newest, ring, runs, runs_phase, is_kept}
-use Rattle.ring_world.specs.Walk.{walk, running_from, number, own_number, first_packet, oldest, counted}
+use Rattle.ring_world.specs.Machine.{Phase, Waiting, Up, Stopped, Link, World, Member, no_link, no_member, numbers_at, member_at, link_at, view_at, row_at, newest, ring, runs, runs_phase, is_kept, oldest}
+use Rattle.ring_world.proofs.CountedWalk.{walk, running_from, counted}
+use Rattle.ring_world.specs.OpenLinks.{number, own_number, first_packet}
 use Rattle.ring_world.specs.Step.{size, stopped, stop_at, with_member, with_link, with_current, with_view}
 use Rattle.group_view.specs.Change.{marked}
 use Rattle.ring_world.proofs.Lists.{at_set}
@@ -21,7 +22,7 @@ use Rattle.ring_world.proofs.Standing.{knows}
 use Rattle.ring_world.proofs.OwnerStops.{AllPackets, IsPacket, IsRetiredRight, stop_falls}
 use Rattle.ring_world.proofs.Stop.{is_not, stop_runs, stop_running, stop_retired}
 use Rattle.ring_world.proofs.Shape.{SameEnds, IsShaped}
-use Rattle.ring_world.proofs.Views.{ring_more, mark_goes_on, mark_walk, view_old, view_new, kept_old, left_old, ids-marked}
+use Rattle.ring_world.proofs.Views.{ring_more, mark_follows, mark_walk, view_old, view_new, kept_old, left_old, ids-marked}
 use Rattle.ring_world.proofs.Marked.{linked_more, history_more, mark_ages}
 use Rattle.ring_world.proofs.Ordered.{ordered_more, mark_order}
 use Rattle.ring_world.specs.declared.numbers.Numbers.{Numbers}
@@ -137,7 +138,7 @@ mark_keeps w d rd h =
     let more : length (w.views ++ v' ∷ []) ≡ length w.views + 1 = length_push w.views v' in
     let same_ring : ring w' ≡ ring w = ap ids (view_new w v' (newest w') (omega arith)) ∙ ids-marked (view_at w (newest w)) d in
     record {
-      is_ring = ring_more w v' (mark_goes_on w d rd h.is_ring) h.is_ring;
+      is_ring = ring_more w v' (mark_follows w d rd h.is_ring) h.is_ring;
       linked = linked_more w v' h.is_ring h.linked;
       history = history_more w v' h.is_ring h.linked h.history (mark_ages w d);
       ordered = ordered_more w v' h.is_ring (mark_order w d h.ordered);

@@ -10,7 +10,8 @@ use Rattle.group_view.specs.Ring.{rotated, others, is_in}
 use Rattle.ring_world.specs.Machine.{Phase, Waiting, Up, Stopped, World, Member, Link, no_member, no_link, member_at, link_at, view_at, row_at, newest, ring, left, right, runs, runs_phase, is_kept, is_waiting, no_sending}
 use Rattle.ring_world.specs.Rows.{Row}
 use Rattle.ring_world.specs.declared.numbers.Numbers.{Numbers}
-use Rattle.ring_world.specs.Walk.{own_number, number, walk}
+use Rattle.ring_world.specs.OpenLinks.{own_number, number}
+use Rattle.ring_world.proofs.CountedWalk.{walk}
 use Rattle.ring_world.specs.Step.{size, look_at, moved_to, next_packet, opened_link, open_to}
 use Rattle.group_view.proofs.Rings.{others_inside}
 use Rattle.ring_world.proofs.Lists.{at_set, at_push}
@@ -18,7 +19,7 @@ use Rattle.ring_world.proofs.Weakens.{then}
 use Rattle.ring_world.proofs.Good.{never_rises_still}
 use Rattle.ring_world.proofs.Standing.{knows}
 use Rattle.ring_world.proofs.OwnerStops.{AllPackets, IsPacket}
-use Rattle.ring_world.proofs.Views.{ring_less, right_is}
+use Rattle.ring_world.proofs.Views.{ring_less, right_in_view}
 use Rattle.ring_world.proofs.Ordered.{first_inside}
 use Rattle.ring_world.proofs.Linked.{linked_open, link_old}
 use Rattle.ring_world.proofs.Refresh.{blind}
@@ -55,6 +56,7 @@ open_rest w x z m r =
     let current : (q : ℕ) → (member_at w' q).current ≡ (member_at w q).current = λ q. at_set (λ i a. a.current ≡ (member_at w i).current) w.members x q y no_member m.is_member refl (λ _. refl) in
     let old : (s : ℕ) → s < length w.links → link_at w' s ≡ link_at w s = λ s lt. link_old w w'.members l s lt in
     record {
+      linked = tt;
       is_ring = ring_less w w' refl (λ q e. sym (runs_same q) ∙ e) (λ q e. omega (arith, view_same q)) (λ q. omega (arith, view_same q, r.is_ring.held q)) r.is_ring;
       history = record {
         grows = r.history.grows;
@@ -125,7 +127,7 @@ open_keeps w x v m moves fresh h =
       up = look_member w x v x (λ k a. k ≡ x → a.phase ≡ Up) m.is_member (λ _. m.up) (λ d e. absurd (d e)) refl;
       newest_left = h.is_ring.front x v (newest w) rx m.later m.upto (omega arith);
       left_now = ap (λ t. left w t z) its_view ∙ h.is_ring.front x v v rx m.later (omega arith) m.upto;
-      inside = ap (λ t. knows w t z) its_view ∙ subst (λ q. knows w v q ≡ true) (sym (right_is w v x (view_at w v) refl))
+      inside = ap (λ t. knows w t z) its_view ∙ subst (λ q. knows w v q ≡ true) (sym (right_in_view w v x (h.is_ring.stands x v rx m.later m.upto)))
           (first_inside (is_live (view_at w v)) x (others x (ids (view_at w v))) (ids (view_at w v)) (h.is_ring.stands x v rx m.later m.upto) (λ q i. others_inside x q (ids (view_at w v)) i));
       fresh = fresh;
     } in

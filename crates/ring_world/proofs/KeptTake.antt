@@ -9,9 +9,9 @@ use Rattle.ring_world.proofs.WhatRefuses.{MayTake}
 use Rattle.group_view.specs.Ring.{others, is_in}
 use Rattle.ring_world.specs.View.{ids, between}
 use Rattle.ring_world.specs.Machine.{Waiting, Up, World, no_member, no_link, no_packet, member_at, link_at, view_at, row_at, numbers_at, newest, ring, runs, is_kept}
-use Rattle.ring_world.specs.Rows.{no_row}
-use Rattle.ring_world.specs.Walk.{counted, walk, running_from}
-use Rattle.ring_world.specs.Step.{size, popped, take_from, taker, taken_row, is_owned, log_of}
+use Rattle.ring_world.specs.Rows.{no_row, taken_row}
+use Rattle.ring_world.proofs.CountedWalk.{counted, walk, running_from}
+use Rattle.ring_world.specs.Step.{size, popped, take_from, taker, is_owned, log_of}
 use Rattle.ring_world.proofs.Lists.{at_set, get_or_beyond}
 use Rattle.ring_world.proofs.Good.{never_rises_still}
 use Rattle.ring_world.proofs.Standing.{knows, standing}

@@ -1,15 +1,15 @@
 -- A link that its receiver left is over or fails the test at the door, and stays so: no place has to be kept with it.
-use Rattle.std.proofs.Common.{◌≡◌, ℕ, ◌+◌, ◌<◌, ◌≤◌, Bool, true, false, [], ◌∷◌, ◌++◌, length, get_or, Some, None, refl, sym, ap, subst, ◌∙◌, ⊎_elim, arith}
-use Rattle.std.proofs.lemmas.Bool.{false≢true, cases_lt}
-use Rattle.std.proofs.lemmas.List.{length-set, length_push, get_or_append_left}
+use Rattle.std.proofs.Common.{◌≡◌, ℕ, ◌+◌, ◌<◌, ◌≤◌, Bool, true, false, length, Some, None, refl, sym, ap, ◌∙◌, arith}
+use Rattle.std.proofs.lemmas.Bool.{false≢true}
+use Rattle.std.proofs.lemmas.List.{length-set, length_push}
 use Rattle.group_view.specs.View.{Group}
 use Rattle.group_view.specs.Change.{marked}
 use Rattle.ring_world.specs.View.{right_of}
-use Rattle.ring_world.specs.Machine.{Member, Ending, Moved, Halted, Link, World, no_link, no_member, member_at, link_at, view_at, newest, left, is_kept}
-use Rattle.ring_world.specs.Step.{size, published, pushed, popped, next_packet, taker, take_from, current_is, with_current, leave_link, finished, ended, stop_at, stopped, end_out, with_member, with_link, with_view, look_at, moved_to, open_to, opened_link}
+use Rattle.ring_world.specs.Machine.{Member, Ending, Moved, Halted, Link, World, member_at, link_at, view_at, newest, left, is_kept}
+use Rattle.ring_world.specs.Step.{published, pushed, popped, next_packet, taker, take_from, current_is, with_current, leave_link, finished, ended, stop_at, stopped, end_out, with_member, with_link, with_view, look_at, moved_to, open_to, opened_link}
 use Rattle.ring_world.specs.Event.{Event, refreshed, refusal, effect}
 use Rattle.ring_world.specs.OpenLinks.{version_of, passes}
-use Rattle.ring_world.proofs.Lists.{at_set, set_nothing}
+use Rattle.ring_world.proofs.Leaves.{member_leaves, link_leaves, with_opened, new_link_leaves}
 use Rattle.ring_world.proofs.Good.{Kept, kept_true, true_kept}
 use Rattle.ring_world.proofs.Shape.{SameEnds}
 use Rattle.ring_world.proofs.Views.{left_is, view_old}
@@ -56,10 +56,7 @@ later_member w x y le = record {
   links = omega arith;
   ends = λ s l. same_ends (link_at w s);
   over = λ s l o. o;
-  version = λ q. ⊎_elim
-      (λ (lt : x < size w). at_set (λ k z. version_of w k ≤ z.version) w.members x q y no_member lt le (λ _. omega arith))
-      (λ (ge : size w ≤ x). omega (arith, ap (λ ms. (get_or ms q no_member).version) (set_nothing w.members x y ge)))
-      (cases_lt x (size w));
+  version = λ q. member_leaves (λ _ a b. a.version ≤ b.version) w x y le (λ _. omega arith) q;
 }
 
 -- a link is written
@@ -68,25 +65,19 @@ later_link w s l e o = record {
   many = omega arith;
   views = λ u k. refl;
   links = omega (arith, length-set w.links s l);
-  ends = λ j lt. ⊎_elim
-      (λ (there : s < length w.links). at_set (λ k a. SameEnds (link_at w k) a) w.links s j l no_link there e (λ _. same_ends (link_at w j)))
-      (λ (ge : length w.links ≤ s). subst (λ ls. SameEnds (link_at w j) (get_or ls j no_link)) (sym (set_nothing w.links s l ge)) (same_ends (link_at w j)))
-      (cases_lt s (length w.links));
-  over = λ j lt. ⊎_elim
-      (λ (there : s < length w.links). at_set (λ k a. (link_at w k).over ≡ true → a.over ≡ true) w.links s j l no_link there o (λ _ h. h))
-      (λ (ge : length w.links ≤ s). subst (λ ls. (link_at w j).over ≡ true → (get_or ls j no_link).over ≡ true) (sym (set_nothing w.links s l ge)) (λ h. h))
-      (cases_lt s (length w.links));
+  ends = λ j _. link_leaves (λ _ a b. SameEnds a b) w s l e (λ k. same_ends (link_at w k)) j;
+  over = λ j _. link_leaves (λ _ a b. a.over ≡ true → b.over ≡ true) w s l o (λ _ h. h) j;
   version = λ y. omega arith;
 }
 
 -- a link opens
-later_push : (w : World) (l : Link) → IsLater w (record w { links = w.links ++ l ∷ [] })
+later_push : (w : World) (l : Link) → IsLater w (with_opened w l)
 later_push w l = record {
   many = omega arith;
   views = λ u k. refl;
   links = omega (arith, length_push w.links l);
-  ends = λ j lt. subst (SameEnds (link_at w j)) (sym (get_or_append_left w.links (l ∷ []) no_link j lt)) (same_ends (link_at w j));
-  over = λ j lt h. ap (λ (a : Link). a.over) (get_or_append_left w.links (l ∷ []) no_link j lt) ∙ h;
+  ends = λ j lt. new_link_leaves (λ _ a b. SameEnds a b) w l (λ k. same_ends (link_at w k)) j lt;
+  over = λ j lt. new_link_leaves (λ _ a b. a.over ≡ true → b.over ≡ true) w l (λ _ h. h) j lt;
   version = λ y. omega arith;
 }
 
@@ -110,7 +101,7 @@ later_end w why o = later_link w o (ended why (link_at w o)) (record { sender = 
 -- a link opens, and its sender sends on it
 later_open : (w : World) (x z : ℕ) → IsLater w (open_to w x z)
 later_open w x z =
-    let w1 : World = record w { links = w.links ++ opened_link w x z ∷ [] } in
+    let w1 : World = with_opened w (opened_link w x z) in
     later_then w w1 (open_to w x z) (later_push w (opened_link w x z)) (later_member w1 x (record (member_at w x) { out = Some (length w.links) }) (omega arith))
 
 -- a refresh

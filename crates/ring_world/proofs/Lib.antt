@@ -6,6 +6,7 @@ pub mod Cast
 pub mod Chain
 pub mod Composed
 pub mod Confirmed
+pub mod CountedWalk
 pub mod Edits
 pub mod Enabled
 pub mod Ended
@@ -13,6 +14,7 @@ pub mod Examples
 pub mod Falling
 pub mod First
 pub mod Found
+pub mod FromLeft
 pub mod Gaps
 pub mod Good
 pub mod Happens
@@ -24,6 +26,7 @@ pub mod KeptLook
 pub mod KeptMore
 pub mod KeptOpen
 pub mod KeptTake
+pub mod Leaves
 pub mod LeftLinks
 pub mod Lines
 pub mod LinesKept
@@ -53,6 +56,7 @@ pub mod Refresh
 pub mod Refusals
 pub mod Ring
 pub mod Rounds
+pub mod Rules
 pub mod Running
 pub mod Sent
 pub mod Shape

@@ -11,14 +11,14 @@ use Rattle.ring_world.specs.Step.{size, next_lines, next_packet, is_owned}
 -- ---- the packets of a link, one after another
 
 -- behind a packet each later one begins no later than where the one before it ends, and the last one is what was last sent
-abbrev pub GoesOn : Packet → List Packet → Packet → Type 0
-GoesOn k [] sent = sent ≡ k
-GoesOn k (j ∷ js) sent = ((p : ℕ) → (numbers_at j p).lo ≤ (numbers_at k p).got) × GoesOn j js sent
+abbrev pub ChainsOn : Packet → List Packet → Packet → Type 0
+ChainsOn k [] sent = sent ≡ k
+ChainsOn k (j ∷ js) sent = ((p : ℕ) → (numbers_at j p).lo ≤ (numbers_at k p).got) × ChainsOn j js sent
 
 -- so from the oldest packet on
 abbrev pub IsChain : List Packet → Packet → Type 0
 IsChain [] sent = ⊤
-IsChain (k ∷ ks) sent = GoesOn k ks sent
+IsChain (k ∷ ks) sent = ChainsOn k ks sent
 
 -- a link from which nothing was taken has its first packet, which begins where its sender had forgotten
 abbrev pub HasFirst : List Packet → Type 0
@@ -31,7 +31,7 @@ BeginsBy [] s p got = s.fresh ≡ false → (numbers_at s.sent p).got ≤ got
 BeginsBy (k ∷ ks) s p got = (numbers_at k p).lo ≤ got
 
 -- a packet joins behind others
-goes_push : (k : Packet) (ks : List Packet) (sent j : Packet) → GoesOn k ks sent → ((p : ℕ) → (numbers_at j p).lo ≤ (numbers_at sent p).got) → GoesOn k (ks ++ j ∷ []) j
+goes_push : (k : Packet) (ks : List Packet) (sent j : Packet) → ChainsOn k ks sent → ((p : ℕ) → (numbers_at j p).lo ≤ (numbers_at sent p).got) → ChainsOn k (ks ++ j ∷ []) j
 goes_push k [] sent j h n = (λ p. subst (λ z. (numbers_at j p).lo ≤ (numbers_at z p).got) h (n p), refl)
 goes_push k (i ∷ is) sent j h n = (h.0, goes_push i is sent j h.1 n)
 
@@ -40,7 +40,7 @@ pub chain_push : (ks : List Packet) (s : Sending) (j : Packet) → (s.fresh ≡ 
 chain_push [] s j none h n = refl
 chain_push (k ∷ ks) s j none h n = by_fresh s.fresh refl
   where
-    by_fresh : (b : Bool) → s.fresh ≡ b → GoesOn k (ks ++ j ∷ []) j
+    by_fresh : (b : Bool) → s.fresh ≡ b → ChainsOn k (ks ++ j ∷ []) j
     by_fresh true e = let bad : k ∷ ks ≡ [] = none e in absurd (cc)
     by_fresh false e = goes_push k ks s.sent j h (n e)
 

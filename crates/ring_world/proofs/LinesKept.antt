@@ -1,34 +1,33 @@
 -- How the events keep where the packets of a link begin and end.
-use Rattle.std.proofs.Common.{◌≡◌, ◌≢◌, ℕ, zero, suc, ◌+◌, ◌<◌, ◌≤◌, Bool, true, false, cond, not, nat_eq, List, [], ◌∷◌, ◌++◌, length, drop, get_or, set, Option, Some, None, is_some, refl, sym, ap, subst, ◌∙◌, if◌then◌else◌, arith}
-use Rattle.std.proofs.lemmas.Bool.{and_parts, false≢true, not-true}
+use Rattle.std.proofs.Common.{◌≡◌, ◌≢◌, ℕ, ◌+◌, ◌<◌, ◌≤◌, Bool, true, false, cond, nat_eq, List, [], ◌∷◌, ◌++◌, length, drop, get_or, set, Option, Some, None, is_some, refl, sym, ap, subst, ◌∙◌, if◌then◌else◌, arith}
+use Rattle.std.proofs.lemmas.Bool.{false≢true}
 use Rattle.std.proofs.lemmas.List.{length-set, length_push}
-use Rattle.std.proofs.lemmas.List.Quantifiers.{position-Some}
 use Rattle.ring_names.specs.declared.message.Message.{Message}
 use Rattle.group_view.specs.Ring.{is_in, before, others}
 use Rattle.group_view.specs.View.{Group}
 use Rattle.group_view.specs.Since.{no_group}
 use Rattle.group_view.specs.Change.{marked}
 use Rattle.ring_world.specs.View.{ids, right_of}
-use Rattle.ring_world.specs.Machine.{Up, Packet, Member, Ending, Moved, Halted, Link, World, no_link, no_member, no_sending, row_at, numbers_at, member_at, link_at, view_at, newest, ring, runs, runs_phase, is_kept}
-use Rattle.ring_world.specs.Walk.{oldest}
-use Rattle.ring_world.specs.Step.{size, log_of, next_packet, pushed, popped, put_on, gain_on, publish_at, published, take_from, taker, taken_row, is_owned, current_is, with_current, leave_link, finished, ended, stop_at, stopped, end_out, with_member, with_link, with_view, look_at, moved_to, kept_current, open_to, opened_link}
+use Rattle.ring_world.specs.Machine.{Up, Packet, Member, Ending, Moved, Halted, Link, World, no_link, no_member, no_sending, row_at, numbers_at, member_at, link_at, view_at, newest, ring, runs, runs_phase, is_kept, oldest}
+use Rattle.ring_world.specs.Step.{size, log_of, next_packet, pushed, popped, put_on, gain_on, publish_at, published, take_from, taker, is_owned, current_is, with_current, leave_link, finished, ended, stop_at, stopped, end_out, with_member, with_link, with_view, look_at, moved_to, kept_current, open_to, opened_link}
+use Rattle.ring_world.specs.Rows.{taken_row}
 use Rattle.ring_world.proofs.WhatRefuses.{MayTake}
-use Rattle.ring_world.specs.Event.{is_at_door, at_door, send_to, refreshed}
+use Rattle.ring_world.specs.Event.{at_door, send_to, refreshed}
 use Rattle.ring_world.proofs.Lists.{at_set, at_push}
-use Rattle.group_view.proofs.Rings.{nat_eq-is}
 use Rattle.ring_world.proofs.Good.{IsRing}
 use Rattle.ring_world.proofs.Shape.{shaped_kept}
 use Rattle.ring_world.proofs.Views.{view_old, view_new, kept_old, ids-marked}
 use Rattle.ring_world.proofs.Refresh.{kept_less}
 use Rattle.ring_world.proofs.Open.{with_opened}
-use Rattle.ring_world.proofs.Take.{row_at-taker}
+use Rattle.ring_world.proofs.Take.{row_at-taker, CanTake}
 use Rattle.ring_world.proofs.Packets.{reads_forgot, line_of_packet}
 use Rattle.ring_world.proofs.Kept.{Inv}
 use Rattle.ring_world.proofs.KeptLook.{kept_current-Some}
 use Rattle.ring_world.proofs.KeptMore.{mark_keeps}
 use Rattle.ring_world.proofs.KeptCast.{gained_rows}
 use Rattle.ring_world.proofs.NoneWaits.{NoneWaits}
-use Rattle.ring_world.proofs.Happens.{HasViews, IsGood}
+use Rattle.ring_world.proofs.KeptTake.{can_take}
+use Rattle.ring_world.proofs.FromLeft.{HasViews, IsGood, StandsAtDoor, found_at_door, door_kept, nobody_first}
 use Rattle.ring_world.proofs.Apart.{forgot_below, first_below}
 use Rattle.ring_world.proofs.Cases.{up_of}
 use Rattle.ring_world.proofs.Lines.{IsChain, HasFirst, BeginsBy, chain_push, chain_drop, first_push, begins_push, begins_drop, next_later, next_first, LinesRight, SameLine, Still, lines_still}
@@ -186,36 +185,36 @@ put_lines w x o up out inv n h = record {
 
 -- ---- a take
 
+-- a member takes from the same link, has the same view, and runs as it did
+record StandsAs (a b : Member) : Type 0 where
+  pub current : b.current ≡ a.current
+  pub version : b.version ≡ a.version
+  pub runs : runs_phase b.phase ≡ runs_phase a.phase
+
 -- The next packet begins where the taken one ends, and there the taker stands now.
 pub take_lines : (w : World) (y s : ℕ) → MayTake w y s → Inv w → LinesRight w → LinesRight (take_from w y s)
 take_lines w y s m inv h = record {
-  begun = λ t l. at_set (λ i a. i < length w.links → a.sending.fresh ≡ true → a.packets ≡ []) w.links s t new no_link lt (λ l2 e. ap (drop 1) (h.begun s l2 e)) (λ _ l2. h.begun t l2) (within t l);
-  chain = λ t l. at_set (λ i a. i < length w.links → IsChain a.packets a.sending.sent) w.links s t new no_link lt
+  begun = λ t l. at_set (λ i a. i < length w.links → a.sending.fresh ≡ true → a.packets ≡ []) w.links s t new no_link can.is_link (λ l2 e. ap (drop 1) (h.begun s l2 e)) (λ _ l2. h.begun t l2) (within t l);
+  chain = λ t l. at_set (λ i a. i < length w.links → IsChain a.packets a.sending.sent) w.links s t new no_link can.is_link
       (λ l2. chain_drop old.packets old.sending.sent (h.chain s l2)) (λ _ l2. h.chain t l2) (within t l);
   untouched = λ z t l r to over kept c.
-      let c2 : (member_at w z).current ≢ Some t = λ e. c (current_same z ∙ e) in
-      let kept2 : is_kept w (link_at w' t) (member_at w z).version ≡ true = ap (is_kept w (link_at w' t)) (sym (version_same z)) ∙ kept in
-      at_set (λ i a. i < length w.links → a.receiver ≡ z → a.over ≡ false → is_kept w a (member_at w z).version ≡ true → (member_at w z).current ≢ Some i → HasFirst a.packets) w.links s t new no_link lt
-      (λ _ to2 _ _ none. absurd (none (ap (λ q. (member_at w q).current) (sym to2 ∙ receiver) ∙ m.current)))
-      (λ _ l2. h.untouched z t l2 (sym (runs_same z) ∙ r)) (within t l) to over kept2 c2;
+      let c2 : (member_at w z).current ≢ Some t = λ e. c ((same z).current ∙ e) in
+      let kept2 : is_kept w (link_at w' t) (member_at w z).version ≡ true = ap (is_kept w (link_at w' t)) (sym ((same z).version)) ∙ kept in
+      at_set (λ i a. i < length w.links → a.receiver ≡ z → a.over ≡ false → is_kept w a (member_at w z).version ≡ true → (member_at w z).current ≢ Some i → HasFirst a.packets) w.links s t new no_link can.is_link
+      (λ _ to2 _ _ none. absurd (none (ap (λ q. (member_at w q).current) (sym to2 ∙ can.receiver) ∙ m.current)))
+      (λ _ l2. h.untouched z t l2 (sym ((same z).runs) ∙ r)) (within t l) to over kept2 c2;
   current = λ z t p r e some l own.
       let pl : p < size w = omega (arith, length-set w.members y (taker w y s)) in
       at_set (λ i a. i ≡ z → BeginsBy (link_at w' t).packets (link_at w' t).sending p (row_at a p).got) w.members y z (taker w y s) no_member m.is_member
-      (λ is. mine z t p pl is (sym (current_same z) ∙ e) (ap (λ v. is_owned (view_at w v) z (link_at w' t).sender p) (sym (version_same z)) ∙ own))
-      (λ d _. others z t p d (sym (runs_same z) ∙ r) (sym (current_same z) ∙ e) some pl (ap (λ v. is_owned (view_at w v) z (link_at w' t).sender p) (sym (version_same z)) ∙ own)) refl;
+      (λ is. mine z t p pl is (sym ((same z).current) ∙ e) (ap (λ v. is_owned (view_at w v) z (link_at w' t).sender p) (sym ((same z).version)) ∙ own))
+      (λ d _. others z t p d (sym ((same z).runs) ∙ r) (sym ((same z).current) ∙ e) some pl (ap (λ v. is_owned (view_at w v) z (link_at w' t).sender p) (sym ((same z).version)) ∙ own)) refl;
 }
   where
     w' : World
     w' = take_from w y s
 
-    ry : runs w y ≡ true
-    ry = ap runs_phase m.up
-
-    lt : s < length w.links
-    lt = inv.current.lt y s ry m.current
-
-    receiver : (link_at w s).receiver ≡ y
-    receiver = inv.current.receiver y s ry m.current
+    can : CanTake w y s
+    can = can_take w y s inv m
 
     old : Link
     old = link_at w s
@@ -226,38 +225,32 @@ take_lines w y s m inv h = record {
     within : (t : ℕ) → t < length w'.links → t < length w.links
     within t l = omega (arith, length-set w.links s new)
 
-    current_same : (z : ℕ) → (member_at w' z).current ≡ (member_at w z).current
-    current_same z = at_set (λ i a. a.current ≡ (member_at w i).current) w.members y z (taker w y s) no_member m.is_member refl (λ _. refl)
-
-    version_same : (z : ℕ) → (member_at w' z).version ≡ (member_at w z).version
-    version_same z = at_set (λ i a. a.version ≡ (member_at w i).version) w.members y z (taker w y s) no_member m.is_member refl (λ _. refl)
-
-    runs_same : (z : ℕ) → runs w' z ≡ runs w z
-    runs_same z = at_set (λ i a. runs_phase a.phase ≡ runs w i) w.members y z (taker w y s) no_member m.is_member refl (λ _. refl)
+    same : (z : ℕ) → StandsAs (member_at w z) (member_at w' z)
+    same z = at_set (λ i a. StandsAs (member_at w i) a) w.members y z (taker w y s) no_member m.is_member (record { current = refl; version = refl; runs = refl }) (λ _. record { current = refl; version = refl; runs = refl })
 
     -- of the link that was taken from
     at_link : (p : ℕ) → p < size w → is_owned (view_at w (member_at w y).version) y old.sender p ≡ false → BeginsBy new.packets new.sending p (row_at (taker w y s) p).got
     at_link p pl own =
         let row : (row_at (taker w y s) p).got ≡ (numbers_at (oldest old) p).got =
         ap (λ a. a.got) (row_at-taker w y s p pl) ∙ ap (λ b. (taken_row b (log_of w p) (row_at (member_at w y) p) (numbers_at (oldest old) p)).got) own in
-        subst (BeginsBy new.packets new.sending p) (sym row) (begins_drop old.packets old.sending p m.has (h.chain s lt))
+        subst (BeginsBy new.packets new.sending p) (sym row) (begins_drop old.packets old.sending p m.has (h.chain s can.is_link))
 
     mine : (z t p : ℕ) → p < size w → y ≡ z → (member_at w z).current ≡ Some t → is_owned (view_at w (member_at w z).version) z (link_at w' t).sender p ≡ false → BeginsBy (link_at w' t).packets (link_at w' t).sending p (row_at (taker w y s) p).got
     mine z t p pl is c own =
         let same : t ≡ s = (let both : Some s ≡ Some t = sym m.current ∙ ap (λ q. (member_at w q).current) is ∙ c in cc) in
-        at_set (λ i a. i ≡ s → is_owned (view_at w (member_at w z).version) z a.sender p ≡ false → BeginsBy a.packets a.sending p (row_at (taker w y s) p).got) w.links s t new no_link lt
+        at_set (λ i a. i ≡ s → is_owned (view_at w (member_at w z).version) z a.sender p ≡ false → BeginsBy a.packets a.sending p (row_at (taker w y s) p).got) w.links s t new no_link can.is_link
         (λ _ own2. at_link p pl (ap (λ q. is_owned (view_at w (member_at w q).version) q old.sender p) is ∙ own2)) (λ d k. absurd (d k)) same own
 
     others : (z t p : ℕ) → z ≢ y → runs w z ≡ true → (member_at w z).current ≡ Some t → 1 ≤ p → p < size w → is_owned (view_at w (member_at w z).version) z (link_at w' t).sender p ≡ false → BeginsBy (link_at w' t).packets (link_at w' t).sending p (row_at (member_at w z) p).got
     others z t p d rz c some pl =
-        at_set (λ i a. (member_at w z).current ≡ Some i → is_owned (view_at w (member_at w z).version) z a.sender p ≡ false → BeginsBy a.packets a.sending p (row_at (member_at w z) p).got) w.links s t new no_link lt
-        (λ c2 _. absurd (d (sym (inv.current.receiver z s rz c2) ∙ receiver))) (λ _ c2 own. h.current z t p rz c2 some pl own) c
+        at_set (λ i a. (member_at w z).current ≡ Some i → is_owned (view_at w (member_at w z).version) z a.sender p ≡ false → BeginsBy a.packets a.sending p (row_at (member_at w z) p).got) w.links s t new no_link can.is_link
+        (λ c2 _. absurd (d (sym (inv.current.receiver z s rz c2) ∙ can.receiver))) (λ _ c2 own. h.current z t p rz c2 some pl own) c
 
 -- ---- a pick
 
 -- Nothing was taken from the link that is picked, so that it has its first packet.
-pub pick_lines : (w : World) (y s : ℕ) → y < size w → (member_at w y).phase ≡ Up → is_some (member_at w y).current ≡ false → at_door w y ≡ Some s → IsGood w → Inv (current_is w y (Some s)) → LinesRight w → LinesRight (current_is w y (Some s))
-pick_lines w y s yl up none door good after h = record {
+pub pick_lines : (w : World) (y s : ℕ) → y < size w → (member_at w y).phase ≡ Up → is_some (member_at w y).current ≡ false → at_door w y ≡ Some s → (link_at w s).opened ≤ (member_at w y).version → IsGood w → LinesRight w → LinesRight (current_is w y (Some s))
+pick_lines w y s yl up none door upto good h = record {
   begun = h.begun;
   chain = h.chain;
   untouched = λ z t l. at_set (λ i a. runs_phase a.phase ≡ true → (link_at w t).receiver ≡ i → (link_at w t).over ≡ false → is_kept w (link_at w t) a.version ≡ true → a.current ≢ Some t → HasFirst (link_at w t).packets) w.members y z m no_member yl
@@ -275,32 +268,18 @@ pick_lines w y s yl up none door good after h = record {
     ry : runs w y ≡ true
     ry = ap runs_phase up
 
-    now : (member_at (current_is w y (Some s)) y) ≡ m
-    now = at_set (λ i a. i ≡ y → a ≡ m) w.members y y m no_member yl (λ _. refl) (λ d e. absurd (d e)) refl
-
-    found : (s < length w.links) × (is_at_door w y (link_at w s) ≡ true)
-    found = let f = position-Some (is_at_door w y) w.links s no_link door in (f.0, f.1)
-
-    to : (link_at w s).receiver ≡ y
-    to = nat_eq-is (link_at w s).receiver y (and_parts (nat_eq (link_at w s).receiver y) _ found.1).0
-
-    over : (link_at w s).over ≡ false
-    over = not-true (link_at w s).over (and_parts (not (link_at w s).over) _ (and_parts (nat_eq (link_at w s).receiver y) _ found.1).1).0
-
-    kept : is_kept w (link_at w s) (member_at w y).version ≡ true
-    kept =
-        ap (λ a. is_kept w (link_at w s) a.version) (sym now)
-        ∙ after.current.kept_yet y s (ap (λ a. runs_phase a.phase) now ∙ ry) (ap (λ a. a.current) now)
+    d : StandsAtDoor w y s
+    d = found_at_door w y s door
 
     no_current : (t : ℕ) → (member_at w y).current ≢ Some t
     no_current t e = false≢true (sym none ∙ ap is_some e)
 
     begins : (p : ℕ) → 1 ≤ p → p < size w → BeginsBy (link_at w s).packets (link_at w s).sending p (row_at (member_at w y) p).got
-    begins p some l = by_packets (link_at w s).packets refl (h.untouched y s found.0 ry to over kept (no_current s))
+    begins p some l = by_packets (link_at w s).packets refl (h.untouched y s d.there ry d.receiver d.goes_on (door_kept w y s good d upto) (no_current s))
       where
         by_packets : (ks : List Packet) → (link_at w s).packets ≡ ks → HasFirst ks → BeginsBy ks (link_at w s).sending p (row_at (member_at w y) p).got
         by_packets [] e f = absurd f
-        by_packets (k ∷ ks) e f = omega (arith, f p, first_below w y s p k ks good.inv.is_ring (good.inv.walks p some l) up found.0 to kept e)
+        by_packets (k ∷ ks) e f = omega (arith, f p, first_below w y s p k ks good.inv.is_ring (good.inv.walks p some l) up d.there d.receiver (door_kept w y s good d upto) e)
 
 -- ---- a link that opens
 
@@ -394,11 +373,7 @@ view_ids w v h some upto =
 
 -- who runs has a view
 pub version_some : (w : World) (x : ℕ) → IsRing w → HasViews w → runs w x ≡ true → 1 ≤ (member_at w x).version
-version_some w x hr h r = by_version (member_at w x).version refl
-  where
-    by_version : (v : ℕ) → (member_at w x).version ≡ v → 1 ≤ v
-    by_version zero e = absurd (false≢true (ap (λ vs. is_in x (ids (get_or vs 0 no_group))) (sym h.is) ∙ ap (λ v. is_in x (ids (view_at w v))) (sym e) ∙ hr.stands x (member_at w x).version r (omega arith) (hr.held x)))
-    by_version (suc v) e = omega arith
+version_some w x hr h r = nobody_first w h (member_at w x).version x (hr.stands x (member_at w x).version r (omega arith) (hr.held x))
 
 -- which has those ids too
 pub own_ids : (w : World) (x : ℕ) → IsRing w → HasViews w → runs w x ≡ true → ids (view_at w (member_at w x).version) ≡ ring w

@@ -2,10 +2,9 @@
 use Rattle.std.proofs.Common.{◌≡◌, ◌≢◌, ℕ, ◌<◌, ◌≤◌, ◌+◌, true, false, List, [], ◌∷◌, ◌++◌, length, refl, sym, ap, subst, ◌∙◌, arith, ⊎_elim, Some}
 use Rattle.std.proofs.lemmas.Bool.{cases_eq}
 use Rattle.std.proofs.lemmas.List.{length_push, get_or_append_left, get_or_push}
-use Rattle.group_view.specs.Ring.{is_in}
-use Rattle.ring_world.specs.View.{ids, is_live}
+use Rattle.ring_world.specs.View.{is_live, right_of}
 use Rattle.ring_world.specs.Machine.{World, Member, Link, no_link, member_at, link_at, view_at, newest, left, right, runs, is_kept}
-use Rattle.group_view.proofs.Neighbours.{right_of_left}
+use Rattle.group_view.proofs.Passing.{are_mutual}
 use Rattle.ring_world.proofs.Good.{Kept, IsRing, IsLinked, out_stays}
 use Rattle.ring_world.proofs.Views.{left_is, right_is}
 use Rattle.ring_world.proofs.Period.{IsHistory, opens_period}
@@ -154,10 +153,9 @@ linked_open w ms x v l hr hl hh h = record {
         let open_before : (link_at w s).opened ≤ v = omega (arith, hl.seen s sl, ap (λ q. (member_at w q).version) is, k.later) in
         let left_is_x : left w v (link_at w s).receiver ≡ x = kp v open_before (omega (arith, at_v)) ∙ is in
         let live : is_live (view_at w v) (link_at w s).receiver ≡ true = subst (λ a. is_live (view_at w a) (link_at w s).receiver ≡ true) at_v lv in
-        let inside : is_in (link_at w s).receiver (ids (view_at w v)) ≡ true = hh.grows (link_at w s).receiver (link_at w s).opened v (hh.known s sl) open_before k.upto in
         let right_is_it : right w v x ≡ (link_at w s).receiver =
-        right_is w v x (view_at w v) refl
-        ∙ right_of_left (is_live (view_at w v)) x (link_at w s).receiver (ids (view_at w v)) (hr.distinct v k.upto) inside live (sym (left_is w v (link_at w s).receiver (view_at w v) refl) ∙ left_is_x) in
+        right_is w v x (view_at w v) refl ∙ ap (right_of (view_at w v)) (sym left_is_x ∙ left_is w v (link_at w s).receiver (view_at w v) refl)
+        ∙ (are_mutual (view_at w v).entries (link_at w s).receiver (hr.distinct v k.upto) live).right_of_left in
         absurd (h.moves s (ap (λ q. (member_at w q).out) (sym is) ∙ before_is) (sym right_is_it)))
         (λ (d : (link_at w s).sender ≢ x). h.other_out (link_at w s).sender d ∙ before_is)
         (cases_eq (link_at w s).sender x)

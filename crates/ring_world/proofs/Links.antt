@@ -2,7 +2,7 @@
 use Rattle.std.proofs.Common.{◌≡◌, ℕ, zero, suc, ◌<◌, Bool, true, false, cond, List, [], ◌∷◌, ◌++◌, length, get_or, set, refl, sym, ap, subst, ◌∙◌, append_assoc, arith}
 use Rattle.std.proofs.lemmas.List.{append-nil}
 use Rattle.ring_world.specs.Machine.{Packet, Link, no_link}
-use Rattle.ring_world.specs.Walk.{newest_first, numbers, only, no_but}
+use Rattle.ring_world.proofs.CountedWalk.{newest_first, numbers, only, no_but}
 use Rattle.ring_world.proofs.Weakens.{Weakens, same, equal, then, joined, joined_right, lose, zero_moves_in}
 
 pub newest_push : (f : Packet → ℕ) (ks : List Packet) (k : Packet) → newest_first f (ks ++ k ∷ []) ≡ f k ∷ newest_first f ks

@@ -5,15 +5,17 @@ use Rattle.std.proofs.lemmas.List.{length-set, length-take, take-append-le, take
 use Rattle.ring_names.specs.declared.message.Message.{Message}
 use Rattle.ring_names.specs.declared.numbers.CreditSpec.{CreditSpec}
 use Rattle.ring_world.specs.declared.numbers.Numbers.{Numbers}
-use Rattle.ring_world.specs.Rows.{Row, no_row, published_row}
+use Rattle.ring_world.specs.Rows.{Row, no_row, published_row, taken_row}
 use Rattle.group_view.specs.Ring.{is_in}
 use Rattle.group_view.specs.Change.{AreOpeningNames}
 use Rattle.ring_world.specs.Machine.{Up, Packet, World, no_member, row_at, numbers_at, member_at, link_at, view_at}
-use Rattle.ring_world.specs.Walk.{NeverRises, numbers, counted, only, no_but, is_early, number, round_of, retired_by, stopped_from, running_from, walk_over}
-use Rattle.ring_world.specs.Step.{size, log_of, put_on, gain_on, published, publish_at, taken_row, is_owned, taker, take_from, stopped, stop_at, opened_link, open_to, opening}
+use Rattle.ring_world.specs.OpenLinks.{NeverRises, number}
+use Rattle.ring_world.proofs.CountedWalk.{numbers, counted, only, no_but, is_early, round_of, retired_by, stopped_from, running_from, walk_over}
+use Rattle.ring_world.specs.Step.{size, log_of, put_on, gain_on, published, publish_at, is_owned, taker, take_from, stopped, stop_at, opened_link, open_to, opening}
 use Rattle.ring_world.proofs.WhatRefuses.{MayTake}
 use Rattle.ring_world.specs.Event.{Event, IsRun, last}
 use Rattle.ring_world.specs.Lawful.{row_of, RowIsWithin, NeverFalls}
+use Rattle.ring_world.proofs.Leaves.{with_opened}
 use Rattle.ring_world.proofs.Lists.{at_set, get_or_beyond}
 use Rattle.group_view.proofs.Rings.{nat_eq-is, in_first, in_second, in_head}
 use Rattle.ring_world.proofs.Put.{runs_phase-Up, number_up}
@@ -23,8 +25,8 @@ use Rattle.ring_world.proofs.KeptTake.{can_take, take_standing}
 use Rattle.ring_world.proofs.Falling.{rises_first, rises_second, falls_across, owner_in_round, late_in_round, round_falls, early_falls}
 use Rattle.ring_world.proofs.Confirmed.{runs_in_walk}
 use Rattle.ring_world.proofs.Happens.{IsGood, reached_good}
-use Rattle.ring_world.proofs.Parts.{IsStill, Part, cast_part, put_part, take_part, gain_part, stop_part, open_part, still_part, member_still, run_keeps}
-use Rattle.ring_world.proofs.OwnLogs.{IsLogged, IsSameRows, with_new_link, taker_row, take_log, cast_log, cast_log_other, published_at, part_logged, run_logged}
+use Rattle.ring_world.proofs.Parts.{IsSameRows, links_same, member_same, Part, cast_part, put_part, take_part, gain_part, stop_part, open_part, still_part, run_keeps}
+use Rattle.ring_world.proofs.OwnLogs.{IsLogged, taker_row, take_log, cast_log, cast_log_other, published_at, part_logged, run_logged}
 
 -- no number of a row is less than it was
 pub record RowRises (r r' : Row) : Type 0 where
@@ -201,25 +203,14 @@ same_rises w w' k =
 
 -- a state itself
 pub nothing_falls : (w : World) → NeverFalls w w
-nothing_falls w = same_rises w w (record { many = refl; rows = λ q. refl; log = λ q. refl })
+nothing_falls w = same_rises w w (links_same w w.links)
 
--- what leaves all still
-pub still_same : (w w' : World) → IsStill w w' → IsSameRows w w'
-still_same w w' k = record { many = k.members_many; rows = k.rows; log = k.log }
-
--- a stop leaves rows and logs
-pub stop_same : (w : World) (x : ℕ) → x < size w → IsSameRows w (stop_at w x)
-stop_same w x lt = record {
-  many = length-set w.members x (stopped (member_at w x));
-  rows = λ q. at_set (λ k z. z.rows ≡ (member_at w k).rows) w.members x q (stopped (member_at w x)) no_member lt refl (λ _. refl);
-  log = λ q. at_set (λ k z. z.log ≡ (member_at w k).log) w.members x q (stopped (member_at w x)) no_member lt refl (λ _. refl);
-}
-
--- and so does a link that opens
+-- a link that opens leaves rows and logs
 pub open_same : (w : World) (x z : ℕ) → IsSameRows w (open_to w x z)
 open_same w x z =
-    let k : IsStill (with_new_link w (opened_link w x z)) (open_to w x z) = member_still (with_new_link w (opened_link w x z)) x (record (member_at w x) { out = Some (length w.links) }) refl refl refl in
-    record { many = k.members_many; rows = k.rows; log = k.log }
+    let w1 : World = with_opened w (opened_link w x z) in
+    let k : IsSameRows w1 (open_to w x z) = member_same w1 x (record (member_at w x) { out = Some (length w.links) }) refl refl in
+    record { many = k.many; rows = k.rows; log = k.log }
 
 -- a cast
 pub cast_rises : (w : World) (x : ℕ) (m : Message) → 1 ≤ x → x < size w → IsLogged w → NeverFalls w (publish_at w x m)
@@ -249,27 +240,27 @@ take_rises w y s m h l =
 -- any part of an event
 pub part_rises : (w w' : World) → Part IsGood w w' → IsLogged w → NeverFalls w w'
 part_rises w w' (cast_part x m some lt e) l = subst (NeverFalls w) (sym e) (cast_rises w x m some lt l)
-part_rises w w' (put_part x o lt free e) l = subst (NeverFalls w) (sym e) (same_rises w (put_on w x o) (record { many = refl; rows = λ q. refl; log = λ q. refl }))
+part_rises w w' (put_part x o lt free e) l = subst (NeverFalls w) (sym e) (same_rises w (put_on w x o) (links_same w (put_on w x o).links))
 part_rises w w' (take_part y s some m lt g e) l = subst (NeverFalls w) (sym e) (take_rises w y s m g.inv l)
-part_rises w w' (gain_part o lt some e) l = subst (NeverFalls w) (sym e) (same_rises w (gain_on w o) (record { many = refl; rows = λ q. refl; log = λ q. refl }))
-part_rises w w' (stop_part x lt e) l = subst (NeverFalls w) (sym e) (same_rises w (stop_at w x) (stop_same w x lt))
+part_rises w w' (gain_part o lt some e) l = subst (NeverFalls w) (sym e) (same_rises w (gain_on w o) (links_same w (gain_on w o).links))
+part_rises w w' (stop_part x lt e) l = subst (NeverFalls w) (sym e) (same_rises w (stop_at w x) (member_same w x (stopped (member_at w x)) refl refl))
 part_rises w w' (open_part x z e) l = subst (NeverFalls w) (sym e) (same_rises w (open_to w x z) (open_same w x z))
-part_rises w w' (still_part k) l = same_rises w w' (still_same w w' k)
+part_rises w w' (still_part k) l = same_rises w w' k.same
 
 -- ---- events and runs
 
 -- a later state of which the logs are known
-pub record IsLater (w w' : World) : Type 0 where
+pub record HasRisen (w w' : World) : Type 0 where
   pub falls : NeverFalls w w'
   pub logged : IsLogged w'
 
 -- one part more
-pub part_later : (w0 w w' : World) → Part IsGood w w' → IsLater w0 w → IsLater w0 w'
+pub part_later : (w0 w w' : World) → Part IsGood w w' → HasRisen w0 w → HasRisen w0 w'
 part_later w0 w w' k h = record { falls = falls_after w0 w w' h.falls (part_rises w w' k h.logged); logged = part_logged IsGood w w' k h.logged }
 
 -- in every run, from every state to the next, and so to each later one
 pub run_never_falls : (credit : CreditSpec) (names : List (List ℕ)) (es later : List Event) → AreOpeningNames names → IsRun (opening credit names) es → IsRun (last (opening credit names) es) later → NeverFalls (last (opening credit names) es) (last (last (opening credit names) es) later)
 run_never_falls credit names es later are r k =
     let w : World = last (opening credit names) es in
-    (run_keeps (IsLater w) (part_later w) w later (reached_good credit names es are r) k
+    (run_keeps (HasRisen w) (part_later w) w later (reached_good credit names es are r) k
     (record { falls = nothing_falls w; logged = run_logged credit names es are r })).falls

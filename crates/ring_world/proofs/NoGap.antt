@@ -4,16 +4,14 @@ use Rattle.std.proofs.lemmas.Bool.{false≢true}
 use Rattle.ring_names.specs.declared.numbers.CreditSpec.{CreditSpec}
 use Rattle.group_view.specs.Change.{AreOpeningNames, opening as opening_group}
 use Rattle.ring_world.specs.View.{left_of}
-use Rattle.ring_world.specs.Machine.{Packet, World, no_packet, row_at, numbers_at, member_at, link_at, view_at, left, runs, runs_phase}
-use Rattle.ring_world.specs.Walk.{oldest}
+use Rattle.ring_world.specs.Machine.{Packet, World, no_packet, row_at, numbers_at, member_at, link_at, view_at, left, runs, runs_phase, oldest}
 use Rattle.ring_world.specs.Step.{size, gain_on, publish_at, is_owned, leave_link, opening}
 use Rattle.ring_world.specs.Event.{Event, refusal, effect, IsRun, last}
-use Rattle.ring_world.specs.NoGap.{NoGapAtTake, NoGapInRuns}
+use Rattle.ring_world.specs.NoGap.{NoGapAtTake}
 use Rattle.ring_world.proofs.First.{first_each, first_link_is}
 use Rattle.ring_world.proofs.Views.{left_is}
 use Rattle.ring_world.proofs.Kept.{Inv}
-use Rattle.ring_world.proofs.KeptMore.{current_keeps}
-use Rattle.ring_world.proofs.Happens.{IsGood, opening_good, run_events, door_pickable}
+use Rattle.ring_world.proofs.Happens.{IsGood, opening_good, run_events}
 use Rattle.ring_world.proofs.Cases.{each_event}
 use Rattle.ring_world.proofs.LinesKept.{cast_still, gain_still, leave_still, stop_lines, put_lines, take_lines, pick_lines, refresh_lines, view_ids, version_some, own_ids, mark_lines}
 use Rattle.ring_world.proofs.Lines.{IsChain, BeginsBy, LinesRight, lines_still}
@@ -61,7 +59,7 @@ event_lines w e g r h = each_event LinesRight w e g.none_waits (record {
       let rx : runs w x ≡ true = ap runs_phase m.up in
       let some : 1 ≤ v = omega (arith, version_some w x g.inv.is_ring g.views rx, m.later) in
       refresh_lines w x v m.is_member m.up m.later (view_ids w v g.views some m.upto ∙ sym (own_ids w x g.inv.is_ring g.views rx)) g.inv h;
-  picks = λ y s u none door upto. pick_lines w y s u.lt u.up (ap is_some none) door g (current_keeps w y (Some s) u.lt u.up (door_pickable w y s u.lt u.up door upto g) g.inv) h;
+  picks = λ y s u none door upto. pick_lines w y s u.lt u.up (ap is_some none) door upto g h;
 }) r
 
 -- every state of every run
@@ -89,5 +87,5 @@ pub lines_no_gap : (w : World) → LinesRight w → NoGapAtTake w
 lines_no_gap w h by y s p id up c may some l own = no_gap w y s p h (ap runs_phase up) c some l own
 
 -- in every state of every run no take leaves a gap
-pub no_gap_in_runs : (credit : CreditSpec) (names : List (List ℕ)) → NoGapInRuns credit names
+pub no_gap_in_runs : (credit : CreditSpec) (names : List (List ℕ)) (es : List Event) → AreOpeningNames names → IsRun (opening credit names) es → NoGapAtTake (last (opening credit names) es)
 no_gap_in_runs credit names es are r = lines_no_gap (last (opening credit names) es) (reached_lines credit names es are r)

@@ -3,12 +3,14 @@ use Rattle.std.proofs.Common.{◌≡◌, ◌≢◌, ℕ, zero, suc, ◌<◌, Boo
 use Rattle.std.specs.Prelude.{◌&&◌}
 use Rattle.std.proofs.lemmas.Bool.{cases_eq, false≢true}
 use Rattle.std.proofs.lemmas.List.{get_or_append_left}
+pub use Rattle.ring_world.proofs.Leaves.{with_opened}
 use Rattle.ring_world.specs.Refusal.{is_empty}
 use Rattle.group_view.specs.Ring.{rotated, is_in}
-use Rattle.ring_world.specs.Machine.{Phase, Waiting, Up, Stopped, Packet, Link, World, no_link, numbers_at, member_at, link_at, newest, ring, left, runs, is_kept, is_waiting, no_sending}
+use Rattle.ring_world.specs.Machine.{Phase, Waiting, Up, Stopped, Packet, Link, World, no_link, numbers_at, member_at, link_at, newest, ring, left, runs, is_kept, is_waiting, no_sending, oldest}
 use Rattle.ring_world.specs.Rows.{Row}
 use Rattle.ring_world.specs.declared.numbers.Numbers.{Numbers}
-use Rattle.ring_world.specs.Walk.{newest_first, numbers, only, no_but, counted, is_early, oldest, first_packet, own_number, number, round_of, retired_by, stopped_from, running_from, walk_over, walk}
+use Rattle.ring_world.proofs.CountedWalk.{newest_first, numbers, only, no_but, counted, is_early, round_of, retired_by, stopped_from, running_from, walk_over, walk}
+use Rattle.ring_world.specs.OpenLinks.{first_packet, own_number, number}
 use Rattle.ring_world.specs.Step.{next_packet, opened_link}
 use Rattle.ring_world.proofs.Weakens.{Weakens, same, joined, joined_left}
 use Rattle.ring_world.proofs.Links.{numbers_open}
@@ -19,10 +21,6 @@ use Rattle.ring_world.proofs.Edits.{round_front}
 use Rattle.ring_world.proofs.Good.{IsRing, IsWaitingRight}
 use Rattle.ring_world.proofs.Put.{counted_other, counted_not_kept, number_up, not_in_prefix, receiver_follows, runs_phase-Up}
 use Rattle.ring_world.proofs.Packets.{Reads, reads_got, reads_forgot, line_of_packet}
-
--- one more link
-abbrev pub with_opened : World → Link → World
-with_opened w l = record w { links = w.links ++ l ∷ [] }
 
 pub within_links : (w : World) (s : ℕ) → is_empty (link_at w s).packets ≡ false → s < length w.links
 within_links w s h = by_list w.links s h

@@ -1,36 +1,28 @@
 -- The walk by open links is the walk of the links that are kept.
-use Rattle.std.proofs.Common.{◌≡◌, ℕ, zero, suc, ◌+◌, ◌<◌, ◌≤◌, Bool, true, false, cond, not, nat_eq, nat_le, List, [], ◌∷◌, ◌++◌, length, get_or, map, Option, Some, None, refl, sym, ap, subst, ◌∙◌, ⊎_elim, arith, append_assoc, max}
+use Rattle.std.proofs.Common.{◌≡◌, ℕ, suc, ◌+◌, ◌<◌, ◌≤◌, Bool, true, false, cond, not, nat_eq, List, [], ◌∷◌, ◌++◌, length, get_or, map, Option, Some, None, refl, sym, ap, subst, ◌∙◌, arith, append_assoc, max}
 use Rattle.std.specs.Prelude.{◌&&◌, ◌||◌, reverse}
 use Rattle.std.specs.List.{filter, flat_map, range_with_len}
-use Rattle.std.specs.Cmp.{both_ways}
 use Rattle.std.proofs.Math.Bool.{not-not}
-use Rattle.std.proofs.lemmas.Bool.{and_parts, false≢true, leb-true, le-leb, cases_lt, and_from}
+use Rattle.std.proofs.lemmas.Bool.{false≢true, and_from}
 use Rattle.std.proofs.lemmas.List.{append-nil, reverse-append, map-append}
 use Rattle.std.proofs.lemmas.List.Elements.{filter-append}
 use Rattle.ring_names.specs.declared.numbers.CreditSpec.{CreditSpec}
 use Rattle.ring_world.specs.Rows.{Row}
 use Rattle.ring_world.specs.declared.numbers.Numbers.{Numbers}
 use Rattle.group_view.specs.Ring.{is_in, AreDistinct, before, after, others, rotated, first}
-use Rattle.group_view.specs.View.{Group, entry_in}
 use Rattle.group_view.specs.Change.{AreOpeningNames}
-use Rattle.group_view.specs.Since as group
-use Rattle.group_view.specs.Since.{no_group, IsSince, KeepsLeft, since_at}
-use Rattle.group_view.proofs.KeptLeft.{keeps_since, since_keeps}
 use Rattle.group_view.proofs.Lists.{cond_empty}
 use Rattle.group_view.proofs.Rings.{sym_test, not_in_before, in_before, not_in_others, is_in-rotated, rotated_is, others-rotated, distinct_others, split_at, nat_eq-is, nat_eq-same, from_inside, in_head, in_tail}
 use Rattle.group_view.proofs.Arcs.{prefix_is, between_from}
 use Rattle.group_view.proofs.Neighbours.{FirstPass, first_pass, first_passes, passes_in}
-use Rattle.group_view.proofs.Passing.{left_inside}
-use Rattle.ring_world.specs.View.{ids, is_live, left_of, left_at}
-use Rattle.ring_world.specs.Machine.{Packet, Link, World, no_link, row_at, numbers_at, member_at, link_at, view_at, newest, ring, left, runs, is_kept}
-use Rattle.ring_world.specs.Walk.{newest_first, numbers, only, no_but, when, counted, block, is_early, number, round_of, stopped_from, running_from, walk_over, walk, NeverRises}
+use Rattle.ring_world.specs.Machine.{Packet, Link, World, no_link, row_at, numbers_at, member_at, link_at, newest, ring, runs, is_kept}
+use Rattle.ring_world.proofs.CountedWalk.{newest_first, numbers, only, no_but, when, counted, block, is_early, round_of, stopped_from, running_from, walk_over, walk}
 use Rattle.ring_world.specs.Step.{size, opening}
 use Rattle.ring_world.specs.Event.{Event, IsRun, last}
-use Rattle.ring_world.specs.OpenLinks.{version_of, since_in, comes_from_left, passes, is_place, is_current, is_open, open_links, packets_of, packets_on, open_packets, is_late, late_packets, early_packets, stop_of, round_trip, walk_of, the_walk}
+use Rattle.ring_world.specs.OpenLinks.{version_of, comes_from_left, passes, is_place, is_current, is_open, open_links, packets_of, packets_on, open_packets, is_late, late_packets, early_packets, stop_of, round_trip, walk_of, the_walk, number, NeverRises}
 use Rattle.ring_world.proofs.Gaps.{prefix_before}
-use Rattle.ring_world.proofs.Good.{Kept, kept_true, true_kept}
-use Rattle.ring_world.proofs.Views.{left_is}
-use Rattle.ring_world.proofs.Happens.{HasViews, IsGood, opening_good, reached_good}
+use Rattle.ring_world.proofs.FromLeft.{IsGood, opened_right, comes_is, sender_known}
+use Rattle.ring_world.proofs.Happens.{opening_good, reached_good}
 use Rattle.ring_world.proofs.Ended.{EndsRight, ends_run, opening_ends}
 
 -- ---- late and early
@@ -66,86 +58,7 @@ late_cases p s y xs d hp hs hy = by_origin (nat_eq p y) refl
     by_origin true e = ap not (sym (ap (λ us. is_in s (before y us)) (rotated_is p xs hp) ∙ ap (λ b. is_in s (cond b [] (p ∷ before y (others p xs)))) e))
     by_origin false e = by_sender (nat_eq s y) refl (is_in p (before y (others s xs))) (late_is p s y xs d hp hs hy (sym_test p y false e))
 
--- ---- the test by the left neighbour and since
-
--- the left neighbour as the group's history has it
-pub left_of_group : (w : World) (h : HasViews w) (u y : ℕ) → is_in y (ids (view_at w u)) ≡ true → left w u y ≡ group.left_at h.groups u y
-unfolding left_at group.left_at
-left_of_group w h u y i =
-    let same : view_at w u ≡ group.view_at h.groups u = ap (λ vs. get_or vs u no_group) h.is in
-    ap (λ v. left_of v y) same ∙ sym (rw (sym (ap (λ v. is_in y (ids v)) same) ∙ i) refl)
-
--- in version 0 is nobody
-pub nobody_first : (w : World) (h : HasViews w) (u y : ℕ) → is_in y (ids (view_at w u)) ≡ true → 1 ≤ u
-nobody_first w h zero y i = absurd (false≢true (sym (ap (λ vs. is_in y (ids (get_or vs 0 no_group))) h.is) ∙ i))
-nobody_first w h (suc u) y i = omega arith
-
--- what a link comes to that passes the test in a view
-pub comes : (w : World) (y u : ℕ) (l : Link) → l.sender ≡ left w u y → since_in w u y ≤ l.opened → comes_from_left w y l u ≡ true
-comes w y u l e le = and_from (nat_eq l.sender (left w u y)) (nat_le (since_in w u y) l.opened) (subst (λ q. nat_eq l.sender q ≡ true) e (nat_eq-same l.sender)) (le-leb (since_in w u y) l.opened le)
-
--- and the other way
-pub came : (w : World) (y u : ℕ) (l : Link) → comes_from_left w y l u ≡ true → (l.sender ≡ left w u y) × (since_in w u y ≤ l.opened)
-came w y u l h =
-    let a = and_parts (nat_eq l.sender (left w u y)) (nat_le (since_in w u y) l.opened) h in
-    (nat_eq-is l.sender (left w u y) a.0, leb-true (since_in w u y) l.opened a.1)
-
--- A link opened in a version that is there, from who was its receiver's left neighbour then.
-pub record OpenedRight (w : World) (l : Link) : Type 0 where
-  pub upto : l.opened ≤ newest w
-  pub from_left : left w l.opened l.receiver ≡ l.sender
-  pub known : is_in l.receiver (ids (view_at w l.opened)) ≡ true
-
-pub opened_right : (w : World) (s : ℕ) → IsGood w → s < length w.links → OpenedRight w (link_at w s)
-opened_right w s h l = record { upto = h.inv.linked.opened s l; from_left = h.inv.linked.from_left s l; known = h.inv.history.known s l }
-
--- in the later of a version and the one in which it opened, a link comes from the left exactly where it is kept up to that version
-pub comes_is : (w : World) (l : Link) (v : ℕ) → IsGood w → OpenedRight w l → v ≤ newest w → comes_from_left w l.receiver l (max v l.opened) ≡ is_kept w l v
-comes_is w l v h o upto =
-    ⊎_elim
-    (λ (newer : v < l.opened).
-    ap (comes_from_left w y l) (let is : max v l.opened ≡ l.opened = omega arith in is)
-    ∙ comes w y l.opened l (sym o.from_left) (let d : IsSince groups y l.opened (since_in w l.opened y) = dated l.opened (omega arith) o.upto in d.upto)
-    ∙ sym (kept_true w l v (λ k a b. absurd (omega arith))))
-    (λ (older : l.opened ≤ v).
-    ap (comes_from_left w y l) (let is : max v l.opened ≡ v = omega arith in is) ∙ both_ways (comes_from_left w y l v) (is_kept w l v) (λ e. kept_true w l v (stays older (came w y v l e))) (λ e. seen older (true_kept w l v e)))
-    (cases_lt v l.opened)
-  where
-    y : ℕ
-    y = l.receiver
-
-    groups : List Group
-    groups = h.views.groups
-
-    present : (u : ℕ) → l.opened ≤ u → u ≤ newest w → is_in y (ids (view_at w u)) ≡ true
-    present u a b = h.inv.history.grows y l.opened u o.known a b
-
-    some : 1 ≤ l.opened
-    some = nobody_first w h.views l.opened y o.known
-
-    same_view : (u : ℕ) → view_at w u ≡ group.view_at groups u
-    same_view u = ap (λ vs. get_or vs u no_group) h.views.is
-
-    since_is : (u : ℕ) → since_at groups u y ≡ since_in w u y
-    since_is u = sym (ap (λ (k : Group). (entry_in k.entries y).since) (same_view u))
-
-    dated : (u : ℕ) → l.opened ≤ u → u ≤ newest w → IsSince groups y u (since_in w u y)
-    dated u a b =
-        subst (IsSince groups y u) (since_is u)
-        (h.views.ends.history.dated u y (omega (arith, some)) (omega (arith, ap length h.views.is, h.inv.is_ring.some)) (sym (ap (λ k. is_in y (ids k)) (same_view u)) ∙ present u a b))
-
-    stays : l.opened ≤ v → (l.sender ≡ left w v y) × (since_in w v y ≤ l.opened) → Kept w l v
-    stays older e = λ u a b.
-        let d : IsSince groups y v (since_in w v y) = dated v older upto in
-        let now : group.left_at groups v y ≡ l.sender = sym (left_of_group w h.views v y (present v older upto)) ∙ sym e.0 in
-        left_of_group w h.views u y (present u a (omega (arith, upto))) ∙ keeps_since groups y v (since_in w v y) l.sender l.opened d e.1 now u a b
-
-    seen : l.opened ≤ v → Kept w l v → comes_from_left w y l v ≡ true
-    seen older k =
-        let d : IsSince groups y v (since_in w v y) = dated v older upto in
-        let keeps : KeepsLeft groups y l.sender l.opened v = (λ u a b. sym (left_of_group w h.views u y (present u a (omega (arith, upto)))) ∙ k u a b) in
-        let e = since_keeps groups y v (since_in w v y) l.sender l.opened d some older keeps in
-        comes w y v l (sym e.1 ∙ sym (left_of_group w h.views v y (present v older upto))) e.0
+-- ---- the test at the door
 
 -- a link that goes to y passes the test at y's door exactly where it is kept up to y's view
 pub passes_is : (w : World) (y s : ℕ) → IsGood w → s < length w.links → (link_at w s).receiver ≡ y → passes w y (link_at w s) ≡ is_kept w (link_at w s) (version_of w y)
@@ -280,14 +193,7 @@ same_round t p y ys xs d e =
 
 -- the sender of a link stands in the newest ring
 sender_stands : (w : World) (s : ℕ) → IsGood w → s < length w.links → is_in (link_at w s).sender (ring w) ≡ true
-sender_stands w s h there =
-    let l = link_at w s in
-    let upto : l.opened ≤ newest w = h.inv.linked.opened s there in
-    let g = view_at w l.opened in
-    h.inv.history.grows l.sender l.opened (newest w)
-    (subst (λ q. is_in q (ids g) ≡ true) (sym (left_is w l.opened l.receiver g refl) ∙ h.inv.linked.from_left s there)
-    (left_inside (is_live g) l.receiver (ids g) (h.inv.is_ring.distinct l.opened upto) (h.inv.history.known s there)))
-    upto (omega arith)
+sender_stands w s h there = h.inv.history.grows (link_at w s).sender (link_at w s).opened (newest w) (sender_known w s h there) (h.inv.linked.opened s there) (omega arith)
 
 -- what is early is not late
 pub early_is : (w : World) (p y s : ℕ) (ys : List ℕ) → IsGood w → 1 ≤ p → p < size w → running_from w p ≡ y ∷ ys → s < length w.links → is_early (stopped_from w p) (link_at w s) ≡ not (is_late w p y s)

@@ -8,14 +8,16 @@ use Rattle.ring_names.specs.declared.numbers.CreditSpec.{CreditSpec}
 use Rattle.ring_world.specs.Rows.{Row, no_row}
 use Rattle.ring_world.specs.declared.numbers.Numbers.{Numbers}
 use Rattle.group_view.specs.Ring.{others, before, is_in, AreDistinct}
-use Rattle.group_view.specs.View.{Group, entry_in}
+use Rattle.group_view.specs.View.{Group, is_live as is_live_in}
 use Rattle.group_view.specs.Change.{opening_entry, opening_entries, opening as opening_group}
 use Rattle.group_view.proofs.Lists.{cond_empty, cond_empty_late}
-use Rattle.group_view.proofs.Neighbours.{left_of_right, IsLeft, left_is_left, itself, other, right_of_left}
-use Rattle.group_view.proofs.Rings.{in_before, distinct_others, nat_eq-is, nat_eq-same, nat_eq-not, others_inside}
-use Rattle.ring_world.specs.View.{ids, is_live, is_live_entry, left_of, right_of}
+use Rattle.group_view.proofs.Passing.{are_mutual, left_inside as left_inside_ring}
+use Rattle.group_view.proofs.Marks.{left_is as left_of_entry, right_is as right_of_entry}
+use Rattle.group_view.proofs.Rings.{in_before, nat_eq-is, nat_eq-same, nat_eq-not, others_inside}
+use Rattle.ring_world.specs.View.{ids, is_live, left_of, right_of}
 use Rattle.ring_world.specs.Machine.{Phase, Waiting, Packet, Member, Link, World, no_member, no_link, member_at, link_at, view_at, row_at, numbers_at, ring, left, right, runs, runs_phase, is_kept, is_waiting}
-use Rattle.ring_world.specs.Walk.{FallsFrom, NeverRises, is_early, only, no_but, counted, when, past_first, newest_first, numbers, block, round, own_number, number, round_of, retired_by, walk, running_from, stopped_from}
+use Rattle.ring_world.specs.OpenLinks.{FallsFrom, NeverRises, own_number, number}
+use Rattle.ring_world.proofs.CountedWalk.{is_early, only, no_but, counted, when, past_first, newest_first, numbers, block, round, round_of, retired_by, walk, running_from, stopped_from}
 use Rattle.ring_world.specs.Step.{opening, opening_member}
 use Rattle.ring_world.proofs.First.{first_at, first_each, first_link, first_links, first_link_is}
 use Rattle.ring_world.proofs.Good.{IsRing, IsLinked, kept_true}
@@ -56,11 +58,11 @@ pub opening_ids : (a : ℕ) (names : List (List ℕ)) → map (λ e. e.id.0) (op
 opening_ids a [] = refl
 opening_ids a (name ∷ names) = ap (λ us. a ∷ us) (opening_ids (a + 1) names)
 
-pub opening_lives : (a : ℕ) (names : List (List ℕ)) (q : ℕ) → is_in q (range_with_len a (length names)) ≡ true → is_live_entry (entry_in (opening_entries a names) q) ≡ true
+pub opening_lives : (a : ℕ) (names : List (List ℕ)) (q : ℕ) → is_in q (range_with_len a (length names)) ≡ true → is_live_in (opening_entries a names) q ≡ true
 opening_lives a [] q h = absurd (false≢true h)
 opening_lives a (name ∷ names) q h = by_test (nat_eq q a) refl h (λ k. opening_lives (a + 1) names q k)
   where
-    by_test : (b : Bool) → nat_eq q a ≡ b → cond b true (is_in q (range_with_len (a + 1) (length names))) ≡ true → (is_in q (range_with_len (a + 1) (length names)) ≡ true → is_live_entry (entry_in (opening_entries (a + 1) names) q) ≡ true) → is_live_entry (cond (nat_eq a q) (opening_entry a name) (entry_in (opening_entries (a + 1) names) q)) ≡ true
+    by_test : (b : Bool) → nat_eq q a ≡ b → cond b true (is_in q (range_with_len (a + 1) (length names))) ≡ true → (is_in q (range_with_len (a + 1) (length names)) ≡ true → is_live_in (opening_entries (a + 1) names) q ≡ true) → is_live_in (opening_entry a name ∷ opening_entries (a + 1) names) q ≡ true
     by_test true e k ih = let t : nat_eq a q ≡ true = ap (nat_eq a) (nat_eq-is q a e) ∙ nat_eq-same a in rw t refl
     by_test false e k ih = let t : nat_eq a q ≡ false = nat_eq-not a q (λ is. false≢true (sym e ∙ rw is (nat_eq-same q))) in rw t (ih k)
 
@@ -137,7 +139,7 @@ module _ (credit : CreditSpec) (names : List (List ℕ)) where
   opening_inside q i = let r = range_in 1 (length names) q (sym (ap (is_in q) (opening_ids 1 names)) ∙ i) in (r.0, omega (arith, r.1))
 
   opening_left_right : (q : ℕ) → IsId q → left_of first_view (right_of first_view q) ≡ q
-  opening_left_right q i = left_of_right (is_live first_view) q (ids first_view) opening_distinct (opening_knows q i) (opening_live q i)
+  opening_left_right q i = (are_mutual first_view.entries q opening_distinct (opening_live q i)).left_of_right
 
   at_one : (v : ℕ) → 1 ≤ v → v ≤ 1 → view_at first_world v ≡ first_view
   at_one v a b = ap (view_at first_world) (let is : v ≡ 1 = omega arith in is)
@@ -171,7 +173,7 @@ module _ (credit : CreditSpec) (names : List (List ℕ)) where
       from_first x v i a = omega (arith, a, version_one x i)
 
   right_inside : (q : ℕ) → IsId q → is_in (right_of first_view q) (ids first_view) ≡ true
-  right_inside q i = first_inside (is_live first_view) q (others q (ids first_view)) (ids first_view) (opening_knows q i) (λ z k. others_inside q z (ids first_view) k)
+  right_inside q i = subst (λ z. is_in z (ids first_view) ≡ true) (sym (right_of_entry first_view.entries q (opening_knows q i))) (first_inside (is_live first_view) q (others q (ids first_view)) (ids first_view) (opening_knows q i) (λ z k. others_inside q z (ids first_view) k))
 
   opening_history : IsHistory first_world
   opening_history = record {
@@ -287,14 +289,10 @@ module _ (credit : CreditSpec) (names : List (List ℕ)) where
       (zeros_retired p (running_from first_world p))))
 
   left_inside : (y : ℕ) → IsId y → IsId (left_of first_view y)
-  left_inside y i = by_left (left_is_left (is_live first_view) (left_of first_view y) y (ids first_view) (distinct_others y (ids first_view) opening_distinct (opening_knows y i)) (opening_knows y i) refl)
-    where
-      by_left : IsLeft (is_live first_view) (left_of first_view y) y (ids first_view) → IsId (left_of first_view y)
-      by_left (itself e) = subst IsId (sym e) i
-      by_left (other l k) = opening_inside (left_of first_view y) k
+  left_inside y i = subst IsId (sym (left_of_entry first_view.entries y (opening_knows y i))) (opening_inside _ (left_inside_ring (is_live first_view) y (ids first_view) opening_distinct (opening_knows y i)))
 
   opening_right_left : (y : ℕ) → IsId y → right_of first_view (left_of first_view y) ≡ y
-  opening_right_left y i = right_of_left (is_live first_view) (left_of first_view y) y (ids first_view) opening_distinct (opening_knows y i) (opening_live y i) refl
+  opening_right_left y i = (are_mutual first_view.entries y opening_distinct (opening_live y i)).right_of_left
 
   -- the current link of a member
   current_is : (y s : ℕ) → IsId y → (member_at first_world y).current ≡ Some s → (left_of first_view y ≡ s + 1) × (s < length first_world.links)

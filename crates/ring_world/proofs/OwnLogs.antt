@@ -6,23 +6,25 @@ use Rattle.std.proofs.lemmas.List.FromFn.{length-map-range_with_len}
 use Rattle.ring_names.specs.declared.message.Message.{Message}
 use Rattle.ring_names.specs.declared.numbers.CreditSpec.{CreditSpec}
 use Rattle.ring_world.specs.declared.numbers.Numbers.{Numbers}
-use Rattle.ring_world.specs.Rows.{Row, no_row, no_numbers, published_row, next_numbers}
+use Rattle.ring_world.specs.Rows.{Row, no_row, no_numbers, published_row, next_numbers, taken_row}
 use Rattle.group_view.specs.Change.{AreOpeningNames}
 use Rattle.ring_world.specs.Machine.{Packet, Member, Sending, Link, World, no_link, no_member, no_sending, no_packet, row_at, numbers_at, member_at, link_at, view_at}
-use Rattle.ring_world.specs.Step.{size, log_of, next_lines, next_packet, pushed, popped, put_on, gain_on, published, publish_at, taken_row, is_owned, taker, take_from, stopped, stop_at, opened_link, open_to, opening}
+use Rattle.ring_world.specs.Step.{size, log_of, next_lines, next_packet, pushed, popped, put_on, gain_on, published, publish_at, is_owned, taker, take_from, stopped, stop_at, opened_link, open_to, opening}
 use Rattle.ring_world.specs.Event.{Event, IsRun, last}
 use Rattle.ring_world.specs.Lawful.{row_of, HasOwnLog, RowIsWithin, NumbersAreWithin, PacketsAreWithin, StaysWithinLogs}
+use Rattle.ring_world.proofs.Good.{HasRows}
+use Rattle.ring_world.proofs.Leaves.{with_opened}
 use Rattle.ring_world.proofs.Lists.{at_set, at_push, get_or_beyond}
 use Rattle.group_view.proofs.Rings.{nat_eq-same}
 use Rattle.ring_world.proofs.Take.{row_at-taker, taken_packet}
 use Rattle.ring_world.proofs.Happens.{IsGood, opening_good}
-use Rattle.ring_world.proofs.First.{first_at, first_link, first_size, first_row, first_log}
-use Rattle.ring_world.proofs.Parts.{IsStill, Part, cast_part, put_part, take_part, gain_part, stop_part, open_part, still_part, member_still, run_keeps}
+use Rattle.ring_world.proofs.First.{first_member, first_link, first_size, first_row, first_log}
+use Rattle.ring_world.proofs.Parts.{IsSameRows, links_same, member_same, IsStill, Part, cast_part, put_part, take_part, gain_part, stop_part, open_part, still_part, member_still, run_keeps}
 
 -- in every state: each member has a row for each id, and nobody has a log at 0
 pub record IsLogged (w : World) : Type 0 where
   pub nobody : log_of w 0 ≡ []
-  pub sized : (q : ℕ) → 1 ≤ q → q < size w → length (member_at w q).rows ≡ size w
+  pub sized : HasRows w
   pub own : (p : ℕ) → (row_of w p p).got ≡ length (log_of w p)
   pub within : StaysWithinLogs w
 
@@ -88,12 +90,6 @@ taken_within n false log r k h a = record { got = a.got; forgot = a.forgot; reti
 
 -- ---- parts of events
 
--- the members' rows and logs are as before
-pub record IsSameRows (w w' : World) : Type 0 where
-  pub many : size w' ≡ size w
-  pub rows : (q : ℕ) → (member_at w' q).rows ≡ (member_at w q).rows
-  pub log : (q : ℕ) → (member_at w' q).log ≡ (member_at w q).log
-
 -- the links of a later state are within the logs of an earlier one
 abbrev pub LinksAreWithin : World → World → Type 0
 LinksAreWithin w w' = (s p : ℕ) → PacketsAreWithin (length (log_of w p)) p (link_at w' s).packets × NumbersAreWithin (length (log_of w p)) (numbers_at (link_at w' s).sending.sent p)
@@ -114,13 +110,13 @@ links_logged w w' k a h = record {
 -- what leaves all still
 pub still_logged : (w w' : World) → IsStill w w' → IsLogged w → IsLogged w'
 still_logged w w' k h =
-    links_logged w w' (record { many = k.members_many; rows = k.rows; log = k.log })
+    links_logged w w' k.same
     (λ s p. (rw (k.packets s) (h.within.packets s p), rw (k.sending s) (h.within.sent s p))) h
 
 -- a put
 pub put_logged : (w : World) (x o : ℕ) → o < length w.links → IsLogged w → IsLogged (put_on w x o)
 put_logged w x o lt h =
-    links_logged w (put_on w x o) (record { many = refl; rows = λ q. refl; log = λ q. refl })
+    links_logged w (put_on w x o) (links_same w (put_on w x o).links)
     (λ s p.
     let n : ℕ = length (log_of w p) in
     let k : Packet = next_packet (member_at w x) (link_at w o).sending in
@@ -133,7 +129,7 @@ put_logged w x o lt h =
 -- a gain
 pub gain_logged : (w : World) (o : ℕ) → o < length w.links → IsLogged w → IsLogged (gain_on w o)
 gain_logged w o lt h =
-    links_logged w (gain_on w o) (record { many = refl; rows = λ q. refl; log = λ q. refl })
+    links_logged w (gain_on w o) (links_same w (gain_on w o).links)
     (λ s p.
     let n : ℕ = length (log_of w p) in
     at_set (λ j l. PacketsAreWithin n p l.packets × NumbersAreWithin n (numbers_at l.sending.sent p)) w.links o s _ no_link lt
@@ -144,25 +140,16 @@ gain_logged w o lt h =
 -- a stop
 pub stop_logged : (w : World) (x : ℕ) → x < size w → IsLogged w → IsLogged (stop_at w x)
 stop_logged w x lt h =
-    links_logged w (stop_at w x)
-    (record {
-      many = length-set w.members x (stopped (member_at w x));
-      rows = λ q. at_set (λ k z. z.rows ≡ (member_at w k).rows) w.members x q (stopped (member_at w x)) no_member lt refl (λ _. refl);
-      log = λ q. at_set (λ k z. z.log ≡ (member_at w k).log) w.members x q (stopped (member_at w x)) no_member lt refl (λ _. refl);
-    })
+    links_logged w (stop_at w x) (member_same w x (stopped (member_at w x)) refl refl)
     (λ s p. (h.within.packets s p, h.within.sent s p)) h
-
--- with one link more
-abbrev pub with_new_link : World → Link → World
-with_new_link w l = record w { links = w.links ++ l ∷ [] }
 
 -- a link that opens, with its first packet
 pub open_logged : (w : World) (x z : ℕ) → IsLogged w → IsLogged (open_to w x z)
 open_logged w x z h =
     let l : Link = opened_link w x z in
-    let w1 : World = with_new_link w l in
+    let w1 : World = with_opened w l in
     still_logged w1 (open_to w x z) (member_still w1 x (record (member_at w x) { out = Some (length w.links) }) refl refl refl)
-    (links_logged w w1 (record { many = refl; rows = λ q. refl; log = λ q. refl })
+    (links_logged w w1 (links_same w w1.links)
     (λ s p.
     let n : ℕ = length (log_of w p) in
     let new : NumbersAreWithin n (numbers_at (next_packet (member_at w x) no_sending) p) = packet_within n (member_at w x) no_sending p (h.within.rows x p) (no_numbers_within n) in
@@ -186,7 +173,11 @@ taker_row P w y s p here beyond = ⊎_elim
 pub owns_itself : (w : World) (y s : ℕ) → is_owned (view_at w (member_at w y).version) y (link_at w s).sender y ≡ true
 owns_itself w y s = rw (nat_eq-same y) refl
 
--- a take leaves the logs
+-- a take leaves the members as many
+pub take_size : (w : World) (y s : ℕ) → size (take_from w y s) ≡ size w
+take_size w y s = length-set w.members y (taker w y s)
+
+-- and the logs
 pub take_log : (w : World) (y s q : ℕ) → y < size w → log_of (take_from w y s) q ≡ log_of w q
 take_log w y s q lt = at_set (λ k z. z.log ≡ (member_at w k).log) w.members y q (taker w y s) no_member lt refl (λ _. refl)
 
@@ -195,10 +186,10 @@ pub take_logged : (w : World) (y s : ℕ) → y < size w → s < length w.links 
 take_logged w y s lt there h = record {
   nobody = take_log w y s 0 lt ∙ h.nobody;
   sized = λ q some l.
-      let l2 : q < size w = omega (arith, many) in
+      let l2 : q < size w = omega (arith, take_size w y s) in
       at_set (λ k z. 1 ≤ k → k < size w → length z.rows ≡ size w) w.members y q (taker w y s) no_member lt
       (λ _ _. length-map-range_with_len (λ p. taken_row (is_owned (view_at w (member_at w y).version) y (link_at w s).sender p) (log_of w p) (row_at (member_at w y) p) (numbers_at (taken_packet w s) p)) 0 (size w))
-      (λ _. h.sized q) some l2 ∙ sym many;
+      (λ _. h.sized q) some l2 ∙ sym (take_size w y s);
   own = λ p.
       at_set (λ k z. (row_at z k).got ≡ length (log_of w k)) w.members y p (taker w y s) no_member lt
       (ap (λ r. r.got) (row_at-taker w y s y lt)
@@ -220,9 +211,6 @@ take_logged w y s lt there h = record {
         (h.within.sent s p) (λ _. h.within.sent j p));
   };
 }
-  where
-    many : size (take_from w y s) ≡ size w
-    many = length-set w.members y (taker w y s)
 
 -- the log of who publishes is one longer, and the others as they were
 pub cast_log : (w : World) (x : ℕ) (m : Message) → x < size w → log_of (publish_at w x m) x ≡ log_of w x ++ m ∷ []
@@ -302,7 +290,7 @@ pub opening_logged : (credit : CreditSpec) (names : List (List ℕ)) → IsLogge
 opening_logged credit names = record {
   nobody = refl;
   sized = λ q some lt.
-      ap (λ y. length y.rows) (first_at credit names q some (omega (arith, first_size credit names)))
+      ap (λ y. length y.rows) (first_member credit names q some lt)
       ∙ length-map-range_with_len (λ _. no_row) 0 (length names + 1) ∙ sym (first_size credit names);
   own = λ p. ap (λ r. r.got) (first_row credit names p p) ∙ ap length (sym (first_log credit names p));
   within = record {

@@ -5,7 +5,8 @@ use Rattle.std.specs.List.{filter}
 use Rattle.std.proofs.lemmas.Bool.{false≢true, false_from_ne_true}
 use Rattle.group_view.specs.Ring.{before, after, rotated, others, is_in, first_or, AreDistinct}
 use Rattle.ring_world.specs.Machine.{World, Packet, Link, member_at, link_at, row_at, numbers_at, newest, ring, left, runs, is_kept, is_waiting}
-use Rattle.ring_world.specs.Walk.{counted, past_first, when, stopped_from, running_from, walk, NeverRises}
+use Rattle.ring_world.proofs.CountedWalk.{counted, past_first, when, stopped_from, running_from, walk}
+use Rattle.ring_world.specs.OpenLinks.{NeverRises}
 use Rattle.ring_world.specs.Step.{size, stop_at}
 use Rattle.ring_world.proofs.Weakens.{FallsTo-FallsFrom}
 use Rattle.ring_world.proofs.Links.{AllZero}

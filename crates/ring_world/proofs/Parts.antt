@@ -1,6 +1,5 @@
 -- The parts of an event, as the laws of logs, credit and numbers see them: what it does to rows, logs, packets and credit.
-use Rattle.std.proofs.Common.{◌≡◌, ℕ, ◌+◌, ◌<◌, ◌≤◌, false, List, length, get_or, Some, None, refl, sym, ap, subst, ⊎_elim}
-use Rattle.std.proofs.lemmas.Bool.{cases_lt}
+use Rattle.std.proofs.Common.{◌≡◌, ℕ, ◌+◌, ◌<◌, ◌≤◌, false, List, length, set, Some, None, refl, ap}
 use Rattle.std.proofs.lemmas.List.{length-set}
 use Rattle.ring_names.specs.declared.message.Message.{Message}
 use Rattle.credit_flow.specs.Credit.{is_blocked}
@@ -8,24 +7,28 @@ use Rattle.ring_world.specs.Refusal.{is_empty}
 use Rattle.group_view.specs.Change.{marked}
 use Rattle.group_view.specs.View.{Group}
 use Rattle.ring_world.specs.View.{right_of}
-use Rattle.ring_world.specs.Machine.{Member, Ending, Moved, Halted, Link, World, no_link, no_member, member_at, link_at, view_at, newest, runs_phase}
+use Rattle.ring_world.specs.Machine.{Member, Ending, Moved, Halted, Link, World, member_at, link_at, view_at, newest, runs_phase}
 use Rattle.ring_world.specs.Step.{size, publish_at, put_on, gain_on, take_from, current_is, with_current, leave_link, finished, ended, stop_at, with_member, with_link, with_view, look_at, moved_to, open_to}
 use Rattle.ring_world.specs.Event.{Event, refreshed, refusal, effect, IsRun, last}
 use Rattle.ring_world.proofs.WhatRefuses.{MayTake}
-use Rattle.ring_world.proofs.Lists.{at_set, set_nothing}
+use Rattle.ring_world.proofs.Leaves.{member_leaves, link_leaves}
 use Rattle.ring_world.proofs.Enabled.{put_credit, gain_some}
 use Rattle.ring_world.proofs.Cases.{each_event}
 use Rattle.ring_world.proofs.Composed.{end_composed, refresh_composed}
 use Rattle.ring_world.proofs.Happens.{IsGood, run_events}
 
--- rows, logs and phases of the members are as before, and packets, sending sides and credit of the links
+-- the members' rows and logs are as before
+pub record IsSameRows (w w' : World) : Type 0 where
+  pub many : size w' ≡ size w
+  pub rows : (q : ℕ) → (member_at w' q).rows ≡ (member_at w q).rows
+  pub log : (q : ℕ) → (member_at w' q).log ≡ (member_at w q).log
+
+-- and so are their phases, and packets, sending sides and credit of the links
 pub record IsStill (w w' : World) : Type 0 where
-  pub members_many : size w' ≡ size w
+  pub same : IsSameRows w w'
   pub links_many : length w'.links ≡ length w.links
   pub initial : w'.initial ≡ w.initial
   pub more : w'.more ≡ w.more
-  pub rows : (q : ℕ) → (member_at w' q).rows ≡ (member_at w q).rows
-  pub log : (q : ℕ) → (member_at w' q).log ≡ (member_at w q).log
   pub phase : (q : ℕ) → (member_at w' q).phase ≡ (member_at w q).phase
   pub packets : (s : ℕ) → (link_at w' s).packets ≡ (link_at w s).packets
   pub sending : (s : ℕ) → (link_at w' s).sending ≡ (link_at w s).sending
@@ -43,57 +46,51 @@ pub data Part (G : World → Type 0) (w w' : World) : Type 0 where
 
 -- ---- what leaves all still
 
--- a member written with the same rows, log and phase
+-- what leaves the members
+pub links_same : (w : World) (ls : List Link) → IsSameRows w (record w { links = ls })
+links_same w ls = record { many = refl; rows = λ q. refl; log = λ q. refl }
+
+-- a member written with the same rows and log
+pub member_same : (w : World) (x : ℕ) (y : Member) → y.rows ≡ (member_at w x).rows → y.log ≡ (member_at w x).log → IsSameRows w (with_member w x y)
+member_same w x y r l = record {
+  many = length-set w.members x y;
+  rows = λ q. member_leaves (λ _ a b. b.rows ≡ a.rows) w x y r (λ _. refl) q;
+  log = λ q. member_leaves (λ _ a b. b.log ≡ a.log) w x y l (λ _. refl) q;
+}
+
+-- and with the same phase
 pub member_still : (w : World) (x : ℕ) (y : Member) → y.rows ≡ (member_at w x).rows → y.log ≡ (member_at w x).log → y.phase ≡ (member_at w x).phase → IsStill w (with_member w x y)
 member_still w x y r l f = record {
-  members_many = length-set w.members x y;
+  same = member_same w x y r l;
   links_many = refl;
   initial = refl;
   more = refl;
-  rows = λ q. written (λ a b. a.rows ≡ b.rows) (λ _. refl) r q;
-  log = λ q. written (λ a b. a.log ≡ b.log) (λ _. refl) l q;
-  phase = λ q. written (λ a b. a.phase ≡ b.phase) (λ _. refl) f q;
+  phase = λ q. member_leaves (λ _ a b. b.phase ≡ a.phase) w x y f (λ _. refl) q;
   packets = λ s. refl;
   sending = λ s. refl;
   flow = λ s. refl;
 }
-  where
-    written : (P : Member → Member → Type 0) → ((a : Member) → P a a) → P y (member_at w x) → (q : ℕ) → P (member_at (with_member w x y) q) (member_at w q)
-    written P same here q = ⊎_elim
-        (λ (lt : x < size w). at_set (λ k a. P a (member_at w k)) w.members x q y no_member lt here (λ _. same (member_at w q)))
-        (λ (ge : size w ≤ x). subst (λ ms. P (get_or ms q no_member) (member_at w q)) (sym (set_nothing w.members x y ge)) (same (member_at w q)))
-        (cases_lt x (size w))
 
 -- a link written with the same packets, sending side and credit
 pub link_still : (w : World) (o : ℕ) (k : Link) → k.packets ≡ (link_at w o).packets → k.sending ≡ (link_at w o).sending → k.flow ≡ (link_at w o).flow → IsStill w (with_link w o k)
 link_still w o k p s f = record {
-  members_many = refl;
+  same = links_same w (set w.links o k);
   links_many = length-set w.links o k;
   initial = refl;
   more = refl;
-  rows = λ q. refl;
-  log = λ q. refl;
   phase = λ q. refl;
-  packets = λ j. written (λ a b. a.packets ≡ b.packets) (λ _. refl) p j;
-  sending = λ j. written (λ a b. a.sending ≡ b.sending) (λ _. refl) s j;
-  flow = λ j. written (λ a b. a.flow ≡ b.flow) (λ _. refl) f j;
+  packets = λ j. link_leaves (λ _ a b. b.packets ≡ a.packets) w o k p (λ _. refl) j;
+  sending = λ j. link_leaves (λ _ a b. b.sending ≡ a.sending) w o k s (λ _. refl) j;
+  flow = λ j. link_leaves (λ _ a b. b.flow ≡ a.flow) w o k f (λ _. refl) j;
 }
-  where
-    written : (P : Link → Link → Type 0) → ((a : Link) → P a a) → P k (link_at w o) → (j : ℕ) → P (link_at (with_link w o k) j) (link_at w j)
-    written P same here j = ⊎_elim
-        (λ (lt : o < length w.links). at_set (λ i a. P a (link_at w i)) w.links o j k no_link lt here (λ _. same (link_at w j)))
-        (λ (ge : length w.links ≤ o). subst (λ ls. P (get_or ls j no_link) (link_at w j)) (sym (set_nothing w.links o k ge)) (same (link_at w j)))
-        (cases_lt o (length w.links))
 
 -- a new view
 pub view_still : (w : World) (v : Group) → IsStill w (with_view w v)
 view_still w v = record {
-  members_many = refl;
+  same = record { many = refl; rows = λ q. refl; log = λ q. refl };
   links_many = refl;
   initial = refl;
   more = refl;
-  rows = λ q. refl;
-  log = λ q. refl;
   phase = λ q. refl;
   packets = λ s. refl;
   sending = λ s. refl;

@@ -6,7 +6,8 @@ use Rattle.ring_world.specs.View.{ids, is_live}
 use Rattle.group_view.specs.Ring.{others, first_or, is_in}
 use Rattle.ring_world.specs.Machine.{World, Link, member_at, link_at, view_at, newest, left, right, runs, is_kept}
 use Rattle.ring_world.proofs.Good.{Kept, IsRing, IsLinked, true_kept}
-use Rattle.ring_world.proofs.Views.{right_is}
+use Rattle.ring_world.proofs.Views.{right_in_view}
+use Rattle.group_view.proofs.Passing.{live_in}
 
 -- entries stay, and a mark is never taken back
 pub record IsHistory (w : World) : Type 0 where
@@ -23,7 +24,7 @@ first_passes t d (x ∷ xs) h = by_case (t x) refl (first_passes t d xs h)
     by_case false e ih = ih
 
 pub right_lives : (w : World) (v x : ℕ) → is_live (view_at w v) x ≡ true → is_live (view_at w v) (right w v x) ≡ true
-right_lives w v x h = subst (λ z. is_live (view_at w v) z ≡ true) (sym (right_is w v x (view_at w v) refl)) (first_passes (is_live (view_at w v)) x (others x (ids (view_at w v))) h)
+right_lives w v x h = subst (λ z. is_live (view_at w v) z ≡ true) (sym (right_in_view w v x (live_in (view_at w v).entries x h))) (first_passes (is_live (view_at w v)) x (others x (ids (view_at w v))) h)
 
 -- x refreshes to v, and its out link, if any, doesn't go to its right neighbour there: no link to that one is kept up to v
 pub opens_period : (w : World) (x v s : ℕ) → IsRing w → IsLinked w → IsHistory w → runs w x ≡ true → (member_at w x).version ≤ v → v ≤ newest w → ((o : ℕ) → (member_at w x).out ≡ Some o → (link_at w o).receiver ≢ right w v x) → s < length w.links → (link_at w s).receiver ≡ right w v x → is_kept w (link_at w s) v ≡ false

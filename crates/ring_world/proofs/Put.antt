@@ -3,12 +3,13 @@ use Rattle.std.proofs.Common.{◌≡◌, ◌≢◌, ℕ, ◌<◌, Bool, true, fa
 use Rattle.std.specs.Prelude.{◌&&◌}
 use Rattle.std.proofs.lemmas.Bool.{cases_eq, false≢true}
 use Rattle.ring_world.specs.Refusal.{is_empty}
-use Rattle.ring_world.specs.View.{is_live, left_at}
+use Rattle.ring_world.specs.View.{is_live}
 use Rattle.group_view.specs.Ring.{rotated, is_in}
-use Rattle.ring_world.specs.Machine.{Phase, Waiting, Up, Stopped, Packet, Link, World, no_link, no_packet, row_at, numbers_at, member_at, link_at, view_at, newest, ring, left, runs, is_kept, is_waiting, runs_phase}
+use Rattle.ring_world.specs.Machine.{Phase, Waiting, Up, Stopped, Packet, Link, World, no_link, no_packet, row_at, numbers_at, member_at, link_at, view_at, newest, ring, left, runs, is_kept, is_waiting, runs_phase, oldest}
 use Rattle.ring_world.specs.Rows.{Row}
 use Rattle.ring_world.specs.declared.numbers.Numbers.{Numbers}
-use Rattle.ring_world.specs.Walk.{numbers, when, only, no_but, past_first, counted, is_early, oldest, first_packet, own_number, number, round_of, retired_by, stopped_from, running_from, stopped_prefix, walk_over, walk}
+use Rattle.ring_world.proofs.CountedWalk.{numbers, when, only, no_but, past_first, counted, is_early, round_of, retired_by, stopped_from, running_from, stopped_prefix, walk_over, walk}
+use Rattle.ring_world.specs.OpenLinks.{first_packet, own_number, number}
 use Rattle.ring_world.specs.Step.{next_packet, pushed, put_on, with_link}
 use Rattle.ring_world.proofs.Lists.{at_set}
 use Rattle.ring_world.proofs.Weakens.{Weakens, same, joined, joined_left}
@@ -16,6 +17,7 @@ use Rattle.ring_world.proofs.Links.{numbers_set, numbers_put}
 use Rattle.group_view.proofs.Lists.{cond_empty_late}
 use Rattle.group_view.proofs.Rings.{nat_eq-is, nat_eq-same, nat_eq-not}
 use Rattle.ring_world.proofs.Rounds.{round_back}
+use Rattle.ring_world.proofs.Views.{left_in_view}
 use Rattle.ring_world.proofs.Ring.{Follows, follows, follows_none}
 use Rattle.ring_world.proofs.Edits.{round_front}
 use Rattle.ring_world.proofs.Good.{IsRing, IsLinked, IsWaitingRight, out_newest}
@@ -86,14 +88,13 @@ pub runs_phase-Up : (w : World) (x : ℕ) → (member_at w x).phase ≡ Up → r
 runs_phase-Up w x e = ap runs_phase e
 
 pub receiver_follows : (w : World) (x z p y : ℕ) (ys : List ℕ) → IsRing w → runs w x ≡ true → left w (newest w) z ≡ x → running_from w p ≡ y ∷ ys → Follows x z y ys
-unfolding left_at
 receiver_follows w x z p y ys h rx l e = by_case (runs w z) refl
   where
     by_case : (b : Bool) → runs w z ≡ b → Follows x z y ys
     by_case true rz =
         follows (is_live (view_at w (newest w))) (runs w) x z p y ys (ring w) (h.distinct (newest w) (omega arith))
         (h.stands z (newest w) rz (h.held z) (omega arith))
-        (λ q rq. h.lives q (newest w) rq (h.held q) (omega arith)) rx rz l e
+        (λ q rq. h.lives q (newest w) rq (h.held q) (omega arith)) rx rz (sym (left_in_view w (newest w) z (h.stands z (newest w) rz (h.held z) (omega arith))) ∙ l) e
     by_case false rz = follows_none (runs w) x z y ys (rotated p (ring w)) rz e
 
 -- ---- the walk

@@ -4,7 +4,8 @@ use Rattle.std.specs.Prelude.{◌&&◌}
 use Rattle.ring_world.specs.Machine.{Up, Member, Link, World, no_member, row_at, member_at, link_at, runs, is_kept, runs_phase}
 use Rattle.ring_world.specs.Rows.{Row}
 use Rattle.ring_world.specs.declared.numbers.Numbers.{Numbers}
-use Rattle.ring_world.specs.Walk.{when, counted_by, counted, own_number, number, walk}
+use Rattle.ring_world.proofs.CountedWalk.{when, counted_by, counted, walk}
+use Rattle.ring_world.specs.OpenLinks.{own_number, number}
 use Rattle.ring_world.specs.Step.{size, with_member, with_current, moved_to, look_at}
 use Rattle.ring_world.proofs.Lists.{at_set}
 use Rattle.ring_world.proofs.Weakens.{Weakens}

@@ -5,10 +5,11 @@ use Rattle.std.proofs.lemmas.Bool.{ltb-false}
 use Rattle.std.proofs.lemmas.List.{length-set, set-append_left, length-drop}
 use Rattle.std.proofs.lemmas.List.Quantifiers.{position-Some}
 use Rattle.ring_names.specs.declared.reason.Reason.{Reason}
+use Rattle.ring_names.specs.declared.reason.Reason.TheVariants as reason
 use Rattle.ring_world.specs.Refusal.{refuse_if, or_else}
 use Rattle.ring_world.specs.Machine.{Phase, Waiting, Up, Stopped, Link, World, no_member, member_at, runs_phase, is_waiting}
 use Rattle.ring_world.specs.Step.{size, with_member, with_link, open_to, opened_link}
-use Rattle.ring_world.specs.Event.{id_of, is_stopped}
+use Rattle.ring_world.specs.Event.{id_of, is_stopped, up_refusal}
 
 -- neither of two conditions fails
 pub none_of : (b : Bool) (r : Reason) (later : Option Reason) → or_else (refuse_if b r) later ≡ None → (b ≡ false) × (later ≡ None)
@@ -42,6 +43,10 @@ pub up_from : (f : Phase) → is_stopped f ≡ false → is_waiting f ≡ false 
 up_from Waiting h k = cc
 up_from Up h k = refl
 up_from Stopped h k = cc
+
+-- a member that is up is judged by what comes later
+pub up_is : (w : World) (x : ℕ) (later : Option Reason) → (member_at w x).phase ≡ Up → up_refusal w x later ≡ later
+up_is w x later up = ap (λ (f : Phase). or_else (refuse_if (is_stopped f) reason.Stopped) (or_else (refuse_if (is_waiting f) reason.Waiting) later)) up
 
 -- what stands at the place that was found
 pub id_by : (w : World) (name : List ℕ) (o : Option ℕ) (x : ℕ) → position (λ y. bytes_eq y.name name) (drop 1 w.members) ≡ o → option_map (λ i. i + 1) o ≡ Some x → (1 ≤ x) × (x < size w)

@@ -4,7 +4,7 @@ use Rattle.std.specs.Prelude.{⊤}
 use Rattle.std.specs.List.{filter, flat_map}
 use Rattle.group_view.specs.Ring.{last_or}
 pub use Rattle.group_view.proofs.Rings.{nat_eq-is, nat_eq-same, nat_eq-not}
-use Rattle.ring_world.specs.Walk.{block, round}
+use Rattle.ring_world.proofs.CountedWalk.{block, round}
 use Rattle.ring_world.proofs.Weakens.{Weakens, same, equal, then, joined, joined_right, lose_one, lose_first, lose_second}
 
 -- ---- edits within the blocks

@@ -1,18 +1,16 @@
 -- The invariant of a World: what the code needs comes out of it, and one more event keeps it.
-use Rattle.std.proofs.Common.{◌≡◌, ℕ, zero, suc, ◌+◌, ◌<◌, ◌≤◌, ◌^◌, Bool, true, List, [], ◌∷◌, ◌++◌, length, get_or, None, lit<, refl, sym, ap, subst, ◌∙◌, arith}
+use Rattle.std.proofs.Common.{◌≡◌, ℕ, ◌+◌, ◌<◌, ◌≤◌, ◌^◌, Bool, true, List, [], ◌∷◌, ◌++◌, length, None, lit<, refl, sym, ap, subst, ◌∙◌, arith}
 use Rattle.std.specs.Coded.{le_prop}
 use Rattle.std.proofs.Math.Nat.{ℕ_set}
 use Rattle.std.proofs.Props.{props}
 use Rattle.std.proofs.Math.Logic.{∥∥₁_elim, ∥∥₁_map}
-use Rattle.std.proofs.lemmas.Bool.{false≢true}
 use Rattle.std.proofs.lemmas.List.{length_push}
 use Rattle.ring_names.specs.declared.numbers.CreditSpec.{CreditSpec}
-use Rattle.group_view.specs.Ring.{is_in}
 use Rattle.group_view.specs.Since.{no_group}
 use Rattle.group_view.specs.Since as group
 use Rattle.group_view.specs.Change.{AreOpeningNames, marked}
 use Rattle.group_view.proofs.Groups.{small_version}
-use Rattle.ring_world.specs.View.{ids, is_live}
+use Rattle.ring_world.specs.View.{is_live}
 use Rattle.ring_world.specs.Machine.{World, Stopped, member_at, link_at, view_at, newest}
 use Rattle.ring_world.specs.Step.{with_view, opening}
 use Rattle.ring_world.specs.Event.{Event, IsRun, last, refusal, effect}
@@ -20,17 +18,11 @@ use Rattle.ring_world.specs.Placed.{IsPlaced}
 use Rattle.ring_world.specs.Shows.{world_of}
 use Rattle.ring_world.specs.Reached.{IsReachedIn, IsRunning, state_of}
 use Rattle.ring_world.specs.declared.world.World.TheInside.{Inside}
+use Rattle.ring_world.proofs.FromLeft.{nobody_first}
 use Rattle.ring_world.proofs.Happens.{IsGood, HasViews, opening_good, mark_view_good, run_events, run_good}
 use Rattle.ring_world.proofs.Sized.{IsSized, opening_sized, event_sized, other_sized}
 
 -- ---- what the code needs, of one state
-
--- in version 0 is nobody
-some_version : (w : World) (h : HasViews w) (x v : ℕ) → is_in x (ids (view_at w v)) ≡ true → 1 ≤ v
-some_version w h x zero i =
-    let nobody : view_at w 0 ≡ no_group = ap (λ vs. get_or vs 0 no_group) h.is in
-    absurd (false≢true (sym (ap (λ g. is_in x (ids g)) nobody) ∙ i))
-some_version w h x (suc v) i = omega arith
 
 newest_is : (w : World) (h : HasViews w) → newest w ≡ length h.groups
 newest_is w h = let many = ap length h.is in omega (arith, many)
@@ -51,12 +43,10 @@ good_placed w h s = record {
   out = λ x o r e. h.inv.linked.out_lt x o r e;
   current = λ x o r e. h.inv.current.lt x o r e;
   held = h.inv.is_ring.held;
-  from_one = λ x r. some_version w h.views x (member_at w x).version (h.inv.is_ring.stands x (member_at w x).version r (omega arith) (h.inv.is_ring.held x));
-  stands = λ x v r a b. h.inv.is_ring.stands x v r a b;
+  from_one = λ x r. nobody_first w h.views (member_at w x).version x (h.inv.is_ring.stands x (member_at w x).version r (omega arith) (h.inv.is_ring.held x));
   none_waits = h.none_waits;
-  opened = λ j l. some_version w h.views (link_at w j).receiver (link_at w j).opened (h.inv.history.known j l);
+  opened = λ j l. nobody_first w h.views (link_at w j).opened (link_at w j).receiver (h.inv.history.known j l);
   upto = h.inv.linked.opened;
-  door = λ j v l a b. h.inv.history.grows (link_at w j).receiver (link_at w j).opened v (h.inv.history.known j l) a b;
 }
 
 -- a view in which one who has stopped is dead
@@ -108,11 +98,9 @@ placed_from w n v r f = record {
   current = λ x o a b. ∥∥₁_elim r le_prop (λ h. (f h).current x o a b);
   held = λ x. ∥∥₁_elim r le_prop (λ h. (f h).held x);
   from_one = λ x a. ∥∥₁_elim r le_prop (λ h. (f h).from_one x a);
-  stands = λ x u a b d. ∥∥₁_elim r (bools_set _ _) (λ h. (f h).stands x u a b d);
   none_waits = λ x. ∥∥₁_elim r (bools_set _ _) (λ h. (f h).none_waits x);
   opened = λ s a. ∥∥₁_elim r le_prop (λ h. (f h).opened s a);
   upto = λ s a. ∥∥₁_elim r le_prop (λ h. (f h).upto s a);
-  door = λ s u a b d. ∥∥₁_elim r (bools_set _ _) (λ h. (f h).door s u a b d);
 }
 
 -- ---- the same of what a World holds

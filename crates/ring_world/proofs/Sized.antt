@@ -1,27 +1,28 @@
 -- Members stay as many as they are, each has a row for each, and its own row has got all that it published.
-use Rattle.std.proofs.Common.{◌≡◌, ℕ, zero, suc, ◌<◌, ◌≤◌, ◌+◌, true, List, [], ◌∷◌, ◌++◌, length, map, get_or, set, Option, Some, None, refl, sym, ap, ◌∙◌, arith}
+use Rattle.std.proofs.Common.{◌≡◌, ℕ, suc, ◌<◌, ◌≤◌, ◌+◌, true, List, [], ◌∷◌, ◌++◌, length, map, get_or, set, Option, Some, None, refl, sym, ap, ◌∙◌, arith}
 use Rattle.std.specs.List.{range_with_len}
 use Rattle.std.proofs.lemmas.List.{length-set, length_push, get_or-set_same}
 use Rattle.std.proofs.lemmas.List.FromFn.{length-map-range_with_len, get_or-map-range_with_len}
 use Rattle.ring_names.specs.declared.message.Message.{Message}
 use Rattle.ring_names.specs.declared.numbers.CreditSpec.{CreditSpec}
-use Rattle.ring_world.specs.Rows.{no_row, Row}
+use Rattle.ring_world.specs.Rows.{no_row, Row, taken_row}
 use Rattle.group_view.specs.View.{Group}
 use Rattle.group_view.specs.Change.{AreOpeningNames, marked}
 use Rattle.ring_world.specs.View.{right_of}
-use Rattle.ring_world.specs.Machine.{Member, Link, World, Moved, Halted, no_member, member_at, link_at, view_at, newest, row_at, numbers_at}
-use Rattle.ring_world.specs.Walk.{oldest}
-use Rattle.ring_world.specs.Step.{size, publish_at, published, take_from, taker, taken_row, is_owned, log_of, current_is, with_current, leave_link, stop_at, stopped, end_out, with_view, look_at, moved_to, open_to, ended, opening, opening_member}
+use Rattle.ring_world.specs.Machine.{Member, Link, World, Moved, Halted, no_member, member_at, link_at, view_at, newest, row_at, numbers_at, oldest}
+use Rattle.ring_world.specs.Step.{size, publish_at, published, take_from, taker, is_owned, log_of, current_is, with_current, leave_link, stop_at, stopped, end_out, with_view, look_at, moved_to, open_to, ended, opening, opening_member}
 use Rattle.ring_world.specs.Event.{Event, refreshed, refusal, effect}
 use Rattle.ring_world.proofs.Lists.{at_set}
 use Rattle.ring_world.proofs.Rounds.{nat_eq-same}
+use Rattle.ring_world.proofs.Good.{HasRows}
+use Rattle.ring_world.proofs.First.{first_member}
 use Rattle.ring_world.proofs.Cases.{each_event}
 use Rattle.ring_world.proofs.Composed.{end_composed, refresh_composed}
 use Rattle.ring_world.proofs.Happens.{IsGood}
 
 pub record IsSized (w : World) : Type 0 where
   pub few : size w ≤ 65
-  pub rows : (x : ℕ) → 1 ≤ x → x < size w → length (member_at w x).rows ≡ size w
+  pub rows : HasRows w
   pub own : (x : ℕ) → 1 ≤ x → x < size w → (row_at (member_at w x) x).got ≡ length (log_of w x)
 
 -- links and views count for nothing
@@ -104,15 +105,11 @@ opening_sized credit names are = record { few = omega (arith, many, are.few); ro
     many : length (map (opening_member names) (range_with_len 1 n)) ≡ n
     many = length-map-range_with_len (opening_member names) 1 n
 
-    member : (x : ℕ) → 1 ≤ x → x < size (opening credit names) → member_at (opening credit names) x ≡ opening_member names x
-    member zero some lt = absurd (omega arith)
-    member (suc k) some lt = get_or-map-range_with_len (opening_member names) 1 n k (suc k) no_member (omega (arith, many)) (omega arith)
-
     at_opening : (x : ℕ) → 1 ≤ x → x < size (opening credit names) → length (member_at (opening credit names) x).rows ≡ size (opening credit names)
-    at_opening x some lt = ap (λ m. length m.rows) (member x some lt) ∙ length-map-range_with_len (λ _. no_row) 0 (n + 1) ∙ (let same : n + 1 ≡ suc (length (map (opening_member names) (range_with_len 1 n))) = omega (arith, many) in same)
+    at_opening x some lt = ap (λ m. length m.rows) (first_member credit names x some lt) ∙ length-map-range_with_len (λ _. no_row) 0 (n + 1) ∙ (let same : n + 1 ≡ suc (length (map (opening_member names) (range_with_len 1 n))) = omega (arith, many) in same)
 
     own_at : (x : ℕ) → 1 ≤ x → x < size (opening credit names) → (row_at (member_at (opening credit names) x) x).got ≡ length (log_of (opening credit names) x)
     own_at x some lt =
-        ap (λ m. (row_at m x).got) (member x some lt)
+        ap (λ m. (row_at m x).got) (first_member credit names x some lt)
         ∙ ap (λ (r : Row). r.got) (get_or-map-range_with_len (λ _. no_row) 0 (n + 1) x x no_row (omega (arith, many)) (omega arith))
-        ∙ ap (λ m. length m.log) (sym (member x some lt))
+        ∙ ap (λ m. length m.log) (sym (first_member credit names x some lt))

@@ -8,7 +8,7 @@ use Rattle.group_view.specs.Ring.{before, from, after, rotated, others, is_in}
 use Rattle.ring_world.specs.View.{ids, is_live, between}
 use Rattle.ring_world.proofs.Lists.{get_or_beyond}
 use Rattle.ring_world.specs.Machine.{no_link, World, member_at, link_at, view_at, row_at, numbers_at, newest, ring, left, runs, is_kept}
-use Rattle.ring_world.specs.Walk.{is_early, only, counted, stopped_from, running_from}
+use Rattle.ring_world.proofs.CountedWalk.{is_early, only, counted, stopped_from, running_from}
 use Rattle.ring_world.specs.Step.{is_owned}
 use Rattle.group_view.proofs.Rings.{sym_test, is_in-rotated, not_in_before, rotated_is, in_before, nat_eq-is, nat_eq-same, distinct_others, from_inside}
 pub use Rattle.group_view.proofs.Rings.{distinct_first}
@@ -19,7 +19,7 @@ use Rattle.group_view.proofs.Passing.{left_inside}
 use Rattle.ring_world.proofs.Gaps.{prefix_before}
 use Rattle.ring_world.proofs.Good.{Kept, IsRing, IsLinked, true_kept}
 use Rattle.ring_world.proofs.Period.{IsHistory}
-use Rattle.ring_world.proofs.Views.{left_is}
+use Rattle.ring_world.proofs.Views.{left_in_view}
 use Rattle.ring_world.proofs.Take.{CanTake, Standing, elsewhere, first_time, unknown, come_round, taken_packet}
 use Rattle.ring_world.proofs.Put.{runs_phase-Up}
 
@@ -64,7 +64,7 @@ pub record IsOrdered (w : World) : Type 0 where
 -- the left neighbour of an entry is known where the entry is
 pub left_known : (w : World) (v y s : ℕ) → IsRing w → v ≤ newest w → knows w v y ≡ true → left w v y ≡ s → knows w v s ≡ true
 left_known w v y s hr vn yv e =
-    subst (λ q. knows w v q ≡ true) (sym (left_is w v y (view_at w v) refl) ∙ e) (left_inside (is_live (view_at w v)) y (ids (view_at w v)) (hr.distinct v vn) yv)
+    subst (λ q. knows w v q ≡ true) (sym (left_in_view w v y yv) ∙ e) (left_inside (is_live (view_at w v)) y (ids (view_at w v)) (hr.distinct v vn) yv)
 
 -- what stands between two entries of a view is what it knows of those between them in the newest ring
 pub between_is : (w : World) (v y s : ℕ) → IsOrdered w → v ≤ newest w → knows w v y ≡ true → knows w v s ≡ true → between (view_at w v) s y ≡ filter (knows w v) (before y (others s (ring w)))
@@ -83,7 +83,7 @@ owned_facts w y v s p hr hh ho vn yv el hp = record {
   old = λ q i. all_true_at t q (from p b) old_b (ap (is_in q) (sym pre) ∙ i);
   dead = λ q i.
       let iq : is_in q (from p b) ≡ true = ap (is_in q) (sym pre) ∙ i in
-      filter_empty_at (is_live (view_at w v)) q (between (view_at w v) s y) (left_gap (is_live (view_at w v)) s y (ids (view_at w v)) (hr.distinct v vn) (distinct_others y (ids (view_at w v)) (hr.distinct v vn) yv) yv (sym (left_is w v y (view_at w v) refl) ∙ el))
+      filter_empty_at (is_live (view_at w v)) q (between (view_at w v) s y) (left_gap (is_live (view_at w v)) s y (ids (view_at w v)) (hr.distinct v vn) (distinct_others y (ids (view_at w v)) (hr.distinct v vn) yv) yv (sym (left_in_view w v y yv) ∙ el))
       (ap (is_in q) is ∙ in-filter t q b (from_inside p q b iq) (all_true_at t q (from p b) old_b iq));
 }
   where
@@ -176,7 +176,7 @@ standing w y s p hr hl hh ho hm hk ht pn = by_owned (nat_eq p y) refl (is_in p (
     left_at_view : (u : ℕ) (q : ℕ) → v ≤ u → u ≤ newest w → left w u y ≡ q → IsLeft (is_live (view_at w u)) q y (ids (view_at w u))
     left_at_view u q a b e =
         let yu : knows w u y ≡ true = hr.stands y u ry a b in
-        left_is_left (is_live (view_at w u)) q y (ids (view_at w u)) (distinct_others y (ids (view_at w u)) (hr.distinct u b) yu) yu (sym (left_is w u y (view_at w u) refl) ∙ e)
+        left_is_left (is_live (view_at w u)) q y (ids (view_at w u)) (distinct_others y (ids (view_at w u)) (hr.distinct u b) yu) yu (sym (left_in_view w u y yu) ∙ e)
 
     zv : knows w v z ≡ true
     zv = left_known w v y z hr vn yv el
@@ -247,13 +247,10 @@ standing w y s p hr hl hh ho hm hk ht pn = by_owned (nat_eq p y) refl (is_in p (
     unseen : is_in p (between (view_at w v) z y) ≡ false → nat_eq p y ≡ false → (qs : List ℕ) → running_from w p ≡ y ∷ qs → is_early (stopped_from w p) (link_at w s) ≡ false → knows w v p ≡ false
     unseen outside differs qs e late = false_from_ne_true (knows w v p) (λ k. false≢true (sym outside ∙ ap (is_in p) (between_is w v y z ho vn yv zv) ∙ in-filter (knows w v) p (before y (others z (ring w))) inside k))
       where
-        idle : filter (runs w) (before y c) ≡ []
-        idle = no_front (runs w) y qs c yc ry e
-
         inside : is_in p (before y (others z (ring w))) ≡ true
         inside =
             between_from p z y (ring w) (hr.distinct (newest w) (omega arith)) (distinct_others z (ring w) (hr.distinct (newest w) (omega arith)) zn) zn pn (sym_test p y false differs)
-            (ap (is_in z) (sym (prefix_before (runs w) y c idle yc ry)) ∙ late)
+            (ap (is_in z) (sym (prefix_before (runs w) y c (no_front (runs w) y qs c yc ry e) yc ry)) ∙ late)
 
     elsewhere_or : is_in p (between (view_at w v) z y) ≡ false → nat_eq p y ≡ false → is_owned (view_at w v) y z p ≡ false → (us : List ℕ) → running_from w p ≡ us → Standing w y s p
     elsewhere_or outside differs own [] e = absurd (false≢true (ap (is_in y) (sym e) ∙ in-filter (runs w) y c yc ry))

@@ -5,7 +5,8 @@ use Rattle.group_view.specs.Ring.{rotated, is_in, AreDistinct}
 use Rattle.ring_world.specs.Rows.{Row}
 use Rattle.ring_world.specs.declared.numbers.Numbers.{Numbers}
 use Rattle.ring_world.specs.Machine.{Packet, Link, World, no_member, row_at, numbers_at, member_at, link_at, ring, runs, is_kept, runs_phase}
-use Rattle.ring_world.specs.Walk.{numbers, only, no_but, counted_by, counted, block, is_early, own_number, number, round_of, stopped_from, running_from, stopped_prefix, walk_over, walk}
+use Rattle.ring_world.proofs.CountedWalk.{numbers, only, no_but, counted_by, counted, block, is_early, round_of, stopped_from, running_from, stopped_prefix, walk_over, walk}
+use Rattle.ring_world.specs.OpenLinks.{own_number, number}
 use Rattle.ring_world.specs.Step.{size, stopped, stop_at}
 use Rattle.ring_world.proofs.Lists.{at_set}
 use Rattle.ring_world.proofs.Weakens.{FallsTo, FallsTo-append, Weakens, equal, joined, then, lose_second}

@@ -5,11 +5,12 @@ use Rattle.std.proofs.lemmas.Bool.{false≢true}
 use Rattle.std.proofs.lemmas.List.FromFn.{get_or-map-range_with_len}
 use Rattle.ring_world.specs.Refusal.{is_empty}
 use Rattle.group_view.specs.Ring.{rotated, is_in, AreDistinct, before, after}
-use Rattle.ring_world.specs.Machine.{Phase, Waiting, Up, Stopped, Packet, Link, World, no_link, no_packet, no_member, row_at, numbers_at, member_at, link_at, view_at, ring, runs, is_kept, runs_phase}
-use Rattle.ring_world.specs.Rows.{Row, no_row}
+use Rattle.ring_world.specs.Machine.{Phase, Waiting, Up, Stopped, Packet, Link, World, no_link, no_packet, no_member, row_at, numbers_at, member_at, link_at, view_at, ring, runs, is_kept, runs_phase, oldest}
+use Rattle.ring_world.specs.Rows.{Row, no_row, taken_row}
 use Rattle.ring_world.specs.declared.numbers.Numbers.{Numbers}
-use Rattle.ring_world.specs.Walk.{numbers, only, no_but, counted_by, counted, block, is_early, oldest, first_packet, own_number, number, round_of, stopped_from, running_from, walk_over, walk}
-use Rattle.ring_world.specs.Step.{size, popped, taken_row, is_owned, taker, take_from, log_of}
+use Rattle.ring_world.proofs.CountedWalk.{numbers, only, no_but, counted_by, counted, block, is_early, round_of, stopped_from, running_from, walk_over, walk}
+use Rattle.ring_world.specs.OpenLinks.{first_packet, own_number, number}
+use Rattle.ring_world.specs.Step.{size, popped, is_owned, taker, take_from, log_of}
 use Rattle.ring_world.proofs.Lists.{at_set}
 use Rattle.ring_world.proofs.Weakens.{Weakens, equal, joined}
 use Rattle.ring_world.proofs.Links.{numbers_take, numbers_set, numbers_agree, numbers_none}
@@ -157,55 +158,51 @@ pub data Standing (w : World) (y s p : ℕ) : Type 0 where
   -- y is its owner, and the packet has come round
   come_round : (qs : List ℕ) → running_from w p ≡ y ∷ qs → is_owned (view_at w (member_at w y).version) y (link_at w s).sender p ≡ true → ((j : ℕ) → only (is_early (stopped_from w p)) (counted w y) (link_at w j) ≡ []) → is_early (stopped_from w p) (link_at w s) ≡ false → Standing w y s p
 
--- a round where y doesn't own the origin in its view
-pub take_round_elsewhere : (g : Numbers → ℕ) (r : Row → ℕ) (w : World) (y s p q : ℕ) (qs : List ℕ) → ((a : Row) (k : Numbers) (l : List Message) → r (taken_row false l a k) ≡ g k) → CanTake w y s → p < size w → q ≢ y → is_owned (view_at w (member_at w y).version) y (link_at w s).sender p ≡ false → Weakens (round_of g r w p (stopped_from w p) (q ∷ qs)) (round_of g r (take_from w y s) p (stopped_from w p) (q ∷ qs))
-take_round_elsewhere g r w y s p q qs gr h pl differs no_own =
-    let f : Packet → ℕ = λ k. g (numbers_at k p) in
-    let st : List ℕ = stopped_from w p in
-    let w' : World = take_from w y s in
-    round_take (λ q. numbers f (only (is_early st) (counted w q)) w.links) (λ q. numbers f (only (is_early st) (counted w' q)) (links_after w s))
-    (λ q. numbers f (counted w q) w.links) (λ q. numbers f (counted w' q) (links_after w s))
-    (λ q. numbers f (no_but (is_early st) (counted w q)) w.links) (λ q. numbers f (no_but (is_early st) (counted w' q)) (links_after w s))
-    (number g r w p) (number g r w' p) y (f (taken_packet w s)) q qs differs
-    (λ x d. take_number_other g r w y s p x h d)
-    (take_number_elsewhere g r w y s p gr h pl no_own)
-    (λ x d. take_numbers_other f w y s x h d)
-    (take_numbers f w y s h)
-    (λ x d. take_early_other f st w y s x h d)
-    (λ x d. take_late_other f st w y s x h d)
+-- ---- a round where y doesn't own the origin in its view
 
-pub take_round_early : (g : Numbers → ℕ) (r : Row → ℕ) (w : World) (y s p : ℕ) (qs : List ℕ) → ((a : Row) (k : Numbers) (l : List Message) → r (taken_row false l a k) ≡ g k) → CanTake w y s → p < size w → is_early (stopped_from w p) (link_at w s) ≡ true → is_owned (view_at w (member_at w y).version) y (link_at w s).sender p ≡ false → Weakens (round_of g r w p (stopped_from w p) (y ∷ qs)) (round_of g r (take_from w y s) p (stopped_from w p) (y ∷ qs))
-take_round_early g r w y s p qs gr h pl e no_own =
-    let f : Packet → ℕ = λ k. g (numbers_at k p) in
-    let st : List ℕ = stopped_from w p in
-    let w' : World = take_from w y s in
-    round_take_early (λ q. numbers f (only (is_early st) (counted w q)) w.links) (λ q. numbers f (only (is_early st) (counted w' q)) (links_after w s))
-    (λ q. numbers f (counted w q) w.links) (λ q. numbers f (counted w' q) (links_after w s))
-    (λ q. numbers f (no_but (is_early st) (counted w q)) w.links) (λ q. numbers f (no_but (is_early st) (counted w' q)) (links_after w s))
-    (number g r w p) (number g r w' p) y (f (taken_packet w s)) qs
-    (λ x d. take_number_other g r w y s p x h d)
-    (take_number_elsewhere g r w y s p gr h pl no_own)
-    (λ x d. take_numbers_other f w y s x h d)
-    (take_numbers f w y s h)
-    (take_early f st w y s h e)
-    (take_early_late f st w y s h e)
+module _ (g : Numbers → ℕ) (r : Row → ℕ) (w : World) (y s p : ℕ) (says : (a : Row) (k : Numbers) (l : List Message) → r (taken_row false l a k) ≡ g k) (h : CanTake w y s) (pl : p < size w) (no_own : is_owned (view_at w (member_at w y).version) y (link_at w s).sender p ≡ false) where
+  -- what a packet says of the origin
+  abbrev said : Packet → ℕ
+  said k = g (numbers_at k p)
 
-pub take_round_unknown : (g : Numbers → ℕ) (r : Row → ℕ) (w : World) (y s p : ℕ) (qs : List ℕ) → ((a : Row) (k : Numbers) (l : List Message) → r (taken_row false l a k) ≡ g k) → CanTake w y s → p < size w → is_early (stopped_from w p) (link_at w s) ≡ false → is_owned (view_at w (member_at w y).version) y (link_at w s).sender p ≡ false → g (numbers_at (taken_packet w s) p) ≡ r (row_at (member_at w y) p) → Weakens (round_of g r w p (stopped_from w p) (y ∷ qs)) (round_of g r (take_from w y s) p (stopped_from w p) (y ∷ qs))
-take_round_unknown g r w y s p qs gr h pl e no_own was =
-    let f : Packet → ℕ = λ k. g (numbers_at k p) in
-    let st : List ℕ = stopped_from w p in
-    let w' : World = take_from w y s in
-    round_take_nothing (λ q. numbers f (only (is_early st) (counted w q)) w.links) (λ q. numbers f (only (is_early st) (counted w' q)) (links_after w s))
-    (λ q. numbers f (counted w q) w.links) (λ q. numbers f (counted w' q) (links_after w s))
-    (λ q. numbers f (no_but (is_early st) (counted w q)) w.links) (λ q. numbers f (no_but (is_early st) (counted w' q)) (links_after w s))
-    (number g r w p) (number g r w' p) y (f (taken_packet w s)) qs
-    (λ x d. take_number_other g r w y s p x h d)
-    (take_number_elsewhere g r w y s p gr h pl no_own)
-    (ap (λ b. own_number g r w p b (member_at w y)) h.up ∙ sym was)
-    (λ x d. take_numbers_other f w y s x h d)
-    (take_numbers f w y s h)
-    (take_late_early f st w y s h e)
-    (take_late f st w y s h e)
+  -- what counts at a member, of a state with these links: of the early packets, of all, and of the late ones
+  abbrev early_at : World → List Link → ℕ → List ℕ
+  early_at v ls q = numbers said (only (is_early (stopped_from w p)) (counted v q)) ls
+
+  abbrev all_at : World → List Link → ℕ → List ℕ
+  all_at v ls q = numbers said (counted v q) ls
+
+  abbrev late_at : World → List Link → ℕ → List ℕ
+  late_at v ls q = numbers said (no_but (is_early (stopped_from w p)) (counted v q)) ls
+
+  -- y's own number is then what the packet says
+  own_says : number g r (take_from w y s) p y ≡ said (taken_packet w s)
+  own_says = take_number_elsewhere g r w y s p says h pl no_own
+
+  -- y isn't the owner
+  pub take_round_elsewhere : (q : ℕ) (qs : List ℕ) → q ≢ y → Weakens (round_of g r w p (stopped_from w p) (q ∷ qs)) (round_of g r (take_from w y s) p (stopped_from w p) (q ∷ qs))
+  take_round_elsewhere q qs differs =
+      round_take (early_at w w.links) (early_at (take_from w y s) (links_after w s)) (all_at w w.links) (all_at (take_from w y s) (links_after w s)) (late_at w w.links) (late_at (take_from w y s) (links_after w s))
+      (number g r w p) (number g r (take_from w y s) p) y (said (taken_packet w s)) q qs differs (λ x d. take_number_other g r w y s p x h d) own_says
+      (λ x d. take_numbers_other said w y s x h d) (take_numbers said w y s h)
+      (λ x d. take_early_other said (stopped_from w p) w y s x h d) (λ x d. take_late_other said (stopped_from w p) w y s x h d)
+
+  -- it is the owner, and the packet is early
+  pub take_round_early : (qs : List ℕ) → is_early (stopped_from w p) (link_at w s) ≡ true → Weakens (round_of g r w p (stopped_from w p) (y ∷ qs)) (round_of g r (take_from w y s) p (stopped_from w p) (y ∷ qs))
+  take_round_early qs e =
+      round_take_early (early_at w w.links) (early_at (take_from w y s) (links_after w s)) (all_at w w.links) (all_at (take_from w y s) (links_after w s)) (late_at w w.links) (late_at (take_from w y s) (links_after w s))
+      (number g r w p) (number g r (take_from w y s) p) y (said (taken_packet w s)) qs (λ x d. take_number_other g r w y s p x h d) own_says
+      (λ x d. take_numbers_other said w y s x h d) (take_numbers said w y s h)
+      (take_early said (stopped_from w p) w y s h e) (take_early_late said (stopped_from w p) w y s h e)
+
+  -- or it is late, and says what y has already
+  pub take_round_unknown : (qs : List ℕ) → is_early (stopped_from w p) (link_at w s) ≡ false → said (taken_packet w s) ≡ r (row_at (member_at w y) p) → Weakens (round_of g r w p (stopped_from w p) (y ∷ qs)) (round_of g r (take_from w y s) p (stopped_from w p) (y ∷ qs))
+  take_round_unknown qs e was =
+      round_take_nothing (early_at w w.links) (early_at (take_from w y s) (links_after w s)) (all_at w w.links) (all_at (take_from w y s) (links_after w s)) (late_at w w.links) (late_at (take_from w y s) (links_after w s))
+      (number g r w p) (number g r (take_from w y s) p) y (said (taken_packet w s)) qs (λ x d. take_number_other g r w y s p x h d) own_says
+      (ap (λ b. own_number g r w p b (member_at w y)) h.up ∙ sym was)
+      (λ x d. take_numbers_other said w y s x h d) (take_numbers said w y s h)
+      (take_late_early said (stopped_from w p) w y s h e) (take_late said (stopped_from w p) w y s h e)
 
 -- retired of the first running member
 pub take_retired_other : (w : World) (y s p q : ℕ) → y < size w → q ≢ y → (row_at (member_at (take_from w y s) q) p).retired ≡ (row_at (member_at w q) p).retired
@@ -266,20 +263,20 @@ pub take_over : (w : World) (y s p : ℕ) → CanTake w y s → p < size w → A
 take_over w y s p h pl d inring (elsewhere q qs e differs no_own) =
     subst (λ ys. Weakens (walk_over w p (stopped_from w p) ys) (walk_over (take_from w y s) p (stopped_from w p) ys)) (sym e)
     (joined _ _ _ _
-    (take_round_elsewhere (λ k. k.got) (λ a. a.got) w y s p q qs (λ a k l. refl) h pl differs no_own)
-    (joined _ _ _ _ (take_round_elsewhere (λ k. k.forgot) (λ a. a.forgot) w y s p q qs (λ a k l. refl) h pl differs no_own)
+    (take_round_elsewhere (λ k. k.got) (λ a. a.got) w y s p (λ a k l. refl) h pl no_own q qs differs)
+    (joined _ _ _ _ (take_round_elsewhere (λ k. k.forgot) (λ a. a.forgot) w y s p (λ a k l. refl) h pl no_own q qs differs)
     (equal _ _ (ap (λ a. a ∷ []) (sym (take_retired_other w y s p q h.is_member differs))))))
 take_over w y s p h pl d inring (first_time qs e was no_own) =
     subst (λ ys. Weakens (walk_over w p (stopped_from w p) ys) (walk_over (take_from w y s) p (stopped_from w p) ys)) (sym e)
     (joined _ _ _ _
-    (take_round_early (λ k. k.got) (λ a. a.got) w y s p qs (λ a k l. refl) h pl was no_own)
-    (joined _ _ _ _ (take_round_early (λ k. k.forgot) (λ a. a.forgot) w y s p qs (λ a k l. refl) h pl was no_own)
+    (take_round_early (λ k. k.got) (λ a. a.got) w y s p (λ a k l. refl) h pl no_own qs was)
+    (joined _ _ _ _ (take_round_early (λ k. k.forgot) (λ a. a.forgot) w y s p (λ a k l. refl) h pl no_own qs was)
     (equal _ _ (ap (λ a. a ∷ []) (sym (take_retired w y s p h.is_member pl no_own))))))
 take_over w y s p h pl d inring (unknown qs e was no_own gg gf) =
     subst (λ ys. Weakens (walk_over w p (stopped_from w p) ys) (walk_over (take_from w y s) p (stopped_from w p) ys)) (sym e)
     (joined _ _ _ _
-    (take_round_unknown (λ k. k.got) (λ a. a.got) w y s p qs (λ a k l. refl) h pl was no_own gg)
-    (joined _ _ _ _ (take_round_unknown (λ k. k.forgot) (λ a. a.forgot) w y s p qs (λ a k l. refl) h pl was no_own gf)
+    (take_round_unknown (λ k. k.got) (λ a. a.got) w y s p (λ a k l. refl) h pl no_own qs was gg)
+    (joined _ _ _ _ (take_round_unknown (λ k. k.forgot) (λ a. a.forgot) w y s p (λ a k l. refl) h pl no_own qs was gf)
     (equal _ _ (ap (λ a. a ∷ []) (sym (take_retired w y s p h.is_member pl no_own))))))
 take_over w y s p h pl d inring (come_round qs e own none late) =
     let st : List ℕ = stopped_from w p in

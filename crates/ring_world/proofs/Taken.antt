@@ -6,16 +6,15 @@ use Rattle.std.proofs.lemmas.List.FromFn.{get_or-map-range_with_len, length-map-
 use Rattle.std.proofs.lemmas.List.{length-map, map-set}
 use Rattle.ring_names.specs.declared.message.Message.{Message}
 use Rattle.ring_world.specs.declared.numbers.Numbers.{Numbers}
-use Rattle.ring_world.specs.Rows.{Row}
+use Rattle.ring_world.specs.Rows.{Row, brought, taken_with}
 use Rattle.group_view.specs.View.{Group}
 use Rattle.group_view.specs.Since.{no_group}
 use Rattle.ring_world.specs.declared.wire.Wire.{Wire}
 use Rattle.ring_world.specs.declared.state.Ring.{Ring}
 use Rattle.ring_world.specs.declared.seat.Seat.{Seat}
 use Rattle.ring_world.specs.declared.seat.Brought.{Brought}
-use Rattle.ring_world.specs.Machine.{Packet, Member, Link, World, no_link, no_member, row_at, numbers_at}
-use Rattle.ring_world.specs.Step.{is_owned, brought, taken, taken_with, popped, take_from}
-use Rattle.ring_world.specs.Walk.{oldest}
+use Rattle.ring_world.specs.Machine.{Packet, Member, Link, World, no_link, no_member, row_at, numbers_at, oldest}
+use Rattle.ring_world.specs.Step.{is_owned, taken, popped, take_from}
 use Rattle.ring_world.specs.Shows.{world_of, link_of, link_in, member_of, member_in, news_of, news_at, no_news, news_in, with_rows, News}
 use Rattle.ring_world.proofs.Maps.{map-range_same}
 use Rattle.ring_world.proofs.ShownParts.{mapped_read, mapped_write, mapped_rewrite}

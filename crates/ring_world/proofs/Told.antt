@@ -4,10 +4,9 @@ use Rattle.std.specs.List.{filter, flat_map, range_with_len}
 use Rattle.ring_world.specs.declared.walk.Round.{Round}
 use Rattle.ring_world.specs.declared.walk.Part.TheVariants.{Every, Early, Late}
 use Rattle.ring_world.specs.Machine.{World, runs, runs_phase, no_member}
-use Rattle.ring_world.specs.Walk.{number}
-use Rattle.ring_world.specs.OpenLinks.{open_links, open_packets, packets_on, stop_of, round_trip}
-use Rattle.ring_world.specs.Walking.{reads, reads_row, says, said, stop_at}
-use Rattle.std.proofs.lemmas.List.{drop_more, map-append, reverse-append, append_assoc, get_or-map, get_or_past, length-map}
+use Rattle.ring_world.specs.OpenLinks.{open_links, open_packets, packets_on, stop_of, round_trip, number}
+use Rattle.ring_world.specs.Walking.{reads, reads_row, says, said, stop_says}
+use Rattle.std.proofs.lemmas.List.{drop_more, map-append, reverse-append, append_assoc, get_or-map, get_or_past, length-map, append-nil}
 use Rattle.std.proofs.lemmas.List.Elements.{filter_passes, filter-append}
 use Rattle.std.proofs.lemmas.Bool.{cases_lt, false≢true}
 use Rattle.group_view.specs.declared.entry.Entry.{Entry}
@@ -36,29 +35,52 @@ gathered g packets sel opn links = map g (reverse (flat_map packets (filter sel 
 pub range_first : (s n : ℕ) → s < n → range_with_len s (n - s) ≡ s ∷ range_with_len (s + 1) (n - (s + 1))
 range_first s n l = ap (range_with_len s) (let more : n - s ≡ suc (n - (s + 1)) = omega arith in more)
 
--- a link that isn't open
-pub shut : {B : Type 0} (g : B → ℕ) (packets : ℕ → List B) (sel opn : ℕ → Bool) (s n : ℕ) → s < n → opn s ≡ false →
-    gathered g packets sel opn (range_with_len (s + 1) (n - (s + 1))) ≡ gathered g packets sel opn (range_with_len s (n - s))
-shut g packets sel opn s n l shuts =
-    sym (ap (gathered g packets sel opn) (range_first s n l) ∙ ap (λ b. map g (reverse (flat_map packets (filter sel (cond b (s ∷ filter opn (range_with_len (s + 1) (n - (s + 1)))) (filter opn (range_with_len (s + 1) (n - (s + 1))))))))) shuts)
+-- on one link more
+gathered_head : {B : Type 0} (g : B → ℕ) (packets : ℕ → List B) (sel opn : ℕ → Bool) (s : ℕ) (rest : List ℕ) →
+    gathered g packets sel opn (s ∷ rest) ≡ gathered g packets sel opn rest ++ gathered g packets sel opn (s ∷ [])
+gathered_head {B} g packets sel opn s rest = by_open (opn s)
+  where
+    said : List ℕ → List ℕ
+    said links = map g (reverse (flat_map packets links))
 
--- one that is open, and doesn't count
-pub passed : {B : Type 0} (g : B → ℕ) (packets : ℕ → List B) (sel opn : ℕ → Bool) (s n : ℕ) → s < n → opn s ≡ true → sel s ≡ false →
-    gathered g packets sel opn (range_with_len (s + 1) (n - (s + 1))) ≡ gathered g packets sel opn (range_with_len s (n - s))
-passed g packets sel opn s n l opens skips =
-    let rest : List ℕ = filter opn (range_with_len (s + 1) (n - (s + 1))) in
-    sym (ap (gathered g packets sel opn) (range_first s n l) ∙ ap (λ b. map g (reverse (flat_map packets (filter sel (cond b (s ∷ rest) rest))))) opens
-    ∙ ap (λ b. map g (reverse (flat_map packets (cond b (s ∷ filter sel rest) (filter sel rest))))) skips)
+    opened : List ℕ
+    opened = filter opn rest
 
--- one that counts
-pub gathered_more : {B : Type 0} (g : B → ℕ) (packets : ℕ → List B) (sel opn : ℕ → Bool) (s n : ℕ) (before walk : List ℕ) → s < n → opn s ≡ true → sel s ≡ true →
+    by_counted : (b : Bool) → said (cond b (s ∷ filter sel opened) (filter sel opened)) ≡ said (filter sel opened) ++ said (cond b (s ∷ []) [])
+    by_counted true =
+        ap (map g) (reverse-append (packets s) (flat_map packets (filter sel opened))) ∙ map-append g (reverse (flat_map packets (filter sel opened))) (reverse (packets s))
+        ∙ ap (λ ks. said (filter sel opened) ++ map g (reverse ks)) (sym (append-nil (packets s)))
+    by_counted false = sym (append-nil (said (filter sel opened)))
+
+    by_open : (b : Bool) → said (filter sel (cond b (s ∷ opened) opened)) ≡ said (filter sel opened) ++ said (filter sel (cond b (s ∷ []) []))
+    by_open true = by_counted (sel s)
+    by_open false = sym (append-nil (said (filter sel opened)))
+
+-- read from behind
+pub gathered_more : {B : Type 0} (g : B → ℕ) (packets : ℕ → List B) (sel opn : ℕ → Bool) (s n : ℕ) (before walk : List ℕ) → s < n →
     walk ≡ before ++ gathered g packets sel opn (range_with_len (s + 1) (n - (s + 1))) →
-    walk ++ map g (reverse (packets s)) ≡ before ++ gathered g packets sel opn (range_with_len s (n - s))
-gathered_more g packets sel opn s n before walk l opens counts e =
-    let rest : List ℕ = filter opn (range_with_len (s + 1) (n - (s + 1))) in
-    said_more g (flat_map packets (filter sel rest)) (packets s) before walk e
-    ∙ ap (λ zs. before ++ zs) (sym (ap (gathered g packets sel opn) (range_first s n l) ∙ ap (λ b. map g (reverse (flat_map packets (filter sel (cond b (s ∷ rest) rest))))) opens
-    ∙ ap (λ b. map g (reverse (flat_map packets (cond b (s ∷ filter sel rest) (filter sel rest))))) counts))
+    walk ++ gathered g packets sel opn (s ∷ []) ≡ before ++ gathered g packets sel opn (range_with_len s (n - s))
+gathered_more g packets sel opn s n before walk l e =
+    let rest : List ℕ = range_with_len (s + 1) (n - (s + 1)) in
+    ap (λ zs. zs ++ gathered g packets sel opn (s ∷ [])) e
+    ∙ append_assoc before (gathered g packets sel opn rest) (gathered g packets sel opn (s ∷ []))
+    ∙ ap (λ zs. before ++ zs) (sym (gathered_head g packets sel opn s rest) ∙ sym (ap (gathered g packets sel opn) (range_first s n l)))
+
+-- a link that isn't open says nothing
+pub shut : {B : Type 0} (g : B → ℕ) (packets : ℕ → List B) (sel opn : ℕ → Bool) (s : ℕ) (walk : List ℕ) → opn s ≡ false → walk ≡ walk ++ gathered g packets sel opn (s ∷ [])
+shut g packets sel opn s walk shuts = sym (ap (λ b. walk ++ map g (reverse (flat_map packets (filter sel (cond b (s ∷ []) []))))) shuts ∙ append-nil walk)
+
+-- nor one that is open, and doesn't count
+pub passed : {B : Type 0} (g : B → ℕ) (packets : ℕ → List B) (sel opn : ℕ → Bool) (s : ℕ) (walk : List ℕ) → opn s ≡ true → sel s ≡ false → walk ≡ walk ++ gathered g packets sel opn (s ∷ [])
+passed g packets sel opn s walk opens skips =
+    sym (ap (λ b. walk ++ map g (reverse (flat_map packets (filter sel (cond b (s ∷ []) []))))) opens
+    ∙ ap (λ b. walk ++ map g (reverse (flat_map packets (cond b (s ∷ []) [])))) skips ∙ append-nil walk)
+
+-- one that counts says what its packets say
+pub counted_says : {B : Type 0} (g : B → ℕ) (packets : ℕ → List B) (sel opn : ℕ → Bool) (s : ℕ) → opn s ≡ true → sel s ≡ true → map g (reverse (packets s)) ≡ gathered g packets sel opn (s ∷ [])
+counted_says g packets sel opn s opens counts =
+    sym (ap (λ b. map g (reverse (flat_map packets (filter sel (cond b (s ∷ []) []))))) opens
+    ∙ ap (λ b. map g (reverse (flat_map packets (cond b (s ∷ []) [])))) counts ∙ ap (λ ks. map g (reverse ks)) (append-nil (packets s)))
 
 -- ---- a round
 
@@ -67,22 +89,22 @@ filter_every [] = refl
 filter_every (x ∷ xs) = ap (λ zs. x ∷ zs) (filter_every xs)
 
 -- what is said of the stop of a further member
-pub further_stop : (round : Round) (w : World) (p y : ℕ) → stop_at round Every w p y ≡ stop_of (reads round) (reads_row round) w p (open_packets w y) y
+pub further_stop : (round : Round) (w : World) (p y : ℕ) → stop_says round Every w p y ≡ stop_of (reads round) (reads_row round) w p (open_packets w y) y
 further_stop round w p y = ap (λ ls. map (says round p) (packets_on w y ls) ++ number (reads round) (reads_row round) w p y ∷ []) (filter_every (open_links w y))
 
 pub further_stops : (round : Round) (w : World) (p : ℕ) (places : List ℕ) →
-    flat_map (λ place. stop_at round Every w p (suc place)) places ≡ flat_map (λ z. stop_of (reads round) (reads_row round) w p (open_packets w z) z) (map suc places)
+    flat_map (λ place. stop_says round Every w p (suc place)) places ≡ flat_map (λ z. stop_of (reads round) (reads_row round) w p (open_packets w z) z) (map suc places)
 further_stops round w p [] = refl
 further_stops round w p (x ∷ xs) =
-    ap (λ a. a ++ flat_map (λ place. stop_at round Every w p (suc place)) xs) (further_stop round w p (suc x))
+    ap (λ a. a ++ flat_map (λ place. stop_says round Every w p (suc place)) xs) (further_stop round w p (suc x))
     ∙ ap (λ b. stop_of (reads round) (reads_row round) w p (open_packets w (suc x)) (suc x) ++ b) (further_stops round w p xs)
 
 pub round_told : (round : Round) (w : World) (p owner : ℕ) (further start one two three : List ℕ) →
-    one ≡ start ++ stop_at round Early w p (suc owner) → two ≡ one ++ flat_map (λ place. stop_at round Every w p (suc place)) further → three ≡ two ++ said round Late w p (suc owner) →
+    one ≡ start ++ stop_says round Early w p (suc owner) → two ≡ one ++ flat_map (λ place. stop_says round Every w p (suc place)) further → three ≡ two ++ said round Late w p (suc owner) →
     three ≡ start ++ round_trip (reads round) (reads_row round) w p (suc owner ∷ map suc further)
 round_told round w p owner further start one two three e1 e2 e3 =
-    let a : List ℕ = stop_at round Early w p (suc owner) in
-    let b : List ℕ = flat_map (λ place. stop_at round Every w p (suc place)) further in
+    let a : List ℕ = stop_says round Early w p (suc owner) in
+    let b : List ℕ = flat_map (λ place. stop_says round Every w p (suc place)) further in
     let l : List ℕ = said round Late w p (suc owner) in
     e3 ∙ ap (λ zs. zs ++ l) (e2 ∙ ap (λ zs. zs ++ b) e1) ∙ append_assoc (start ++ a) b l ∙ append_assoc start a (b ++ l)
     ∙ ap (λ zs. start ++ (a ++ (zs ++ l))) (further_stops round w p further)

@@ -6,25 +6,25 @@ use Rattle.std.specs.Prelude.{◌&&◌, Option, Some, None}
 use Rattle.group_view.specs.View.{Group}
 use Rattle.group_view.specs.Since.{no_group}
 use Rattle.ring_world.specs.View.{ids, is_live, left_of, right_of, left_at, right_at}
-use Rattle.group_view.specs.Ring.{left_in, is_in, AreDistinct}
+use Rattle.group_view.specs.Ring.{left_in, right_in, is_in, AreDistinct}
 use Rattle.ring_world.specs.Machine.{World, member_at, view_at, newest, ring, left, right, runs, Phase, Waiting, Up, Stopped, Link, is_kept, is_kept_of, is_waiting, link_at, numbers_at}
 use Rattle.ring_world.specs.Step.{with_view}
 use Rattle.group_view.specs.Change.{marked}
-use Rattle.group_view.proofs.Truth.{other_true}
 use Rattle.group_view.proofs.Lists.{all_range_agree}
 use Rattle.group_view.proofs.Rings.{nat_eq-not}
-use Rattle.group_view.proofs.Neighbours.{left_of_right, left_marked}
+use Rattle.group_view.proofs.Passing.{are_mutual}
 use Rattle.ring_world.proofs.Good.{IsRing}
 use Rattle.ring_world.specs.Rows.{Row}
 use Rattle.ring_world.specs.declared.numbers.Numbers.{Numbers}
-use Rattle.ring_world.specs.Walk.{walk, when, past_first, own_number, first_packet}
+use Rattle.ring_world.proofs.CountedWalk.{walk, when, past_first}
+use Rattle.ring_world.specs.OpenLinks.{own_number, first_packet}
 use Rattle.ring_world.proofs.Weakens.{Weakens}
 use Rattle.ring_world.proofs.Links.{kept}
 use Rattle.ring_world.proofs.Back.{closes_walk}
 use Rattle.group_view.specs.declared.entry.Mark.TheVariants.{Dead}
 use Rattle.group_view.proofs.Groups.{ids-marked_group}
-use Rattle.group_view.proofs.History.{live_marked_group}
-use Rattle.group_view.proofs.Marks.{live-marked as live-marked_entries}
+use Rattle.group_view.proofs.History.{live_marked_group, left_stays}
+use Rattle.group_view.proofs.Marks.{left_is as left_of_entry, right_is as right_of_entry, live-marked as live-marked_entries}
 
 -- ---- fewer run, or they look at later views
 
@@ -54,6 +54,13 @@ pub right_is : (w : World) (u y : ℕ) (v : Group) → view_at w u ≡ v → rig
 unfolding right_at
 right_is w u y v e = ap (λ v. right_of v y) e
 
+-- of an entry of that view
+pub left_in_view : (w : World) (u y : ℕ) → is_in y (ids (view_at w u)) ≡ true → left w u y ≡ left_in (is_live (view_at w u)) y (ids (view_at w u))
+left_in_view w u y i = left_is w u y (view_at w u) refl ∙ left_of_entry (view_at w u).entries y i
+
+pub right_in_view : (w : World) (u y : ℕ) → is_in y (ids (view_at w u)) ≡ true → right w u y ≡ right_in (is_live (view_at w u)) y (ids (view_at w u))
+right_in_view w u y i = right_is w u y (view_at w u) refl ∙ right_of_entry (view_at w u).entries y i
+
 pub left_old : (w : World) (v' : Group) (u y : ℕ) → u < length w.views → left (with_view w v') u y ≡ left w u y
 left_old w v' u y l = left_is (with_view w v') u y (view_at w u) (view_old w v' u l) ∙ sym (left_is w u y (view_at w u) refl)
 
@@ -61,14 +68,14 @@ pub right_old : (w : World) (v' : Group) (u y : ℕ) → u < length w.views → 
 right_old w v' u y l = right_is (with_view w v') u y (view_at w u) (view_old w v' u l) ∙ sym (right_is w u y (view_at w u) refl)
 
 -- what a new view has to bring, said of the newest one
-pub record GoesOn (w : World) (v' : Group) : Type 0 where
+pub record MayFollow (w : World) (v' : Group) : Type 0 where
   pub distinct : AreDistinct (ids v')
   pub stands : (x : ℕ) → runs w x ≡ true → is_in x (ids v') ≡ true
   pub lives : (x : ℕ) → runs w x ≡ true → is_live v' x ≡ true
   -- a running member that is a left neighbour stays it
   pub front : (x z : ℕ) → runs w x ≡ true → left w (newest w) z ≡ x → left_of v' z ≡ x
 
-pub ring_more : (w : World) (v' : Group) → GoesOn w v' → IsRing w → IsRing (with_view w v')
+pub ring_more : (w : World) (v' : Group) → MayFollow w v' → IsRing w → IsRing (with_view w v')
 ring_more w v' g h =
     let more : length (w.views ++ v' ∷ []) ≡ length w.views + 1 = length_push w.views v' in
     let some : 0 < length w.views = h.some in
@@ -92,7 +99,7 @@ ring_more w v' g h =
           ∙ ⊎_elim
           (λ (vold : v < length w.views). g.front x (right (with_view w v') v x) rx (ap (left w (newest w)) (right_old w v' v x vold) ∙ h.front x v (newest w) rx a (omega arith) (omega arith)))
           (λ (vnew : length w.views ≤ v).
-          ap (left_of v') (right_is (with_view w v') v x v' (view_new w v' v (omega arith))) ∙ left_of_right (is_live v') x (ids v') g.distinct (g.stands x rx) (g.lives x rx))
+          ap (left_of v') (right_is (with_view w v') v x v' (view_new w v' v (omega arith))) ∙ (are_mutual v'.entries x g.distinct (g.lives x rx)).left_of_right)
           (cases_lt v (length w.views)))
           (cases_lt u (length w.views));
     }
@@ -106,8 +113,8 @@ pub live-marked : (v : Group) (d q : ℕ) → is_live (marked v d) q ≡ cond (n
 live-marked v d q = live_marked_group v d q ∙ live-marked_entries Dead d q v.entries refl
 
 -- d doesn't run, and is marked dead
-pub mark_goes_on : (w : World) (d : ℕ) → runs w d ≡ false → IsRing w → GoesOn w (marked (view_at w (newest w)) d)
-mark_goes_on w d rd h =
+pub mark_follows : (w : World) (d : ℕ) → runs w d ≡ false → IsRing w → MayFollow w (marked (view_at w (newest w)) d)
+mark_follows w d rd h =
     let v : Group = view_at w (newest w) in
     let still : (x : ℕ) → runs w x ≡ true → is_live (marked v d) x ≡ true = λ x rx.
     live-marked v d x ∙ ap (λ b. cond b false (is_live v x)) (nat_eq-not x d (λ e. false≢true (sym rd ∙ ap (runs w) (sym e) ∙ rx))) ∙ h.lives x (newest w) rx (h.held x) (omega arith) in
@@ -115,9 +122,7 @@ mark_goes_on w d rd h =
       distinct = subst AreDistinct (sym (ids-marked v d)) (h.distinct (newest w) (omega arith));
       stands = λ x rx. ap (is_in x) (ids-marked v d) ∙ h.stands x (newest w) rx (h.held x) (omega arith);
       lives = still;
-      front = λ x z rx e.
-          ap (left_in (is_live (marked v d)) z) (ids-marked v d)
-          ∙ left_marked (is_live v) (is_live (marked v d)) z x (ids v) (λ q t. other_true (nat_eq q d) (is_live v q) (sym (live-marked v d q) ∙ t)) (still x rx) (sym (left_is w (newest w) z v refl) ∙ e);
+      front = λ x z rx e. left_stays v d x z (h.distinct (newest w) (omega arith)) (still x rx) (sym (left_is w (newest w) z v refl) ∙ e);
     }
 
 -- ---- the walk of one more view

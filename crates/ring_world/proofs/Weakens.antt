@@ -1,6 +1,6 @@
 -- A list that falls wherever another does: by losing numbers, repeating them, and moving zeros to the right.
 use Rattle.std.proofs.Common.{◌≡◌, ℕ, ◌≤◌, List, [], ◌∷◌, ◌++◌, sym, subst, append_assoc, arith}
-use Rattle.ring_world.specs.Walk.{FallsFrom}
+use Rattle.ring_world.specs.OpenLinks.{FallsFrom}
 
 -- from a down to b
 abbrev pub FallsTo : ℕ → List ℕ → ℕ → Type 0

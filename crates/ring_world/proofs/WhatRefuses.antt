@@ -1,8 +1,7 @@
 -- When a step of a member may happen.
 use Rattle.std.specs.Prelude.{◌≡◌, ℕ, ◌<◌, ◌≤◌, true, false, length, Option, Some}
 use Rattle.ring_world.specs.View.{is_live}
-use Rattle.ring_world.specs.Machine.{Up, Stopped, Link, World, member_at, link_at, view_at, newest, is_kept}
-use Rattle.ring_world.specs.Walk.{oldest}
+use Rattle.ring_world.specs.Machine.{Up, Stopped, Link, World, member_at, link_at, view_at, newest, is_kept, oldest}
 use Rattle.ring_world.specs.Step.{size}
 use Rattle.ring_world.specs.Refusal.{is_empty}
 

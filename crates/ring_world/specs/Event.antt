@@ -10,8 +10,7 @@ use Rattle.ring_world.specs.Refusal.{refuse_if, or_else, is_empty}
 use Rattle.group_view.specs.View.{entry_in}
 use Rattle.group_view.specs.Change.{marked}
 use Rattle.ring_world.specs.View.{is_live, left_of, right_of}
-use Rattle.ring_world.specs.Machine.{Phase, Waiting, Up, Stopped, Member, Sending, Moved, Halted, Link, World, row_at, numbers_at, member_at, link_at, view_at, newest, is_waiting}
-use Rattle.ring_world.specs.Walk.{oldest}
+use Rattle.ring_world.specs.Machine.{Phase, Waiting, Up, Stopped, Member, Sending, Moved, Halted, Link, World, row_at, numbers_at, member_at, link_at, view_at, newest, is_waiting, oldest}
 use Rattle.ring_world.specs.Step.{size, publish_at, put_on, gain_on, take_from, begin_from, current_is, leave_link, stop_at, end_out, with_view, look_at, open_to, with_link, ended}
 pub use Rattle.ring_world.specs.declared.event.Event.{Event}
 pub use Rattle.ring_world.specs.declared.event.Event.TheVariants.{Cast, Put, Take, TakeEnd, Gain, Stop, Mark, Refresh, Pick}

@@ -1,8 +1,7 @@
 -- The laws of a ring, together.
 use Rattle.std.specs.Prelude.{ℕ, ◌<◌, ◌≤◌}
 use Rattle.ring_world.specs.Machine.{World}
-use Rattle.ring_world.specs.Walk.{NeverRises}
-use Rattle.ring_world.specs.OpenLinks.{the_walk}
+use Rattle.ring_world.specs.OpenLinks.{the_walk, NeverRises}
 use Rattle.ring_world.specs.Step.{size}
 use Rattle.ring_world.specs.NoGap.{NoGapAtTake}
 use Rattle.ring_world.specs.Lawful.{HasOwnLog, StaysWithinLogs, KeepsCredit, ConfirmedEverywhere, HearsInOrder, NeverFalls, HearsWhatFollows}

@@ -14,5 +14,4 @@ pub mod Shown
 pub mod Shows
 pub mod Step
 pub mod View
-pub mod Walk
 pub mod Walking

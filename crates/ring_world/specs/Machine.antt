@@ -86,6 +86,10 @@ member_at w q = slice_index_or w.members q no_member
 abbrev pub link_at : World → ℕ → Link
 link_at w s = slice_index_or w.links s no_link
 
+-- the packet that was put first of those on the link
+abbrev pub oldest : Link → Packet
+oldest l = slice_index_or l.packets 0 no_packet
+
 -- the view of a version
 abbrev pub view_at : World → ℕ → Group
 view_at w v = slice_index_or w.views v no_group

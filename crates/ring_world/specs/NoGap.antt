@@ -1,11 +1,8 @@
 -- No gap at a take: a packet begins no later than where its taker stands.
 use Rattle.std.specs.Prelude.{◌≡◌, ℕ, ◌<◌, ◌≤◌, false, List, Some, None}
-use Rattle.ring_names.specs.declared.numbers.CreditSpec.{CreditSpec}
-use Rattle.group_view.specs.Change.{AreOpeningNames}
-use Rattle.ring_world.specs.Machine.{Up, World, row_at, numbers_at, member_at, link_at, view_at}
-use Rattle.ring_world.specs.Walk.{oldest}
-use Rattle.ring_world.specs.Step.{size, is_owned, opening}
-use Rattle.ring_world.specs.Event.{Event, Take, id_of, refusal, IsRun, last}
+use Rattle.ring_world.specs.Machine.{Up, World, row_at, numbers_at, member_at, link_at, view_at, oldest}
+use Rattle.ring_world.specs.Step.{size, is_owned}
+use Rattle.ring_world.specs.Event.{Take, id_of, refusal}
 
 -- Where an up member may take the oldest packet of its current link, that packet begins, for each origin that the member
 -- doesn't answer for against the sender, at a message that the member has received, or at the next one.
@@ -14,7 +11,3 @@ NoGapAtTake w =
     (by : List ℕ) (y s p : ℕ) → id_of w by ≡ Some y → (member_at w y).phase ≡ Up → (member_at w y).current ≡ Some s → refusal w (Take by) ≡ None
     → 1 ≤ p → p < size w → is_owned (view_at w (member_at w y).version) y (link_at w s).sender p ≡ false
     → (numbers_at (oldest (link_at w s)) p).lo ≤ (row_at (member_at w y) p).got
-
--- and so in every state of every run of a ring with these names
-abbrev pub NoGapInRuns : CreditSpec → List (List ℕ) → Type 0
-NoGapInRuns credit names = (es : List Event) → AreOpeningNames names → IsRun (opening credit names) es → NoGapAtTake (last (opening credit names) es)

@@ -1,13 +1,12 @@
 -- The walk of an origin round the ring, told by the links that stand open to each member.
-use Rattle.std.specs.Prelude.{ℕ, Bool, false, cond, not, ◌&&◌, ◌||◌, nat_eq, nat_le, max, List, [], ◌∷◌, ◌++◌, length, map, drop, reverse, Option, Some, None}
+use Rattle.std.specs.Prelude.{ℕ, ◌≤◌, ⊤, Bool, false, cond, not, ◌&&◌, ◌||◌, nat_eq, nat_le, max, List, [], ◌∷◌, ◌++◌, length, map, drop, reverse, Option, Some, None}
 use Rattle.std.specs.List.{filter, flat_map, range_with_len}
 use Rattle.ring_world.specs.declared.numbers.Numbers.{Numbers}
 use Rattle.ring_world.specs.Rows.{Row}
 use Rattle.group_view.specs.Ring.{is_in, first, rotated}
 use Rattle.group_view.specs.View.{entry_in}
 use Rattle.ring_world.specs.View.{between}
-use Rattle.ring_world.specs.Machine.{Packet, Link, World, row_at, numbers_at, member_at, link_at, view_at, newest, ring, left, runs, is_waiting}
-use Rattle.ring_world.specs.Walk.{number}
+use Rattle.ring_world.specs.Machine.{Phase, Waiting, Up, Stopped, Packet, Member, Link, World, no_packet, oldest, row_at, numbers_at, member_at, link_at, view_at, newest, ring, left, runs, is_waiting}
 
 -- ---- the owner
 
@@ -88,6 +87,23 @@ late_packets w p y = packets_on w y (filter (is_late w p y) (open_links w y))
 abbrev pub early_packets : World → ℕ → ℕ → List Packet
 early_packets w p y = packets_on w y (filter (λ s. not (is_late w p y s)) (open_links w y))
 
+-- ---- what stands at a member
+
+-- the first packet of the link that a member takes from
+abbrev pub first_packet : World → Option ℕ → Packet
+first_packet w None = no_packet
+first_packet w (Some s) = oldest (link_at w s)
+
+-- a running member's number for an origin
+abbrev pub own_number : (Numbers → ℕ) → (Row → ℕ) → World → ℕ → Phase → Member → ℕ
+own_number g r w p Waiting y = g (numbers_at (first_packet w y.current) p)
+own_number g r w p Up y = r (row_at y p)
+own_number g r w p Stopped y = r (row_at y p)
+
+-- the number of the member of an id
+abbrev pub number : (Numbers → ℕ) → (Row → ℕ) → World → ℕ → ℕ → ℕ
+number g r w p q = own_number g r w p (member_at w q).phase (member_at w q)
+
 -- ---- the walk
 
 -- the packets' numbers for p, and then the member's own
@@ -115,3 +131,15 @@ the_walk w p = walk_of w p (owner w p)
 abbrev pub walk_named : World → Option ℕ → List ℕ
 walk_named w None = []
 walk_named w (Some p) = the_walk w p
+
+-- ---- that it never rises
+
+-- no number is greater than the one before it, from a on
+abbrev pub FallsFrom : ℕ → List ℕ → Type 0
+FallsFrom a [] = ⊤
+FallsFrom a (x ∷ xs) = (x ≤ a) × FallsFrom x xs
+
+-- no number is greater than the one before it
+abbrev pub NeverRises : List ℕ → Type 0
+NeverRises [] = ⊤
+NeverRises (x ∷ xs) = FallsFrom x xs

@@ -69,13 +69,14 @@ counted f = record f { receiver = took f.receiver; grants = with_grant f.grants 
 abbrev pub messages_between : {A : Type 0} → ℕ → ℕ → List A → List A
 messages_between lo hi log = drop lo (take hi log)
 
--- what a packet brings of one origin: nothing of an origin for which the taker answers, else what the taker doesn't have
+-- what a packet brings of one origin: nothing where the taker answers for it against the sender, in its view, else what it
+-- doesn't have
 abbrev pub brought : Bool → List Message → Row → Numbers → List Message
 brought true log r k = []
 brought false log r k = messages_between (max k.lo r.got) k.got log
 
--- what it does to the row: of messages for which it answers, as of its own, a taker learns how far they and their
--- acknowledgement have come round
+-- what it does to the row: of what it answers for, the taker learns how far the messages and their acknowledgement have
+-- come round
 abbrev pub taken_with : Bool → Row → Numbers → List Message → Row
 taken_with true r k news = record r { forgot = k.got; retired = k.forgot }
 taken_with false r k news = record r { got = k.got; forgot = k.forgot; heard = r.heard ++ news }

@@ -2,17 +2,17 @@
 use Rattle.std.specs.Prelude.{ℕ, ◌-◌, ◌<◌, ◌≤◌, Bool, true, List, [], ◌∷◌, map, length, slice_index_or, vec_len, vec_capacity, ◌&&◌, not, nat_eq, nat_le, Option, Some, None, false}
 use Rattle.ring_names.specs.declared.message.Message.{Message}
 use Rattle.ring_names.specs.declared.numbers.CreditSpec.{CreditSpec}
-use Rattle.ring_world.specs.Rows.{Row, Flow, no_row, full_flow, regained}
+use Rattle.ring_world.specs.Rows.{Row, Flow, no_row, full_flow, regained, brought}
 use Rattle.group_view.specs.Since.{no_group}
 use Rattle.ring_world.specs.declared.seat.KnownOrigin.{KnownOrigin}
 use Rattle.ring_world.specs.declared.seat.Seat.{Seat}
 use Rattle.ring_world.specs.declared.seat.Brought.{Brought}
-use Rattle.ring_world.specs.declared.wire.Parcel.{Parcel}
+use Rattle.ring_world.specs.declared.wire.Packet as wire
 use Rattle.ring_world.specs.declared.wire.Wire.{Wire}
 use Rattle.ring_world.specs.declared.state.Ring.{Ring}
 use Rattle.group_view.specs.View.{Group}
 use Rattle.ring_world.specs.Machine.{Packet, Member, Sending, Link, World, no_member, no_link, no_sending, link_at, row_at, numbers_at}
-use Rattle.ring_world.specs.Step.{is_owned, brought, pushed, next_lines}
+use Rattle.ring_world.specs.Step.{is_owned, pushed, next_lines}
 
 -- a row
 abbrev pub row_of : KnownOrigin → Row
@@ -23,7 +23,7 @@ abbrev pub member_of : Seat → Member
 member_of n = record { name = n.name; phase = n.phase; version = n.version; log = n.log.items; rows = map row_of n.rows.items; out = n.out; current = n.current }
 
 -- a packet
-abbrev pub packet_of : Parcel → Packet
+abbrev pub packet_of : wire.Packet → Packet
 packet_of k = record { version = k.version; numbers = k.numbers.items }
 
 -- the credit of a link

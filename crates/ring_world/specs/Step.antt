@@ -1,17 +1,16 @@
 -- The steps of a member, at its id.
-use Rattle.std.specs.Prelude.{ℕ, ◌+◌, ◌-◌, max, Bool, true, false, cond, List, [], ◌∷◌, ◌++◌, length, map, drop, slice_set, slice_index_or, nat_eq, Option, Some, None}
+use Rattle.std.specs.Prelude.{ℕ, ◌+◌, ◌-◌, Bool, true, false, cond, List, [], ◌∷◌, ◌++◌, length, map, drop, slice_set, slice_index_or, nat_eq, Option, Some, None}
 use Rattle.std.specs.List.{range_with_len}
 use Rattle.ring_names.specs.declared.numbers.CreditSpec.{CreditSpec}
 use Rattle.ring_names.specs.declared.message.Message.{Message}
 use Rattle.ring_world.specs.declared.numbers.Numbers.{Numbers}
-use Rattle.ring_world.specs.Rows.{Row, no_row, no_numbers, full_flow, published_row, next_numbers, spent, counted as counted_flow, regained, messages_between}
+use Rattle.ring_world.specs.Rows.{Row, no_row, no_numbers, full_flow, published_row, next_numbers, spent, counted as counted_flow, regained, taken_row}
 use Rattle.group_view.specs.View.{Group}
 use Rattle.group_view.specs.Ring.{is_in}
 use Rattle.group_view.specs.Since.{no_group}
 use Rattle.group_view.specs.Change.{opening as opening_group}
-use Rattle.ring_world.specs.Machine.{Up, Stopped, Packet, Member, Sending, Ending, Link, World, no_sending, no_member, row_at, numbers_at, member_at, link_at, view_at, is_kept}
+use Rattle.ring_world.specs.Machine.{Up, Stopped, Packet, Member, Sending, Ending, Link, World, no_sending, no_member, row_at, numbers_at, member_at, link_at, view_at, is_kept, oldest}
 use Rattle.ring_world.specs.View.{between, left_of, right_of}
-use Rattle.ring_world.specs.Walk.{oldest}
 
 -- the member of id i is another
 abbrev pub with_member : World → ℕ → Member → World
@@ -68,22 +67,6 @@ abbrev pub publish_at : World → ℕ → Message → World
 publish_at w x m = with_member w x (published x m (member_at w x))
 
 -- ---- a take by y from its current link s
-
--- what a packet brings of one origin: nothing where the taker answers for it against the sender, in its view, else what it
--- doesn't have
-abbrev pub brought : Bool → List Message → Row → Numbers → List Message
-brought true log r k = []
-brought false log r k = messages_between (max k.lo r.got) k.got log
-
--- what it does to the row: of what it answers for, the taker learns how far the messages and their acknowledgement have
--- come round
-abbrev pub taken_with : Bool → Row → Numbers → List Message → Row
-taken_with true r k news = record r { forgot = k.got; retired = k.forgot }
-taken_with false r k news = record r { got = k.got; forgot = k.forgot; heard = r.heard ++ news }
-
--- what the numbers of a packet do to a row, with the messages that they bring
-abbrev pub taken_row : Bool → List Message → Row → Numbers → Row
-taken_row own log r k = taken_with own r k (brought own log r k)
 
 -- y, and those between s and y in y's view
 abbrev pub is_owned : Group → ℕ → ℕ → ℕ → Bool

@@ -1,33 +1,28 @@
--- Views of the ring, with everybody's neighbours.
+-- What group_view says of entries, said of a view, and of a state's views by version.
 use Rattle.std.specs.Prelude.{ℕ, Bool, List, slice_index_or}
-use Rattle.group_view.specs.declared.entry.Entry.{Entry}
-use Rattle.group_view.specs.Ring.{before, others, left_in, right_in}
-use Rattle.group_view.specs.View.{Group, is_live_mark, ids as ids_of_entries, is_live as is_live_entry_of}
+use Rattle.group_view.specs.View.{Group}
+use Rattle.group_view.specs.View as group
 use Rattle.group_view.specs.Since.{no_group}
 
--- the ids of a view in ring order, who lives in it, and who stands between two
+-- the ids of a view in ring order
 abbrev pub ids : Group → List ℕ
-ids v = ids_of_entries v.entries
+ids v = group.ids v.entries
 
--- whether an entry is live
-abbrev pub is_live_entry : Entry → Bool
-is_live_entry e = is_live_mark e.mark
-
--- whether the entry of an id is
+-- whether the entry of an id is live
 abbrev pub is_live : Group → ℕ → Bool
-is_live v p = is_live_entry_of v.entries p
+is_live v p = group.is_live v.entries p
 
--- those strictly between s and p, going right from s
+-- who stands strictly between s and p, going right from s
 abbrev pub between : Group → ℕ → ℕ → List ℕ
-between v s p = before p (others s (ids v))
+between v s p = group.between v.entries s p
 
--- the nearest live one of the others, going left or right; who is alone is its own neighbour
+-- the neighbour of an entry, going left
 abbrev pub left_of : Group → ℕ → ℕ
-left_of v p = left_in (is_live v) p (ids v)
+left_of v p = group.left_of v.entries p
 
 -- going right
 abbrev pub right_of : Group → ℕ → ℕ
-right_of v p = right_in (is_live v) p (ids v)
+right_of v p = group.right_of v.entries p
 
 -- the same in the view of a version, which are counted from 0 on; in version 0 is nobody
 unfoldable pub left_at : List Group → ℕ → ℕ → ℕ

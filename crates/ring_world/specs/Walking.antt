@@ -9,8 +9,7 @@ use Rattle.ring_world.specs.declared.walk.Part.{Part}
 use Rattle.ring_world.specs.declared.walk.Part.TheVariants.{Every, Early, Late}
 use Rattle.ring_world.specs.View.{left_of}
 use Rattle.ring_world.specs.Machine.{Packet, Link, World, numbers_at}
-use Rattle.ring_world.specs.Walk.{number}
-use Rattle.ring_world.specs.OpenLinks.{is_late, open_links, packets_on}
+use Rattle.ring_world.specs.OpenLinks.{is_late, open_links, packets_on, number}
 
 -- which numbers of a packet a round reads
 abbrev pub reads : Round → Numbers → ℕ
@@ -45,5 +44,5 @@ abbrev pub is_from_left : Group → ℕ → Link → Bool
 is_from_left v y l = nat_eq l.sender (left_of v y) && nat_le (entry_in v.entries y).since l.opened
 
 -- they, and the member's own number
-abbrev pub stop_at : Round → Part → World → ℕ → ℕ → List ℕ
-stop_at round part w p y = said round part w p y ++ number (reads round) (reads_row round) w p y ∷ []
+abbrev pub stop_says : Round → Part → World → ℕ → ℕ → List ℕ
+stop_says round part w p y = said round part w p y ++ number (reads round) (reads_row round) w p y ∷ []

@@ -1,13 +1,8 @@
 //! Each event's conditions and its step.
-ghost use Rattle.std.specs.Prelude.{◌≡◌, ◌<◌, ℕ, suc, true, length, None, OnOk, OnErr};
+ghost use Rattle.std.specs.Prelude.{◌≡◌, ◌<◌, suc, length, None, OnOk, OnErr};
 ghost use Rattle.ring_world.specs.Refusal.{answer_of};
-ghost use Rattle.group_view.specs.Change.{marked};
-ghost use Rattle.ring_world.specs.declared.phase.Phase.TheVariants as phase;
-ghost use Rattle.ring_world.specs.View.{is_live};
-ghost use Rattle.ring_world.specs.Machine.{member_at, view_at, newest};
-ghost use Rattle.ring_world.specs.Step.{with_view};
 ghost use Rattle.ring_world.specs.Event.{refusal, refused_at, effect, done_at};
-ghost use Rattle.ring_world.specs.Placed.{IsPlaced};
+ghost use Rattle.ring_world.specs.Placed.{IsPlaced, IsReady};
 ghost use Rattle.ring_world.specs.Shows.{world_of};
 
 use crate::event::Event;
@@ -50,11 +45,7 @@ fn enabled_at(ring: &Ring, place: usize, event: &Event) -> Result<(), Reason>
 
 /// An enabled event happens.
 pub(crate) fn step(alloc: Global, ring: &mut Ring, event: &Event) -> Result<(), OutOfMemory>
-    requires placed { IsPlaced (world_of ring.old) }
-    requires after { (d : ℕ) → (member_at (world_of ring.old) d).phase ≡ phase.Stopped
-        → is_live (view_at (world_of ring.old) (newest (world_of ring.old))) d ≡ true
-        → IsPlaced (with_view (world_of ring.old)
-        (marked (view_at (world_of ring.old) (newest (world_of ring.old))) d)) }
+    requires ready { IsReady (world_of ring.old) }
     requires enabled { refusal (world_of ring.old) event.now ≡ None }
     ensures ok { OnOk result (world_of ring.new ≡ effect (world_of ring.old) event.now) }
     ensures err { OnErr result (world_of ring.new ≡ world_of ring.old) }
@@ -66,13 +57,9 @@ pub(crate) fn step(alloc: Global, ring: &mut Ring, event: &Event) -> Result<(), 
 }
 
 /// An enabled event of the member at a place happens.
-#[tactic(auto, using(crate::proofs::Enabled::up_phase, crate::proofs::Enabled::up_later, crate::proofs::Enabled::running_phase, crate::proofs::Enabled::refresh_later, crate::proofs::Enabled::refresh_upto))]
+#[tactic(auto, using(crate::proofs::Rules::happening))]
 fn step_at(alloc: Global, ring: &mut Ring, place: usize, event: &Event) -> Result<(), OutOfMemory>
-    requires placed { IsPlaced (world_of ring.old) }
-    requires after { (d : ℕ) → (member_at (world_of ring.old) d).phase ≡ phase.Stopped
-        → is_live (view_at (world_of ring.old) (newest (world_of ring.old))) d ≡ true
-        → IsPlaced (with_view (world_of ring.old)
-        (marked (view_at (world_of ring.old) (newest (world_of ring.old))) d)) }
+    requires ready { IsReady (world_of ring.old) }
     requires place { place < length ring.old.seats.items }
     requires enabled { refused_at (world_of ring.old) event.now (suc place) ≡ None }
     ensures ok { OnOk result (world_of ring.new ≡ done_at (world_of ring.old) event.now (suc place)) }

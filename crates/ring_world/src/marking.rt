@@ -1,12 +1,12 @@
 //! A member has a neighbour marked dead that has stopped.
-ghost use Rattle.std.specs.Prelude.{ℕ, ◌≡◌, ◌<◌, ◌+◌, suc, true, ◌-◌, take, length, None, IfOk, OnOk, OnErr};
+ghost use Rattle.std.specs.Prelude.{◌≡◌, ◌<◌, ◌+◌, suc, true, ◌-◌, take, length, None, IfOk, OnOk, OnErr};
 ghost use Rattle.group_view.specs.Change.{marked};
 ghost use Rattle.ring_world.specs.declared.phase.Phase.TheVariants as phase;
 ghost use Rattle.ring_world.specs.View.{is_live};
 ghost use Rattle.ring_world.specs.Machine.{member_at, view_at, newest as the_newest};
 ghost use Rattle.ring_world.specs.Step.{with_view};
 ghost use Rattle.ring_world.specs.Event.{mark_refusal, refreshed};
-ghost use Rattle.ring_world.specs.Placed.{IsPlaced};
+ghost use Rattle.ring_world.specs.Placed.{IsReady};
 ghost use Rattle.ring_world.specs.Shows.{world_of};
 
 use crate::neighbours::{id_at, newest, view_of};
@@ -54,11 +54,7 @@ pub(crate) fn mark(
     place: usize,
     dead: usize,
 ) -> Result<(), OutOfMemory>
-    requires placed { IsPlaced (world_of ring.old) }
-    requires after { (d : ℕ) → (member_at (world_of ring.old) d).phase ≡ phase.Stopped
-        → is_live (view_at (world_of ring.old) (the_newest (world_of ring.old))) d ≡ true
-        → IsPlaced (with_view (world_of ring.old)
-        (marked (view_at (world_of ring.old) (the_newest (world_of ring.old))) d)) }
+    requires ready { IsReady (world_of ring.old) }
     requires place { place < length ring.old.seats.items }
     requires dead { dead < length ring.old.seats.items }
     requires up { (member_at (world_of ring.old) (suc place)).phase ≡ phase.Up }

@@ -1,9 +1,8 @@
 //! What a member's view says, and what stands at its door.
 ghost use Rattle.std.specs.Prelude.{ℕ, ◌≡◌, ◌<◌, ◌≤◌, ◌&&◌, suc, ◌∷◌, true, not, nat_eq, nat_le, length, position};
 ghost use Rattle.std.specs.Prelude.{IfSome, slice_index_or};
-ghost use Rattle.group_view.specs.Ring.{is_in};
 ghost use Rattle.group_view.specs.Since.{no_group};
-ghost use Rattle.ring_world.specs.View.{ids, left_of as the_left, right_of as the_right};
+ghost use Rattle.ring_world.specs.View.{left_of as the_left, right_of as the_right};
 ghost use Rattle.ring_world.specs.Machine.{member_at, view_at, is_kept_of, newest as the_newest, runs as runs_at};
 ghost use Rattle.ring_world.specs.Event.{left_neighbour as the_left_neighbour, is_neighbour as neighbours};
 ghost use Rattle.ring_world.specs.Event.{at_door as the_door};
@@ -25,7 +24,6 @@ pub(crate) fn id_at(place: usize) -> u32
 
 /// The left neighbour of an entry.
 pub(crate) fn left_in(view: &View, id: u32) -> u32
-    requires { is_in id (ids view.now) ≡ true }
     ensures { result ≡ the_left view.now id }
 {
     view.left_of(MemberId(id)).0
@@ -33,7 +31,6 @@ pub(crate) fn left_in(view: &View, id: u32) -> u32
 
 /// The right neighbour of an entry.
 pub(crate) fn right_in(view: &View, id: u32) -> u32
-    requires { is_in id (ids view.now) ≡ true }
     ensures { result ≡ the_right view.now id }
 {
     view.right_of(MemberId(id)).0
@@ -68,9 +65,8 @@ pub(crate) fn newest_view(ring: &Ring) -> &View
 /// The view that the member at a place has.
 pub(crate) fn view_at_place(ring: &Ring, place: usize) -> &View
     requires { IsUpAt ring.now place }
-    ensures view { result.now ≡ view_at (world_of ring.now)
+    ensures { result.now ≡ view_at (world_of ring.now)
         (member_at (world_of ring.now) (suc place)).version }
-    ensures stands { is_in (suc place) (ids result.now) ≡ true }
 {
     view_of(&ring.views, ring.seats[place].version)
 }
@@ -128,8 +124,6 @@ pub(crate) fn is_kept(views: &[View], receiver: u32, sender: u32, opened: u32, v
     requires some { 1 ≤ opened }
     requires within { version ≤ length views.now }
     requires few { version ≤ 256 }
-    requires stands { (u : ℕ) → opened ≤ u → u ≤ version
-        → is_in receiver (ids (slice_index_or (no_group ∷ views.now) u no_group)) ≡ true }
     ensures { result ≡ is_kept_of (no_group ∷ views.now) receiver sender opened version }
 {
     for u in opened..version + 1 {

@@ -59,7 +59,7 @@ fn kept_current(ring: &Ring, place: usize, version: u32) -> Option<usize>
 }
 
 /// Whether it sends to a receiver already.
-#[tactic(auto, using(crate::proofs::ShownParts::read_member, crate::proofs::ShownParts::read_link, crate::proofs::Found::out_at))]
+#[tactic(auto, using(crate::proofs::Rules::reading, crate::proofs::Found::out_at))]
 fn sends_to(ring: &Ring, place: usize, receiver: u32) -> bool
     requires { IsUpAt ring.now place }
     ensures { result ≡ the_sends_to (world_of ring.now) receiver

@@ -2,15 +2,15 @@
 ghost use Rattle.std.specs.Prelude.{◌≡◌, ◌↔◌, IsTrue, ℕ, ◌+◌, ◌^◌, ◌<◌, ◌≤◌, length, map, nat_eq};
 ghost use Rattle.std.specs.Prelude.{bytes_eq, vec_len, vec_capacity, IfOk, OnOk, OnErr};
 ghost use Rattle.std.specs.List.{range_with_len};
-ghost use Rattle.ring_world.specs.Rows.{no_row, published_row};
+ghost use Rattle.ring_world.specs.Rows.{no_row, published_row, taken_with};
 ghost use Rattle.ring_world.specs.Machine.{row_at, numbers_at as the_numbers};
-ghost use Rattle.ring_world.specs.Step.{published as is_published, taken_with};
+ghost use Rattle.ring_world.specs.Step.{published as is_published};
 ghost use Rattle.ring_world.specs.Shows.{row_of, row_in, member_of, packet_of, room_of, with_rows, News, news_of};
 ghost use Rattle.ring_world.specs.Shows.{news_in, looked, HasRoom};
 
 use crate::numbers::{Numbers, numbers_at};
 use crate::phase::Phase;
-use crate::wire::Parcel;
+use crate::wire::Packet;
 use ring_names::{Message, Name, OutOfMemory};
 use std::alloc::Global;
 
@@ -140,7 +140,7 @@ impl Seat {
     }
 
     /// Publishes a message; the member's id is given.
-    #[tactic(auto, using(crate::proofs::ShownParts::published_rows, crate::proofs::ShownParts::rewrite_row, crate::proofs::ShownParts::read_row))]
+    #[tactic(auto, using(crate::proofs::Rules::publishing_rows))]
     pub(crate) fn publish(&mut self, id: usize, message: Message) -> Result<(), OutOfMemory>
         requires row { id < length self.old.rows.items }
         requires own { (row_at (member_of self.old) id).got ≡ length self.old.log.items }
@@ -156,7 +156,7 @@ impl Seat {
     }
 
     /// Takes in a packet with what it brings of each origin.
-    pub(crate) fn take(&mut self, packet: &Parcel, news: &mut [Brought]) -> Result<(), OutOfMemory>
+    pub(crate) fn take(&mut self, packet: &Packet, news: &mut [Brought]) -> Result<(), OutOfMemory>
         requires { length self.old.rows.items ≡ length news.old }
         ensures ok { OnOk result (member_of self.new ≡ with_rows (member_of self.old)
             (map (λ p. taken_with (news_in news.old p).own (row_at (member_of self.old) p)
@@ -196,7 +196,7 @@ fn make_room(rows: &mut [KnownOrigin], news: &[Brought]) -> Result<(), OutOfMemo
 }
 
 /// Each row takes in its part of a packet.
-fn take_rows(rows: &mut [KnownOrigin], packet: &Parcel, news: &mut [Brought])
+fn take_rows(rows: &mut [KnownOrigin], packet: &Packet, news: &mut [Brought])
     requires lengths { length rows.old ≡ length news.old }
     requires room { HasRoom rows.old news.old }
     ensures { map row_of rows.new

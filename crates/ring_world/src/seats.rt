@@ -9,7 +9,7 @@ use crate::seat::Seat;
 use ring_names::{Message, OutOfMemory};
 
 /// The member at a place publishes a message.
-#[tactic(auto, using(crate::proofs::ShownParts::read_member, crate::proofs::ShownParts::read_row, crate::proofs::ShownParts::published_seats, crate::proofs::ShownParts::rewrite_seat))]
+#[tactic(auto, using(crate::proofs::Rules::publishing))]
 pub(crate) fn publish(
     seats: &mut [Seat],
     place: usize,

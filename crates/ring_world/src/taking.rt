@@ -3,9 +3,9 @@ ghost use Rattle.std.specs.Prelude.{◌≡◌, ◌<◌, ◌≤◌, ◌+◌, ◌�
 ghost use Rattle.std.specs.Prelude.{IfOk, OnOk, OnErr};
 ghost use Rattle.std.specs.List.{range_with_len};
 ghost use Rattle.ring_world.specs.Refusal.{is_empty};
-ghost use Rattle.ring_world.specs.Machine.{link_at, no_member, row_at, numbers_at as the_numbers};
-ghost use Rattle.ring_world.specs.Walk.{oldest};
-ghost use Rattle.ring_world.specs.Step.{is_owned as owned_is, brought, taken, popped, take_from};
+ghost use Rattle.ring_world.specs.Machine.{link_at, no_member, row_at, numbers_at as the_numbers, oldest};
+ghost use Rattle.ring_world.specs.Step.{is_owned as owned_is, taken, popped, take_from};
+ghost use Rattle.ring_world.specs.Rows.{brought};
 ghost use Rattle.ring_world.specs.Placed.{IsUpAt};
 ghost use Rattle.ring_world.specs.Shows.{world_of, member_of, member_in, link_of, packet_of, news_of as the_news};
 ghost use Rattle.ring_world.specs.Shows.{news_at};
@@ -15,7 +15,7 @@ use crate::neighbours::{id_at, view_of};
 use crate::numbers::{Numbers, numbers_at};
 use crate::seat::{Brought, Seat};
 use crate::state::Ring;
-use crate::wire::{Parcel, Wire};
+use crate::wire::{Packet, Wire};
 use group_view::View;
 use ring_names::{MemberId, Message, OutOfMemory};
 use std::alloc::Global;
@@ -78,7 +78,7 @@ fn all_news(
     place: usize,
     view: &View,
     sender: u32,
-    packet: &Parcel,
+    packet: &Packet,
 ) -> Result<Vec<Brought>, OutOfMemory>
     requires place { place < length seats.now }
     requires few { length seats.now < 65 }

@@ -8,9 +8,10 @@ ghost use Rattle.group_view.specs.View.{ids as ids_of};
 ghost use Rattle.group_view.specs.Parts.{place_of as the_place};
 ghost use Rattle.ring_world.specs.View.{ids, between};
 ghost use Rattle.ring_world.specs.Machine.{numbers_at as the_numbers, row_at, member_at, link_at, view_at};
+ghost use Rattle.ring_world.specs.Machine.{oldest as the_oldest};
 ghost use Rattle.ring_world.specs.Machine.{runs as runs_at, newest as the_newest, is_waiting, ring as ring_ids};
-ghost use Rattle.ring_world.specs.Walk.{number as the_number, oldest as the_oldest};
 ghost use Rattle.ring_world.specs.OpenLinks.{is_late as late_is, is_open as open_is, passes as the_test};
+ghost use Rattle.ring_world.specs.OpenLinks.{number as the_number};
 ghost use Rattle.ring_world.specs.OpenLinks.{is_place as place_is, packets_of as the_packets, round_trip};
 ghost use Rattle.ring_world.specs.OpenLinks.{running_on as all_running_on, owner as the_owner, the_walk};
 ghost use Rattle.ring_world.specs.OpenLinks.{walk_of as the_walk_of, walk_named};
@@ -19,7 +20,7 @@ ghost use Rattle.ring_world.specs.Placed.{IsPlaced, IsRunningAt};
 ghost use Rattle.ring_world.specs.declared.walk.Part.TheVariants as part;
 ghost use Rattle.ring_world.specs.declared.walk.Round.TheVariants as kind;
 ghost use Rattle.ring_world.specs.Shows.{world_of, member_of, link_of, packet_of, row_of};
-ghost use Rattle.ring_world.specs.Walking.{reads, reads_row, says, counts, said, stop_at, is_from_left};
+ghost use Rattle.ring_world.specs.Walking.{reads, reads_row, says, counts, said, said_on, stop_says, is_from_left};
 
 use crate::neighbours::{id_at, left_in, newest_view, view_of};
 use crate::numbers::{Numbers, numbers_at};
@@ -27,7 +28,7 @@ use crate::phase::Phase;
 use crate::places::place_in;
 use crate::seat::Seat;
 use crate::state::Ring;
-use crate::wire::{Parcel, Wire};
+use crate::wire::{Packet, Wire};
 use group_view::{Entry, View};
 use ring_names::{MemberId, Name, OutOfMemory};
 use std::alloc::Global;
@@ -45,6 +46,14 @@ pub(crate) enum Part {
     Every,
     Early,
     Late,
+}
+
+/// What the walk reads at a stop: the numbers of a round, on the links that count, of an origin.
+#[derive(Clone, Copy)]
+pub(crate) struct Reading {
+    round: Round,
+    part: Part,
+    origin: u32,
 }
 
 impl Round {
@@ -70,7 +79,7 @@ impl Round {
     }
 
     /// Of a packet.
-    fn of_packet(self, packet: &Parcel, origin: usize) -> u64
+    fn of_packet(self, packet: &Packet, origin: usize) -> u64
         ensures { result ≡ says self origin (packet_of packet.now) }
     {
         self.of_numbers(numbers_at(&packet.numbers, origin))
@@ -88,7 +97,7 @@ impl Round {
 }
 
 /// The number of the member at a place: a waiting one has that of its first packet.
-#[tactic(auto, using(crate::proofs::ShownParts::read_member, crate::proofs::ShownParts::read_link, crate::proofs::Found::current_within))]
+#[tactic(auto, using(crate::proofs::Rules::reading, crate::proofs::Found::current_within))]
 fn own_number(ring: &Ring, round: Round, origin: usize, place: usize) -> u64
     requires placed { IsPlaced (world_of ring.now) }
     requires place { place < length ring.now.seats.items }
@@ -106,7 +115,6 @@ fn own_number(ring: &Ring, round: Round, origin: usize, place: usize) -> u64
 
 /// Whether a link comes from the left neighbour of that view, which it was already when the link opened.
 fn comes_from_left(view: &View, id: u32, wire: &Wire) -> bool
-    requires { is_in id (ids view.now) ≡ true }
     ensures { result ≡ is_from_left view.now id (link_of wire.now) }
 {
     wire.sender == left_in(view, id) && view.since_of(MemberId(id)) <= wire.opened
@@ -175,7 +183,7 @@ fn is_counted(ring: &Ring, part: Part, origin: u32, place: usize, s: usize) -> b
 
 /// The packets that count of a link that is open to a member: a waiting one has its first packet's numbers.
 #[tactic(auto, using(crate::proofs::ShownParts::read_member, crate::proofs::ShownParts::read_link))]
-fn packets_of(ring: &Ring, place: usize, s: usize) -> &[Parcel]
+fn packets_of(ring: &Ring, place: usize, s: usize) -> &[Packet]
     requires place { place < length ring.now.seats.items }
     requires link { s < length ring.now.wires.items }
     ensures { map packet_of result.now ≡ the_packets (world_of ring.now) (suc place) s }
@@ -194,7 +202,7 @@ fn push_packets(
     walk: &mut Vec<u64>,
     round: Round,
     origin: usize,
-    packets: &[Parcel],
+    packets: &[Packet],
 ) -> Result<(), OutOfMemory>
     ensures { OnOk result (walk.new.items
         ≡ walk.old.items ++ map (says round origin) (reverse (map packet_of packets.now))) }
@@ -205,42 +213,51 @@ fn push_packets(
     Ok(())
 }
 
-/// Adds what the packets say that are open to a member, the newest link first.
-fn push_open(
+/// Adds what the packets of a link say, where it is open to a member and counts.
+fn push_link(
     walk: &mut Vec<u64>,
     ring: &Ring,
-    round: Round,
-    part: Part,
-    origin: u32,
+    of: Reading,
     place: usize,
+    s: usize,
 ) -> Result<(), OutOfMemory>
+    requires runs { IsRunningAt ring.now place }
+    requires link { s < length ring.now.wires.items }
+    ensures { OnOk result (walk.new.items ≡ walk.old.items
+        ++ said_on of.round of.part (world_of ring.now) of.origin (suc place)
+        (filter (open_is (world_of ring.now) (suc place)) (s ∷ []))) }
+{
+    if is_open(ring, place, s) && is_counted(ring, of.part, of.origin, place, s) {
+        push_packets(
+            walk,
+            of.round,
+            of.origin as usize,
+            packets_of(ring, place, s),
+        )?;
+    }
+    Ok(())
+}
+
+/// Adds what the packets say that are open to a member, the newest link first.
+fn push_open(walk: &mut Vec<u64>, ring: &Ring, of: Reading, place: usize) -> Result<(), OutOfMemory>
     requires { IsRunningAt ring.now place }
     ensures { OnOk result (walk.new.items
-        ≡ walk.old.items ++ said round part (world_of ring.now) origin (suc place)) }
+        ≡ walk.old.items ++ said of.round of.part (world_of ring.now) of.origin (suc place)) }
 {
     for s in (0..ring.wires.len()).rev() {
-        if is_open(ring, place, s) && is_counted(ring, part, origin, place, s) {
-            push_packets(walk, round, origin as usize, packets_of(ring, place, s))?;
-        }
+        push_link(walk, ring, of, place, s)?;
     }
     Ok(())
 }
 
 /// Adds what is open to a member, and its own number.
-fn push_stop(
-    walk: &mut Vec<u64>,
-    ring: &Ring,
-    round: Round,
-    part: Part,
-    origin: u32,
-    place: usize,
-) -> Result<(), OutOfMemory>
+fn push_stop(walk: &mut Vec<u64>, ring: &Ring, of: Reading, place: usize) -> Result<(), OutOfMemory>
     requires { IsRunningAt ring.now place }
     ensures { OnOk result (walk.new.items
-        ≡ walk.old.items ++ stop_at round part (world_of ring.now) origin (suc place)) }
+        ≡ walk.old.items ++ stop_says of.round of.part (world_of ring.now) of.origin (suc place)) }
 {
-    push_open(walk, ring, round, part, origin, place)?;
-    walk.push(own_number(ring, round, origin as usize, place))?;
+    push_open(walk, ring, of, place)?;
+    walk.push(own_number(ring, of.round, of.origin as usize, place))?;
     Ok(())
 }
 
@@ -256,11 +273,16 @@ fn push_stops(
     requires within { All (λ place. place < length ring.now.seats.items) further.now }
     requires running { All (λ place. runs_at (world_of ring.now) (suc place) ≡ true) further.now }
     ensures { OnOk result (walk.new.items
-        ≡ walk.old.items ++ flat_map (λ place. stop_at round part.Every (world_of ring.now) origin (suc place))
+        ≡ walk.old.items ++ flat_map (λ place. stop_says round part.Every (world_of ring.now) origin (suc place))
         further.now) }
 {
     for place in further {
-        push_stop(walk, ring, round, Part::Every, origin, *place)?;
+        let every = Reading {
+            round,
+            part: Part::Every,
+            origin,
+        };
+        push_stop(walk, ring, every, *place)?;
     }
     Ok(())
 }
@@ -282,9 +304,18 @@ fn push_round(
         (map suc stops.now)) }
 {
     if let Some((owner, further)) = stops.split_first() {
-        push_stop(walk, ring, round, Part::Early, origin, *owner)?;
+        let early = Reading {
+            round,
+            part: Part::Early,
+            origin,
+        };
+        let late = Reading {
+            part: Part::Late,
+            ..early
+        };
+        push_stop(walk, ring, early, *owner)?;
         push_stops(walk, ring, round, origin, further)?;
-        push_open(walk, ring, round, Part::Late, origin, *owner)?;
+        push_open(walk, ring, late, *owner)?;
     }
     Ok(())
 }

@@ -4,8 +4,7 @@ ghost use Rattle.std.specs.Prelude.{OnOk, OnErr, vec_len, vec_capacity};
 ghost use Rattle.credit_flow.specs.Credit.{is_blocked as blocked_is};
 ghost use Rattle.ring_world.specs.Rows.{no_numbers, next_numbers as the_next_numbers, is_sent as sent_is};
 ghost use Rattle.ring_world.specs.Refusal.{is_empty as empty_is};
-ghost use Rattle.ring_world.specs.Machine.{row_at, numbers_at as the_numbers};
-ghost use Rattle.ring_world.specs.Walk.{oldest as the_oldest};
+ghost use Rattle.ring_world.specs.Machine.{row_at, numbers_at as the_numbers, oldest as the_oldest};
 ghost use Rattle.ring_world.specs.Step.{next_lines, pushed, popped, finished, ended as is_ended};
 ghost use Rattle.ring_world.specs.Event.{has_nothing_new as nothing_is_new, holds_nothing as nothing_is_held};
 ghost use Rattle.ring_world.specs.Shows.{member_of, link_of, packet_of, packet_in, gained_on, link_new, link_opened};
@@ -19,7 +18,7 @@ use std::alloc::Global;
 
 /// A packet: the version of its sender's view, and numbers for each origin by id.
 #[derive(Drop)]
-pub struct Parcel {
+pub struct Packet {
     pub(crate) version: u32,
     pub(crate) numbers: Vec<Numbers>,
 }
@@ -30,11 +29,11 @@ pub struct Wire {
     pub(crate) sender: u32,
     pub(crate) receiver: u32,
     pub(crate) opened: u32,
-    pub(crate) packets: Vec<Parcel>,
+    pub(crate) packets: Vec<Packet>,
     pub(crate) ending: Option<Ending>,
     pub(crate) over: bool,
     pub(crate) fresh: bool,
-    pub(crate) sent: Parcel,
+    pub(crate) sent: Packet,
     pub(crate) outgoing: CreditOut,
     pub(crate) incoming: CreditIn,
     pub(crate) grants: Vec<u32>,
@@ -59,7 +58,7 @@ impl Wire {
             ending: None,
             over: false,
             fresh: true,
-            sent: Parcel {
+            sent: Packet {
                 version: 0,
                 numbers: Vec::new(alloc),
             },
@@ -124,8 +123,8 @@ impl Wire {
     {
         let numbers = next_numbers(alloc, self.fresh, &self.sent.numbers, sender)?;
         let sent = Vec::from_slice(alloc, &numbers)?;
-        self.packets.push(Parcel { version, numbers })?;
-        self.sent = Parcel {
+        self.packets.push(Packet { version, numbers })?;
+        self.sent = Packet {
             version,
             numbers: sent,
         };
@@ -149,7 +148,7 @@ impl Wire {
     }
 
     /// The oldest packet on the way.
-    pub(crate) fn oldest(&self) -> &Parcel
+    pub(crate) fn oldest(&self) -> &Packet
         requires { empty_is (link_of self.now).packets ≡ false }
         ensures { packet_of result.now ≡ the_oldest (link_of self.now) }
     {

@@ -12,7 +12,7 @@ use ring_names::OutOfMemory;
 use std::alloc::Global;
 
 /// A member puts its next packet on a link.
-#[tactic(auto, using(crate::proofs::ShownParts::read_link, crate::proofs::ShownParts::pushed_wires, crate::proofs::ShownParts::rewrite_wire))]
+#[tactic(auto, using(crate::proofs::Rules::putting))]
 pub(crate) fn put(
     alloc: Global,
     wires: &mut [Wire],

@@ -45,10 +45,10 @@ input_due words told rose mode bytes due asks within is h =
     ⊎_elim
     (λ (done : IsDoneDue mode bytes due).
     subst (λ c. IsDue words told rose c due.journal.items due.text.items due.cluster) (sym done.0)
-    (record { mode = mode; asks = asks; bytes = bytes; input = input; done = done.1 }))
+    (record { mode = mode; asks = asks; bytes = bytes; input = input; so = done.1 }))
     (λ (faulty : IsFaultDue mode bytes due).
     line_is_due words told rose (causes.Script faulty.0 faulty.1) (fault_line faulty.0 faulty.1) due faulty.3
-    (λ nothing nobody says. record { because = record { mode = mode; asks = asks; bytes = bytes; input = input; fault = faulty.2 }; nothing = nothing; nobody = nobody; says = says }))
+    (λ nothing nobody says. record { because = record { mode = mode; asks = asks; bytes = bytes; input = input; so = faulty.2 }; nothing = nothing; nobody = nobody; says = says }))
     few.1)
     (λ (other : IsLargeDue bytes due ⊎ IsLineDue causes.OutOfMemory [] due).
     ⊎_elim
@@ -90,14 +90,14 @@ pub fault_told : (words : List (List ℕ)) (told : Option (List ℕ)) (rose : Ty
 fault_told words told rose causes.Done journal text cluster mode all line kind due asks e within fault fails =
     let right : IsRight (grammar_of mode) all =
     subst (λ m. IsRight (grammar_of m) all) (asks_one words due.mode mode due.asks asks)
-    (subst (IsRight (grammar_of due.mode)) (input_is told due.bytes all due.input e) (done_right due.mode due.bytes journal text cluster due.done)) in
+    (subst (IsRight (grammar_of due.mode)) (input_is told due.bytes all due.input e) (done_right due.mode due.bytes journal text cluster due.so)) in
     absurd (right_has_no_fault (grammar_of mode) all line kind right fault)
 fault_told words told rose causes.Usage journal text cluster mode all line kind due asks e within fault fails = absurd (due.because mode asks)
 fault_told words told rose (causes.Script l k) journal text cluster mode all line kind due asks e within fault fails =
     let faulty = due.because in
     let first : IsFirstFault (grammar_of mode) all l k =
     subst (λ m. IsFirstFault (grammar_of m) all l k) (asks_one words faulty.mode mode faulty.asks asks)
-    (subst (λ bytes. IsFirstFault (grammar_of faulty.mode) bytes l k) (input_is told faulty.bytes all faulty.input e) faulty.fault) in
+    (subst (λ bytes. IsFirstFault (grammar_of faulty.mode) bytes l k) (input_is told faulty.bytes all faulty.input e) faulty.so) in
     let same = first_fault_is_one (grammar_of mode) all l k line kind first fault in
     inl (ap (λ n. causes.Script n k) same.0 ∙ ap (causes.Script line) same.1)
 fault_told words told rose causes.ReadFault journal text cluster mode all line kind due asks e within fault fails = absurd (fails due.because.1)

@@ -23,7 +23,7 @@ use Rattle.ring_cluster.specs.Plays.{Plays, HasGoneOn, AgendasAreEmpty, place_am
 use Rattle.ring_cluster.specs.Plays as cluster
 use Rattle.ring_cluster.proofs.Alive.{nobody_stopped_before}
 use Rattle.ring_cluster.proofs.Heard.{run_quiet_has_heard}
-use Rattle.ring_script.specs.declared.script.Script.{Script}
+use Rattle.ring_script.specs.declared.text.Text.{Text}
 use Rattle.ring_script.specs.Reading.{IsCommandTo}
 use Rattle.ringplay.specs.Report.{report_of}
 use Rattle.ringplay.specs.Call.{state_after, IsLawfulRun, SameRing, commands_on, given_of, IsPlayedBy}
@@ -118,7 +118,7 @@ has_run credit names journal c ec en ej going =
 -- ---- a played script
 
 -- a cluster that has performed a script and settled has played it
-pub played_by : (script : Script) (c : Seen) (journal : List Event) (text : List ℕ) → c.credit ≡ script.credit → c.names ≡ script.members → c.given ≡ given_of script
+pub played_by : (script : Text Command) (c : Seen) (journal : List Event) (text : List ℕ) → c.credit ≡ script.credit → c.names ≡ script.members → c.given ≡ given_of script
     → IsGoing c → NobodyStopped (state_of c) → IsQuiet (state_of c) → AgendasAreEmpty c → Plays c.credit c.names c.events c.given → journal ≡ c.events → text ≡ report_of (state_of c)
     → IsPlayedBy script journal text (Some c)
 played_by script c journal text ec en eg going up quiet empty plays ej et =
@@ -137,7 +137,7 @@ played_by script c journal text ec en eg going up quiet empty plays ej et =
     }
 
 -- a cluster that opened as a, performed the commands of a script to b and settled to c
-pub played_all : (script : Script) (a b c : Seen) (journal : List Event) (text : List ℕ) → a ≡ opening_seen script.credit script.members
+pub played_all : (script : Text Command) (a b c : Seen) (journal : List Event) (text : List ℕ) → a ≡ opening_seen script.credit script.members
     → SameRing a b → b.given ≡ a.given ++ commands_on script.lines → HasGoneOn b c → c.given ≡ b.given ++ command.Settle ∷ []
     → IsGoing c → NobodyStopped (state_of c) → IsQuiet (state_of c) → AgendasAreEmpty c → Plays c.credit c.names c.events c.given → journal ≡ c.events → text ≡ report_of (state_of c)
     → IsPlayedBy script journal text (Some c)

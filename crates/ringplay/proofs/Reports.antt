@@ -1,7 +1,8 @@
 -- What members that stand in a state show of it.
-use Rattle.std.proofs.lemmas.List.{flat_map_more, take_all}
+use Rattle.std.proofs.lemmas.List.{flat_map_more, take_all, map-id}
+use Rattle.std.proofs.lemmas.List.FromFn.{map-range_with_len_more}
 use Rattle.std.specs.List.{flat_map, range_with_len}
-use Rattle.std.proofs.Common.{◌≡◌, ℕ, zero, suc, ◌+◌, ◌-◌, ◌<◌, ◌≤◌, List, [], ◌∷◌, ◌++◌, length, ap, sym, ◌∙◌, arith, append_assoc, add-zero, add-one}
+use Rattle.std.proofs.Common.{◌≡◌, ℕ, ◌+◌, ◌-◌, ◌<◌, ◌≤◌, List, [], ◌∷◌, ◌++◌, length, ap, sym, ◌∙◌, arith, append_assoc}
 use Rattle.ring_world.specs.Shown.{counts_in}
 use Rattle.group_view.specs.View.{Group, entry_in}
 use Rattle.ring_world.specs.Machine.{World, row_at, member_at}
@@ -15,8 +16,7 @@ use Rattle.ringplay.specs.Report.{name_of, newest_view, member_line, counts_line
 
 -- the numbers from a on, and the next one
 range_more : (a n k : ℕ) → a + n ≡ k → range_with_len a (n + 1) ≡ range_with_len a n ++ k ∷ []
-range_more a zero k e = ap (λ x. x ∷ []) (sym (add-zero a) ∙ e)
-range_more a (suc n) k e = ap (range_with_len a) (add-one (suc n)) ∙ ap (λ xs. a ∷ xs) (ap (range_with_len (a + 1)) (sym (add-one n)) ∙ range_more (a + 1) n k (omega arith))
+range_more a n k e = sym (map-id (range_with_len a (n + 1))) ∙ map-range_with_len_more (λ x. x) a n k e ∙ ap (λ xs. xs ++ k ∷ []) (map-id (range_with_len a n))
 
 -- the text of the ids up to n, and that of the next one
 pub ids_more : {A : Type 0} (f : ℕ → List A) (before : List A) (n : ℕ) → (before ++ flat_map f (range_with_len 1 n)) ++ f (n + 1) ≡ before ++ flat_map f (range_with_len 1 (n + 1))
@@ -45,14 +45,15 @@ counts_stand w x h f some lt e =
 pub lines_stand : (w : World) (x : ℕ) (h : Held) (g : Group) (old named counted heard : List ℕ) → IsFit w → 1 ≤ x → x < size w → IsHeld w x h → g ≡ newest_view w
     → named ≡ old ++ member_line h.name h.phase (entry_in g.entries h.id)
     → counted ≡ named ++ counts_lines (counts_in (known_at h.rows (h.id - 1)).forgot (known_at h.rows (h.id - 1)).heard)
-    → heard ≡ counted ++ while_up (member_at w x).phase (heard_lines w x)
+    → heard ≡ counted ++ while_up h.phase (heard_lines w h.id)
     → heard ≡ old ++ lines_of_member w x
 lines_stand w x h g old named counted heard f some lt e v a b c =
     let line = member_line (name_of w x) (member_at w x).phase (entry_in (newest_view w).entries x) in
     let a' : named ≡ old ++ line =
     a ∙ ap (λ k. old ++ member_line k.name k.phase (entry_in g.entries k.id)) e ∙ ap (λ u. old ++ member_line (name_of w x) (member_at w x).phase (entry_in u.entries x)) v in
     let b' : counted ≡ named ++ counts_lines (counts_of x (member_at w x)) = b ∙ ap (λ k. named ++ counts_lines k) (counts_stand w x h f some lt e) in
-    joined old line (counts_lines (counts_of x (member_at w x))) (while_up (member_at w x).phase (heard_lines w x)) named counted heard a' b' c
+    joined old line (counts_lines (counts_of x (member_at w x))) (while_up (member_at w x).phase (heard_lines w x)) named counted heard a' b'
+    (c ∙ ap (λ k. counted ++ while_up k.phase (heard_lines w k.id)) e)
 
 -- what is pushed for members h and o that stand at the ids x and p is what the report says that x has heard of p
 heard_stands : (w : World) (x p : ℕ) (h o : Held) → size w ≤ 65 → 1 ≤ p → p < size w → IsHeld w x h → IsHeld w p o

@@ -1,7 +1,7 @@
 -- What has become of the lines of a step file, one more after another.
 use Rattle.std.proofs.Common.{◌≡◌, ℕ, zero, suc, ◌+◌, List, [], ◌∷◌, ◌++◌, length, drop, replicate, Some, refl, sym, ap, subst, ◌∙◌}
 use Rattle.std.proofs.lemmas.List.{append-nil, append_assoc}
-use Rattle.ring_script.specs.declared.steps.Steps.{Steps}
+use Rattle.ring_script.specs.declared.text.Text.{Text}
 use Rattle.ring_world.specs.declared.event.Event.{Event}
 use Rattle.ring_world.specs.Step.{opening}
 use Rattle.ring_world.specs.Event.{refusal, last}
@@ -80,7 +80,7 @@ nothing_at (suc n) zero = refl
 nothing_at (suc n) (suc i) = nothing_at n i
 
 -- a cluster that opened as a and in which the lines' events have happened to b
-pub stepped_all : (steps : Steps) (a b : Seen) (journal : List Event) (text told : List ℕ) → a ≡ opening_seen steps.credit steps.members → IsGoing b
+pub stepped_all : (steps : Text Event) (a b : Seen) (journal : List Event) (text told : List ℕ) → a ≡ opening_seen steps.credit steps.members → IsGoing b
     → HasStepped a b (enabled_of (state_of a) steps.lines) → told ≡ refused_lines (state_of a) steps.lines → text ≡ told ++ report_of (state_of b) → journal ≡ b.events
     → AreSteppedBy steps journal text (Some b)
 stepped_all steps a b journal text told ea going h et er ej =

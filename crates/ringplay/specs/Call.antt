@@ -4,8 +4,7 @@ use Rattle.std.specs.Fmt.{decimal}
 use Rattle.ring_script.specs.declared.command.Command.{Command}
 use Rattle.ring_script.specs.declared.command.Command.TheVariants.{Settle}
 use Rattle.ring_names.specs.declared.numbers.CreditSpec.{CreditSpec}
-use Rattle.ring_script.specs.declared.script.Script.{Script}
-use Rattle.ring_script.specs.declared.steps.Steps.{Steps}
+use Rattle.ring_script.specs.declared.text.Text.{Text}
 use Rattle.ring_script.specs.Words.{lines_of}
 use Rattle.ring_script.specs.Line.{Grammar}
 use Rattle.ring_script.specs.Script.{script_grammar}
@@ -66,13 +65,13 @@ abbrev pub commands_on : List (ℕ × Command) → List Command
 commands_on lines = map (λ line. line.1) lines
 
 -- what the ring is given: the commands of the script, and at its end it settles
-abbrev pub given_of : Script → List Command
+abbrev pub given_of : Text Command → List Command
 given_of script = commands_on script.lines ++ Settle ∷ []
 
 -- The journal is a lawful run. Each member's client events in it are its commands, and at each settling all earlier
 -- commands were done and the ring was quiet. After each of its prefixes every member is up. Its last state is quiet, each
 -- message is confirmed there and every member has heard all, and the text is the report of it.
-pub record IsPlayed (script : Script) (journal : List Event) (text : List ℕ) : Type 0 where
+pub record IsPlayed (script : Text Command) (journal : List Event) (text : List ℕ) : Type 0 where
   pub run : IsLawfulRun script.credit script.members journal
   pub plays : Plays script.credit script.members journal (given_of script)
   pub alive : (k : ℕ) → NobodyStopped (state_after script.credit script.members journal k)
@@ -81,7 +80,7 @@ pub record IsPlayed (script : Script) (journal : List Event) (text : List ℕ) :
   pub report : text ≡ report_of (last (opening script.credit script.members) journal)
 
 -- the script was played, by this cluster
-pub record IsPlayedBy (script : Script) (journal : List Event) (text : List ℕ) (cluster : Option Seen) : Type 0 where
+pub record IsPlayedBy (script : Text Command) (journal : List Event) (text : List ℕ) (cluster : Option Seen) : Type 0 where
   pub played : IsPlayed script journal text
   pub by : HappenedIn script.credit script.members (given_of script) journal cluster
 
@@ -89,13 +88,13 @@ pub record IsPlayedBy (script : Script) (journal : List Event) (text : List ℕ)
 
 -- The journal is a lawful run, of the lines' events that were enabled, each after the earlier ones. The text has a line for
 -- each that was refused, and then the report of the last state.
-pub record AreStepped (steps : Steps) (journal : List Event) (text : List ℕ) : Type 0 where
+pub record AreStepped (steps : Text Event) (journal : List Event) (text : List ℕ) : Type 0 where
   pub run : IsLawfulRun steps.credit steps.members journal
   pub enabled : journal ≡ enabled_of (opening steps.credit steps.members) steps.lines
   pub report : text ≡ refused_lines (opening steps.credit steps.members) steps.lines ++ report_of (last (opening steps.credit steps.members) journal)
 
 -- the steps were taken, by this cluster, which was given nothing
-pub record AreSteppedBy (steps : Steps) (journal : List Event) (text : List ℕ) (cluster : Option Seen) : Type 0 where
+pub record AreSteppedBy (steps : Text Event) (journal : List Event) (text : List ℕ) (cluster : Option Seen) : Type 0 where
   pub stepped : AreStepped steps journal text
   pub by : HappenedIn steps.credit steps.members [] journal cluster
 
@@ -129,28 +128,20 @@ grammar_of Step = step_grammar
 
 -- bytes spell what was asked for, and this cluster did it
 abbrev pub WasDone : Mode → List ℕ → List Event → List ℕ → Option Seen → Type 0
-WasDone Play bytes journal text cluster = (script : Script) × IsScriptOf bytes script × IsPlayedBy script journal text cluster
-WasDone Step bytes journal text cluster = (steps : Steps) × AreStepsOf bytes steps × AreSteppedBy steps journal text cluster
+WasDone Play bytes journal text cluster = (script : Text Command) × IsScriptOf bytes script × IsPlayedBy script journal text cluster
+WasDone Step bytes journal text cluster = (steps : Text Event) × AreStepsOf bytes steps × AreSteppedBy steps journal text cluster
 
--- the words ask for something, and it was done as the input says
-pub record IsDone (words : List (List ℕ)) (told : Option (List ℕ)) (journal : List Event) (text : List ℕ) (cluster : Option Seen) : Type 0 where
+-- the words ask for something, and this holds of that and the input
+pub record IsAsked (words : List (List ℕ)) (told : Option (List ℕ)) (holds : Mode → List ℕ → Type 0) : Type 0 where
   pub mode : Mode
   pub asks : Asks words mode
   pub bytes : List ℕ
   pub input : IsInput told bytes
-  pub done : WasDone mode bytes journal text cluster
+  pub so : holds mode bytes
 
 -- the words ask for something, and this is the first fault of the input
-pub record IsFaulty (words : List (List ℕ)) (told : Option (List ℕ)) (line kind : ℕ) : Type 0 where
-  pub mode : Mode
-  pub asks : Asks words mode
-  pub bytes : List ℕ
-  pub input : IsInput told bytes
-  pub fault : IsFirstFault (grammar_of mode) bytes line kind
-
--- the same, as far as the source tells its bytes
 abbrev pub IsRefused : List (List ℕ) → Option (List ℕ) → ℕ → ℕ → Type 0
-IsRefused words told line kind = (mode : Mode) × Asks words mode × IfSome told (λ all. IsWithin all × IsFirstFault (grammar_of mode) all line kind)
+IsRefused words told line kind = IsAsked words told (λ mode bytes. IsFirstFault (grammar_of mode) bytes line kind)
 
 -- how it is told
 abbrev pub fault_line : ℕ → ℕ → List ℕ
@@ -182,24 +173,29 @@ AsksSome words = (mode : Mode) × Asks words mode
 -- What is due before anything is written. Want of memory alone is free. `told` is what the source tells of
 -- its bytes, and `rose` says that its count of faults rose.
 abbrev pub IsDue : List (List ℕ) → Option (List ℕ) → Type 0 → Cause → List Event → List ℕ → Option Seen → Type 0
-IsDue words told rose causes.Done journal text cluster = IsDone words told journal text cluster
+IsDue words told rose causes.Done journal text cluster = IsAsked words told (λ mode bytes. WasDone mode bytes journal text cluster)
 IsDue words told rose causes.Usage journal text cluster =
     SaysOnly (AsksNothing words) journal text cluster (codes "usage" ++ newline)
 IsDue words told rose (causes.Script line kind) journal text cluster =
-    SaysOnly (IsFaulty words told line kind) journal text cluster (fault_line line kind)
+    SaysOnly (IsRefused words told line kind) journal text cluster (fault_line line kind)
 IsDue words told rose causes.ReadFault journal text cluster = SaysOnly (AsksSome words × rose) journal text cluster []
 IsDue words told rose causes.WriteFault journal text cluster = ⊥
 IsDue words told rose causes.OutOfMemory journal text cluster = SaysOnly (Unit {0}) journal text cluster []
 IsDue words told rose causes.TooLarge journal text cluster =
     SaysOnly (AsksSome words × IfSome told IsTooLarge) journal text cluster (codes "too large" ++ newline)
 
--- The answer: what was due was written whole, or the sink failed (`rose`) and has gained the first bytes of it.
+-- a text was written whole, for this cause, or the sink failed (`rose`) and has gained the first bytes of it
+abbrev pub IsWritten : Cause → List ℕ → (List ℕ → Type 0) → Type 0 → Ended → Type 0
+IsWritten cause text gains rose ended =
+    ((ended.cause ≡ cause) × (ended.written ≡ length text) × gains text)
+    ⊎ ((ended.cause ≡ causes.WriteFault) × rose × (ended.written < length text) × gains (take ended.written text))
+
+-- the answer: what was due was written
 pub record Answers (words : List (List ℕ)) (told : Option (List ℕ)) (read_rose : Type 0) (gains : List ℕ → Type 0) (write_rose : Type 0) (ended : Ended) : Type 0 where
   pub cause : Cause
   pub text : List ℕ
   pub due : IsDue words told read_rose cause ended.journal text ended.cluster
-  pub written : ((ended.cause ≡ cause) × (ended.written ≡ length text) × gains text)
-      ⊎ ((ended.cause ≡ causes.WriteFault) × write_rose × (ended.written < length text) × gains (take ended.written text))
+  pub written : IsWritten cause text gains write_rose ended
 
 -- this cause, but for a line that can't be written, and for want of memory
 abbrev pub IsUnlessFailed : Cause → Cause → Type 0

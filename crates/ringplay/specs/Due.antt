@@ -1,9 +1,8 @@
 -- What is due before anything is written, as the parts of the top call hand it on.
-use Rattle.std.specs.Prelude.{◌≡◌, ◌⊎◌, ℕ, ◌<◌, ◌≤◌, List, [], ◌++◌, length, take, codes, Some, None, Result, Err, IfOk}
+use Rattle.std.specs.Prelude.{◌≡◌, ◌⊎◌, ℕ, ◌<◌, ◌≤◌, List, [], ◌++◌, length, codes, Some, None, Result, Err, IfOk}
 use Rattle.ringplay.specs.declared.call.Cause.{Cause}
 use Rattle.ringplay.specs.declared.call.Cause.TheVariants as causes
 use Rattle.ringplay.specs.declared.call.Due.{Due}
-use Rattle.ringplay.specs.declared.call.Ended.{Ended}
 use Rattle.ringplay.specs.declared.play.Played.{Played}
 use Rattle.ringplay.specs.declared.word.Mode.{Mode}
 use Rattle.ring_script.specs.declared.fault.ScriptFault.{ScriptFault}
@@ -38,9 +37,3 @@ pub record DoesAsAsked (mode : Mode) (bytes : List ℕ) (result : Result Played 
 abbrev pub IsDueToInput : Mode → List ℕ → Due → Type 0
 IsDueToInput mode bytes due =
     ((length (lines_of bytes) ≤ most_lines) × (IsDoneDue mode bytes due ⊎ IsFaultDue mode bytes due)) ⊎ (IsLargeDue bytes due ⊎ IsLineDue causes.OutOfMemory [] due)
-
--- what was due was written whole, or its first bytes and the sink failed
-abbrev pub IsWritten : Due → (List ℕ → Type 0) → Type 0 → Ended → Type 0
-IsWritten due gains rose ended =
-    ((ended.cause ≡ due.cause) × (ended.written ≡ length due.text.items) × gains due.text.items)
-    ⊎ ((ended.cause ≡ causes.WriteFault) × rose × (ended.written < length due.text.items) × gains (take ended.written due.text.items))

@@ -6,8 +6,8 @@ ghost use Rattle.ring_io.specs.Count.{Rose};
 ghost use Rattle.ringplay.specs.declared.word.Mode.{Mode};
 ghost use Rattle.ringplay.specs.Words.{Asks, AsksNothing};
 ghost use Rattle.ring_script.specs.Reading.{IsRight, IsFirstFault};
-ghost use Rattle.ringplay.specs.Due.{IsLineDue, DoesAsAsked, IsDueToInput, IsWritten};
-ghost use Rattle.ringplay.specs.Call.{Answers, IsDue, IsUnlessFailed, IsWithin, IsTooLarge, IsRefused};
+ghost use Rattle.ringplay.specs.Due.{IsLineDue, DoesAsAsked, IsDueToInput};
+ghost use Rattle.ringplay.specs.Call.{Answers, IsDue, IsWritten, IsUnlessFailed, IsWithin, IsTooLarge, IsRefused};
 ghost use Rattle.ringplay.specs.Call.{grammar_of, fault_line, status_of};
 
 use crate::play::{Played, play};
@@ -262,7 +262,8 @@ fn written<K: Sink>(sink: &mut K, due: Due) -> Ended
     ensures status { result.status ≡ status_of result.cause }
     ensures journal { result.journal ≡ due.journal.items }
     ensures cluster { result.cluster ≡ due.cluster }
-    ensures written { IsWritten due (Gains K.may_lose_track (K.contents sink.old) (K.contents sink.new))
+    ensures written { IsWritten due.cause due.text.items
+        (Gains K.may_lose_track (K.contents sink.old) (K.contents sink.new))
         (Rose (K.faults sink.old) (K.faults sink.new)) result }
 {
     let len = due.text.len() as u64;

@@ -6,7 +6,6 @@ ghost use Rattle.std.specs.List.{flat_map};
 ghost use Rattle.group_view.specs.View.{entry_in, no_entry};
 ghost use Rattle.ring_world.specs.Rows.{most_members};
 ghost use Rattle.ring_world.specs.Shown.{is_cast as is_cast_message, is_publish as is_publish_message, counts_in};
-ghost use Rattle.ring_world.specs.Machine.{member_at as the_member};
 ghost use Rattle.ring_world.specs.Step.{size};
 ghost use Rattle.gm_member.specs.Held.{known_at};
 ghost use Rattle.gm_member.specs.Shown.{held_of};
@@ -162,7 +161,7 @@ fn push_member(
     let member = member_at(cluster, place);
     push_state(out, member, cluster.view())?;
     push_counts(alloc, out, &counts(member))?;
-    push_heard(out, cluster, count, place)?;
+    push_heard(out, cluster, count, member)?;
     Ok(())
 }
 
@@ -300,16 +299,15 @@ fn push_heard(
     out: &mut Vec<u8>,
     cluster: &Cluster,
     count: usize,
-    place: usize,
+    member: &Node,
 ) -> Result<(), OutOfMemory>
     requires count { count ≡ length (cluster.now).names }
-    requires within { place < count }
+    requires stands { held_of member.now
+        ≡ record (held_in (state_of cluster.now) (held_of member.now).id) { door = (held_of member.now).door } }
     ensures { OnOk result (out.new.items ≡ out.old.items
-        ++ while_up (the_member (state_of cluster.now) (place + 1)).phase
-        (heard_lines (state_of cluster.now) (place + 1))) }
+        ++ while_up (held_of member.now).phase (heard_lines (state_of cluster.now) (held_of member.now).id)) }
 {
     cluster.is_going();
-    let member = member_at(cluster, place);
     match member.phase() {
         Phase::Up => {}
         Phase::Waiting | Phase::Stopped => return Ok(()),

@@ -1,5 +1,5 @@
 //! Playing a step file.
-ghost use Rattle.std.specs.Prelude.{◌≡◌, ℕ, ◌∷◌, ◌++◌, [], Some, None, IfOk, OnOk, IfErr, codes};
+ghost use Rattle.std.specs.Prelude.{◌≡◌, ℕ, ◌∷◌, ◌++◌, [], Some, None, IfOk, OnOk, IfErr, codes, string_bytes};
 ghost use Rattle.std.specs.Fmt.{decimal};
 ghost use Rattle.ring_script.specs.Reading.{CanOpen};
 ghost use Rattle.ring_world.specs.Event.{refusal};
@@ -88,53 +88,37 @@ fn push_refused(
     ensures { OnOk result (text.new.items ≡ text.old.items ++ refused_line number reason.now) }
 {
     let code = reason.code();
-    let line = format!(in alloc; "line {number} refused {code}")?;
+    let kept = kept_text(alloc, reason)?;
+    let line = format!(in alloc; "line {number} refused {code}{kept}\n")?;
     text.extend_from_slice(line.as_bytes())?;
-    push_kept(alloc, text, reason)?;
-    text.extend_from_slice(b"\n")?;
     Ok(())
 }
 
 /// The numbers that a refusal keeps.
-fn push_kept(alloc: Global, text: &mut Vec<u8>, reason: &Reason) -> Result<(), OutOfMemory>
-    ensures { OnOk result (text.new.items ≡ text.old.items ++ the_kept_text reason.now) }
+fn kept_text(alloc: Global, reason: &Reason) -> Result<String, OutOfMemory>
+    ensures { IfOk result (λ text. string_bytes text ≡ the_kept_text reason.now) }
 {
     match reason {
-        Reason::ViewTooOld { need, have } => {
-            let kept = format!(in alloc; " need={need} have={have}")?;
-            text.extend_from_slice(kept.as_bytes())?;
-            Ok(())
-        }
-        Reason::NotRetired { got, retired } => {
-            let kept = format!(in alloc; " got={got} retired={retired}")?;
-            text.extend_from_slice(kept.as_bytes())?;
-            Ok(())
-        }
+        Reason::ViewTooOld { need, have } => Ok(format!(in alloc; " need={need} have={have}")?),
+        Reason::NotRetired { got, retired } => Ok(format!(in alloc;
+            " got={got} retired={retired}"
+        )?),
         Reason::ViewOutOfRange {
             asked,
             held,
             newest,
-        } => {
-            let kept = format!(in alloc; " asked={asked} held={held} newest={newest}")?;
-            text.extend_from_slice(kept.as_bytes())?;
-            Ok(())
-        }
-        Reason::StillMissing { missing } => push_missing(alloc, text, *missing),
-        _ => Ok(()),
+        } => Ok(format!(in alloc; " asked={asked} held={held} newest={newest}")?),
+        Reason::StillMissing { missing } => missing_text(alloc, *missing),
+        _ => Ok(String::new(alloc)),
     }
 }
 
 /// How many messages a mirror is known to lack.
-fn push_missing(alloc: Global, text: &mut Vec<u8>, missing: Option<u64>) -> Result<(), OutOfMemory>
-    ensures { OnOk result (text.new.items ≡ text.old.items ++ (codes " missing=" ++ the_missing_text missing)) }
+fn missing_text(alloc: Global, missing: Option<u64>) -> Result<String, OutOfMemory>
+    ensures { IfOk result (λ text. string_bytes text ≡ codes " missing=" ++ the_missing_text missing) }
 {
-    text.extend_from_slice(b" missing=")?;
     match missing {
-        Some(count) => {
-            let number = format!(in alloc; "{count}")?;
-            text.extend_from_slice(number.as_bytes())?;
-        }
-        None => text.extend_from_slice(b"?")?,
+        Some(count) => Ok(format!(in alloc; " missing={count}")?),
+        None => Ok(String::from_str(alloc, " missing=?")?),
     }
-    Ok(())
 }

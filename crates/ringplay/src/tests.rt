@@ -122,13 +122,17 @@ publishes 0 confirmed 0
 ==== The longest body
 play
 members a
-cast a xxxxxxxxxxxxxxxxxxxxxxxxxxxxxxxxxxxxxxxxxxxxxxxxxxxxxxxxxxxxxxxxxxxxxxxxxxxxxxxxxxxxxxxxxxxxxxxxxxxxxxxxxxxxxxxxxxxxxxxxxxxxxxxxxxxxxxxxxxxxxxxxxxxxxxxxxxxxxxxxxxxxxxxxxxxxxxxxxxxxxxxxxxxxxxxxxxxxxxxxxxxxxxxxxxxxxxxxxxxxxxxxxxxxxxxxxxxxxxxxxxxxxxxxxxxxxxxx
+cast a xxxxxxxxxxxxxxxxxxxxxxxxxxxxxxxxxxxxxxxxxxxxxxxxxxxxxxxxxxxxxxxxxxxxxxxxxxxxxxxxxxxxxxxxxxxxxxxxxxxxxxxxxxxxx\
+xxxxxxxxxxxxxxxxxxxxxxxxxxxxxxxxxxxxxxxxxxxxxxxxxxxxxxxxxxxxxxxxxxxxxxxxxxxxxxxxxxxxxxxxxxxxxxxxxxxxxxxxxxxxxxxxxxxx\
+xxxxxxxxxxxxxxxxxxxxxxxxxxxxxxx
 => Done, status 0
 ring view=1 term=1 master=a
 member a up synced
 casts 1 confirmed 1
 publishes 0 confirmed 0
-heard a xxxxxxxxxxxxxxxxxxxxxxxxxxxxxxxxxxxxxxxxxxxxxxxxxxxxxxxxxxxxxxxxxxxxxxxxxxxxxxxxxxxxxxxxxxxxxxxxxxxxxxxxxxxxxxxxxxxxxxxxxxxxxxxxxxxxxxxxxxxxxxxxxxxxxxxxxxxxxxxxxxxxxxxxxxxxxxxxxxxxxxxxxxxxxxxxxxxxxxxxxxxxxxxxxxxxxxxxxxxxxxxxxxxxxxxxxxxxxxxxxxxxxxxxxxxxxxxx
+heard a xxxxxxxxxxxxxxxxxxxxxxxxxxxxxxxxxxxxxxxxxxxxxxxxxxxxxxxxxxxxxxxxxxxxxxxxxxxxxxxxxxxxxxxxxxxxxxxxxxxxxxxxxxxx\
+xxxxxxxxxxxxxxxxxxxxxxxxxxxxxxxxxxxxxxxxxxxxxxxxxxxxxxxxxxxxxxxxxxxxxxxxxxxxxxxxxxxxxxxxxxxxxxxxxxxxxxxxxxxxxxxxxxxx\
+xxxxxxxxxxxxxxxxxxxxxxxxxxxxxxxx
 ==== examples/slow_links.script
 play
 # Each link takes one packet, and is granted the next when that one is read.
@@ -772,13 +776,17 @@ refresh a 1000001
 script 2 55
 ==== a 65th name
 play
-members m0 m1 m2 m3 m4 m5 m6 m7 m8 m9 m10 m11 m12 m13 m14 m15 m16 m17 m18 m19 m20 m21 m22 m23 m24 m25 m26 m27 m28 m29 m30 m31 m32 m33 m34 m35 m36 m37 m38 m39 m40 m41 m42 m43 m44 m45 m46 m47 m48 m49 m50 m51 m52 m53 m54 m55 m56 m57 m58 m59 m60 m61 m62 m63 m64
+members m0 m1 m2 m3 m4 m5 m6 m7 m8 m9 m10 m11 m12 m13 m14 m15 m16 m17 m18 m19 m20 m21 m22 m23 m24 m25 m26 m27 m28 \
+m29 m30 m31 m32 m33 m34 m35 m36 m37 m38 m39 m40 m41 m42 m43 m44 m45 m46 m47 m48 m49 m50 m51 m52 m53 m54 m55 m56 m57 \
+m58 m59 m60 m61 m62 m63 m64
 => Script { line: 1, kind: 59 }, status 2
 script 1 59
 ==== a body of 257 bytes
 play
 members a
-cast a xxxxxxxxxxxxxxxxxxxxxxxxxxxxxxxxxxxxxxxxxxxxxxxxxxxxxxxxxxxxxxxxxxxxxxxxxxxxxxxxxxxxxxxxxxxxxxxxxxxxxxxxxxxxxxxxxxxxxxxxxxxxxxxxxxxxxxxxxxxxxxxxxxxxxxxxxxxxxxxxxxxxxxxxxxxxxxxxxxxxxxxxxxxxxxxxxxxxxxxxxxxxxxxxxxxxxxxxxxxxxxxxxxxxxxxxxxxxxxxxxxxxxxxxxxxxxxxxx
+cast a xxxxxxxxxxxxxxxxxxxxxxxxxxxxxxxxxxxxxxxxxxxxxxxxxxxxxxxxxxxxxxxxxxxxxxxxxxxxxxxxxxxxxxxxxxxxxxxxxxxxxxxxxxxxx\
+xxxxxxxxxxxxxxxxxxxxxxxxxxxxxxxxxxxxxxxxxxxxxxxxxxxxxxxxxxxxxxxxxxxxxxxxxxxxxxxxxxxxxxxxxxxxxxxxxxxxxxxxxxxxxxxxxxxx\
+xxxxxxxxxxxxxxxxxxxxxxxxxxxxxxxx
 => Script { line: 2, kind: 60 }, status 2
 script 2 60
 ==== examples/unknown_name.script
@@ -964,7 +972,8 @@ fn ends_at_the_most_bytes(rt: HostRuntime) -> Result<(), Fail> {
 #[test]
 fn ends_at_the_most_lines(rt: HostRuntime) -> Result<(), Fail> {
     let report =
-        "Done, status 0\nring view=1 term=1 master=a\nmember a up synced\ncasts 0 confirmed 0\npublishes 0 confirmed 0\n";
+        "Done, status 0\nring view=1 term=1 master=a\nmember a up synced\ncasts 0 confirmed 0\n\
+         publishes 0 confirmed 0\n";
     for (lines, wanted) in [(20_000, report), (20_001, TOO_LARGE)] {
         for word in ["play", "step"] {
             events_of(&rt, word, long_text(rt.alloc(), lines)?, wanted)?;
@@ -1003,7 +1012,8 @@ fn ends_at_a_fault_of_the_source(rt: HostRuntime) -> Result<(), Fail> {
 
 /// The report of two members that have published nothing.
 const NOTHING: &str =
-    "ring view=1 term=1 master=a\nmember a up synced\ncasts 0 confirmed 0\npublishes 0 confirmed 0\nmember b up synced\ncasts 0 confirmed 0\npublishes 0 confirmed 0\n";
+    "ring view=1 term=1 master=a\nmember a up synced\ncasts 0 confirmed 0\npublishes 0 confirmed 0\n\
+     member b up synced\ncasts 0 confirmed 0\npublishes 0 confirmed 0\n";
 
 /// The report of a sole member that has heard itself.
 const HEARD: &str =
@@ -1064,7 +1074,8 @@ fn is_gain(event: &Event) -> bool {
 #[test]
 fn gains_what_each_fourth_packet_grants(rt: HostRuntime) -> Result<(), Fail> {
     let script =
-        b"members a\ncast a u\nsettle\ncast a v\nsettle\ncast a w\nsettle\ncast a x\nsettle\ncast a y\nsettle\ncast a z\n";
+        b"members a\ncast a u\nsettle\ncast a v\nsettle\ncast a w\nsettle\ncast a x\nsettle\ncast a y\nsettle\n\
+          cast a z\n";
     let ended = call(&rt, "play", script.to_vec(rt.alloc())?, SOUND)?.ended;
     let journal = ended.journal.as_slice();
     assert_eq!(rt; journal.len(), 33);

@@ -9,4 +9,4 @@ returns-in-Ok-clause-ok c =
     subst (λ b. HasLooked c.args.view (shown_of c.args.node.now) b (kept_post c.hand_on.result.opened) (loose_seen c.hand_on.result.loose)) (sym c.hand_on.ensures.node)
     (subst (λ o. HasLooked c.args.view (shown_of c.args.node.now) (tidied (shown_of c.refresh.new.self)) o (loose_seen c.hand_on.result.loose)) (sym c.hand_on.ensures.opened)
     (subst (λ l. HasLooked c.args.view (shown_of c.args.node.now) (tidied (shown_of c.refresh.new.self)) (to_post c.in-Ok.requests.items) l) (sym c.hand_on.ensures.loose)
-    (record { looks = looks_shown c.args.node.now c.refresh.new.self c.args.view c.in-Ok.requests.items c.requires.ready c.in-Ok.ensures.ok c.in-Ok.ensures.links c.in-Ok.ensures.moves })))
+    (record { looks = looks_shown c.args.node.now c.refresh.new.self c.args.view c.in-Ok.requests.items c.requires.ready c.in-Ok.ensures.reads.ok c.in-Ok.ensures.reads.links c.in-Ok.ensures.reads.moves })))

@@ -4,9 +4,9 @@ use Rattle.ring_cluster.proofs.node.pick.Goals as goal
 
 pub returns-in-Ok : goal.returns-in-Ok
 returns-in-Ok c =
-    let picks = c.in-Ok.ensures.picks in
+    let picks = c.in-Ok.ensures.acts.ends in
     record {
       judged = search rules;
-      ok = picks_shown c.args.node.now c.pick.new.self picks.0 picks.1 picks.2 c.in-Ok.ensures.ok;
+      ok = picks_shown c.args.node.now c.pick.new.self picks.0 picks.1 picks.2 c.in-Ok.ensures.acts.ok;
       err = search rules;
     }

@@ -1,10 +1,6 @@
 use Rattle.ring_script.proofs.Bodies.{further_text}
 use Rattle.ring_script.proofs.line.read_said.Goals as goal
 
-pub read_second-requires : goal.read_second-requires
-read_second-requires g c =
-    record { text = further_text c.of-words.result.line.now c.args.line.now _ c.of-words.result.at c.of-words.ensures.place c.of-words.ensures.line c.first-word.ensures.left c.requires.text }
-
-pub read_further-requires : goal.read_further-requires
-read_further-requires g c =
+pub read_by-requires : goal.read_by-requires
+read_by-requires g c =
     record { text = further_text c.of-words.result.line.now c.args.line.now _ c.of-words.result.at c.of-words.ensures.place c.of-words.ensures.line c.first-word.ensures.left c.requires.text }

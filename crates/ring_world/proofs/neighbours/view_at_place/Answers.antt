@@ -1,6 +1,5 @@
-use Rattle.std.proofs.Common.{◌≤◌, ◌∷◌, length, get_or, ap, ◌∙◌, sym, subst}
-use Rattle.group_view.specs.Since.{no_group}
-use Rattle.ring_world.proofs.Found.{version_some, version_within, version_stands}
+use Rattle.std.proofs.Common.{◌≤◌, length, sym, subst}
+use Rattle.ring_world.proofs.Found.{version_some, version_within}
 use Rattle.ring_world.proofs.neighbours.view_at_place.Goals as goal
 
 pub view_of-requires-clause-some : goal.view_of-requires-clause-some
@@ -9,6 +8,3 @@ view_of-requires-clause-some c = version_some c.args.ring.now c.args.place c.ind
 pub view_of-requires-clause-within : goal.view_of-requires-clause-within
 view_of-requires-clause-within c =
     subst (λ vs. c.index.result.now.version ≤ length vs) (sym c.deref.ensures.value) (version_within c.args.ring.now c.args.place c.index.result.now c.requires.placed c.requires.place c.index.ensures)
-
-pub returns-clause-stands : goal.returns-clause-stands
-returns-clause-stands c = version_stands c.args.ring.now c.args.place c.index.result.now c.view_of.result.now c.requires.placed c.requires.place c.index.ensures c.requires.up (c.view_of.ensures ∙ ap (λ vs. get_or (no_group ∷ vs) c.index.result.now.version no_group) c.deref.ensures.value)

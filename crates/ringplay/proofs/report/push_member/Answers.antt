@@ -1,11 +1,20 @@
-use Rattle.std.proofs.Common.{◌+◌, ◌<◌, ◌++◌, ◌∙◌, ap, arith}
+use Rattle.std.proofs.Common.{◌+◌, ◌<◌, ◌++◌, ◌∙◌, sym, ap, subst, arith}
 use Rattle.ring_world.specs.Step.{size}
+use Rattle.gm_member.specs.Held.{Held}
 use Rattle.gm_member.specs.Shown.{held_of}
 use Rattle.ring_cluster.specs.Seen.{state_of}
+use Rattle.ring_cluster.proofs.Holding.{IsHeld}
 use Rattle.ring_cluster.proofs.Named.{going_fit, going_many}
 use Rattle.ringplay.specs.Report.{counts_lines}
 use Rattle.ringplay.proofs.Reports.{lines_stand}
 use Rattle.ringplay.proofs.report.push_member.Goals as goal
+
+pub push_heard-requires-clause-stands : goal.push_heard-requires-clause-stands
+push_heard-requires-clause-stands c =
+    let w = state_of c.args.cluster.now in
+    let h = held_of c.member_at-member.result.now in
+    let stands = c.member_at-member.ensures.stands in
+    subst (λ x. IsHeld w x h) (sym (ap (λ (k : Held). k.id) stands)) stands
 
 pub returns : goal.returns
 returns c =

@@ -6,4 +6,4 @@ pub returns-in-Ok-clause-steps : goal.returns-in-Ok-clause-steps
 returns-in-Ok-clause-steps g c =
     let m = c.args.self.now in
     of_view c.args.answer c.in-Viewed.view _ c.in-Viewed.is
-    (answer_lifts (held_of m) (held_of c.read_answer.new.self) c.in-Viewed.view (asks_up m.asked m.phase c.requires.open m.up) c.in-Ok.ensures.ok)
+    (answer_lifts (held_of m) (held_of c.read_answer.new.self) c.in-Viewed.view (asks_up m.asked m.phase c.requires.open m.up) c.in-Ok.ensures.reads.ok)

@@ -1,13 +1,17 @@
-use Rattle.std.proofs.Common.{None, ap, refl, arith}
+use Rattle.std.proofs.Common.{◌<◌, length, None, ap, refl, arith, rules}
+use Rattle.std.proofs.lemmas.Grind.{common_steps}
 use Rattle.gm_member.specs.Shown.{held_of, ends_of}
 use Rattle.gm_member.specs.View.{in_of, end_of}
 use Rattle.ring_world.proofs.Maps.{mapped_rewrite, mapped_write}
 use Rattle.gm_member.proofs.member.Member.lend_at_door.Goals as goal
 
--- src/ends.rt:16:5
-pub returns-clause-ends : goal.returns-clause-ends
-returns-clause-ends g c = ap (λ d. record (ends_of c.args.self.now) { door = d }) (mapped_write end_of (λ _. None) c.args.self.now.door.items c.args.place c.index_mut-link.result.now _ None (omega (arith, c.len.ensures, c.args.self.now.door.ok.0, c.if-place-len.false)) c.index_mut-link.ensures.value c.take.ensures.after)
-
--- src/ends.rt:16:5
-pub returns-clause-held : goal.returns-clause-held
-returns-clause-held g c = ap (λ d. record (held_of c.args.self.now) { door = d }) (mapped_rewrite in_of c.args.self.now.door.items c.args.place c.index_mut-link.result.now _ (omega (arith, c.len.ensures, c.args.self.now.door.ok.0, c.if-place-len.false)) c.index_mut-link.ensures.value refl)
+pub returns : goal.returns
+returns g c =
+    let m = c.args.self.now in
+    let l : c.args.place < length m.door.items = omega (arith, c.len.ensures, m.door.ok.0, c.if-place-len.false) in
+    record {
+      lent = grind (arith, common_steps);
+      ends = ap (λ d. record (ends_of m) { door = d }) (mapped_write end_of (λ _. None) m.door.items c.args.place c.index_mut-link.result.now _ None l c.index_mut-link.ensures.value c.take.ensures.after);
+      held = ap (λ d. record (held_of m) { door = d }) (mapped_rewrite in_of m.door.items c.args.place c.index_mut-link.result.now _ l c.index_mut-link.ensures.value refl);
+      kept = search rules;
+    }

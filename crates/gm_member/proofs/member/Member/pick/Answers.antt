@@ -1,12 +1,15 @@
-use Rattle.std.proofs.Common.{◌∙◌}
+use Rattle.std.proofs.Common.{◌≡◌, None, Err}
+use Rattle.ring_world.specs.declared.event.Event.TheVariants.{Pick}
+use Rattle.gm_member.specs.declared.fault.MemberFault.TheVariants as fault
+use Rattle.gm_member.specs.Held.{pick_refused, picked_held}
 use Rattle.gm_member.specs.Shown.{held_of}
 use Rattle.gm_member.proofs.Calls.{on_ok_both}
-use Rattle.gm_member.proofs.Fit.{reached_fit}
-use Rattle.gm_member.proofs.DoorLifts.{pick_lifts, pick_refusal_lifts}
+use Rattle.gm_member.proofs.Lifts.{pick_steps, steps_lift, refuses_too}
+use Rattle.gm_member.proofs.Refusals.{pick_refusal_is}
 use Rattle.gm_member.proofs.member.Member.pick.Goals as goal
 
 pub returns-clause-steps : goal.returns-clause-steps
-returns-clause-steps g c = on_ok_both c.pick_next.result (pick_lifts reached_fit (held_of c.args.self.now) (held_of c.pick_next.new.self)) c.pick_next.ensures.heeds.enabled c.pick_next.ensures.acts.ok
+returns-clause-steps g c = on_ok_both c.pick_next.result (steps_lift (λ k. pick_refused k ≡ None) Pick picked_held pick_steps (held_of c.args.self.now) (held_of c.pick_next.new.self)) c.pick_next.ensures.heeds.enabled c.pick_next.ensures.acts.ok
 
 pub returns-clause-not_enabled : goal.returns-clause-not_enabled
-returns-clause-not_enabled g c = λ credit names events x are r l n s q e. c.pick_next.ensures.heeds.refused q (pick_refusal_lifts reached_fit (held_of c.args.self.now) credit names events x are r l n s ∙ e)
+returns-clause-not_enabled g c = refuses_too pick_refused Pick c.pick_next.result (λ q. Err (fault.Refused q)) pick_refusal_is (held_of c.args.self.now) c.pick_next.ensures.heeds.refused

@@ -1,11 +1,14 @@
-use Rattle.std.proofs.Common.{◌≡◌, Option, Some, None, refl, ◌∙◌}
+use Rattle.std.proofs.Common.{◌≡◌, Option, Some, None, Err, refl}
 use Rattle.std.proofs.lemmas.Result.{on_ok_weaker}
 use Rattle.ring_names.specs.declared.reason.Reason.TheVariants.{NoOutLink}
-use Rattle.gm_member.specs.Held.{Held, Outgoing, put_refused, on_some, out_refused, parcel_on}
+use Rattle.ring_world.specs.declared.event.Event.TheVariants.{Put}
+use Rattle.gm_member.specs.declared.fault.MemberFault.TheVariants as fault
+use Rattle.gm_member.specs.Held.{Held, Outgoing, put_refused, put_held, on_some, out_refused, parcel_on}
 use Rattle.gm_member.specs.Stands.{WhereItStands, IsPutPacket}
-use Rattle.gm_member.proofs.Calls.{up_later, on_ok_both}
 use Rattle.gm_member.specs.Shown.{held_of}
-use Rattle.gm_member.proofs.Lifts.{put_lifts, put_packet_lifts, put_refusal_lifts}
+use Rattle.gm_member.proofs.Calls.{up_later, on_ok_both}
+use Rattle.gm_member.proofs.Lifts.{put_steps, steps_lift, refuses_too, put_packet_lifts}
+use Rattle.gm_member.proofs.Refusals.{put_refusal_is}
 use Rattle.gm_member.proofs.member.Member.put.Goals as goal
 
 -- who may put sends on a link, and the packet is the ring's
@@ -17,10 +20,10 @@ put_out_lifts h e = by_out h.out refl (up_later h (on_some h.out NoOutLink (out_
     by_out (Some o) is k = (o, is, put_packet_lifts h o is)
 
 pub returns-clause-steps : goal.returns-clause-steps
-returns-clause-steps g c = on_ok_both c.put_next.result (put_lifts (held_of c.args.self.now) (held_of c.put_next.new.self)) c.put_next.ensures.heeds.enabled c.put_next.ensures.puts.ok
+returns-clause-steps g c = on_ok_both c.put_next.result (steps_lift (λ k. put_refused k ≡ None) Put put_held put_steps (held_of c.args.self.now) (held_of c.put_next.new.self)) c.put_next.ensures.heeds.enabled c.put_next.ensures.puts.ok
 
 pub returns-clause-put : goal.returns-clause-put
 returns-clause-put g c = on_ok_weaker c.put_next.result (put_out_lifts (held_of c.args.self.now)) c.put_next.ensures.heeds.enabled
 
 pub returns-clause-not_enabled : goal.returns-clause-not_enabled
-returns-clause-not_enabled g c = λ credit names events x are r l n s q e. c.put_next.ensures.heeds.refused q (put_refusal_lifts (held_of c.args.self.now) credit names events x are r l n s ∙ e)
+returns-clause-not_enabled g c = refuses_too put_refused Put c.put_next.result (λ q. Err (fault.Refused q)) put_refusal_is (held_of c.args.self.now) c.put_next.ensures.heeds.refused

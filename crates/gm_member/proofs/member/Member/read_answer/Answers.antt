@@ -1,28 +1,29 @@
-use Rattle.std.proofs.Common.{◌≡◌, false, Some, sym, ap, ◌∙◌}
+use Rattle.std.proofs.Common.{◌≡◌, false, Some, sym, ap, ◌∙◌, rules}
 use Rattle.ring_world.specs.View.{right_of}
 use Rattle.gm_member.specs.Held.{Held, answered_held, looked_held, first_out, sends_to}
 use Rattle.gm_member.specs.Shown.{held_of}
 use Rattle.gm_member.proofs.Moving.{refreshed_moves, sends_from, when_not}
 use Rattle.gm_member.proofs.member.Member.read_answer.Goals as goal
 
-pub returns-clause-ok : goal.returns-clause-ok
-returns-clause-ok g c =
-    let elsewhere : sends_to (held_of c.args.self.now).out (right_of c.args.view c.args.self.now.id.0) ≡ false =
-    ap (sends_to (held_of c.args.self.now).out) (sym c.right-to.ensures) ∙ sym c.sends_to.ensures ∙ c.if-sends_to.false in
-    c.read.ensures.held
-    ∙ ap (λ (h : Held). record (looked_held h c.args.view) { out = Some (first_out (looked_held h c.args.view) c.right-to.result.0) }) (c.close-2.ensures.held ∙ ap answered_held c.take_spare.ensures.held)
-    ∙ refreshed_moves (answered_held (held_of c.args.self.now)) c.args.view c.right-to.result.0 elsewhere c.right-to.ensures
-
-pub returns-clause-moves : goal.returns-clause-moves
-returns-clause-moves g c =
+pub returns-clause-reads : goal.returns-clause-reads
+returns-clause-reads g c =
     let elsewhere : sends_to (held_of c.args.self.now).out (right_of c.args.view c.args.self.now.id.0) ≡ false =
     ap (sends_to (held_of c.args.self.now).out) (sym c.right-to.ensures) ∙ sym c.sends_to.ensures ∙ c.if-sends_to.false in
     let closed = c.close-2.ensures.same in
     let same = c.take_spare.ensures.same in
-    when_not _ _ _ elsewhere (
-      c.right-to.result,
-      c.right-to.ensures,
-      sends_from g.O.LinkPair.are_fresh g.O.LinkOut.free g.O.LinkOut.ended g.O.LinkOut.puts c.args.view.version c.right-to.result c.args.self.now c.close-2.new.self c.read.new.self c.read.result.items
-          (closed.0 ∙ same.0) (closed.1 ∙ same.1) (closed.2 ∙ same.2) (c.close-2.ensures.outs.0 ∙ c.take_spare.ensures.ends.0)
-          (ap (λ xs. xs.items) c.close-2.ensures.outs.1 ∙ c.take_spare.ensures.ends.3) c.read.ensures.sends,
-    )
+    record {
+      ok =
+          c.read.ensures.held
+          ∙ ap (λ (h : Held). record (looked_held h c.args.view) { out = Some (first_out (looked_held h c.args.view) c.right-to.result.0) }) (c.close-2.ensures.held ∙ ap answered_held c.take_spare.ensures.held)
+          ∙ refreshed_moves (answered_held (held_of c.args.self.now)) c.args.view c.right-to.result.0 elsewhere c.right-to.ensures;
+      links = search rules;
+      moves = when_not _ _ _ elsewhere (
+        c.right-to.result,
+        c.right-to.ensures,
+        sends_from g.O.LinkPair.are_fresh g.O.LinkOut.free g.O.LinkOut.ended g.O.LinkOut.puts c.args.view.version c.right-to.result c.args.self.now c.close-2.new.self c.read.new.self c.read.result.items
+            (closed.0 ∙ same.0) (closed.1 ∙ same.1) (closed.2 ∙ same.2) (c.close-2.ensures.outs.0 ∙ c.take_spare.ensures.ends.0)
+            (ap (λ xs. xs.items) c.close-2.ensures.outs.1 ∙ c.take_spare.ensures.ends.3) c.read.ensures.sends,
+      );
+      err = tt;
+      err_ends = tt;
+    }

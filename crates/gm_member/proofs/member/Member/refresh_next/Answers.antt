@@ -5,8 +5,8 @@ use Rattle.gm_member.specs.Shown.{held_of}
 use Rattle.gm_member.proofs.Moving.{refreshed_moves, sends_from, when_not}
 use Rattle.gm_member.proofs.member.Member.refresh_next.Goals as goal
 
-pub returns-clause-refreshes : goal.returns-clause-refreshes
-returns-clause-refreshes g c =
+pub returns-clause-reads : goal.returns-clause-reads
+returns-clause-reads g c =
     let elsewhere : sends_to (held_of c.args.self.now).out (right_of c.args.view c.args.self.now.id.0) ≡ false =
     ap (sends_to (held_of c.args.self.now).out) (sym c.right-to.ensures) ∙ sym c.sends_to.ensures ∙ c.if-sends_to.false in
     let same = c.prepare.ensures.same in

@@ -4,7 +4,7 @@ use Rattle.credit_flow.specs.Credit.{Credit, sent}
 use Rattle.group_view.specs.declared.link.LinkKind.TheVariants.{Ring}
 use Rattle.group_view.specs.declared.request.Request.TheVariants.{Deposit}
 use Rattle.gm_member.specs.Parcels.{Carried, Parcel}
-use Rattle.gm_member.specs.Loads.{on_link}
+use Rattle.gm_member.specs.Loads.{as_item}
 use Rattle.gm_member.specs.Held.{Outgoing, fresh_out, next_sent}
 use Rattle.gm_member.proofs.spare.Spare.open.Goals as goal
 
@@ -25,7 +25,7 @@ returns-clause-opens g c = λ rows s. record {
   end = c.put.new.self;
   there = refl;
   packet =
-      subst (λ k. g.O.LinkOut.puts c.args.self.out (on_link k) c.put.new.self)
+      subst (λ k. g.O.LinkOut.puts c.args.self.out (as_item k) c.put.new.self)
       (c.with_view.ensures
       ∙ ap (λ b. packet_with c.args.version b c.args.self.packet.lines) s.first
       ∙ ap (packet_with c.args.version true) s.lines)

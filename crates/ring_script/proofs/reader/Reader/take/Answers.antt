@@ -10,10 +10,10 @@ returns-in-Statement-clause-taken g c = λ used line read right says.
     let adds = statement_taken g.S.Statement.grammar g.S.Statement.says used c.args.number line said.0 right in
     on_ok_weaker c.push_line.result
     (λ pushed. record {
-      next = sym adds.said.next;
-      members = read.members ∙ sym adds.said.members;
-      credit = read.credit ∙ sym adds.said.credit;
+      next = sym adds.next;
+      members = read.members ∙ sym adds.members;
+      credit = read.credit ∙ sym adds.credit;
       lines = pushed ∙ ap (λ xs. xs ++ (c.args.number, c.in-Statement.statement) ∷ []) read.lines
-          ∙ ap (λ x. statements_of g.S.Statement.says used ++ (c.args.number, x) ∷ []) said.1 ∙ sym adds.said.lines;
+          ∙ ap (λ x. statements_of g.S.Statement.says used ++ (c.args.number, x) ∷ []) said.1 ∙ sym adds.lines;
     })
     c.push_line.ensures.ok

@@ -5,11 +5,8 @@ use Rattle.ring_world.proofs.Running.{running_placed, running_marked, running_mo
 use Rattle.ring_world.proofs.HeldLaws.{lawful_more}
 use Rattle.ring_world.proofs.world.World.apply.Goals as goal
 
-pub step-requires-clause-placed : goal.step-requires-clause-placed
-step-requires-clause-placed c = running_placed c.self.inside c.self.invariant
-
-pub step-requires-clause-after : goal.step-requires-clause-after
-step-requires-clause-after c = running_marked c.self.inside c.self.invariant
+pub step-requires-clause-ready : goal.step-requires-clause-ready
+step-requires-clause-ready c = record { placed = running_placed c.self.inside c.self.invariant; after = running_marked c.self.inside c.self.invariant }
 
 pub invariant_of-self-2 : goal.invariant_of-self-2
 invariant_of-self-2 c = running_more (state_of c.self.inside) c.self.inside.applied _ c.args.event.now c.self.invariant.reached (grind (arith, common_steps)) (grind (arith, common_steps)) refl (omega arith)
