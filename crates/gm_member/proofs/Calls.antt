@@ -9,7 +9,7 @@ use Rattle.ring_world.specs.Rows.{Row}
 use Rattle.ring_world.specs.Refusal.{or_else, refuse_if}
 use Rattle.ring_world.specs.Machine.{is_waiting}
 use Rattle.ring_world.specs.Event.{is_stopped}
-use Rattle.ring_world.proofs.Refusals.{none_of}
+use Rattle.ring_world.proofs.events.Refusals.{none_of}
 use Rattle.gm_member.specs.Held.{Held, Outgoing, up_refused, on_some, put_refused, out_refused, has_nothing_new}
 use Rattle.gm_member.proofs.DoorParts.{up_refused_none}
 

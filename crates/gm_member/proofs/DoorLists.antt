@@ -6,8 +6,8 @@ use Rattle.std.proofs.lemmas.Bool.{cases_eq, cases_lt, lt-ltb, le-ltb}
 use Rattle.std.proofs.lemmas.List.Quantifiers.{position-Some}
 use Rattle.std.proofs.lemmas.List.FromFn.{fill_by_all, get_or-range_with_len, length-range_with_len}
 use Rattle.group_view.specs.Ring.{is_in}
-use Rattle.ring_world.proofs.Maps.{position_map}
-use Rattle.ring_world.proofs.Rounds.{nat_eq-same, nat_eq-not}
+use Rattle.ring_world.proofs.rings.Maps.{position_map}
+use Rattle.ring_world.proofs.rings.Rounds.{nat_eq-same, nat_eq-not}
 use Rattle.gm_member.specs.Held.{without}
 
 -- ---- tests

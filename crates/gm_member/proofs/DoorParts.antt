@@ -10,7 +10,7 @@ use Rattle.ring_world.specs.Machine.{World, Member, no_member, member_at, link_a
 use Rattle.ring_world.specs.OpenLinks.{comes_from_left, is_place}
 use Rattle.ring_world.specs.Step.{size, with_member}
 use Rattle.ring_world.specs.Event.{is_stopped}
-use Rattle.ring_world.proofs.Refusals.{none_of, up_from}
+use Rattle.ring_world.proofs.events.Refusals.{none_of, up_from}
 use Rattle.gm_member.specs.Held.{Held, up_refused, without}
 
 -- whether a link waits for x, by where x takes from and the version of its view

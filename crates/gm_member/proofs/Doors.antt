@@ -12,10 +12,10 @@ use Rattle.ring_world.specs.View.{ids, left_of, left_at}
 use Rattle.ring_world.specs.Machine.{Link, World, link_at, view_at, newest, left, is_kept}
 use Rattle.ring_world.specs.OpenLinks.{version_of, since_in, comes_from_left, passes, is_current, is_door_link}
 use Rattle.ring_world.specs.Event.{is_at_door}
-use Rattle.ring_world.proofs.Rounds.{nat_eq-is, nat_eq-same}
-use Rattle.ring_world.proofs.Good.{Kept, kept_true, true_kept}
-use Rattle.ring_world.proofs.Refresh.{kept_less}
-use Rattle.ring_world.proofs.FromLeft.{IsGood, OpenedRight, opened_right, comes_is}
+use Rattle.ring_world.proofs.rings.Rounds.{nat_eq-is, nat_eq-same}
+use Rattle.ring_world.proofs.invariants.Good.{Kept, kept_true, true_kept}
+use Rattle.ring_world.proofs.walks.Refresh.{kept_less}
+use Rattle.ring_world.proofs.invariants.FromLeft.{IsGood, OpenedRight, opened_right, comes_is}
 use Rattle.gm_member.specs.Held.{Incoming, is_for, stays}
 use Rattle.gm_member.specs.Stands.{incoming_in, waits_for}
 use Rattle.gm_member.proofs.Facts.{version_of_view}

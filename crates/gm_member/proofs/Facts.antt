@@ -11,8 +11,8 @@ use Rattle.ring_world.specs.Machine.{World, Packet, Member, Sending, no_packet, 
 use Rattle.ring_world.specs.Step.{size, log_of, next_lines, next_packet}
 use Rattle.ring_world.specs.Event.{id_of, by_of, of_member, at_found, refused_at, done_at, refusal, effect}
 use Rattle.ring_world.specs.Lawful.{row_of, NumbersAreWithin, PacketsAreWithin}
-use Rattle.ring_world.proofs.Happens.{HasViews}
-use Rattle.ring_world.proofs.Sent.{next_line_at}
+use Rattle.ring_world.proofs.invariants.Happens.{HasViews}
+use Rattle.ring_world.proofs.code.Sent.{next_line_at}
 use Rattle.gm_member.specs.Held.{known_at, numbers_of}
 use Rattle.gm_member.specs.Stands.{held_in, outgoing_in}
 use Rattle.gm_member.proofs.Places.{tabled_at}

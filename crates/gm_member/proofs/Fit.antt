@@ -7,12 +7,12 @@ use Rattle.ring_world.specs.Machine.{World, member_at}
 use Rattle.ring_world.specs.Step.{size, log_of, opening}
 use Rattle.ring_world.specs.Event.{id_of, refusal, effect, IsRun, last}
 use Rattle.ring_world.specs.Laws.{IsLawful, GoesOn}
-use Rattle.ring_world.proofs.Happens.{IsGood, run_events, opening_good, reached_good}
-use Rattle.ring_world.proofs.Ended.{EndsRight}
-use Rattle.ring_world.proofs.OpenWalk.{reached_ends}
-use Rattle.ring_world.proofs.AllRuns.{every_state_lawful, every_run_goes_on}
-use Rattle.ring_world.proofs.LinkCredit.{run_credited}
-use Rattle.ring_world.proofs.Sized.{IsSized, opening_sized, event_sized}
+use Rattle.ring_world.proofs.invariants.Happens.{IsGood, run_events, opening_good, reached_good}
+use Rattle.ring_world.proofs.walks.Ended.{EndsRight}
+use Rattle.ring_world.proofs.walks.OpenWalk.{reached_ends}
+use Rattle.ring_world.proofs.runs.AllRuns.{every_state_lawful, every_run_goes_on}
+use Rattle.ring_world.proofs.runs.LinkCredit.{run_credited}
+use Rattle.ring_world.proofs.code.Sized.{IsSized, opening_sized, event_sized}
 use Rattle.gm_member.proofs.OwnEnds.{OwnEnds, reached_owns}
 use Rattle.gm_member.proofs.Names.{reached_named, reached_nobody}
 

@@ -14,7 +14,7 @@ use Rattle.ring_world.specs.Refusal.{refuse_if, or_else, is_empty}
 use Rattle.ring_world.specs.Machine.{World, member_at, link_at, is_waiting, oldest, view_at, newest}
 use Rattle.ring_world.specs.Step.{size, log_of, put_on as put_in, gain_on, leave_link, opening, current_is}
 use Rattle.ring_world.specs.Event.{is_stopped, on_link, running_refusal, up_refusal, put_refusal, end_refusal, gain_refusal, refusal, at_found, last, id_of, by_of, refresh_refusal, refused_at, done_at}
-use Rattle.ring_world.proofs.Enabled.{up_later, up_none, running_none}
+use Rattle.ring_world.proofs.events.Enabled.{up_later, up_none, running_none}
 use Rattle.gm_member.specs.declared.taken.Taken.{Taken}
 use Rattle.gm_member.specs.Parcels.{Parcel}
 use Rattle.gm_member.specs.Held.{Held, Outgoing, known_at, active_refused, up_refused, published_held, put_refused, put_held, parcel_on, take_refused, took_held, gain_refused, gained_held, ended_held, stopped_held, pick_refused, picked_held, refresh_refused, refreshed_held}
@@ -26,14 +26,14 @@ use Rattle.gm_member.proofs.PublishStands.{publish_stands, publish_number}
 use Rattle.gm_member.proofs.PutStands.{put_refuses, put_stands, put_packet, leaving}
 use Rattle.gm_member.proofs.TakeStands.{TakesFrom, take_refuses, take_enabled, take_does, take_stands, news_are, end_may}
 use Rattle.gm_member.proofs.GainStands.{gain_refuses, gain_stands}
-use Rattle.ring_world.proofs.Refusals.{up_is}
+use Rattle.ring_world.proofs.events.Refusals.{up_is}
 use Rattle.gm_member.proofs.StopStands.{stop_stands}
 use Rattle.gm_member.proofs.EndStands.{end_stands}
 use Rattle.group_view.specs.View.{Group}
 use Rattle.ring_world.specs.OpenLinks.{version_of}
-use Rattle.ring_world.proofs.WhatRefuses.{MayLook}
-use Rattle.ring_world.proofs.Refusals.{not_less}
-use Rattle.ring_world.proofs.Happens.{IsGood}
+use Rattle.ring_world.proofs.events.WhatRefuses.{MayLook}
+use Rattle.ring_world.proofs.events.Refusals.{not_less}
+use Rattle.ring_world.proofs.invariants.Happens.{IsGood}
 use Rattle.gm_member.proofs.Doors.{view_version}
 use Rattle.gm_member.proofs.DoorParts.{up_refused_none}
 use Rattle.gm_member.proofs.PickStands.{PicksAt, picks_some, pick_stands, MayPick, may_pick}

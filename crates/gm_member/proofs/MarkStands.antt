@@ -7,9 +7,9 @@ use Rattle.group_view.specs.Change.{marked}
 use Rattle.ring_world.specs.Machine.{Link, World, member_at, link_at, view_at, newest, left}
 use Rattle.ring_world.specs.OpenLinks.{version_of, since_in, comes_from_left, is_door_link}
 use Rattle.ring_world.specs.Step.{with_view}
-use Rattle.ring_world.proofs.WhatRefuses.{MayLook, MayMark}
-use Rattle.ring_world.proofs.Views.{view_old, view_new, left_old}
-use Rattle.ring_world.proofs.Happens.{IsGood, mark_view_good}
+use Rattle.ring_world.proofs.events.WhatRefuses.{MayLook, MayMark}
+use Rattle.ring_world.proofs.walks.Views.{view_old, view_new, left_old}
+use Rattle.ring_world.proofs.invariants.Happens.{IsGood, mark_view_good}
 use Rattle.gm_member.specs.Stands.{incoming_in, waits_for, door_in, held_in}
 use Rattle.gm_member.proofs.DoorLists.{filter_agree}
 use Rattle.gm_member.proofs.Parts.{held_same}

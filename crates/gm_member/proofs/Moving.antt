@@ -1,22 +1,20 @@
 -- A member that reads a view, by its structs.
 use Rattle.std.specs.List.{remove}
-use Rattle.std.proofs.Common.{◌≡◌, ℕ, suc, arith, ◌+◌, ◌<◌, length, get_or, take, drop, Bool, false, not, cond, ◌∷◌, ◌++◌, [], List, Some, map, sym, ap, subst, ◌∙◌}
-use Rattle.std.specs.Prelude.{MatchOption}
+use Rattle.std.proofs.Common.{◌≡◌, ℕ, suc, arith, ◌+◌, ◌<◌, length, get_or, take, drop, Bool, false, not, cond, ◌++◌, List, Some, map, sym, ap, subst, ◌∙◌}
 use Rattle.std.proofs.lemmas.List.{get_or-map}
 use Rattle.ring_names.specs.declared.numbers.MemberId.{MemberId}
 use Rattle.group_view.specs.View.{Group}
 use Rattle.group_view.specs.declared.request.Request.{Request}
 use Rattle.ordered_link.specs.declared.item.Item.{Item}
-use Rattle.ordered_link.specs.declared.item.EndReason.TheVariants.{Moved}
 use Rattle.ring_world.specs.View.{right_of}
 use Rattle.gm_member.specs.declared.packet.Load.{Load}
 use Rattle.gm_member.specs.declared.member.Member.{Member}
-use Rattle.gm_member.specs.View.{row_of, in_of, ring_link}
+use Rattle.gm_member.specs.View.{row_of, in_of}
 use Rattle.gm_member.specs.declared.links.InLink.{InLink}
 use Rattle.gm_member.specs.Held.{Held, no_incoming, door_at, without, looked_held, first_out, sends_to, refreshed_held}
-use Rattle.gm_member.specs.Ends.{EndGets}
 use Rattle.gm_member.specs.Spares.{IsSpareFor, OpensOn}
 use Rattle.gm_member.specs.Shown.{When, SendsOn}
+use Rattle.gm_member.specs.Ends.{Replaces}
 
 -- a member that has to send to another does so after a refresh
 pub refreshed_moves : (h : Held) (v : Group) (to : ℕ) → sends_to h.out (right_of v h.id) ≡ false → to ≡ right_of v h.id → record (looked_held h v) { out = Some (first_out (looked_held h v) to) } ≡ refreshed_held h v
@@ -41,9 +39,9 @@ module _ {O I : Type 0} where
         (subst (λ i. OpensOn puts l.credit (map row_of m.known.items) i to version s.spare s.link requests) ei
         (subst (λ ks. OpensOn puts l.credit (map row_of ks.items) l.id to version s.spare s.link requests) ek s.opens));
     old_outs =
-        subst (λ i. MatchOption m.out (n.old_outs.items ≡ m.old_outs.items) (λ k. (o : O) × EndGets puts Moved k.end (Some o) × (n.old_outs.items ≡ m.old_outs.items ++ (ring_link i.0 k.to.0 k.opened, o) ∷ []))) ei
-        (subst (λ xs. MatchOption m.out (n.old_outs.items ≡ xs) (λ k. (o : O) × EndGets puts Moved k.end (Some o) × (n.old_outs.items ≡ xs ++ (ring_link l.id.0 k.to.0 k.opened, o) ∷ []))) es
-        (subst (λ p. MatchOption p (n.old_outs.items ≡ l.old_outs.items) (λ k. (o : O) × EndGets puts Moved k.end (Some o) × (n.old_outs.items ≡ l.old_outs.items ++ (ring_link l.id.0 k.to.0 k.opened, o) ∷ []))) eo s.old_outs));
+        subst (λ i. Replaces puts i.0 m.out m.old_outs.items n.old_outs.items) ei
+        (subst (λ xs. Replaces puts l.id.0 m.out xs n.old_outs.items) es
+        (subst (λ p. Replaces puts l.id.0 p l.old_outs.items n.old_outs.items) eo s.old_outs));
   }
 
 -- of two cases the one that is there

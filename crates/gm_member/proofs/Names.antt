@@ -11,12 +11,12 @@ use Rattle.ring_world.specs.declared.phase.Ending.TheVariants.{Halted}
 use Rattle.ring_world.specs.Machine.{Member, World, no_member, member_at, view_at, newest}
 use Rattle.ring_world.specs.Step.{size, log_of, published, taker, with_current, stop_at, stopped, with_member, with_view, moved_to, opening, opening_member}
 use Rattle.ring_world.specs.Event.{id_of, refreshed, refusal, effect, IsRun, last}
-use Rattle.ring_world.proofs.Names.{same_bytes, own_bytes, found_at}
-use Rattle.ring_world.proofs.Lists.{at_set}
-use Rattle.ring_world.proofs.Cases.{Cases, each_event}
-use Rattle.ring_world.proofs.Composed.{end_composed, refresh_composed}
-use Rattle.ring_world.proofs.Parts.{Part, cast_part, put_part, take_part, gain_part, stop_part, open_part, still_part, run_keeps}
-use Rattle.ring_world.proofs.Happens.{IsGood, run_events, opening_good}
+use Rattle.ring_world.proofs.events.Names.{same_bytes, own_bytes, found_at}
+use Rattle.ring_world.proofs.rings.Lists.{at_set}
+use Rattle.ring_world.proofs.events.Cases.{Cases, each_event}
+use Rattle.ring_world.proofs.events.Composed.{end_composed, refresh_composed}
+use Rattle.ring_world.proofs.events.Parts.{Part, cast_part, put_part, take_part, gain_part, stop_part, open_part, still_part, run_keeps}
+use Rattle.ring_world.proofs.invariants.Happens.{IsGood, run_events, opening_good}
 
 -- ---- the names stay
 

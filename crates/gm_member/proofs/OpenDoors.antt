@@ -12,17 +12,17 @@ use Rattle.ring_world.specs.Machine.{Member, Link, World, no_link, no_sending, m
 use Rattle.ring_world.specs.OpenLinks.{comes_from_left, is_place}
 use Rattle.ring_world.specs.Step.{size, ended, end_out, pushed, next_packet, fresh_link, moved_to, look_at, open_to}
 use Rattle.ring_world.specs.Event.{send_to, refreshed}
-use Rattle.ring_world.proofs.WhatRefuses.{MayLook}
-use Rattle.ring_world.proofs.Lists.{at_set, set_nothing}
-use Rattle.ring_world.proofs.Rounds.{nat_eq-is}
-use Rattle.ring_world.proofs.Good.{kept_true}
-use Rattle.ring_world.proofs.Views.{right_is}
+use Rattle.ring_world.proofs.events.WhatRefuses.{MayLook}
+use Rattle.ring_world.proofs.rings.Lists.{at_set, set_nothing}
+use Rattle.ring_world.proofs.rings.Rounds.{nat_eq-is}
+use Rattle.ring_world.proofs.invariants.Good.{kept_true}
+use Rattle.ring_world.proofs.walks.Views.{right_is}
 use Rattle.group_view.proofs.Marks.{right_is as right_of_entry}
-use Rattle.ring_world.proofs.Happens.{IsGood}
+use Rattle.ring_world.proofs.invariants.Happens.{IsGood}
 use Rattle.gm_member.specs.Held.{Incoming, fresh_in, sends_to}
 use Rattle.gm_member.specs.Stands.{incoming_in, outgoing_in, held_in}
 use Rattle.gm_member.proofs.DoorLists.{filter_agree, made_agree, filter_more}
-use Rattle.ring_world.proofs.FromLeft.{OpenedRight, comes_is}
+use Rattle.ring_world.proofs.invariants.FromLeft.{OpenedRight, comes_is}
 use Rattle.gm_member.proofs.DoorParts.{waits_by, member_same}
 
 -- ---- the link that opens

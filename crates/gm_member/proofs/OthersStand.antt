@@ -7,8 +7,8 @@ use Rattle.ring_world.specs.View.{right_of}
 use Rattle.ring_world.specs.Machine.{World, Member, member_at, view_at}
 use Rattle.ring_world.specs.Step.{moved_to}
 use Rattle.ring_world.specs.Event.{refreshed}
-use Rattle.ring_world.proofs.WhatRefuses.{MayLook}
-use Rattle.ring_world.proofs.Happens.{IsGood}
+use Rattle.ring_world.proofs.events.WhatRefuses.{MayLook}
+use Rattle.ring_world.proofs.invariants.Happens.{IsGood}
 use Rattle.gm_member.specs.Held.{fresh_in}
 use Rattle.gm_member.specs.Stands.{incoming_in, outgoing_in, waits_for, door_in, held_in}
 use Rattle.gm_member.proofs.Parts.{held_by, held_same}

@@ -13,13 +13,13 @@ use Rattle.ring_world.specs.declared.phase.Ending.TheVariants.{Moved, Halted}
 use Rattle.ring_world.specs.Machine.{Member, Link, World, no_link, no_member, member_at, link_at, view_at, newest, runs, runs_phase, is_kept}
 use Rattle.ring_world.specs.Step.{size, published, taker, popped, pushed, next_packet, current_is, with_current, finished, ended, stop_at, stopped, with_member, with_link, with_view, look_at, moved_to, open_to, opened_link, opening, opening_member}
 use Rattle.ring_world.specs.Event.{at_door, is_at_door, refreshed, refusal, effect, IsRun, last}
-use Rattle.ring_world.proofs.Lists.{at_set, get_or_beyond}
-use Rattle.ring_world.proofs.Rounds.{nat_eq-is}
-use Rattle.ring_world.proofs.Cases.{Cases, each_event}
-use Rattle.ring_world.proofs.Composed.{end_composed, refresh_composed}
-use Rattle.ring_world.proofs.KeptLook.{kept_current-Some}
-use Rattle.ring_world.proofs.Opening.{opening_inv}
-use Rattle.ring_world.proofs.Happens.{IsGood, run_events, opening_good}
+use Rattle.ring_world.proofs.rings.Lists.{at_set, get_or_beyond}
+use Rattle.ring_world.proofs.rings.Rounds.{nat_eq-is}
+use Rattle.ring_world.proofs.events.Cases.{Cases, each_event}
+use Rattle.ring_world.proofs.events.Composed.{end_composed, refresh_composed}
+use Rattle.ring_world.proofs.invariants.KeptLook.{kept_current-Some}
+use Rattle.ring_world.proofs.invariants.Opening.{opening_inv}
+use Rattle.ring_world.proofs.invariants.Happens.{IsGood, run_events, opening_good}
 
 pub record OwnEnds (w : World) : Type 0 where
   pub out : (x o : ℕ) → (member_at w x).out ≡ Some o → (o < length w.links) × ((link_at w o).sender ≡ x)

@@ -8,7 +8,7 @@ use Rattle.gm_member.specs.Parcels.{carried_now, accepted_row}
 use Rattle.gm_member.specs.News.{carried_in, no_message, taken_between, line_news, taken_of}
 use Rattle.std.proofs.lemmas.Grind.{common_steps}
 use Rattle.std.proofs.lemmas.List.{length-take-le}
-use Rattle.ring_world.proofs.Chain.{append-messages_between}
+use Rattle.ring_world.proofs.walks.Chain.{append-messages_between}
 use Rattle.gm_member.proofs.Places.{map-range_same_from}
 
 pub next_numbers-nothing : (b : Bool) → next_numbers b no_row no_numbers ≡ no_numbers

@@ -14,8 +14,8 @@ use Rattle.ring_world.specs.View.{left_at}
 use Rattle.ring_world.specs.Machine.{World, Member, Link, no_link, no_member, row_at, numbers_at, member_at, link_at, view_at}
 use Rattle.ring_world.specs.OpenLinks.{is_place, is_current, passes}
 use Rattle.ring_world.specs.Step.{size, with_member, with_link, ended, end_out}
-use Rattle.ring_world.proofs.Lists.{at_set}
-use Rattle.ring_world.proofs.Rounds.{nat_eq-is, nat_eq-same}
+use Rattle.ring_world.proofs.rings.Lists.{at_set}
+use Rattle.ring_world.proofs.rings.Rounds.{nat_eq-is, nat_eq-same}
 use Rattle.gm_member.specs.Parcels.{places}
 use Rattle.gm_member.specs.Held.{Held, Outgoing, Incoming}
 use Rattle.gm_member.specs.Stands.{held_in, outgoing_in, incoming_in, waits_for, door_in}

@@ -12,9 +12,9 @@ use Rattle.ring_world.specs.Machine.{World, no_link, member_at, link_at, view_at
 use Rattle.ring_world.specs.OpenLinks.{is_place}
 use Rattle.ring_world.specs.Step.{size, current_is, with_current}
 use Rattle.ring_world.specs.Event.{is_at_door, at_door, pick_refusal, up_refusal, version_refusal, on_link, is_stopped}
-use Rattle.ring_world.proofs.Maps.{position_map}
-use Rattle.ring_world.proofs.Happens.{IsGood}
-use Rattle.ring_world.proofs.Refusals.{none_of}
+use Rattle.ring_world.proofs.rings.Maps.{position_map}
+use Rattle.ring_world.proofs.invariants.Happens.{IsGood}
+use Rattle.ring_world.proofs.events.Refusals.{none_of}
 use Rattle.gm_member.specs.Held.{Incoming, no_incoming, door_at, is_for, on_some, at_some, first_at_door, pick_refused, picked_held, picked_at, without}
 use Rattle.gm_member.specs.Stands.{incoming_in, outgoing_in, waits_for, door_links, door_in, held_in}
 use Rattle.gm_member.proofs.DoorLists.{filter_agree, find_both, find_agree, find_position, position_finds, filter_without}

@@ -14,10 +14,10 @@ use Rattle.ring_world.specs.Machine.{Member, World, no_sending, row_at, numbers_
 use Rattle.ring_world.specs.OpenLinks.{version_of, comes_from_left, passes, is_place, is_current}
 use Rattle.ring_world.specs.Step.{next_lines, next_packet, moved_to, look_at, kept_current}
 use Rattle.ring_world.specs.Event.{refreshed, up_refusal, refresh_refusal, is_stopped}
-use Rattle.ring_world.proofs.Maps.{map-range_same}
-use Rattle.ring_world.proofs.WhatRefuses.{MayLook}
-use Rattle.ring_world.proofs.Rounds.{nat_eq-is, nat_eq-not}
-use Rattle.ring_world.proofs.Happens.{IsGood}
+use Rattle.ring_world.proofs.rings.Maps.{map-range_same}
+use Rattle.ring_world.proofs.events.WhatRefuses.{MayLook}
+use Rattle.ring_world.proofs.rings.Rounds.{nat_eq-is, nat_eq-not}
+use Rattle.ring_world.proofs.invariants.Happens.{IsGood}
 use Rattle.gm_member.specs.Parcels.{places}
 use Rattle.gm_member.specs.Held.{known_at, numbers_of, nothing_sent, put_on, fresh_in, fresh_out, first_out, out_to, looked_held, refreshed_held, refresh_refused, up_refused, kept_in, kept_door, stays}
 use Rattle.gm_member.specs.Stands.{incoming_in, outgoing_in, waits_for, door_in, held_in}

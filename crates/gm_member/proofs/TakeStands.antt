@@ -18,8 +18,8 @@ use Rattle.ring_world.specs.Machine.{World, Packet, Member, no_link, no_member, 
 use Rattle.ring_world.specs.Step.{size, with_member, log_of, is_owned, taker, popped, take_from}
 use Rattle.ring_world.specs.Event.{on_link, is_stopped, running_refusal, take_refusal, end_refusal, version_refusal, refusal, effect}
 use Rattle.ring_world.specs.Lawful.{row_of}
-use Rattle.ring_world.proofs.Take.{row_at-taker, take_row}
-use Rattle.ring_world.proofs.Enabled.{take_effect}
+use Rattle.ring_world.proofs.walks.Take.{row_at-taker, take_row}
+use Rattle.ring_world.proofs.events.Enabled.{take_effect}
 use Rattle.gm_member.specs.Parcels.{Carried, Parcel, no_carried, carried_at, accepted_row}
 use Rattle.gm_member.specs.News.{line_news, carried_in, news_below, news_of}
 use Rattle.gm_member.specs.Held.{Held, Incoming, known_at, at_some, take_refused, owns, accepted_rows, counted_in, took_from, took_held}

@@ -1,5 +1,5 @@
 -- What is done to an end of a link that a member has.
-use Rattle.std.specs.Prelude.{◌≡◌, ◌⊎◌, ◌<◌, ◌≤◌, ℕ, Bool, false, List, [], ◌∷◌, ⊤, Option, None, Some, MatchOption}
+use Rattle.std.specs.Prelude.{◌≡◌, ◌⊎◌, ◌<◌, ◌≤◌, ℕ, Bool, false, List, [], ◌∷◌, ⊤, Option, None, Some, MatchOption, ◌++◌}
 use mathlib.Core.List.{IsPrefix}
 use Rattle.ring_names.specs.declared.reason.Reason.{Reason}
 use Rattle.ring_names.specs.declared.reason.Reason.TheVariants.{LinkFull, NothingToTake, EndNext, PacketNext, ViewTooOld}
@@ -11,23 +11,28 @@ use Rattle.gm_member.specs.declared.fault.MemberFault.{MemberFault}
 use Rattle.gm_member.specs.declared.fault.MemberFault.TheVariants as faults
 use Rattle.gm_member.specs.Parcels.{Parcel}
 use Rattle.gm_member.specs.Loads.{parcel_in, as_item, GrantsIf}
+use Rattle.gm_member.specs.declared.links.OutLink.{OutLink}
+use Rattle.gm_member.specs.View.{ring_link}
+use Rattle.group_view.specs.declared.link.LinkName.{LinkName}
+use Rattle.ordered_link.specs.declared.item.EndReason.TheVariants.{Moved}
 
 module _ {O : Type 0} where
   -- the end is there, and hasn't ended
   abbrev pub EndIsOpen : (O → Bool) → Option O → Type 0
   EndIsOpen ended a = MatchOption a ⊥ (λ o. ended o ≡ false)
 
-  -- the packet was put on the end
-  abbrev pub EndPuts : (O → Item Load → O → Type 0) → Parcel → Option O → Option O → Type 0
-  EndPuts puts k a b = (o : O) × (p : O) × (a ≡ Some o) × (b ≡ Some p) × puts o (as_item k) p
+  -- the item was put on the end
+  abbrev pub EndPuts : (O → Item Load → O → Type 0) → Item Load → Option O → Option O → Type 0
+  EndPuts puts x a b = (o : O) × (p : O) × (a ≡ Some o) × (b ≡ Some p) × puts o x p
 
   -- the end may know more
   abbrev pub EndLooks : (O → O → Type 0) → Option O → Option O → Type 0
   EndLooks looked a b = (b ≡ a) ⊎ (o : O) × (p : O) × (a ≡ Some o) × (b ≡ Some p) × looked o p
 
-  -- the end of the link was put on it
-  abbrev pub EndGets : (O → Item Load → O → Type 0) → EndReason → Option O → Option O → Type 0
-  EndGets puts reason a b = (o : O) × (p : O) × (a ≡ Some o) × (b ≡ Some p) × puts o (item.End reason) p
+  -- the link on which member x sends, where it sends on one, has ended, as its sender has moved on, and the end joins those that it has replaced
+  abbrev pub Replaces : (O → Item Load → O → Type 0) → ℕ → Option (OutLink O) → List (LinkName × O) → List (LinkName × O) → Type 0
+  Replaces puts x link old new =
+      MatchOption link (new ≡ old) (λ l. (o : O) × EndPuts puts (item.End Moved) l.end (Some o) × (new ≡ old ++ (ring_link x l.to.0 l.opened, o) ∷ []))
 
   -- why an enabled put failed: memory was wanted, or the end had no room for a load
   abbrev pub IsPutFault : (O → ℕ) → MemberFault → Option O → Type 0

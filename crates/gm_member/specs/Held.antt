@@ -224,8 +224,7 @@ stays v y l = nat_lt v.version l.opened || is_for v y l
 
 -- what stays of the link that y takes from
 abbrev pub kept_in : Group → ℕ → Option Incoming → Option Incoming
-kept_in v y None = None
-kept_in v y (Some l) = cond (is_for v y l) (Some l) None
+kept_in v y link = at_some link None (λ l. cond (is_for v y l) (Some l) None)
 
 -- what stays at the door
 abbrev pub kept_door : Group → ℕ → List Incoming → List Incoming
@@ -237,8 +236,7 @@ looked_held h v = record h { view = v; current = kept_in v h.id h.current; door 
 
 -- whether it sends to z
 abbrev pub sends_to : Option Outgoing → ℕ → Bool
-sends_to None z = false
-sends_to (Some o) z = nat_eq o.to z
+sends_to out z = at_some out false (λ o. nat_eq o.to z)
 
 -- the link that it opens to z, with its first packet
 abbrev pub first_out : Held → ℕ → Outgoing

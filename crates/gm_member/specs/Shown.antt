@@ -3,7 +3,6 @@ use Rattle.std.specs.List.{slice_get}
 use Rattle.std.specs.Prelude.{◌≡◌, ◌-◌, nat_eq, if◌then◌else◌, ◌⊎◌, ◌+◌, ◌<◌, ◌≤◌, vec_len, vec_capacity, ◌++◌, ◌∷◌, [], ℕ, Bool, true, false, not, List, length, map, ⊤, Option, Some, None, option_map, slice_index_or, slice_set, is_some, nat_lt, IsSome, MatchOption}
 use Rattle.credit_flow.specs.Credit.{grant_due}
 use Rattle.ordered_link.specs.declared.item.EndReason.{EndReason}
-use Rattle.ordered_link.specs.declared.item.EndReason.TheVariants.{Moved}
 use Rattle.group_view.specs.View.{Group}
 use Rattle.group_view.specs.declared.link.LinkName.{LinkName}
 use Rattle.ordered_link.specs.declared.item.Item.{Item}
@@ -16,11 +15,13 @@ use Rattle.gm_member.specs.declared.spare.Spare.{Spare}
 use Rattle.gm_member.specs.declared.member.Member.{Member}
 use Rattle.ring_names.specs.declared.numbers.MemberId.{MemberId}
 use Rattle.group_view.specs.declared.request.Request.{Request}
+use Rattle.ordered_link.specs.declared.item.Item.TheVariants as item
 use Rattle.gm_member.specs.Spares.{IsSpareFor, OpensOn}
 use Rattle.gm_member.specs.View.{row_of, out_of, in_of, end_of, count_of, ring_link, kept_link, kept_links, left_current, left_links}
 use Rattle.gm_member.specs.Parcels.{Parcel}
 use Rattle.gm_member.specs.Held.{Held, at_some, parcel_on, without, sends_to}
-use Rattle.gm_member.specs.Ends.{EndIsOpen, EndPuts, EndGets, EndLooks, EndTook, EndEnds}
+use Rattle.gm_member.specs.Ends.{EndIsOpen, EndPuts, EndLooks, EndTook, EndEnds, Replaces}
+use Rattle.gm_member.specs.Loads.{as_item}
 
 -- The ends that a member has: of the link on which it sends, with the grant that it keeps of it; of the one from which it takes; of
 -- those at its door; and those that it has replaced or left, the oldest first. An end that is lent isn't there.
@@ -111,7 +112,7 @@ module _ {O I : Type 0} where
   abbrev pub PutsOn : (O → Item Load → O → Type 0) → Member O I → Member O I → Type 0
   PutsOn puts m n =
       (l : OutLink O) × (l' : OutLink O) × (m.out ≡ Some l) × (n.out ≡ Some l')
-      × EndPuts puts (parcel_on m.view.version (map row_of m.known.items) (out_of l)) l.end l'.end × (l'.kept ≡ l.kept) × SameIns m n
+      × EndPuts puts (as_item (parcel_on m.view.version (map row_of m.known.items) (out_of l))) l.end l'.end × (l'.kept ≡ l.kept) × SameIns m n
 
   -- the end of the link on which it sends may know more
   abbrev pub LooksOut : (O → O → Type 0) → Member O I → Member O I → Type 0
@@ -143,7 +144,7 @@ module _ {O I : Type 0} where
   -- the link on which it sends ends
   abbrev pub EndsOn : (O → Item Load → O → Type 0) → EndReason → Member O I → Member O I → Type 0
   EndsOn puts reason m n =
-      SameIns m n × MatchOption m.out (n.out ≡ None) (λ l. (l' : OutLink O) × (n.out ≡ Some l') × EndGets puts reason l.end l'.end × (l'.kept ≡ l.kept))
+      SameIns m n × MatchOption m.out (n.out ≡ None) (λ l. (l' : OutLink O) × (n.out ≡ Some l') × EndPuts puts (item.End reason) l.end l'.end × (l'.kept ≡ l.kept))
 
   -- the link at a place of its door is the one from which it takes
   abbrev pub PicksOn : ℕ → Member O I → Member O I → Type 0
@@ -171,12 +172,6 @@ module _ {O I : Type 0} where
     pub current : n.current ≡ kept_link v m.id.0 m.current
     pub door : n.door.items ≡ kept_links v m.id.0 m.door.items
     pub old_ins : n.old_ins.items ≡ (m.old_ins.items ++ left_current v m.id.0 m.current) ++ left_links v m.id.0 m.door.items
-
-  -- it sends on no link: the one on which it sent has ended, as its sender has moved on, and the end joins those that it has replaced
-  pub record MovesOn (puts : O → Item Load → O → Type 0) (m n : Member O I) : Type 0 where
-    pub out : n.out ≡ None
-    pub old_outs : MatchOption m.out (n.old_outs.items ≡ m.old_outs.items) (λ l. (o : O) × EndGets puts Moved l.end (Some o)
-        × (n.old_outs.items ≡ m.old_outs.items ++ (ring_link m.id.0 l.to.0 l.opened, o) ∷ []))
 
   -- The link that a member has ready, where it has one, with room for the end of the one that it replaces.
   pub record IsReadyToMove (are_fresh : ℕ → O → I → Type 0) (free : O → ℕ) (ended : O → Bool) (m : Member O I) (s : Spare O I) : Type 0 where
@@ -207,8 +202,7 @@ module _ {O I : Type 0} where
     pub link : OutLink O
     pub out : n.out ≡ Some link
     pub opens : OpensOn puts m.credit (map row_of m.known.items) m.id to version spare link requests
-    pub old_outs : MatchOption m.out (n.old_outs.items ≡ m.old_outs.items) (λ l. (o : O) × EndGets puts Moved l.end (Some o)
-        × (n.old_outs.items ≡ m.old_outs.items ++ (ring_link m.id.0 l.to.0 l.opened, o) ∷ []))
+    pub old_outs : Replaces puts m.id.0 m.out m.old_outs.items n.old_outs.items
 
   -- or on the one on which it did
   pub record StaysOn (m n : Member O I) (requests : List (Request I)) : Type 0 where

@@ -1,7 +1,6 @@
 -- What the structs of a member show.
-use Rattle.std.specs.Prelude.{ℕ, List, length, slice_index_or, Bool, true, false, cond, [], ◌∷◌, Option, Some, None}
-use Rattle.ring_world.specs.declared.numbers.Numbers.{Numbers}
-use Rattle.ring_world.specs.Rows.{Row, no_row, no_numbers}
+use Rattle.std.specs.Prelude.{ℕ, List, length, Bool, true, false, cond, [], ◌∷◌, Option, Some, None}
+use Rattle.ring_world.specs.Rows.{Row}
 use Rattle.gm_member.specs.declared.known.Known.{Known}
 use Rattle.gm_member.specs.declared.packet.Line.{Line}
 use Rattle.gm_member.specs.Parcels.{Carried}
@@ -13,7 +12,7 @@ use Rattle.ring_world.specs.declared.phase.Phase.{Phase}
 use Rattle.ring_world.specs.declared.phase.Phase.TheVariants.{Waiting, Up, Stopped}
 use Rattle.gm_member.specs.declared.links.OutLink.{OutLink}
 use Rattle.gm_member.specs.declared.links.InLink.{InLink}
-use Rattle.gm_member.specs.Held.{Outgoing, Incoming, is_for, stays}
+use Rattle.gm_member.specs.Held.{Outgoing, Incoming, is_for, stays, at_some}
 
 -- what a member knows of one origin
 abbrev pub row_of : Known → Row
@@ -22,14 +21,6 @@ row_of r = record { got = length r.all.items; forgot = r.forgot; retired = r.ret
 -- a line of a packet
 abbrev pub carried_of : Line → Carried
 carried_of l = record { origin = l.origin; lo = l.lo; all = l.all.items; forgot = l.forgot }
-
--- the row of the origin at a place
-abbrev pub known_at : List Row → ℕ → Row
-known_at rows p = slice_index_or rows p no_row
-
--- the numbers of the origin at a place
-abbrev pub numbers_of : List Numbers → ℕ → Numbers
-numbers_of sent p = slice_index_or sent p no_numbers
 
 module _ {O : Type 0} where
   -- the link on which a member sends
@@ -47,8 +38,7 @@ module _ {I : Type 0} where
 
 -- how many stand there: one or none
 abbrev pub count_of : {A : Type 0} → Option A → ℕ
-count_of None = 0
-count_of (Some a) = 1
+count_of there = at_some there 0 (λ _. 1)
 
 -- whether a member is up
 abbrev pub is_up : Phase → Bool
@@ -63,8 +53,7 @@ is_up_where false phase = true
 
 -- an end that was left, where it was there, with the name of its link
 abbrev pub left_end : {A : Type 0} → LinkName → Option A → List (LinkName × A)
-left_end name None = []
-left_end name (Some a) = (name, a) ∷ []
+left_end name end = at_some end [] (λ a. (name, a) ∷ [])
 
 -- the name of a link between members
 abbrev pub ring_link : ℕ → ℕ → ℕ → LinkName
@@ -95,9 +84,7 @@ module _ {I : Type 0} where
 
   -- what stays of the link from which such a member takes, and what is left of it
   abbrev pub kept_link : Group → ℕ → Option (InLink I) → Option (InLink I)
-  kept_link v y None = None
-  kept_link v y (Some l) = cond (is_for v y (in_of l)) (Some l) None
+  kept_link v y link = at_some link None (λ l. cond (is_for v y (in_of l)) (Some l) None)
 
   abbrev pub left_current : Group → ℕ → Option (InLink I) → List (LinkName × I)
-  left_current v y None = []
-  left_current v y (Some l) = cond (is_for v y (in_of l)) [] (left_link y l)
+  left_current v y link = at_some link [] (λ l. cond (is_for v y (in_of l)) [] (left_link y l))

@@ -3,7 +3,8 @@ ghost use Rattle.std.specs.Prelude.{◌≡◌, ℕ, ◌<◌, ◌+◌, ◌-◌, �
 ghost use Rattle.std.specs.List.{range_with_len, list_all};
 ghost use Rattle.ring_world.specs.Rows.{no_row, no_numbers, published_row, is_sent as sent_is, next_numbers};
 ghost use Rattle.gm_member.specs.Parcels.{carried_now, accepted_row};
-ghost use Rattle.gm_member.specs.View.{row_of, known_at, numbers_of, carried_of};
+ghost use Rattle.gm_member.specs.Held.{known_at, numbers_of};
+ghost use Rattle.gm_member.specs.View.{row_of, carried_of};
 
 use crate::packet::Line;
 use ring_names::{MemberId, Message, OutOfMemory};

@@ -106,6 +106,7 @@ impl<O: LinkOut<Load>> OutLink<O> {
     ghost use Rattle.ring_names.specs.declared.reason.Reason.{Reason};
     ghost use Rattle.gm_member.specs.Held.{out_refused, parcel_on, put_on};
     ghost use Rattle.gm_member.specs.View.{out_of, row_of};
+    ghost use Rattle.gm_member.specs.Loads.{as_item};
     ghost use Rattle.gm_member.specs.Ends.{EndIsOpen, EndPuts, EndLooks, IsPutFault};
 
     /// The next packet of these rows goes on the link, of a sender whose view is of this version.
@@ -119,8 +120,8 @@ impl<O: LinkOut<Load>> OutLink<O> {
         requires open { EndIsOpen O.ended self.old.end }
         requires enabled { out_refused (map row_of known.now) (out_of self.old) ≡ None }
         ensures ok { OnOk result (out_of self.new ≡ put_on (map row_of known.now) (out_of self.old)) }
-        ensures packet { OnOk result (EndPuts O.puts (parcel_on version (map row_of known.now) (out_of self.old))
-            self.old.end self.new.end) }
+        ensures packet { OnOk result (EndPuts O.puts (as_item (parcel_on version (map row_of known.now)
+            (out_of self.old))) self.old.end self.new.end) }
         ensures kept { self.new.kept ≡ self.old.kept }
         ensures err { OnErr result (out_of self.new ≡ out_of self.old) }
         ensures looks { OnErr result (EndLooks O.looked self.old.end self.new.end) }
@@ -147,13 +148,13 @@ impl<O: LinkOut<Load> + Drop> OutLink<O> {
     ghost use Rattle.std.specs.Prelude.{◌≡◌, ◌⊎◌, ◌<◌, [], false, true, length, IfSome, IfNone, IsSome};
     ghost use Rattle.std.specs.Prelude.{None, Some, MatchOption, ⊤};
     ghost use Rattle.gm_member.specs.View.{out_of};
-    ghost use Rattle.gm_member.specs.Ends.{EndIsOpen, EndGets, EndLooks};
+    ghost use Rattle.gm_member.specs.Ends.{EndIsOpen, EndPuts, EndLooks};
 
     /// The link ends.
     pub(crate) fn finish(&mut self, reason: EndReason)
         requires { EndIsOpen O.ended self.old.end }
         ensures same { out_of self.new ≡ out_of self.old }
-        ensures ends { EndGets O.puts reason self.old.end self.new.end }
+        ensures ends { EndPuts O.puts (Item.End reason) self.old.end self.new.end }
         ensures kept { self.new.kept ≡ self.old.kept }
     {
         let Some(end) = &mut self.end else {
@@ -165,7 +166,7 @@ impl<O: LinkOut<Load> + Drop> OutLink<O> {
     /// The end of the link, on which its end was put.
     pub(crate) fn into_ended(self, reason: EndReason) -> O
         requires { EndIsOpen O.ended self.end }
-        ensures { EndGets O.puts reason self.end (Some result) }
+        ensures { EndPuts O.puts (Item.End reason) self.end (Some result) }
     {
         let mut link = self;
         let Some(mut end) = link.end.take() else {

@@ -66,7 +66,7 @@ impl<O: LinkPair<Load, In = I>, I: LinkIn<Load> + Drop> Member<O, I> {
     ghost use Rattle.group_view.specs.Ring.{is_in};
     ghost use Rattle.gm_member.specs.Parcels.{Parcel};
     ghost use Rattle.gm_member.specs.View.{ring_link, left_end, kept_link, left_current};
-    ghost use Rattle.gm_member.specs.Ends.{IsPutFault, IsTakeFault, IsEndRefusal};
+    ghost use Rattle.gm_member.specs.Ends.{IsPutFault, IsTakeFault, IsEndRefusal, Replaces};
     ghost use Rattle.gm_member.specs.Held.{founded, known_at, active_refused, up_refused, published_held};
     ghost use Rattle.gm_member.specs.Held.{put_refused, put_held, take_refused, took_held, ended_held, stopped_held};
     ghost use Rattle.gm_member.specs.Held.{gain_refused, gained_held, kept_in, looked_held, sends_to as sends_to_it};
@@ -78,7 +78,7 @@ impl<O: LinkPair<Load, In = I>, I: LinkIn<Load> + Drop> Member<O, I> {
     ghost use Rattle.gm_member.specs.News.{news_of};
     ghost use Rattle.gm_member.specs.Shown.{Ends, held_of, ends_of, out_name_of, OutIsReady, InIsReady, PutsOn};
     ghost use Rattle.gm_member.specs.Shown.{LooksOut, LooksIn, TookOn, LeavesOn, EndsOn, KeepsGrant, NoGrantBack};
-    ghost use Rattle.gm_member.specs.Shown.{GrantIsBack, LooksBy, MovesOn, IsReadyToMove, SendsOn, MovesTo, PicksOn};
+    ghost use Rattle.gm_member.specs.Shown.{GrantIsBack, LooksBy, IsReadyToMove, SendsOn, MovesTo, PicksOn};
     ghost use Rattle.gm_member.specs.Shown.{KeepsSpare, OutIsOpen};
     ghost use Rattle.gm_member.specs.Calls.{Heeds, HandsBack, Publishes, Puts, Takes, TakesEnd, Stops, Gains, PicksUp};
     ghost use Rattle.gm_member.specs.Calls.{Reads, IsEvent, RefusesAs, RefusesWhere, SameSelf, SameLinks, KeepsIns};
@@ -604,7 +604,9 @@ impl<O: LinkPair<Load, In = I>, I: LinkIn<Load> + Drop> Member<O, I> {
     fn move_on(&mut self)
         requires { OutIsOpen O.ended self.old }
         ensures held { held_of self.new ≡ record (held_of self.old) { out = None } }
-        ensures moves { MovesOn O.puts self.old self.new }
+        ensures out { self.new.out ≡ None }
+        ensures old_outs { Replaces O.puts self.old.id.0 self.old.out (self.old.old_outs).items
+            (self.new.old_outs).items }
         ensures same { (self.new.id ≡ self.old.id) × (self.new.view ≡ self.old.view)
             × (self.new.credit ≡ self.old.credit) }
         ensures others { KeepsIns self.old self.new }

@@ -3,8 +3,8 @@ ghost use Rattle.std.specs.Prelude.{◌≡◌, ◌+◌, ◌<◌, length, map, If
 ghost use Rattle.std.specs.List.{range_with_len};
 ghost use Rattle.ring_world.specs.Step.{is_owned};
 ghost use Rattle.gm_member.specs.Parcels.{accepted_row, carried_at};
-ghost use Rattle.gm_member.specs.View.{row_of, known_at, carried_of};
-ghost use Rattle.gm_member.specs.Held.{accepted_rows};
+ghost use Rattle.gm_member.specs.View.{row_of, carried_of};
+ghost use Rattle.gm_member.specs.Held.{accepted_rows, known_at};
 ghost use Rattle.gm_member.specs.News.{news_below};
 
 use crate::known::{Known, accept_line};

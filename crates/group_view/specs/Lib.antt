@@ -7,3 +7,4 @@ pub mod Parts
 pub mod Seen
 pub mod Laws
 pub mod Link
+pub mod Request

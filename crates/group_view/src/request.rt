@@ -1,5 +1,8 @@
 //! What members ask of the registrar, who keeps the group, and what it answers.
-use crate::link::LinkKind;
+ghost use Rattle.std.specs.Prelude.{◌≡◌, IfOk, IfErr, None};
+ghost use Rattle.group_view.specs.Request.{deposit_of, handed_over};
+
+use crate::link::{LinkKind, LinkName};
 use crate::view::View;
 use ring_names::{Items, MemberId, Reason};
 
@@ -36,6 +39,47 @@ pub enum Request<I> {
     Collect {
         by: MemberId,
     },
+}
+
+impl<I> Request<I> {
+    /// The request to hand the receiving end of a link of this name to its receiver.
+    pub fn deposit(name: LinkName, link: I) -> Request<I>
+        ensures { result ≡ deposit_of name link }
+    {
+        Request::Deposit {
+            by: name.from,
+            to: name.to,
+            view: name.view,
+            kind: name.kind,
+            link,
+        }
+    }
+
+    /// The name and the receiving end of the link that it hands over, or the request itself where it hands over none.
+    pub fn into_link(self) -> Result<(LinkName, I), Request<I>>
+        ensures ok { IfOk result (λ d. self ≡ deposit_of d.0 d.1) }
+        ensures other { IfErr result (λ r. r ≡ self) }
+        ensures none { IfErr result (λ r. handed_over r ≡ None) }
+    {
+        match self {
+            Request::Deposit {
+                by,
+                to,
+                view,
+                kind,
+                link,
+            } => {
+                let name = LinkName {
+                    from: by,
+                    to,
+                    view,
+                    kind,
+                };
+                Ok((name, link))
+            }
+            other => Err(other),
+        }
+    }
 }
 
 /// The receiving end of a link that waits at the registrar, and what it is named by beside its receiver.

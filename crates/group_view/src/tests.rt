@@ -436,6 +436,28 @@ fn answers(links: Vec<Deposited<u8>>) -> bool {
     }
 }
 
+/// Whether the request to deposit a link hands over this very link, and one for the newest view none.
+fn hands_over(name: LinkName, link: u8) -> bool {
+    let refresh: Request<u8> = Request::Refresh { by: name.from };
+    refresh.into_link().is_err()
+        && match Request::deposit(name, link).into_link() {
+            Ok(taken) => taken == (name, link),
+            Err(_other) => false,
+        }
+}
+
+#[test]
+fn hands_over_what_is_deposited(rt: HostRuntime) -> Result<(), Fail> {
+    let name = LinkName {
+        from: MemberId(1),
+        to: MemberId(2),
+        view: 3,
+        kind: LinkKind::Copy,
+    };
+    assert!(rt; hands_over(name, 7));
+    Ok(())
+}
+
 #[test]
 fn asks_and_answers(rt: HostRuntime) -> Result<(), Fail> {
     let link = Deposited {

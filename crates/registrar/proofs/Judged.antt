@@ -1,23 +1,22 @@
 -- What a member of the ring asks for is judged as the event is.
-use Rattle.std.proofs.Common.{◌≡◌, ℕ, ◌<◌, ◌≤◌, Bool, true, false, not, nat_eq, nat_lt, cond, List, length, get_or, Option, Some, None, refl, sym, ap, ◌∙◌, arith}
+use Rattle.std.proofs.Common.{◌≡◌, ℕ, ◌<◌, ◌≤◌, Bool, true, false, not, nat_eq, nat_lt, List, length, get_or, Option, Some, None, refl, sym, ap, ◌∙◌, arith}
 use Rattle.std.specs.Prelude.{◌&&◌, ◌||◌}
 use Rattle.std.proofs.lemmas.Bool.{le-ltb}
 use Rattle.ring_names.specs.declared.reason.Reason.{Reason}
 use Rattle.ring_names.specs.declared.reason.Reason.TheVariants as reason
-use Rattle.group_view.specs.Ring.{is_in, left_in, right_in}
-use Rattle.group_view.specs.View.{Group, ids, is_live, left_of, right_of}
+use Rattle.group_view.specs.Ring.{is_in}
+use Rattle.group_view.specs.View.{Group, ids, is_live, right_of}
 use Rattle.group_view.specs.Since.{no_group, view_at}
 use Rattle.ring_world.specs.Refusal.{refuse_if, or_else}
 use Rattle.ring_world.specs.View as ring
 use Rattle.ring_world.specs.Machine as machine
-use Rattle.ring_world.specs.declared.phase.Phase.TheVariants.{Up}
 use Rattle.ring_world.specs.declared.event.Event.TheVariants.{Mark, Stop, Refresh}
 use Rattle.ring_world.specs.Machine.{World, member_at, newest, runs_phase}
 use Rattle.ring_world.specs.Step.{size}
 use Rattle.ring_world.specs.Event.{id_of, of_member, is_stopped, up_refusal, running_refusal, is_neighbour, left_neighbour, refusal}
 use Rattle.ring_world.specs.Event as event
-use Rattle.ring_world.proofs.Happens.{IsGood}
-use Rattle.ring_world.proofs.Refusals.{id_within, up_is}
+use Rattle.ring_world.proofs.invariants.Happens.{IsGood}
+use Rattle.ring_world.proofs.events.Refusals.{id_within, up_is}
 use Rattle.registrar.specs.Registry.{Registry, is_known}
 use Rattle.registrar.specs.Registry as registry
 use Rattle.registrar.specs.Asked.{is_left, is_beside, has_more, mark_refusal, stop_refusal, unknown_refusal}

@@ -5,7 +5,7 @@ use Rattle.ring_names.specs.declared.reason.Reason.{Reason}
 use Rattle.ring_world.specs.Machine.{World}
 use Rattle.ring_world.specs.declared.event.Event.{Event}
 use Rattle.ring_world.specs.Event.{refusal, effect}
-use Rattle.ring_world.proofs.Happens.{IsGood, reached_good}
+use Rattle.ring_world.proofs.invariants.Happens.{IsGood, reached_good}
 use Rattle.group_view.specs.declared.request.Request.{Request}
 use Rattle.group_view.specs.declared.request.Request.TheVariants.{Mark, Refresh, Stopped, Deposit, Collect}
 use Rattle.registrar.specs.Registry.{Registry}

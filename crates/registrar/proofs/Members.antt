@@ -10,7 +10,7 @@ use Rattle.registrar.specs.Stands.{IsOwn}
 use Rattle.ring_world.specs.Machine.{Member, World, no_member, member_at, link_at, view_at, oldest}
 use Rattle.ring_world.specs.Step.{size, with_member, moved_to, opened_link, end_out, begun, taker, published, with_current}
 use Rattle.ring_world.specs.Event.{is_stopped, refreshed, at_found, taken_by, effect, at_door, id_of, by_of, done_at}
-use Rattle.ring_world.proofs.Composed.{refresh_composed}
+use Rattle.ring_world.proofs.events.Composed.{refresh_composed}
 use Rattle.std.proofs.Math.Seq.{map-set_same}
 use Rattle.std.proofs.lemmas.List.{length-map}
 use Rattle.group_view.specs.View.{Group}

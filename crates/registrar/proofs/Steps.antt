@@ -14,10 +14,10 @@ use Rattle.ring_world.specs.declared.event.Event.TheVariants.{Mark, Stop, Refres
 use Rattle.ring_world.specs.Machine.{Member, World, no_member, member_at, newest}
 use Rattle.ring_world.specs.Step.{size, opening, with_view, stop_at, stopped, end_out}
 use Rattle.ring_world.specs.Event.{id_of, is_stopped, at_found, refreshed, effect}
-use Rattle.ring_world.proofs.Lists.{at_set}
-use Rattle.ring_world.proofs.Refusals.{id_within}
+use Rattle.ring_world.proofs.rings.Lists.{at_set}
+use Rattle.ring_world.proofs.events.Refusals.{id_within}
 use Rattle.ring_names.specs.declared.numbers.CreditSpec.{CreditSpec}
-use Rattle.ring_world.proofs.First.{first_member}
+use Rattle.ring_world.proofs.events.First.{first_member}
 use Rattle.registrar.specs.Registry.{Registry}
 use Rattle.registrar.specs.Registry as registry
 use Rattle.registrar.specs.Handled.{with_stopped}

@@ -1,5 +1,5 @@
 -- What is done for a request, and what is answered.
-use Rattle.std.specs.Prelude.{Bool, true, false, ℕ, cond, List, [], ◌∷◌, ◌++◌, Option, Some, None}
+use Rattle.std.specs.Prelude.{ℕ, cond, List, [], ◌∷◌, ◌++◌, Option, Some, None}
 use Rattle.group_view.specs.declared.link.LinkKind.{LinkKind}
 use Rattle.group_view.specs.declared.link.LinkName.{LinkName}
 use Rattle.group_view.specs.declared.request.Request.{Request}
@@ -59,11 +59,3 @@ module _ {I : Type 0} where
   answered r (Stopped by) = Noted
   answered r (Deposit by to view kind link) = Noted
   answered r (Collect by) = Links (links_for by.0 r.links)
-
-  -- whether a request hands over a link
-  abbrev pub hands_over : Request I → Bool
-  hands_over (Mark by dead view has_current) = false
-  hands_over (Refresh by) = false
-  hands_over (Stopped by) = false
-  hands_over (Deposit by to view kind link) = true
-  hands_over (Collect by) = false

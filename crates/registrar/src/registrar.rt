@@ -4,13 +4,14 @@ ghost use Rattle.std.specs.List.{filter};
 ghost use Rattle.ring_names.specs.declared.reason.Reason.{Reason};
 ghost use Rattle.group_view.specs.Change.{AreOpeningNames, marked, mark_refusal as group_refusal};
 ghost use Rattle.group_view.specs.Ring.{is_in};
+ghost use Rattle.group_view.specs.Request.{handed_over};
 ghost use Rattle.group_view.specs.Since.{view_at};
 ghost use Rattle.registrar.specs.Registry.{AreHere, AreHereBut, newest as the_newest, founded, is_known, is_for};
 ghost use Rattle.registrar.specs.Registry.{name_in, end_in, end_is, IsLent, Lends, Gives};
 ghost use Rattle.registrar.specs.Asked.{mark_refusal as the_mark_refusal, unknown_refusal};
 ghost use Rattle.registrar.specs.Asked.{stop_refusal as the_stop_refusal, request_refusal};
 ghost use Rattle.registrar.specs.Handled.{with_view, with_stopped, with_link, without_links, links_for, handled};
-ghost use Rattle.registrar.specs.Handled.{answered, hands_over};
+ghost use Rattle.registrar.specs.Handled.{answered};
 ghost use Rattle.registrar.specs.Stands.{StandsIn, WhereAsked};
 ghost use Rattle.ring_names.specs.declared.numbers.CreditSpec.{CreditSpec};
 ghost use Rattle.ring_world.specs.Event.{refusal, effect};
@@ -276,35 +277,12 @@ impl<I: Drop> Registrar<I> {
         ensures err { OnErr result (self.new ≡ self.old) }
         ensures back { IfErr result (λ e. e.0 ≡ request) }
     {
-        match request {
-            Request::Deposit {
-                by,
-                to,
-                view,
-                kind,
-                link,
-            } => match self.deposit(
-                LinkName {
-                    from: by,
-                    to,
-                    view,
-                    kind,
-                },
-                link,
-            ) {
+        match request.into_link() {
+            Ok((name, link)) => match self.deposit(name, link) {
                 Ok(()) => Ok(Answer::Noted),
-                Err((link, fault)) => Err((
-                    Request::Deposit {
-                        by,
-                        to,
-                        view,
-                        kind,
-                        link,
-                    },
-                    fault,
-                )),
+                Err((link, fault)) => Err((Request::deposit(name, link), fault)),
             },
-            other => match self.answer(&other) {
+            Err(other) => match self.answer(&other) {
                 Ok(answer) => Ok(answer),
                 Err(fault) => Err((other, fault)),
             },
@@ -314,7 +292,7 @@ impl<I: Drop> Registrar<I> {
     /// The same of a request that hands over no link.
     fn answer(&mut self, request: &Request<I>) -> Result<Answer<I>, OutOfMemory>
         requires allowed { request_refusal self.old request.now ≡ None }
-        requires none { hands_over request.now ≡ false }
+        requires none { handed_over request.now ≡ None }
         ensures ok { OnOk result (self.new ≡ handled self.old request.now) }
         ensures answer { IfOk result (λ a. a ≡ answered self.old request.now) }
         ensures err { OnErr result (self.new ≡ self.old) }

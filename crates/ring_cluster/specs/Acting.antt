@@ -1,5 +1,5 @@
 -- What an event does to the parties, before the ends of links meet.
-use Rattle.std.specs.Prelude.{◌≡◌, ℕ, ◌+◌, ◌-◌, ◌<◌, ◌++◌, ◌∷◌, Bool, true, false, not, cond, List, [], length, Option, Some, None, MatchOption, slice_index_or, map, nat_eq, nat_lt, ⊤}
+use Rattle.std.specs.Prelude.{◌≡◌, ℕ, ◌+◌, ◌<◌, ◌++◌, ◌∷◌, Bool, true, false, not, cond, List, [], length, Option, Some, None, MatchOption, slice_index_or, map, nat_eq, nat_lt, ⊤}
 use Rattle.std.specs.List.{filter}
 use Rattle.ring_names.specs.declared.message.Message.{Message}
 use Rattle.ring_names.specs.declared.message.Message.TheVariants as message
@@ -13,7 +13,7 @@ use Rattle.group_view.specs.Change.{marked}
 use Rattle.group_view.specs.Since.{view_at}
 use Rattle.ring_world.specs.declared.event.Event.{Event}
 use Rattle.ring_world.specs.declared.event.Event.TheVariants.{Cast, Put, Take, TakeEnd, Gain, Stop, Mark, Refresh, Pick}
-use Rattle.ring_world.specs.Refusal.{refuse_if}
+use Rattle.ring_world.specs.Refusal.{refuse_if, is_empty}
 use Rattle.ring_world.specs.View.{right_of}
 use Rattle.ring_world.specs.Machine.{runs_phase}
 use Rattle.ring_world.specs.Event.{version_refusal}
@@ -30,29 +30,13 @@ use Rattle.ring_cluster.specs.Parties.{EndsSeen, Shown, Posted, Parties, node_at
 abbrev pub sent_of : Parcel → Sent
 sent_of k = record { view = k.view; lines = k.lines }
 
--- The packet waits in the out end.
-pub record PutsOut (o : OutSeen) (k : Sent) (o' : OutSeen) : Type 0 where
-  pub waiting : o'.waiting ≡ o.waiting ++ Some k ∷ []
-  pub free : o.free ≡ o'.free + 1
-  pub back : o'.back ≡ o.back
+-- Items join those that wait in the out end, grants leave those that have come back to it, and it has ended or not.
+pub record ActsOut (items : List (Option Sent)) (grants : List ℕ) (is_ended : Bool) (o o' : OutSeen) : Type 0 where
+  pub waiting : o'.waiting ≡ o.waiting ++ items
+  pub free : o.free ≡ o'.free + length items
+  pub back : grants ++ o'.back ≡ o.back
   pub initial : o'.initial ≡ o.initial
-  pub ended : o'.ended ≡ false
-
--- The end of the link waits in it.
-pub record EndsOut (o o' : OutSeen) : Type 0 where
-  pub waiting : o'.waiting ≡ o.waiting ++ None ∷ []
-  pub free : o.free ≡ o'.free + 1
-  pub back : o'.back ≡ o.back
-  pub initial : o'.initial ≡ o.initial
-  pub ended : o'.ended ≡ true
-
--- The oldest grant is gone from it.
-pub record GainsOut (o : OutSeen) (amount : ℕ) (o' : OutSeen) : Type 0 where
-  pub waiting : o'.waiting ≡ o.waiting
-  pub free : o'.free ≡ o.free
-  pub back : o.back ≡ amount ∷ o'.back
-  pub initial : o'.initial ≡ o.initial
-  pub ended : o'.ended ≡ o.ended
+  pub ended : o'.ended ≡ is_ended
 
 -- The oldest item, a packet, is gone from the in end, and the grant that is due is given.
 pub record TakesIn (due : Option ℕ) (n : InSeen) (k : Sent) (n' : InSeen) : Type 0 where
@@ -78,8 +62,7 @@ pub record IsReady (m : Shown) : Type 0 where
 
 -- the first item of a link
 abbrev pub first_item : Option InSeen → List (Option Sent)
-first_item None = []
-first_item (Some n) = n.items
+first_item end = at_some end [] (λ n. n.items)
 
 -- why a member with a view of this version takes no packet from a link with these items
 abbrev pub items_refused : ℕ → List (Option Sent) → Option Reason
@@ -93,21 +76,11 @@ end_refused [] = Some reason.NothingToTake
 end_refused (None ∷ items) = None
 end_refused (Some k ∷ items) = Some reason.PacketNext
 
--- why no grant becomes credit, where these have come back
-abbrev pub back_refused : List ℕ → Option Reason
-back_refused [] = Some reason.NoGrant
-back_refused (g ∷ gs) = None
-
 -- the grants that have come back to an out end
 abbrev pub back_of : Option OutSeen → List ℕ
-back_of None = []
-back_of (Some o) = o.back
+back_of end = at_some end [] (λ o. o.back)
 
 -- ---- of each event that a member does by itself, the first condition that fails
-
--- of a cast
-abbrev pub cast_refused : Shown → Option Reason
-cast_refused m = up_refused m.held None
 
 -- of the taking of a packet
 abbrev pub packet_refused : Shown → Option Reason
@@ -119,7 +92,7 @@ link_end_refused m = take_refused m.held (end_refused (first_item m.ends.link))
 
 -- of a gain
 abbrev pub grant_refused : Shown → Option Reason
-grant_refused m = up_refused m.held (on_some m.held.out reason.NoOutLink (λ _. back_refused (back_of m.ends.out)))
+grant_refused m = up_refused m.held (on_some m.held.out reason.NoOutLink (λ _. refuse_if (is_empty (back_of m.ends.out)) reason.NoGrant))
 
 -- of a stop
 abbrev pub stop_refused : Shown → Option Reason
@@ -139,7 +112,7 @@ Casts m a b = b ≡ record a { held = published_held a.held m }
 abbrev pub PutsPacket : Shown → Shown → Type 0
 PutsPacket a b =
     (h : Outgoing) × (o : OutSeen) × (o' : OutSeen) × (a.held.out ≡ Some h) × (a.ends.out ≡ Some o)
-    × PutsOut o (sent_of (parcel_on a.held.view.version a.held.rows h)) o'
+    × ActsOut (Some (sent_of (parcel_on a.held.view.version a.held.rows h)) ∷ []) [] false o o'
     × (b ≡ record { held = put_held a.held; ends = record a.ends { out = Some o' } })
 
 -- the grant that is due with the next load from the link that it takes from
@@ -161,13 +134,13 @@ TakesEnd a b =
 -- it has gained the oldest grant
 abbrev pub Gains : Shown → Shown → Type 0
 Gains a b =
-    (amount : ℕ) × (o : OutSeen) × (o' : OutSeen) × (a.ends.out ≡ Some o) × GainsOut o amount o'
+    (amount : ℕ) × (o : OutSeen) × (o' : OutSeen) × (a.ends.out ≡ Some o) × ActsOut [] (amount ∷ []) o.ended o o'
     × (b ≡ record { held = gained_held a.held amount; ends = record a.ends { out = Some o' } })
 
 -- its out end has ended, where it has one
 abbrev pub EndsIts : Option OutSeen → Option OutSeen → Type 0
 EndsIts None b = b ≡ None
-EndsIts (Some o) b = (o' : OutSeen) × EndsOut o o' × (b ≡ Some o')
+EndsIts (Some o) b = (o' : OutSeen) × ActsOut (None ∷ []) [] true o o' × (b ≡ Some o')
 
 -- it has stopped
 abbrev pub Stops : Shown → Shown → Type 0
@@ -190,15 +163,14 @@ is_alone e = true
 
 -- the first condition that fails
 abbrev pub alone_refused : Event → Shown → Option Reason
-alone_refused (Cast by body) a = cast_refused a
+alone_refused (Cast by body) a = up_refused a.held None
 alone_refused (Put by) a = put_refused a.held
 alone_refused (Take by) a = packet_refused a
 alone_refused (TakeEnd by) a = link_end_refused a
 alone_refused (Gain by) a = grant_refused a
 alone_refused (Stop by) a = stop_refused a
-alone_refused (Mark by dead) a = None
-alone_refused (Refresh by version) a = None
 alone_refused (Pick by) a = pick_refused a.held
+alone_refused e a = None
 
 -- what it does
 abbrev pub DoesAlone : Event → Shown → Shown → Type 0
@@ -207,10 +179,8 @@ DoesAlone (Put by) a b = PutsPacket a b
 DoesAlone (Take by) a b = TakesPacket a b
 DoesAlone (TakeEnd by) a b = TakesEnd a b
 DoesAlone (Gain by) a b = Gains a b
-DoesAlone (Stop by) a b = ⊥
-DoesAlone (Mark by dead) a b = ⊥
-DoesAlone (Refresh by version) a b = ⊥
 DoesAlone (Pick by) a b = Picks a b
+DoesAlone e a b = ⊥
 
 -- ---- a member that has another view
 
@@ -229,15 +199,11 @@ kept_end v x (Some l) e = cond (is_for v x l) e None
 abbrev pub looked_ends : Group → Shown → EndsSeen
 looked_ends v a = record a.ends { link = kept_end v a.held.id a.held.current a.ends.link; door = beside (stays v a.held.id) a.held.door a.ends.door }
 
--- the name of the link on which it sent
-abbrev pub name_out : ℕ → Outgoing → LinkName
-name_out x h = ring_link x h.to h.opened
-
 -- its out end is replaced, where it had one: it has ended, and is loose
 abbrev pub Loosens : ℕ → Option Outgoing → Option OutSeen → Option (LinkName × OutSeen) → Type 0
 Loosens x None o loose = loose ≡ None
 Loosens x (Some h) None loose = ⊥
-Loosens x (Some h) (Some o) loose = (o' : OutSeen) × EndsOut o o' × (loose ≡ Some (name_out x h, o'))
+Loosens x (Some h) (Some o) loose = (o' : OutSeen) × ActsOut (None ∷ []) [] true o o' × (loose ≡ Some (ring_link x h.to h.opened, o'))
 
 -- the first packet of the link that it opens
 abbrev pub first_sent : Shown → Group → Sent
@@ -268,11 +234,7 @@ newest_of q = view_at q.views (length q.views)
 abbrev pub viewing : Group → Parties → Parties
 viewing v q = record q { views = q.views ++ v ∷ [] }
 
--- the member at a place has done something by itself
-abbrev pub Alone : (Shown → Shown → Type 0) → ℕ → Parties → Parties → Option (LinkName × OutSeen) → Type 0
-Alone does i q q' loose = (b : Shown) × does (node_at q i) b × (q' ≡ with_node q i b) × (loose ≡ None)
-
--- it has another view
+-- the member at a place has another view
 abbrev pub LooksAt : Group → ℕ → Parties → Parties → Option (LinkName × OutSeen) → Type 0
 LooksAt v i q q' loose = (b : Shown) × (new : Option Posted) × Looks v (node_at q i) b new loose × (q' ≡ posting new (with_node q i b))
 
@@ -281,7 +243,7 @@ abbrev pub Acts : Event → ℕ → ℕ → Parties → Parties → Option (Link
 Acts (Stop by) i d q q' loose = (b : Shown) × Stops (node_at q i) b × (q' ≡ record (with_node q i b) { stopped = q.stopped ++ (i + 1) ∷ [] }) × (loose ≡ None)
 Acts (Mark by dead) i d q q' loose = LooksAt (marked (newest_of q) d) i (viewing (marked (newest_of q) d) q) q' loose
 Acts (Refresh by version) i d q q' loose = LooksAt (view_at q.views version) i q q' loose
-Acts e i d q q' loose = Alone (DoesAlone e) i q q' loose
+Acts e i d q q' loose = (b : Shown) × DoesAlone e (node_at q i) b × (q' ≡ with_node q i b) × (loose ≡ None)
 
 -- ---- collecting
 
@@ -301,9 +263,3 @@ is_kept_by h d = stays h.view h.id (received h d)
 pub record Collects (a b : Shown) (links : List Posted) : Type 0 where
   pub held : b.held ≡ collected_held a.held (map (received a.held) links)
   pub ends : b.ends ≡ record a.ends { door = a.ends.door ++ map (λ d. d.end) (filter (is_kept_by a.held) links) }
-
--- all that wait for the member of an id
-abbrev pub CollectsAt : ℕ → Parties → Parties → Type 0
-CollectsAt x q q' =
-    (b : Shown) × Collects (node_at q (x - 1)) b (filter (waits_at x) q.post)
-    × (q' ≡ record (with_node q (x - 1) b) { post = filter (λ d. not (waits_at x d)) q.post })

@@ -41,16 +41,20 @@ end_items (Some why) = None ∷ []
 abbrev pub items_in : World → Link → List (Option Sent)
 items_in w l = map (packet_in w) l.packets ++ end_items l.ending
 
--- The two ends hold between them what stands on the link, and each knows no more free slots than there are.
-pub record Carries (w : World) (initial : ℕ) (l : Link) (o : OutSeen) (n : InSeen) : Type 0 where
+-- The ends may meet: they are of one credit, and each knows no more free slots than there are.
+pub record Fits (o : OutSeen) (n : InSeen) : Type 0 where
+  pub initial : n.initial ≡ o.initial
+  pub slots : length o.waiting + length n.items + o.free ≤ o.initial + 1
+  pub room : length o.back + length n.given + n.free ≤ o.initial
+
+-- The two ends hold between them what stands on the link, and may meet.
+pub record Carries (w : World) (credit : ℕ) (l : Link) (o : OutSeen) (n : InSeen) : Type 0 where
   pub items : n.items ++ o.waiting ≡ items_in w l
   pub grants : o.back ++ n.given ≡ l.flow.grants
   pub late : n.late ≡ None
   pub ended : o.ended ≡ is_some l.ending
-  pub out_initial : o.initial ≡ initial
-  pub in_initial : n.initial ≡ initial
-  pub slots : length o.waiting + length n.items + o.free ≤ initial + 1
-  pub room : length o.back + length n.given + n.free ≤ initial
+  pub initial : o.initial ≡ credit
+  pub fits : Fits o n
 
 -- Nothing waits in either end, and each knows its free slots.
 pub record HaveMet (o : OutSeen) (n : InSeen) : Type 0 where
@@ -63,12 +67,6 @@ pub record HaveMet (o : OutSeen) (n : InSeen) : Type 0 where
 pub record HasRested (o : OutSeen) (n : InSeen) : Type 0 where
   pub moved : o.waiting ≡ []
   pub room : n.free + length o.back + length n.given ≡ n.initial
-
--- the ends may meet
-pub record Fits (o : OutSeen) (n : InSeen) : Type 0 where
-  pub initial : n.initial ≡ o.initial
-  pub slots : length o.waiting + length n.items + o.free ≤ o.initial + 1
-  pub room : length o.back + length n.given + n.free ≤ o.initial
 
 -- What waited in either end has gone to the other.
 pub record Meets (o : OutSeen) (n : InSeen) (o' : OutSeen) (n' : InSeen) : Type 0 where

@@ -6,9 +6,9 @@ use Rattle.ring_cluster.specs.Standing.{StandAfter}
 
 -- what is seen of a cluster: it owes what its parties owe
 abbrev pub seen_of : Inside → Seen
-seen_of a = record { credit = a.credit; names = a.names.items; events = a.journal.items; agendas = a.agendas.items; rounds = a.rounds; given = a.given.items; owes = a.parties.owes }
+seen_of a = record { credit = a.credit; names = a.names.items; events = a.journal.items; agendas = a.parties.agendas; rounds = a.rounds; given = a.given.items; owes = a.parties.owes }
 
 -- its parties stand in the last state of its journal, and each member has an agenda
 pub record IsStanding (a : Inside) : Type 0 where
   pub standing : StandAfter a.credit a.names.items a.journal.items a.parties.all
-  pub agendas : length a.agendas.items ≡ length a.names.items
+  pub agendas : length a.parties.agendas ≡ length a.names.items

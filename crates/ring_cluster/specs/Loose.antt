@@ -1,5 +1,5 @@
 -- Between an event and the meetings after it.
-use Rattle.std.specs.Prelude.{◌≡◌, ◌⊎◌, ℕ, ◌<◌, ◌≤◌, true, false, ◌+◌, ◌-◌, List, [], ◌∷◌, length, Option, Some, None, slice_index_or}
+use Rattle.std.specs.Prelude.{◌≡◌, ◌⊎◌, ℕ, ◌<◌, ◌≤◌, true, false, ◌+◌, ◌-◌, List, [], ◌∷◌, length, Option, Some, None}
 use Rattle.group_view.specs.declared.link.LinkName.{LinkName}
 use Rattle.group_view.specs.Ring.{is_in}
 use Rattle.ring_names.specs.declared.numbers.CreditSpec.{CreditSpec}
@@ -7,9 +7,8 @@ use Rattle.ring_world.specs.declared.event.Event.{Event}
 use Rattle.ring_world.specs.Machine.{World, member_at, link_at}
 use Rattle.ring_world.specs.Step.{size}
 use Rattle.gm_member.specs.Held.{at_some}
-use Rattle.gm_member.specs.Shown.{in_name_of}
 use Rattle.ring_cluster.specs.Ends.{OutSeen, HaveMet, HasRested}
-use Rattle.ring_cluster.specs.Parties.{Posted, Parties, node_at}
+use Rattle.ring_cluster.specs.Parties.{Parties}
 use Rattle.ring_cluster.specs.Seen.{state}
 use Rattle.ring_cluster.specs.Standing.{Places, StandIn, SendersKnow, IsJournal, StandAfter, name_of, has_out, has_in}
 
@@ -43,15 +42,6 @@ sender_to x w = at_some (member_at w x).current [] (λ s. (link_at w s).sender �
 -- the senders of the links whose ends an event of x may have moved: x itself, and that one
 abbrev pub moved_by : ℕ → World → List ℕ
 moved_by x w = x ∷ sender_to x w
-
--- the parties stand so after an event of x
-abbrev pub StandMoved : ℕ → ℕ → World → Parties → Option (LinkName × OutSeen) → Type 0
-StandMoved initial x w q loose = StandBetween initial w (moved_by x w) q loose
-
--- no link of that name stands at its receiver, or waits for it
-pub record IsNowhere (q : Parties) (name : LinkName) : Type 0 where
-  pub member : (place : ℕ) → place ≤ length (node_at q (name.to.0 - 1)).held.door → in_name_of (node_at q (name.to.0 - 1)).held place ≡ Some name → ⊥
-  pub post : (j : ℕ) (d : Posted) → j < length q.post → (slice_index_or q.post j d).name ≡ name → ⊥
 
 -- The journal is a run, and the parties stand in its last state, in which ends still have to meet; an out end that was just replaced may be
 -- loose, which is that of a link to a member.

@@ -2,10 +2,9 @@
 use Rattle.std.specs.Prelude.{◌≡◌, ◌⊎◌, ℕ, ◌-◌, ◌<◌, ◌≤◌, List, length, Option, Some, None, slice_index_or, slice_set}
 use Rattle.group_view.specs.declared.link.LinkName.{LinkName}
 use Rattle.gm_member.specs.Held.{Held}
-use Rattle.gm_member.specs.Shown.{in_name_of, out_name_of}
+use Rattle.gm_member.specs.Shown.{in_name_of, out_name_of, in_end}
 use Rattle.ring_cluster.specs.Ends.{OutSeen, InSeen, Fits, Meets}
-use Rattle.ring_cluster.specs.Parties.{Shown, Posted, Parties, no_posted, node_at, with_node, with_in, with_out, in_end_at}
-use Rattle.ring_cluster.specs.Standing.{StandAfter}
+use Rattle.ring_cluster.specs.Parties.{Shown, Posted, Parties, no_posted, node_at, with_node, with_in, with_out}
 
 -- an end is there, which may meet the out end
 abbrev pub IsToMeet : OutSeen → Option InSeen → Type 0
@@ -23,14 +22,14 @@ HasNone h name = (place : ℕ) → in_name_of h place ≡ Some name → ⊥
 
 -- the end of each that has it may meet the out end
 abbrev pub NodeMayMeet : Shown → LinkName → OutSeen → Type 0
-NodeMayMeet m name o = (place : ℕ) → in_name_of m.held place ≡ Some name → IsToMeet o (in_end_at m.ends place)
+NodeMayMeet m name o = (place : ℕ) → in_name_of m.held place ≡ Some name → IsToMeet o (in_end m.ends place)
 
 -- One of that name has met it, and else the member shows what another did.
 pub record NodeMeets (m : Shown) (name : LinkName) (o : OutSeen) (other m' : Shown) (o' : OutSeen) : Type 0 where
   pub place : ℕ
   pub named : in_name_of m.held place ≡ Some name
   pub met : InSeen
-  pub meets : MeetsEnd o (in_end_at m.ends place) o' met
+  pub meets : MeetsEnd o (in_end m.ends place) o' met
   pub shows : m' ≡ with_in other place met
 
 -- ---- a link that waits for its receiver
@@ -97,10 +96,6 @@ MeetsIn q name o other q' o' = MeetsAt q name o other q' o' ⊎ (MeetsPosted q n
 -- a member that has lent its out end
 abbrev pub lent_out : Shown → Shown
 lent_out m = record m { ends = record m.ends { out = None } }
-
--- the one at a place has
-abbrev pub lending : Parties → ℕ → Parties
-lending q i = with_node q i (lent_out (node_at q i))
 
 -- the out end of the member at a place may meet its other end
 abbrev pub MayMeetOut : Parties → ℕ → Type 0

@@ -1,5 +1,5 @@
 -- What the parties of a cluster show: its members with the ends of their links, and its registrar with the links that wait there.
-use Rattle.std.specs.Prelude.{◌≡◌, ℕ, ◌-◌, ◌++◌, Bool, false, List, [], map, nat_eq, slice_index_or, slice_set, if◌then◌else◌, Option, Some, None, option_map}
+use Rattle.std.specs.Prelude.{ℕ, ◌++◌, Bool, false, List, [], map, slice_index_or, slice_set, Option, Some, None, option_map}
 use Rattle.ordered_link.specs.declared.item.Item.{Item}
 use Rattle.ordered_link.specs.declared.item.Item.TheVariants as item
 use Rattle.ordered_link.specs.declared.plain.PlainOut.{PlainOut}
@@ -14,7 +14,9 @@ use Rattle.gm_member.specs.declared.packet.Load.{Load}
 use Rattle.gm_member.specs.declared.member.Member.{Member}
 use Rattle.gm_member.specs.Loads.{parcel_in}
 use Rattle.gm_member.specs.Held.{Held}
-use Rattle.gm_member.specs.Shown.{Ends, held_of, ends_of}
+use Rattle.gm_member.specs.Shown.{Ends, held_of, ends_of, with_in as with_end}
+use Rattle.ring_cluster.specs.declared.agenda.Task.{Task}
+use Rattle.ring_cluster.specs.declared.party.Party.{Party}
 use Rattle.ring_cluster.specs.Ends.{Sent, OutSeen, InSeen}
 
 -- a member over plain pairs
@@ -36,15 +38,9 @@ out_seen o = record { waiting = map content o.waiting.items; back = o.back.items
 abbrev pub in_seen : PlainIn Load → InSeen
 in_seen n = record { items = map content n.items.items; given = n.given.items; late = n.late; initial = n.initial; free = n.free }
 
--- The ends that a member has: of the link on which it sends, with the grant that it keeps of it; of the one from which it takes; of those
--- at its door; and those that it has replaced or left, the oldest first.
-pub record EndsSeen : Type 0 where
-  pub out : Option OutSeen
-  pub kept : Option ℕ
-  pub link : Option InSeen
-  pub door : List (Option InSeen)
-  pub old_outs : List (LinkName × OutSeen)
-  pub old_ins : List (LinkName × InSeen)
+-- what the ends that a member has show
+abbrev pub EndsSeen : Type 0
+EndsSeen = Ends OutSeen InSeen
 
 -- ends that were replaced, with the names of their links
 abbrev pub named_out : LinkName × PlainOut Load → LinkName × OutSeen
@@ -76,21 +72,20 @@ pub record Shown : Type 0 where
 abbrev pub shown_of : ANode → Shown
 shown_of m = record { held = held_of m; ends = ends_seen (ends_of m) }
 
--- a member that isn't there, for places beyond the last
-abbrev pub no_held : Held
-no_held = record { id = 0; name = []; phase = phase.Stopped; view = no_group; rows = []; out = None; current = None; door = []; asks = false; initial = 0; more = 0 }
+-- what the member of a party shows
+abbrev pub shown_in : Party → Shown
+shown_in p = shown_of p.node
 
--- the ends of one that isn't there
-abbrev pub no_ends : EndsSeen
-no_ends = record { out = None; kept = None; link = None; door = []; old_outs = []; old_ins = [] }
+-- what it has still to do
+abbrev pub tasks_of : Party → List Task
+tasks_of p = p.agenda
 
--- what one that isn't there shows
+-- what a member shows that isn't there, for places beyond the last
 abbrev pub no_shown : Shown
-no_shown = record { held = no_held; ends = no_ends }
-
--- what the member at a place shows
-abbrev pub shown_at : List ANode → ℕ → Shown
-shown_at nodes i = slice_index_or (map shown_of nodes) i no_shown
+no_shown = record {
+  held = record { id = 0; name = []; phase = phase.Stopped; view = no_group; rows = []; out = None; current = None; door = []; asks = false; initial = 0; more = 0 };
+  ends = record { out = None; kept = None; link = None; door = []; old_outs = []; old_ins = [] };
+}
 
 -- ---- the registrar
 
@@ -118,13 +113,15 @@ pub record Parties : Type 0 where
   pub post : List Posted
 
 -- the parties, with these links behind those that stand at the registrar
-abbrev pub parties : List ANode → Registry (PlainIn Load) → List Posted → Parties
-parties nodes r behind = record { nodes = map shown_of nodes; views = r.views; stopped = r.stopped; post = map posted r.links ++ behind }
+abbrev pub parties : List Party → Registry (PlainIn Load) → List Posted → Parties
+parties members r behind = record { nodes = map shown_in members; views = r.views; stopped = r.stopped; post = map posted r.links ++ behind }
 
--- What is seen of the parties: what they show, and whether the registrar is owed a link that waits behind those which stand there.
+-- What is seen of the parties: what they show, whether the registrar is owed a link that waits behind those which stand there, and what
+-- each member has still to do, by places.
 pub record PartiesSeen : Type 0 where
   pub all : Parties
   pub owes : Bool
+  pub agendas : List (List Task)
 
 -- the member at a place
 abbrev pub node_at : Parties → ℕ → Shown
@@ -134,18 +131,10 @@ node_at q i = slice_index_or q.nodes i no_shown
 abbrev pub with_node : Parties → ℕ → Shown → Parties
 with_node q i m = record q { nodes = slice_set q.nodes i m }
 
--- the end of a link to a member: of the one from which it takes at place 0, of those at its door from place 1 on
-abbrev pub in_end_at : EndsSeen → ℕ → Option InSeen
-in_end_at e place = if nat_eq place 0 then e.link else slice_index_or e.door (place - 1) None
-
--- another end stands there
-abbrev pub with_in_end : EndsSeen → ℕ → Option InSeen → EndsSeen
-with_in_end e place n = if nat_eq place 0 then record e { link = n } else record e { door = slice_set e.door (place - 1) n }
-
 -- a member with another out end
 abbrev pub with_out : Shown → OutSeen → Shown
 with_out m o = record m { ends = record m.ends { out = Some o } }
 
 -- and with another end of a link to it
 abbrev pub with_in : Shown → ℕ → InSeen → Shown
-with_in m place n = record m { ends = with_in_end m.ends place (Some n) }
+with_in m place n = record m { ends = with_end m.ends place (Some n) }

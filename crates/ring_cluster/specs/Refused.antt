@@ -13,13 +13,9 @@ use Rattle.ring_cluster.specs.Ends.{InSeen}
 use Rattle.ring_cluster.specs.Parties.{Shown, Posted, Parties, node_at}
 use Rattle.ring_cluster.specs.Acting.{waits_at, alone_refused, look_refused, newest_of}
 
--- the id of the one of that name
-abbrev pub id_of_name : List Shown → List ℕ → Option ℕ
-id_of_name nodes name = option_map (λ i. i + 1) (position (λ m. bytes_eq m.held.name name) nodes)
-
 -- the id of the member of that name
 abbrev pub id_named : Parties → List ℕ → Option ℕ
-id_named q name = id_of_name q.nodes name
+id_named q name = option_map (λ i. i + 1) (position (λ m. bytes_eq m.held.name name) q.nodes)
 
 -- no link waits for x
 abbrev pub NothingWaits : ℕ → Parties → Type 0

@@ -1,17 +1,21 @@
 -- What is seen of a cluster.
-use Rattle.std.specs.Prelude.{◌≡◌, ℕ, ◌+◌, ◌-◌, ◌<◌, ◌^◌, ◌++◌, ◌∷◌, Bool, true, false, List, [], length, min, replicate}
+use Rattle.std.specs.Prelude.{◌≡◌, ℕ, ◌+◌, ◌-◌, ◌<◌, ◌^◌, ◌++◌, ◌∷◌, Bool, true, false, List, [], length, min, replicate, slice_index_or}
 use Rattle.ring_names.specs.declared.numbers.CreditSpec.{CreditSpec}
 use Rattle.ring_script.specs.declared.command.Command.{Command}
 use Rattle.group_view.specs.Change.{AreOpeningNames}
 use Rattle.ring_world.specs.declared.event.Event.{Event}
 use Rattle.ring_world.specs.Machine.{World}
 use Rattle.ring_world.specs.Step.{opening}
-use Rattle.ring_world.specs.Event.{IsRun, last}
+use Rattle.ring_world.specs.Event.{IsRun, last, by_of}
 use Rattle.ring_cluster.specs.declared.agenda.Task.{Task}
 
 -- the state of the ring after these events from its opening
 abbrev pub state : CreditSpec → List (List ℕ) → List Event → World
 state credit names events = last (opening credit names) events
+
+-- it is an event of the member at this place
+abbrev pub IsEventAt : List (List ℕ) → ℕ → Event → Type 0
+IsEventAt names i e = (i < length names) × (by_of e ≡ slice_index_or names i [])
 
 -- A cluster is seen as the names and the credit with which its ring opened, its journal, what each member has
 -- still to do, by places, how many rounds were given a number, what it was given: the commands that it took

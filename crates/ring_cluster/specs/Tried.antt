@@ -1,16 +1,9 @@
--- What is needed to call a member, and what is answered where a step is tried that may be refused.
-use Rattle.std.specs.Prelude.{◌≡◌, ℕ, ◌<◌, false, List, length, Option, Some, None, Result, OnOk, OnErr, IfErr}
+-- What is answered where a step is tried that may be refused.
+use Rattle.std.specs.Prelude.{◌≡◌, Option, Some, None, Result, OnOk, OnErr, IfErr}
 use Rattle.ring_names.specs.declared.reason.Reason.{Reason}
 use Rattle.ring_world.specs.declared.world.Refused.{Refused}
 use Rattle.ring_world.specs.declared.world.Refused.TheVariants.{NotEnabled}
-use Rattle.ring_cluster.specs.Parties.{ANode, Shown, shown_at}
-use Rattle.ring_cluster.specs.Acting.{IsReady}
-
--- A member stands at this place of which no question is open, and it has what it needs of its ends for its calls.
-pub record IsFreeAt (nodes : List ANode) (i : ℕ) : Type 0 where
-  pub within : i < length nodes
-  pub free : (shown_at nodes i).held.asks ≡ false
-  pub ready : IsReady (shown_at nodes i)
+use Rattle.ring_cluster.specs.Parties.{Shown}
 
 -- Of a step this is the first condition that fails: it is done only where none does, and only that one is told as the reason why it
 -- isn't enabled.

@@ -26,13 +26,17 @@ pub record SamePhases (w w' : World) : Type 0 where
   pub many : size w' ≡ size w
   pub phase : (x : ℕ) → (member_at w' x).phase ≡ (member_at w x).phase
 
--- members have done steps of their own, and their agendas stay
-pub record Works (c d : Seen) : Type 0 where
+-- members have taken turns
+pub record TakesRound (c d : Seen) : Type 0 where
   pub goes : HasGoneOn c d
   pub given : SameGiven c d
   pub names : d.names ≡ c.names
-  pub agendas : d.agendas ≡ c.agendas
   pub phases : SamePhases (state_of c) (state_of d)
+
+-- they have done steps of their own, and their agendas stay
+pub record Works (c d : Seen) : Type 0 where
+  pub round : TakesRound c d
+  pub agendas : d.agendas ≡ c.agendas
 
 -- Members do a step of their own, or none. Where one was done there is less to do; where none was, all stays and this holds.
 pub record DoesOrRests (c d : Seen) (rests : Type 0) (result : Result Bool OutOfMemory) : Type 0 where
@@ -42,19 +46,9 @@ pub record DoesOrRests (c d : Seen) (rests : Type 0) (result : Result Bool OutOf
 
 -- the member at place i has taken turns: its agenda hasn't grown, and the others' stay
 pub record TakesTurns (i : ℕ) (c d : Seen) : Type 0 where
-  pub goes : HasGoneOn c d
-  pub given : SameGiven c d
-  pub names : d.names ≡ c.names
+  pub round : TakesRound c d
   pub shrinks : length (agenda_at d.agendas i) ≤ length (agenda_at c.agendas i)
   pub elsewhere : SameElsewhere i c d
-  pub phases : SamePhases (state_of c) (state_of d)
-
--- members have taken turns
-pub record TakesRound (c d : Seen) : Type 0 where
-  pub goes : HasGoneOn c d
-  pub given : SameGiven c d
-  pub names : d.names ≡ c.names
-  pub phases : SamePhases (state_of c) (state_of d)
 
 -- the member at a place is done with its agenda, where it runs
 abbrev pub IsDoneAt : ℕ → Seen → Type 0

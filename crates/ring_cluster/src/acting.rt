@@ -6,7 +6,7 @@ ghost use Rattle.registrar.specs.Registry.{AreHere};
 ghost use Rattle.registrar.specs.Handled.{with_stopped};
 ghost use Rattle.registrar.specs.Asked.{stop_refusal};
 ghost use Rattle.gm_member.specs.Held.{up_refused};
-ghost use Rattle.ring_cluster.specs.Parties.{shown_of};
+ghost use Rattle.ring_cluster.specs.Parties.{shown_of, shown_in};
 ghost use Rattle.ring_cluster.specs.Acting.{IsReady, stop_refused, look_refused};
 ghost use Rattle.ring_cluster.specs.Acting.{is_alone as the_alone, alone_refused, DoesAlone};
 ghost use Rattle.ring_cluster.specs.Tried.{IsJudged};
@@ -14,6 +14,7 @@ ghost use Rattle.ring_cluster.specs.Tried.{IsJudged};
 use crate::looking::{Loose, look, mark};
 use crate::node::{Node, cast, gain, pick, put, stop, take, take_end};
 use crate::parties::Parties;
+use crate::party::Party;
 use gm_member::Load;
 use group_view::Request;
 use ordered_link::PlainIn;
@@ -29,11 +30,11 @@ fn has_name(node: &Node, name: &Name) -> bool
 }
 
 /// The place of the first member of that name.
-fn first_named(nodes: &[Node], name: &Name) -> Option<usize>
-    ensures place { result ≡ position (λ m. bytes_eq (shown_of m).held.name name.now) nodes.now }
-    ensures within { IfSome result (λ i. i < length nodes.now) }
+fn first_named(members: &[Party], name: &Name) -> Option<usize>
+    ensures place { result ≡ position (λ m. bytes_eq (shown_in m).held.name name.now) members.now }
+    ensures within { IfSome result (λ i. i < length members.now) }
 {
-    nodes.iter().position(|node| has_name(node, name))
+    members.iter().position(|party| has_name(&party.node, name))
 }
 
 /// The event of a member that does it by itself happens, where it is enabled.
@@ -152,7 +153,7 @@ impl Parties {
         ensures place { id_named (self.now).all name.now ≡ option_map (λ i. i + 1) result }
         ensures within { IfSome result (λ i. i < length (self.now).all.nodes) }
     {
-        first_named(&self.nodes, name)
+        first_named(&self.members, name)
     }
 
     /// The event of the member at a place happens there, where it is enabled: the out end that the member replaces.
@@ -163,6 +164,7 @@ impl Parties {
         ensures judged { IsJudged (act_refused event.now i (self.old).all) result }
         ensures ok { IfOk result (λ loose. Acts event.now i (marked_in event.now (self.old).all)
             (self.old).all (self.new).all (loose_seen loose)) }
+        ensures agendas { (self.new).agendas ≡ (self.old).agendas }
         ensures err { OnErr result (self.new ≡ self.old) }
     {
         if is_alone(event) {
@@ -193,9 +195,10 @@ impl Parties {
         requires standing { StandSomewhere (self.old).all }
         ensures judged { IsJudged (alone_refused event.now (node_at (self.old).all i)) result }
         ensures ok { OnOk result ((d : ℕ) → Acts event.now i d (self.old).all (self.new).all None) }
+        ensures agendas { (self.new).agendas ≡ (self.old).agendas }
         ensures err { OnErr result (self.new ≡ self.old) }
     {
-        do_alone(&mut self.nodes[i], event)?;
+        do_alone(&mut self.members[i].node, event)?;
         Ok(())
     }
 
@@ -206,13 +209,14 @@ impl Parties {
         requires standing { StandSomewhere (self.old).all }
         ensures judged { IsJudged (stop_refused (node_at (self.old).all i)) result }
         ensures ok { OnOk result ((by : List ℕ) (d : ℕ) → Acts (Stop by) i d (self.old).all (self.new).all None) }
+        ensures agendas { (self.new).agendas ≡ (self.old).agendas }
         ensures err { OnErr result (self.new ≡ self.old) }
     {
-        if let Some(reason) = stop_refusal_of(&self.nodes[i]) {
+        if let Some(reason) = stop_refusal_of(&self.members[i].node) {
             return Err(Refused::NotEnabled(reason));
         }
         notify(&mut self.registrar, MemberId(i as u32 + 1))?;
-        match stop(&mut self.nodes[i]) {
+        match stop(&mut self.members[i].node) {
             Ok(()) => Ok(()),
             Err(_) => unreachable!(),
         }
@@ -227,9 +231,14 @@ impl Parties {
             (node_at (self.old).all i) version) result }
         ensures ok { IfOk result (λ loose. LooksAt (view_at (self.old).all.views version) i
             (self.old).all (self.new).all (loose_seen loose)) }
+        ensures agendas { (self.new).agendas ≡ (self.old).agendas }
         ensures err { OnErr result (self.new ≡ self.old) }
     {
-        if let Some(reason) = look_refusal(&self.nodes[i], self.registrar.view().version, version) {
+        if let Some(reason) = look_refusal(
+            &self.members[i].node,
+            self.registrar.view().version,
+            version,
+        ) {
             return Err(Refused::NotEnabled(reason));
         }
         let Some(view) = self.registrar.published(version) else {
@@ -238,7 +247,7 @@ impl Parties {
         let Ok(view) = view.copy() else {
             return Err(Refused::OutOfMemory);
         };
-        let Ok(looked) = look(&mut self.nodes[i], view) else {
+        let Ok(looked) = look(&mut self.members[i].node, view) else {
             return Err(Refused::OutOfMemory);
         };
         self.late = looked.opened;
@@ -254,13 +263,14 @@ impl Parties {
             (id_named (self.old).all dead.now)) result }
         ensures ok { IfOk result (λ loose. (by : List ℕ) → Acts (Mark by dead.now) i
             (marked_in (Mark by dead.now) (self.old).all) (self.old).all (self.new).all (loose_seen loose)) }
+        ensures agendas { (self.new).agendas ≡ (self.old).agendas }
         ensures err { OnErr result (self.new ≡ self.old) }
     {
         let Some(place) = self.place_named(dead) else {
-            return Err(Refused::NotEnabled(unknown(&self.nodes[i])));
+            return Err(Refused::NotEnabled(unknown(&self.members[i].node)));
         };
         let id = MemberId(place as u32 + 1);
-        match mark(&mut self.nodes[i], &mut self.registrar, id) {
+        match mark(&mut self.members[i].node, &mut self.registrar, id) {
             Ok(looked) => {
                 self.late = looked.opened;
                 Ok(looked.loose)

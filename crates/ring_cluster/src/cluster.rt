@@ -1,17 +1,16 @@
 //! The cluster.
-ghost use Rattle.std.specs.Prelude.{◌≡◌, ◌<◌, ◌∷◌, ◌++◌, [], List, MatchOption, drop, slice_set, IfOk, IfSome};
-ghost use Rattle.std.specs.Prelude.{bytes_eq, length, replicate, vec_len, vec_capacity};
-ghost use Rattle.ring_cluster.specs.declared.agenda.Task.{Task};
-ghost use Rattle.ring_cluster.specs.Plays.{IsCommandTo, IsTaskOf, place_among as the_place, task_event, agenda_at};
+ghost use Rattle.std.specs.Prelude.{◌≡◌, ◌<◌, ◌∷◌, ◌++◌, [], IfOk, IfSome};
+ghost use Rattle.std.specs.Prelude.{bytes_eq, length, vec_len, vec_capacity};
+ghost use Rattle.ring_cluster.specs.Plays.{IsCommandTo, IsTaskOf, place_among as the_place};
 
-use crate::agenda::{Agenda, Task};
+use crate::agenda::Task;
 use crate::driver::{drain, round};
 use crate::node::Node;
 use crate::opening::copied;
 use crate::parties::Parties;
 use group_view::View;
 use ring_io::Gate;
-use ring_names::{CreditSpec, MemberId, Name, OutOfMemory};
+use ring_names::{CreditSpec, MemberId, Name, OutOfMemory, Reason};
 use ring_script::Command;
 use ring_world::{Event, Refused};
 use std::alloc::Global;
@@ -24,8 +23,8 @@ const MOST_ROUNDS: u32 = 64;
 /// How many turns each member has in a round of a settling.
 const TURNS: u32 = 16;
 
-/// The members of a ring over plain pairs, the registrar, the journal of what has happened among them, and what
-/// each has still to do. It stands for the nodes on which the processes of `gm` run, and for the registry in which
+/// The members of a ring over plain pairs with what each has still to do, the registrar, and the journal of what has
+/// happened among them. It stands for the nodes on which the processes of `gm` run, and for the registry in which
 /// they keep their group.
 #[derive(Drop)]
 pub struct Cluster {
@@ -34,7 +33,6 @@ pub struct Cluster {
     names: Vec<Name>,
     parties: Parties,
     journal: Vec<Event>,
-    agendas: Vec<Agenda>,
     rounds: u32,
     given: Vec<Command>,
 }
@@ -67,8 +65,8 @@ impl Cluster {
     ghost use Rattle.gm_member.specs.Shown.{held_of};
     ghost use Rattle.ring_cluster.specs.Idle.{IsIdle, NobodyStopped, MarksNobody};
     ghost use Rattle.ring_cluster.specs.Holds.{HoldsOf};
-    ghost use Rattle.ring_cluster.specs.Seen.{Seen, IsGoing, SameButOwed, MayHandOver, state_of, opening_seen};
-    ghost use Rattle.ring_cluster.specs.Seen.{with_event, owing, stepped};
+    ghost use Rattle.ring_cluster.specs.Seen.{Seen, IsGoing, IsEventAt, SameButOwed, MayHandOver, state_of};
+    ghost use Rattle.ring_cluster.specs.Seen.{opening_seen, with_event, owing, stepped};
     ghost use Rattle.ring_cluster.specs.declared.agenda.Task.{Task};
     ghost use Rattle.ring_cluster.specs.Plays.{PlaysSoFar, Plays, task_event, place_among, IsCommandTo, commanded};
     ghost use Rattle.ring_cluster.specs.Plays.{performed, agenda_at, GoesOn, HasGoneOn, HasBegun, HeadsAre};
@@ -96,14 +94,12 @@ impl Cluster {
     {
         let parties = Parties::opening(alloc, members, credit)?;
         let names = copied(alloc, members)?;
-        let agendas = opening_agendas(alloc, members.len())?;
         Ok(Cluster {
             alloc,
             credit,
             names,
             parties,
             journal: Vec::new(alloc),
-            agendas,
             rounds: 0,
             given: Vec::new(alloc),
         })
@@ -150,7 +146,7 @@ impl Cluster {
         if self.given.reserve(1).is_err() {
             return Err((command, OutOfMemory));
         }
-        if self.agendas[place].push(task).is_err() {
+        if self.parties.give_task(place, task).is_err() {
             return Err((command, OutOfMemory));
         }
         push_reserved(&mut self.given, command);
@@ -172,7 +168,10 @@ impl Cluster {
             ⊎ ((e ≡ Refused.OutOfMemory) × (refusal (state_of self.old) event.now ≡ None)
             × (self.new ≡ stepped self.old event.now true))) }
     {
-        self.happen(event)?;
+        let Some(place) = self.place_of(event) else {
+            return Err(Refused::NotEnabled(Reason::UnknownMember));
+        };
+        self.happen(place, event)?;
         self.number_round();
         match self.deliver() {
             Ok(()) => Ok(()),
@@ -180,8 +179,18 @@ impl Cluster {
         }
     }
 
-    /// The one event, as a part of a round.
-    pub(crate) fn happen(&mut self, event: &Event) -> Result<(), Refused>
+    /// The place of the member of an event, where the ring has it.
+    fn place_of(&self, event: &Event) -> Option<usize>
+        ensures { MatchOption result (refusal (state_of self.now) event.now ≡ Some Reason.UnknownMember)
+            (λ place. IsEventAt (self.now).names place event.now) }
+    {
+        self.is_going();
+        the_place_among(&self.names, event.by())
+    }
+
+    /// The one event, of the member at a place, as a part of a round.
+    pub(crate) fn happen(&mut self, place: usize, event: &Event) -> Result<(), Refused>
+        requires { IsEventAt (self.old).names place event.now }
         ensures enabled { OnOk result (refusal (state_of self.old) event.now ≡ None) }
         ensures ok { OnOk result (SameButOwed (with_event self.old event.now) self.new) }
         ensures refused { (r : Reason) → refusal (state_of self.old) event.now ≡ Some r
@@ -191,7 +200,7 @@ impl Cluster {
         ensures err { OnErr result (MayHandOver self.old self.new) }
     {
         self.parties
-            .step(self.credit, &self.names, &mut self.journal, event)
+            .step(self.credit, &self.names, &mut self.journal, place, event)
     }
 
     /// Hands over what is owed to the registrar.
@@ -203,7 +212,7 @@ impl Cluster {
     }
 
     /// The member at a place does the first of its tasks: whether it had one and hasn't stopped.
-    #[tactic(auto, using(crate::proofs::Owed::but_refl, crate::proofs::Owed::but_handed))]
+    #[tactic(auto, using(crate::proofs::post::Owed::but_refl, crate::proofs::post::Owed::but_handed))]
     pub(crate) fn perform(&mut self, place: usize) -> Result<bool, OutOfMemory>
         requires { place < length (self.old).names }
         ensures done { IfOk result (λ b. b ≡ true → (t : Task) × (ts : List Task)
@@ -218,7 +227,7 @@ impl Cluster {
         let Some(event) = self.next_event(place)? else {
             return Ok(false);
         };
-        match self.happen(&event) {
+        match self.happen(place, &event) {
             Ok(()) => {
                 self.strike_off(place);
                 Ok(true)
@@ -235,7 +244,7 @@ impl Cluster {
             (λ event. (t : Task) × (ts : List Task) × (agenda_at (self.now).agendas place ≡ t ∷ ts)
             × (event ≡ task_event (slice_index_or (self.now).names place []) t))) }
     {
-        let Some(task) = head_at(&self.agendas, place) else {
+        let Some(task) = self.parties.next_task(place) else {
             return Ok(None);
         };
         let event = task.event(&self.names[place])?;
@@ -250,7 +259,7 @@ impl Cluster {
               (drop 1 (agenda_at (self.old).agendas place));
         } }
     {
-        pop_at(&mut self.agendas, place);
+        self.parties.strike_off(place);
     }
 
     /// The name of the member at a place.
@@ -451,23 +460,6 @@ fn copied_events(alloc: Global, events: &[Event]) -> Result<Vec<Event>, OutOfMem
     Ok(all)
 }
 
-/// The next task of the member at a place.
-fn head_at(agendas: &[Agenda], place: usize) -> Option<&Task>
-    requires { place < length agendas.now }
-    ensures { MatchOption result (agenda_at agendas.now place ≡ [])
-        (λ task. (rest : List Task) × (agenda_at agendas.now place ≡ task.now ∷ rest)) }
-{
-    agendas[place].head()
-}
-
-/// The next task of the member at a place is done.
-fn pop_at(agendas: &mut [Agenda], place: usize)
-    requires { place < length agendas.old }
-    ensures { agendas.new ≡ slice_set agendas.old place (drop 1 (agenda_at agendas.old place)) }
-{
-    agendas[place].pop();
-}
-
 /// The place and the task of a command.
 fn task_of(names: &[Name], command: &Command) -> Result<(usize, Task), OutOfMemory>
     requires { IsCommandTo names.now command.now }
@@ -507,17 +499,4 @@ fn push_reserved(given: &mut Vec<Command>, command: Command)
     if given.push(command).is_err() {
         unreachable!()
     }
-}
-
-/// An agenda for each member, with nothing on it.
-fn opening_agendas(alloc: Global, count: usize) -> Result<Vec<Agenda>, OutOfMemory>
-    ensures { IfOk result (λ v. v.items ≡ replicate count []) }
-{
-    let mut agendas = Vec::new(alloc);
-    for _place in 0..count {
-        if agendas.push(Agenda::new(alloc)).is_err() {
-            return Err(OutOfMemory);
-        }
-    }
-    Ok(agendas)
 }

@@ -54,13 +54,14 @@ impl Parties {
         requires standing { StandSomewhere (self.old).all }
         ensures standing { StandStill (self.old).all (self.new).all }
         ensures delivered { (self.new).owes ≡ false }
+        ensures agendas { (self.new).agendas ≡ (self.old).agendas }
         ensures none { OnOk result ((node_at (self.new).all i).held.phase ≡ Up
             → NothingWaits (i + 1) (self.new).all) }
     {
-        if !is_up(&self.nodes[i]) {
+        if !is_up(&self.members[i].node) {
             return Ok(());
         }
-        collect(&mut self.nodes[i], &mut self.registrar)?;
+        collect(&mut self.members[i].node, &mut self.registrar)?;
         Ok(())
     }
 }

@@ -2,7 +2,7 @@
 ghost use Rattle.std.specs.Prelude.{◌≡◌, ◌≢◌, ℕ, ◌+◌, ◌-◌, ◌<◌, ◌≤◌, ◌∷◌, ◌++◌, ◌||◌, [], true, false, length, IfOk};
 ghost use Rattle.std.specs.Prelude.{OnOk, OnErr, None};
 ghost use Rattle.ring_world.specs.Machine.{member_at, newest as the_newest, right as the_right, runs as runs_at};
-ghost use Rattle.ring_world.specs.Event.{refusal, is_asked};
+ghost use Rattle.ring_world.specs.Event.{by_of, refusal, is_asked};
 ghost use Rattle.ring_cluster.specs.Idle.{IsIdle, MarksNobody};
 ghost use Rattle.ring_cluster.specs.Seen.{Seen, state_of, IsGoing, SameButOwed};
 ghost use Rattle.ring_cluster.specs.Plays.{agenda_at, HasBegun, AgendasAreDone};
@@ -45,15 +45,17 @@ impl OwnStep {
     }
 }
 
-/// An event of a member of its own that leaves less to do, where it is enabled: whether it was.
-#[tactic(auto, using(crate::proofs::Turning::own_step))]
-fn happens(cluster: &mut Cluster, event: &Event) -> Result<bool, OutOfMemory>
+/// An event of the member of an id, of its own, that leaves less to do, where it is enabled: whether it was.
+#[tactic(auto, using(crate::proofs::rounds::Turning::own_step))]
+fn happens(cluster: &mut Cluster, id: MemberId, event: &Event) -> Result<bool, OutOfMemory>
+    requires within { (1 ≤ id.0) × (id.0 ≤ length (cluster.old).names) }
+    requires named { by_of event.now ≡ (member_at (state_of cluster.old) id.0).name }
     requires own { is_asked event.now ≡ false }
     requires less { LeavesLess (state_of cluster.old) event.now }
     ensures { DoesOrRests cluster.old cluster.new (refusal (state_of cluster.old) event.now ≢ None) result }
 {
     cluster.is_going();
-    match cluster.happen(event) {
+    match cluster.happen(id.0 as usize - 1, event) {
         Ok(()) => Ok(true),
         Err(Refused::NotEnabled(_)) => Ok(false),
         Err(Refused::OutOfMemory) => Err(OutOfMemory),
@@ -122,12 +124,12 @@ fn attempt(cluster: &mut Cluster, id: MemberId, step: OwnStep) -> Result<bool, O
     cluster.is_going();
     let by = name_of(cluster, id);
     let event = step.event(by);
-    let did = happens(cluster, &event)?;
+    let did = happens(cluster, id, &event)?;
     Ok(did)
 }
 
 /// The first step of a member on its links that it may do: whether it did any.
-#[tactic(auto, using(crate::proofs::Turning::works_trans))]
+#[tactic(auto, using(crate::proofs::rounds::Turning::works_trans))]
 fn step_on_links(cluster: &mut Cluster, id: MemberId) -> Result<bool, OutOfMemory>
     requires { (1 ≤ id.0) × (id.0 ≤ length (cluster.old).names) }
     ensures { DoesOrRests cluster.old cluster.new (MayStepNowhere (state_of cluster.old) id.0) result }
@@ -159,7 +161,7 @@ fn refresh(cluster: &mut Cluster, id: MemberId) -> Result<(), OutOfMemory>
     cluster.is_going();
     let by = name_of(cluster, id);
     let version = newest(cluster);
-    let did = happens(cluster, &Event::Refresh { by, view: version })?;
+    let did = happens(cluster, id, &Event::Refresh { by, view: version })?;
     if !did {
         unreachable!();
     }
@@ -176,13 +178,13 @@ fn mark(cluster: &mut Cluster, id: MemberId) -> Result<bool, OutOfMemory>
     let by = name_of(cluster, id);
     let right = right_of(cluster, id);
     let dead = name_of(cluster, right);
-    let did = happens(cluster, &Event::Mark { by, dead })?;
+    let did = happens(cluster, id, &Event::Mark { by, dead })?;
     Ok(did)
 }
 
 /// A member that runs reads the newest view, where it is stale. Else it has its right neighbour marked dead, or does
 /// a step on its links, the first of these that it may. Whether it did any.
-#[tactic(auto, using(crate::proofs::Turning::works_trans))]
+#[tactic(auto, using(crate::proofs::rounds::Turning::works_trans))]
 fn own_turn(cluster: &mut Cluster, id: MemberId) -> Result<bool, OutOfMemory>
     requires within { (1 ≤ id.0) × (id.0 ≤ length (cluster.old).names) }
     requires runs { runs_at (state_of cluster.old) id.0 ≡ true }
@@ -200,7 +202,7 @@ fn own_turn(cluster: &mut Cluster, id: MemberId) -> Result<bool, OutOfMemory>
 }
 
 /// The member at a place does a step of its own, where it runs and has any to do: whether it did.
-#[tactic(auto, using(crate::proofs::Turning::works_refl, crate::proofs::Owed::but_refl))]
+#[tactic(auto, using(crate::proofs::rounds::Turning::works_refl, crate::proofs::post::Owed::but_refl))]
 fn work_turn(cluster: &mut Cluster, place: usize) -> Result<bool, OutOfMemory>
     requires { place < length (cluster.old).names }
     ensures { DoesOrRests cluster.old cluster.new (RestsAt (state_of cluster.old) (place + 1)) result }
@@ -215,7 +217,7 @@ fn work_turn(cluster: &mut Cluster, place: usize) -> Result<bool, OutOfMemory>
 }
 
 /// The member at a place takes a turn: the head of its agenda, or a step of its own. Whether it did any.
-#[tactic(auto, using(crate::proofs::Turning::one_turn))]
+#[tactic(auto, using(crate::proofs::rounds::Turning::one_turn))]
 fn turn(cluster: &mut Cluster, place: usize) -> Result<bool, OutOfMemory>
     requires { place < length (cluster.old).names }
     ensures turns { TakesTurns place cluster.old cluster.new }
@@ -230,7 +232,7 @@ fn turn(cluster: &mut Cluster, place: usize) -> Result<bool, OutOfMemory>
 }
 
 /// The member at a place takes at least one and at most so many turns.
-#[tactic(auto, using(crate::proofs::Turning::turns_trans, crate::proofs::Turning::begun_still))]
+#[tactic(auto, using(crate::proofs::rounds::Turning::turns_trans, crate::proofs::rounds::Turning::begun_still))]
 fn turns_of<G: Gate>(
     cluster: &mut Cluster,
     place: usize,
@@ -249,7 +251,7 @@ fn turns_of<G: Gate>(
 }
 
 /// Up to so many further turns, while it has anything to do.
-#[tactic(auto, using(crate::proofs::Turning::turns_trans, crate::proofs::Turning::turns_refl))]
+#[tactic(auto, using(crate::proofs::rounds::Turning::turns_trans, crate::proofs::rounds::Turning::turns_refl))]
 fn more_turns<G: Gate>(
     cluster: &mut Cluster,
     place: usize,
@@ -287,7 +289,7 @@ const BEFORE: u8 = 1;
 const AFTER: u8 = 2;
 
 /// Every member takes its turns, one member after another.
-#[tactic(auto, using(crate::proofs::Turning::rounds))]
+#[tactic(auto, using(crate::proofs::rounds::Turning::rounds))]
 pub(crate) fn round<G: Gate>(cluster: &mut Cluster, turns: u32, gate: &G) -> Result<(), OutOfMemory>
     requires { 1 ≤ turns }
     ensures round { TakesRound cluster.old cluster.new }
@@ -302,7 +304,7 @@ pub(crate) fn round<G: Gate>(cluster: &mut Cluster, turns: u32, gate: &G) -> Res
 }
 
 /// The member at a place does all its tasks, where it runs.
-#[tactic(auto, using(crate::proofs::Turning::tasks))]
+#[tactic(auto, using(crate::proofs::rounds::Turning::tasks))]
 fn finish(cluster: &mut Cluster, place: usize) -> Result<(), OutOfMemory>
     requires { place < length (cluster.old).names }
     ensures turns { TakesTurns place cluster.old cluster.new }
@@ -317,7 +319,7 @@ fn finish(cluster: &mut Cluster, place: usize) -> Result<(), OutOfMemory>
 }
 
 /// Every member that runs does all its tasks.
-#[tactic(auto, using(crate::proofs::Turning::all_tasks))]
+#[tactic(auto, using(crate::proofs::rounds::Turning::all_tasks))]
 fn finish_all(cluster: &mut Cluster) -> Result<(), OutOfMemory>
     ensures round { TakesRound cluster.old cluster.new }
     ensures done { OnOk result (AgendasAreDone cluster.new) }
@@ -351,7 +353,7 @@ fn pass(cluster: &mut Cluster) -> Result<bool, OutOfMemory>
 }
 
 /// The members work until none has anything left to do.
-#[tactic(auto, using(crate::proofs::Turning::works_trans, crate::proofs::Turning::works_refl))]
+#[tactic(auto, using(crate::proofs::rounds::Turning::works_trans, crate::proofs::rounds::Turning::works_refl))]
 fn work_out(cluster: &mut Cluster) -> Result<(), OutOfMemory>
     ensures works { Works cluster.old cluster.new }
     ensures idle { OnOk result (IsIdle (state_of cluster.new)) }
@@ -366,7 +368,7 @@ fn work_out(cluster: &mut Cluster) -> Result<(), OutOfMemory>
 }
 
 /// All tasks of members that run are done, and then all work.
-#[tactic(auto, using(crate::proofs::Turning::draining))]
+#[tactic(auto, using(crate::proofs::rounds::Turning::draining))]
 pub(crate) fn drain(cluster: &mut Cluster) -> Result<(), OutOfMemory>
     ensures round { TakesRound cluster.old cluster.new }
     ensures done { OnOk result (AgendasAreDone cluster.new) }

@@ -16,6 +16,7 @@ mod meeting;
 mod node;
 mod opening;
 mod parties;
+mod party;
 mod stepping;
 mod undelivered;
 

@@ -153,25 +153,8 @@ fn opened_by(requests: Vec<Request<PlainIn<Load>>>) -> Option<Undelivered>
     ensures { kept_post result ≡ to_post requests.items }
 {
     let first = requests.into_iter().next()?;
-    match first {
-        Request::Deposit {
-            by,
-            to,
-            view,
-            kind,
-            link,
-        } => Some(Undelivered {
-            name: LinkName {
-                from: by,
-                to,
-                view,
-                kind,
-            },
-            link,
-        }),
-        Request::Mark { .. }
-        | Request::Refresh { .. }
-        | Request::Stopped { .. }
-        | Request::Collect { .. } => None,
+    match first.into_link() {
+        Ok((name, link)) => Some(Undelivered { name, link }),
+        Err(_other) => None,
     }
 }

@@ -1,15 +1,19 @@
 //! The ends of each link meet.
-ghost use Rattle.std.specs.Prelude.{◌≡◌, ◌+◌, ◌-◌, ◌≤◌, ◌<◌, ℕ, true, false, map, length, IfSome, IfNone, IsSome, List, None, Some, option_map, slice_index_or, slice_set};
+ghost use Rattle.std.specs.Prelude.{◌≡◌, ◌+◌, ◌-◌, ◌≤◌, ◌<◌, ℕ, true, false, map, length, IfSome, IfNone, IsSome};
+ghost use Rattle.std.specs.Prelude.{List, None, Some, option_map, slice_index_or, slice_set};
 ghost use Rattle.group_view.specs.declared.link.LinkName.{LinkName};
 ghost use Rattle.registrar.specs.Registry.{name_in, end_in};
-ghost use Rattle.gm_member.specs.Shown.{in_name_of, out_name_of};
+ghost use Rattle.gm_member.specs.Shown.{in_name_of, out_name_of, in_end};
 ghost use Rattle.ring_cluster.specs.Ends.{Fits, Meets, InSeen};
-ghost use Rattle.ring_cluster.specs.Parties.{shown_of, out_seen, in_seen, in_end_at, with_in, with_out, posted, no_shown};
+ghost use Rattle.ring_cluster.specs.Parties.{shown_of, shown_in, tasks_of, out_seen, in_seen};
+ghost use Rattle.ring_cluster.specs.Parties.{with_in, with_out, posted, no_shown};
 ghost use Rattle.ring_cluster.specs.Behind.{behind};
-ghost use Rattle.ring_cluster.specs.Meeting.{IsToMeet, MeetsEnd, HasNone, NodeMayMeet, NodeMeets, PostMayMeet, PostMeets, NoneIsPosted, lent_out};
+ghost use Rattle.ring_cluster.specs.Meeting.{IsToMeet, MeetsEnd, HasNone, NodeMayMeet, NodeMeets, PostMayMeet};
+ghost use Rattle.ring_cluster.specs.Meeting.{PostMeets, NoneIsPosted, lent_out};
 
 use crate::node::Node;
 use crate::parties::Parties;
+use crate::party::Party;
 use crate::undelivered::Undelivered;
 use gm_member::Load;
 use group_view::LinkName;
@@ -44,7 +48,7 @@ fn is_named(node: &Node, place: usize, name: &LinkName) -> bool
 }
 
 /// The place of the link of that name among those to a member, as `Node::name_at` counts them.
-#[tactic(auto, using(crate::proofs::Meets::none_further))]
+#[tactic(auto, using(crate::proofs::meetings::Meets::none_further))]
 fn place_of(node: &Node, name: &LinkName) -> Option<usize>
     ensures some { IfSome result (λ place. in_name_of (shown_of node.now).held place ≡ Some name.now) }
     ensures none { IfNone result (HasNone (shown_of node.now).held name.now) }
@@ -65,9 +69,9 @@ fn place_of(node: &Node, name: &LinkName) -> Option<usize>
 /// Lets an out end meet the end of the link to a member at a place.
 fn meet_at(node: &mut Node, place: usize, out: &mut PlainOut<Load>)
     requires stands { IsSome (in_name_of (shown_of node.old).held place) }
-    requires may { IsToMeet (out_seen out.old) (in_end_at (shown_of node.old).ends place) }
+    requires may { IsToMeet (out_seen out.old) (in_end (shown_of node.old).ends place) }
     ensures { (met : InSeen)
-        × MeetsEnd (out_seen out.old) (in_end_at (shown_of node.old).ends place) (out_seen out.new) met
+        × MeetsEnd (out_seen out.old) (in_end (shown_of node.old).ends place) (out_seen out.new) met
         × (shown_of node.new ≡ with_in (shown_of node.old) place met) }
 {
     let Some(mut link) = node.lend_at(place) else {
@@ -107,7 +111,7 @@ fn is_posted(registrar: &Registrar<PlainIn<Load>>, place: usize, name: &LinkName
 }
 
 /// The place of the link of that name among those that wait at the registrar.
-#[tactic(auto, using(crate::proofs::Meets::none_waits_further))]
+#[tactic(auto, using(crate::proofs::meetings::Meets::none_waits_further))]
 fn place_at(registrar: &Registrar<PlainIn<Load>>, name: &LinkName) -> Option<usize>
     ensures some { IfSome result (λ place. name_in registrar.now place ≡ Some name.now) }
     ensures none { IfNone result (NoneIsPosted (map posted registrar.now.links) name.now) }
@@ -138,7 +142,7 @@ fn meet_waiting(registrar: &mut Registrar<PlainIn<Load>>, place: usize, out: &mu
 }
 
 /// Lets an out end meet the end of the link of that name that waits at the registrar: whether there is one.
-#[tactic(auto, using(crate::proofs::Meets::may_meet_waiting))]
+#[tactic(auto, using(crate::proofs::meetings::Meets::may_meet_waiting))]
 fn meet_posted(
     registrar: &mut Registrar<PlainIn<Load>>,
     out: &mut PlainOut<Load>,
@@ -182,30 +186,31 @@ fn meet_late(late: &mut Option<Undelivered>, out: &mut PlainOut<Load>, name: &Li
 }
 
 /// Lets an out end meet the end of the link of that name to the member that receives it: whether there is one.
-fn meet_member(nodes: &mut [Node], out: &mut PlainOut<Load>, name: &LinkName) -> bool
+fn meet_member(members: &mut [Party], out: &mut PlainOut<Load>, name: &LinkName) -> bool
     requires from_one { 1 ≤ name.now.to.0 }
-    requires may { NodeMayMeet (slice_index_or (map shown_of nodes.old) (name.now.to.0 - 1) no_shown)
+    requires may { NodeMayMeet (slice_index_or (map shown_in members.old) (name.now.to.0 - 1) no_shown)
         name.now (out_seen out.old) }
-    ensures inside { result ≡ true → name.now.to.0 - 1 < length nodes.old }
+    ensures agendas { map tasks_of members.new ≡ map tasks_of members.old }
+    ensures inside { result ≡ true → name.now.to.0 - 1 < length members.old }
     ensures met { result ≡ true → NodeMeets
-        (slice_index_or (map shown_of nodes.old) (name.now.to.0 - 1) no_shown) name.now
+        (slice_index_or (map shown_in members.old) (name.now.to.0 - 1) no_shown) name.now
         (out_seen out.old)
-        (slice_index_or (map shown_of nodes.old) (name.now.to.0 - 1) no_shown)
-        (slice_index_or (map shown_of nodes.new) (name.now.to.0 - 1) no_shown)
+        (slice_index_or (map shown_in members.old) (name.now.to.0 - 1) no_shown)
+        (slice_index_or (map shown_in members.new) (name.now.to.0 - 1) no_shown)
         (out_seen out.new) }
-    ensures others { result ≡ true → map shown_of nodes.new
-        ≡ slice_set (map shown_of nodes.old) (name.now.to.0 - 1)
-        (slice_index_or (map shown_of nodes.new) (name.now.to.0 - 1) no_shown) }
+    ensures others { result ≡ true → map shown_in members.new
+        ≡ slice_set (map shown_in members.old) (name.now.to.0 - 1)
+        (slice_index_or (map shown_in members.new) (name.now.to.0 - 1) no_shown) }
     ensures none { result ≡ false → HasNone
-        (slice_index_or (map shown_of nodes.old) (name.now.to.0 - 1) no_shown).held name.now }
-    ensures still { result ≡ false → map shown_of nodes.new ≡ map shown_of nodes.old }
+        (slice_index_or (map shown_in members.old) (name.now.to.0 - 1) no_shown).held name.now }
+    ensures still { result ≡ false → map shown_in members.new ≡ map shown_in members.old }
     ensures out { result ≡ false → out_seen out.new ≡ out_seen out.old }
 {
     let receiver = name.to.0 as usize - 1;
-    if receiver >= nodes.len() {
+    if receiver >= members.len() {
         return false;
     }
-    meet_node(&mut nodes[receiver], out, name)
+    meet_node(&mut members[receiver].node, out, name)
 }
 
 /// The out end of a member, where it has one, with the name of its link.
@@ -235,14 +240,17 @@ impl Parties {
     ghost use Rattle.gm_member.specs.Shown.{in_name_of};
     ghost use Rattle.ring_cluster.specs.Parties.{out_seen, node_at};
     ghost use Rattle.ring_cluster.specs.Meeting.{MayMeet, MeetsIn, MayMeetOut, MeetsOut};
-    ghost use Rattle.ring_cluster.specs.Loose.{IsMember, sender_in, SendersSomewhere, MeetsSenders, MovedSomewhere, MeetsMoved};
+    ghost use Rattle.ring_cluster.specs.Loose.{IsMember, sender_in, SendersSomewhere, MeetsSenders, MovedSomewhere};
+    ghost use Rattle.ring_cluster.specs.Loose.{MeetsMoved};
 
     /// Lets an out end meet the in end of the link of that name, wherever that stands. It takes no memory.
     pub(crate) fn meet_in(&mut self, out: &mut PlainOut<Load>, name: &LinkName)
         requires { MayMeet (self.old).all name.now (out_seen out.old) }
-        ensures { MeetsIn (self.old).all name.now (out_seen out.old) (self.old).all (self.new).all (out_seen out.new) }
+        ensures meets { MeetsIn (self.old).all name.now (out_seen out.old)
+            (self.old).all (self.new).all (out_seen out.new) }
+        ensures agendas { (self.new).agendas ≡ (self.old).agendas }
     {
-        if meet_member(&mut self.nodes, out, name) {
+        if meet_member(&mut self.members, out, name) {
             return;
         }
         if meet_posted(&mut self.registrar, out, name) {
@@ -255,13 +263,14 @@ impl Parties {
     fn meet_out(&mut self, i: usize)
         requires within { i < length (self.old).all.nodes }
         requires may { MayMeetOut (self.old).all i }
-        ensures { MeetsOut i (self.old).all (self.new).all }
+        ensures meets { MeetsOut i (self.old).all (self.new).all }
+        ensures agendas { (self.new).agendas ≡ (self.old).agendas }
     {
-        let Some((name, mut out)) = lend_out(&mut self.nodes[i]) else {
+        let Some((name, mut out)) = lend_out(&mut self.members[i].node) else {
             return;
         };
         self.meet_in(&mut out, &name);
-        give_out(&mut self.nodes[i], out);
+        give_out(&mut self.members[i].node, out);
     }
 
     /// The name of the link from which the member at a place takes, where it takes from one.
@@ -269,14 +278,15 @@ impl Parties {
         requires { i < length (self.now).all.nodes }
         ensures { in_name_of (node_at (self.now).all i).held 0 ≡ result }
     {
-        self.nodes[i].name_at(0)
+        self.members[i].node.name_at(0)
     }
 
     /// Lets the out end of who sends on the link of that name meet its other end, where there is a name.
     fn meet_sender(&mut self, name: Option<LinkName>)
         requires from { IfSome name (λ n. IsMember n.from.0 (self.old).all) }
         requires between { SendersSomewhere (sender_in name) (self.old).all }
-        ensures { MeetsSenders (sender_in name) (self.old).all (self.new).all }
+        ensures meets { MeetsSenders (sender_in name) (self.old).all (self.new).all }
+        ensures agendas { (self.new).agendas ≡ (self.old).agendas }
     {
         let Some(name) = name else {
             return;
@@ -289,7 +299,8 @@ impl Parties {
     pub(crate) fn meet_moved(&mut self, i: usize)
         requires within { i < length (self.old).all.nodes }
         requires moved { MovedSomewhere i (self.old).all }
-        ensures { MeetsMoved i (self.old).all (self.new).all }
+        ensures meets { MeetsMoved i (self.old).all (self.new).all }
+        ensures agendas { (self.new).agendas ≡ (self.old).agendas }
     {
         let taken = self.taken_from(i);
         self.meet_out(i);

@@ -2,9 +2,9 @@
 ghost use Rattle.std.specs.Prelude.{◌≡◌, [], OnOk, OnErr, IsOk, None};
 ghost use Rattle.ring_names.specs.declared.reason.Reason.{Reason};
 ghost use Rattle.ring_names.specs.declared.message.Message.TheVariants as message;
-ghost use Rattle.gm_member.specs.Held.{put_refused, pick_refused};
+ghost use Rattle.gm_member.specs.Held.{up_refused, put_refused, pick_refused};
 ghost use Rattle.ring_cluster.specs.Parties.{shown_of};
-ghost use Rattle.ring_cluster.specs.Acting.{IsReady, cast_refused, packet_refused, link_end_refused, grant_refused};
+ghost use Rattle.ring_cluster.specs.Acting.{IsReady, packet_refused, link_end_refused, grant_refused};
 ghost use Rattle.ring_cluster.specs.Acting.{stop_refused, Casts, PutsPacket, TakesPacket, TakesEnd, Gains, Stops};
 ghost use Rattle.ring_cluster.specs.Acting.{Picks};
 ghost use Rattle.ring_cluster.specs.Tried.{IsJudged, Tries};
@@ -30,7 +30,7 @@ pub(crate) fn refused(fault: MemberFault) -> Refused
 
 /// The member publishes the body.
 pub(crate) fn cast(node: &mut Node, body: &Body) -> Result<(), Refused>
-    ensures judged { IsJudged (cast_refused (shown_of node.old)) result }
+    ensures judged { IsJudged (up_refused (shown_of node.old).held None) result }
     ensures ok { OnOk result (Casts (message.Cast body.now) (shown_of node.old) (shown_of node.new)) }
     ensures err { OnErr result (shown_of node.new ≡ shown_of node.old) }
 {

@@ -1,17 +1,19 @@
 //! The opening of a cluster.
 ghost use Rattle.std.specs.Prelude.{◌≡◌, ◌+◌, ◌<◌, ◌≤◌, ◌++◌, ◌∷◌, IfOk, OnOk, [], true, length, map};
-ghost use Rattle.std.specs.Prelude.{slice_index_or};
+ghost use Rattle.std.specs.Prelude.{replicate, slice_index_or};
 ghost use Rattle.std.specs.List.{range_with_len};
 ghost use Rattle.group_view.specs.Change.{opening as opening_group};
 ghost use Rattle.group_view.specs.Ring.{is_in};
 ghost use Rattle.ring_world.specs.Rows.{most_members};
 ghost use Rattle.ring_world.specs.View.{ids};
 ghost use Rattle.gm_member.specs.Held.{founded};
-ghost use Rattle.ring_cluster.specs.Parties.{shown_of};
+ghost use Rattle.ring_cluster.specs.Parties.{shown_of, shown_in, tasks_of};
 ghost use Rattle.ring_cluster.specs.Opened.{opened_ends, opened_at};
 
+use crate::agenda::Agenda;
 use crate::node::Node;
 use crate::parties::Parties;
+use crate::party::Party;
 use gm_member::{Load, Member};
 use group_view::View;
 use ordered_link::{PlainIn, plain_pair};
@@ -39,31 +41,38 @@ fn opening_node(
     Ok(node)
 }
 
-/// The members of the opening, in ring order.
-fn opening_nodes(
+/// The members of the opening, in ring order, with nothing to do.
+fn opening_members(
     alloc: Global,
     names: &[Name],
     view: &View,
     credit: CreditSpec,
-) -> Result<Vec<Node>, OutOfMemory>
+) -> Result<Vec<Party>, OutOfMemory>
     requires few { length names.now ≤ most_members }
     requires view { view.now ≡ opening_group names.now }
-    ensures { IfOk result (λ v. map shown_of v.items
+    ensures shown { IfOk result (λ v. map shown_in v.items
         ≡ map (opened_at credit names.now) (range_with_len 0 (length names.now))) }
+    ensures agendas { IfOk result (λ v. map tasks_of v.items ≡ replicate (length names.now) []) }
 {
-    let mut nodes = Vec::new(alloc);
+    let mut members = Vec::new(alloc);
     for k in 0..names.len() {
         let node = opening_node(alloc, names[k], k, view, credit)?;
-        push_node(&mut nodes, node)?;
+        push_member(
+            &mut members,
+            Party {
+                node,
+                agenda: Agenda::new(alloc),
+            },
+        )?;
     }
-    Ok(nodes)
+    Ok(members)
 }
 
 /// One more member.
-fn push_node(nodes: &mut Vec<Node>, node: Node) -> Result<(), OutOfMemory>
-    ensures { OnOk result (nodes.new.items ≡ nodes.old.items ++ node ∷ []) }
+fn push_member(members: &mut Vec<Party>, member: Party) -> Result<(), OutOfMemory>
+    ensures { OnOk result (members.new.items ≡ members.old.items ++ member ∷ []) }
 {
-    nodes.push(node)?;
+    members.push(member)?;
     Ok(())
 }
 
@@ -81,7 +90,7 @@ pub(crate) fn copied(alloc: Global, names: &[Name]) -> Result<Vec<Name>, OutOfMe
 }
 
 impl Parties {
-    ghost use Rattle.std.specs.Prelude.{◌≡◌, [], false, IfOk};
+    ghost use Rattle.std.specs.Prelude.{◌≡◌, [], false, IfOk, length, replicate};
     ghost use Rattle.group_view.specs.Change.{AreOpeningNames};
     ghost use Rattle.ring_cluster.specs.Standing.{StandAfter};
 
@@ -94,11 +103,12 @@ impl Parties {
         requires { AreOpeningNames names.now }
         ensures standing { IfOk result (λ p. StandAfter credit names.now [] p.all) }
         ensures delivered { IfOk result (λ p. p.owes ≡ false) }
+        ensures agendas { IfOk result (λ p. p.agendas ≡ replicate (length names.now) []) }
     {
         let registrar: Registrar<PlainIn<Load>> = Registrar::opening(alloc, names)?;
-        let nodes = opening_nodes(alloc, names, registrar.view(), credit)?;
+        let members = opening_members(alloc, names, registrar.view(), credit)?;
         Ok(Parties {
-            nodes,
+            members,
             registrar,
             late: None,
         })

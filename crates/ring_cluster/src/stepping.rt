@@ -1,5 +1,6 @@
 //! One event of a cluster.
-ghost use Rattle.std.specs.Prelude.{◌≡◌, ◌∷◌, ◌++◌, ◌+◌, ◌<◌, ◌^◌, [], true, length, OnOk, OnErr, IfErr, IfSome, Some, vec_len, vec_capacity};
+ghost use Rattle.std.specs.Prelude.{◌≡◌, ◌∷◌, ◌++◌, ◌+◌, ◌<◌, ◌^◌, [], true, length, OnOk, OnErr, IfErr, IfSome};
+ghost use Rattle.std.specs.Prelude.{Some, vec_len, vec_capacity};
 ghost use Rattle.registrar.specs.Registry.{AreHere, is_known};
 ghost use Rattle.registrar.specs.Handled.{with_link};
 
@@ -10,7 +11,7 @@ use gm_member::Load;
 use group_view::{LinkName, Request};
 use ordered_link::PlainIn;
 use registrar::Registrar;
-use ring_names::{CreditSpec, Name, OutOfMemory, Reason};
+use ring_names::{CreditSpec, Name, OutOfMemory};
 use ring_world::{Event, Refused};
 
 /// The most events of a journal.
@@ -58,32 +59,11 @@ fn deposit(
     ensures err { OnErr result (registrar.new ≡ registrar.old) }
     ensures back { IfErr result (λ l. l ≡ link) }
 {
-    let LinkName {
-        from,
-        to,
-        view,
-        kind,
-    } = name;
-    match registrar.handle(Request::Deposit {
-        by: from,
-        to,
-        view,
-        kind,
-        link,
-    }) {
+    match registrar.handle(Request::deposit(name, link)) {
         Ok(_noted) => Ok(()),
-        Err((request, OutOfMemory)) => match request {
-            Request::Deposit {
-                by: _,
-                to: _,
-                view: _,
-                kind: _,
-                link,
-            } => Err(link),
-            Request::Mark { .. }
-            | Request::Refresh { .. }
-            | Request::Stopped { .. }
-            | Request::Collect { .. } => unreachable!(),
+        Err((request, OutOfMemory)) => match request.into_link() {
+            Ok((_name, link)) => Err(link),
+            Err(_other) => unreachable!(),
         },
     }
 }
@@ -94,7 +74,7 @@ impl Parties {
     ghost use Rattle.ring_names.specs.declared.reason.Reason.{Reason};
     ghost use Rattle.ring_world.specs.declared.phase.Phase.TheVariants.{Up};
     ghost use Rattle.ring_world.specs.Event.{by_of, refusal};
-    ghost use Rattle.ring_cluster.specs.Seen.{state};
+    ghost use Rattle.ring_cluster.specs.Seen.{state, IsEventAt};
     ghost use Rattle.ring_cluster.specs.Parties.{node_at};
     ghost use Rattle.ring_cluster.specs.Tried.{IsJudged};
     ghost use Rattle.ring_cluster.specs.Standing.{StandAfter, StandSomewhere};
@@ -102,18 +82,21 @@ impl Parties {
     ghost use Rattle.ring_cluster.specs.Looking.{loose_seen};
     ghost use Rattle.ring_cluster.specs.Refused.{id_named, NothingWaits};
 
-    /// The event happens, where it is enabled, and joins the journal. Before it what the registrar is owed goes there,
-    /// and the acting member collects the links that wait for it; without memory for that nothing happens, whatever the
-    /// event.
+    /// The event of the member at a place happens, where it is enabled, and joins the journal. Before it what the
+    /// registrar is owed goes there, and the member collects the links that wait for it; without memory for that
+    /// nothing happens, whatever the event.
     pub(crate) fn step(
         &mut self,
         credit: CreditSpec,
         names: &[Name],
         journal: &mut Vec<Event>,
+        i: usize,
         event: &Event,
     ) -> Result<(), Refused>
-        requires { StandAfter credit names.now journal.old.items (self.old).all }
+        requires at { IsEventAt names.now i event.now }
+        requires standing { StandAfter credit names.now journal.old.items (self.old).all }
         ensures standing { StandAfter credit names.now journal.new.items (self.new).all }
+        ensures agendas { (self.new).agendas ≡ (self.old).agendas }
         ensures judged { IsJudged (refusal (state credit names.now journal.old.items) event.now) result }
         ensures ok { OnOk result (journal.new.items ≡ journal.old.items ++ event.now ∷ []) }
         ensures refused { (r : Reason) → refusal (state credit names.now journal.old.items) event.now ≡ Some r
@@ -124,9 +107,6 @@ impl Parties {
         if self.hand_over().is_err() {
             return Err(Refused::OutOfMemory);
         }
-        let Some(i) = self.place_named(event.by()) else {
-            return Err(Refused::NotEnabled(Reason::UnknownMember));
-        };
         if self.collect(i).is_err() {
             return Err(Refused::OutOfMemory);
         }
@@ -154,13 +134,11 @@ impl Parties {
         requires few { length events.now + 1 < 2 ^ 59 }
         requires standing { StandAfter credit names.now events.now (self.old).all }
         ensures standing { OnOk result (StandAfter credit names.now (events.now ++ event.now ∷ []) (self.new).all) }
+        ensures agendas { (self.new).agendas ≡ (self.old).agendas }
         ensures judged { IsJudged (refusal (state credit names.now events.now) event.now) result }
         ensures err { OnErr result (self.new ≡ self.old) }
     {
-        let loose = match self.act(i, event) {
-            Ok(loose) => loose,
-            Err(refused) => return Err(refused),
-        };
+        let loose = self.act(i, event)?;
         self.meet_loose(loose);
         self.meet_moved(i);
         Ok(())
@@ -169,7 +147,8 @@ impl Parties {
     /// An out end that was just replaced meets its other end for the last time, and is dropped.
     fn meet_loose(&mut self, loose: Option<Loose>)
         requires { BetweenSomewhere (self.old).all (loose_seen loose) }
-        ensures { MeetsLoose (self.old).all (loose_seen loose) (self.new).all }
+        ensures meets { MeetsLoose (self.old).all (loose_seen loose) (self.new).all }
+        ensures agendas { (self.new).agendas ≡ (self.old).agendas }
     {
         let Some((name, mut out)) = loose else {
             return;
@@ -180,6 +159,7 @@ impl Parties {
     /// Hands to the registrar what it is owed.
     pub(crate) fn hand_over(&mut self) -> Result<(), OutOfMemory>
         requires { StandSomewhere (self.old).all }
+        ensures agendas { (self.new).agendas ≡ (self.old).agendas }
         ensures same { (self.new).all ≡ (self.old).all }
         ensures ok { OnOk result ((self.new).owes ≡ false) }
         ensures owes { OnErr result (((self.old).owes ≡ true) × ((self.new).owes ≡ true)) }

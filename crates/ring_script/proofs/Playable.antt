@@ -18,7 +18,7 @@ use Rattle.ring_script.specs.Words.{lines_of, words_of, behind_word, is_text_byt
 use Rattle.ring_script.specs.Line.{body_in, is_among, one_word, name_fault, known_fault, number_fault, body_fault, cast_fault}
 use Rattle.ring_script.specs.Script.{keyword_of, command_fault, script_grammar, command_by, command_of, most_turns}
 use Rattle.ring_script.specs.Steps.{step_grammar, event_of}
-use Rattle.ring_script.specs.Reading.{used_of, members_of, IsScriptOf, AreStepsOf, IsCommandTo, IsPlayable, CanOpen}
+use Rattle.ring_script.specs.Reading.{used_of, members_of, IsScriptOf, AreStepsOf, MayBeGiven, IsPlayable, CanOpen}
 use Rattle.ring_script.proofs.Bodies.{behind_word_text, behind_space_text, IsBody-from}
 use Rattle.ring_script.proofs.Names.{none_of_both, among_contains}
 use Rattle.ring_script.proofs.Fitting.{text_fits}
@@ -81,7 +81,7 @@ cast_right members (name ∷ words) body text e =
 -- ---- a command
 
 command_right : (members : List (List ℕ)) (keyword : Option Keyword) (rest : List ℕ) → list_all is_text_byte rest ≡ true → command_fault members keyword rest ≡ None
-    → IsCommandTo members (command_by keyword rest)
+    → MayBeGiven members (command_by keyword rest)
 command_right members (Some Cast) rest text e = cast_right members (words_of rest) (body_in rest) (behind_space_text (behind_word rest) (behind_word_text rest text)) e
 command_right members (Some Go) rest text e = turns_right (words_of rest) e
 command_right members (Some Settle) rest text e = tt
@@ -92,11 +92,11 @@ command_right members None rest text e = cc
 -- what a text spells as a script can be played
 pub script_playable : (bytes : List ℕ) (script : Text Command) → IsScriptOf bytes script → IsPlayable script
 script_playable bytes script h =
-    let fit = text_fits script_grammar command_of IsCommandTo (λ members word rest text e. command_right members (keyword_of word) rest text e) bytes h.right in
+    let fit = text_fits script_grammar command_of MayBeGiven (λ members word rest text e. command_right members (keyword_of word) rest text e) bytes h.right in
     record {
       opens = subst CanOpen (sym h.members) (fit.opening h.right.some);
-      commands = subst (λ names. All (λ line. IsCommandTo names line.1) script.lines) (sym h.members)
-          (subst (All (λ line. IsCommandTo (members_of (used_of (lines_of bytes))) line.1)) (sym h.lines) fit.lines);
+      commands = subst (λ names. All (λ line. MayBeGiven names line.1) script.lines) (sym h.members)
+          (subst (All (λ line. MayBeGiven (members_of (used_of (lines_of bytes))) line.1)) (sym h.lines) fit.lines);
     }
 
 -- a ring can open with the members of a step file

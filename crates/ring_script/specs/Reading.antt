@@ -130,12 +130,12 @@ abbrev pub CanOpen : List (List ℕ) → Type 0
 CanOpen names = AreOpeningNames names × All IsName names
 
 -- a command that the members of these names may be given
-abbrev pub IsCommandTo : List (List ℕ) → Command → Type 0
-IsCommandTo names (command.Cast by body) = Contains names by × IsBody body
-IsCommandTo names (command.Go turns) = (1 ≤ turns) × (turns ≤ most_turns)
-IsCommandTo names command.Settle = ⊤
+abbrev pub MayBeGiven : List (List ℕ) → Command → Type 0
+MayBeGiven names (command.Cast by body) = Contains names by × IsBody body
+MayBeGiven names (command.Go turns) = (1 ≤ turns) × (turns ≤ most_turns)
+MayBeGiven names command.Settle = ⊤
 
 -- a ring can open with the members, each of a fitting name, and be given the commands
 pub record IsPlayable (script : Text Command) : Type 0 where
   pub opens : CanOpen script.members
-  pub commands : All (λ line. IsCommandTo script.members line.1) script.lines
+  pub commands : All (λ line. MayBeGiven script.members line.1) script.lines

@@ -21,7 +21,7 @@ use ring_names::{Body, Message, OutOfMemory};
 use std::alloc::Global;
 
 /// The member at a place publishes a body.
-#[tactic(auto, using(crate::proofs::Found::few_seats, crate::proofs::Found::own_row, crate::proofs::Found::own_got))]
+#[tactic(auto, using(crate::proofs::code::Found::few_seats, crate::proofs::code::Found::own_row, crate::proofs::code::Found::own_got))]
 pub(crate) fn cast(ring: &mut Ring, place: usize, body: &Body) -> Result<(), OutOfMemory>
     requires placed { IsPlaced (world_of ring.old) }
     requires place { place < length ring.old.seats.items }
@@ -35,7 +35,7 @@ pub(crate) fn cast(ring: &mut Ring, place: usize, body: &Body) -> Result<(), Out
 }
 
 /// It puts a packet on its link.
-#[tactic(auto, using(crate::proofs::Rules::sending, crate::proofs::Enabled::put_credit))]
+#[tactic(auto, using(crate::proofs::code::Rules::sending, crate::proofs::events::Enabled::put_credit))]
 pub(crate) fn put(alloc: Global, ring: &mut Ring, place: usize) -> Result<(), OutOfMemory>
     requires placed { IsPlaced (world_of ring.old) }
     requires place { place < length ring.old.seats.items }
@@ -54,7 +54,7 @@ pub(crate) fn put(alloc: Global, ring: &mut Ring, place: usize) -> Result<(), Ou
 }
 
 /// The oldest grant on its link becomes credit.
-#[tactic(auto, using(crate::proofs::Rules::sending, crate::proofs::Enabled::gain_some))]
+#[tactic(auto, using(crate::proofs::code::Rules::sending, crate::proofs::events::Enabled::gain_some))]
 pub(crate) fn gain(ring: &mut Ring, place: usize)
     requires placed { IsPlaced (world_of ring.old) }
     requires place { place < length ring.old.seats.items }
@@ -72,7 +72,7 @@ pub(crate) fn gain(ring: &mut Ring, place: usize)
 }
 
 /// It takes a packet.
-#[tactic(auto, using(crate::proofs::Rules::receiving, crate::proofs::Enabled::take_some))]
+#[tactic(auto, using(crate::proofs::code::Rules::receiving, crate::proofs::events::Enabled::take_some))]
 pub(crate) fn take(alloc: Global, ring: &mut Ring, place: usize) -> Result<(), OutOfMemory>
     requires placed { IsPlaced (world_of ring.old) }
     requires place { place < length ring.old.seats.items }
@@ -92,7 +92,7 @@ pub(crate) fn take(alloc: Global, ring: &mut Ring, place: usize) -> Result<(), O
 }
 
 /// It has taken its link to its end.
-#[tactic(auto, using(crate::proofs::Rules::receiving))]
+#[tactic(auto, using(crate::proofs::code::Rules::receiving))]
 pub(crate) fn take_end(ring: &mut Ring, place: usize)
     requires placed { IsPlaced (world_of ring.old) }
     requires place { place < length ring.old.seats.items }
@@ -113,7 +113,7 @@ pub(crate) fn take_end(ring: &mut Ring, place: usize)
 }
 
 /// It takes from the link at its door from now on.
-#[tactic(auto, using(crate::proofs::Rules::picking))]
+#[tactic(auto, using(crate::proofs::code::Rules::picking))]
 pub(crate) fn pick(ring: &mut Ring, place: usize)
     requires placed { IsPlaced (world_of ring.old) }
     requires place { place < length ring.old.seats.items }
@@ -131,7 +131,7 @@ pub(crate) fn pick(ring: &mut Ring, place: usize)
 }
 
 /// It stops, and the link that it sends on ends.
-#[tactic(auto, using(crate::proofs::ShownParts::read_member))]
+#[tactic(auto, using(crate::proofs::code::ShownParts::read_member))]
 pub(crate) fn stop(ring: &mut Ring, place: usize)
     requires placed { IsPlaced (world_of ring.old) }
     requires place { place < length ring.old.seats.items }

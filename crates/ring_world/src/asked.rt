@@ -18,7 +18,7 @@ use ring_names::{MemberId, Message, Name, OutOfMemory};
 use std::alloc::Global;
 
 /// What a member has heard of an origin.
-#[tactic(auto, using(crate::proofs::ShownParts::read_row))]
+#[tactic(auto, using(crate::proofs::code::ShownParts::read_row))]
 fn heard_from(alloc: Global, seat: &Seat, origin: usize) -> Result<Vec<Message>, OutOfMemory>
     requires { origin < length seat.now.rows.items }
     ensures { IfOk result (λ v. v.items ≡ (row_at (member_of seat.now) origin).heard) }
@@ -28,7 +28,7 @@ fn heard_from(alloc: Global, seat: &Seat, origin: usize) -> Result<Vec<Message>,
 }
 
 /// What the member at a place has heard of that at another.
-#[tactic(auto, using(crate::proofs::ShownParts::read_member, crate::proofs::Found::row_there))]
+#[tactic(auto, using(crate::proofs::code::ShownParts::read_member, crate::proofs::code::Found::row_there))]
 pub(crate) fn heard_at(
     alloc: Global,
     ring: &Ring,
@@ -55,7 +55,7 @@ fn state_of(phase: Phase) -> MemberState
 }
 
 /// Where the member at a place stands.
-#[tactic(auto, using(crate::proofs::ShownParts::read_member))]
+#[tactic(auto, using(crate::proofs::code::ShownParts::read_member))]
 pub(crate) fn state_at(ring: &Ring, place: usize) -> MemberState
     requires { place < length ring.now.seats.items }
     ensures { result ≡ the_state (member_at (world_of ring.now) (suc place)).phase }
@@ -87,7 +87,7 @@ pub(crate) fn heard_named(
 }
 
 /// The id of the member of a name.
-#[tactic(auto, using(crate::proofs::Found::few_seats))]
+#[tactic(auto, using(crate::proofs::code::Found::few_seats))]
 pub(crate) fn member_named(ring: &Ring, name: &Name) -> Option<MemberId>
     requires { IsPlaced (world_of ring.now) }
     ensures { result ≡ the_id_at (the_id (world_of ring.now) name.now) }
@@ -105,7 +105,7 @@ fn counts_of(seat: &Seat, id: usize) -> Counts
 }
 
 /// The same of the member at a place.
-#[tactic(auto, using(crate::proofs::ShownParts::read_member, crate::proofs::Found::few_seats))]
+#[tactic(auto, using(crate::proofs::code::ShownParts::read_member, crate::proofs::code::Found::few_seats))]
 pub(crate) fn counts_at(ring: &Ring, place: usize) -> Counts
     requires placed { IsPlaced (world_of ring.now) }
     requires place { place < length ring.now.seats.items }

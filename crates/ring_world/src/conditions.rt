@@ -24,7 +24,7 @@ pub(crate) fn is_known(need: u32, have: u32) -> Result<(), Reason>
 }
 
 /// Whether the member at a place may publish.
-#[tactic(auto, using(crate::proofs::ShownParts::read_member))]
+#[tactic(auto, using(crate::proofs::code::ShownParts::read_member))]
 pub(crate) fn may_cast(ring: &Ring, place: usize) -> Result<(), Reason>
     requires { place < length ring.now.seats.items }
     ensures { result ≡ answer_of (up_refusal (world_of ring.now) (suc place) None) }
@@ -34,7 +34,7 @@ pub(crate) fn may_cast(ring: &Ring, place: usize) -> Result<(), Reason>
 }
 
 /// The link on which the member at a place sends, where it is up.
-#[tactic(auto, using(crate::proofs::ShownParts::read_member, crate::proofs::Found::out_within))]
+#[tactic(auto, using(crate::proofs::code::ShownParts::read_member, crate::proofs::code::Found::out_within))]
 fn out_link(ring: &Ring, place: usize) -> Result<usize, Reason>
     requires placed { IsPlaced (world_of ring.now) }
     requires place { place < length ring.now.seats.items }
@@ -51,7 +51,7 @@ fn out_link(ring: &Ring, place: usize) -> Result<usize, Reason>
 }
 
 /// Whether it may put a packet on that link.
-#[tactic(auto, using(crate::proofs::ShownParts::read_member, crate::proofs::ShownParts::read_link))]
+#[tactic(auto, using(crate::proofs::code::ShownParts::read_member, crate::proofs::code::ShownParts::read_link))]
 fn may_put_on(ring: &Ring, place: usize, out: usize) -> Result<(), Reason>
     requires place { place < length ring.now.seats.items }
     requires out { out < length ring.now.wires.items }
@@ -80,7 +80,7 @@ pub(crate) fn may_put(ring: &Ring, place: usize) -> Result<(), Reason>
 }
 
 /// Whether it may gain credit.
-#[tactic(auto, using(crate::proofs::ShownParts::read_link))]
+#[tactic(auto, using(crate::proofs::code::ShownParts::read_link))]
 pub(crate) fn may_gain(ring: &Ring, place: usize) -> Result<(), Reason>
     requires placed { IsPlaced (world_of ring.now) }
     requires place { place < length ring.now.seats.items }
@@ -96,7 +96,7 @@ pub(crate) fn may_gain(ring: &Ring, place: usize) -> Result<(), Reason>
 }
 
 /// The link from which the member at a place takes, where it runs.
-#[tactic(auto, using(crate::proofs::ShownParts::read_member, crate::proofs::Found::current_within))]
+#[tactic(auto, using(crate::proofs::code::ShownParts::read_member, crate::proofs::code::Found::current_within))]
 fn current_link(ring: &Ring, place: usize) -> Result<usize, Reason>
     requires placed { IsPlaced (world_of ring.now) }
     requires place { place < length ring.now.seats.items }
@@ -113,7 +113,7 @@ fn current_link(ring: &Ring, place: usize) -> Result<usize, Reason>
 }
 
 /// Whether it may take a packet.
-#[tactic(auto, using(crate::proofs::ShownParts::read_member, crate::proofs::ShownParts::read_link))]
+#[tactic(auto, using(crate::proofs::code::ShownParts::read_member, crate::proofs::code::ShownParts::read_link))]
 pub(crate) fn may_take(ring: &Ring, place: usize) -> Result<(), Reason>
     requires placed { IsPlaced (world_of ring.now) }
     requires place { place < length ring.now.seats.items }
@@ -133,7 +133,7 @@ pub(crate) fn may_take(ring: &Ring, place: usize) -> Result<(), Reason>
 }
 
 /// Whether it may take the end of its link.
-#[tactic(auto, using(crate::proofs::ShownParts::read_link))]
+#[tactic(auto, using(crate::proofs::code::ShownParts::read_link))]
 pub(crate) fn may_take_end(ring: &Ring, place: usize) -> Result<(), Reason>
     requires placed { IsPlaced (world_of ring.now) }
     requires place { place < length ring.now.seats.items }
@@ -153,7 +153,7 @@ pub(crate) fn may_take_end(ring: &Ring, place: usize) -> Result<(), Reason>
 }
 
 /// Whether it may stop.
-#[tactic(auto, using(crate::proofs::ShownParts::read_member))]
+#[tactic(auto, using(crate::proofs::code::ShownParts::read_member))]
 pub(crate) fn may_stop(ring: &Ring, place: usize) -> Result<(), Reason>
     requires { place < length ring.now.seats.items }
     ensures { result ≡ answer_of (running_refusal (world_of ring.now) (suc place) None) }

@@ -57,7 +57,7 @@ pub(crate) fn step(alloc: Global, ring: &mut Ring, event: &Event) -> Result<(), 
 }
 
 /// An enabled event of the member at a place happens.
-#[tactic(auto, using(crate::proofs::Rules::happening))]
+#[tactic(auto, using(crate::proofs::code::Rules::happening))]
 fn step_at(alloc: Global, ring: &mut Ring, place: usize, event: &Event) -> Result<(), OutOfMemory>
     requires ready { IsReady (world_of ring.old) }
     requires place { place < length ring.old.seats.items }

@@ -17,7 +17,7 @@ use ring_names::{MemberId, OutOfMemory};
 use std::alloc::Global;
 
 /// The view without an entry that lives in it.
-#[tactic(auto, using(crate::proofs::Looks::nobody_refuses))]
+#[tactic(auto, using(crate::proofs::code::Looks::nobody_refuses))]
 fn without(view: &View, dead: u32) -> Result<View, OutOfMemory>
     requires { is_live view.now dead ≡ true }
     ensures { IfOk result (λ next. next ≡ marked view.now dead) }
@@ -47,7 +47,7 @@ fn pop_view(views: &mut Vec<View>)
 }
 
 /// The member at a place has the member at another marked dead, and reads the view that follows.
-#[tactic(auto, using(crate::proofs::Enabled::mark_lives, crate::proofs::Enabled::mark_stops))]
+#[tactic(auto, using(crate::proofs::events::Enabled::mark_lives, crate::proofs::events::Enabled::mark_stops))]
 pub(crate) fn mark(
     alloc: Global,
     ring: &mut Ring,

@@ -16,7 +16,7 @@ use crate::state::Ring;
 use ring_names::{MemberId, Name, Reason};
 
 /// Whether the member at a place may pick the oldest link at its door.
-#[tactic(auto, using(crate::proofs::ShownParts::read_member, crate::proofs::ShownParts::read_link))]
+#[tactic(auto, using(crate::proofs::code::ShownParts::read_member, crate::proofs::code::ShownParts::read_link))]
 fn may_pick_at_door(ring: &Ring, place: usize) -> Result<(), Reason>
     requires { IsUpAt ring.now place }
     ensures { result ≡ answer_of (pick_refusal (world_of ring.now) (suc place)) }
@@ -28,7 +28,7 @@ fn may_pick_at_door(ring: &Ring, place: usize) -> Result<(), Reason>
 }
 
 /// Whether it may pick a link.
-#[tactic(auto, using(crate::proofs::ShownParts::read_member))]
+#[tactic(auto, using(crate::proofs::code::ShownParts::read_member))]
 pub(crate) fn may_pick(ring: &Ring, place: usize) -> Result<(), Reason>
     requires placed { IsPlaced (world_of ring.now) }
     requires place { place < length ring.now.seats.items }
@@ -44,7 +44,7 @@ pub(crate) fn may_pick(ring: &Ring, place: usize) -> Result<(), Reason>
 }
 
 /// Whether it still takes from its left neighbour of that id, or could.
-#[tactic(auto, using(crate::proofs::ShownParts::read_member))]
+#[tactic(auto, using(crate::proofs::code::ShownParts::read_member))]
 fn is_still_taken(ring: &Ring, place: usize, dead: u32) -> bool
     requires { IsUpAt ring.now place }
     ensures { result ≡ still_taken (world_of ring.now) (suc place) dead }
@@ -54,7 +54,7 @@ fn is_still_taken(ring: &Ring, place: usize, dead: u32) -> bool
 }
 
 /// Whether it may have the member at another place marked dead.
-#[tactic(auto, using(crate::proofs::ShownParts::read_member))]
+#[tactic(auto, using(crate::proofs::code::ShownParts::read_member))]
 fn may_mark_at(ring: &Ring, place: usize, dead: usize) -> Result<(), Reason>
     requires up { IsUpAt ring.now place }
     requires dead { dead < length ring.now.seats.items }
@@ -77,7 +77,7 @@ fn may_mark_at(ring: &Ring, place: usize, dead: usize) -> Result<(), Reason>
 }
 
 /// Whether it may have the member of a name marked dead.
-#[tactic(auto, using(crate::proofs::ShownParts::read_member))]
+#[tactic(auto, using(crate::proofs::code::ShownParts::read_member))]
 pub(crate) fn may_mark(ring: &Ring, place: usize, dead: &Name) -> Result<(), Reason>
     requires placed { IsPlaced (world_of ring.now) }
     requires place { place < length ring.now.seats.items }
@@ -93,7 +93,7 @@ pub(crate) fn may_mark(ring: &Ring, place: usize, dead: &Name) -> Result<(), Rea
 }
 
 /// Whether it may read the view of a version.
-#[tactic(auto, using(crate::proofs::ShownParts::read_member))]
+#[tactic(auto, using(crate::proofs::code::ShownParts::read_member))]
 pub(crate) fn may_refresh(ring: &Ring, place: usize, version: u32) -> Result<(), Reason>
     requires placed { IsPlaced (world_of ring.now) }
     requires place { place < length ring.now.seats.items }

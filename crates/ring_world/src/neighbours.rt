@@ -37,7 +37,7 @@ pub(crate) fn right_in(view: &View, id: u32) -> u32
 }
 
 /// The view of a version.
-#[tactic(auto, using(crate::proofs::ShownParts::view_read))]
+#[tactic(auto, using(crate::proofs::code::ShownParts::view_read))]
 pub(crate) fn view_of(views: &[View], version: u32) -> &View
     requires some { 1 ≤ version }
     requires within { version ≤ length views.now }
@@ -119,7 +119,7 @@ pub(crate) fn at_door(ring: &Ring, place: usize) -> Option<usize>
 }
 
 /// Whether the receiver has had the sender at its left in each view from `opened` up to a version.
-#[tactic(auto, using(crate::proofs::Looks::kept_yes, crate::proofs::Looks::kept_no))]
+#[tactic(auto, using(crate::proofs::code::Looks::kept_yes, crate::proofs::code::Looks::kept_no))]
 pub(crate) fn is_kept(views: &[View], receiver: u32, sender: u32, opened: u32, version: u32) -> bool
     requires some { 1 ≤ opened }
     requires within { version ≤ length views.now }

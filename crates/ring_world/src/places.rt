@@ -23,7 +23,7 @@ fn first_named(seats: &[Seat], name: &Name) -> Option<usize>
 }
 
 /// The place of the member of that name in the ring.
-#[tactic(auto, using(crate::proofs::Found::named_place))]
+#[tactic(auto, using(crate::proofs::code::Found::named_place))]
 pub(crate) fn place_in(ring: &Ring, name: &Name) -> Option<usize>
     ensures place { option_map suc result ≡ the_id (world_of ring.now) name.now }
     ensures within { IfSome result (λ place. place < length ring.now.seats.items) }

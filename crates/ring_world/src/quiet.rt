@@ -15,7 +15,7 @@ use crate::walk::{is_open, running_place};
 use group_view::{Entry, Mark};
 
 /// Whether no link holds an item that is open to the running member at a place.
-#[tactic(auto, using(crate::proofs::ShownParts::read_link))]
+#[tactic(auto, using(crate::proofs::code::ShownParts::read_link))]
 fn has_nothing_to_take(ring: &Ring, place: usize) -> bool
     requires { IsRunningAt ring.now place }
     ensures { IsTrue result ↔ ((s : ℕ) → s < length ring.now.wires.items
@@ -38,7 +38,7 @@ fn has_come_round(seat: &Seat, id: usize) -> bool
 }
 
 /// Whether the running member at a place rests.
-#[tactic(auto, using(crate::proofs::ShownParts::read_member, crate::proofs::Found::few_seats))]
+#[tactic(auto, using(crate::proofs::code::ShownParts::read_member, crate::proofs::code::Found::few_seats))]
 fn is_resting(ring: &Ring, place: usize) -> bool
     requires { IsRunningAt ring.now place }
     ensures { IsTrue result ↔ IsResting (world_of ring.now) (suc place) }
@@ -57,7 +57,7 @@ fn is_resting(ring: &Ring, place: usize) -> bool
 }
 
 /// Whether every running member rests.
-#[tactic(auto, using(crate::proofs::ShownParts::read_member))]
+#[tactic(auto, using(crate::proofs::code::ShownParts::read_member))]
 fn all_rest(ring: &Ring) -> bool
     requires { IsPlaced (world_of ring.now) }
     ensures { IsTrue result ↔ ((y : ℕ) → runs_at (world_of ring.now) y ≡ true
@@ -95,7 +95,7 @@ fn are_settled(ring: &Ring, entries: &[Entry]) -> bool
 }
 
 /// Whether every member has stopped.
-#[tactic(auto, using(crate::proofs::ShownParts::read_member))]
+#[tactic(auto, using(crate::proofs::code::ShownParts::read_member))]
 fn nobody_runs(ring: &Ring) -> bool
     ensures { IsTrue result ↔ ((y : ℕ) → runs_at (world_of ring.now) y ≡ false) }
 {

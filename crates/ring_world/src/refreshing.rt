@@ -20,7 +20,7 @@ use ring_names::OutOfMemory;
 use std::alloc::Global;
 
 /// Whether a link is kept up to a version.
-#[tactic(auto, using(crate::proofs::ShownParts::read_link))]
+#[tactic(auto, using(crate::proofs::code::ShownParts::read_link))]
 fn is_link_kept(ring: &Ring, link: usize, version: u32) -> bool
     requires placed { IsPlaced (world_of ring.now) }
     requires link { link < length ring.now.wires.items }
@@ -38,7 +38,7 @@ fn is_link_kept(ring: &Ring, link: usize, version: u32) -> bool
 }
 
 /// What stays of the current link of the member at a place.
-#[tactic(auto, using(crate::proofs::ShownParts::read_member, crate::proofs::Found::current_at))]
+#[tactic(auto, using(crate::proofs::code::ShownParts::read_member, crate::proofs::code::Found::current_at))]
 fn kept_current(ring: &Ring, place: usize, version: u32) -> Option<usize>
     requires up { IsUpAt ring.now place }
     requires upto { version ≤ the_newest (world_of ring.now) }
@@ -59,7 +59,7 @@ fn kept_current(ring: &Ring, place: usize, version: u32) -> Option<usize>
 }
 
 /// Whether it sends to a receiver already.
-#[tactic(auto, using(crate::proofs::Rules::reading, crate::proofs::Found::out_at))]
+#[tactic(auto, using(crate::proofs::code::Rules::reading, crate::proofs::code::Found::out_at))]
 fn sends_to(ring: &Ring, place: usize, receiver: u32) -> bool
     requires { IsUpAt ring.now place }
     ensures { result ≡ the_sends_to (world_of ring.now) receiver
@@ -151,7 +151,7 @@ fn move_to(
 }
 
 /// The member at a place reads the view of a version.
-#[tactic(auto, using(crate::proofs::Looks::refreshed_stays, crate::proofs::Looks::refreshed_moves))]
+#[tactic(auto, using(crate::proofs::code::Looks::refreshed_stays, crate::proofs::code::Looks::refreshed_moves))]
 pub(crate) fn refresh(
     alloc: Global,
     ring: &mut Ring,

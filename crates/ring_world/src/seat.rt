@@ -140,7 +140,7 @@ impl Seat {
     }
 
     /// Publishes a message; the member's id is given.
-    #[tactic(auto, using(crate::proofs::Rules::publishing_rows))]
+    #[tactic(auto, using(crate::proofs::code::Rules::publishing_rows))]
     pub(crate) fn publish(&mut self, id: usize, message: Message) -> Result<(), OutOfMemory>
         requires row { id < length self.old.rows.items }
         requires own { (row_at (member_of self.old) id).got ≡ length self.old.log.items }
@@ -183,7 +183,7 @@ pub(crate) fn opening_rows(alloc: Global, size: usize) -> Result<Vec<KnownOrigin
 }
 
 /// Makes room in each row for its news.
-#[tactic(auto, using(crate::proofs::ShownParts::rewrite_row))]
+#[tactic(auto, using(crate::proofs::code::ShownParts::rewrite_row))]
 fn make_room(rows: &mut [KnownOrigin], news: &[Brought]) -> Result<(), OutOfMemory>
     requires { length rows.old ≡ length news.now }
     ensures same { map row_of rows.new ≡ map row_of rows.old }

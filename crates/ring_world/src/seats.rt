@@ -9,7 +9,7 @@ use crate::seat::Seat;
 use ring_names::{Message, OutOfMemory};
 
 /// The member at a place publishes a message.
-#[tactic(auto, using(crate::proofs::Rules::publishing))]
+#[tactic(auto, using(crate::proofs::code::Rules::publishing))]
 pub(crate) fn publish(
     seats: &mut [Seat],
     place: usize,
@@ -29,7 +29,7 @@ pub(crate) fn publish(
 }
 
 /// It takes from this link, or from none.
-#[tactic(auto, using(crate::proofs::ShownParts::current_seats))]
+#[tactic(auto, using(crate::proofs::code::ShownParts::current_seats))]
 pub(crate) fn set_current(seats: &mut [Seat], place: usize, current: Option<usize>)
     requires { place < length seats.old }
     ensures { map member_of seats.new ≡ slice_set (map member_of seats.old) place
@@ -39,7 +39,7 @@ pub(crate) fn set_current(seats: &mut [Seat], place: usize, current: Option<usiz
 }
 
 /// It stops.
-#[tactic(auto, using(crate::proofs::ShownParts::stopped_seats))]
+#[tactic(auto, using(crate::proofs::code::ShownParts::stopped_seats))]
 pub(crate) fn stop(seats: &mut [Seat], place: usize)
     requires { place < length seats.old }
     ensures { map member_of seats.new ≡ slice_set (map member_of seats.old) place
@@ -49,7 +49,7 @@ pub(crate) fn stop(seats: &mut [Seat], place: usize)
 }
 
 /// It has the view of a version, and this current link.
-#[tactic(auto, using(crate::proofs::ShownParts::looked_seats))]
+#[tactic(auto, using(crate::proofs::code::ShownParts::looked_seats))]
 pub(crate) fn look(seats: &mut [Seat], place: usize, version: u32, current: Option<usize>)
     requires { place < length seats.old }
     ensures { map member_of seats.new ≡ slice_set (map member_of seats.old) place
@@ -59,7 +59,7 @@ pub(crate) fn look(seats: &mut [Seat], place: usize, version: u32, current: Opti
 }
 
 /// It sends on this link.
-#[tactic(auto, using(crate::proofs::ShownParts::sending_seats))]
+#[tactic(auto, using(crate::proofs::code::ShownParts::sending_seats))]
 pub(crate) fn set_out(seats: &mut [Seat], place: usize, out: usize)
     requires { place < length seats.old }
     ensures { map member_of seats.new ≡ slice_set (map member_of seats.old) place

@@ -17,7 +17,7 @@ use ring_names::{CreditSpec, Name, OutOfMemory};
 use std::alloc::Global;
 
 /// The member at a place.
-#[tactic(auto, using(crate::proofs::Starts::opening_stands, crate::proofs::Starts::name_at))]
+#[tactic(auto, using(crate::proofs::code::Starts::opening_stands, crate::proofs::code::Starts::name_at))]
 fn opening_seat(
     alloc: Global,
     view: &View,
@@ -58,7 +58,7 @@ fn opening_seats(alloc: Global, view: &View, names: &[Name]) -> Result<Vec<Seat>
 }
 
 /// The link of the member at a place.
-#[tactic(auto, using(crate::proofs::Starts::opening_stands))]
+#[tactic(auto, using(crate::proofs::code::Starts::opening_stands))]
 fn opening_wire(
     alloc: Global,
     view: &View,

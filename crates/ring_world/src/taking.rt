@@ -48,7 +48,7 @@ fn messages_for(
 }
 
 /// What it brings of the origin of an id; nobody has id 0, and a log without messages.
-#[tactic(auto, using(crate::proofs::ShownParts::read_member, crate::proofs::Taken::nobody_brings))]
+#[tactic(auto, using(crate::proofs::code::ShownParts::read_member, crate::proofs::code::Taken::nobody_brings))]
 fn messages_of(
     alloc: Global,
     own: bool,
@@ -98,7 +98,7 @@ fn all_news(
 }
 
 /// All that wants memory comes first, so that without it nothing has changed.
-#[tactic(auto, using(crate::proofs::ShownParts::rewrite_seat))]
+#[tactic(auto, using(crate::proofs::code::ShownParts::rewrite_seat))]
 fn take_packet(
     alloc: Global,
     seats: &mut [Seat],
@@ -128,7 +128,7 @@ fn take_packet(
 }
 
 /// The member at a place takes the oldest packet from its link.
-#[tactic(auto, using(crate::proofs::Found::few_seats))]
+#[tactic(auto, using(crate::proofs::code::Found::few_seats))]
 pub(crate) fn take(
     alloc: Global,
     ring: &mut Ring,

@@ -97,7 +97,7 @@ impl Round {
 }
 
 /// The number of the member at a place: a waiting one has that of its first packet.
-#[tactic(auto, using(crate::proofs::Rules::reading, crate::proofs::Found::current_within))]
+#[tactic(auto, using(crate::proofs::code::Rules::reading, crate::proofs::code::Found::current_within))]
 fn own_number(ring: &Ring, round: Round, origin: usize, place: usize) -> u64
     requires placed { IsPlaced (world_of ring.now) }
     requires place { place < length ring.now.seats.items }
@@ -141,7 +141,7 @@ fn is_current(seat: &Seat, s: usize) -> bool
 }
 
 /// Whether a link is open to the running member at a place.
-#[tactic(auto, using(crate::proofs::ShownParts::read_member, crate::proofs::ShownParts::read_link))]
+#[tactic(auto, using(crate::proofs::code::ShownParts::read_member, crate::proofs::code::ShownParts::read_link))]
 pub(crate) fn is_open(ring: &Ring, place: usize, s: usize) -> bool
     requires runs { IsRunningAt ring.now place }
     requires link { s < length ring.now.wires.items }
@@ -165,7 +165,7 @@ fn is_late(view: &View, origin: u32, id: u32, sender: u32) -> bool
 }
 
 /// Whether a link that is open to a member counts.
-#[tactic(auto, using(crate::proofs::ShownParts::read_link))]
+#[tactic(auto, using(crate::proofs::code::ShownParts::read_link))]
 fn is_counted(ring: &Ring, part: Part, origin: u32, place: usize, s: usize) -> bool
     requires placed { IsPlaced (world_of ring.now) }
     requires place { place < length ring.now.seats.items }
@@ -182,7 +182,7 @@ fn is_counted(ring: &Ring, part: Part, origin: u32, place: usize, s: usize) -> b
 }
 
 /// The packets that count of a link that is open to a member: a waiting one has its first packet's numbers.
-#[tactic(auto, using(crate::proofs::ShownParts::read_member, crate::proofs::ShownParts::read_link))]
+#[tactic(auto, using(crate::proofs::code::ShownParts::read_member, crate::proofs::code::ShownParts::read_link))]
 fn packets_of(ring: &Ring, place: usize, s: usize) -> &[Packet]
     requires place { place < length ring.now.seats.items }
     requires link { s < length ring.now.wires.items }

@@ -12,7 +12,7 @@ use ring_names::OutOfMemory;
 use std::alloc::Global;
 
 /// A member puts its next packet on a link.
-#[tactic(auto, using(crate::proofs::Rules::putting))]
+#[tactic(auto, using(crate::proofs::code::Rules::putting))]
 pub(crate) fn put(
     alloc: Global,
     wires: &mut [Wire],
@@ -31,7 +31,7 @@ pub(crate) fn put(
 }
 
 /// The oldest grant on a link becomes credit.
-#[tactic(auto, using(crate::proofs::ShownParts::read_link, crate::proofs::ShownParts::gained_wires))]
+#[tactic(auto, using(crate::proofs::code::ShownParts::read_link, crate::proofs::code::ShownParts::gained_wires))]
 pub(crate) fn gain(wires: &mut [Wire], out: usize)
     requires out { out < length wires.old }
     requires some { is_empty (link_in wires.old out).flow.grants ≡ false }
@@ -42,7 +42,7 @@ pub(crate) fn gain(wires: &mut [Wire], out: usize)
 }
 
 /// The end of a link was taken.
-#[tactic(auto, using(crate::proofs::ShownParts::finished_wires))]
+#[tactic(auto, using(crate::proofs::code::ShownParts::finished_wires))]
 pub(crate) fn finish(wires: &mut [Wire], current: usize)
     requires { current < length wires.old }
     ensures { map link_of wires.new
@@ -52,7 +52,7 @@ pub(crate) fn finish(wires: &mut [Wire], current: usize)
 }
 
 /// A link ends so, if it hasn't ended yet.
-#[tactic(auto, using(crate::proofs::ShownParts::ended_wires))]
+#[tactic(auto, using(crate::proofs::code::ShownParts::ended_wires))]
 pub(crate) fn end(wires: &mut [Wire], out: usize, why: Ending)
     requires { out < length wires.old }
     ensures { map link_of wires.new

@@ -76,7 +76,7 @@ impl World {
     }
 
     /// The newest view.
-    #[tactic(auto, using(crate::proofs::Running::running_placed))]
+    #[tactic(auto, using(crate::proofs::code::Running::running_placed))]
     pub fn view(&self) -> &View
         ensures { result.now ≡ view_at self.now (newest self.now) }
     {
@@ -87,7 +87,7 @@ impl World {
     /// each further running member with the packets open to it say that they got, and the late packets; the same of
     /// what was forgotten; and how much the owner has retired. It is empty where every member has stopped, and for a
     /// name that nobody has.
-    #[tactic(auto, using(crate::proofs::Running::running_placed, crate::proofs::HeldLaws::named_falls))]
+    #[tactic(auto, using(crate::proofs::code::Running::running_placed, crate::proofs::code::HeldLaws::named_falls))]
     pub fn walk(&self, of: &Name) -> Result<Vec<u64>, OutOfMemory>
         ensures walk { IfOk result (λ walk. walk.items ≡ walk_named self.now (id_of self.now of.now)) }
         ensures falls { IfOk result (λ walk. NeverRises walk.items) }
@@ -148,7 +148,7 @@ impl World {
     }
 
     /// The first condition of the event that fails, if one fails. It wants no memory.
-    #[tactic(auto, using(crate::proofs::Running::running_placed))]
+    #[tactic(auto, using(crate::proofs::code::Running::running_placed))]
     pub fn enabled(&self, event: &Event) -> Result<(), Reason>
         ensures { result ≡ answer_of (refusal self.now event.now) }
     {

@@ -14,17 +14,17 @@ use Rattle.ring_world.specs.Step.{opening}
 use Rattle.ring_world.specs.Event.{IsRun, effect, last}
 use Rattle.ring_world.specs.Laws.{IsLawful, GoesOn}
 use Rattle.ring_world.specs.Quiet.{IsQuiet}
-use Rattle.ring_world.proofs.Names.{own_bytes}
-use Rattle.ring_world.proofs.InOrder.{last_append}
-use Rattle.ring_world.proofs.AllRuns.{every_state_lawful, every_run_goes_on}
+use Rattle.ring_world.proofs.events.Names.{own_bytes}
+use Rattle.ring_world.proofs.runs.InOrder.{last_append}
+use Rattle.ring_world.proofs.runs.AllRuns.{every_state_lawful, every_run_goes_on}
 use Rattle.ring_cluster.specs.Seen.{Seen, IsGoing, state_of, opening_seen}
 use Rattle.ring_cluster.specs.Idle.{NobodyStopped}
 use Rattle.ring_cluster.specs.Plays.{Plays, HasGoneOn, AgendasAreEmpty, place_among}
 use Rattle.ring_cluster.specs.Plays as cluster
-use Rattle.ring_cluster.proofs.Alive.{nobody_stopped_before}
-use Rattle.ring_cluster.proofs.Heard.{run_quiet_has_heard}
+use Rattle.ring_cluster.proofs.rounds.Alive.{nobody_stopped_before}
+use Rattle.ring_cluster.proofs.work.Heard.{run_quiet_has_heard}
 use Rattle.ring_script.specs.declared.text.Text.{Text}
-use Rattle.ring_script.specs.Reading.{IsCommandTo}
+use Rattle.ring_script.specs.Reading.{MayBeGiven}
 use Rattle.ringplay.specs.Report.{report_of}
 use Rattle.ringplay.specs.Call.{state_after, IsLawfulRun, SameRing, commands_on, given_of, IsPlayedBy}
 
@@ -49,7 +49,7 @@ pub known_place : (names : List (List ℕ)) (by : List ℕ) → Contains names b
 known_place names by (k, l, e) = position_there (λ n. bytes_eq n by) names k by l (ap (λ n. bytes_eq n by) e ∙ own_bytes by)
 
 -- a command of a script, but for rounds and settlings, is one to a member
-pub known_command_of : (names : List (List ℕ)) (x : Command) → ((turns : ℕ) → x ≡ command.Go turns → ⊥) → (x ≡ command.Settle → ⊥) → IsCommandTo names x → cluster.IsCommandTo names x
+pub known_command_of : (names : List (List ℕ)) (x : Command) → ((turns : ℕ) → x ≡ command.Go turns → ⊥) → (x ≡ command.Settle → ⊥) → MayBeGiven names x → cluster.IsCommandTo names x
 known_command_of names (command.Cast by body) ng ns h = known_place names by h.0
 known_command_of names (command.Go turns) ng ns h = ng turns refl
 known_command_of names command.Settle ng ns h = ns refl

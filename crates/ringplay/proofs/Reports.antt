@@ -11,7 +11,7 @@ use Rattle.ring_world.specs.Asked.{counts_of}
 use Rattle.gm_member.specs.Held.{Held, known_at}
 use Rattle.gm_member.proofs.Fit.{IsFit}
 use Rattle.gm_member.proofs.Facts.{held_row}
-use Rattle.ring_cluster.proofs.Holding.{IsHeld}
+use Rattle.ring_cluster.proofs.rounds.Holding.{IsHeld}
 use Rattle.ringplay.specs.Report.{name_of, newest_view, member_line, counts_lines, heard_line, heard_from, heard_lines, while_up, lines_of_member}
 
 -- the numbers from a on, and the next one

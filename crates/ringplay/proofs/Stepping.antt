@@ -5,7 +5,7 @@ use Rattle.ring_script.specs.declared.text.Text.{Text}
 use Rattle.ring_world.specs.declared.event.Event.{Event}
 use Rattle.ring_world.specs.Step.{opening}
 use Rattle.ring_world.specs.Event.{refusal, last}
-use Rattle.ring_world.proofs.InOrder.{last_append}
+use Rattle.ring_world.proofs.runs.InOrder.{last_append}
 use Rattle.ring_cluster.specs.Seen.{Seen, IsGoing, state_of, opening_seen}
 use Rattle.ring_cluster.specs.Plays.{agenda_at}
 use Rattle.ringplay.specs.Report.{report_of}

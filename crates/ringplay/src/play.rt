@@ -1,6 +1,6 @@
 //! Playing a script.
 ghost use Rattle.std.specs.Prelude.{◌≡◌, ◌∷◌, ◌++◌, [], Some, All, IfOk, OnOk};
-ghost use Rattle.ring_script.specs.Reading.{IsPlayable, IsCommandTo};
+ghost use Rattle.ring_script.specs.Reading.{IsPlayable, MayBeGiven};
 ghost use Rattle.ring_cluster.specs.Plays.{PlaysSoFar};
 ghost use Rattle.ringplay.specs.Call.{SameRing, IsPlayedBy, commands_on};
 
@@ -60,7 +60,7 @@ fn perform<T: Threads, G: Gate>(
     lines: Vec<(u32, Command)>,
     gate: &G,
 ) -> Result<(), OutOfMemory>
-    requires known { All (λ line. IsCommandTo (cluster.old).names line.1) lines.items }
+    requires known { All (λ line. MayBeGiven (cluster.old).names line.1) lines.items }
     requires plays { PlaysSoFar cluster.old }
     ensures ring { SameRing cluster.old cluster.new }
     ensures given { OnOk result ((cluster.new).given ≡ (cluster.old).given ++ commands_on lines.items) }
@@ -79,7 +79,7 @@ fn perform_one<T: Threads, G: Gate>(
     command: Command,
     gate: &G,
 ) -> Result<(), OutOfMemory>
-    requires known { IsCommandTo (cluster.old).names command }
+    requires known { MayBeGiven (cluster.old).names command }
     requires plays { PlaysSoFar cluster.old }
     ensures ring { SameRing cluster.old cluster.new }
     ensures given { OnOk result ((cluster.new).given ≡ (cluster.old).given ++ command ∷ []) }

@@ -4,7 +4,8 @@ use Rattle.std.proofs.lemmas.Grind.{common_steps}
 use Rattle.std.proofs.lemmas.List.{map-append}
 use Rattle.std.proofs.lemmas.List.FromFn.{map-range_with_len_more}
 use Rattle.gm_member.specs.Parcels.{Carried, carried_now}
-use Rattle.gm_member.specs.View.{row_of, known_at, numbers_of}
+use Rattle.gm_member.specs.Held.{known_at, numbers_of}
+use Rattle.gm_member.specs.View.{row_of}
 use Rattle.gm_member.proofs.known.next_lines.Goals as goal
 
 pub loop-p-preserved : goal.loop-p-preserved

@@ -1,6 +1,7 @@
 use Rattle.std.proofs.Common.{◌≡◌, map}
 use Rattle.std.specs.List.{range_with_len}
-use Rattle.gm_member.specs.View.{carried_of, row_of, known_at, numbers_of}
+use Rattle.gm_member.specs.Held.{known_at, numbers_of}
+use Rattle.gm_member.specs.View.{carried_of, row_of}
 use Rattle.gm_member.specs.Parcels.{carried_now}
 use Rattle.gm_member.proofs.known.next_lines.Given as goal
 

@@ -5,7 +5,7 @@ use Rattle.std.proofs.lemmas.List.FromFn.{fill_by_all}
 use Rattle.ring_world.specs.Rows.{no_row}
 use Rattle.gm_member.specs.View.{row_of, carried_of}
 use Rattle.gm_member.specs.Parcels.{no_carried, accepted_row}
-use Rattle.ring_world.proofs.Maps.{at_mapped_set, mapped_read}
+use Rattle.ring_world.proofs.rings.Maps.{at_mapped_set, mapped_read}
 use Rattle.gm_member.proofs.rows.accept_all.Goals as goal
 
 pub loop-k-preserved : goal.loop-k-preserved

@@ -1,6 +1,7 @@
 use Rattle.std.proofs.Common.{◌≡◌, ℕ, ◌<◌, ◌≤◌, ◌+◌, map}
 use Rattle.ring_world.specs.Step.{is_owned}
-use Rattle.gm_member.specs.View.{carried_of, row_of, known_at}
+use Rattle.gm_member.specs.Held.{known_at}
+use Rattle.gm_member.specs.View.{carried_of, row_of}
 use Rattle.gm_member.specs.Parcels.{accepted_row, carried_at}
 use Rattle.gm_member.proofs.rows.accept_all.Given as goal
 

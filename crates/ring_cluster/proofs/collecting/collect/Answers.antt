@@ -6,7 +6,7 @@ use Rattle.registrar.specs.Handled.{answered, links_for}
 use Rattle.ring_cluster.specs.Parties.{shown_of, posted}
 use Rattle.ring_cluster.specs.Acting.{waits_at, Collects}
 use Rattle.ring_cluster.specs.Collecting.{given_links}
-use Rattle.ring_cluster.proofs.Collected.{collects_none, registrar_same, collects_all}
+use Rattle.ring_cluster.proofs.standing.Collected.{collects_none, registrar_same, collects_all}
 use Rattle.ring_cluster.proofs.collecting.collect.Goals as goal
 
 pub returns-then-waiting-eq0-clause-ok : goal.returns-then-waiting-eq0-clause-ok

@@ -1,5 +1,5 @@
 use Rattle.std.proofs.Common.{◌≡◌, length}
-use Rattle.ring_cluster.proofs.Turning.{DoneBelow}
+use Rattle.ring_cluster.proofs.rounds.Turning.{DoneBelow}
 use Rattle.ring_cluster.proofs.driver.finish_all.Given as goal
 
 abbrev pub invariant-loop-place : goal.invariant-loop-place

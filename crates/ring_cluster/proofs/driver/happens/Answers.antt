@@ -1,8 +1,12 @@
 use Rattle.std.proofs.Common.{rules}
-use Rattle.ring_cluster.proofs.Doing.{own_falls}
-use Rattle.ring_cluster.proofs.Owed.{but_handed}
-use Rattle.ring_cluster.proofs.Turning.{own_works, works_same}
+use Rattle.ring_cluster.proofs.rounds.Doing.{own_falls}
+use Rattle.ring_cluster.proofs.rounds.Named.{event_before}
+use Rattle.ring_cluster.proofs.post.Owed.{but_handed}
+use Rattle.ring_cluster.proofs.rounds.Turning.{own_works, works_same}
 use Rattle.ring_cluster.proofs.driver.happens.Goals as goal
+
+pub happen-requires : goal.happen-requires
+happen-requires c = event_before c.args.cluster.now c.args.event.now c.args.id.0 c.is_going.ensures c.requires.within.0 c.requires.within.1 c.requires.named
 
 pub returns-in-Ok : goal.returns-in-Ok
 returns-in-Ok c = record {

@@ -1,8 +1,8 @@
 use Rattle.std.proofs.Common.{ap, not, ◌||◌, nat_eq, ◌∙◌}
 use Rattle.gm_member.specs.Shown.{held_of}
 use Rattle.ring_cluster.specs.Seen.{state_of}
-use Rattle.ring_cluster.proofs.Named.{going_fit}
-use Rattle.ring_cluster.proofs.Holding.{held_stale}
+use Rattle.ring_cluster.proofs.rounds.Named.{going_fit}
+use Rattle.ring_cluster.proofs.rounds.Holding.{held_stale}
 use Rattle.ring_cluster.proofs.driver.is_stale.Goals as goal
 
 pub returns : goal.returns

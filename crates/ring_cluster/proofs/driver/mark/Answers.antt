@@ -1,4 +1,4 @@
-use Rattle.ring_cluster.proofs.Named.{mark_less}
+use Rattle.ring_cluster.proofs.rounds.Named.{mark_less}
 use Rattle.ring_cluster.proofs.driver.mark.Goals as goal
 
 pub happens-requires-clause-less : goal.happens-requires-clause-less

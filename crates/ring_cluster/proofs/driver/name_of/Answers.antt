@@ -1,5 +1,5 @@
 use Rattle.std.proofs.Common.{◌∙◌}
-use Rattle.ring_cluster.proofs.Named.{name_before}
+use Rattle.ring_cluster.proofs.rounds.Named.{name_before}
 use Rattle.ring_cluster.proofs.driver.name_of.Goals as goal
 
 pub returns : goal.returns

@@ -1,7 +1,7 @@
 use Rattle.std.proofs.Common.{ap, ◌∙◌}
 use Rattle.ring_cluster.specs.Seen.{state_of}
-use Rattle.ring_cluster.proofs.Named.{going_fit}
-use Rattle.ring_cluster.proofs.Holding.{newest_version}
+use Rattle.ring_cluster.proofs.rounds.Named.{going_fit}
+use Rattle.ring_cluster.proofs.rounds.Holding.{newest_version}
 use Rattle.ring_cluster.proofs.driver.newest.Goals as goal
 
 pub returns : goal.returns

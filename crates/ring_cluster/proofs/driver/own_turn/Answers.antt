@@ -1,8 +1,8 @@
 use Rattle.std.proofs.Common.{sym, ◌∙◌, ◌<◌, subst}
 use Rattle.ring_cluster.specs.Seen.{state_of}
 use Rattle.ring_cluster.specs.Work.{work}
-use Rattle.ring_cluster.proofs.Turning.{works_trans}
-use Rattle.ring_cluster.proofs.Settling.{rests_after}
+use Rattle.ring_cluster.proofs.rounds.Turning.{works_trans}
+use Rattle.ring_cluster.proofs.rounds.Settling.{rests_after}
 use Rattle.ring_cluster.proofs.driver.own_turn.Goals as goal
 
 pub returns : goal.returns

@@ -1,5 +1,5 @@
 use Rattle.std.proofs.Common.{sym, subst, ◌+◌}
-use Rattle.ring_cluster.proofs.Turning.{PassedBelow, passed_none, passed_more}
+use Rattle.ring_cluster.proofs.rounds.Turning.{PassedBelow, passed_none, passed_more}
 use Rattle.ring_cluster.proofs.driver.pass.Goals as goal
 
 pub loop-place-init : goal.loop-place-init

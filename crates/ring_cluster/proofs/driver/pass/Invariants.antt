@@ -1,5 +1,5 @@
 use Rattle.std.proofs.Common.{◌≡◌, length}
-use Rattle.ring_cluster.proofs.Turning.{PassedBelow}
+use Rattle.ring_cluster.proofs.rounds.Turning.{PassedBelow}
 use Rattle.ring_cluster.proofs.driver.pass.Given as goal
 
 abbrev pub invariant-loop-place : goal.invariant-loop-place

@@ -3,7 +3,7 @@ use Rattle.ring_world.specs.declared.event.Event.TheVariants.{Refresh}
 use Rattle.ring_world.specs.Machine.{member_at}
 use Rattle.ring_world.specs.Event.{refusal}
 use Rattle.ring_cluster.specs.Seen.{state_of}
-use Rattle.ring_cluster.proofs.Named.{going_fit, going_many, refresh_less, refresh_enabled}
+use Rattle.ring_cluster.proofs.rounds.Named.{going_fit, going_many, refresh_less, refresh_enabled}
 use Rattle.ring_cluster.proofs.driver.refresh.Goals as goal
 
 pub happens-requires-clause-less : goal.happens-requires-clause-less

@@ -2,8 +2,8 @@ use Rattle.std.proofs.Common.{◌≡◌, ap, arith, ◌∙◌}
 use Rattle.group_view.specs.View.{right_of as right_of_entries}
 use Rattle.ring_world.specs.Machine.{newest, right}
 use Rattle.ring_cluster.specs.Seen.{state_of}
-use Rattle.ring_cluster.proofs.Named.{going_many}
-use Rattle.ring_cluster.proofs.Settling.{going_reached, right_there, right_found}
+use Rattle.ring_cluster.proofs.rounds.Named.{going_many}
+use Rattle.ring_cluster.proofs.rounds.Settling.{going_reached, right_there, right_found}
 use Rattle.ring_cluster.proofs.driver.right_of.Goals as goal
 
 pub returns-clause-right : goal.returns-clause-right

@@ -1,5 +1,5 @@
 use Rattle.std.proofs.Common.{◌≡◌, length}
-use Rattle.ring_cluster.proofs.Turning.{BegunBelow}
+use Rattle.ring_cluster.proofs.rounds.Turning.{BegunBelow}
 use Rattle.ring_cluster.proofs.driver.round.Given as goal
 
 abbrev pub invariant-loop-place : goal.invariant-loop-place

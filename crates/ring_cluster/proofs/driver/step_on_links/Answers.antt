@@ -1,6 +1,6 @@
 use Rattle.std.proofs.Common.{rules}
-use Rattle.ring_cluster.proofs.Turning.{works_trans}
-use Rattle.ring_cluster.proofs.Settling.{all_refused}
+use Rattle.ring_cluster.proofs.rounds.Turning.{works_trans}
+use Rattle.ring_cluster.proofs.rounds.Settling.{all_refused}
 use Rattle.ring_cluster.proofs.driver.step_on_links.Goals as goal
 
 pub returns : goal.returns

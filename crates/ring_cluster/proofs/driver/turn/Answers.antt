@@ -1,4 +1,4 @@
-use Rattle.ring_cluster.proofs.Turning.{performed_turns}
+use Rattle.ring_cluster.proofs.rounds.Turning.{performed_turns}
 use Rattle.ring_cluster.proofs.driver.turn.Goals as goal
 
 pub returns-then-branch-clause-turns : goal.returns-then-branch-clause-turns

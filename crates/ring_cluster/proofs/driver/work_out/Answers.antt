@@ -1,4 +1,4 @@
-use Rattle.ring_cluster.proofs.Settling.{idle_after, marks_after}
+use Rattle.ring_cluster.proofs.rounds.Settling.{idle_after, marks_after}
 use Rattle.ring_cluster.proofs.driver.work_out.Goals as goal
 
 pub returns-then-not-branch-clause-idle : goal.returns-then-not-branch-clause-idle

@@ -1,6 +1,6 @@
 use Rattle.std.proofs.Common.{sym, ◌∙◌}
-use Rattle.ring_cluster.proofs.Owed.{but_refl}
-use Rattle.ring_cluster.proofs.Turning.{works_refl}
+use Rattle.ring_cluster.proofs.post.Owed.{but_refl}
+use Rattle.ring_cluster.proofs.rounds.Turning.{works_refl}
 use Rattle.ring_cluster.proofs.driver.work_turn.Goals as goal
 
 pub returns-then-not-runs : goal.returns-then-not-runs

@@ -1,5 +1,5 @@
-use Rattle.ring_cluster.proofs.Rest.{run_idle_is_quiet, run_idle_rests}
-use Rattle.ring_cluster.proofs.Marks.{run_marked_is_quiet}
+use Rattle.ring_cluster.proofs.work.Rest.{run_idle_is_quiet, run_idle_rests}
+use Rattle.ring_cluster.proofs.work.Marks.{run_marked_is_quiet}
 use Rattle.ring_cluster.proofs.laws.an_idle_ring_is_at_rest.Goals as goal
 
 pub returns-clause-alive : goal.returns-clause-alive

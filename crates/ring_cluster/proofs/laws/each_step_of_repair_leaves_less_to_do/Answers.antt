@@ -4,11 +4,11 @@ use Rattle.gm_member.proofs.Fit.{IsFit, reached_fit}
 use Rattle.ring_cluster.specs.EachState.{InEachState}
 use Rattle.ring_cluster.specs.Work.{EachLeavesLess, EachRefreshLeavesLess}
 use Rattle.ring_world.specs.declared.event.Event.TheVariants.{Put, Take, TakeEnd, Gain, Pick, Mark}
-use Rattle.ring_cluster.proofs.Falls.{put_lowers, gain_lowers}
-use Rattle.ring_cluster.proofs.Moves.{end_lowers, pick_lowers}
-use Rattle.ring_cluster.proofs.TakeFalls.{take_lowers}
-use Rattle.ring_cluster.proofs.RefreshFalls.{refresh_lowers}
-use Rattle.ring_cluster.proofs.MarkFalls.{mark_lowers}
+use Rattle.ring_cluster.proofs.work.Falls.{put_lowers, gain_lowers}
+use Rattle.ring_cluster.proofs.work.Moves.{end_lowers, pick_lowers}
+use Rattle.ring_cluster.proofs.work.TakeFalls.{take_lowers}
+use Rattle.ring_cluster.proofs.work.RefreshFalls.{refresh_lowers}
+use Rattle.ring_cluster.proofs.work.MarkFalls.{mark_lowers}
 use Rattle.ring_cluster.proofs.laws.each_step_of_repair_leaves_less_to_do.Goals as goal
 
 -- what a fit state has, each state has that a ring reaches

@@ -1,7 +1,7 @@
 use Rattle.std.proofs.Common.{sym, subst}
 use Rattle.ring_cluster.specs.Parties.{shown_of}
 use Rattle.ring_cluster.specs.Looking.{HasLooked, to_post, kept_post, loose_seen, tidied}
-use Rattle.ring_cluster.proofs.Looked.{looks_shown}
+use Rattle.ring_cluster.proofs.standing.Looked.{looks_shown}
 use Rattle.ring_cluster.proofs.looking.look.Goals as goal
 
 pub returns-in-Ok-clause-ok : goal.returns-in-Ok-clause-ok

@@ -2,11 +2,11 @@ use Rattle.std.proofs.Common.{◌≡◌, true, sym, ap, ◌∙◌}
 use Rattle.group_view.specs.Change.{marked}
 use Rattle.group_view.specs.Ring.{is_in}
 use Rattle.ring_world.specs.View.{ids}
-use Rattle.ring_world.proofs.Views.{ids-marked}
+use Rattle.ring_world.proofs.walks.Views.{ids-marked}
 use Rattle.registrar.specs.Registry.{newest}
 use Rattle.registrar.specs.Asked.{request_refusal}
 use Rattle.registrar.specs.Handled.{answered}
-use Rattle.ring_cluster.proofs.Questioned.{not_refused_first}
+use Rattle.ring_cluster.proofs.events.Questioned.{not_refused_first}
 use Rattle.ring_cluster.proofs.looking.mark.Goals as goal
 
 pub ask_for_view-requires-clause-view : goal.ask_for_view-requires-clause-view

@@ -1,7 +1,7 @@
 use Rattle.std.proofs.Common.{false, sym, subst}
 use Rattle.ring_cluster.specs.Parties.{shown_of}
 use Rattle.ring_cluster.specs.Looking.{HasLooked, to_post, kept_post, loose_seen, tidied, without_question}
-use Rattle.ring_cluster.proofs.Looked.{looks_asked}
+use Rattle.ring_cluster.proofs.standing.Looked.{looks_asked}
 use Rattle.ring_cluster.proofs.looking.read_answer.Goals as goal
 
 pub returns : goal.returns

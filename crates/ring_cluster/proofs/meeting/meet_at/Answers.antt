@@ -2,7 +2,7 @@ use Rattle.std.proofs.Common.{sym, ap, ◌∙◌}
 use Rattle.std.specs.Prelude.{option_map}
 use Rattle.gm_member.specs.Shown.{ends_of}
 use Rattle.ring_cluster.specs.Parties.{in_seen}
-use Rattle.ring_cluster.proofs.Meets.{seen_end, given_back}
+use Rattle.ring_cluster.proofs.meetings.Meets.{seen_end, given_back}
 use Rattle.ring_cluster.proofs.meeting.meet_at.Goals as goal
 
 pub returns : goal.returns

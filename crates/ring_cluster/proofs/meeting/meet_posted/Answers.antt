@@ -1,5 +1,5 @@
 use Rattle.ring_cluster.specs.Parties.{out_seen}
-use Rattle.ring_cluster.proofs.Meets.{may_meet_waiting}
+use Rattle.ring_cluster.proofs.meetings.Meets.{may_meet_waiting}
 use Rattle.ring_cluster.proofs.meeting.meet_posted.Goals as goal
 
 pub meet_waiting-requires-clause-may : goal.meet_waiting-requires-clause-may

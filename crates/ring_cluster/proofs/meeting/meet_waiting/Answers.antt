@@ -1,5 +1,5 @@
 use Rattle.ring_cluster.specs.Parties.{out_seen}
-use Rattle.ring_cluster.proofs.Meets.{given_back_waiting}
+use Rattle.ring_cluster.proofs.meetings.Meets.{given_back_waiting}
 use Rattle.ring_cluster.proofs.meeting.meet_waiting.Goals as goal
 
 pub returns-clause-met : goal.returns-clause-met

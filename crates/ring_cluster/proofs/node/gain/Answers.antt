@@ -1,5 +1,5 @@
 use Rattle.std.proofs.Common.{rules}
-use Rattle.ring_cluster.proofs.Shown.{gain_refusal, gain_shown}
+use Rattle.ring_cluster.proofs.standing.Shown.{gain_refusal, gain_shown}
 use Rattle.ring_cluster.proofs.node.gain.Goals as goal
 
 pub returns-in-Some : goal.returns-in-Some

@@ -1,5 +1,5 @@
 use Rattle.std.proofs.Common.{rules}
-use Rattle.ring_cluster.proofs.Shown.{picks_shown}
+use Rattle.ring_cluster.proofs.standing.Shown.{picks_shown}
 use Rattle.ring_cluster.proofs.node.pick.Goals as goal
 
 pub returns-in-Ok : goal.returns-in-Ok

@@ -1,5 +1,5 @@
 use Rattle.std.proofs.Common.{rules}
-use Rattle.ring_cluster.proofs.Shown.{puts_shown, put_fault}
+use Rattle.ring_cluster.proofs.standing.Shown.{puts_shown, put_fault}
 use Rattle.ring_cluster.proofs.node.put.Goals as goal
 
 pub returns-in-Ok : goal.returns-in-Ok

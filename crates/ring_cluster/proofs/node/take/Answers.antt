@@ -1,5 +1,5 @@
 use Rattle.std.proofs.Common.{rules}
-use Rattle.ring_cluster.proofs.Takes.{takes_shown, take_enabled, take_refusal, not_done}
+use Rattle.ring_cluster.proofs.standing.Takes.{takes_shown, take_enabled, take_refusal, not_done}
 use Rattle.ring_cluster.proofs.node.take.Goals as goal
 
 pub returns-in-Ok : goal.returns-in-Ok

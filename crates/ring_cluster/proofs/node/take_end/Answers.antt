@@ -1,5 +1,5 @@
 use Rattle.std.proofs.Common.{rules}
-use Rattle.ring_cluster.proofs.Takes.{end_refusal, not_done}
+use Rattle.ring_cluster.proofs.standing.Takes.{end_refusal, not_done}
 use Rattle.ring_cluster.proofs.node.take_end.Goals as goal
 
 pub returns-in-Err : goal.returns-in-Err

@@ -1,8 +1,8 @@
 use Rattle.std.proofs.Common.{◌≡◌, ◌<◌, suc, length, None, ap, sym, subst, ◌∙◌}
 use Rattle.ring_world.specs.Shows.{world_of, member_of, member_in}
-use Rattle.ring_world.proofs.ShownParts.{read_member}
-use Rattle.ring_world.proofs.Enabled.{running_phase}
-use Rattle.ring_world.proofs.Found.{out_at}
+use Rattle.ring_world.proofs.code.ShownParts.{read_member}
+use Rattle.ring_world.proofs.events.Enabled.{running_phase}
+use Rattle.ring_world.proofs.code.Found.{out_at}
 use Rattle.ring_world.proofs.arms.stop.Goals as goal
 
 pub end-requires : goal.end-requires

@@ -1,8 +1,8 @@
 use Rattle.std.proofs.Common.{suc, ap, ◌∙◌}
 use Rattle.ring_world.specs.Machine.{member_at}
 use Rattle.ring_world.specs.Shows.{world_of}
-use Rattle.ring_world.proofs.ShownParts.{read_member}
-use Rattle.ring_world.proofs.Enabled.{running_phase, take_effect}
+use Rattle.ring_world.proofs.code.ShownParts.{read_member}
+use Rattle.ring_world.proofs.events.Enabled.{running_phase, take_effect}
 use Rattle.ring_world.proofs.arms.take.Goals as goal
 
 pub take-requires-clause-up : goal.take-requires-clause-up

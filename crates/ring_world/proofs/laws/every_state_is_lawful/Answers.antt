@@ -1,4 +1,4 @@
-use Rattle.ring_world.proofs.AllRuns.{every_state_lawful}
+use Rattle.ring_world.proofs.runs.AllRuns.{every_state_lawful}
 use Rattle.ring_world.proofs.laws.every_state_is_lawful.Goals as goal
 
 pub returns : goal.returns

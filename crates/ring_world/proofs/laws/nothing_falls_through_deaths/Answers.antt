@@ -1,4 +1,4 @@
-use Rattle.ring_world.proofs.AllRuns.{every_run_goes_on}
+use Rattle.ring_world.proofs.runs.AllRuns.{every_run_goes_on}
 use Rattle.ring_world.proofs.laws.nothing_falls_through_deaths.Goals as goal
 
 pub returns : goal.returns

@@ -5,7 +5,7 @@ use Rattle.ring_world.specs.Machine.{World, member_at, view_at, newest}
 use Rattle.ring_world.specs.Step.{with_view}
 use Rattle.ring_world.specs.Placed.{IsPlaced}
 use Rattle.ring_world.specs.Shows.{world_of}
-use Rattle.ring_world.proofs.Enabled.{mark_lives, mark_stops}
+use Rattle.ring_world.proofs.events.Enabled.{mark_lives, mark_stops}
 use Rattle.ring_world.proofs.marking.mark.Goals as goal
 
 pub refresh-requires-clause-later : goal.refresh-requires-clause-later

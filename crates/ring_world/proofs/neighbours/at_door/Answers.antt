@@ -3,7 +3,7 @@ use Rattle.std.proofs.lemmas.Grind.{common_steps}
 use Rattle.std.specs.Prelude.{position}
 use Rattle.ring_world.specs.Event.{left_neighbour, since}
 use Rattle.ring_world.specs.Shows.{world_of, link_of, stands_at_door}
-use Rattle.ring_world.proofs.Found.{door_first}
+use Rattle.ring_world.proofs.code.Found.{door_first}
 use Rattle.ring_world.proofs.neighbours.at_door.Goals as goal
 
 pub returns-clause-door : goal.returns-clause-door

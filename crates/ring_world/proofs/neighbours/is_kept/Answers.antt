@@ -2,7 +2,7 @@ use Rattle.std.proofs.Common.{◌≡◌, ◌≤◌, ◌<◌, ◌∷◌, sym, ap,
 use Rattle.std.proofs.lemmas.Bool.{cases_lt}
 use Rattle.group_view.specs.Since.{no_group}
 use Rattle.ring_world.specs.View.{left_at, left_of}
-use Rattle.ring_world.proofs.Looks.{kept_no, left_at_is}
+use Rattle.ring_world.proofs.code.Looks.{kept_no, left_at_is}
 use Rattle.ring_world.proofs.neighbours.is_kept.Goals as goal
 
 pub returns-then-left_in-sender : goal.returns-then-left_in-sender

@@ -1,5 +1,5 @@
 use Rattle.std.proofs.Common.{◌≤◌, length, sym, subst}
-use Rattle.ring_world.proofs.Found.{version_some, version_within}
+use Rattle.ring_world.proofs.code.Found.{version_some, version_within}
 use Rattle.ring_world.proofs.neighbours.view_at_place.Goals as goal
 
 pub view_of-requires-clause-some : goal.view_of-requires-clause-some

@@ -1,6 +1,6 @@
 use Rattle.std.proofs.Common.{bytes_eq}
 use Rattle.ring_world.specs.Shows.{member_of}
-use Rattle.ring_world.proofs.ShownParts.{position_map}
+use Rattle.ring_world.proofs.code.ShownParts.{position_map}
 use Rattle.ring_world.proofs.places.place_of.Goals as goal
 
 pub returns-clause-place : goal.returns-clause-place

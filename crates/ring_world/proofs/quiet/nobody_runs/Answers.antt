@@ -1,7 +1,7 @@
 use Rattle.std.proofs.Common.{suc, arith}
 use Rattle.std.proofs.lemmas.Bool.{false≢true}
 use Rattle.std.proofs.lemmas.Grind.{common_steps}
-use Rattle.ring_world.proofs.ShownParts.{read_member}
+use Rattle.ring_world.proofs.code.ShownParts.{read_member}
 use Rattle.ring_world.proofs.quiet.nobody_runs.Goals as goal
 
 pub returns-then-is_running : goal.returns-then-is_running

@@ -1,4 +1,4 @@
-use Rattle.ring_world.proofs.Found.{link_some}
+use Rattle.ring_world.proofs.code.Found.{link_some}
 use Rattle.ring_world.proofs.refreshing.is_link_kept.Goals as goal
 
 pub is_kept-requires-clause-some : goal.is_kept-requires-clause-some

@@ -1,6 +1,6 @@
 use Rattle.std.proofs.Common.{◌≡◌, length, ap, ◌∙◌, arith}
 use Rattle.std.specs.Prelude.{vec_len, vec_capacity}
-use Rattle.ring_world.proofs.Found.{out_some}
+use Rattle.ring_world.proofs.code.Found.{out_some}
 use Rattle.ring_world.proofs.refreshing.move_to.Goals as goal
 
 pub end_sending-requires : goal.end_sending-requires

@@ -1,7 +1,7 @@
 use Rattle.std.proofs.Common.{◌≡◌, ℕ, ◌<◌, ◌≤◌, length, ap, arith}
 use Rattle.std.proofs.lemmas.Grind.{common_steps}
 use Rattle.ring_world.specs.Shows.{room_of, news_of, no_news, news_in}
-use Rattle.ring_world.proofs.ShownParts.{at_mapped_set, mapped_read, rewrite_row}
+use Rattle.ring_world.proofs.code.ShownParts.{at_mapped_set, mapped_read, rewrite_row}
 use Rattle.ring_world.proofs.seat.make_room.Goals as goal
 
 pub loop-k-preserved : goal.loop-k-preserved

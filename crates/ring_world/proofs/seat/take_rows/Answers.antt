@@ -2,7 +2,7 @@ use Rattle.std.proofs.Common.{◌≡◌, ℕ, ◌<◌, map, length, get_or, ◌�
 use Rattle.ring_world.specs.Rows.{no_row, taken_with}
 use Rattle.ring_world.specs.Machine.{numbers_at}
 use Rattle.ring_world.specs.Shows.{packet_of, row_of, room_of, news_of, no_news, row_in, news_in}
-use Rattle.ring_world.proofs.ShownParts.{at_mapped_set, mapped_read}
+use Rattle.ring_world.proofs.code.ShownParts.{at_mapped_set, mapped_read}
 use Rattle.std.proofs.lemmas.List.{length-map}
 use Rattle.std.proofs.lemmas.List.FromFn.{fill_by_all}
 use Rattle.ring_world.proofs.seat.take_rows.Goals as goal

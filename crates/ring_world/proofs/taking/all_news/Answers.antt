@@ -7,7 +7,7 @@ use Rattle.ring_world.specs.declared.seat.Brought.{Brought}
 use Rattle.ring_world.specs.Machine.{Packet, Member, no_member, numbers_at}
 use Rattle.ring_world.specs.Step.{is_owned}
 use Rattle.ring_world.specs.Shows.{News, member_of, packet_of, news_of, news_at}
-use Rattle.ring_world.proofs.Taken.{brought_news}
+use Rattle.ring_world.proofs.code.Taken.{brought_news}
 use Rattle.ring_world.proofs.taking.all_news.Goals as goal
 
 pub loop-origin-preserved : goal.loop-origin-preserved

@@ -4,8 +4,8 @@ use Rattle.ring_world.specs.Machine.{no_member, oldest}
 use Rattle.group_view.specs.Since.{no_group}
 use Rattle.ring_world.specs.Shows.{world_of, member_of, member_in, link_of}
 use Rattle.ring_world.specs.Step.{taken, is_owned}
-use Rattle.ring_world.proofs.Found.{version_some, version_within}
-use Rattle.ring_world.proofs.Taken.{take_ring, same_ring, logs_of, OnErr_of}
+use Rattle.ring_world.proofs.code.Found.{version_some, version_within}
+use Rattle.ring_world.proofs.code.Taken.{take_ring, same_ring, logs_of, OnErr_of}
 use Rattle.ring_world.proofs.taking.take.Goals as goal
 
 pub view_of-view-requires-clause-some : goal.view_of-view-requires-clause-some

@@ -3,7 +3,7 @@ use Rattle.group_view.specs.Since.{no_group}
 use Rattle.ring_world.specs.Walking.{is_from_left}
 use Rattle.ring_world.specs.Machine.{member_at}
 use Rattle.ring_world.specs.Shows.{world_of, link_of}
-use Rattle.ring_world.proofs.Found.{tested_some, tested_within, same_version}
+use Rattle.ring_world.proofs.code.Found.{tested_some, tested_within, same_version}
 use Rattle.ring_world.proofs.walk.passes.Goals as goal
 
 pub view_of-requires-clause-some : goal.view_of-requires-clause-some

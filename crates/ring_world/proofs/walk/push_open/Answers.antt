@@ -4,7 +4,7 @@ use Rattle.ring_world.specs.Machine.{World}
 use Rattle.ring_world.specs.OpenLinks.{is_open, packets_of}
 use Rattle.ring_world.specs.Shows.{world_of}
 use Rattle.ring_world.specs.Walking.{says, counts, said_on}
-use Rattle.ring_world.proofs.Told.{gathered_more}
+use Rattle.ring_world.proofs.rings.Told.{gathered_more}
 use Rattle.ring_world.proofs.walk.push_open.Goals as goal
 
 pub loop-s-preserved : goal.loop-s-preserved

@@ -4,7 +4,7 @@ use Rattle.std.proofs.lemmas.List.{append-nil}
 use Rattle.std.proofs.Math.Seq.{drop-length}
 use Rattle.ring_world.specs.Shows.{packet_of}
 use Rattle.ring_world.specs.Walking.{says}
-use Rattle.ring_world.proofs.Told.{told_more}
+use Rattle.ring_world.proofs.rings.Told.{told_more}
 use Rattle.ring_world.proofs.walk.push_packets.Goals as goal
 
 pub loop-k-init : goal.loop-k-init

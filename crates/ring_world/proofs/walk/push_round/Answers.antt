@@ -3,7 +3,7 @@ use Rattle.std.proofs.lemmas.Grind.{common_steps}
 use Rattle.ring_world.specs.OpenLinks.{round_trip}
 use Rattle.ring_world.specs.Shows.{world_of}
 use Rattle.ring_world.specs.Walking.{reads, reads_row}
-use Rattle.ring_world.proofs.Told.{round_told}
+use Rattle.ring_world.proofs.rings.Told.{round_told}
 use Rattle.ring_world.proofs.walk.push_round.Goals as goal
 
 pub returns-in_ok-push_open : goal.returns-in_ok-push_open

@@ -3,7 +3,7 @@ use Rattle.std.specs.List.{filter}
 use Rattle.group_view.specs.View.{ids}
 use Rattle.ring_world.specs.Machine.{runs}
 use Rattle.ring_world.specs.Shows.{world_of}
-use Rattle.ring_world.proofs.Told.{running_parts}
+use Rattle.ring_world.proofs.rings.Told.{running_parts}
 use Rattle.ring_world.proofs.walk.running_among.Goals as goal
 
 pub returns : goal.returns

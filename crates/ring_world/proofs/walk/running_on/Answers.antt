@@ -3,7 +3,7 @@ use Rattle.std.proofs.lemmas.List.{length-map}
 use Rattle.group_view.specs.Ring.{rotated}
 use Rattle.group_view.specs.View.{ids}
 use Rattle.ring_world.specs.Shows.{world_of, member_of}
-use Rattle.ring_world.proofs.Told.{all_run, all_within}
+use Rattle.ring_world.proofs.rings.Told.{all_run, all_within}
 use Rattle.ring_world.proofs.walk.running_on.Goals as goal
 
 pub returns-clause-within : goal.returns-clause-within

@@ -1,6 +1,6 @@
 use Rattle.std.proofs.Common.{◌≡◌, map}
 use Rattle.ring_world.specs.Shows.{row_of}
-use Rattle.ring_world.proofs.Sent.{lines_to}
+use Rattle.ring_world.proofs.code.Sent.{lines_to}
 use Rattle.ring_world.proofs.wire.next_numbers.Given as goal
 
 abbrev pub invariant-loop-id : goal.invariant-loop-id

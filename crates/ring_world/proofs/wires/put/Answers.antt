@@ -1,7 +1,7 @@
 use Rattle.std.proofs.Common.{◌≡◌, sym, subst}
 use Rattle.ring_world.specs.Step.{pushed, next_packet}
 use Rattle.ring_world.specs.Shows.{member_of, link_of}
-use Rattle.ring_world.proofs.ShownParts.{pushed_wires}
+use Rattle.ring_world.proofs.code.ShownParts.{pushed_wires}
 use Rattle.ring_world.proofs.wires.put.Goals as goal
 
 pub returns-clause-ok : goal.returns-clause-ok

@@ -4,7 +4,7 @@ use Rattle.ring_world.specs.declared.phase.Phase.TheVariants.{Up}
 use Rattle.ring_world.specs.Step.{size}
 use Rattle.gm_member.specs.Shown.{held_of}
 use Rattle.ring_cluster.specs.Seen.{state_of}
-use Rattle.ring_cluster.proofs.Named.{going_many}
+use Rattle.ring_cluster.proofs.rounds.Named.{going_many}
 use Rattle.ringplay.specs.Report.{heard_from, heard_lines, while_up}
 use Rattle.ringplay.proofs.Reports.{heard_more}
 use Rattle.ringplay.proofs.report.push_heard.Goals as goal

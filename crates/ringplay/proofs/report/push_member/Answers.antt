@@ -3,8 +3,8 @@ use Rattle.ring_world.specs.Step.{size}
 use Rattle.gm_member.specs.Held.{Held}
 use Rattle.gm_member.specs.Shown.{held_of}
 use Rattle.ring_cluster.specs.Seen.{state_of}
-use Rattle.ring_cluster.proofs.Holding.{IsHeld}
-use Rattle.ring_cluster.proofs.Named.{going_fit, going_many}
+use Rattle.ring_cluster.proofs.rounds.Holding.{IsHeld}
+use Rattle.ring_cluster.proofs.rounds.Named.{going_fit, going_many}
 use Rattle.ringplay.specs.Report.{counts_lines}
 use Rattle.ringplay.proofs.Reports.{lines_stand}
 use Rattle.ringplay.proofs.report.push_member.Goals as goal

@@ -2,7 +2,7 @@ use Rattle.std.proofs.Common.{◌≡◌, ◌-◌, ◌+◌, ◌++◌, ◌∙◌, 
 use Rattle.std.specs.List.{flat_map, range_with_len}
 use Rattle.ring_world.specs.Step.{size}
 use Rattle.ring_cluster.specs.Seen.{state_of}
-use Rattle.ring_cluster.proofs.Named.{going_many}
+use Rattle.ring_cluster.proofs.rounds.Named.{going_many}
 use Rattle.ringplay.specs.Report.{ring_line, lines_of_member}
 use Rattle.ringplay.proofs.Reports.{ids_more}
 use Rattle.ringplay.proofs.report.push_report.Goals as goal

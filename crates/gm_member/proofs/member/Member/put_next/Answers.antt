@@ -6,6 +6,7 @@ use Rattle.gm_member.specs.Shown.{held_of}
 use Rattle.gm_member.specs.Ends.{EndPuts}
 use Rattle.gm_member.proofs.Calls.{put_out_enabled}
 use Rattle.gm_member.proofs.member.Member.put_next.Goals as goal
+use Rattle.gm_member.specs.Loads.{as_item}
 
 pub put-requires-clause-enabled : goal.put-requires-clause-enabled
 put-requires-clause-enabled g c =
@@ -22,8 +23,8 @@ returns-clause-puts g c = record {
         c.in-Some-out.is,
         refl,
         subst (λ k. EndPuts g.O.LinkOut.puts k c.in-Some-out.link.end c.put.new.self.end)
-            (ap (λ v. parcel_on v (map row_of c.deref.result.now) (out_of c.in-Some-out.link)) c.version-version.ensures
-            ∙ ap (λ ks. parcel_on c.args.self.now.view.version (map row_of ks) (out_of c.in-Some-out.link)) c.deref.ensures.value) p,
+            (ap (λ v. as_item (parcel_on v (map row_of c.deref.result.now) (out_of c.in-Some-out.link))) c.version-version.ensures
+            ∙ ap (λ ks. as_item (parcel_on c.args.self.now.view.version (map row_of ks) (out_of c.in-Some-out.link))) c.deref.ensures.value) p,
         c.put.ensures.kept,
         (refl, refl, refl, refl),
       ))

@@ -19,5 +19,5 @@ returns-clause-sends g c =
           (subst (λ i. OpensOn g.O.LinkOut.puts c.move_on.new.self.credit rows i c.args.to c.args.self.now.view.version c.args.spare c.open-link.result.0 c.open-link.result.1.items) same.0
           (subst (λ v. OpensOn g.O.LinkOut.puts c.move_on.new.self.credit rows c.move_on.new.self.id c.args.to v c.args.spare c.open-link.result.0 c.open-link.result.1.items) (c.version.ensures ∙ ap (λ v. v.version) same.1)
           (c.open-link.ensures.opens rows spare)));
-      old_outs = c.move_on.ensures.moves.old_outs;
+      old_outs = c.move_on.ensures.old_outs;
     }

@@ -1,4 +1,4 @@
-use Rattle.ring_cluster.proofs.Doing.{commanded_plays}
+use Rattle.ring_cluster.proofs.rounds.Doing.{commanded_plays}
 use Rattle.ring_cluster.proofs.cluster.Cluster.command.Goals as goal
 
 pub returns-clause-plays : goal.returns-clause-plays

@@ -1,7 +1,7 @@
 use Rattle.std.proofs.Common.{◌≡◌, ap, ◌∙◌}
 use Rattle.ring_script.specs.declared.command.Command.TheVariants as command
-use Rattle.ring_cluster.proofs.Doing.{gone_from, gone_into, round_heads, given_after, go_plays, same_plays}
-use Rattle.ring_cluster.proofs.Settling.{alive_from, alive_into}
+use Rattle.ring_cluster.proofs.rounds.Doing.{gone_from, gone_into, round_heads, given_after, go_plays, same_plays}
+use Rattle.ring_cluster.proofs.rounds.Settling.{alive_from, alive_into}
 use Rattle.ring_cluster.proofs.cluster.Cluster.go.Goals as goal
 
 pub returns-in-Ok-clause-heads : goal.returns-in-Ok-clause-heads

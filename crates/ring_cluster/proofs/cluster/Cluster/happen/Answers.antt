@@ -13,5 +13,5 @@ pub returns-clause-ok : goal.returns-clause-ok
 returns-clause-ok c =
     let owes = (c.step.new.self).owes in
     on_ok_weaker c.step.result
-    (λ is. (owes, ap (λ es. owing owes (record (seen_of c.self.inside) { events = es })) is ∙ ap (λ x. owing owes (with_event x c.args.event.now)) c.self.view_is))
+    (λ is. (owes, ap (λ ts. owing owes (record (seen_of c.self.inside) { events = c.step.new.journal.items; agendas = ts })) c.step.ensures.agendas ∙ ap (λ es. owing owes (record (seen_of c.self.inside) { events = es })) is ∙ ap (λ x. owing owes (with_event x c.args.event.now)) c.self.view_is))
     c.step.ensures.ok

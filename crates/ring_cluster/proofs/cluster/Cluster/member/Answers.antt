@@ -4,8 +4,8 @@ use Rattle.gm_member.specs.Shown.{held_of}
 use Rattle.ring_cluster.specs.Holds.{HoldsOf}
 use Rattle.ring_cluster.specs.Parties.{shown_of, node_at}
 use Rattle.ring_cluster.specs.Seen.{state_of}
-use Rattle.ring_cluster.proofs.Lists.{if_some_from}
-use Rattle.ring_cluster.proofs.Holding.{IsHeld, nodes_many, node_stands, node_holds}
+use Rattle.ring_cluster.proofs.lists.Lists.{if_some_from}
+use Rattle.ring_cluster.proofs.rounds.Holding.{IsHeld, nodes_many, node_stands, node_holds}
 use Rattle.ring_cluster.proofs.cluster.Cluster.member.Goals as goal
 
 pub returns-clause-there : goal.returns-clause-there

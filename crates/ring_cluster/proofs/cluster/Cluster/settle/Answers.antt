@@ -1,8 +1,8 @@
 use Rattle.std.proofs.Common.{◌≡◌, ap, ◌∙◌}
 use Rattle.ring_script.specs.declared.command.Command.TheVariants as command
-use Rattle.ring_cluster.proofs.Doing.{gone_noted, gone_into, noted, settle_plays, settle_played, same_plays}
-use Rattle.ring_cluster.proofs.NoStops.{plays_alive}
-use Rattle.ring_cluster.proofs.Settling.{alive_noted, alive_into}
+use Rattle.ring_cluster.proofs.rounds.Doing.{gone_noted, gone_into, noted, settle_plays, settle_played, same_plays}
+use Rattle.ring_cluster.proofs.rounds.NoStops.{plays_alive}
+use Rattle.ring_cluster.proofs.rounds.Settling.{alive_noted, alive_into}
 use Rattle.ring_cluster.proofs.cluster.Cluster.settle.Goals as goal
 
 pub returns-in-Ok-clause-alive : goal.returns-in-Ok-clause-alive

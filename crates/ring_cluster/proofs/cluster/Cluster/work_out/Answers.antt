@@ -2,7 +2,7 @@ use Rattle.std.proofs.Common.{sym, subst}
 use Rattle.ring_cluster.specs.Idle.{IsIdle}
 use Rattle.ring_cluster.specs.Plays.{AgendasAreDone}
 use Rattle.ring_cluster.specs.Seen.{state_of}
-use Rattle.ring_cluster.proofs.Settling.{idle_is_quiet, done_is_empty}
+use Rattle.ring_cluster.proofs.rounds.Settling.{idle_is_quiet, done_is_empty}
 use Rattle.ring_cluster.proofs.cluster.Cluster.work_out.Goals as goal
 
 pub returns-clause-quiet : goal.returns-clause-quiet

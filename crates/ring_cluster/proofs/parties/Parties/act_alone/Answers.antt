@@ -1,9 +1,9 @@
 use Rattle.std.proofs.Common.{set}
 use Rattle.ring_cluster.specs.Acting.{DoesAlone}
-use Rattle.ring_world.proofs.Taken.{OnErr_of}
-use Rattle.ring_cluster.proofs.Nodes.{at_read, written_shown}
-use Rattle.ring_cluster.proofs.Acted.{alone_acts}
-use Rattle.ring_cluster.proofs.Delivered.{inside, unchanged, none_behind, bare, is_ready}
+use Rattle.ring_world.proofs.code.Taken.{OnErr_of}
+use Rattle.ring_cluster.proofs.standing.Nodes.{at_read, written_shown}
+use Rattle.ring_cluster.proofs.events.Acted.{alone_acts}
+use Rattle.ring_cluster.proofs.post.Delivered.{tasks_kept, inside, unchanged, none_behind, bare, is_ready}
 use Rattle.ring_cluster.proofs.parties.Parties.act_alone.Goals as goal
 
 pub do_alone-requires-clause-ready : goal.do_alone-requires-clause-ready
@@ -16,7 +16,13 @@ pub returns-clause-ok : goal.returns-clause-ok
 returns-clause-ok c = λ d.
     let l = inside c.self.inside c.args.self.now c.self.view_is c.args.i c.requires.within in
     let old = bare c.self.inside c.args.self.now c.self.view_is c.requires.delivered in
-    let new = none_behind c.self.inside c.args.self.now c.self.view_is c.requires.delivered (set c.self.inside.nodes.items c.args.i c.do_alone.new.node) c.self.inside.registrar in
-    let does = at_read (DoesAlone c.args.event.now) c.self.inside.nodes.items c.args.i c.index_mut.result.now c.do_alone.new.node l c.index_mut.ensures.value c.in_ok-do_alone.ensures.ok in
+    let new = none_behind c.self.inside c.args.self.now c.self.view_is c.requires.delivered (set c.self.inside.members.items c.args.i (record c.index_mut.result.now { node = c.do_alone.new.node })) c.self.inside.registrar in
+    let does = at_read (DoesAlone c.args.event.now) c.self.inside.members.items c.args.i c.index_mut.result.now (record c.index_mut.result.now { node = c.do_alone.new.node }) l c.index_mut.ensures.value c.in_ok-do_alone.ensures.ok in
     rw (old, new)
-    (alone_acts c.args.event.now c.args.i d c.self.inside.nodes.items (set c.self.inside.nodes.items c.args.i c.do_alone.new.node) c.self.inside.registrar c.requires.alone does (written_shown c.self.inside.nodes.items c.args.i c.do_alone.new.node l))
+    (alone_acts c.args.event.now c.args.i d c.self.inside.members.items (set c.self.inside.members.items c.args.i (record c.index_mut.result.now { node = c.do_alone.new.node })) c.self.inside.registrar c.requires.alone does (written_shown c.self.inside.members.items c.args.i (record c.index_mut.result.now { node = c.do_alone.new.node }) l))
+
+pub returns-in_err-do_alone-clause-agendas : goal.returns-in_err-do_alone-clause-agendas
+returns-in_err-do_alone-clause-agendas c = tasks_kept c.self.inside c.args.self.now c.self.view_is c.args.i c.requires.within c.index_mut.result.now c.do_alone.new.node c.index_mut.ensures.value
+
+pub returns-clause-agendas : goal.returns-clause-agendas
+returns-clause-agendas c = tasks_kept c.self.inside c.args.self.now c.self.view_is c.args.i c.requires.within c.index_mut.result.now c.do_alone.new.node c.index_mut.ensures.value

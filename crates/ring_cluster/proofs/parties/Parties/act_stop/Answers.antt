@@ -1,8 +1,8 @@
 use Rattle.std.proofs.Common.{set, sym, ◌∙◌, arith}
 use Rattle.ring_cluster.specs.Acting.{Stops}
-use Rattle.ring_cluster.proofs.Nodes.{at_read, written_shown}
-use Rattle.ring_cluster.proofs.Acted.{stop_acts}
-use Rattle.ring_cluster.proofs.Delivered.{inside, none_behind, bare, here, few, asks_nothing, is_ready, unheard}
+use Rattle.ring_cluster.proofs.standing.Nodes.{at_read, written_shown}
+use Rattle.ring_cluster.proofs.events.Acted.{stop_acts}
+use Rattle.ring_cluster.proofs.post.Delivered.{tasks_kept, inside, none_behind, bare, here, few, asks_nothing, is_ready, unheard}
 use Rattle.ring_cluster.proofs.parties.Parties.act_stop.Goals as goal
 
 pub stop_refusal_of-requires : goal.stop_refusal_of-requires
@@ -26,8 +26,11 @@ stop-requires c = is_ready c.self.inside c.args.self.now c.self.view_is c.requir
 pub returns-clause-ok : goal.returns-clause-ok
 returns-clause-ok c = λ by d.
     let l = inside c.self.inside c.args.self.now c.self.view_is c.args.i c.requires.within in
-    let stops = at_read Stops c.self.inside.nodes.items c.args.i c.index_mut.result.now c.stop.new.node l c.index_mut.ensures.value c.in-Ok.ensures.tries.ok in
+    let stops = at_read Stops c.self.inside.members.items c.args.i c.index_mut.result.now (record c.index_mut.result.now { node = c.stop.new.node }) l c.index_mut.ensures.value c.in-Ok.ensures.tries.ok in
     let old = bare c.self.inside c.args.self.now c.self.view_is c.requires.delivered in
-    let new = none_behind c.self.inside c.args.self.now c.self.view_is c.requires.delivered (set c.self.inside.nodes.items c.args.i c.stop.new.node) c.notify.new.registrar in
+    let new = none_behind c.self.inside c.args.self.now c.self.view_is c.requires.delivered (set c.self.inside.members.items c.args.i (record c.index_mut.result.now { node = c.stop.new.node })) c.notify.new.registrar in
     rw (old, new)
-    (stop_acts by c.args.i d c.self.inside.nodes.items (set c.self.inside.nodes.items c.args.i c.stop.new.node) c.self.inside.registrar c.notify.new.registrar stops (written_shown c.self.inside.nodes.items c.args.i c.stop.new.node l) c.in_ok-notify.ensures.ok)
+    (stop_acts by c.args.i d c.self.inside.members.items (set c.self.inside.members.items c.args.i (record c.index_mut.result.now { node = c.stop.new.node })) c.self.inside.registrar c.notify.new.registrar stops (written_shown c.self.inside.members.items c.args.i (record c.index_mut.result.now { node = c.stop.new.node }) l) c.in_ok-notify.ensures.ok)
+
+pub returns-clause-agendas : goal.returns-clause-agendas
+returns-clause-agendas c = tasks_kept c.self.inside c.args.self.now c.self.view_is c.args.i c.requires.within c.index_mut.result.now c.stop.new.node c.index_mut.ensures.value

@@ -1,8 +1,8 @@
 use Rattle.std.proofs.Common.{◌≡◌, Some, sym, subst}
 use Rattle.ring_cluster.specs.Behind.{behind}
 use Rattle.ring_cluster.specs.Standing.{StandSomewhere}
-use Rattle.ring_cluster.proofs.After.{here_after}
-use Rattle.ring_cluster.proofs.Closing.{known_handed}
+use Rattle.ring_cluster.proofs.events.After.{here_after}
+use Rattle.ring_cluster.proofs.events.Closing.{known_handed}
 use Rattle.ring_cluster.proofs.parties.Parties.hand_over.Goals as goal
 
 pub deposit-requires : goal.deposit-requires
@@ -10,5 +10,5 @@ deposit-requires c =
     let h = subst (λ q. StandSomewhere q.all) (sym c.self.view_is) c.requires in
     let v = c.in-Some.ensures.value in
     let e : c.self.inside.late ≡ Some c.in-Some.field-0 = cc in
-    let known = known_handed h.0 h.1 h.2 c.self.inside.nodes.items c.self.inside.registrar c.self.inside.late c.in-Some.field-0 e h.3 in
-    record { here = here_after h.0 h.1 h.2 c.self.inside.nodes.items c.self.inside.registrar (behind c.self.inside.late) h.3; from = known.0; to = known.1 }
+    let known = known_handed h.0 h.1 h.2 c.self.inside.members.items c.self.inside.registrar c.self.inside.late c.in-Some.field-0 e h.3 in
+    record { here = here_after h.0 h.1 h.2 c.self.inside.members.items c.self.inside.registrar (behind c.self.inside.late) h.3; from = known.0; to = known.1 }

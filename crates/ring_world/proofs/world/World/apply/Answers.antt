@@ -1,8 +1,8 @@
 use Rattle.std.proofs.Common.{refl, arith}
 use Rattle.std.proofs.lemmas.Grind.{common_steps}
 use Rattle.ring_world.specs.Reached.{state_of}
-use Rattle.ring_world.proofs.Running.{running_placed, running_marked, running_more}
-use Rattle.ring_world.proofs.HeldLaws.{lawful_more}
+use Rattle.ring_world.proofs.code.Running.{running_placed, running_marked, running_more}
+use Rattle.ring_world.proofs.code.HeldLaws.{lawful_more}
 use Rattle.ring_world.proofs.world.World.apply.Goals as goal
 
 pub step-requires-clause-ready : goal.step-requires-clause-ready

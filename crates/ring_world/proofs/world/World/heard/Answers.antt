@@ -2,8 +2,8 @@ use Rattle.std.proofs.Common.{◌≡◌, take, subst, ◌∙◌}
 use Rattle.ring_world.specs.Asked.{got_at, log_at}
 use Rattle.ring_world.specs.Event.{id_of}
 use Rattle.ring_world.specs.Reached.{state_of}
-use Rattle.ring_world.proofs.Running.{running_placed}
-use Rattle.ring_world.proofs.HeldLaws.{heard_in_order}
+use Rattle.ring_world.proofs.code.Running.{running_placed}
+use Rattle.ring_world.proofs.code.HeldLaws.{heard_in_order}
 use Rattle.ring_world.proofs.world.World.heard.Goals as goal
 
 pub heard_named-requires-clause-placed : goal.heard_named-requires-clause-placed

@@ -1,4 +1,4 @@
-use Rattle.ring_world.proofs.Running.{running_placed}
+use Rattle.ring_world.proofs.code.Running.{running_placed}
 use Rattle.ring_world.proofs.world.World.member.Goals as goal
 
 pub member_named-requires : goal.member_named-requires

@@ -1,5 +1,5 @@
 use Rattle.std.proofs.Common.{refl}
-use Rattle.ring_world.proofs.Running.{running_opening}
+use Rattle.ring_world.proofs.code.Running.{running_opening}
 use Rattle.ring_world.proofs.world.World.opening.Goals as goal
 
 pub invariant_of-result : goal.invariant_of-result

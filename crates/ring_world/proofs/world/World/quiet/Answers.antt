@@ -1,6 +1,6 @@
 use Rattle.std.proofs.Common.{◌↔◌, IsTrue, subst}
 use Rattle.ring_world.specs.Quiet.{IsQuiet}
-use Rattle.ring_world.proofs.Running.{running_placed}
+use Rattle.ring_world.proofs.code.Running.{running_placed}
 use Rattle.ring_world.proofs.world.World.quiet.Goals as goal
 
 pub is_quiet-requires : goal.is_quiet-requires

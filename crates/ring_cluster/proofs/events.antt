@@ -1,0 +1,24 @@
+-- Each event of a cluster: what its member does, and that all parties stand afterwards.
+pub mod Acted
+pub mod After
+pub mod AloneGoes
+pub mod AloneRefusals
+pub mod CastGoes
+pub mod Closing
+pub mod EachGoes
+pub mod EndGoes
+pub mod Found
+pub mod GainGoes
+pub mod Marking
+pub mod OneEvent
+pub mod Opens
+pub mod PickGoes
+pub mod PutGoes
+pub mod Questioned
+pub mod Ready
+pub mod Refreshing
+pub mod Refusals
+pub mod Refusing
+pub mod Steps
+pub mod StopGoes
+pub mod TakeGoes

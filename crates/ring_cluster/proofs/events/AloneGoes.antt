@@ -1,0 +1,40 @@
+-- Where a member has done something by itself, the parties stand in the state after the ring's event.
+use Rattle.std.proofs.Common.{◌≡◌, ℕ, ◌+◌, Option, Some, None}
+use Rattle.std.specs.Prelude.{⊤}
+use Rattle.ring_names.specs.declared.numbers.CreditSpec.{CreditSpec}
+use Rattle.group_view.specs.declared.link.LinkName.{LinkName}
+use Rattle.ring_world.specs.declared.event.Event.{Event}
+use Rattle.ring_world.specs.declared.event.Event.TheVariants.{Cast, Put, Take, TakeEnd, Gain, Stop, Mark, Refresh, Pick}
+use Rattle.ring_world.specs.Machine.{World}
+use Rattle.ring_world.specs.Event.{by_of, id_of, refusal, effect}
+use Rattle.ring_cluster.specs.Ends.{OutSeen}
+use Rattle.ring_cluster.specs.Parties.{Parties}
+use Rattle.ring_cluster.specs.Standing.{Stand}
+use Rattle.ring_cluster.specs.Acting.{Acts}
+use Rattle.ring_cluster.proofs.work.Lawful.{IsLawfulAt}
+use Rattle.ring_cluster.proofs.events.CastGoes.{cast_goes}
+use Rattle.ring_cluster.proofs.events.PutGoes.{put_goes}
+use Rattle.ring_cluster.proofs.events.TakeGoes.{take_goes}
+use Rattle.ring_cluster.proofs.events.EndGoes.{end_goes}
+use Rattle.ring_cluster.proofs.events.GainGoes.{gain_goes}
+use Rattle.ring_cluster.proofs.events.StopGoes.{stop_goes}
+use Rattle.ring_cluster.proofs.events.PickGoes.{NonePosted, pick_goes}
+use Rattle.ring_cluster.proofs.standing.Frames.{StandMoved}
+
+-- The event is none that reads or makes a view; and where the member of id x picks, no link waits for it at the registrar.
+abbrev pub IsAlone : Event → ℕ → Parties → Type 0
+IsAlone (Mark by dead) x q = ⊥
+IsAlone (Refresh by version) x q = ⊥
+IsAlone (Pick by) x q = NonePosted q x
+IsAlone e x q = ⊤
+
+pub alone_goes : (credit : CreditSpec) (w : World) (e : Event) (i d : ℕ) (q q' : Parties) (loose : Option (LinkName × OutSeen)) → IsLawfulAt credit w → refusal w e ≡ None → id_of w (by_of e) ≡ Some (i + 1) → IsAlone e (i + 1) q → Stand credit.initial w q → Acts e i d q q' loose → StandMoved credit.initial (i + 1) (effect w e) q' loose
+alone_goes credit w (Cast by body) i d q q' loose h r found alone st a = cast_goes credit w by body i d q q' loose h found st a
+alone_goes credit w (Put by) i d q q' loose h r found alone st a = put_goes credit w by i d q q' loose h r found st a
+alone_goes credit w (Take by) i d q q' loose h r found alone st a = take_goes credit w by i d q q' loose h r found st a
+alone_goes credit w (TakeEnd by) i d q q' loose h r found alone st a = end_goes credit w by i d q q' loose h r found st a
+alone_goes credit w (Gain by) i d q q' loose h r found alone st a = gain_goes credit w by i d q q' loose h r found st a
+alone_goes credit w (Stop by) i d q q' loose h r found alone st a = stop_goes credit w by i d q q' loose h r found st a
+alone_goes credit w (Mark by dead) i d q q' loose h r found alone st a = absurd alone
+alone_goes credit w (Refresh by version) i d q q' loose h r found alone st a = absurd alone
+alone_goes credit w (Pick by) i d q q' loose h r found alone st a = pick_goes credit w by i d q q' loose h r found alone st a

@@ -1,0 +1,165 @@
+-- Where a member has taken a packet, the parties stand in the state after the ring's take.
+use Rattle.std.proofs.Common.{◌≡◌, ◌≢◌, ℕ, ◌+◌, ◌<◌, false, List, [], ◌∷◌, ◌++◌, length, map, drop, get_or, Option, Some, None, refl, sym, ap, subst, ◌∙◌, ⊎_elim, arith}
+use Rattle.std.specs.Prelude.{option_map}
+use Rattle.std.proofs.lemmas.Bool.{false≢true, cases_eq}
+use Rattle.std.proofs.lemmas.List.{get_or-set_same, get_or-set_other}
+use Rattle.ring_names.specs.declared.numbers.CreditSpec.{CreditSpec}
+use Rattle.ring_names.specs.declared.reason.Reason.TheVariants as reason
+use Rattle.credit_flow.specs.Credit.{grant_due}
+use Rattle.credit_flow.specs.Link.{with_grant}
+use Rattle.group_view.specs.declared.link.LinkName.{LinkName}
+use Rattle.ring_world.specs.declared.event.Event.TheVariants.{Take}
+use Rattle.ring_world.specs.declared.phase.Phase.TheVariants.{Up}
+use Rattle.ring_world.specs.Refusal.{is_empty}
+use Rattle.ring_world.specs.Machine.{World, Packet, Link, no_link, no_packet, member_at, link_at, oldest}
+use Rattle.ring_world.specs.Step.{size, with_member, taker, popped, take_from}
+use Rattle.ring_world.specs.Event.{id_of, running_refusal, on_link, take_refusal, holds_nothing, at_found, taken_by, refusal, effect}
+use Rattle.ring_world.proofs.events.Enabled.{running_phase, running_later, take_effect}
+use Rattle.ring_world.proofs.runs.OwnLogs.{take_log}
+use Rattle.ring_world.proofs.events.Refusals.{id_within, none_of, not_less}
+use Rattle.gm_member.specs.Parcels.{Parcel}
+use Rattle.gm_member.specs.Held.{Held, Incoming, at_some, took_from, took_held}
+use Rattle.gm_member.specs.Stands.{incoming_in, lines_in, waits_for}
+use Rattle.gm_member.proofs.Parts.{current_waits_not}
+use Rattle.gm_member.proofs.TakeStands.{TakesFrom, take_stands}
+use Rattle.gm_member.proofs.Others.{take_others}
+use Rattle.ring_cluster.specs.Ends.{Sent, OutSeen, InSeen, packet_in, end_items, Carries, HasRested}
+use Rattle.ring_cluster.specs.Parties.{Shown, Parties, node_at, with_node}
+use Rattle.ring_cluster.specs.Standing.{Places, MemberStands, Stand}
+use Rattle.ring_cluster.specs.Acting.{sent_of, due_of, TakesIn, Acts}
+use Rattle.ring_cluster.proofs.lists.Grants.{append-with_grant}
+use Rattle.ring_cluster.proofs.work.Lawful.{IsLawfulAt}
+use Rattle.ring_cluster.proofs.meetings.NamedLinks.{current_has}
+use Rattle.ring_cluster.proofs.standing.Writing.{placed_same, placed_other}
+use Rattle.ring_cluster.proofs.standing.Showing.{with_ins}
+use Rattle.ring_cluster.proofs.standing.Frames.{SameWays, link_ways, member_ways, ways_both, same_in, Does, StandMoved}
+use Rattle.ring_cluster.proofs.events.OneEvent.{found_later, found_does, link_there, made_of, stands_at, held_but_door}
+use Rattle.ring_cluster.proofs.meetings.Known.{not_left}
+use Rattle.ring_cluster.proofs.events.Steps.{goes_so, ways_leave, same_phases, carries_at, steps, ways_stand}
+
+-- ---- one link
+
+-- what stands behind the first packet
+drop_first : (w : World) (ks : List Packet) (es : List (Option Sent)) → is_empty ks ≡ false → drop 1 (map (packet_in w) ks ++ es) ≡ map (packet_in w) (drop 1 ks) ++ es
+drop_first w [] es e = absurd (false≢true (sym e))
+drop_first w (k ∷ ks) es e = refl
+
+pub take_carries : (initial : ℕ) (w : World) (l : Link) (o : OutSeen) (n n' : InSeen) (k : Sent) (due : Option ℕ) → is_empty l.packets ≡ false → due ≡ grant_due l.flow.receiver → TakesIn due n k n' → Carries w initial l o n → Carries w initial (popped l) o n'
+take_carries initial w l o n n' k due some ed t c =
+    let one_less : length n.items ≡ length n'.items + 1 = omega (arith, ap length t.items) in
+    record {
+      items = ap (λ xs. drop 1 (xs ++ o.waiting)) (sym t.items) ∙ ap (drop 1) c.items ∙ drop_first w l.packets (end_items l.ending) some;
+      grants =
+          ap (λ xs. o.back ++ xs) t.given ∙ append-with_grant o.back n.given due ∙ ap (λ xs. with_grant xs due) c.grants
+          ∙ ap (with_grant l.flow.grants) ed;
+      late = t.late;
+      ended = c.ended;
+      initial = c.initial;
+      fits = record { initial = t.initial ∙ c.fits.initial; slots = omega (arith, c.fits.slots); room = omega (arith, c.fits.room, t.room) };
+    }
+
+-- the packet that is taken is the oldest
+first_packet : (w : World) (ks : List Packet) (es : List (Option Sent)) (k : Sent) (xs : List (Option Sent)) → is_empty ks ≡ false → Some k ∷ xs ≡ map (packet_in w) ks ++ es → k.lines ≡ lines_in w (get_or ks 0 no_packet)
+first_packet w [] es k xs some e = absurd (false≢true (sym some))
+first_packet w (packet ∷ ks) es k xs some e =
+    let both : Some k ≡ packet_in w packet = cc in
+    let same : k ≡ record { view = packet.version; lines = lines_in w packet } = cc in
+    ap (λ (a : Sent). a.lines) same
+
+pub take_lines : (initial : ℕ) (w : World) (s : ℕ) (o : OutSeen) (n n' : InSeen) (k : Sent) (due : Option ℕ) → is_empty (link_at w s).packets ≡ false → TakesIn due n k n' → Carries w initial (link_at w s) o n → k.lines ≡ lines_in w (oldest (link_at w s))
+take_lines initial w s o n n' k due some t c = first_packet w (link_at w s).packets (end_items (link_at w s).ending) k (n'.items ++ o.waiting) some (ap (λ xs. xs ++ o.waiting) (sym t.items) ∙ c.items)
+
+-- the receiver rests as it did
+pub take_rested : (o : OutSeen) (n n' : InSeen) (k : Sent) (due : Option ℕ) → TakesIn due n k n' → HasRested o n → HasRested o n'
+take_rested o n n' k due t r = record { moved = r.moved; room = omega (arith, r.room, t.room, t.initial) }
+
+-- ---- what the member holds
+
+took_door : (g : Held) (ds : List Incoming) (k : Parcel) → took_held (record g { door = ds }) k ≡ record (took_held g k) { door = ds }
+took_door g ds k = by_current g.current
+  where
+    by_current : (c : Option Incoming) → at_some c (record g { door = ds }) (took_from (record g { door = ds }) k) ≡ record (at_some c g (took_from g k)) { door = ds }
+    by_current None = refl
+    by_current (Some a) = refl
+
+-- ---- the parties
+
+take_ways : (w : World) (x s : ℕ) → x < size w → s < length w.links → SameWays w (take_from w x s)
+take_ways w x s lt sl =
+    let w1 : World = with_member w x (taker w x s) in
+    ways_both w w1 (take_from w x s) (member_ways w x (taker w x s) lt refl refl refl) (link_ways w1 s (popped (link_at w s)) sl refl)
+
+-- the end of the link s from which x takes shows something else
+take_steps : (credit : CreditSpec) (w : World) (i s : ℕ) (q : Parties) (b : Shown) (n : InSeen) (k : Parcel) (st : Stand credit.initial w q) → IsLawfulAt credit w → TakesFrom w (i + 1) s
+    → TakesIn (due_of (node_at q i).held) (st.places.ins s) (sent_of k) n → b ≡ record { held = took_held (node_at q i).held k; ends = record (node_at q i).ends { link = Some n } }
+    → StandMoved credit.initial (i + 1) (take_from w (i + 1) s) (with_node q i b) None
+take_steps credit w i s q b n k st h t takes e =
+    let x : ℕ = i + 1 in
+    let w' : World = take_from w x s in
+    let p : Places = st.places in
+    let p' : Places = with_ins p s n in
+    let m : Shown = node_at q i in
+    let sl : s < length w.links = (h.fit.own_ends.current x s t.current).0 in
+    let l : Link = popped (link_at w s) in
+    let ways : SameWays w w' = take_ways w x s t.is_member sl in
+    let a : MemberStands w p x m = stands_at credit.initial w q p i st.stand t.is_member in
+    let due : Option ℕ = due_of m.held in
+    let due_is : due ≡ grant_due (link_at w s).flow.receiver = ap due_of (held_but_door w p x m a) ∙ ap (λ c. at_some (option_map (incoming_in w) c) None (λ (g : Incoming). grant_due g.counted)) t.current in
+    let lines : k.lines ≡ lines_in w (oldest (link_at w s)) = take_lines credit.initial w s (p.outs s) (p.ins s) n (sent_of k) due t.has takes (st.stand.carry s sl (current_has credit w x s h t.current)) in
+    let its : Does w w' x m b m.ends.out (Some n) = record {
+      does = λ (g : Held). took_held g k;
+      but_door = λ g ds. took_door g ds k;
+      stands = take_stands w x s k h.fit t lines;
+      is = e;
+    } in
+    let here : p'.ins s ≡ n = placed_same p.ins s n in
+    let other : (j : ℕ) → j ≢ s → p'.ins j ≡ p.ins j = λ j ne. placed_other p.ins s n j ne in
+    let other_link : (j : ℕ) → j ≢ s → link_at w' j ≡ link_at w j = λ j ne. get_or-set_other w.links s j l no_link ne in
+    steps credit w w' q q.stopped p' i b st h t.is_member (record {
+      leaves = ways_leave w w' x ways;
+      post = refl;
+      it = ways_stand w w' p p' x m b m.ends.out (Some n) ways refl
+          (λ j waits. other j (λ (same : j ≡ s). false≢true (sym (current_waits_not w x s t.current) ∙ sym (ap (waits_for w x) same) ∙ waits)))
+          its a.out (ap Some (sym here) ∙ ap (option_map p'.ins) (sym t.current)) a;
+      held = λ y ne. take_others w x s y h.fit t.current ne;
+      told = same_phases w x (taker w x s) q.stopped t.is_member refl;
+      outs = λ j _. refl;
+      ins = λ j ne. other j (λ (same : j ≡ s). ne (t.current ∙ ap Some (sym same)));
+      carry = λ j _ c. carries_at credit.initial w w' p p' s l (λ r. take_log w x s r t.is_member) (get_or-set_same w.links s l no_link sl) (λ j ne. (other_link j ne, refl, other j ne))
+          (λ before. subst (Carries w credit.initial l (p.outs s)) (sym here) (take_carries credit.initial w (link_at w s) (p.outs s) (p.ins s) n (sent_of k) due t.has due_is takes before)) j c;
+      rests = λ j o r. ⊎_elim
+          (λ (same : j ≡ s).
+          let r0 : HasRested o (p.ins s) = subst (λ c. HasRested o (p.ins c)) same r in
+          subst (λ c. HasRested o (p'.ins c)) (sym same) (subst (HasRested o) (sym here) (take_rested o (p.ins s) n (sent_of k) due takes r0)))
+          (λ (ne : j ≢ s). subst (HasRested o) (sym (other j ne)) r)
+          (cases_eq j s);
+      knows = λ j gone.
+          let ne : j ≢ s = not_left w j s (sym (same_in w w' j ways) ∙ gone) (current_has credit w x s h t.current) in
+          (refl, ap (λ (c : Link). c.flow.grants) (other_link j ne));
+    })
+
+pub take_goes : (credit : CreditSpec) (w : World) (by : List ℕ) (i d : ℕ) (q q' : Parties) (loose : Option (LinkName × OutSeen)) → IsLawfulAt credit w → refusal w (Take by) ≡ None → id_of w by ≡ Some (i + 1) → Stand credit.initial w q → Acts (Take by) i d q q' loose → StandMoved credit.initial (i + 1) (effect w (Take by)) q' loose
+take_goes credit w by i d q q' loose h enabled found st (b, (k, n, n', ends_link, takes, eb), is, none) =
+    let x : ℕ = i + 1 in
+    let lt : i + 1 < size w = (id_within w by x found).1 in
+    let p : Places = st.places in
+    let a : MemberStands w p x (node_at q i) = stands_at credit.initial w q p i st.stand lt in
+    let acts = found_later (id_of w by) x (λ y. running_refusal w y (on_link (member_at w y).current reason.NoCurrentLink (take_refusal w y))) found enabled in
+    let up : (member_at w x).phase ≡ Up = running_phase w x _ (h.fit.good.none_waits x) acts in
+    let there = link_there (member_at w x).current reason.NoCurrentLink (take_refusal w x) (running_later w x _ acts) in
+    let s : ℕ = there.0 in
+    let current : (member_at w x).current ≡ Some s = there.1 in
+    let some = none_of (holds_nothing (link_at w s)) reason.NothingToTake _ there.2 in
+    let packet = none_of (is_empty (link_at w s).packets) reason.EndNext _ some.1 in
+    let t : TakesFrom w x s = record {
+      some = omega arith;
+      is_member = lt;
+      up = up;
+      current = current;
+      has = packet.0;
+      version = not_less (member_at w x).version (oldest (link_at w s)).version _ packet.1;
+    } in
+    let same_end : p.ins s ≡ n = made_of p.ins (member_at w x).current s n current (sym a.link ∙ ends_link) in
+    let its : TakesIn (due_of (node_at q i).held) (p.ins s) (sent_of k) n' = subst (λ e. TakesIn (due_of (node_at q i).held) e (sent_of k) n') (sym same_end) takes in
+    let does : effect w (Take by) ≡ take_from w x s = found_does (id_of w by) x w (λ y. at_found (member_at w y).current w (taken_by (member_at w y).phase w y)) found ∙ take_effect w x s (member_at w x).current (member_at w x).phase current up in
+    goes_so credit.initial x (take_from w x s) (effect w (Take by)) (with_node q i b) q' loose does is none (take_steps credit w i s q b n' k st h t its eb)

@@ -1,0 +1,5 @@
+-- Truth values, lists, rows and grants alone.
+pub mod Grants
+pub mod Lists
+pub mod Rows
+pub mod Truth

@@ -1,0 +1,240 @@
+-- What the turns of a cluster do.
+use Rattle.std.proofs.Common.{◌≡◌, ℕ, ◌+◌, ◌<◌, ◌≤◌, Bool, true, false, List, [], ◌∷◌, ◌++◌, length, get_or, set, Option, Some, None, refl, sym, ap, subst, ◌∙◌, ⊎_elim, arith, bytes_eq, append-nil, append_assoc, if◌then◌else◌}
+use Rattle.std.specs.Prelude.{◌&&◌, Contains, IsSome}
+use Rattle.std.proofs.lemmas.Bool.{false≢true}
+use Rattle.std.proofs.lemmas.List.{length-map, map-append, length-set, get_or-set_same, get_or-set_other}
+use Rattle.std.proofs.lemmas.List.Quantifiers.{position-Some}
+use Rattle.std.proofs.lemmas.List.Elements.{Contains-append_left, Contains-append_right, Contains-append_cases}
+use Rattle.ring_script.specs.declared.command.Command.{Command}
+use Rattle.ring_script.specs.declared.command.Command.TheVariants as command
+use Rattle.ring_world.specs.declared.event.Event.{Event}
+use Rattle.ring_world.specs.declared.event.Event.TheVariants.{Cast}
+use Rattle.ring_world.specs.Machine.{runs}
+use Rattle.ring_world.specs.Step.{opening}
+use Rattle.ring_world.specs.Event.{refusal, by_of, is_asked}
+use Rattle.ring_world.specs.Quiet.{IsQuiet}
+use Rattle.ring_world.proofs.events.Names.{same_bytes, found_at}
+use Rattle.ring_cluster.specs.declared.agenda.Task.{Task}
+use Rattle.ring_cluster.specs.declared.agenda.Task.TheVariants as task
+use Rattle.ring_cluster.specs.Work.{work, LeavesLess}
+use Rattle.ring_cluster.specs.Seen.{Seen, state, state_of, IsGoing, SameButOwed, with_event}
+use Rattle.ring_cluster.specs.Turns.{SamePhases}
+use Rattle.ring_cluster.specs.Plays.{IsCommandTo, with_task, commanded, asked, asked_by, Plays, PlaysSoFar, client_event, client_events, task_event, todo, agenda_at, agenda_found, place_among, agenda_of, performed, GoesOn, HasGoneOn, HasBegun, SameElsewhere, HeadsAre, AgendasAreEmpty}
+use Rattle.ring_cluster.proofs.rounds.Named.{going_fit}
+use Rattle.ring_world.proofs.code.Running.{last-push}
+use Rattle.ring_cluster.proofs.work.Phases.{own_phases, cast_phases}
+use Rattle.ring_cluster.proofs.rounds.Playing.{is_own, GoesOn-given, plays_on, plays_noted, settled_each_more, settled_now, empty_is_done, settled_plays, asked_push}
+
+-- ---- a member's own steps
+
+pub own_event : (e : Event) → is_asked e ≡ false → (name : List ℕ) → client_event name e ≡ []
+own_event e own name = ap (λ b. if b && bytes_eq (by_of e) name then e ∷ [] else []) own
+
+pub own_goes : (c d : Seen) (e : Event) → is_asked e ≡ false → SameButOwed (with_event c e) d → HasGoneOn c d
+own_goes c d e l is = (e ∷ [], is_own e (own_event e l) c d is.0 is.1)
+
+pub own_stays : (c d : Seen) (e : Event) → IsGoing c → is_asked e ≡ false → SameButOwed (with_event c e) d → SamePhases (state_of c) (state_of d)
+own_stays c d e g l is =
+    subst (SamePhases (state_of c)) (sym (ap state_of is.1 ∙ last-push (opening c.credit c.names) c.events e)) (own_phases (state_of c) e (going_fit c g).good.none_waits l)
+
+pub own_falls : (c d : Seen) (e : Event) → LeavesLess (state_of c) e → refusal (state_of c) e ≡ None → SameButOwed (with_event c e) d → work (state_of d) < work (state_of c)
+own_falls c d e less r is = subst (λ w. work w < work (state_of c)) (sym (ap state_of is.1 ∙ last-push (opening c.credit c.names) c.events e)) (less r)
+
+-- ---- tasks
+
+pub task_of_name : (name by : List ℕ) (t : Task) → bytes_eq by name ≡ true → by ≡ name → client_event name (task_event by t) ≡ task_event name t ∷ []
+task_of_name name by (task.Cast body) b e = rw b (ap (λ n. Cast n body ∷ []) e)
+
+pub task_of_other : (name by : List ℕ) (t : Task) → bytes_eq by name ≡ false → client_event name (task_event by t) ≡ []
+task_of_other name by (task.Cast body) b = rw b refl
+
+pub agenda_other : (agendas : List (List Task)) (names : List (List ℕ)) (name : List ℕ) (i : ℕ) (ts : List Task) (o : Option ℕ) → place_among names name ≡ o → bytes_eq (get_or names i []) name ≡ false → agenda_found (set agendas i ts) o ≡ agenda_found agendas o
+agenda_other agendas names name i ts None e b = refl
+agenda_other agendas names name i ts (Some j) e b =
+    let found : bytes_eq (get_or names j []) name ≡ true = (position-Some (λ n. bytes_eq n name) names j [] e).1 in
+    get_or-set_other agendas i j ts [] (λ (same : j ≡ i). false≢true (sym b ∙ ap (λ k. bytes_eq (get_or names k []) name) (sym same) ∙ found))
+
+pub performed_asked : (c : Seen) (i : ℕ) (t : Task) (ts : List Task) (name : List ℕ) (b : Bool) → bytes_eq (get_or c.names i []) name ≡ b → IsGoing c → i < length c.names → agenda_at c.agendas i ≡ t ∷ ts → client_events name (task_event (get_or c.names i []) t ∷ []) ++ todo name (agenda_of (performed c i t ts) name) ≡ todo name (agenda_of c name)
+performed_asked c i t ts name true e g l a =
+    let same : get_or c.names i [] ≡ name = same_bytes (get_or c.names i []) name e in
+    let al : i < length c.agendas = omega (arith, g.agendas) in
+    let place : place_among c.names name ≡ Some i = found_at (λ n. bytes_eq n name) c.names i [] l e (λ j jl x. g.are.different j i jl l (same_bytes (get_or c.names j []) name x ∙ sym same)) in
+    ap (λ zs. (zs ++ []) ++ todo name (agenda_of (performed c i t ts) name)) (task_of_name name (get_or c.names i []) t e same)
+    ∙ ap (λ o. task_event name t ∷ todo name (agenda_found (set c.agendas i ts) o)) place
+    ∙ ap (λ zs. task_event name t ∷ todo name zs) (get_or-set_same c.agendas i ts [] al)
+    ∙ ap (todo name) (sym a)
+    ∙ ap (λ o. todo name (agenda_found c.agendas o)) (sym place)
+performed_asked c i t ts name false e g l a =
+    ap (λ zs. (zs ++ []) ++ todo name (agenda_of (performed c i t ts) name)) (task_of_other name (get_or c.names i []) t e)
+    ∙ ap (todo name) (agenda_other c.agendas c.names name i ts (place_among c.names name) refl e)
+
+pub performed_goes : (c d : Seen) (i : ℕ) (t : Task) (ts : List Task) → IsGoing c → i < length c.names → agenda_at c.agendas i ≡ t ∷ ts → SameButOwed (performed c i t ts) d → HasGoneOn c d
+performed_goes c d i t ts g l a is = subst (HasGoneOn c) (sym is.1) (
+  task_event (get_or c.names i []) t ∷ [],
+  record {
+    credit = refl;
+    names = refl;
+    count = length-set c.agendas i ts;
+    events = refl;
+    asked = λ name. performed_asked c i t ts name (bytes_eq (get_or c.names i []) name) refl g l a;
+  },
+)
+
+pub performed_shrinks : (c d : Seen) (i : ℕ) (t : Task) (ts : List Task) → IsGoing c → i < length c.names → agenda_at c.agendas i ≡ t ∷ ts → SameButOwed (performed c i t ts) d → length (agenda_at d.agendas i) < length (agenda_at c.agendas i)
+performed_shrinks c d i t ts g l a is =
+    let al : i < length c.agendas = omega (arith, g.agendas) in
+    let new : agenda_at d.agendas i ≡ ts = ap (λ x. agenda_at x.agendas i) is.1 ∙ get_or-set_same c.agendas i ts [] al in
+    omega (arith, ap length new, ap length a)
+
+pub performed_elsewhere : (c d : Seen) (i : ℕ) (t : Task) (ts : List Task) → SameButOwed (performed c i t ts) d → SameElsewhere i c d
+performed_elsewhere c d i t ts is j ne = ap (λ x. agenda_at x.agendas j) is.1 ∙ get_or-set_other c.agendas i j ts [] ne
+
+pub performed_stays : (c d : Seen) (i : ℕ) (t : Task) (ts : List Task) → SameButOwed (performed c i t ts) d → SamePhases (state_of c) (state_of d)
+performed_stays c d i (task.Cast body) ts is =
+    subst (SamePhases (state_of c)) (sym (ap state_of is.1 ∙ last-push (opening c.credit c.names) c.events (Cast (get_or c.names i []) body))) (cast_phases (state_of c) (get_or c.names i []) body)
+
+-- ---- heads
+
+pub contains_asked : (e x : Event) (es : List Event) (b : Bool) → Contains (if b then x ∷ [] else []) e → Contains (x ∷ es) e
+contains_asked e x es true h = Contains-append_left (x ∷ []) es e h
+contains_asked e x es false h = absurd (omega (arith, h.1))
+
+pub contains_client : (name : List ℕ) (events : List Event) (e : Event) → Contains (client_events name events) e → Contains events e
+contains_client name [] e h = absurd (omega (arith, h.1))
+contains_client name (x ∷ es) e h =
+    ⊎_elim
+    (λ (l : Contains (client_event name x) e). contains_asked e x es (is_asked x && bytes_eq (by_of x) name) l)
+    (λ (r : Contains (client_events name es) e). Contains-append_right (x ∷ []) es e (contains_client name es e r))
+    (Contains-append_cases (client_event name x) (client_events name es) e h)
+
+pub first_of : (xs ys zs : List Event) (e : Event) → xs ++ ys ≡ e ∷ zs → length ys < length zs + 1 → Contains xs e
+first_of [] ys zs e is l = absurd (omega (arith, ap length is))
+first_of (x ∷ xs) ys zs e is l = (0, omega arith, cc)
+
+-- each member that ran and had an agenda has begun with its head
+pub heads_are : (c d : Seen) (more : List Event) → GoesOn c d more → ((i : ℕ) → i < length c.names → HasBegun i c d) → HeadsAre c more
+heads_are c d more g begun name i t ts e r a =
+    let il : i < length c.names = (position-Some (λ n. bytes_eq n name) c.names i [] e).0 in
+    let less : length (agenda_at d.agendas i) < length (agenda_at c.agendas i) = begun i il r (omega (arith, ap length a)) in
+    let left : todo name (agenda_of d name) ≡ todo name (agenda_at d.agendas i) = ap (λ ns. todo name (agenda_found d.agendas (place_among ns name))) g.names ∙ ap (λ o. todo name (agenda_found d.agendas o)) e in
+    let is : client_events name more ++ todo name (agenda_of d name) ≡ task_event name t ∷ todo name ts = g.asked name ∙ ap (λ o. todo name (agenda_found c.agendas o)) e ∙ ap (todo name) a in
+    contains_client name more (task_event name t)
+    (first_of (client_events name more) (todo name (agenda_of d name)) (todo name ts) (task_event name t) is
+    (omega (arith, less, ap length a, ap length left, length-map (agenda_at d.agendas i) (task_event name), length-map ts (task_event name))))
+
+-- ---- turn after turn
+
+pub begun_on : (i : ℕ) (c d e : Seen) → HasBegun i c d → length (agenda_at e.agendas i) ≤ length (agenda_at d.agendas i) → HasBegun i c e
+begun_on i c d e h l r some = omega (arith, h r some)
+
+pub begun_later : (i : ℕ) (c d e : Seen) → runs (state_of d) (i + 1) ≡ runs (state_of c) (i + 1) → agenda_at d.agendas i ≡ agenda_at c.agendas i → HasBegun i d e → HasBegun i c e
+begun_later i c d e same_run same h r some = omega (arith, ap length same, h (same_run ∙ r) (omega (arith, ap length same)))
+
+-- ---- commands
+
+pub agenda_more : (agendas : List (List Task)) (i : ℕ) (t : Task) → i < length agendas → agenda_at (set agendas i (agenda_at agendas i ++ t ∷ [])) i ≡ agenda_at agendas i ++ t ∷ []
+agenda_more agendas i t l = get_or-set_same agendas i (agenda_at agendas i ++ t ∷ []) [] l
+
+pub commanded_asked : (c : Seen) (by body : List ℕ) (name : List ℕ) (i : ℕ) (b : Bool) → bytes_eq by name ≡ b → place_among c.names by ≡ Some i → IsGoing c → PlaysSoFar c
+    → client_events name c.events ++ todo name (agenda_of (commanded c (command.Cast by body)) name) ≡ asked name (c.given ++ command.Cast by body ∷ [])
+commanded_asked c by body name i true e p g h =
+    let same : by ≡ name = same_bytes by name e in
+    let il : i < length c.agendas = omega (arith, g.agendas, (position-Some (λ n. bytes_eq n by) c.names i [] p).0) in
+    let place : place_among c.names name ≡ Some i = ap (place_among c.names) (sym same) ∙ p in
+    let agenda : agenda_of (commanded c (command.Cast by body)) name ≡ agenda_at c.agendas i ++ task.Cast body ∷ [] =
+    ap (λ o. agenda_found (with_task c.agendas o (task.Cast body)) (place_among c.names name)) p ∙ ap (agenda_found (with_task c.agendas (Some i) (task.Cast body))) place ∙ agenda_more c.agendas i (task.Cast body) il in
+    let one : asked_by name (command.Cast by body) ≡ task_event name (task.Cast body) ∷ [] = rw e (ap (λ n. Cast n body ∷ []) same) in
+    ap (λ ts. client_events name c.events ++ todo name ts) agenda
+    ∙ ap (λ es. client_events name c.events ++ es) (map-append (task_event name) (agenda_at c.agendas i) (task.Cast body ∷ []))
+    ∙ sym (append_assoc (client_events name c.events) (todo name (agenda_at c.agendas i)) (task_event name (task.Cast body) ∷ []))
+    ∙ ap (λ o. (client_events name c.events ++ todo name (agenda_found c.agendas o)) ++ task_event name (task.Cast body) ∷ []) (sym place)
+    ∙ ap (λ es. es ++ task_event name (task.Cast body) ∷ []) (h.asked name)
+    ∙ ap (λ es. asked name c.given ++ es) (sym one)
+    ∙ sym (asked_push name c.given (command.Cast by body))
+commanded_asked c by body name i false e p g h =
+    let named : get_or c.names i [] ≡ by = same_bytes (get_or c.names i []) by (position-Some (λ n. bytes_eq n by) c.names i [] p).1 in
+    let other : bytes_eq (get_or c.names i []) name ≡ false = ap (λ n. bytes_eq n name) named ∙ e in
+    let agenda : agenda_of (commanded c (command.Cast by body)) name ≡ agenda_of c name =
+    ap (λ o. agenda_found (with_task c.agendas o (task.Cast body)) (place_among c.names name)) p ∙ agenda_other c.agendas c.names name i (agenda_at c.agendas i ++ task.Cast body ∷ []) (place_among c.names name) refl other in
+    let none : asked_by name (command.Cast by body) ≡ [] = rw e refl in
+    ap (λ ts. client_events name c.events ++ todo name ts) agenda
+    ∙ h.asked name
+    ∙ sym (append-nil (asked name c.given))
+    ∙ ap (λ es. asked name c.given ++ es) (sym none)
+    ∙ sym (asked_push name c.given (command.Cast by body))
+
+pub found_place : (o : Option ℕ) → IsSome o → (i : ℕ) × (o ≡ Some i)
+found_place None h = absurd (false≢true h)
+found_place (Some i) h = (i, refl)
+
+-- a command that was taken keeps what is played
+pub commanded_plays : (c d : Seen) (x : Command) → IsGoing c → IsCommandTo c.names x → d ≡ commanded c x → PlaysSoFar c → PlaysSoFar d
+commanded_plays c d (command.Cast by body) g k is h =
+    let f : (i : ℕ) × (place_among c.names by ≡ Some i) = found_place (place_among c.names by) k in
+    subst PlaysSoFar (sym is) (record {
+      asked = λ name. commanded_asked c by body name f.0 (bytes_eq by name) refl f.1 g h;
+      settled = settled_each_more c.credit c.names c.events c.given (command.Cast by body) h.settled (λ e. cc);
+    })
+commanded_plays c d (command.Go turns) g k is h = absurd k
+commanded_plays c d command.Settle g k is h = absurd k
+
+-- ---- rounds and settling
+
+pub go_plays : (c d : Seen) (turns : ℕ) → HasGoneOn c d → d.given ≡ c.given ++ command.Go turns ∷ [] → PlaysSoFar c → PlaysSoFar d
+go_plays c d turns goes eg h =
+    let e : Seen = record d { given = c.given } in
+    let on : PlaysSoFar e = plays_on c e goes.0 (GoesOn-given c d e goes.0 refl refl refl refl goes.1) refl h in
+    plays_noted e d (command.Go turns) (λ name. refl) (λ x. cc) refl refl refl refl eg on
+
+pub same_plays : (c d : Seen) → HasGoneOn c d → d.given ≡ c.given → PlaysSoFar c → PlaysSoFar d
+same_plays c d goes eg h = plays_on c d goes.0 goes.1 eg h
+
+pub settle_plays : (c d : Seen) → HasGoneOn c d → AgendasAreEmpty d → IsQuiet (state_of d) → d.given ≡ c.given ++ command.Settle ∷ [] → PlaysSoFar c → PlaysSoFar d
+settle_plays c d goes empty quiet eg h =
+    let e : Seen = record d { given = c.given } in
+    let on : PlaysSoFar e = plays_on c e goes.0 (GoesOn-given c d e goes.0 refl refl refl refl goes.1) refl h in
+    plays_noted e d command.Settle (λ name. refl) (λ _. settled_now d.credit d.names d.events c.given quiet (empty_is_done e empty on)) refl refl refl refl eg on
+
+pub settle_played : (c d : Seen) → HasGoneOn c d → AgendasAreEmpty d → IsQuiet (state_of d) → d.given ≡ c.given ++ command.Settle ∷ [] → PlaysSoFar c → Plays d.credit d.names d.events d.given
+settle_played c d goes empty quiet eg h = settled_plays d empty (settle_plays c d goes empty quiet eg h)
+
+-- only what was given and the rounds differ
+pub gone_beside : (c c1 d d1 : Seen) → c1.credit ≡ c.credit → c1.names ≡ c.names → c1.events ≡ c.events → c1.agendas ≡ c.agendas → d.credit ≡ d1.credit → d.names ≡ d1.names → d.events ≡ d1.events → d.agendas ≡ d1.agendas → HasGoneOn c1 d1 → HasGoneOn c d
+gone_beside c c1 d d1 c1c c1n c1e c1a dc dn de da h = (
+  h.0,
+  record {
+    credit = dc ∙ h.1.credit ∙ c1c;
+    names = dn ∙ h.1.names ∙ c1n;
+    count = ap length da ∙ h.1.count ∙ ap length c1a;
+    events = de ∙ h.1.events ∙ ap (λ es. es ++ h.0) c1e;
+    asked = λ name.
+        ap (λ ts. client_events name h.0 ++ todo name ts) (ap (λ ags. agenda_found ags (place_among d.names name)) da ∙ ap (λ ns. agenda_found d1.agendas (place_among ns name)) dn)
+        ∙ h.1.asked name
+        ∙ ap (todo name) (ap (λ ags. agenda_found ags (place_among c1.names name)) c1a ∙ ap (λ ns. agenda_found c.agendas (place_among ns name)) c1n);
+  },
+)
+
+-- c1 has another count of rounds than c, and c2 another list of what was given than c1
+pub gone_from : (c c1 c2 d : Seen) (rounds : ℕ) (given : List Command) → c1 ≡ record c { rounds = rounds } → c2 ≡ record c1 { given = given } → HasGoneOn c2 d → HasGoneOn c d
+gone_from c c1 c2 d rounds given e1 e2 h =
+    gone_beside c c2 d d (ap (λ x. x.credit) e2 ∙ ap (λ x. x.credit) e1) (ap (λ x. x.names) e2 ∙ ap (λ x. x.names) e1) (ap (λ x. x.events) e2 ∙ ap (λ x. x.events) e1) (ap (λ x. x.agendas) e2 ∙ ap (λ x. x.agendas) e1) refl refl refl refl h
+
+pub gone_into : (c d e : Seen) (given : List Command) → e ≡ record d { given = given } → HasGoneOn c d → HasGoneOn c e
+gone_into c d e given is h = gone_beside c c e d refl refl refl refl (ap (λ x. x.credit) is) (ap (λ x. x.names) is) (ap (λ x. x.events) is) (ap (λ x. x.agendas) is) h
+
+pub round_heads : (c c1 c2 d : Seen) (rounds : ℕ) (given : List Command) → c1 ≡ record c { rounds = rounds } → c2 ≡ record c1 { given = given } → HasGoneOn c2 d → ((i : ℕ) → i < length c2.names → HasBegun i c2 d) → (more : List Event) × GoesOn c d more × HeadsAre c more
+round_heads c c1 c2 d rounds given e1 e2 h begun =
+    let agendas : c2.agendas ≡ c.agendas = ap (λ x. x.agendas) e2 ∙ ap (λ x. x.agendas) e1 in
+    let names : c2.names ≡ c.names = ap (λ x. x.names) e2 ∙ ap (λ x. x.names) e1 in
+    let gone : HasGoneOn c d = gone_from c c1 c2 d rounds given e1 e2 h in
+    let run : (i : ℕ) → runs (state_of c2) (i + 1) ≡ runs (state_of c) (i + 1) = λ i. ap (λ x. runs (state x c2.names c2.events) (i + 1)) (ap (λ x. x.credit) e2 ∙ ap (λ x. x.credit) e1) ∙ ap (λ x. runs (state c.credit x c2.events) (i + 1)) names ∙ ap (λ x. runs (state c.credit c.names x) (i + 1)) (ap (λ x. x.events) e2 ∙ ap (λ x. x.events) e1) in
+    (gone.0, gone.1, heads_are c d gone.0 gone.1 (λ i l. begun_later i c c2 d (run i) (ap (λ ags. agenda_at ags i) agendas) (begun i (omega (arith, ap length names)))))
+
+pub given_after : (c c1 c2 d : Seen) (rounds : ℕ) (x : Command) → c1 ≡ record c { rounds = rounds } → c2 ≡ record c1 { given = c1.given ++ x ∷ [] } → d.given ≡ c2.given → d.given ≡ c.given ++ x ∷ []
+given_after c c1 c2 d rounds x e1 e2 e = e ∙ ap (λ y. y.given) e2 ∙ ap (λ y. y.given ++ x ∷ []) e1
+
+pub noted : (c c2 d : Seen) (x : Command) → c2 ≡ record c { given = c.given ++ x ∷ [] } → d.given ≡ c2.given → d.given ≡ c.given ++ x ∷ []
+noted c c2 d x e2 e = e ∙ ap (λ y. y.given) e2
+
+pub gone_noted : (c c2 d : Seen) (given : List Command) → c2 ≡ record c { given = given } → HasGoneOn c2 d → HasGoneOn c d
+gone_noted c c2 d given e2 h = gone_beside c c2 d d (ap (λ x. x.credit) e2) (ap (λ x. x.names) e2) (ap (λ x. x.events) e2) (ap (λ x. x.agendas) e2) refl refl refl refl h

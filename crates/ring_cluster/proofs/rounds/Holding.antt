@@ -1,0 +1,78 @@
+-- What a member that stands in a state, where members may stop, holds of it.
+use Rattle.std.proofs.Common.{◌≡◌, ℕ, ◌+◌, ◌-◌, ◌<◌, ◌≤◌, Bool, true, false, not, ◌||◌, nat_eq, List, length, refl, sym, ap, ◌∙◌, arith}
+use Rattle.std.specs.Prelude.{◌&&◌, Option, is_some}
+use Rattle.group_view.specs.declared.link.LinkName.{LinkName}
+use Rattle.ring_names.specs.declared.numbers.CreditSpec.{CreditSpec}
+use Rattle.ring_world.specs.declared.event.Event.{Event}
+use Rattle.ring_world.specs.Rows.{Row}
+use Rattle.ring_world.specs.Machine.{World, member_at, view_at, newest}
+use Rattle.ring_world.specs.Step.{size}
+use Rattle.ring_world.specs.Lawful.{row_of}
+use Rattle.gm_member.specs.Held.{Held, Incoming, known_at}
+use Rattle.gm_member.specs.Stands.{held_in, outgoing_in}
+use Rattle.gm_member.specs.Shown.{out_name_of}
+use Rattle.gm_member.proofs.Fit.{IsFit, reached_fit}
+use Rattle.gm_member.proofs.Facts.{held_row, version_of_view}
+use Rattle.ring_cluster.specs.Work.{is_stale}
+use Rattle.ring_cluster.specs.Holds.{HoldsOf}
+use Rattle.ring_cluster.specs.Seen.{state}
+use Rattle.ring_cluster.specs.Parties.{Parties, node_at}
+use Rattle.ring_cluster.specs.Standing.{StandAfter, MemberStands}
+use Rattle.ring_cluster.proofs.rounds.Named.{run_many}
+use Rattle.ring_cluster.proofs.lists.Truth.{made_some}
+
+-- what a member holds that stands at an id, but for its door
+abbrev pub IsHeld : World → ℕ → Held → Type 0
+IsHeld w x h = h ≡ record (held_in w x) { door = h.door }
+
+pub held_but_door : (w : World) (x : ℕ) (h : Held) (door : List Incoming) → h ≡ record (held_in w x) { door = door } → IsHeld w x h
+held_but_door w x h door e = e ∙ ap (λ d. record (held_in w x) { door = d }) (sym (ap (λ k. k.door) e))
+
+pub held_holds : (w : World) (x : ℕ) (h : Held) → IsFit w → IsHeld w x h → HoldsOf w x h
+held_holds w x h f e = record {
+  id = ap (λ k. k.id) e;
+  name = ap (λ k. k.name) e;
+  phase = ap (λ k. k.phase) e;
+  view = ap (λ k. k.view) e;
+  got = λ p some lt. ap (λ (r : Row). r.got) (row p some lt);
+  forgot = λ p some lt. ap (λ (r : Row). r.forgot) (row p some lt);
+  retired = λ p some lt. ap (λ (r : Row). r.retired) (row p some lt);
+  messages = λ p some lt. ap (λ (r : Row). r.heard) (row p some lt) ∙ f.lawful.in_order x p;
+}
+  where
+    row : (p : ℕ) → 1 ≤ p → p < size w → known_at h.rows (p - 1) ≡ row_of w x p
+    row p some lt =
+        let back : p - 1 + 1 ≡ p = omega arith in
+        ap (λ k. known_at k.rows (p - 1)) e ∙ held_row w x (p - 1) (omega (arith, f.sized.few)) ∙ ap (row_of w x) back
+
+-- ---- a cluster
+
+pub nodes_many : (credit : CreditSpec) (names : List (List ℕ)) (events : List Event) (q : Parties) → StandAfter credit names events q → length q.nodes ≡ length names
+nodes_many credit names events q s = omega (arith, s.stand.stand.count, run_many credit names events s.journal.are s.journal.run)
+
+pub node_stands : (credit : CreditSpec) (names : List (List ℕ)) (events : List Event) (q : Parties) (x : ℕ) → StandAfter credit names events q → 1 ≤ x → x ≤ length names → IsHeld (state credit names events) x (node_at q (x - 1)).held
+node_stands credit names events q x s some le =
+    let m : MemberStands (state credit names events) s.stand.places x (node_at q (x - 1)) = s.stand.stand.each x some (omega (arith, run_many credit names events s.journal.are s.journal.run)) in
+    held_but_door (state credit names events) x (node_at q (x - 1)).held _ m.held
+
+pub node_holds : (credit : CreditSpec) (names : List (List ℕ)) (events : List Event) (q : Parties) (x : ℕ) → StandAfter credit names events q → 1 ≤ x → x ≤ length names → HoldsOf (state credit names events) x (node_at q (x - 1)).held
+node_holds credit names events q x s some le =
+    held_holds (state credit names events) x (node_at q (x - 1)).held (reached_fit credit names events s.journal.are s.journal.run) (node_stands credit names events q x s some le)
+
+-- ---- whether a member is stale
+
+pub not_and : (a b : Bool) → (not a || not b) ≡ not (a && b)
+not_and true b = refl
+not_and false b = refl
+
+-- the version of the newest view
+pub newest_version : (w : World) → IsFit w → (view_at w (newest w)).version ≡ newest w
+newest_version w f = version_of_view w (newest w) f.good.views (omega arith)
+
+pub held_stale : (w : World) (x have newer : ℕ) (name : Option LinkName) (h : Held) → IsFit w → IsHeld w x h → have ≡ h.view.version → newer ≡ (view_at w (newest w)).version → name ≡ out_name_of h
+    → (not (nat_eq have newer) || not (is_some name)) ≡ is_stale (newest w) (member_at w x)
+held_stale w x have newer name h f e he ne oe =
+    let own : have ≡ (member_at w x).version = he ∙ ap (λ (k : Held). k.view.version) e ∙ version_of_view w (member_at w x).version f.good.views (f.good.inv.is_ring.held x) in
+    let top : newer ≡ newest w = ne ∙ newest_version w f in
+    let out : is_some name ≡ is_some (member_at w x).out = ap is_some oe ∙ made_some _ h.out ∙ ap (λ (k : Held). is_some k.out) e ∙ made_some (outgoing_in w) (member_at w x).out in
+    not_and (nat_eq have newer) (is_some name) ∙ ap (λ b. not (b && is_some name)) (ap (λ a. nat_eq a newer) own ∙ ap (nat_eq (member_at w x).version) top) ∙ ap (λ b. not (nat_eq (member_at w x).version (newest w) && b)) out

@@ -1,0 +1,140 @@
+-- When a cluster has nothing left to do.
+use Rattle.std.proofs.Common.{◌≡◌, ◌≢◌, ℕ, zero, suc, ◌+◌, ◌-◌, ◌<◌, ◌≤◌, Bool, true, false, not, nat_eq, List, length, Option, Some, None, is_some, refl, sym, ap, subst, ◌∙◌, arith}
+use Rattle.std.specs.Prelude.{◌&&◌}
+use Rattle.std.proofs.lemmas.Bool.{false≢true, not-false}
+use Rattle.ring_script.specs.declared.command.Command.{Command}
+use Rattle.group_view.specs.Ring.{is_in}
+use Rattle.group_view.specs.View.{right_of as right_of_entries}
+use Rattle.group_view.proofs.Rings.{nat_eq-is}
+use Rattle.group_view.proofs.Passing.{live_in}
+use Rattle.ring_world.specs.View.{is_live}
+use Rattle.ring_world.specs.Machine.{World, member_at, view_at, newest, right, runs}
+use Rattle.ring_world.specs.Step.{size}
+use Rattle.ring_world.specs.Quiet.{IsQuiet}
+use Rattle.ring_world.proofs.invariants.Period.{right_lives}
+use Rattle.ring_world.proofs.walks.Views.{right_is}
+use Rattle.ring_world.proofs.walks.Ended.{runs_lt}
+use Rattle.ring_world.proofs.walks.Put.{runs_phase-Up}
+use Rattle.ring_world.proofs.invariants.Opening.{range_in}
+use Rattle.ring_cluster.specs.declared.driver.OwnStep.TheVariants as step
+use Rattle.ring_cluster.specs.Idle.{HasNothingToDo, IsIdle, NobodyStopped, MarksNobody}
+use Rattle.ring_cluster.specs.Work.{is_stale}
+use Rattle.ring_cluster.specs.Seen.{Seen, state_of, IsGoing, SameButOwed}
+use Rattle.ring_cluster.specs.Plays.{AgendasAreDone, AgendasAreEmpty}
+use Rattle.ring_cluster.specs.Turns.{SamePhases, MayStep, MayStepNowhere, MarksNoneAt, RestsAt}
+use Rattle.ring_cluster.proofs.post.Owed.{but_trans}
+use Rattle.ring_cluster.proofs.work.Reached.{IsReached, reached}
+use Rattle.ring_cluster.proofs.work.Rest.{run_idle_is_quiet}
+use Rattle.ring_cluster.proofs.rounds.Named.{going_many}
+
+pub going_reached : (c : Seen) → IsGoing c → IsReached (state_of c)
+going_reached c g = reached c.credit c.names c.events g.are g.run
+
+-- ---- the right neighbour of a member that runs
+
+-- it is one of the members
+pub right_there : (w : World) (x : ℕ) → IsReached w → runs w x ≡ true → (1 ≤ right w (newest w) x) × (right w (newest w) x < size w)
+right_there w x h r =
+    let d : ℕ = right w (newest w) x in
+    let lives : is_live (view_at w (newest w)) x ≡ true = h.fit.good.inv.is_ring.lives x (newest w) r (h.fit.good.inv.is_ring.held x) (omega arith) in
+    let k = range_in 1 (size w - 1) d (ap (is_in d) (sym h.each_id) ∙ live_in (view_at w (newest w)).entries d (right_lives w (newest w) x lives)) in
+    (k.0, omega (arith, k.0, k.1))
+
+-- the view finds it
+pub right_found : (w : World) (x : ℕ) → IsReached w → runs w x ≡ true → right_of_entries (view_at w (newest w)).entries x ≡ right w (newest w) x
+right_found w x h r =
+    sym (right_is w (newest w) x (view_at w (newest w)) refl)
+
+-- ---- who has nothing to do
+
+not_stale : (a b : Bool) → not (a && b) ≡ false → (a ≡ true) × (b ≡ true)
+not_stale true b e = (refl, not-false b e)
+not_stale false b e = absurd (false≢true (sym e))
+
+there : {A : Type 0} (o : Option A) → is_some o ≡ true → o ≢ None
+there None e = absurd (false≢true e)
+there (Some a) e = λ k. cc
+
+-- a member that isn't stale and may do no step has nothing to do
+pub has_nothing : (w : World) (x : ℕ) → is_stale (newest w) (member_at w x) ≡ false → MayStepNowhere w x → HasNothingToDo w x
+has_nothing w x fresh none =
+    let parts = not_stale (nat_eq (member_at w x).version (newest w)) (is_some (member_at w x).out) fresh in
+    record {
+      newest = nat_eq-is (member_at w x).version (newest w) parts.0;
+      sends = there (member_at w x).out parts.1;
+      pick = none step.Pick;
+      take = none step.Take;
+      take_end = none step.TakeEnd;
+      gain = none step.Gain;
+      put = none step.Put;
+    }
+
+-- one step after another was refused
+pub all_refused : (c c1 c2 c3 c4 c5 : Seen) (x : ℕ) → SameButOwed c c1 × (MayStep (state_of c) x step.Pick → ⊥) → SameButOwed c1 c2 × (MayStep (state_of c1) x step.Take → ⊥) → SameButOwed c2 c3 × (MayStep (state_of c2) x step.TakeEnd → ⊥) → SameButOwed c3 c4 × (MayStep (state_of c3) x step.Gain → ⊥) → SameButOwed c4 c5 × (MayStep (state_of c4) x step.Put → ⊥) → SameButOwed c c5 × MayStepNowhere (state_of c) x
+all_refused c c1 c2 c3 c4 c5 x pick take end gain put = (but_trans c c4 c5 four put.0, by_step)
+  where
+    two : SameButOwed c c2
+    two = but_trans c c1 c2 pick.0 take.0
+
+    three : SameButOwed c c3
+    three = but_trans c c2 c3 two end.0
+
+    four : SameButOwed c c4
+    four = but_trans c c3 c4 three gain.0
+
+    by_step : MayStepNowhere (state_of c) x
+    by_step step.Pick k = pick.1 k
+    by_step step.Take k = take.1 (subst (λ d. MayStep (state_of d) x step.Take) (sym pick.0.1) k)
+    by_step step.TakeEnd k = end.1 (subst (λ d. MayStep (state_of d) x step.TakeEnd) (sym two.1) k)
+    by_step step.Gain k = gain.1 (subst (λ d. MayStep (state_of d) x step.Gain) (sym three.1) k)
+    by_step step.Put k = put.1 (subst (λ d. MayStep (state_of d) x step.Put) (sym four.1) k)
+
+-- it wasn't stale, and nothing was marked or done
+pub rests_after : (c c1 c2 : Seen) (x : ℕ) → is_stale (newest (state_of c)) (member_at (state_of c) x) ≡ false → SameButOwed c c1 × MarksNoneAt (state_of c) x → SameButOwed c1 c2 × MayStepNowhere (state_of c1) x → SameButOwed c c2 × RestsAt (state_of c) x
+rests_after c c1 c2 x fresh marks none =
+    (but_trans c c1 c2 marks.0 none.0, λ r. (has_nothing (state_of c) x fresh (subst (λ d. MayStepNowhere (state_of d) x) marks.0.1 none.1), marks.1))
+
+-- ---- all of them
+
+-- a member that runs is at a place
+runner_at : (c : Seen) (y : ℕ) → IsGoing c → runs (state_of c) y ≡ true → (i : ℕ) × (i < length c.names) × (i + 1 ≡ y)
+runner_at c zero g r = absurd (false≢true (sym (going_reached c g).rests ∙ r))
+runner_at c (suc i) g r = (i, omega (arith, runs_lt (state_of c) (suc i) r, going_many c g), omega arith)
+
+rests_at : (c : Seen) (y : ℕ) → IsGoing c → ((i : ℕ) → i < length c.names → RestsAt (state_of c) (i + 1)) → RestsAt (state_of c) y
+rests_at c y g h r =
+    let p = runner_at c y g r in
+    subst (RestsAt (state_of c)) p.2 (h p.0 p.1) r
+
+-- after a pass in which nobody did anything
+pub idle_after : (c d : Seen) → IsGoing c → SameButOwed c d × ((i : ℕ) → i < length c.names → RestsAt (state_of c) (i + 1)) → IsIdle (state_of d)
+idle_after c d g h = subst (λ x. IsIdle (state_of x)) (sym h.0.1) (λ y r. (rests_at c y g h.1 r).0)
+
+pub marks_after : (c d : Seen) → IsGoing c → SameButOwed c d × ((i : ℕ) → i < length c.names → RestsAt (state_of c) (i + 1)) → MarksNobody (state_of d)
+marks_after c d g h = subst (λ x. MarksNobody (state_of x)) (sym h.0.1) (λ y r. (rests_at c y g h.1 r).1)
+
+-- ---- where nobody has stopped
+
+pub still_alive_in : (w w' : World) → SamePhases w w' → NobodyStopped w → NobodyStopped w'
+still_alive_in w w' s h x some lt = s.phase x ∙ h x some (omega (arith, s.many))
+
+pub still_alive : (c d : Seen) → SamePhases (state_of c) (state_of d) → NobodyStopped (state_of c) → NobodyStopped (state_of d)
+still_alive c d = still_alive_in (state_of c) (state_of d)
+
+pub idle_is_quiet : (c : Seen) → IsGoing c → NobodyStopped (state_of c) → IsIdle (state_of c) → IsQuiet (state_of c)
+idle_is_quiet c g = run_idle_is_quiet c.credit c.names c.events g.are g.run
+
+pub done_is_empty : (c : Seen) → IsGoing c → NobodyStopped (state_of c) → AgendasAreDone c → AgendasAreEmpty c
+done_is_empty c g alive done i l = done i l (runs_phase-Up (state_of c) (i + 1) (alive (i + 1) (omega arith) (omega (arith, going_many c g, g.agendas))))
+
+-- ---- the same, where only what was given or the rounds differ
+
+-- c1 has another count of rounds than c, and c2 another list of what was given than c1
+pub alive_from : (c c1 c2 d : Seen) (rounds : ℕ) (given : List Command) → c1 ≡ record c { rounds = rounds } → c2 ≡ record c1 { given = given } → SamePhases (state_of c2) (state_of d) → NobodyStopped (state_of c) → NobodyStopped (state_of d)
+alive_from c c1 c2 d rounds given e1 e2 s h = still_alive c2 d s (subst NobodyStopped (sym (ap state_of e2 ∙ ap state_of e1)) h)
+
+pub alive_noted : (c c2 d : Seen) (given : List Command) → c2 ≡ record c { given = given } → SamePhases (state_of c2) (state_of d) → NobodyStopped (state_of c) → NobodyStopped (state_of d)
+alive_noted c c2 d given e2 s h = still_alive c2 d s (subst NobodyStopped (sym (ap state_of e2)) h)
+
+pub alive_into : (d e : Seen) (given : List Command) → e ≡ record d { given = given } → NobodyStopped (state_of d) → NobodyStopped (state_of e)
+alive_into d e given is h = subst NobodyStopped (sym (ap state_of is)) h

@@ -1,0 +1,134 @@
+-- In every state of every run, nobody has taken from a link at a door.
+use Rattle.std.proofs.Common.{◌≡◌, ℕ, ◌+◌, ◌<◌, ◌≤◌, Bool, true, false, not, nat_eq, List, length, set, [], ◌∷◌, ◌++◌, Option, Some, None, refl, sym, ap, ◌∙◌, arith, ⊎_elim}
+use Rattle.std.specs.Prelude.{◌&&◌}
+use Rattle.std.proofs.lemmas.Bool.{false≢true, and_parts, and_from, not-true, cases_lt}
+use Rattle.std.proofs.lemmas.List.{length-set}
+use Rattle.ring_names.specs.declared.numbers.CreditSpec.{CreditSpec}
+use Rattle.credit_flow.specs.Credit.{none_taken}
+use Rattle.group_view.specs.View.{Group}
+use Rattle.group_view.specs.Change.{AreOpeningNames, marked}
+use Rattle.ring_world.specs.declared.event.Event.{Event}
+use Rattle.ring_world.specs.declared.phase.Ending.TheVariants.{Halted}
+use Rattle.ring_world.specs.Machine.{Member, Link, World, no_link, member_at, link_at, view_at, newest, runs_phase}
+use Rattle.ring_world.specs.OpenLinks.{is_place, is_current, is_door_link, passes}
+use Rattle.ring_world.specs.Step.{size, pushed, popped, next_packet, finished, stop_at, ended, end_out, opening}
+use Rattle.ring_world.specs.Event.{refreshed, refusal, effect, IsRun, last}
+use Rattle.ring_world.proofs.events.Cases.{each_event}
+use Rattle.ring_world.proofs.events.First.{first_link_is}
+use Rattle.ring_world.proofs.rings.Lists.{at_set}
+use Rattle.ring_world.proofs.rings.Rounds.{nat_eq-is, nat_eq-same}
+use Rattle.ring_world.proofs.invariants.Happens.{IsGood, run_events, opening_good}
+use Rattle.gm_member.specs.Stands.{waits_for}
+use Rattle.gm_member.proofs.OpenDoors.{opened_world, old_links, link_old, link_new, links_more}
+use Rattle.ring_cluster.specs.Work.{place_by, place_at}
+use Rattle.ring_cluster.proofs.work.Reached.{reached}
+use Rattle.ring_cluster.proofs.work.Places.{event_places}
+use Rattle.ring_cluster.proofs.standing.Placing.{GoBetween, go_between}
+use Rattle.ring_cluster.proofs.post.Collections.{AreFresh}
+use Rattle.ring_cluster.proofs.work.Refreshed.{refresh_cases}
+
+-- ---- the place of a link that waits
+
+-- it is the highest one
+waits_high : (w : World) (z s : ℕ) → waits_for w z s ≡ true → place_at w s ≡ 2
+waits_high w z s e =
+    let l : Link = link_at w s in
+    let a = and_parts (is_door_link w z s) (passes w z l) e in
+    let b = and_parts (nat_eq l.receiver z) (not (is_current w z s) && not l.over) a.0 in
+    let c = and_parts (not (is_current w z s)) (not l.over) b.1 in
+    ap (λ q. place_by l.over (is_current w q s) (passes w q l)) (nat_eq-is l.receiver z b.0)
+    ∙ ap (λ t. place_by t (is_current w z s) (passes w z l)) (not-true l.over c.1)
+    ∙ ap (λ t. place_by false t (passes w z l)) (not-true (is_current w z s) c.0)
+    ∙ ap (λ t. place_by false false t) a.1
+
+-- what a link there is like
+high_is : (o c d : Bool) → 2 ≤ place_by o c d → (o ≡ false) × (c ≡ false) × (d ≡ true)
+high_is true c d h = absurd (omega arith)
+high_is false true d h = absurd (omega arith)
+high_is false false true h = (refl, refl, refl)
+high_is false false false h = absurd (omega arith)
+
+-- so it waits for its receiver, which doesn't take from it
+high_waits : (w : World) (s : ℕ) → 2 ≤ place_at w s → (waits_for w (link_at w s).receiver s ≡ true) × (is_current w (link_at w s).receiver s ≡ false)
+high_waits w s h =
+    let l : Link = link_at w s in
+    let taken : Bool = is_current w l.receiver s in
+    let k = high_is l.over taken (passes w l.receiver l) h in
+    (and_from (is_door_link w l.receiver s) (passes w l.receiver l) (and_from (nat_eq l.receiver l.receiver) (not taken && not l.over) (nat_eq-same l.receiver) (and_from (not taken) (not l.over) (ap not k.1) (ap not k.0))) k.2, k.1)
+
+-- ---- one event
+
+-- what the receiver of a link has counted stays where it doesn't take from that link, and is nothing where the link is new
+record Keeps (w w' : World) : Type 0 where
+  credit : none_taken w'.initial w'.more ≡ none_taken w.initial w.more
+  counted : (s : ℕ) → s < length w.links → is_current w (link_at w s).receiver s ≡ false → (link_at w' s).flow.receiver ≡ (link_at w s).flow.receiver
+  opened : (s : ℕ) → length w.links ≤ s → s < length w'.links → (link_at w' s).flow.receiver ≡ none_taken w.initial w.more
+
+-- the links stay
+keeps_links : (w : World) (vs : List Group) (ms : List Member) → Keeps w (record w { views = vs; members = ms })
+keeps_links w vs ms = record { credit = refl; counted = λ s sl free. refl; opened = λ s ge lt. absurd (omega arith) }
+
+-- or one is written, and its receiver has counted the same, or takes from it
+keeps_set : (w : World) (ms : List Member) (s : ℕ) (l : Link) → s < length w.links → (is_current w (link_at w s).receiver s ≡ false → l.flow.receiver ≡ (link_at w s).flow.receiver) → Keeps w (record w { members = ms; links = set w.links s l })
+keeps_set w ms s l sl same = record {
+  credit = refl;
+  counted = λ j _. at_set (λ k (a : Link). is_current w (link_at w k).receiver k ≡ false → a.flow.receiver ≡ (link_at w k).flow.receiver) w.links s j l no_link sl same (λ _ _. refl);
+  opened = λ j ge lt. absurd (omega (arith, length-set w.links s l));
+}
+
+-- a stop
+stop_keeps : (w : World) (x : ℕ) (o : Option ℕ) → ((k : ℕ) → o ≡ Some k → k < length w.links) → Keeps w (end_out Halted (stop_at w x) o)
+stop_keeps w x None there = keeps_links w w.views (stop_at w x).members
+stop_keeps w x (Some o) there = keeps_set w (stop_at w x).members o (ended Halted (link_at w o)) (there o refl) (λ _. refl)
+
+-- a refresh to one of these views
+refresh_keeps : (w : World) (vs : List Group) (x v : ℕ) → x < size w → Keeps w (refreshed (record w { views = vs }) x v)
+refresh_keeps w vs x v lt = refresh_cases (Keeps w) seen x v lt (λ _. keeps_links w vs _) (λ _. record {
+  credit = refl;
+  counted = λ s sl _. ap (λ (a : Link). a.flow.receiver) (link_old seen x v s sl);
+  opened = λ s ge l.
+      let is : s ≡ length w.links = omega (arith, ge, l, links_more seen x v) in
+      ap (λ k. (link_at (opened_world seen x v (old_links seen x)) k).flow.receiver) is ∙ ap (λ (a : Link). a.flow.receiver) (link_new seen x v);
+})
+  where
+    seen : World
+    seen = record w { views = vs }
+
+-- each event
+event_keeps : (w : World) (e : Event) → IsGood w → refusal w e ≡ None → Keeps w (effect w e)
+event_keeps w e g r = each_event (Keeps w) w e g.none_waits (record {
+  casts = λ x m u. keeps_links w w.views _;
+  puts = λ x o u out k. keeps_set w w.members o (pushed (link_at w o) (next_packet (member_at w x) (link_at w o).sending)) (g.inv.linked.out_lt x o (ap runs_phase u.up) out) (λ _. refl);
+  takes = λ y s u m. keeps_set w _ s (popped (link_at w s)) (g.inv.current.lt y s (ap runs_phase u.up) m.current)
+      (λ free. absurd (false≢true (sym free ∙ ap (λ q. is_current w q s) (g.inv.current.receiver y s (ap runs_phase u.up) m.current) ∙ ap (λ c. is_place c s) m.current ∙ nat_eq-same s)));
+  leaves = λ y s u current k. keeps_set w _ s (finished (link_at w s)) (g.inv.current.lt y s (ap runs_phase u.up) current) (λ _. refl);
+  gains = λ x o u out k. keeps_set w w.members o _ (g.inv.linked.out_lt x o (ap runs_phase u.up) out) (λ _. refl);
+  stops = λ x u. stop_keeps w x (member_at w x).out (λ k out. g.inv.linked.out_lt x k (ap runs_phase u.up) out);
+  marks = λ x d u m. refresh_keeps w (w.views ++ marked (view_at w (newest w)) d ∷ []) x (newest w + 1) u.lt;
+  refreshes = λ x v u m. refresh_keeps w w.views x v u.lt;
+  picks = λ y s u none at upto. keeps_links w w.views _;
+}) r
+
+-- a link that waits then has waited before, or is new
+event_fresh : (w : World) (e : Event) → IsGood w → refusal w e ≡ None → AreFresh w → AreFresh (effect w e)
+event_fresh w e g r f z s l waits =
+    let k = event_keeps w e g r in
+    ⊎_elim
+    (λ (lt : s < length w.links).
+    let falls : place_at (effect w e) s ≤ place_at w s = event_places w e g r s lt in
+    let was = high_waits w s (omega (arith, falls, waits_high (effect w e) z s waits)) in
+    k.counted s lt was.1 ∙ f (link_at w s).receiver s lt was.0 ∙ sym k.credit)
+    (λ (ge : length w.links ≤ s). k.opened s ge l ∙ sym k.credit)
+    (cases_lt s (length w.links))
+
+-- ---- runs
+
+opening_fresh : (credit : CreditSpec) (names : List (List ℕ)) → AreFresh (opening credit names)
+opening_fresh credit names z s l e = ap (λ (a : Link). a.flow.receiver) (first_link_is credit names s l)
+
+pub reached_fresh : (credit : CreditSpec) (names : List (List ℕ)) (events : List Event) → AreOpeningNames names → IsRun (opening credit names) events → AreFresh (last (opening credit names) events)
+reached_fresh credit names events are r = run_events AreFresh event_fresh (opening credit names) events (opening_good credit names are) r (opening_fresh credit names)
+
+-- and each link goes from a member to a member
+pub reached_go : (credit : CreditSpec) (names : List (List ℕ)) (events : List Event) → AreOpeningNames names → IsRun (opening credit names) events → GoBetween (last (opening credit names) events)
+reached_go credit names events are r = let k = reached credit names events are r in go_between (last (opening credit names) events) k.fit.good k.each_id

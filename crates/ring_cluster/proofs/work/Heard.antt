@@ -1,0 +1,85 @@
+-- A quiet ring has heard all.
+use Rattle.std.proofs.Common.{◌≡◌, ℕ, ◌≤◌, true, false, List, [], ◌∷◌, ◌++◌, length, refl, sym, ap, subst, ◌∙◌, ⊎_elim, arith}
+use Rattle.std.specs.List.{filter}
+use Rattle.std.proofs.lemmas.Bool.{false≢true}
+use Rattle.std.proofs.lemmas.List.{take_all}
+use Rattle.ring_names.specs.declared.numbers.CreditSpec.{CreditSpec}
+use Rattle.group_view.specs.Ring.{is_in, others}
+use Rattle.group_view.specs.Change.{AreOpeningNames}
+use Rattle.group_view.proofs.Rings.{rotated_is}
+use Rattle.ring_world.specs.declared.event.Event.{Event}
+use Rattle.ring_world.specs.Machine.{World, numbers_at, member_at, ring, runs}
+use Rattle.ring_world.specs.OpenLinks.{NeverRises, number}
+use Rattle.ring_world.proofs.walks.CountedWalk.{numbers, counted, only, no_but, is_early, round_of, retired_by, stopped_from, running_from}
+use Rattle.ring_world.specs.Step.{log_of, opening}
+use Rattle.ring_world.specs.Event.{IsRun, last}
+use Rattle.ring_world.specs.Lawful.{row_of}
+use Rattle.ring_world.specs.Quiet.{IsAtRest, IsQuiet}
+use Rattle.ring_world.proofs.walks.Put.{number_up}
+use Rattle.ring_world.proofs.rings.Falling.{falls_across, each_in_round, in_head, rises_second}
+use Rattle.ring_world.proofs.invariants.Happens.{IsGood}
+use Rattle.ring_world.proofs.runs.Confirmed.{up_of, runs_within, runs_in_walk}
+use Rattle.gm_member.proofs.Fit.{IsFit, reached_fit}
+use Rattle.ring_cluster.specs.Heard.{HasHeardAll}
+
+-- ---- what has come round twice was forgotten by its publisher
+
+module _ (w : World) (p : ℕ) (g : IsGood w) (some : 1 ≤ p) (rp : runs w p ≡ true) where
+  -- the round of what was forgotten
+  abbrev second_round : List ℕ
+  second_round = round_of (λ k. k.forgot) (λ r. r.forgot) w p (stopped_from w p) (running_from w p)
+
+  -- the publisher's own number stands in it
+  forgot_there : is_in (number (λ k. k.forgot) (λ r. r.forgot) w p p) second_round ≡ true
+  forgot_there =
+      each_in_round (λ q. numbers (λ k. (numbers_at k p).forgot) (only (is_early (stopped_from w p)) (counted w q)) w.links)
+      (λ q. numbers (λ k. (numbers_at k p).forgot) (counted w q) w.links)
+      (λ q. numbers (λ k. (numbers_at k p).forgot) (no_but (is_early (stopped_from w p)) (counted w q)) w.links)
+      (number (λ k. k.forgot) (λ r. r.forgot) w p) p (running_from w p) (runs_in_walk w p p g.inv rp)
+
+  -- the publisher owns what it published
+  own_running : running_from w p ≡ p ∷ filter (runs w) (others p (ring w))
+  own_running = ap (filter (runs w)) (rotated_is p (ring w) (g.inv.origins p some (runs_within w p rp))) ∙ rw rp refl
+
+  -- so what it has retired ends the walk
+  retired_there : is_in (row_of w p p).retired (retired_by w p (running_from w p)) ≡ true
+  retired_there = subst (λ ys. is_in (row_of w p p).retired (retired_by w p ys) ≡ true) (sym own_running) (in_head (row_of w p p).retired [])
+
+  -- and isn't greater than what it has forgotten
+  pub retired_is_forgotten : (row_of w p p).retired ≤ (row_of w p p).forgot
+  retired_is_forgotten =
+      let first : List ℕ = round_of (λ k. k.got) (λ r. r.got) w p (stopped_from w p) (running_from w p) in
+      let falls : NeverRises (second_round ++ retired_by w p (running_from w p)) = rises_second first (second_round ++ retired_by w p (running_from w p)) (g.inv.walks p some (runs_within w p rp)) in
+      subst (λ a. (row_of w p p).retired ≤ a) (number_up (λ k. k.forgot) (λ r. r.forgot) w p p (up_of (member_at w p).phase rp (g.none_waits p)))
+      (falls_across (number (λ k. k.forgot) (λ r. r.forgot) w p p) (row_of w p p).retired second_round (retired_by w p (running_from w p)) falls forgot_there retired_there)
+
+-- ---- a ring at rest
+
+module _ (w : World) (h : IsFit w) (rest : IsAtRest w) where
+  -- all that a running member published was forgotten by it
+  all_forgotten : (p : ℕ) → 1 ≤ p → runs w p ≡ true → length (log_of w p) ≤ (row_of w p p).forgot
+  all_forgotten p some rp = omega (arith, (rest.members p rp).come_round, retired_is_forgotten w p h.good some rp)
+
+  pub rest_has_heard : HasHeardAll w
+  rest_has_heard = record {
+    confirmed = λ p some rp. omega (arith, all_forgotten p some rp, (h.lawful.within.rows p p).forgot);
+    heard = λ q p some rp up.
+        let all : length (log_of w p) ≤ (row_of w q p).got = omega (arith, all_forgotten p some rp, h.lawful.confirmed q p some rp up) in
+        h.lawful.in_order q p ∙ take_all (row_of w q p).got (log_of w p) all;
+  }
+
+-- ---- every state of every run
+
+-- where nobody runs, nothing has to be heard
+nobody_has : (w : World) → ((y : ℕ) → runs w y ≡ false) → HasHeardAll w
+nobody_has w none = record {
+  confirmed = λ p some rp. absurd (false≢true (sym (none p) ∙ rp));
+  heard = λ q p some rp up. absurd (false≢true (sym (none p) ∙ rp));
+}
+
+-- a quiet ring has heard all
+pub run_quiet_has_heard : (credit : CreditSpec) (names : List (List ℕ)) (events : List Event) → AreOpeningNames names → IsRun (opening credit names) events → IsQuiet (last (opening credit names) events) → HasHeardAll (last (opening credit names) events)
+run_quiet_has_heard credit names events are r quiet =
+    let w : World = last (opening credit names) events in
+    ⊎_elim (λ (none : (y : ℕ) → runs w y ≡ false). nobody_has w none)
+    (λ (rest : IsAtRest w). rest_has_heard w (reached_fit credit names events are r) rest) quiet

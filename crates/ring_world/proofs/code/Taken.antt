@@ -1,0 +1,99 @@
+-- What a taken packet does to the structs.
+use Rattle.std.proofs.Common.{◌≡◌, ℕ, zero, suc, ◌<◌, Bool, true, false, List, [], ◌∷◌, length, map, get_or, set, drop, take, max, refl, sym, ap, ◌∙◌, arith}
+use Rattle.std.specs.Prelude.{Result, Ok, Err, OnErr}
+use Rattle.std.specs.List.{range_with_len}
+use Rattle.std.proofs.lemmas.List.FromFn.{get_or-map-range_with_len, length-map-range_with_len}
+use Rattle.std.proofs.lemmas.List.{length-map, map-set}
+use Rattle.ring_names.specs.declared.message.Message.{Message}
+use Rattle.ring_world.specs.declared.numbers.Numbers.{Numbers}
+use Rattle.ring_world.specs.Rows.{Row, brought, taken_with}
+use Rattle.group_view.specs.View.{Group}
+use Rattle.group_view.specs.Since.{no_group}
+use Rattle.ring_world.specs.declared.wire.Wire.{Wire}
+use Rattle.ring_world.specs.declared.state.Ring.{Ring}
+use Rattle.ring_world.specs.declared.seat.Seat.{Seat}
+use Rattle.ring_world.specs.declared.seat.Brought.{Brought}
+use Rattle.ring_world.specs.Machine.{Packet, Member, Link, World, no_link, no_member, row_at, numbers_at, oldest}
+use Rattle.ring_world.specs.Step.{is_owned, taken, popped, take_from}
+use Rattle.ring_world.specs.Shows.{world_of, link_of, link_in, member_of, member_in, news_of, news_at, no_news, news_in, with_rows, News}
+use Rattle.ring_world.proofs.rings.Maps.{map-range_same}
+use Rattle.ring_world.proofs.code.ShownParts.{mapped_read, mapped_write, mapped_rewrite}
+
+abbrev nothing : List Message
+nothing = []
+
+take_none : (n : ℕ) → take n nothing ≡ []
+take_none zero = refl
+take_none (suc n) = refl
+
+drop_none : (n : ℕ) → drop n nothing ≡ []
+drop_none zero = refl
+drop_none (suc n) = refl
+
+-- an empty log brings nothing
+pub nobody_brings : (own : Bool) (r : Row) (k : Numbers) → brought own [] r k ≡ []
+nobody_brings true r k = refl
+nobody_brings false r k = ap (drop (max k.lo r.got)) (take_none k.got) ∙ drop_none (max k.lo r.got)
+
+-- what a packet brings of one origin, and whether the taker answers for that
+pub brought_news : (v : Group) (ms : List Member) (y s : ℕ) (k : Packet) (p : ℕ) (b : Brought) (n : Numbers) → b.own ≡ is_owned v y s p → n ≡ numbers_at k p → b.messages.items ≡ brought b.own (get_or ms p no_member).log (row_at (get_or ms y no_member) p) n → news_of b ≡ news_at v ms y s k p
+brought_news v ms y s k p b n own en em =
+    let told : Bool → Numbers → News = λ o m. record no_news { own = o; messages = brought o (get_or ms p no_member).log (row_at (get_or ms y no_member) p) m } in
+    ap (λ (news : List Message). record no_news { own = b.own; messages = news }) em ∙ ap (λ o. told o n) own ∙ ap (told (is_owned v y s p)) en
+
+abbrev pub all_of : List Seat → List Member
+all_of seats = no_member ∷ map member_of seats
+
+abbrev pub logs_of : List Seat → ℕ → List Message
+logs_of seats p = (get_or (all_of seats) p no_member).log
+
+pub news_count : (seats : List Seat) (v : Group) (y s : ℕ) (k : Packet) (n : ℕ) (news : List Brought) → map news_of news ≡ map (news_at v (all_of seats) y s k) (range_with_len 0 n) → length news ≡ n
+news_count seats v y s k n news e = sym (length-map news news_of) ∙ ap length e ∙ length-map-range_with_len (news_at v (all_of seats) y s k) 0 n
+
+-- the rows that are written are those of the machine's take
+pub taken_seat : (seats : List Seat) (i s m n : ℕ) (v : Group) (x y : Seat) (k : Packet) (news : List Brought) → i < length seats → x ≡ get_or seats i x → map news_of news ≡ map (news_at v (all_of seats) (suc i) s k) (range_with_len 0 n) → m ≡ n → member_of y ≡ with_rows (member_of x) (map (λ p. taken_with (news_in news p).own (row_at (member_of x) p) (numbers_at k p) (news_in news p).messages) (range_with_len 0 m)) → member_of y ≡ taken n (is_owned v (suc i) s) (logs_of seats) (member_in seats i) k
+taken_seat seats i s m n v x y k news l e en em ey =
+    let member : member_of x ≡ member_in seats i = mapped_read member_of seats i x no_member l e in
+    let f : Member → ℕ → Row = λ z p. taken_with (is_owned v (suc i) s p) (row_at z p) (numbers_at k p) (brought (is_owned v (suc i) s p) (logs_of seats p) (row_at z p) (numbers_at k p)) in
+    ey ∙ ap (λ rs. with_rows (member_of x) rs)
+    (ap (λ j. map (λ p. taken_with (news_in news p).own (row_at (member_of x) p) (numbers_at k p) (news_in news p).messages) (range_with_len 0 j)) em
+    ∙ map-range_same _ (λ p. taken_with (is_owned v (suc i) s p) (row_at (member_of x) p) (numbers_at k p) (brought (is_owned v (suc i) s p) (logs_of seats p) (row_at (member_in seats i) p) (numbers_at k p))) n
+    (λ p pl.
+    let here : news_in news p ≡ news_at v (all_of seats) (suc i) s k p = ap (λ zs. get_or zs p no_news) en ∙ get_or-map-range_with_len (news_at v (all_of seats) (suc i) s k) 0 n p p no_news pl (omega arith) in
+    ap (λ (b : News). taken_with b.own (row_at (member_of x) p) (numbers_at k p) b.messages) here))
+    ∙ ap (λ z. with_rows z (map (λ p. taken_with (is_owned v (suc i) s p) (row_at z p) (numbers_at k p) (brought (is_owned v (suc i) s p) (logs_of seats p) (row_at (member_in seats i) p) (numbers_at k p))) (range_with_len 0 n))) member
+
+pub taken_seats : (seats : List Seat) (i s m n : ℕ) (v : Group) (x y : Seat) (k : Packet) (news : List Brought) → i < length seats → x ≡ get_or seats i x → map news_of news ≡ map (news_at v (all_of seats) (suc i) s k) (range_with_len 0 n) → m ≡ n → member_of y ≡ with_rows (member_of x) (map (λ p. taken_with (news_in news p).own (row_at (member_of x) p) (numbers_at k p) (news_in news p).messages) (range_with_len 0 m)) → map member_of (set seats i y) ≡ set (map member_of seats) i (taken n (is_owned v (suc i) s) (logs_of seats) (member_in seats i) k)
+taken_seats seats i s m n v x y k news l e en em ey = map-set member_of seats i y ∙ ap (set (map member_of seats) i) (taken_seat seats i s m n v x y k news l e en em ey)
+
+-- the state after a take
+pub take_ring : (r : Ring) (i s : ℕ) (x : Seat) (l z : Wire) (v : Group) (seats' : List Seat) → i < length r.seats.items → x ≡ get_or r.seats.items i x → v ≡ get_or (no_group ∷ r.views.items) x.version no_group → s < length r.wires.items → l ≡ get_or r.wires.items s l
+    → map member_of seats' ≡ set (map member_of r.seats.items) i (taken (suc (length r.seats.items)) (is_owned v (suc i) l.sender) (logs_of r.seats.items) (member_in r.seats.items i) (oldest (link_of l)))
+    → link_of z ≡ popped (link_of l)
+    → record (world_of r) { members = no_member ∷ map member_of seats'; links = map link_of (set r.wires.items s z) } ≡ take_from (world_of r) (suc i) s
+take_ring r i s x l z v seats' il ex ev sl el em ez =
+    let seats = r.seats.items in
+    let wires = r.wires.items in
+    let member : member_of x ≡ member_in seats i = mapped_read member_of seats i x no_member il ex in
+    let link : link_of l ≡ link_in wires s = mapped_read link_of wires s l no_link sl el in
+    let sizes : suc (length seats) ≡ suc (length (map member_of seats)) = ap suc (sym (length-map seats member_of)) in
+    let views : v ≡ get_or (no_group ∷ r.views.items) (member_in seats i).version no_group = ev ∙ ap (λ y. get_or (no_group ∷ r.views.items) y.version no_group) member in
+    let after : ℕ → Group → Link → Member = λ n g k. taken n (is_owned g (suc i) k.sender) (logs_of seats) (member_in seats i) (oldest k) in
+    let state : List Member → List Link → World = λ ms ks. record (world_of r) { members = no_member ∷ ms; links = ks } in
+    ap (λ ms. state ms (map link_of (set wires s z))) em
+    ∙ ap (λ ks. state (set (map member_of seats) i (after (suc (length seats)) v (link_of l))) ks) (mapped_write link_of popped wires s l z no_link sl el ez)
+    ∙ ap (λ n. state (set (map member_of seats) i (after n v (link_of l))) (set (map link_of wires) s (popped (link_in wires s)))) sizes
+    ∙ ap (λ g. state (set (map member_of seats) i (after (suc (length (map member_of seats))) g (link_of l))) (set (map link_of wires) s (popped (link_in wires s)))) views
+    ∙ ap (λ k. state (set (map member_of seats) i (after (suc (length (map member_of seats))) (get_or (no_group ∷ r.views.items) (member_in seats i).version no_group) k)) (set (map link_of wires) s (popped (link_in wires s)))) link
+
+-- and after one for which memory wanted
+pub same_ring : (r : Ring) (s : ℕ) (l z : Wire) (seats' : List Seat) → s < length r.wires.items → l ≡ get_or r.wires.items s l → map member_of seats' ≡ map member_of r.seats.items → link_of z ≡ link_of l
+    → record (world_of r) { members = no_member ∷ map member_of seats'; links = map link_of (set r.wires.items s z) } ≡ world_of r
+same_ring r s l z seats' sl el em ez =
+    ap (λ ms. record (world_of r) { members = no_member ∷ ms; links = map link_of (set r.wires.items s z) }) em
+    ∙ ap (λ ks. record (world_of r) { links = ks }) (mapped_rewrite link_of r.wires.items s l z sl el ez)
+
+-- what holds anyhow holds on an error
+pub OnErr_of : {A E : Type 0} {P : Type 0} (o : Result A E) → P → OnErr o P
+OnErr_of (Ok a) h = tt
+OnErr_of (Err e) h = h

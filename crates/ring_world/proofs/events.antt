@@ -1,0 +1,11 @@
+-- When an event may happen, what it does, and how steps are put together.
+pub mod Cases
+pub mod Composed
+pub mod Enabled
+pub mod First
+pub mod Leaves
+pub mod Names
+pub mod NoneWaits
+pub mod Parts
+pub mod Refusals
+pub mod WhatRefuses

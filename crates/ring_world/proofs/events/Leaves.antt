@@ -1,0 +1,29 @@
+-- What a step leaves: one member or one link is written, or a link joins the others, and the rest stays.
+use Rattle.std.proofs.Common.{ℕ, ◌<◌, ◌≤◌, [], ◌∷◌, ◌++◌, length, get_or, sym, subst, ⊎_elim}
+use Rattle.std.proofs.lemmas.Bool.{cases_lt}
+use Rattle.std.proofs.lemmas.List.{get_or_append_left}
+use Rattle.ring_world.specs.Machine.{Member, Link, World, no_link, no_member, member_at, link_at}
+use Rattle.ring_world.specs.Step.{size, with_member, with_link}
+use Rattle.ring_world.proofs.rings.Lists.{at_set, set_nothing}
+
+-- member x becomes y: what y has of what x was, and each member of itself, each has of what it was
+pub member_leaves : (P : ℕ → Member → Member → Type 0) (w : World) (x : ℕ) (y : Member) → P x (member_at w x) y → ((q : ℕ) → P q (member_at w q) (member_at w q)) → (q : ℕ) → P q (member_at w q) (member_at (with_member w x y) q)
+member_leaves P w x y here same q = ⊎_elim
+    (λ (lt : x < size w). at_set (λ k a. P k (member_at w k) a) w.members x q y no_member lt here (λ _. same q))
+    (λ (ge : size w ≤ x). subst (λ ms. P q (member_at w q) (get_or ms q no_member)) (sym (set_nothing w.members x y ge)) (same q))
+    (cases_lt x (size w))
+
+-- link o becomes l
+pub link_leaves : (P : ℕ → Link → Link → Type 0) (w : World) (o : ℕ) (l : Link) → P o (link_at w o) l → ((s : ℕ) → P s (link_at w s) (link_at w s)) → (s : ℕ) → P s (link_at w s) (link_at (with_link w o l) s)
+link_leaves P w o l here same s = ⊎_elim
+    (λ (lt : o < length w.links). at_set (λ k a. P k (link_at w k) a) w.links o s l no_link lt here (λ _. same s))
+    (λ (ge : length w.links ≤ o). subst (λ ls. P s (link_at w s) (get_or ls s no_link)) (sym (set_nothing w.links o l ge)) (same s))
+    (cases_lt o (length w.links))
+
+-- with one link more
+abbrev pub with_opened : World → Link → World
+with_opened w l = record w { links = w.links ++ l ∷ [] }
+
+-- those that were there stay
+pub new_link_leaves : (P : ℕ → Link → Link → Type 0) (w : World) (l : Link) → ((s : ℕ) → P s (link_at w s) (link_at w s)) → (s : ℕ) → s < length w.links → P s (link_at w s) (link_at (with_opened w l) s)
+new_link_leaves P w l same s lt = subst (P s (link_at w s)) (sym (get_or_append_left w.links (l ∷ []) no_link s lt)) (same s)

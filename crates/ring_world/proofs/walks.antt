@@ -1,0 +1,19 @@
+-- The walk round the ring: packets on links, and the walk under each step.
+pub mod Back
+pub mod Cast
+pub mod Chain
+pub mod CountedWalk
+pub mod Edits
+pub mod Ended
+pub mod Gaps
+pub mod LeftLinks
+pub mod Links
+pub mod Open
+pub mod OpenWalk
+pub mod OwnerStops
+pub mod Packets
+pub mod Put
+pub mod Refresh
+pub mod Stop
+pub mod Take
+pub mod Views
