@@ -10,7 +10,7 @@ use Rattle.ring_world.specs.declared.phase.Phase.{Phase}
 use Rattle.ring_world.specs.declared.phase.Phase.TheVariants.{Waiting, Up, Stopped}
 use Rattle.ring_world.specs.declared.event.Event.TheVariants as event
 use Rattle.ring_world.specs.Refusal.{or_else, refuse_if}
-use Rattle.ring_world.specs.Machine.{World, member_at, view_at, newest, is_waiting}
+use Rattle.ring_world.specs.Machine.{World, member_at, view_in, newest, is_waiting}
 use Rattle.ring_world.specs.Step.{opening}
 use Rattle.ring_world.specs.Event.{is_stopped, last}
 use Rattle.gm_member.specs.View.{is_up_where}
@@ -37,7 +37,7 @@ answered_enabled h version up newer =
 
 -- the newest view is read as the ring's event
 pub answer_lifts : (h h' : Held) (v : Group) → h.phase ≡ Up → h' ≡ refreshed_held (answered_held h) v
-    → WhereItStands (answered_held h) (λ w x. v ≡ view_at w (newest w) → StepsTo w x (event.Refresh h.name v.version) (with_own_link h v h'))
+    → WhereItStands (answered_held h) (λ w x. v ≡ view_in w (newest w) → StepsTo w x (event.Refresh h.name v.version) (with_own_link h v h'))
 answer_lifts h h' v up e credit names events x are r some l s is =
     let w : World = last (opening credit names) events in
     let fit : IsFit w = reached_fit credit names events are r in
@@ -46,7 +46,7 @@ answer_lifts h h' v up e credit names events x are r some l s is =
     let own : h.view.version ≡ (member_at w x).version = ap (λ (k : Held). k.view.version) s ∙ view_version w (member_at w x).version fit.good within in
     let newer : nat_lt v.version h.view.version ≡ false = le-ltb v.version h.view.version (omega (arith, numbered, within, own)) in
     refresh_lifts (answered_held h) h' v (answered_enabled h v.version up newer) e credit names events x are r some l s
-    (omega (arith, numbered)) (is ∙ ap (view_at w) (sym numbered))
+    (omega (arith, numbered)) (is ∙ ap (view_in w) (sym numbered))
 
 -- what holds of the view that was answered
 pub of_view : {I : Type 0} (a : Answer I) (v : Group) (P : Group → Type 0) → a ≡ Viewed v → P v → OfView a P

@@ -4,7 +4,7 @@ use Rattle.std.specs.Prelude.{◌&&◌, slice_index_or}
 use Rattle.std.proofs.lemmas.List.{length-set, get_or-set_same, get_or-set_other}
 use Rattle.group_view.specs.Since.{no_group}
 use Rattle.group_view.specs.View.{Group, entry_in}
-use Rattle.ring_world.specs.View.{left_at}
+use Rattle.ring_world.specs.View.{left_by}
 use Rattle.ring_world.specs.Machine.{World, Member, Link, no_link, no_member, member_at, link_at}
 use Rattle.ring_world.specs.Step.{size, with_current, current_is, finished, leave_link}
 use Rattle.ring_world.proofs.rings.Rounds.{nat_eq-not}
@@ -20,7 +20,7 @@ end_other w x s j ne = get_or-set_other w.links s j (finished (link_at w s)) no_
 -- whether another link waits, no matter whether the member takes from s or from none
 pub waits_without : (vs : List Group) (v x s j : ℕ) (a : Seen) → j ≢ s → waits_seen vs None v x j a ≡ waits_seen vs (Some s) v x j a
 waits_without vs v x s j a ne =
-    ap (λ b. (nat_eq a.to x && (not b && not a.over)) && (nat_eq a.from (left_at vs (max v a.opened) x) && nat_le (entry_in (slice_index_or vs (max v a.opened) no_group).entries x).since a.opened))
+    ap (λ b. (nat_eq a.to x && (not b && not a.over)) && (nat_eq a.from (left_by vs (max v a.opened) x) && nat_le (entry_in (slice_index_or vs (max v a.opened) no_group).entries x).since a.opened))
     (sym (nat_eq-not s j (λ e. ne (sym e))))
 
 pub end_stands : (w : World) (x s : ℕ) → IsFit w → x < size w → (member_at w x).current ≡ Some s → ended_held (held_in w x) ≡ held_in (leave_link w x s) x

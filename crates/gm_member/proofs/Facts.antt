@@ -7,7 +7,7 @@ use Rattle.ring_world.specs.declared.event.Event.{Event}
 use Rattle.ring_world.specs.declared.numbers.Numbers.{Numbers}
 use Rattle.ring_world.specs.Rows.{Row, no_row, no_numbers, next_numbers}
 use Rattle.ring_world.specs.Refusal.{is_empty}
-use Rattle.ring_world.specs.Machine.{World, Packet, Member, Sending, no_packet, no_member, row_at, numbers_at, member_at, link_at, view_at, newest, oldest}
+use Rattle.ring_world.specs.Machine.{World, Packet, Member, Sending, no_packet, no_member, row_at, numbers_at, member_at, link_at, view_in, newest, oldest}
 use Rattle.ring_world.specs.Step.{size, log_of, next_lines, next_packet}
 use Rattle.ring_world.specs.Event.{id_of, by_of, of_member, at_found, refused_at, done_at, refusal, effect}
 use Rattle.ring_world.specs.Lawful.{row_of, NumbersAreWithin, PacketsAreWithin}
@@ -82,7 +82,7 @@ own_row w x f some lt =
 -- ---- views
 
 -- the view of a version is numbered with it
-pub version_of_view : (w : World) (v : ℕ) → HasViews w → v ≤ newest w → (view_at w v).version ≡ v
+pub version_of_view : (w : World) (v : ℕ) → HasViews w → v ≤ newest w → (view_in w v).version ≡ v
 version_of_view w zero h l = ap (λ vs. (get_or vs 0 no_group).version) h.is
 version_of_view w (suc v) h l =
     ap (λ vs. (get_or vs (suc v) no_group).version) h.is

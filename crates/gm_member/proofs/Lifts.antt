@@ -11,7 +11,7 @@ use Rattle.ring_world.specs.declared.event.Event.TheVariants as event
 use Rattle.ring_world.specs.declared.phase.Phase.{Phase}
 use Rattle.ring_world.specs.declared.phase.Phase.TheVariants.{Up}
 use Rattle.ring_world.specs.Refusal.{refuse_if, or_else, is_empty}
-use Rattle.ring_world.specs.Machine.{World, member_at, link_at, is_waiting, oldest, view_at, newest}
+use Rattle.ring_world.specs.Machine.{World, member_at, link_at, is_waiting, oldest, view_in, newest}
 use Rattle.ring_world.specs.Step.{size, log_of, put_on as put_in, gain_on, leave_link, opening, current_is}
 use Rattle.ring_world.specs.Event.{is_stopped, on_link, running_refusal, up_refusal, put_refusal, end_refusal, gain_refusal, refusal, at_found, last, id_of, by_of, refresh_refusal, refused_at, done_at}
 use Rattle.ring_world.proofs.events.Enabled.{up_later, up_none, running_none}
@@ -150,8 +150,8 @@ pick_steps w x f some lt e =
 may_look : (w : World) (x v : ℕ) → x < size w → IsGood w → v ≤ newest w → refresh_refused (held_in w x) v ≡ None → MayLook w x v
 may_look w x v l h upto e =
     let u = up_refused_none (held_in w x) _ e in
-    let own : (view_at w (version_of w x)).version ≡ version_of w x = view_version w (version_of w x) h (h.inv.is_ring.held x) in
-    let later : (view_at w (version_of w x)).version ≤ v = not_less v (view_at w (version_of w x)).version _ u.2 in
+    let own : (view_in w (version_of w x)).version ≡ version_of w x = view_version w (version_of w x) h (h.inv.is_ring.held x) in
+    let later : (view_in w (version_of w x)).version ≤ v = not_less v (view_in w (version_of w x)).version _ u.2 in
     record { is_member = l; up = u.0; later = omega arith; upto = upto }
 
 -- what is refused of none
@@ -166,7 +166,7 @@ refreshed_alone v h = with_own_link h v (refreshed_held h v)
 
 -- a view that is one of the ring's
 abbrev pub IsThere : World → Group → Type 0
-IsThere w v = (v.version ≤ newest w) × (v ≡ view_at w v.version)
+IsThere w v = (v.version ≤ newest w) × (v ≡ view_in w v.version)
 
 pub refresh_steps : (w : World) (x : ℕ) (v : Group) → IsFit w → 1 ≤ x → x < size w → refresh_refused (held_in w x) v.version ≡ None → IsThere w v → StepsTo w x (event.Refresh (member_at w x).name v.version) (refreshed_alone v (held_in w x))
 refresh_steps w x v f some lt e there =
@@ -226,7 +226,7 @@ news_lift h k t e credit names events x are r some lt s n =
 
 -- a refresh to one of the ring's views, with the link that a member that is alone opens to itself
 pub refresh_lifts : (h h' : Held) (v : Group) → refresh_refused h v.version ≡ None → h' ≡ refreshed_held h v
-    → WhereItStands h (λ w x. v.version ≤ newest w → v ≡ view_at w v.version → StepsTo w x (event.Refresh h.name v.version) (with_own_link h v h'))
+    → WhereItStands h (λ w x. v.version ≤ newest w → v ≡ view_in w v.version → StepsTo w x (event.Refresh h.name v.version) (with_own_link h v h'))
 refresh_lifts h h' v en e credit names events x are r some lt s upto is =
     steps_where (λ k. refresh_refused k v.version ≡ None) (λ w _. IsThere w v) (λ name. event.Refresh name v.version) (refreshed_alone v) (λ w y f a b. refresh_steps w y v f a b)
     h (with_own_link h v h') en (ap (with_own_link h v) e) credit names events x are r some lt s (upto, is)

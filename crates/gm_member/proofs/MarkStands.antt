@@ -4,7 +4,7 @@ use Rattle.std.specs.Prelude.{◌&&◌}
 use Rattle.std.proofs.lemmas.List.{length_push}
 use Rattle.group_view.specs.View.{Group, entry_in}
 use Rattle.group_view.specs.Change.{marked}
-use Rattle.ring_world.specs.Machine.{Link, World, member_at, link_at, view_at, newest, left}
+use Rattle.ring_world.specs.Machine.{Link, World, member_at, link_at, view_in, newest, left}
 use Rattle.ring_world.specs.OpenLinks.{version_of, since_in, comes_from_left, is_door_link}
 use Rattle.ring_world.specs.Step.{with_view}
 use Rattle.ring_world.proofs.events.WhatRefuses.{MayLook, MayMark}
@@ -27,7 +27,7 @@ pub view_held : (w : World) (g : Group) (x : ℕ) → IsGood w → held_in w x �
 view_held w g x h =
     let some = h.inv.is_ring.some in
     let upto = h.inv.is_ring.held x in
-    held_same x (member_at w x) (view_at w (version_of w x)) (view_at (with_view w g) (version_of w x)) _ _ _ _ (door_in w x) (door_in (with_view w g) x) w.initial w.more
+    held_same x (member_at w x) (view_in w (version_of w x)) (view_in (with_view w g) (version_of w x)) _ _ _ _ (door_in w x) (door_in (with_view w g) x) w.initial w.more
     (sym (view_old w g (version_of w x) (omega arith)))
     refl
     refl
@@ -38,7 +38,7 @@ view_held w g x h =
 
 -- the view that the mark makes, and the state that has it
 abbrev pub mark_view : World → ℕ → Group
-mark_view w d = marked (view_at w (newest w)) d
+mark_view w d = marked (view_in w (newest w)) d
 
 abbrev pub mark_world : World → ℕ → World
 mark_world w d = with_view w (mark_view w d)
@@ -56,5 +56,5 @@ mark_look w x d m h =
     record { is_member = m.is_member; up = m.up; later = omega arith; upto = omega arith }
 
 -- it is the one that the mark makes
-pub mark_newest : (w : World) (d : ℕ) → IsGood w → view_at (mark_world w d) (newest w + 1) ≡ mark_view w d
+pub mark_newest : (w : World) (d : ℕ) → IsGood w → view_in (mark_world w d) (newest w + 1) ≡ mark_view w d
 mark_newest w d h = let some : 0 < length w.views = h.inv.is_ring.some in view_new w (mark_view w d) (newest w + 1) (omega arith)

@@ -8,7 +8,7 @@ use Rattle.ring_names.specs.declared.numbers.CreditSpec.{CreditSpec}
 use Rattle.group_view.specs.Change.{AreDifferent, AreOpeningNames, marked}
 use Rattle.ring_world.specs.declared.event.Event.{Event}
 use Rattle.ring_world.specs.declared.phase.Ending.TheVariants.{Halted}
-use Rattle.ring_world.specs.Machine.{Member, World, no_member, member_at, view_at, newest}
+use Rattle.ring_world.specs.Machine.{Member, World, no_member, member_at, view_in, newest}
 use Rattle.ring_world.specs.Step.{size, log_of, published, taker, with_current, stop_at, stopped, with_member, with_view, moved_to, opening, opening_member}
 use Rattle.ring_world.specs.Event.{id_of, refreshed, refusal, effect, IsRun, last}
 use Rattle.ring_world.proofs.events.Names.{same_bytes, own_bytes, found_at}
@@ -46,7 +46,7 @@ event_names names w e g r h = each_event (NamesAre names) w e g.none_waits cases
       leaves = λ y s u is k. set_names names w y (with_current None (member_at w y)) refl h;
       gains = λ x o u is k. h;
       stops = λ x u. end_composed (NamesAre names) Halted (stop_at w x) (member_at w x).out (λ k _ g. g) (set_names names w x (stopped (member_at w x)) refl h);
-      marks = λ x d u m. refreshed_names names (with_view w (marked (view_at w (newest w)) d)) x (newest w + 1) h;
+      marks = λ x d u m. refreshed_names names (with_view w (marked (view_in w (newest w)) d)) x (newest w + 1) h;
       refreshes = λ x v u m. refreshed_names names w x v h;
       picks = λ y s u none at upto. set_names names w y (with_current (Some s) (member_at w y)) refl h;
     }

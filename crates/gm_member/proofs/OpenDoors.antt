@@ -8,7 +8,7 @@ use Rattle.group_view.proofs.Passing.{right_inside}
 use Rattle.group_view.specs.Ring.{is_in}
 use Rattle.ring_world.specs.View.{ids, is_live, right_of}
 use Rattle.ring_world.specs.declared.phase.Ending.TheVariants.{Moved}
-use Rattle.ring_world.specs.Machine.{Member, Link, World, no_link, no_sending, member_at, link_at, view_at, newest, left, runs, runs_phase}
+use Rattle.ring_world.specs.Machine.{Member, Link, World, no_link, no_sending, member_at, link_at, view_in, newest, left, runs, runs_phase}
 use Rattle.ring_world.specs.OpenLinks.{comes_from_left, is_place}
 use Rattle.ring_world.specs.Step.{size, ended, end_out, pushed, next_packet, fresh_link, moved_to, look_at, open_to}
 use Rattle.ring_world.specs.Event.{send_to, refreshed}
@@ -29,15 +29,15 @@ use Rattle.gm_member.proofs.DoorParts.{waits_by, member_same}
 
 -- whether x, as it is in w, sends to its right neighbour in the view of version v
 abbrev pub sends_right : World → ℕ → ℕ → Bool
-sends_right w x v = sends_to (held_in w x).out (right_of (view_at w v) x)
+sends_right w x v = sends_to (held_in w x).out (right_of (view_in w v) x)
 
 -- what a refresh of x to v brings to the door of y: the link that opens, where one does and goes to y
 abbrev pub arriving : World → ℕ → ℕ → ℕ → List Incoming
-arriving w x v y = cond (sends_right w x v) [] (cond (nat_eq (right_of (view_at w v) x) y) (fresh_in w.initial w.more x v ∷ []) [])
+arriving w x v y = cond (sends_right w x v) [] (cond (nat_eq (right_of (view_in w v) x) y) (fresh_in w.initial w.more x v ∷ []) [])
 
 -- the link to x's right neighbour in v
 abbrev pub new_link : World → ℕ → ℕ → Link
-new_link w x v = pushed (fresh_link w x (right_of (view_at w v) x) v) (next_packet (moved_to w x v) no_sending)
+new_link w x v = pushed (fresh_link w x (right_of (view_in w v) x) v) (next_packet (moved_to w x v) no_sending)
 
 -- x sends on it, at this place
 abbrev pub sending_member : World → ℕ → ℕ → ℕ → Member
@@ -57,7 +57,7 @@ pub refresh_looks : (w : World) (x v : ℕ) → sends_right w x v ≡ true → r
 refresh_looks w x v h = by_out (member_at w x).out h
   where
     z : ℕ
-    z = right_of (view_at w v) x
+    z = right_of (view_in w v) x
 
     by_out : (o : Option ℕ) → sends_to (option_map (outgoing_in w) o) z ≡ true → send_to (look_at w x v) x z o ≡ look_at w x v
     by_out None k = absurd (false≢true k)
@@ -71,10 +71,10 @@ old_many w x = by_out (member_at w x).out
     by_out (Some o) = length-set w.links o (ended Moved (link_at w o))
 
 -- the open link, whatever the links before it
-opens_by : (w : World) (x v : ℕ) (ls : List Link) → x < size w → length ls ≡ length w.links → open_to (record (look_at w x v) { links = ls }) x (right_of (view_at w v) x) ≡ opened_world w x v ls
+opens_by : (w : World) (x v : ℕ) (ls : List Link) → x < size w → length ls ≡ length w.links → open_to (record (look_at w x v) { links = ls }) x (right_of (view_in w v) x) ≡ opened_world w x v ls
 opens_by w x v ls l many =
     let y : Member = moved_to w x v in
-    let z : ℕ = right_of (view_at w v) x in
+    let z : ℕ = right_of (view_in w v) x in
     ap (λ m. record w { members = set (set w.members x y) x (record m { out = Some (length ls) }); links = ls ++ pushed (fresh_link w x z m.version) (next_packet m no_sending) ∷ [] }) (member_same w x y l)
     ∙ ap (λ ms. record w { members = ms; links = ls ++ new_link w x v ∷ [] }) (set-set w.members x y (record y { out = Some (length ls) }))
     ∙ ap (λ n. record w { members = set w.members x (sending_member w x v n); links = ls ++ new_link w x v ∷ [] }) many
@@ -83,7 +83,7 @@ pub refresh_opens : (w : World) (x v : ℕ) → x < size w → sends_right w x v
 refresh_opens w x v l h = by_out (member_at w x).out h
   where
     z : ℕ
-    z = right_of (view_at w v) x
+    z = right_of (view_in w v) x
 
     by_out : (o : Option ℕ) → sends_to (option_map (outgoing_in w) o) z ≡ false → send_to (look_at w x v) x z o ≡ opened_world w x v (end_out Moved w o).links
     by_out None k = opens_by w x v w.links l refl
@@ -132,28 +132,28 @@ waits_old w x v y c u s l = ap (λ (k : Link). (nat_eq k.receiver y && (not (is_
 pub new_right : (w : World) (x v : ℕ) → MayLook w x v → IsGood w → OpenedRight w (new_link w x v)
 new_right w x v m h =
     let rx : runs w x ≡ true = ap runs_phase m.up in
-    let there : is_in x (ids (view_at w v)) ≡ true = h.inv.is_ring.stands x v rx m.later m.upto in
+    let there : is_in x (ids (view_in w v)) ≡ true = h.inv.is_ring.stands x v rx m.later m.upto in
     record {
       upto = m.upto;
-      from_left = ap (left w v) (sym (right_is w v x (view_at w v) refl)) ∙ h.inv.is_ring.front x v v rx m.later (omega arith) m.upto;
-      known = subst (λ z. is_in z (ids (view_at w v)) ≡ true) (sym (right_of_entry (view_at w v).entries x there)) (right_inside (is_live (view_at w v)) x (ids (view_at w v)) there);
+      from_left = ap (left w v) (sym (right_is w v x (view_in w v) refl)) ∙ h.inv.is_ring.front x v v rx m.later (omega arith) m.upto;
+      known = subst (λ z. is_in z (ids (view_in w v)) ≡ true) (sym (right_of_entry (view_in w v).entries x there)) (right_inside (is_live (view_in w v)) x (ids (view_in w v)) there);
     }
 
 -- so it passes the test of its receiver in each view
-pub new_comes : (w : World) (x v u : ℕ) → MayLook w x v → IsGood w → u ≤ newest w → comes_from_left w (right_of (view_at w v) x) (new_link w x v) (max u v) ≡ true
+pub new_comes : (w : World) (x v u : ℕ) → MayLook w x v → IsGood w → u ≤ newest w → comes_from_left w (right_of (view_in w v) x) (new_link w x v) (max u v) ≡ true
 new_comes w x v u m h upto =
     comes_is w (new_link w x v) u h (new_right w x v m h) upto
-    ∙ kept_true w (new_link w x v) u (λ k a b. ap (left w k) (sym (right_is w v x (view_at w v) refl)) ∙ h.inv.is_ring.front x v k (ap runs_phase m.up) m.later a (omega arith))
+    ∙ kept_true w (new_link w x v) u (λ k a b. ap (left w k) (sym (right_is w v x (view_in w v) refl)) ∙ h.inv.is_ring.front x v k (ap runs_phase m.up) m.later a (omega arith))
 
 -- and waits at the door of its receiver alone
-pub waits_new : (w : World) (x v y : ℕ) (c : Option ℕ) (u : ℕ) → MayLook w x v → IsGood w → u ≤ newest w → is_place c (length w.links) ≡ false → waits_by (opened_world w x v (old_links w x)) y c u (length w.links) ≡ nat_eq (right_of (view_at w v) x) y
+pub waits_new : (w : World) (x v y : ℕ) (c : Option ℕ) (u : ℕ) → MayLook w x v → IsGood w → u ≤ newest w → is_place c (length w.links) ≡ false → waits_by (opened_world w x v (old_links w x)) y c u (length w.links) ≡ nat_eq (right_of (view_in w v) x) y
 waits_new w x v y c u m h upto none =
     ap (λ (k : Link). (nat_eq k.receiver y && (not (is_place c (length w.links)) && not k.over)) && comes_from_left w y k (max u k.opened)) (link_new w x v)
     ∙ ap (λ b. (nat_eq z y && (not b && not false)) && comes_from_left w y (new_link w x v) (max u v)) none
     ∙ by_receiver (nat_eq z y) refl
   where
     z : ℕ
-    z = right_of (view_at w v) x
+    z = right_of (view_in w v) x
 
     by_receiver : (b : Bool) → nat_eq z y ≡ b → ((b && (not false && not false)) && comes_from_left w y (new_link w x v) (max u v)) ≡ b
     by_receiver true e = subst (λ q. comes_from_left w q (new_link w x v) (max u v) ≡ true) (nat_eq-is z y e) (new_comes w x v u m h upto)
@@ -168,7 +168,7 @@ incoming_new w x v = ap (λ (k : Link). record { from = k.sender; opened = k.ope
 -- the links that pass at the door of y, of which t says which were there
 pub door_after : (w : World) (x v y : ℕ) (t : ℕ → Bool) (c : Option ℕ) (u : ℕ) → MayLook w x v → IsGood w → u ≤ newest w → is_place c (length w.links) ≡ false → ((s : ℕ) → s < length w.links → waits_by w y c u s ≡ t s)
     → map (incoming_in (opened_world w x v (old_links w x))) (filter (waits_by (opened_world w x v (old_links w x)) y c u) (range_with_len 0 (length (opened_world w x v (old_links w x)).links)))
-    ≡ map (incoming_in w) (filter t (range_with_len 0 (length w.links))) ++ cond (nat_eq (right_of (view_at w v) x) y) (fresh_in w.initial w.more x v ∷ []) []
+    ≡ map (incoming_in w) (filter t (range_with_len 0 (length w.links))) ++ cond (nat_eq (right_of (view_in w v) x) y) (fresh_in w.initial w.more x v ∷ []) []
 door_after w x v y t c u m h upto none tests =
     ap (λ k. map (incoming_in w') (filter (waits_by w' y c u) (range_with_len 0 k))) (links_more w x v)
     ∙ ap (map (incoming_in w')) (filter_more (waits_by w' y c u) 0 n n (let is : 0 + n ≡ n = omega arith in is))
@@ -177,7 +177,7 @@ door_after w x v y t c u m h upto none tests =
     (ap (map (incoming_in w')) (filter_agree (waits_by w' y c u) t 0 n (λ s a b. waits_old w x v y c u s (omega arith) ∙ tests s (omega arith)))
     ∙ made_agree (incoming_in w') (incoming_in w) t 0 n (λ s a b _. incoming_old w x v s (omega arith)))
     ∙ ap (λ b. map (incoming_in w) (filter t (range_with_len 0 n)) ++ map (incoming_in w') (cond b (n ∷ []) [])) (waits_new w x v y c u m h upto none)
-    ∙ ap (λ xs. map (incoming_in w) (filter t (range_with_len 0 n)) ++ xs) (by_receiver (nat_eq (right_of (view_at w v) x) y))
+    ∙ ap (λ xs. map (incoming_in w) (filter t (range_with_len 0 n)) ++ xs) (by_receiver (nat_eq (right_of (view_in w v) x) y))
   where
     w' : World
     w' = opened_world w x v (old_links w x)

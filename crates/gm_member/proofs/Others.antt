@@ -5,7 +5,7 @@ use Rattle.std.specs.List.{filter, range_with_len}
 use Rattle.std.proofs.lemmas.List.{length-set, get_or-set_same, get_or-set_other}
 use Rattle.ring_names.specs.declared.message.Message.{Message}
 use Rattle.ring_world.specs.declared.phase.Ending.TheVariants.{Halted}
-use Rattle.ring_world.specs.Machine.{World, Member, Link, no_link, no_member, member_at, link_at, view_at}
+use Rattle.ring_world.specs.Machine.{World, Member, Link, no_link, no_member, member_at, link_at, view_in}
 use Rattle.ring_world.specs.Step.{with_member, with_link, publish_at, published, put_on as put_in, pushed, gain_on, take_from, taker, popped, leave_link, with_current, finished, stop_at, stopped, end_out}
 use Rattle.gm_member.specs.Stands.{held_in, outgoing_in, incoming_in}
 use Rattle.gm_member.proofs.Fit.{IsFit}
@@ -33,7 +33,7 @@ other_door w x y s f ex ne is = ne (sym is ∙ (f.own_ends.current x s ex).1)
 -- another member is written
 pub member_others : (w : World) (x y : ℕ) (m : Member) → y ≢ x → held_in (with_member w x m) y ≡ held_in w y
 member_others w x y m ne =
-    ap (λ k. held_by y k (view_at w k.version) (option_map (outgoing_in w) k.out) (option_map (incoming_in w) k.current) (map (incoming_in w) (filter (waits_by w y k.current k.version) (range_with_len 0 (length w.links)))) w.initial w.more) (member_other w x y m ne)
+    ap (λ k. held_by y k (view_in w k.version) (option_map (outgoing_in w) k.out) (option_map (incoming_in w) k.current) (map (incoming_in w) (filter (waits_by w y k.current k.version) (range_with_len 0 (length w.links)))) w.initial w.more) (member_other w x y m ne)
 
 pub publish_others : (w : World) (x y : ℕ) (m : Message) → y ≢ x → held_in w y ≡ held_in (publish_at w x m) y
 publish_others w x y m ne = sym (member_others w x y (published x m (member_at w x)) ne)

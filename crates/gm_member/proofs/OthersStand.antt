@@ -4,7 +4,7 @@ use Rattle.std.specs.Prelude.{option_map}
 use Rattle.std.specs.List.{filter, range_with_len}
 use Rattle.std.proofs.lemmas.List.{append-nil}
 use Rattle.ring_world.specs.View.{right_of}
-use Rattle.ring_world.specs.Machine.{World, Member, member_at, view_at}
+use Rattle.ring_world.specs.Machine.{World, Member, member_at, view_in}
 use Rattle.ring_world.specs.Step.{moved_to}
 use Rattle.ring_world.specs.Event.{refreshed}
 use Rattle.ring_world.proofs.events.WhatRefuses.{MayLook}
@@ -19,13 +19,13 @@ use Rattle.gm_member.proofs.RefreshStands.{current_lt, nothing_opens}
 use Rattle.gm_member.proofs.WithinLinks.{IsWithin}
 
 -- where a link opens
-opens_others : (w : World) (x v y : ℕ) → MayLook w x v → IsGood w → IsWithin w y → y ≢ x → held_in (opened_world w x v (old_links w x)) y ≡ record (held_in w y) { door = door_in w y ++ cond (nat_eq (right_of (view_at w v) x) y) (fresh_in w.initial w.more x v ∷ []) [] }
+opens_others : (w : World) (x v y : ℕ) → MayLook w x v → IsGood w → IsWithin w y → y ≢ x → held_in (opened_world w x v (old_links w x)) y ≡ record (held_in w y) { door = door_in w y ++ cond (nat_eq (right_of (view_in w v) x) y) (fresh_in w.initial w.more x v ∷ []) [] }
 opens_others w x v y m h i ne =
     let w' : World = opened_world w x v (old_links w x) in
     let k : Member = member_at w y in
-    ap (λ k. held_by y k (view_at w k.version) (option_map (outgoing_in w') k.out) (option_map (incoming_in w') k.current) (map (incoming_in w') (filter (waits_by w' y k.current k.version) (range_with_len 0 (length w'.links)))) w.initial w.more) (member_other w x y (sending_member w x v (length w.links)) ne)
-    ∙ held_same y k (view_at w k.version) (view_at w k.version) (option_map (outgoing_in w') k.out) (option_map (outgoing_in w) k.out) (option_map (incoming_in w') k.current) (option_map (incoming_in w) k.current)
-    (map (incoming_in w') (filter (waits_by w' y k.current k.version) (range_with_len 0 (length w'.links)))) (door_in w y ++ cond (nat_eq (right_of (view_at w v) x) y) (fresh_in w.initial w.more x v ∷ []) []) w.initial w.more
+    ap (λ k. held_by y k (view_in w k.version) (option_map (outgoing_in w') k.out) (option_map (incoming_in w') k.current) (map (incoming_in w') (filter (waits_by w' y k.current k.version) (range_with_len 0 (length w'.links)))) w.initial w.more) (member_other w x y (sending_member w x v (length w.links)) ne)
+    ∙ held_same y k (view_in w k.version) (view_in w k.version) (option_map (outgoing_in w') k.out) (option_map (outgoing_in w) k.out) (option_map (incoming_in w') k.current) (option_map (incoming_in w) k.current)
+    (map (incoming_in w') (filter (waits_by w' y k.current k.version) (range_with_len 0 (length w'.links)))) (door_in w y ++ cond (nat_eq (right_of (view_in w v) x) y) (fresh_in w.initial w.more x v ∷ []) []) w.initial w.more
     refl
     (same_out k.out (λ o e. i.out o e))
     (same_current k.current (λ s e. i.current s e))
@@ -52,4 +52,4 @@ refresh_others w x v y m h i ne = by_out (sends_right w x v) refl
     by_out false e =
         ap (λ u. held_in u y) (refresh_opens w x v m.is_member e)
         ∙ opens_others w x v y m h i ne
-        ∙ ap (λ b. record (held_in w y) { door = door_in w y ++ cond b [] (cond (nat_eq (right_of (view_at w v) x) y) (fresh_in w.initial w.more x v ∷ []) []) }) (sym e)
+        ∙ ap (λ b. record (held_in w y) { door = door_in w y ++ cond b [] (cond (nat_eq (right_of (view_in w v) x) y) (fresh_in w.initial w.more x v ∷ []) []) }) (sym e)

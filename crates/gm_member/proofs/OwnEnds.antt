@@ -10,7 +10,7 @@ use Rattle.group_view.specs.Change.{AreOpeningNames, marked}
 use Rattle.ring_world.specs.declared.event.Event.{Event}
 use Rattle.ring_world.specs.View.{right_of}
 use Rattle.ring_world.specs.declared.phase.Ending.TheVariants.{Moved, Halted}
-use Rattle.ring_world.specs.Machine.{Member, Link, World, no_link, no_member, member_at, link_at, view_at, newest, runs, runs_phase, is_kept}
+use Rattle.ring_world.specs.Machine.{Member, Link, World, no_link, no_member, member_at, link_at, view_in, newest, runs, runs_phase, is_kept}
 use Rattle.ring_world.specs.Step.{size, published, taker, popped, pushed, next_packet, current_is, with_current, finished, ended, stop_at, stopped, with_member, with_link, with_view, look_at, moved_to, open_to, opened_link, opening, opening_member}
 use Rattle.ring_world.specs.Event.{at_door, is_at_door, refreshed, refusal, effect, IsRun, last}
 use Rattle.ring_world.proofs.rings.Lists.{at_set, get_or_beyond}
@@ -72,7 +72,7 @@ refreshed_owns w x v lt h =
     let many : length w1.members ≡ length w.members = length-set w.members x (moved_to w x v) in
     refresh_composed OwnEnds w x v
     (λ k e g. link_owns w1 k (ended Moved (link_at w1 k)) (h.out x k e).0 refl refl g)
-    (λ u same g. open_owns u x (right_of (view_at w v) x) (omega (arith, lt, many, ap length same)) g)
+    (λ u same g. open_owns u x (right_of (view_in w v) x) (omega (arith, lt, many, ap length same)) g)
     (set_owns w x (moved_to w x v) lt (record { out = h.out x; current = λ s e. h.current x s (kept_current-Some (λ t. is_kept w (link_at w t) v) (member_at w x).current s e).0 }) h)
 
 -- ---- events
@@ -97,7 +97,7 @@ event_owns w e g r h = each_event OwnEnds w e g.none_waits cases r
           (set_owns w y (with_current None (member_at w y)) u.lt (record { out = h.out y; current = λ k e. cc }) h);
       gains = λ x o u is k. link_owns w o _ (h.out x o is).0 refl refl h;
       stops = λ x u. end_composed OwnEnds Halted (stop_at w x) (member_at w x).out (λ k e. link_owns (stop_at w x) k (ended Halted (link_at w k)) (h.out x k e).0 refl refl) (set_owns w x (stopped (member_at w x)) u.lt (same_member x (stopped (member_at w x)) refl refl) h);
-      marks = λ x d u m. refreshed_owns (with_view w (marked (view_at w (newest w)) d)) x (newest w + 1) u.lt (record { out = h.out; current = h.current });
+      marks = λ x d u m. refreshed_owns (with_view w (marked (view_in w (newest w)) d)) x (newest w + 1) u.lt (record { out = h.out; current = h.current });
       refreshes = λ x v u m. refreshed_owns w x v m.is_member h;
       picks = λ y s u none at upto. set_owns w y (with_current (Some s) (member_at w y)) u.lt
           (record { out = h.out y; current = λ j e. let is : s ≡ j = cc in subst (λ j. (j < length w.links) × ((link_at w j).receiver ≡ y)) is (picked_to y s at) }) h;

@@ -10,8 +10,8 @@ use Rattle.group_view.specs.View.{Group, entry_in}
 use Rattle.ring_world.specs.declared.phase.Ending.{Ending}
 use Rattle.ring_world.specs.declared.phase.Phase.{Phase}
 use Rattle.ring_world.specs.Rows.{Row}
-use Rattle.ring_world.specs.View.{left_at}
-use Rattle.ring_world.specs.Machine.{World, Member, Link, no_link, no_member, row_at, numbers_at, member_at, link_at, view_at}
+use Rattle.ring_world.specs.View.{left_by}
+use Rattle.ring_world.specs.Machine.{World, Member, Link, no_link, no_member, row_at, numbers_at, member_at, link_at, view_in}
 use Rattle.ring_world.specs.OpenLinks.{is_place, is_current, passes}
 use Rattle.ring_world.specs.Step.{size, with_member, with_link, ended, end_out}
 use Rattle.ring_world.proofs.rings.Lists.{at_set}
@@ -54,10 +54,10 @@ held_same x y v v' out out' current current' door door' initial more ev eo ec ed
 
 -- by what stands at its id, on its links and at its door
 pub held_is : (w : World) (x : ℕ) (y : Member) (out : Option Outgoing) (current : Option Incoming) (door : List Incoming) → member_at w x ≡ y → option_map (outgoing_in w) y.out ≡ out → option_map (incoming_in w) y.current ≡ current → door_in w x ≡ door
-    → held_in w x ≡ held_from x y.name y.phase (view_at w y.version) (rows_of y) out current door w.initial w.more
+    → held_in w x ≡ held_from x y.name y.phase (view_in w y.version) (rows_of y) out current door w.initial w.more
 held_is w x y out current door ey eo ec ed =
-    ap (λ (z : Member). held_by x z (view_at w z.version) (option_map (outgoing_in w) z.out) (option_map (incoming_in w) z.current) (door_in w x) w.initial w.more) ey
-    ∙ held_same x y (view_at w y.version) (view_at w y.version) (option_map (outgoing_in w) y.out) out (option_map (incoming_in w) y.current) current (door_in w x) door w.initial w.more refl eo ec ed
+    ap (λ (z : Member). held_by x z (view_in w z.version) (option_map (outgoing_in w) z.out) (option_map (incoming_in w) z.current) (door_in w x) w.initial w.more) ey
+    ∙ held_same x y (view_in w y.version) (view_in w y.version) (option_map (outgoing_in w) y.out) out (option_map (incoming_in w) y.current) current (door_in w x) door w.initial w.more refl eo ec ed
 
 -- ---- what a link shows its receiver
 
@@ -78,7 +78,7 @@ incoming_seen a = record { from = a.from; opened = a.opened; counted = a.counted
 abbrev pub waits_seen : List Group → Option ℕ → ℕ → ℕ → ℕ → Seen → Bool
 waits_seen vs current version x s a =
     (nat_eq a.to x && (not (is_place current s) && not a.over))
-    && (nat_eq a.from (left_at vs (max version a.opened) x) && nat_le (entry_in (slice_index_or vs (max version a.opened) no_group).entries x).since a.opened)
+    && (nat_eq a.from (left_by vs (max version a.opened) x) && nat_le (entry_in (slice_index_or vs (max version a.opened) no_group).entries x).since a.opened)
 
 no_second : (a b c d : Bool) → b ≡ false → ((a && (b && c)) && d) ≡ false
 no_second true b c d e = rw e refl
@@ -183,7 +183,7 @@ outgoing_same w s j l lt e = at_set (λ i a. outgoing_of a ≡ outgoing_of (link
 
 -- a member is written that takes from the same link, and has the same view
 pub written_held : (w : World) (x : ℕ) (y : Member) → x < size w → y.current ≡ (member_at w x).current → y.version ≡ (member_at w x).version
-    → held_in (with_member w x y) x ≡ held_by x y (view_at w y.version) (option_map (outgoing_in w) y.out) (option_map (incoming_in w) y.current) (door_in w x) w.initial w.more
+    → held_in (with_member w x y) x ≡ held_by x y (view_in w y.version) (option_map (outgoing_in w) y.out) (option_map (incoming_in w) y.current) (door_in w x) w.initial w.more
 written_held w x y lt c v =
     let w' : World = with_member w x y in
     let now : member_at w' x ≡ y = get_or-set_same w.members x y no_member lt in

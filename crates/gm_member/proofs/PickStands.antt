@@ -8,7 +8,7 @@ use Rattle.std.proofs.lemmas.List.Quantifiers.{position-Some}
 use Rattle.ring_names.specs.declared.reason.Reason.{Reason}
 use Rattle.ring_names.specs.declared.reason.Reason.TheVariants as reason
 use Rattle.ring_world.specs.Refusal.{refuse_if, or_else}
-use Rattle.ring_world.specs.Machine.{World, no_link, member_at, link_at, view_at, is_waiting}
+use Rattle.ring_world.specs.Machine.{World, no_link, member_at, link_at, view_in, is_waiting}
 use Rattle.ring_world.specs.OpenLinks.{is_place}
 use Rattle.ring_world.specs.Step.{size, current_is, with_current}
 use Rattle.ring_world.specs.Event.{is_at_door, at_door, pick_refusal, up_refusal, version_refusal, on_link, is_stopped}
@@ -31,10 +31,10 @@ door_link w x i = get_or (door_links w x) i 0
 -- the first that the member may pick is the first that the ring lets it pick
 pub first_is : (w : World) (x : ℕ) → IsGood w → (member_at w x).current ≡ None → option_map (door_link w x) (first_at_door (held_in w x)) ≡ at_door w x
 first_is w x h none =
-    ap (option_map (door_link w x)) (position_map (is_for (view_at w (member_at w x).version) x) (incoming_in w) (door_links w x))
-    ∙ find_position (λ s. is_for (view_at w (member_at w x).version) x (incoming_in w s)) (door_links w x)
-    ∙ find_both (waits_for w x) (λ s. is_for (view_at w (member_at w x).version) x (incoming_in w s)) (range_with_len 0 (length w.links))
-    ∙ find_agree (λ s. waits_for w x s && is_for (view_at w (member_at w x).version) x (incoming_in w s)) (λ s. is_at_door w x (link_at w s)) 0 (length w.links)
+    ap (option_map (door_link w x)) (position_map (is_for (view_in w (member_at w x).version) x) (incoming_in w) (door_links w x))
+    ∙ find_position (λ s. is_for (view_in w (member_at w x).version) x (incoming_in w s)) (door_links w x)
+    ∙ find_both (waits_for w x) (λ s. is_for (view_in w (member_at w x).version) x (incoming_in w s)) (range_with_len 0 (length w.links))
+    ∙ find_agree (λ s. waits_for w x s && is_for (view_in w (member_at w x).version) x (incoming_in w s)) (λ s. is_at_door w x (link_at w s)) 0 (length w.links)
     (λ s a b. sym (door_test w x s h (omega arith) (ap (λ c. is_place c s) none)))
     ∙ sym (position_finds (is_at_door w x) w.links no_link)
 
@@ -46,7 +46,7 @@ pub record PicksAt (w : World) (x i : ℕ) : Type 0 where
 
 pub picks_some : (w : World) (x i : ℕ) → IsGood w → (member_at w x).current ≡ None → first_at_door (held_in w x) ≡ Some i → PicksAt w x i
 picks_some w x i h none e =
-    let there : i < length (door_in w x) = (position-Some (is_for (view_at w (member_at w x).version) x) (door_in w x) i no_incoming e).0 in
+    let there : i < length (door_in w x) = (position-Some (is_for (view_in w (member_at w x).version) x) (door_in w x) i no_incoming e).0 in
     let within : i < length (door_links w x) = omega (arith, length-map (door_links w x) (incoming_in w)) in
     record {
       there = within;
@@ -63,7 +63,7 @@ pub pick_refuses : (w : World) (x : ℕ) → IsGood w → pick_refused (held_in 
 pick_refuses w x h = ap (λ later. or_else (refuse_if (is_stopped (member_at w x).phase) reason.Stopped) (or_else (refuse_if (is_waiting (member_at w x).phase) reason.Waiting) later)) (by_current (member_at w x).current refl)
   where
     version : ℕ
-    version = (view_at w (member_at w x).version).version
+    version = (view_in w (member_at w x).version).version
 
     mine : Option ℕ → Option Reason
     mine o = on_some o reason.NoLinkAtDoor (λ i. version_refusal (door_at (held_in w x).door i).opened version)
@@ -101,11 +101,11 @@ pick_stands w x i l h none e =
     let p : PicksAt w x i = picks_some w x i h none e in
     let y = member_at w x in
     ap (λ o. at_some o (held_in w x) (picked_at (held_in w x))) e
-    ∙ held_same x y (view_at w y.version) (view_at w y.version) (option_map (outgoing_in w) y.out) (option_map (outgoing_in w) y.out) (Some (door_at (door_in w x) i)) (Some (incoming_in w s)) (without i (door_in w x)) (door_in w' x) w.initial w.more
+    ∙ held_same x y (view_in w y.version) (view_in w y.version) (option_map (outgoing_in w) y.out) (option_map (outgoing_in w) y.out) (Some (door_at (door_in w x) i)) (Some (incoming_in w s)) (without i (door_in w x)) (door_in w' x) w.initial w.more
     refl refl (ap Some p.is)
     (without_made (incoming_in w) i (door_links w x)
     ∙ ap (map (incoming_in w)) (sym (filter_without (waits_for w x) s 0 (length w.links) i p.there refl) ∙ sym (filter_agree (waits_for w' x) (λ k. waits_for w x k && not (nat_eq s k)) 0 (length w.links) (λ k _ _. picked_waits w x s l none k))))
-    ∙ sym (ap (λ m. held_by x m (view_at w m.version) (option_map (outgoing_in w) m.out) (option_map (incoming_in w) m.current) (door_in w' x) w.initial w.more) (member_same w x (with_current (Some s) (member_at w x)) l))
+    ∙ sym (ap (λ m. held_by x m (view_in w m.version) (option_map (outgoing_in w) m.out) (option_map (incoming_in w) m.current) (door_in w' x) w.initial w.more) (member_same w x (with_current (Some s) (member_at w x)) l))
 
 -- a pick that isn't refused: from no link, and the first at the door
 pub record MayPick (w : World) (x : ℕ) : Type 0 where

@@ -10,7 +10,7 @@ use Rattle.ring_names.specs.declared.reason.Reason.TheVariants as reason
 use Rattle.ring_world.specs.Rows.{Row, no_row, no_numbers, next_numbers}
 use Rattle.ring_world.specs.Refusal.{refuse_if, or_else}
 use Rattle.ring_world.specs.View.{right_of}
-use Rattle.ring_world.specs.Machine.{Member, World, no_sending, row_at, numbers_at, member_at, link_at, view_at, newest, runs, runs_phase, is_kept, is_waiting}
+use Rattle.ring_world.specs.Machine.{Member, World, no_sending, row_at, numbers_at, member_at, link_at, view_in, newest, runs, runs_phase, is_kept, is_waiting}
 use Rattle.ring_world.specs.OpenLinks.{version_of, comes_from_left, passes, is_place, is_current}
 use Rattle.ring_world.specs.Step.{next_lines, next_packet, moved_to, look_at, kept_current}
 use Rattle.ring_world.specs.Event.{refreshed, up_refusal, refresh_refusal, is_stopped}
@@ -71,7 +71,7 @@ refresh_refuses_too w x v h upto =
 -- ---- the link that x takes from
 
 -- it stays where the ring's refresh keeps it
-pub current_kept : (w : World) (x v : ℕ) → MayLook w x v → IsGood w → kept_in (view_at w v) x (option_map (incoming_in w) (member_at w x).current) ≡ option_map (incoming_in w) (kept_current (λ s. is_kept w (link_at w s) v) (member_at w x).current)
+pub current_kept : (w : World) (x v : ℕ) → MayLook w x v → IsGood w → kept_in (view_in w v) x (option_map (incoming_in w) (member_at w x).current) ≡ option_map (incoming_in w) (kept_current (λ s. is_kept w (link_at w s) v) (member_at w x).current)
 current_kept w x v m h = by_current (member_at w x).current refl
   where
     rx : runs w x ≡ true
@@ -81,7 +81,7 @@ current_kept w x v m h = by_current (member_at w x).current refl
     made true s = refl
     made false s = refl
 
-    by_current : (c : Option ℕ) → (member_at w x).current ≡ c → kept_in (view_at w v) x (option_map (incoming_in w) c) ≡ option_map (incoming_in w) (kept_current (λ s. is_kept w (link_at w s) v) c)
+    by_current : (c : Option ℕ) → (member_at w x).current ≡ c → kept_in (view_in w v) x (option_map (incoming_in w) c) ≡ option_map (incoming_in w) (kept_current (λ s. is_kept w (link_at w s) v) c)
     by_current None e = refl
     by_current (Some s) e =
         let older = h.inv.current.opened x s rx e in
@@ -120,7 +120,7 @@ kept_place kept (Some t) s e = by_place (nat_eq t s) refl
 
 -- a link stays at the door exactly where it was there and stays in the new view
 pub door_stays : (w : World) (x v s : ℕ) → MayLook w x v → IsGood w → s < length w.links
-    → waits_by w x (kept_current (λ k. is_kept w (link_at w k) v) (member_at w x).current) v s ≡ (waits_for w x s && stays (view_at w v) x (incoming_in w s))
+    → waits_by w x (kept_current (λ k. is_kept w (link_at w k) v) (member_at w x).current) v s ≡ (waits_for w x s && stays (view_in w v) x (incoming_in w s))
 door_stays w x v s m h there = by_receiver (nat_eq (link_at w s).receiver x) refl
   where
     kept : ℕ → Bool
@@ -130,7 +130,7 @@ door_stays w x v s m h there = by_receiver (nat_eq (link_at w s).receiver x) ref
     later = kept_current kept (member_at w x).current
 
     q : Bool
-    q = stays (view_at w v) x (incoming_in w s)
+    q = stays (view_in w v) x (incoming_in w s)
 
     tests : (b c o p r : Bool) → (r ≡ true → p ≡ true) → (r ≡ true → b ≡ c) → ((not b && not o) && r) ≡ (((not c && not o) && p) && r)
     tests b c o p false i j = and-false (not b && not o) ∙ sym (and-false ((not c && not o) && p))
@@ -154,9 +154,9 @@ first_lines (r ∷ rows) zero = refl
 first_lines (r ∷ rows) (suc p) = first_lines rows p
 
 -- with its first packet it is the ring's
-pub first_out_is : (w : World) (x v : ℕ) → MayLook w x v → IsGood w → first_out (looked_held (held_in w x) (view_at w v)) (right_of (view_at w v) x) ≡ outgoing_in (opened_world w x v (old_links w x)) (length w.links)
+pub first_out_is : (w : World) (x v : ℕ) → MayLook w x v → IsGood w → first_out (looked_held (held_in w x) (view_in w v)) (right_of (view_in w v) x) ≡ outgoing_in (opened_world w x v (old_links w x)) (length w.links)
 first_out_is w x v m h =
-    ap (λ n. put_on rows (fresh_out w.initial w.more (right_of (view_at w v) x) n)) (view_version w v h m.upto)
+    ap (λ n. put_on rows (fresh_out w.initial w.more (right_of (view_in w v) x) n)) (view_version w v h m.upto)
     ∙ ap (λ ns. record (outgoing_in one 0) { sent = ns })
     (map-range_same (λ p. next_numbers true (known_at rows p) (numbers_of nothing_sent p)) (λ p. numbers_at (next_packet (moved_to w x v) no_sending) (p + 1)) 64
     (λ p l. ap (λ r. next_numbers true r (numbers_of nothing_sent p)) (tabled_at (λ k. row_at (member_at w x) (k + 1)) 64 p no_row l)
@@ -173,25 +173,25 @@ first_out_is w x v m h =
 -- ---- what the member holds then
 
 -- where it sends to its right neighbour already
-looks_stands : (w : World) (x v : ℕ) → MayLook w x v → IsGood w → sends_right w x v ≡ true → record (refreshed_held (held_in w x) (view_at w v)) { door = kept_door (view_at w v) x (door_in w x) ++ arriving w x v x } ≡ held_in (look_at w x v) x
+looks_stands : (w : World) (x v : ℕ) → MayLook w x v → IsGood w → sends_right w x v ≡ true → record (refreshed_held (held_in w x) (view_in w v)) { door = kept_door (view_in w v) x (door_in w x) ++ arriving w x v x } ≡ held_in (look_at w x v) x
 looks_stands w x v m h e =
     let w' : World = look_at w x v in
     let y : Member = member_at w x in
     let n : ℕ = length w.links in
     let kept : ℕ → Bool = λ s. is_kept w (link_at w s) v in
-    held_same x y (view_at w v) (view_at w v) (out_to (looked_held (held_in w x) (view_at w v)) (right_of (view_at w v) x)) (option_map (outgoing_in w) y.out) (kept_in (view_at w v) x (option_map (incoming_in w) y.current)) (option_map (incoming_in w) (kept_current kept y.current)) (kept_door (view_at w v) x (door_in w x) ++ arriving w x v x) (door_in w' x) w.initial w.more
+    held_same x y (view_in w v) (view_in w v) (out_to (looked_held (held_in w x) (view_in w v)) (right_of (view_in w v) x)) (option_map (outgoing_in w) y.out) (kept_in (view_in w v) x (option_map (incoming_in w) y.current)) (option_map (incoming_in w) (kept_current kept y.current)) (kept_door (view_in w v) x (door_in w x) ++ arriving w x v x) (door_in w' x) w.initial w.more
     refl
-    (ap (λ b. cond b (option_map (outgoing_in w) y.out) (Some (first_out (looked_held (held_in w x) (view_at w v)) (right_of (view_at w v) x)))) e)
+    (ap (λ b. cond b (option_map (outgoing_in w) y.out) (Some (first_out (looked_held (held_in w x) (view_in w v)) (right_of (view_in w v) x)))) e)
     (current_kept w x v m h)
-    (ap (λ b. kept_door (view_at w v) x (door_in w x) ++ cond b [] (cond (nat_eq (right_of (view_at w v) x) x) (fresh_in w.initial w.more x v ∷ []) [])) e
-    ∙ append-nil (kept_door (view_at w v) x (door_in w x))
-    ∙ filter_made (stays (view_at w v) x) (incoming_in w) (waits_for w x) (range_with_len 0 n)
-    ∙ ap (map (incoming_in w)) (filter_agree (λ s. waits_for w x s && stays (view_at w v) x (incoming_in w s)) (waits_for w' x) 0 n
+    (ap (λ b. kept_door (view_in w v) x (door_in w x) ++ cond b [] (cond (nat_eq (right_of (view_in w v) x) x) (fresh_in w.initial w.more x v ∷ []) [])) e
+    ∙ append-nil (kept_door (view_in w v) x (door_in w x))
+    ∙ filter_made (stays (view_in w v) x) (incoming_in w) (waits_for w x) (range_with_len 0 n)
+    ∙ ap (map (incoming_in w)) (filter_agree (λ s. waits_for w x s && stays (view_in w v) x (incoming_in w s)) (waits_for w' x) 0 n
     (λ s a b. sym (door_stays w x v s m h (omega arith)) ∙ sym (ap (λ k. waits_by w x k.current k.version s) (member_same w x (moved_to w x v) m.is_member)))))
-    ∙ sym (ap (λ k. held_by x k (view_at w k.version) (option_map (outgoing_in w) k.out) (option_map (incoming_in w) k.current) (door_in w' x) w.initial w.more) (member_same w x (moved_to w x v) m.is_member))
+    ∙ sym (ap (λ k. held_by x k (view_in w k.version) (option_map (outgoing_in w) k.out) (option_map (incoming_in w) k.current) (door_in w' x) w.initial w.more) (member_same w x (moved_to w x v) m.is_member))
 
 -- where a link opens
-opens_stands : (w : World) (x v : ℕ) → MayLook w x v → IsGood w → sends_right w x v ≡ false → record (refreshed_held (held_in w x) (view_at w v)) { door = kept_door (view_at w v) x (door_in w x) ++ arriving w x v x } ≡ held_in (opened_world w x v (old_links w x)) x
+opens_stands : (w : World) (x v : ℕ) → MayLook w x v → IsGood w → sends_right w x v ≡ false → record (refreshed_held (held_in w x) (view_in w v)) { door = kept_door (view_in w v) x (door_in w x) ++ arriving w x v x } ≡ held_in (opened_world w x v (old_links w x)) x
 opens_stands w x v m h e =
     let w' : World = opened_world w x v (old_links w x) in
     let y : Member = member_at w x in
@@ -200,15 +200,15 @@ opens_stands w x v m h e =
     let y' : Member = sending_member w x v n in
     let here : member_at w' x ≡ y' = member_same w x y' m.is_member in
     let none : is_place y.current n ≡ false = current_lt w x n y.current (λ s k. h.inv.current.lt x s (ap runs_phase m.up) k) in
-    held_same x y (view_at w v) (view_at w v) (out_to (looked_held (held_in w x) (view_at w v)) (right_of (view_at w v) x)) (Some (outgoing_in w' n)) (kept_in (view_at w v) x (option_map (incoming_in w) y.current)) (option_map (incoming_in w') (kept_current kept y.current)) (kept_door (view_at w v) x (door_in w x) ++ arriving w x v x) (door_in w' x) w.initial w.more
+    held_same x y (view_in w v) (view_in w v) (out_to (looked_held (held_in w x) (view_in w v)) (right_of (view_in w v) x)) (Some (outgoing_in w' n)) (kept_in (view_in w v) x (option_map (incoming_in w) y.current)) (option_map (incoming_in w') (kept_current kept y.current)) (kept_door (view_in w v) x (door_in w x) ++ arriving w x v x) (door_in w' x) w.initial w.more
     refl
-    (ap (λ b. cond b (option_map (outgoing_in w) y.out) (Some (first_out (looked_held (held_in w x) (view_at w v)) (right_of (view_at w v) x)))) e ∙ ap Some (first_out_is w x v m h))
+    (ap (λ b. cond b (option_map (outgoing_in w) y.out) (Some (first_out (looked_held (held_in w x) (view_in w v)) (right_of (view_in w v) x)))) e ∙ ap Some (first_out_is w x v m h))
     (current_kept w x v m h ∙ same_current w x v m h)
-    (ap (λ b. kept_door (view_at w v) x (door_in w x) ++ cond b [] (cond (nat_eq (right_of (view_at w v) x) x) (fresh_in w.initial w.more x v ∷ []) [])) e
-    ∙ ap (λ ls. ls ++ cond (nat_eq (right_of (view_at w v) x) x) (fresh_in w.initial w.more x v ∷ []) []) (filter_made (stays (view_at w v) x) (incoming_in w) (waits_for w x) (range_with_len 0 n))
-    ∙ sym (door_after w x v x (λ s. waits_for w x s && stays (view_at w v) x (incoming_in w s)) (kept_current kept y.current) v m h m.upto (kept_lt n kept y.current none) (λ s l. door_stays w x v s m h l))
+    (ap (λ b. kept_door (view_in w v) x (door_in w x) ++ cond b [] (cond (nat_eq (right_of (view_in w v) x) x) (fresh_in w.initial w.more x v ∷ []) [])) e
+    ∙ ap (λ ls. ls ++ cond (nat_eq (right_of (view_in w v) x) x) (fresh_in w.initial w.more x v ∷ []) []) (filter_made (stays (view_in w v) x) (incoming_in w) (waits_for w x) (range_with_len 0 n))
+    ∙ sym (door_after w x v x (λ s. waits_for w x s && stays (view_in w v) x (incoming_in w s)) (kept_current kept y.current) v m h m.upto (kept_lt n kept y.current none) (λ s l. door_stays w x v s m h l))
     ∙ sym (ap (λ k. map (incoming_in w') (filter (waits_by w' x k.current k.version) (range_with_len 0 (length w'.links)))) here))
-    ∙ sym (ap (λ k. held_by x k (view_at w k.version) (option_map (outgoing_in w') k.out) (option_map (incoming_in w') k.current) (door_in w' x) w.initial w.more) here)
+    ∙ sym (ap (λ k. held_by x k (view_in w k.version) (option_map (outgoing_in w') k.out) (option_map (incoming_in w') k.current) (door_in w' x) w.initial w.more) here)
   where
     same_current : (w : World) (x v : ℕ) → MayLook w x v → IsGood w → option_map (incoming_in w) (kept_current (λ s. is_kept w (link_at w s) v) (member_at w x).current) ≡ option_map (incoming_in (opened_world w x v (old_links w x))) (kept_current (λ s. is_kept w (link_at w s) v) (member_at w x).current)
     same_current w x v m h = by_current (member_at w x).current refl
@@ -222,12 +222,12 @@ opens_stands w x v m h e =
         by_current (Some s) k = by_test s (h.inv.current.lt x s (ap runs_phase m.up) k) (is_kept w (link_at w s) v)
 
 -- the member's refresh, with the link that it opens to itself, where it is alone, behind the others at its door
-pub refresh_stands : (w : World) (x v : ℕ) → MayLook w x v → IsGood w → record (refreshed_held (held_in w x) (view_at w v)) { door = kept_door (view_at w v) x (door_in w x) ++ arriving w x v x } ≡ held_in (refreshed w x v) x
+pub refresh_stands : (w : World) (x v : ℕ) → MayLook w x v → IsGood w → record (refreshed_held (held_in w x) (view_in w v)) { door = kept_door (view_in w v) x (door_in w x) ++ arriving w x v x } ≡ held_in (refreshed w x v) x
 refresh_stands w x v m h = by_out (sends_right w x v) refl
   where
-    by_out : (b : Bool) → sends_right w x v ≡ b → record (refreshed_held (held_in w x) (view_at w v)) { door = kept_door (view_at w v) x (door_in w x) ++ arriving w x v x } ≡ held_in (refreshed w x v) x
+    by_out : (b : Bool) → sends_right w x v ≡ b → record (refreshed_held (held_in w x) (view_in w v)) { door = kept_door (view_in w v) x (door_in w x) ++ arriving w x v x } ≡ held_in (refreshed w x v) x
     by_out true e = looks_stands w x v m h e ∙ sym (ap (λ u. held_in u x) (refresh_looks w x v e))
     by_out false e = opens_stands w x v m h e ∙ sym (ap (λ u. held_in u x) (refresh_opens w x v m.is_member e))
 
 pub nothing_opens : (w : World) (x v y : ℕ) → sends_right w x v ≡ true → arriving w x v y ≡ []
-nothing_opens w x v y e = ap (λ b. cond b [] (cond (nat_eq (right_of (view_at w v) x) y) (fresh_in w.initial w.more x v ∷ []) [])) e
+nothing_opens w x v y e = ap (λ b. cond b [] (cond (nat_eq (right_of (view_in w v) x) y) (fresh_in w.initial w.more x v ∷ []) [])) e

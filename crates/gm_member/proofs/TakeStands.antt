@@ -14,7 +14,7 @@ use Rattle.ring_world.specs.declared.phase.Phase.{Phase}
 use Rattle.ring_world.specs.declared.phase.Phase.TheVariants.{Up}
 use Rattle.ring_world.specs.Rows.{Row, no_row, no_numbers, taken_row}
 use Rattle.ring_world.specs.Refusal.{refuse_if, or_else, is_empty}
-use Rattle.ring_world.specs.Machine.{World, Packet, Member, no_link, no_member, row_at, numbers_at, member_at, link_at, view_at, oldest}
+use Rattle.ring_world.specs.Machine.{World, Packet, Member, no_link, no_member, row_at, numbers_at, member_at, link_at, view_in, oldest}
 use Rattle.ring_world.specs.Step.{size, with_member, log_of, is_owned, taker, popped, take_from}
 use Rattle.ring_world.specs.Event.{on_link, is_stopped, running_refusal, take_refusal, end_refusal, version_refusal, refusal, effect}
 use Rattle.ring_world.specs.Lawful.{row_of}
@@ -113,7 +113,7 @@ take_does w x s f t =
 
 -- whether x answers for an origin against the sender of link s
 abbrev pub owned : World → ℕ → ℕ → ℕ → Bool
-owned w x s p = is_owned (view_at w (member_at w x).version) x (link_at w s).sender p
+owned w x s p = is_owned (view_in w (member_at w x).version) x (link_at w s).sender p
 
 -- it begins no later than where the member stands
 pub arriving_lo : (w : World) (x s p : ℕ) → IsFit w → TakesFrom w x s → 1 ≤ p → p < size w → owned w x s p ≡ false → (numbers_at (oldest (link_at w s)) p).lo ≤ (row_of w x p).got

@@ -12,7 +12,7 @@ use Rattle.ring_world.specs.declared.event.Event.TheVariants as event
 use Rattle.ring_world.specs.Rows.{most_members}
 use Rattle.ring_world.specs.Refusal.{is_empty}
 use Rattle.ring_world.specs.View.{right_of}
-use Rattle.ring_world.specs.Machine.{World, Packet, row_at, numbers_at, member_at, link_at, view_at, oldest}
+use Rattle.ring_world.specs.Machine.{World, Packet, row_at, numbers_at, member_at, link_at, view_in, oldest}
 use Rattle.ring_world.specs.OpenLinks.{is_door_link, passes}
 use Rattle.ring_world.specs.Step.{size, log_of, is_owned, next_packet, opening}
 use Rattle.ring_world.specs.Event.{refusal, effect, IsRun, last}
@@ -53,7 +53,7 @@ held_in w x = record {
   id = x;
   name = (member_at w x).name;
   phase = (member_at w x).phase;
-  view = view_at w (member_at w x).version;
+  view = view_in w (member_at w x).version;
   rows = map (λ p. row_at (member_at w x) (p + 1)) places;
   out = option_map (outgoing_in w) (member_at w x).out;
   current = option_map (incoming_in w) (member_at w x).current;
@@ -112,7 +112,7 @@ abbrev pub taken_below : ℕ → World → ℕ → ℕ → List Taken
 taken_below zero w x s = []
 taken_below (suc p) w x s =
     taken_below p w x s
-    ++ taken_of (is_owned (view_at w (member_at w x).version) x (link_at w s).sender (p + 1)) p (log_of w (p + 1)) (row_at (member_at w x) (p + 1)).got (numbers_at (oldest (link_at w s)) (p + 1))
+    ++ taken_of (is_owned (view_in w (member_at w x).version) x (link_at w s).sender (p + 1)) p (log_of w (p + 1)) (row_at (member_at w x) (p + 1)).got (numbers_at (oldest (link_at w s)) (p + 1))
 
 -- all that a take at x brings
 abbrev pub taken_in : World → Option ℕ → ℕ → List Taken

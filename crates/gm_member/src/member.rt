@@ -58,7 +58,7 @@ impl<O: LinkPair<Load, In = I>, I: LinkIn<Load> + Drop> Member<O, I> {
     ghost use Rattle.ring_names.specs.declared.reason.Reason.{Reason};
     ghost use Rattle.ring_world.specs.Rows.{most_members};
     ghost use Rattle.ring_world.specs.declared.event.Event.TheVariants.{Put, Take, TakeEnd, Gain, Stop, Pick, Refresh};
-    ghost use Rattle.ring_world.specs.Machine.{member_at, view_at, newest};
+    ghost use Rattle.ring_world.specs.Machine.{member_at, view_in, newest};
     ghost use Rattle.ring_world.specs.Step.{log_of};
     ghost use Rattle.ring_world.specs.Event.{refusal, take_refusal as the_take_refusal};
     ghost use Rattle.ring_world.specs.Event.{end_refusal as the_end_refusal, gain_refusal as the_gain_refusal};
@@ -709,7 +709,7 @@ impl<O: LinkPair<Load, In = I>, I: LinkIn<Load> + Drop> Member<O, I> {
         // Wherever the member stands in a state of a run, and the view is one of the ring's, this is the ring's
         // event. A member that is left alone stands there once the link that it opens to itself has come to its door.
         ensures steps { OnOk result (WhereItStands (held_of self.old) (λ w x. view.version ≤ newest w
-            → view ≡ view_at w view.version
+            → view ≡ view_in w view.version
             → StepsTo w x (Refresh (held_of self.old).name view.version)
             (with_own_link (held_of self.old) view (held_of self.new)))) }
     {

@@ -29,7 +29,7 @@ impl<O: LinkPair<Load, In = I>, I: LinkIn<Load> + Drop> Member<O, I> {
     ghost use Rattle.ring_names.specs.declared.reason.Reason.{Reason};
     ghost use Rattle.group_view.specs.Ring.{is_in};
     ghost use Rattle.ring_world.specs.declared.event.Event.TheVariants.{Refresh as TheRefresh};
-    ghost use Rattle.ring_world.specs.Machine.{view_at, newest};
+    ghost use Rattle.ring_world.specs.Machine.{view_in, newest};
     ghost use Rattle.ring_world.specs.View.{ids};
     ghost use Rattle.gm_member.specs.View.{count_of};
     ghost use Rattle.gm_member.specs.Held.{ask_refused, asking_held, answered_held, collected_held, refreshed_held};
@@ -168,7 +168,7 @@ impl<O: LinkPair<Load, In = I>, I: LinkIn<Load> + Drop> Member<O, I> {
         // this is the ring's event. A member that is left alone stands there once the link that it opens to itself
         // has come to its door.
         ensures steps { OnOk result (OfView answer (λ v. WhereItStands (answered_held (held_of self.old)) (λ w x. v
-            ≡ view_at w (newest w)
+            ≡ view_in w (newest w)
             → StepsTo w x (TheRefresh (held_of self.old).name v.version)
             (with_own_link (held_of self.old) v (held_of self.new))))) }
     {

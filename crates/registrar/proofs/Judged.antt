@@ -25,13 +25,13 @@ use Rattle.registrar.specs.Stands.{IsAsker, StandsIn, TellsTrue}
 -- ---- the registrar's views are those of the state
 
 module _ {I : Type 0} where
-  pub view_same : (w : World) (r : Registry I) (v : ℕ) → StandsIn w r → view_at r.views v ≡ machine.view_at w v
+  pub view_same : (w : World) (r : Registry I) (v : ℕ) → StandsIn w r → view_at r.views v ≡ machine.view_in w v
   view_same w r v s = ap (λ vs. get_or vs v no_group) (sym s.views)
 
   pub many_views : (w : World) (r : Registry I) → StandsIn w r → length r.views ≡ newest w
   many_views w r s = let many = ap length s.views in omega (arith, many)
 
-  pub newest_same : (w : World) (r : Registry I) → StandsIn w r → registry.newest r ≡ machine.view_at w (newest w)
+  pub newest_same : (w : World) (r : Registry I) → StandsIn w r → registry.newest r ≡ machine.view_in w (newest w)
   newest_same w r s = ap (view_at r.views) (many_views w r s) ∙ view_same w r (newest w) s
 
   -- each member has an entry
@@ -41,23 +41,23 @@ module _ {I : Type 0} where
 -- ---- the asker
 
 -- the asker is live in its view
-asker_lives : (w : World) (name : List ℕ) (x v : ℕ) → IsGood w → IsAsker w name x v → is_live (machine.view_at w v).entries x ≡ true
+asker_lives : (w : World) (name : List ℕ) (x v : ℕ) → IsGood w → IsAsker w name x v → is_live (machine.view_in w v).entries x ≡ true
 asker_lives w name x v h a = h.inv.is_ring.lives x v (ap runs_phase a.up) (omega (arith, a.holds)) (omega (arith, a.holds, h.inv.is_ring.held x))
 
 -- its left neighbour
-is_left_same : (w : World) (name : List ℕ) (x v d : ℕ) → IsGood w → IsAsker w name x v → is_left (machine.view_at w v) x d ≡ nat_eq d (left_neighbour w x)
+is_left_same : (w : World) (name : List ℕ) (x v d : ℕ) → IsGood w → IsAsker w name x v → is_left (machine.view_in w v) x d ≡ nat_eq d (left_neighbour w x)
 is_left_same w name x v d h a =
-    sym (ap (λ n. nat_eq d (ring.left_of (machine.view_at w n) x)) a.holds)
+    sym (ap (λ n. nat_eq d (ring.left_of (machine.view_in w n) x)) a.holds)
 
-is_right_same : (w : World) (name : List ℕ) (x v d : ℕ) → IsGood w → IsAsker w name x v → nat_eq d (right_of (machine.view_at w v).entries x) ≡ nat_eq d (ring.right_of (machine.view_at w (member_at w x).version) x)
+is_right_same : (w : World) (name : List ℕ) (x v d : ℕ) → IsGood w → IsAsker w name x v → nat_eq d (right_of (machine.view_in w v).entries x) ≡ nat_eq d (ring.right_of (machine.view_in w (member_at w x).version) x)
 is_right_same w name x v d h a =
-    sym (ap (λ n. nat_eq d (ring.right_of (machine.view_at w n) x)) a.holds)
+    sym (ap (λ n. nat_eq d (ring.right_of (machine.view_in w n) x)) a.holds)
 
 -- and its neighbours
-beside_same : (w : World) (name : List ℕ) (x v d : ℕ) → IsGood w → IsAsker w name x v → is_beside (machine.view_at w v) x d ≡ is_neighbour w x d
+beside_same : (w : World) (name : List ℕ) (x v d : ℕ) → IsGood w → IsAsker w name x v → is_beside (machine.view_in w v) x d ≡ is_neighbour w x d
 beside_same w name x v d h a =
-    ap (λ b. b && (is_left (machine.view_at w v) x d || nat_eq d (right_of (machine.view_at w v).entries x))) (asker_lives w name x v h a)
-    ∙ ap (λ b. b || nat_eq d (right_of (machine.view_at w v).entries x)) (is_left_same w name x v d h a)
+    ap (λ b. b && (is_left (machine.view_in w v) x d || nat_eq d (right_of (machine.view_in w v).entries x))) (asker_lives w name x v h a)
+    ∙ ap (λ b. b || nat_eq d (right_of (machine.view_in w v).entries x)) (is_left_same w name x v d h a)
     ∙ ap (λ b. nat_eq d (left_neighbour w x) || b) (is_right_same w name x v d h a)
 
 -- where the first are one, and the second are so where the first hold
@@ -86,8 +86,8 @@ module _ {I : Type 0} where
       ∙ ap (λ b. or_else (refuse_if (not b) reason.UnknownMember) (refusals n l t m)) (knows w r d h s to.0 to.1)
       ∙ ap (λ b. refusals b l t m) (ap (λ g. is_beside g x d) (view_same w r v s) ∙ beside_same w name x v d h a)
       ∙ ap (λ b. refusals (is_neighbour w x d) b t m) (ap (λ (g : Group). is_live g.entries d) (newest_same w r s))
-      ∙ ap (λ b. refusals (is_neighbour w x d) (ring.is_live (machine.view_at w (newest w)) d) b m) (s.stopped d to.0 to.1)
-      ∙ ap (refusals (is_neighbour w x d) (ring.is_live (machine.view_at w (newest w)) d) (is_stopped (member_at w d).phase))
+      ∙ ap (λ b. refusals (is_neighbour w x d) (ring.is_live (machine.view_in w (newest w)) d) b m) (s.stopped d to.0 to.1)
+      ∙ ap (refusals (is_neighbour w x d) (ring.is_live (machine.view_in w (newest w)) d) (is_stopped (member_at w d).phase))
       (and_same (is_left (view_at r.views v) x d) (nat_eq d (left_neighbour w x)) _ _ (left_asked w r name x v d h s a) tells)
       ∙ sym (ap (λ o. of_member o (λ y. up_refusal w y (of_member (id_of w dead_name) (event.mark_refusal w y)))) a.named
       ∙ up_is w x (of_member (id_of w dead_name) (event.mark_refusal w x)) a.up

@@ -7,7 +7,7 @@ use Rattle.ring_names.specs.declared.message.Message.TheVariants as message
 use Rattle.ring_world.specs.declared.event.Event.{Event}
 use Rattle.ring_world.specs.declared.event.Event.TheVariants.{Cast, Put, Take, TakeEnd, Gain, Stop, Mark, Refresh, Pick}
 use Rattle.registrar.specs.Stands.{IsOwn}
-use Rattle.ring_world.specs.Machine.{Member, World, no_member, member_at, link_at, view_at, oldest}
+use Rattle.ring_world.specs.Machine.{Member, World, no_member, member_at, link_at, view_in, oldest}
 use Rattle.ring_world.specs.Step.{size, with_member, moved_to, opened_link, end_out, begun, taker, published, with_current}
 use Rattle.ring_world.specs.Event.{is_stopped, refreshed, at_found, taken_by, effect, at_door, id_of, by_of, done_at}
 use Rattle.ring_world.proofs.events.Composed.{refresh_composed}
@@ -49,7 +49,7 @@ told_member w x y f = ap (λ ss. record { views = w.views; stopped = ss }) (map-
 pub told_refreshed : (w : World) (x v : ℕ) → told (refreshed w x v) ≡ told w
 told_refreshed w x v = refresh_composed (λ u. told u ≡ told w) w x v
     (λ k _ h. h)
-    (λ u _ h. told_member (record u { links = u.links ++ opened_link u x (right_of (view_at w v) x) ∷ [] }) x (record (member_at u x) { out = Some (length u.links) }) refl ∙ h)
+    (λ u _ h. told_member (record u { links = u.links ++ opened_link u x (right_of (view_in w v) x) ∷ [] }) x (record (member_at u x) { out = Some (length u.links) }) refl ∙ h)
     (told_member w x (moved_to w x v) refl)
 
 -- a link ends, where there is one

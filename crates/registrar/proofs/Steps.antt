@@ -50,15 +50,15 @@ module _ {I : Type 0} where
   mark_stands w r x d name dead_name s from to =
       subst (λ k. StandsIn k (handled.with_view r (marked (registry.newest r) d))) (sym is)
       (stands_same next (refreshed next x (newest w + 1)) _ (told_refreshed next x (newest w + 1))
-      (stands_view w r (marked (machine.view_at w (newest w)) d) (marked (registry.newest r) d) (ap (λ g. marked g d) (sym (newest_same w r s))) s))
+      (stands_view w r (marked (machine.view_in w (newest w)) d) (marked (registry.newest r) d) (ap (λ g. marked g d) (sym (newest_same w r s))) s))
     where
       next : World
-      next = with_view w (marked (machine.view_at w (newest w)) d)
+      next = with_view w (marked (machine.view_in w (newest w)) d)
 
       is : effect w (Mark name dead_name) ≡ refreshed next x (newest w + 1)
       is =
-          ap (λ o. at_found o w (λ y. at_found (id_of w dead_name) w (λ e. refreshed (with_view w (marked (machine.view_at w (newest w)) e)) y (newest w + 1)))) from
-          ∙ ap (λ o. at_found o w (λ e. refreshed (with_view w (marked (machine.view_at w (newest w)) e)) x (newest w + 1))) to
+          ap (λ o. at_found o w (λ y. at_found (id_of w dead_name) w (λ e. refreshed (with_view w (marked (machine.view_in w (newest w)) e)) y (newest w + 1)))) from
+          ∙ ap (λ o. at_found o w (λ e. refreshed (with_view w (marked (machine.view_in w (newest w)) e)) x (newest w + 1))) to
 
   pub refresh_stands : (w : World) (r : Registry I) (x v : ℕ) (name : List ℕ) → StandsIn w r → id_of w name ≡ Some x → StandsIn (effect w (Refresh name v)) r
   refresh_stands w r x v name s from =

@@ -1,6 +1,6 @@
 -- What a member that stands in a state of the ring holds of it.
 use Rattle.std.specs.Prelude.{◌≡◌, ℕ, ◌-◌, ◌<◌, ◌≤◌, take}
-use Rattle.ring_world.specs.Machine.{World, member_at, row_at, view_at}
+use Rattle.ring_world.specs.Machine.{World, member_at, row_at, view_in}
 use Rattle.ring_world.specs.Step.{size, log_of}
 use Rattle.gm_member.specs.Held.{Held, known_at}
 
@@ -10,7 +10,7 @@ pub record HoldsOf (w : World) (x : ℕ) (h : Held) : Type 0 where
   pub id : h.id ≡ x
   pub name : h.name ≡ (member_at w x).name
   pub phase : h.phase ≡ (member_at w x).phase
-  pub view : h.view ≡ view_at w (member_at w x).version
+  pub view : h.view ≡ view_in w (member_at w x).version
   pub got : (p : ℕ) → 1 ≤ p → p < size w → (known_at h.rows (p - 1)).got ≡ (row_at (member_at w x) p).got
   pub forgot : (p : ℕ) → 1 ≤ p → p < size w → (known_at h.rows (p - 1)).forgot ≡ (row_at (member_at w x) p).forgot
   pub retired : (p : ℕ) → 1 ≤ p → p < size w → (known_at h.rows (p - 1)).retired ≡ (row_at (member_at w x) p).retired

@@ -6,7 +6,7 @@ use Rattle.group_view.specs.Kept.{changes_of}
 use Rattle.ring_world.specs.declared.event.Event.{Event}
 use Rattle.ring_world.specs.declared.event.Event.TheVariants.{Refresh}
 use Rattle.ring_world.specs.Rows.{Row}
-use Rattle.ring_world.specs.Machine.{Member, Link, World, member_at, link_at, view_at, newest}
+use Rattle.ring_world.specs.Machine.{Member, Link, World, member_at, link_at, view_in, newest}
 use Rattle.ring_world.specs.OpenLinks.{passes, is_current}
 use Rattle.ring_world.specs.Step.{size, log_of}
 use Rattle.ring_world.specs.Lawful.{row_of}
@@ -26,7 +26,7 @@ entry_left e = 4 - changes_of e
 
 -- those of all entries of the newest view
 abbrev pub marks_left : World → ℕ
-marks_left w = sum_by entry_left (view_at w (newest w)).entries
+marks_left w = sum_by entry_left (view_in w (newest w)).entries
 
 -- ---- members
 

@@ -58,7 +58,7 @@ impl Cluster {
     ghost use Rattle.ring_script.specs.declared.command.Command.TheVariants as command;
     ghost use Rattle.group_view.specs.Change.{AreOpeningNames};
     ghost use Rattle.ring_world.specs.declared.event.Event.{Event};
-    ghost use Rattle.ring_world.specs.Machine.{view_at, newest, runs};
+    ghost use Rattle.ring_world.specs.Machine.{view_in, newest, runs};
     ghost use Rattle.ring_world.specs.Quiet.{IsQuiet};
     ghost use Rattle.ring_world.specs.Event.{refusal};
     ghost use Rattle.gm_member.specs.Stands.{held_in};
@@ -427,7 +427,7 @@ impl Cluster {
 
     /// The newest view of the group, as the registrar has it.
     pub fn view(&self) -> &View
-        ensures { result.now ≡ view_at (state_of self.now) (newest (state_of self.now)) }
+        ensures { result.now ≡ view_in (state_of self.now) (newest (state_of self.now)) }
     {
         self.parties.view()
     }

@@ -3,7 +3,7 @@ ghost use Rattle.std.specs.Prelude.{◌≢◌, ℕ, List, All};
 ghost use Rattle.group_view.specs.declared.entry.Entry.{Entry};
 ghost use Rattle.group_view.specs.declared.entry.Mark.TheVariants.{Dead};
 ghost use Rattle.ring_world.specs.declared.event.Event.TheVariants.{Put, Take, TakeEnd, Gain, Pick, Mark};
-ghost use Rattle.ring_world.specs.Machine.{view_at, newest};
+ghost use Rattle.ring_world.specs.Machine.{view_in, newest};
 ghost use Rattle.ring_world.specs.Quiet.{IsSettled, IsAtRest, IsQuiet};
 ghost use Rattle.ring_cluster.specs.EachState.{InEachState};
 ghost use Rattle.ring_cluster.specs.Idle.{IsIdle, NobodyStopped, MarksNobody};
@@ -19,9 +19,9 @@ ghost use Rattle.ring_cluster.specs.Work.{EachLeavesLess, EachRefreshLeavesLess}
 /// marked dead, it is quiet (`marked`).
 pub fn an_idle_ring_is_at_rest()
     ensures alive { InEachState (λ w. NobodyStopped w → IsIdle w → IsQuiet w) }
-    ensures settled { InEachState (λ w. IsIdle w → All (IsSettled w) (view_at w (newest w)).entries → IsAtRest w) }
+    ensures settled { InEachState (λ w. IsIdle w → All (IsSettled w) (view_in w (newest w)).entries → IsAtRest w) }
     ensures marked { InEachState (λ w. IsIdle w → MarksNobody w
-        → All (λ (e : Entry). e.mark ≢ Dead) (view_at w (newest w)).entries → IsQuiet w) }
+        → All (λ (e : Entry). e.mark ≢ Dead) (view_in w (newest w)).entries → IsQuiet w) }
 {}
 
 /// Where a ring is quiet, in any state that it reaches, every message of the members that run is

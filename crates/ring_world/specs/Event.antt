@@ -10,7 +10,7 @@ use Rattle.ring_world.specs.Refusal.{refuse_if, or_else, is_empty}
 use Rattle.group_view.specs.View.{entry_in}
 use Rattle.group_view.specs.Change.{marked}
 use Rattle.ring_world.specs.View.{is_live, left_of, right_of}
-use Rattle.ring_world.specs.Machine.{Phase, Waiting, Up, Stopped, Member, Sending, Moved, Halted, Link, World, row_at, numbers_at, member_at, link_at, view_at, newest, is_waiting, oldest}
+use Rattle.ring_world.specs.Machine.{Phase, Waiting, Up, Stopped, Member, Sending, Moved, Halted, Link, World, row_at, numbers_at, member_at, link_at, view_in, newest, is_waiting, oldest}
 use Rattle.ring_world.specs.Step.{size, publish_at, put_on, gain_on, take_from, begin_from, current_is, leave_link, stop_at, end_out, with_view, look_at, open_to, with_link, ended}
 pub use Rattle.ring_world.specs.declared.event.Event.{Event}
 pub use Rattle.ring_world.specs.declared.event.Event.TheVariants.{Cast, Put, Take, TakeEnd, Gain, Stop, Mark, Refresh, Pick}
@@ -84,11 +84,11 @@ gain_refusal w o = refuse_if (is_empty (link_at w o).flow.grants) reason.NoGrant
 
 -- since when the left neighbour that a member has in its view has been it
 abbrev pub since : World → ℕ → ℕ
-since w y = (entry_in (view_at w (member_at w y).version).entries y).since
+since w y = (entry_in (view_in w (member_at w y).version).entries y).since
 
 -- y's left neighbour in its view
 abbrev pub left_neighbour : World → ℕ → ℕ
-left_neighbour w y = left_of (view_at w (member_at w y).version) y
+left_neighbour w y = left_of (view_in w (member_at w y).version) y
 
 -- A link stands at y's door that goes to y, isn't taken to its end, and comes from y's left neighbour, opened when that one
 -- was it already. A link that y once had for its current one and left doesn't come back so: it was taken to its end, or
@@ -108,7 +108,7 @@ pick_refusal w y = on_link (at_door w y) reason.NoLinkAtDoor (λ s. version_refu
 
 -- whether d is x's left or right neighbour in x's view
 abbrev pub is_neighbour : World → ℕ → ℕ → Bool
-is_neighbour w x d = nat_eq d (left_neighbour w x) || nat_eq d (right_of (view_at w (member_at w x).version) x)
+is_neighbour w x d = nat_eq d (left_neighbour w x) || nat_eq d (right_of (view_in w (member_at w x).version) x)
 
 -- d is x's left neighbour, and x has a current link or could pick one
 abbrev pub is_still_taken : World → ℕ → ℕ → Bool
@@ -118,7 +118,7 @@ is_still_taken w x d = nat_eq d (left_neighbour w x) && (is_some (member_at w x)
 abbrev pub mark_refusal : World → ℕ → ℕ → Option Reason
 mark_refusal w x d =
     or_else (refuse_if (not (is_neighbour w x d)) reason.NotNeighbour)
-    (or_else (refuse_if (not (is_live (view_at w (newest w)) d)) reason.AlreadyDead)
+    (or_else (refuse_if (not (is_live (view_in w (newest w)) d)) reason.AlreadyDead)
     (or_else (refuse_if (not (is_stopped (member_at w d).phase)) reason.NotStopped)
     (refuse_if (is_still_taken w x d) reason.LinkNotEnded)))
 
@@ -136,7 +136,7 @@ send_to w x z (Some o) = if nat_eq (link_at w o).receiver z then w else open_to 
 
 -- x has view v: its current link stays where that is kept, and it sends to its right neighbour
 abbrev pub refreshed : World → ℕ → ℕ → World
-refreshed w x v = send_to (look_at w x v) x (right_of (view_at w v) x) (member_at w x).out
+refreshed w x v = send_to (look_at w x v) x (right_of (view_in w v) x) (member_at w x).out
 
 -- ---- events
 
@@ -209,7 +209,7 @@ done_at w (Take by) x = at_found (member_at w x).current w (taken_by (member_at 
 done_at w (TakeEnd by) x = at_found (member_at w x).current w (leave_link w x)
 done_at w (Gain by) x = at_found (member_at w x).out w (gain_on w)
 done_at w (Stop by) x = end_out Halted (stop_at w x) (member_at w x).out
-done_at w (Mark by dead) x = at_found (id_of w dead) w (λ d. refreshed (with_view w (marked (view_at w (newest w)) d)) x (newest w + 1))
+done_at w (Mark by dead) x = at_found (id_of w dead) w (λ d. refreshed (with_view w (marked (view_in w (newest w)) d)) x (newest w + 1))
 done_at w (Refresh by version) x = refreshed w x version
 done_at w (Pick by) x = at_found (at_door w x) w (λ s. current_is w x (Some s))
 

@@ -6,7 +6,7 @@ use Rattle.ring_world.specs.declared.numbers.Numbers.{Numbers}
 use Rattle.ring_world.specs.Rows.{Row, Flow, no_row, no_numbers, full_flow}
 use Rattle.group_view.specs.View.{Group}
 use Rattle.group_view.specs.Since.{no_group}
-use Rattle.ring_world.specs.View.{ids, left_at, right_at}
+use Rattle.ring_world.specs.View.{ids, left_by, right_by}
 pub use Rattle.ring_world.specs.declared.phase.Phase.{Phase}
 pub use Rattle.ring_world.specs.declared.phase.Phase.TheVariants.{Waiting, Up, Stopped}
 pub use Rattle.ring_world.specs.declared.phase.Ending.{Ending}
@@ -91,8 +91,8 @@ abbrev pub oldest : Link → Packet
 oldest l = slice_index_or l.packets 0 no_packet
 
 -- the view of a version
-abbrev pub view_at : World → ℕ → Group
-view_at w v = slice_index_or w.views v no_group
+abbrev pub view_in : World → ℕ → Group
+view_in w v = slice_index_or w.views v no_group
 
 -- the version of the newest view
 abbrev pub newest : World → ℕ
@@ -100,15 +100,15 @@ newest w = length w.views - 1
 
 -- the ring is the newest view
 abbrev pub ring : World → List ℕ
-ring w = ids (view_at w (newest w))
+ring w = ids (view_in w (newest w))
 
 -- the left neighbour of y in the view of version v
 abbrev pub left : World → ℕ → ℕ → ℕ
-left w v y = left_at w.views v y
+left w v y = left_by w.views v y
 
 -- the right one
 abbrev pub right : World → ℕ → ℕ → ℕ
-right w v y = right_at w.views v y
+right w v y = right_by w.views v y
 
 -- a member runs when it is up or waits
 abbrev pub runs_phase : Phase → Bool
@@ -128,7 +128,7 @@ runs w q = runs_phase (member_at w q).phase
 
 -- the receiver has had the sender at its left in each view from the opening of the link up to v
 unfoldable pub is_kept_of : List Group → ℕ → ℕ → ℕ → ℕ → Bool
-is_kept_of vs to sender opened v = list_all (λ u. nat_eq (left_at vs u to) sender) (range_with_len opened (v + 1 - opened))
+is_kept_of vs to sender opened v = list_all (λ u. nat_eq (left_by vs u to) sender) (range_with_len opened (v + 1 - opened))
 
 -- the same of a link
 abbrev pub is_kept : World → Link → ℕ → Bool

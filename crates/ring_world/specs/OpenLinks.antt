@@ -6,7 +6,7 @@ use Rattle.ring_world.specs.Rows.{Row}
 use Rattle.group_view.specs.Ring.{is_in, first, rotated}
 use Rattle.group_view.specs.View.{entry_in}
 use Rattle.ring_world.specs.View.{between}
-use Rattle.ring_world.specs.Machine.{Phase, Waiting, Up, Stopped, Packet, Member, Link, World, no_packet, oldest, row_at, numbers_at, member_at, link_at, view_at, newest, ring, left, runs, is_waiting}
+use Rattle.ring_world.specs.Machine.{Phase, Waiting, Up, Stopped, Packet, Member, Link, World, no_packet, oldest, row_at, numbers_at, member_at, link_at, view_in, newest, ring, left, runs, is_waiting}
 
 -- ---- the owner
 
@@ -26,7 +26,7 @@ version_of w y = (member_at w y).version
 
 -- since when the left neighbour that y has in the view of a version has been it
 abbrev pub since_in : World → ℕ → ℕ → ℕ
-since_in w u y = (entry_in (view_at w u).entries y).since
+since_in w u y = (entry_in (view_in w u).entries y).since
 
 -- in the view u, the sender is y's left neighbour, and it was that already when the link opened
 abbrev pub comes_from_left : World → ℕ → Link → ℕ → Bool
@@ -77,7 +77,7 @@ open_packets w y = packets_on w y (open_links w y)
 -- What comes to the owner y of p is late in three cases: p is y; p stands between the sender and y in the newest ring; the
 -- sender is y itself. Otherwise it is early.
 abbrev pub is_late : World → ℕ → ℕ → ℕ → Bool
-is_late w p y s = nat_eq p y || (is_in p (between (view_at w (newest w)) (link_at w s).sender y) || nat_eq (link_at w s).sender y)
+is_late w p y s = nat_eq p y || (is_in p (between (view_in w (newest w)) (link_at w s).sender y) || nat_eq (link_at w s).sender y)
 
 -- the late ones
 abbrev pub late_packets : World → ℕ → ℕ → List Packet

@@ -1,7 +1,7 @@
 -- What the code needs of a state to find its parts.
 use Rattle.std.specs.Prelude.{◌≡◌, ℕ, suc, ◌<◌, ◌≤◌, true, false, length, Some}
 use Rattle.ring_world.specs.declared.state.Ring.{Ring}
-use Rattle.ring_world.specs.Machine.{Up, Stopped, World, member_at, link_at, view_at, newest, row_at, runs, is_waiting}
+use Rattle.ring_world.specs.Machine.{Up, Stopped, World, member_at, link_at, view_in, newest, row_at, runs, is_waiting}
 use Rattle.ring_world.specs.Step.{size, log_of, with_view}
 use Rattle.ring_world.specs.View.{is_live}
 use Rattle.group_view.specs.Change.{marked}
@@ -26,7 +26,7 @@ pub record IsPlaced (w : World) : Type 0 where
 -- and stays so when one that has stopped, and is live in the newest view, is marked dead
 pub record IsReady (w : World) : Type 0 where
   pub placed : IsPlaced w
-  pub after : (d : ℕ) → (member_at w d).phase ≡ Stopped → is_live (view_at w (newest w)) d ≡ true → IsPlaced (with_view w (marked (view_at w (newest w)) d))
+  pub after : (d : ℕ) → (member_at w d).phase ≡ Stopped → is_live (view_in w (newest w)) d ≡ true → IsPlaced (with_view w (marked (view_in w (newest w)) d))
 
 -- a member that is up stands at this place of the structs
 pub record IsUpAt (r : Ring) (i : ℕ) : Type 0 where

@@ -2,7 +2,7 @@
 use Rattle.std.specs.Prelude.{◌≡◌, ◌≢◌, ◌⊎◌, ℕ, ◌<◌, true, false, length, All}
 use Rattle.group_view.specs.declared.entry.Entry.{Entry}
 use Rattle.group_view.specs.declared.entry.Mark.TheVariants.{Live, Dead}
-use Rattle.ring_world.specs.Machine.{Up, World, member_at, link_at, view_at, newest as the_newest, row_at, runs as runs_at}
+use Rattle.ring_world.specs.Machine.{Up, World, member_at, link_at, view_in, newest as the_newest, row_at, runs as runs_at}
 use Rattle.ring_world.specs.OpenLinks.{is_open}
 use Rattle.ring_world.specs.Step.{log_of}
 use Rattle.ring_world.specs.Event.{holds_nothing}
@@ -23,7 +23,7 @@ pub record IsSettled (w : World) (e : Entry) : Type 0 where
 -- every running member rests, and every entry of the newest view is settled
 pub record IsAtRest (w : World) : Type 0 where
   pub members : (y : ℕ) → runs_at w y ≡ true → IsResting w y
-  pub entries : All (IsSettled w) (view_at w (the_newest w)).entries
+  pub entries : All (IsSettled w) (view_in w (the_newest w)).entries
 
 -- A ring is quiet where no member runs any more, or where all of it rests.
 abbrev pub IsQuiet : World → Type 0

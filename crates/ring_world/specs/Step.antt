@@ -9,7 +9,7 @@ use Rattle.group_view.specs.View.{Group}
 use Rattle.group_view.specs.Ring.{is_in}
 use Rattle.group_view.specs.Since.{no_group}
 use Rattle.group_view.specs.Change.{opening as opening_group}
-use Rattle.ring_world.specs.Machine.{Up, Stopped, Packet, Member, Sending, Ending, Link, World, no_sending, no_member, row_at, numbers_at, member_at, link_at, view_at, is_kept, oldest}
+use Rattle.ring_world.specs.Machine.{Up, Stopped, Packet, Member, Sending, Ending, Link, World, no_sending, no_member, row_at, numbers_at, member_at, link_at, view_in, is_kept, oldest}
 use Rattle.ring_world.specs.View.{between, left_of, right_of}
 
 -- the member of id i is another
@@ -78,7 +78,7 @@ taken n own logs y k = record y { rows = map (λ p. taken_row (own p) (logs p) (
 
 -- what y is after it has taken the oldest packet of link s
 abbrev pub taker : World → ℕ → ℕ → Member
-taker w y s = taken (size w) (is_owned (view_at w (member_at w y).version) y (link_at w s).sender) (log_of w) (member_at w y) (oldest (link_at w s))
+taker w y s = taken (size w) (is_owned (view_in w (member_at w y).version) y (link_at w s).sender) (log_of w) (member_at w y) (oldest (link_at w s))
 
 -- that packet is gone from the link
 abbrev pub take_from : World → ℕ → ℕ → World

@@ -25,9 +25,9 @@ abbrev pub right_of : Group → ℕ → ℕ
 right_of v p = group.right_of v.entries p
 
 -- the same in the view of a version, which are counted from 0 on; in version 0 is nobody
-unfoldable pub left_at : List Group → ℕ → ℕ → ℕ
-left_at vs v y = left_of (slice_index_or vs v no_group) y
+unfoldable pub left_by : List Group → ℕ → ℕ → ℕ
+left_by vs v y = left_of (slice_index_or vs v no_group) y
 
 -- going right
-unfoldable pub right_at : List Group → ℕ → ℕ → ℕ
-right_at vs v y = right_of (slice_index_or vs v no_group) y
+unfoldable pub right_by : List Group → ℕ → ℕ → ℕ
+right_by vs v y = right_of (slice_index_or vs v no_group) y

@@ -3,7 +3,7 @@ ghost use Rattle.std.specs.Prelude.{◌≡◌, ◌<◌, ◌+◌, suc, true, ◌-
 ghost use Rattle.group_view.specs.Change.{marked};
 ghost use Rattle.ring_world.specs.declared.phase.Phase.TheVariants as phase;
 ghost use Rattle.ring_world.specs.View.{is_live};
-ghost use Rattle.ring_world.specs.Machine.{member_at, view_at, newest as the_newest};
+ghost use Rattle.ring_world.specs.Machine.{member_at, view_in, newest as the_newest};
 ghost use Rattle.ring_world.specs.Step.{with_view};
 ghost use Rattle.ring_world.specs.Event.{mark_refusal, refreshed};
 ghost use Rattle.ring_world.specs.Placed.{IsReady};
@@ -60,7 +60,7 @@ pub(crate) fn mark(
     requires up { (member_at (world_of ring.old) (suc place)).phase ≡ phase.Up }
     requires enabled { mark_refusal (world_of ring.old) (suc place) (suc dead) ≡ None }
     ensures ok { OnOk result (world_of ring.new ≡ refreshed (with_view (world_of ring.old)
-        (marked (view_at (world_of ring.old) (the_newest (world_of ring.old))) (suc dead)))
+        (marked (view_in (world_of ring.old) (the_newest (world_of ring.old))) (suc dead)))
         (suc place) (the_newest (world_of ring.old) + 1)) }
     ensures err { OnErr result (world_of ring.new ≡ world_of ring.old) }
 {

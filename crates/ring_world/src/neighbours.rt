@@ -3,7 +3,7 @@ ghost use Rattle.std.specs.Prelude.{ℕ, ◌≡◌, ◌<◌, ◌≤◌, ◌&&◌
 ghost use Rattle.std.specs.Prelude.{IfSome, slice_index_or};
 ghost use Rattle.group_view.specs.Since.{no_group};
 ghost use Rattle.ring_world.specs.View.{left_of as the_left, right_of as the_right};
-ghost use Rattle.ring_world.specs.Machine.{member_at, view_at, is_kept_of, newest as the_newest, runs as runs_at};
+ghost use Rattle.ring_world.specs.Machine.{member_at, view_in, is_kept_of, newest as the_newest, runs as runs_at};
 ghost use Rattle.ring_world.specs.Event.{left_neighbour as the_left_neighbour, is_neighbour as neighbours};
 ghost use Rattle.ring_world.specs.Event.{at_door as the_door};
 ghost use Rattle.ring_world.specs.Placed.{IsPlaced, IsUpAt};
@@ -57,7 +57,7 @@ pub(crate) fn newest(ring: &Ring) -> u32
 /// The newest view.
 pub(crate) fn newest_view(ring: &Ring) -> &View
     requires { IsPlaced (world_of ring.now) }
-    ensures { result.now ≡ view_at (world_of ring.now) (the_newest (world_of ring.now)) }
+    ensures { result.now ≡ view_in (world_of ring.now) (the_newest (world_of ring.now)) }
 {
     view_of(&ring.views, newest(ring))
 }
@@ -65,7 +65,7 @@ pub(crate) fn newest_view(ring: &Ring) -> &View
 /// The view that the member at a place has.
 pub(crate) fn view_at_place(ring: &Ring, place: usize) -> &View
     requires { IsUpAt ring.now place }
-    ensures { result.now ≡ view_at (world_of ring.now)
+    ensures { result.now ≡ view_in (world_of ring.now)
         (member_at (world_of ring.now) (suc place)).version }
 {
     view_of(&ring.views, ring.seats[place].version)

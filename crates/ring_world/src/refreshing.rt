@@ -4,7 +4,7 @@ ghost use Rattle.std.specs.Prelude.{vec_len, vec_capacity, OnOk, OnErr, IfSome};
 ghost use Rattle.ring_world.specs.declared.phase.Phase.TheVariants as phase;
 ghost use Rattle.ring_world.specs.declared.phase.Ending.TheVariants as ending;
 ghost use Rattle.ring_world.specs.View.{right_of};
-ghost use Rattle.ring_world.specs.Machine.{member_at, link_at, view_at, newest as the_newest, is_kept as the_kept};
+ghost use Rattle.ring_world.specs.Machine.{member_at, link_at, view_in, newest as the_newest, is_kept as the_kept};
 ghost use Rattle.ring_world.specs.Step.{look_at, kept_current as the_kept_current, moved_to, end_out, open_to};
 ghost use Rattle.ring_world.specs.Step.{opened_link};
 ghost use Rattle.ring_world.specs.Event.{refreshed};

@@ -7,7 +7,7 @@ ghost use Rattle.group_view.specs.Ring.{is_in, rotated};
 ghost use Rattle.group_view.specs.View.{ids as ids_of};
 ghost use Rattle.group_view.specs.Parts.{place_of as the_place};
 ghost use Rattle.ring_world.specs.View.{ids, between};
-ghost use Rattle.ring_world.specs.Machine.{numbers_at as the_numbers, row_at, member_at, link_at, view_at};
+ghost use Rattle.ring_world.specs.Machine.{numbers_at as the_numbers, row_at, member_at, link_at, view_in};
 ghost use Rattle.ring_world.specs.Machine.{oldest as the_oldest};
 ghost use Rattle.ring_world.specs.Machine.{runs as runs_at, newest as the_newest, is_waiting, ring as ring_ids};
 ghost use Rattle.ring_world.specs.OpenLinks.{is_late as late_is, is_open as open_is, passes as the_test};

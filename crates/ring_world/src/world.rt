@@ -5,7 +5,7 @@ ghost use Rattle.ring_names.specs.declared.reason.Reason.{Reason};
 ghost use Rattle.ring_world.specs.Refusal.{answer_of};
 ghost use Rattle.group_view.specs.Change.{AreOpeningNames};
 ghost use Rattle.ring_world.specs.Step.{opening as the_opening};
-ghost use Rattle.ring_world.specs.Machine.{view_at, newest};
+ghost use Rattle.ring_world.specs.Machine.{view_in, newest};
 ghost use Rattle.ring_world.specs.OpenLinks.{walk_named, NeverRises};
 ghost use Rattle.ring_world.specs.Asked.{id_at, heard_at, got_at, log_at, state_at, counts_at};
 ghost use Rattle.ring_world.specs.Quiet.{IsQuiet};
@@ -78,7 +78,7 @@ impl World {
     /// The newest view.
     #[tactic(auto, using(crate::proofs::code::Running::running_placed))]
     pub fn view(&self) -> &View
-        ensures { result.now ≡ view_at self.now (newest self.now) }
+        ensures { result.now ≡ view_in self.now (newest self.now) }
     {
         newest_view(&self.ring)
     }

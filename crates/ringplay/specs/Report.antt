@@ -12,7 +12,7 @@ use Rattle.group_view.specs.View.{Group, entry_in}
 use Rattle.ring_world.specs.declared.phase.Phase.{Phase}
 use Rattle.ring_world.specs.declared.phase.Phase.TheVariants.{Waiting, Up, Stopped}
 use Rattle.ring_world.specs.declared.shown.Counts.{Counts}
-use Rattle.ring_world.specs.Machine.{World, member_at, row_at, view_at, newest}
+use Rattle.ring_world.specs.Machine.{World, member_at, row_at, view_in, newest}
 use Rattle.ring_world.specs.Step.{size}
 use Rattle.ring_world.specs.Asked.{counts_of}
 
@@ -22,7 +22,7 @@ name_of w x = (member_at w x).name
 
 -- the view that the group has now
 abbrev pub newest_view : World → Group
-newest_view w = view_at w (newest w)
+newest_view w = view_in w (newest w)
 
 -- the line feed that ends a line
 abbrev pub newline : List ℕ

@@ -325,19 +325,19 @@ module _ (credit : CreditSpec) (names : List (List ℕ)) (events : List Event) w
       may : MayLook w (i + 1) version
       may = refresh_may w (i + 1) version (member_at w (i + 1)).name named enabled
 
-      same : view_at r.views version ≡ machine.view_at w version
+      same : view_at r.views version ≡ machine.view_in w version
       same = view_same w r version rs
 
       upto : version ≤ length r.views
       upto = omega (arith, may.upto, many_views w r rs)
 
-      in_view : is_in (i + 1) (ids (machine.view_at w version)) ≡ true
+      in_view : is_in (i + 1) (ids (machine.view_in w version)) ≡ true
       in_view = g.fit.good.inv.is_ring.stands (i + 1) version (ap runs_phase may.up) may.later may.upto
 
       published : 1 ≤ version
       published = from_one version in_view
         where
-          from_one : (v : ℕ) → is_in (i + 1) (ids (machine.view_at w v)) ≡ true → 1 ≤ v
+          from_one : (v : ℕ) → is_in (i + 1) (ids (machine.view_in w v)) ≡ true → 1 ≤ v
           from_one zero k = absurd (false≢true (ap (λ vs. is_in (i + 1) (ids (get_or vs 0 no_group))) (sym s.stand.stand.views) ∙ k))
           from_one (suc v) k = omega arith
 

@@ -12,7 +12,7 @@ use Rattle.group_view.specs.Since as since
 use Rattle.ring_world.specs.Rows.{no_numbers}
 use Rattle.ring_world.specs.declared.event.Event.TheVariants.{Mark, Refresh}
 use Rattle.ring_world.specs.View.{right_of}
-use Rattle.ring_world.specs.Machine.{World, Link, numbers_at, member_at, link_at, view_at, newest, left, row_at}
+use Rattle.ring_world.specs.Machine.{World, Link, numbers_at, member_at, link_at, view_in, newest, left, row_at}
 use Rattle.ring_world.specs.OpenLinks.{version_of, since_in, comes_from_left, is_door_link}
 use Rattle.ring_world.specs.Step.{size, log_of, next_lines, with_view}
 use Rattle.ring_world.specs.Event.{id_of, of_member, at_found, refresh_refusal, mark_refusal, refused_at, refreshed, refusal, done_at, effect}
@@ -70,20 +70,20 @@ pub held_whole : (initial : ℕ) (w : World) (q : Parties) (x : ℕ) → 1 ≤ x
 held_whole initial w q x a l st none =
     whole_held w st.places x (node_at q (x - 1)) (st.stand.each x a l) (none_waits initial w q x st none)
 
-pub looks_stand : (initial : ℕ) (u : World) (x v : ℕ) (q q' : Parties) (loose : Option (LinkName × OutSeen)) → IsLooking initial u x v → Stand initial u q → filter (waits_at x) q.post ≡ [] → LooksAt (view_at u v) (x - 1) q q' loose → StandMoved initial x (refreshed u x v) q' loose
+pub looks_stand : (initial : ℕ) (u : World) (x v : ℕ) (q q' : Parties) (loose : Option (LinkName × OutSeen)) → IsLooking initial u x v → Stand initial u q → filter (waits_at x) q.post ≡ [] → LooksAt (view_in u v) (x - 1) q q' loose → StandMoved initial x (refreshed u x v) q' loose
 looks_stand initial u x v q q' loose k st none (b, new, how, is) = subst (λ t. StandMoved initial x (refreshed u x v) t loose) (sym is) (by_out (sends_right u x v) refl (subst (λ (h : Held). sends_of h ≡ sends_right u x v) (sym (held_whole initial u q x k.some k.may.is_member st none)) refl))
   where
     sends_of : Held → Bool
-    sends_of h = sends_to h.out (right_of (view_at u v) h.id)
+    sends_of h = sends_to h.out (right_of (view_in u v) h.id)
 
     by_out : (c : Bool) → sends_right u x v ≡ c → sends_of (node_at q (x - 1)).held ≡ sends_right u x v → StandMoved initial x (refreshed u x v) (posting new (with_node q (x - 1) b)) loose
     by_out true e s =
-        let w : (b ≡ record { held = refreshed_held (node_at q (x - 1)).held (view_at u v); ends = looked_ends (view_at u v) (node_at q (x - 1)) }) × (new ≡ None) × (loose ≡ None) = when_true (sends_of (node_at q (x - 1)).held) _ (s ∙ e) how.0 in
+        let w : (b ≡ record { held = refreshed_held (node_at q (x - 1)).held (view_in u v); ends = looked_ends (view_in u v) (node_at q (x - 1)) }) × (new ≡ None) × (loose ≡ None) = when_true (sends_of (node_at q (x - 1)).held) _ (s ∙ e) how.0 in
         subst (λ n. StandMoved initial x (refreshed u x v) (posting n (with_node q (x - 1) b)) loose) (sym w.1)
         (subst (StandMoved initial x (refreshed u x v) (with_node q (x - 1) b)) (sym w.2) (looks_on initial u x v q b k e st none w.0))
     by_out false e s =
-        let w : (b ≡ record { held = refreshed_held (node_at q (x - 1)).held (view_at u v); ends = record (looked_ends (view_at u v) (node_at q (x - 1))) { out = Some (opened_out (node_at q (x - 1)).held.initial (first_sent (node_at q (x - 1)) (view_at u v))) } })
-        × (new ≡ Some (record { name = ring_link (node_at q (x - 1)).held.id (right_of (view_at u v) (node_at q (x - 1)).held.id) (view_at u v).version; end = Some (fresh_in (node_at q (x - 1)).held.initial) }))
+        let w : (b ≡ record { held = refreshed_held (node_at q (x - 1)).held (view_in u v); ends = record (looked_ends (view_in u v) (node_at q (x - 1))) { out = Some (opened_out (node_at q (x - 1)).held.initial (first_sent (node_at q (x - 1)) (view_in u v))) } })
+        × (new ≡ Some (record { name = ring_link (node_at q (x - 1)).held.id (right_of (view_in u v) (node_at q (x - 1)).held.id) (view_in u v).version; end = Some (fresh_in (node_at q (x - 1)).held.initial) }))
         × Loosens (node_at q (x - 1)).held.id (node_at q (x - 1)).held.out (node_at q (x - 1)).ends.out loose
         = when_true (not (sends_of (node_at q (x - 1)).held)) _ (ap not (s ∙ e)) how.1 in
         subst (λ n. StandMoved initial x (refreshed u x v) (posting n (with_node q (x - 1) b)) loose) (sym w.1) (opens_on initial u x v q b _ loose k e st none w.0 refl w.2)
@@ -108,18 +108,18 @@ refresh_looking credit w x v by g g' named r = record {
   own = g.fit.own_ends;
   ends = g.fit.ends;
   initial_is = g.initial_is;
-  first = first_packet w x w.initial w.more (right_of (view_at w v) x) v v g.fit;
+  first = first_packet w x w.initial w.more (right_of (view_in w v) x) v v g.fit;
 }
 
 -- the view that it reads is the state's
-view_is : (w : World) (q : Parties) (v : ℕ) → w.views ≡ no_group ∷ q.views → since.view_at q.views v ≡ view_at w v
+view_is : (w : World) (q : Parties) (v : ℕ) → w.views ≡ no_group ∷ q.views → since.view_at q.views v ≡ view_in w v
 view_is w q v e = ap (λ vs. get_or vs v no_group) (sym e)
 
 pub refresh_between : (credit : CreditSpec) (w : World) (q q' : Parties) (i d v : ℕ) (by : List ℕ) (loose : Option (LinkName × OutSeen)) → IsLawfulAt credit w → IsLawfulAt credit (effect w (Refresh by v)) → refusal w (Refresh by v) ≡ None → id_of w by ≡ Some (i + 1)
     → Stand credit.initial w q → filter (waits_at (i + 1)) q.post ≡ [] → Acts (Refresh by v) i d q q' loose → StandMoved credit.initial (i + 1) (effect w (Refresh by v)) q' loose
 refresh_between credit w q q' i d v by loose g g' r named st none acts =
     let back : i + 1 - 1 ≡ i = omega arith in
-    let at : LooksAt (view_at w v) (i + 1 - 1) q q' loose = subst (λ k. LooksAt (view_at w v) k q q' loose) (sym back) (subst (λ t. LooksAt t i q q' loose) (view_is w q v st.stand.views) acts) in
+    let at : LooksAt (view_in w v) (i + 1 - 1) q q' loose = subst (λ k. LooksAt (view_in w v) k q q' loose) (sym back) (subst (λ t. LooksAt t i q q' loose) (view_is w q v st.stand.views) acts) in
     subst (λ u. StandMoved credit.initial (i + 1) u q' loose) (sym (refresh_is w (i + 1) v by named)) (looks_stand credit.initial w (i + 1) v q q' loose (refresh_looking credit w (i + 1) v by g g' named r) st none at)
 
 -- ---- a view is added
@@ -189,11 +189,11 @@ mark_looking credit w x d by dead g g' named there r =
       own = record { out = g.fit.own_ends.out; current = g.fit.own_ends.current };
       ends = record { ended = g.fit.ends.ended; nothing = g.fit.ends.nothing; sends = g.fit.ends.sends; takes = g.fit.ends.takes };
       initial_is = g.initial_is;
-      first = first_packet w x w.initial w.more (right_of (view_at (mark_world w d) (newest w + 1)) x) (newest w + 1) (newest w + 1) g.fit;
+      first = first_packet w x w.initial w.more (right_of (view_in (mark_world w d) (newest w + 1)) x) (newest w + 1) (newest w + 1) g.fit;
     }
 
 -- the newest view of the parties is the state's
-pub newest_is : (w : World) (q : Parties) → w.views ≡ no_group ∷ q.views → newest_of q ≡ view_at w (newest w)
+pub newest_is : (w : World) (q : Parties) → w.views ≡ no_group ∷ q.views → newest_of q ≡ view_in w (newest w)
 newest_is w q e = let many : length q.views ≡ newest w = omega (arith, ap length e) in ap (since.view_at q.views) many ∙ view_is w q (newest w) e
 
 pub mark_between : (credit : CreditSpec) (w : World) (q q' : Parties) (i d : ℕ) (by dead : List ℕ) (loose : Option (LinkName × OutSeen)) → IsLawfulAt credit w → IsLawfulAt credit (effect w (Mark by dead)) → refusal w (Mark by dead) ≡ None → id_of w by ≡ Some (i + 1) → id_of w dead ≡ Some d
@@ -204,7 +204,7 @@ mark_between credit w q q' i d by dead loose g g' r named there st none acts =
     let v : ℕ = newest w + 1 in
     let is : marked (newest_of q) d ≡ mark_view w d = ap (λ t. marked t d) (newest_is w q st.stand.views) in
     let acts' : LooksAt (mark_view w d) i (viewing (mark_view w d) q) q' loose = subst (λ t. LooksAt t i (viewing t q) q' loose) is acts in
-    let at : LooksAt (view_at u v) (i + 1 - 1) (viewing (mark_view w d) q) q' loose = subst (λ k. LooksAt (view_at u v) k (viewing (mark_view w d) q) q' loose) (sym back) (subst (λ t. LooksAt t i (viewing (mark_view w d) q) q' loose) (sym (mark_newest w d g.fit.good)) acts') in
+    let at : LooksAt (view_in u v) (i + 1 - 1) (viewing (mark_view w d) q) q' loose = subst (λ k. LooksAt (view_in u v) k (viewing (mark_view w d) q) q' loose) (sym back) (subst (λ t. LooksAt t i (viewing (mark_view w d) q) q' loose) (sym (mark_newest w d g.fit.good)) acts') in
     subst (λ t. StandMoved credit.initial (i + 1) t q' loose) (sym (mark_is w (i + 1) d by dead named there))
     (looks_stand credit.initial u (i + 1) v (viewing (mark_view w d) q) q' loose (mark_looking credit w (i + 1) d by dead g g' named there r)
     (view_stands credit.initial w (mark_view w d) q g.fit.good g.fit.own_ends st) none at)

@@ -13,7 +13,7 @@ use Rattle.group_view.proofs.Neighbours.{filter_agree_in}
 use Rattle.ring_world.specs.declared.phase.Ending.{Ending}
 use Rattle.ring_world.specs.declared.phase.Ending.TheVariants.{Moved}
 use Rattle.ring_world.specs.View.{right_of}
-use Rattle.ring_world.specs.Machine.{World, Member, Link, no_link, no_sending, member_at, link_at, view_at, runs_phase, is_kept}
+use Rattle.ring_world.specs.Machine.{World, Member, Link, no_link, no_sending, member_at, link_at, view_in, runs_phase, is_kept}
 use Rattle.ring_world.specs.OpenLinks.{is_place, version_of}
 use Rattle.ring_world.specs.Step.{size, next_packet, moved_to, ended, end_out}
 use Rattle.ring_world.specs.Event.{refreshed, is_stopped}
@@ -151,9 +151,9 @@ opens_after u x v m g = record {
     here : member_at u' x ≡ y
     here = member_same u x y m.is_member
 
-door_opens : (u : World) (x v y : ℕ) (t : ℕ → Bool) → (waits_for (opened_world u x v (old_links u x)) y (length u.links) ≡ nat_eq (right_of (view_at u v) x) y)
+door_opens : (u : World) (x v y : ℕ) (t : ℕ → Bool) → (waits_for (opened_world u x v (old_links u x)) y (length u.links) ≡ nat_eq (right_of (view_in u v) x) y)
     → ((s : ℕ) → s < length u.links → waits_for (opened_world u x v (old_links u x)) y s ≡ t s)
-    → door_links (opened_world u x v (old_links u x)) y ≡ filter t (range_with_len 0 (length u.links)) ++ cond (nat_eq (right_of (view_at u v) x) y) (length u.links ∷ []) []
+    → door_links (opened_world u x v (old_links u x)) y ≡ filter t (range_with_len 0 (length u.links)) ++ cond (nat_eq (right_of (view_in u v) x) y) (length u.links ∷ []) []
 door_opens u x v y t new old =
     let u' : World = opened_world u x v (old_links u x) in
     let n : ℕ = length u.links in
@@ -164,7 +164,7 @@ door_opens u x v y t new old =
 
 -- and to the post
 post_opens : (u : World) (x v y : ℕ) (post : List ℕ) → ((s : ℕ) → is_in s post ≡ true → s < length u.links)
-    → filter (is_to (opened_world u x v (old_links u x)) y) (post ++ length u.links ∷ []) ≡ filter (is_to u y) post ++ cond (nat_eq (right_of (view_at u v) x) y) (length u.links ∷ []) []
+    → filter (is_to (opened_world u x v (old_links u x)) y) (post ++ length u.links ∷ []) ≡ filter (is_to u y) post ++ cond (nat_eq (right_of (view_in u v) x) y) (length u.links ∷ []) []
 post_opens u x v y post within =
     let u' : World = opened_world u x v (old_links u x) in
     let n : ℕ = length u.links in
@@ -173,8 +173,8 @@ post_opens u x v y post within =
     ∙ ap (λ (k : Link). filter (is_to u y) post ++ cond (nat_eq k.receiver y) (n ∷ []) []) (link_new u x v)
 
 pub opens_on : (initial : ℕ) (u : World) (x v : ℕ) (q : Parties) (b : Shown) (new : Posted) (loose : Option (LinkName × OutSeen)) → IsLooking initial u x v → sends_right u x v ≡ false → Stand initial u q → filter (waits_at x) q.post ≡ []
-    → b ≡ record { held = refreshed_held (node_at q (x - 1)).held (view_at u v); ends = record (looked_ends (view_at u v) (node_at q (x - 1))) { out = Some (opened_out (node_at q (x - 1)).held.initial (first_sent (node_at q (x - 1)) (view_at u v))) } }
-    → new ≡ record { name = ring_link (node_at q (x - 1)).held.id (right_of (view_at u v) (node_at q (x - 1)).held.id) (view_at u v).version; end = Some (fresh_in (node_at q (x - 1)).held.initial) }
+    → b ≡ record { held = refreshed_held (node_at q (x - 1)).held (view_in u v); ends = record (looked_ends (view_in u v) (node_at q (x - 1))) { out = Some (opened_out (node_at q (x - 1)).held.initial (first_sent (node_at q (x - 1)) (view_in u v))) } }
+    → new ≡ record { name = ring_link (node_at q (x - 1)).held.id (right_of (view_in u v) (node_at q (x - 1)).held.id) (view_in u v).version; end = Some (fresh_in (node_at q (x - 1)).held.initial) }
     → Loosens (node_at q (x - 1)).held.id (node_at q (x - 1)).held.out (node_at q (x - 1)).ends.out loose
     → StandMoved initial x (refreshed u x v) (record (with_node q (x - 1) b) { post = q.post ++ new ∷ [] }) loose
 opens_on initial u x v q b new loose k e st none eb en el = subst (λ w. StandMoved initial x w (record (with_node q (x - 1) b) { post = q.post ++ new ∷ [] }) loose) (sym is_opened) (record {
@@ -236,7 +236,7 @@ opens_on initial u x v q b new loose k e st none eb en el = subst (λ w. StandMo
     outs = old.0
 
     o_new : OutSeen
-    o_new = opened_out a.held.initial (first_sent a (view_at u v))
+    o_new = opened_out a.held.initial (first_sent a (view_in u v))
 
     n_new : InSeen
     n_new = fresh_in a.held.initial
@@ -244,7 +244,7 @@ opens_on initial u x v q b new loose k e st none eb en el = subst (λ w. StandMo
     p' : Places
     p' = record { outs = placed outs n o_new; ins = placed p.ins n n_new; post = p.post ++ n ∷ [] }
 
-    numbered : (view_at u v).version ≡ v
+    numbered : (view_in u v).version ≡ v
     numbered = view_version u v k.good k.may.upto
 
     not_new : (s : ℕ) → s < n → s ≢ n
@@ -259,13 +259,13 @@ opens_on initial u x v q b new loose k e st none eb en el = subst (λ w. StandMo
     name_old : (s : ℕ) → s < n → name_of u' s ≡ name_of u s
     name_old s l = ap (λ (i : Link). ring_link i.sender i.receiver i.opened) (link_old u x v s l)
 
-    name_new : name_of u' n ≡ ring_link x (right_of (view_at u v) x) v
+    name_new : name_of u' n ≡ ring_link x (right_of (view_in u v) x) v
     name_new = ap (λ (i : Link). ring_link i.sender i.receiver i.opened) (link_new u x v)
 
     new_is : new ≡ waiting_at u' p' n
     new_is = en
-        ∙ ap (λ (j : Held). record { name = ring_link j.id (right_of (view_at u v) j.id) (view_at u v).version; end = Some n_new }) held_at
-        ∙ ap (λ i. record { name = ring_link x (right_of (view_at u v) x) i; end = Some n_new }) numbered
+        ∙ ap (λ (j : Held). record { name = ring_link j.id (right_of (view_in u v) j.id) (view_in u v).version; end = Some n_new }) held_at
+        ∙ ap (λ i. record { name = ring_link x (right_of (view_in u v) x) i; end = Some n_new }) numbered
         ∙ ap (λ i. record { name = i; end = Some n_new }) (sym name_new)
         ∙ ap (λ i. record { name = name_of u' n; end = Some i }) (sym (placed_same p.ins n n_new))
 
@@ -293,8 +293,8 @@ opens_on initial u x v q b new loose k e st none eb en el = subst (λ w. StandMo
         (door_opens u x v x (λ s. waits_for u x s && keeps_it u x v s)
         (ap (λ (m : Member). waits_by u' x m.current m.version n) here ∙ waits_new u x v x (sending_member u x v n).current v k.may k.good k.may.upto (kept_lt n (λ s. is_kept u (link_at u s) v) (member_at u x).current no_current))
         (λ s l. after.waits_here s l)
-        ∙ ap (λ xs. xs ++ cond (nat_eq (right_of (view_at u v) x) x) (n ∷ []) []) (sym (filter_both (waits_for u x) (keeps_it u x v) (range_with_len 0 n)))
-        ∙ ap (λ ys. filter (keeps_it u x v) (door_links u x) ++ (ys ++ cond (nat_eq (right_of (view_at u v) x) x) (n ∷ []) [])) (sym (none_waits initial u q x st none))
+        ∙ ap (λ xs. xs ++ cond (nat_eq (right_of (view_in u v) x) x) (n ∷ []) []) (sym (filter_both (waits_for u x) (keeps_it u x v) (range_with_len 0 n)))
+        ∙ ap (λ ys. filter (keeps_it u x v) (door_links u x) ++ (ys ++ cond (nat_eq (right_of (view_in u v) x) x) (n ∷ []) [])) (sym (none_waits initial u q x st none))
         ∙ ap (λ ys. filter (keeps_it u x v) (door_links u x) ++ ys) (sym (post_opens u x v x p.post st.stand.within)))
 
     other : (z : ℕ) → 1 ≤ z → z < size u → z ≢ x → MemberStands u' p' z (node_at q (z - 1))
@@ -308,8 +308,8 @@ opens_on initial u x v q b new loose k e st none eb en el = subst (λ w. StandMo
         (ap (λ (i : Member). waits_by u' z i.current i.version n) (member_other u x z (sending_member u x v n) ne)
         ∙ waits_new u x v z (member_at u z).current (version_of u z) k.may k.good (k.good.inv.is_ring.held z) (current_lt u z n (member_at u z).current (λ s i. (k.own.current z s i).0)))
         (λ s l. after.waits_other z s ne l)
-        ∙ ap (λ xs. xs ++ cond (nat_eq (right_of (view_at u v) x) z) (n ∷ []) []) d
-        ∙ append_assoc ds (filter (is_to u z) p.post) (cond (nat_eq (right_of (view_at u v) x) z) (n ∷ []) [])
+        ∙ ap (λ xs. xs ++ cond (nat_eq (right_of (view_in u v) x) z) (n ∷ []) []) d
+        ∙ append_assoc ds (filter (is_to u z) p.post) (cond (nat_eq (right_of (view_in u v) x) z) (n ∷ []) [])
         ∙ ap (λ ys. ds ++ ys) (sym (post_opens u x v z p.post st.stand.within)))
 
     -- of an old link
@@ -328,10 +328,10 @@ opens_on initial u x v q b new loose k e st none eb en el = subst (λ w. StandMo
             let no : (member_at u x).out ≡ Some s → ⊥ = λ o. false≢true (sym j ∙ ap (λ c. is_place c s) o ∙ nat_eq-same s) in
             subst (λ t. Carries u' initial t (outs s) (p.ins s)) (sym (link_was u x v s no l)) (subst (λ t. Carries u' initial (link_at u s) t (p.ins s)) (sym (old.1.same s no)) was)
 
-    sent_is : first_sent a (view_at u v) ≡ record { view = v; lines = lines_in u' (next_packet (moved_to u x v) no_sending) }
+    sent_is : first_sent a (view_in u v) ≡ record { view = v; lines = lines_in u' (next_packet (moved_to u x v) no_sending) }
     sent_is =
-        ap (λ (j : Held). sent_of (parcel_on (view_at u v).version j.rows (unsent_on j.initial j.more (right_of (view_at u v) j.id) (view_at u v).version))) held_at
-        ∙ ap (λ i. record { view = i; lines = lines_on (held_in u x).rows (unsent_on u.initial u.more (right_of (view_at u v) x) (view_at u v).version) }) numbered
+        ap (λ (j : Held). sent_of (parcel_on (view_in u v).version j.rows (unsent_on j.initial j.more (right_of (view_in u v) j.id) (view_in u v).version))) held_at
+        ∙ ap (λ i. record { view = i; lines = lines_on (held_in u x).rows (unsent_on u.initial u.more (right_of (view_in u v) x) (view_in u v).version) }) numbered
         ∙ ap (λ ls. record { view = v; lines = ls }) (k.first ∙ sym (same_lines u u' (next_packet (moved_to u x v) no_sending) after.logs))
 
     initial_at : a.held.initial ≡ initial
@@ -342,8 +342,8 @@ opens_on initial u x v q b new loose k e st none eb en el = subst (λ w. StandMo
         subst (λ t. Carries u' initial t (p'.outs n) (p'.ins n)) (sym (link_new u x v))
         (subst (λ t. Carries u' initial (new_link u x v) t (p'.ins n)) (sym (placed_same outs n o_new))
         (subst (Carries u' initial (new_link u x v) o_new) (sym (placed_same p.ins n n_new))
-        (subst (λ i. Carries u' initial (new_link u x v) (opened_out i (first_sent a (view_at u v))) (fresh_in i)) (sym initial_at)
-        (new_carries initial u u' x v (first_sent a (view_at u v)) sent_is))))
+        (subst (λ i. Carries u' initial (new_link u x v) (opened_out i (first_sent a (view_in u v))) (fresh_in i)) (sym initial_at)
+        (new_carries initial u u' x v (first_sent a (view_in u v)) sent_is))))
 
     carries : (s : ℕ) → s < length u'.links → has_in u' s ≡ true → Carries u' initial (link_at u' s) (p'.outs s) (p'.ins s)
     carries s l i = ⊎_elim

@@ -5,7 +5,7 @@ use Rattle.std.specs.List.{filter, range_with_len}
 use Rattle.std.proofs.lemmas.Bool.{and_parts, cases_eq}
 use Rattle.std.proofs.lemmas.List.{append-nil, length-set}
 use Rattle.ring_world.specs.View.{right_of}
-use Rattle.ring_world.specs.Machine.{World, Member, no_sending, member_at, link_at, view_at, is_kept}
+use Rattle.ring_world.specs.Machine.{World, Member, no_sending, member_at, link_at, view_in, is_kept}
 use Rattle.ring_world.specs.OpenLinks.{is_place}
 use Rattle.ring_world.specs.Step.{size, log_of, next_packet, moved_to, look_at, kept_current}
 use Rattle.ring_world.specs.Event.{refreshed, is_stopped}
@@ -44,11 +44,11 @@ pub record IsLooking (initial : ℕ) (u : World) (x v : ℕ) : Type 0 where
   pub own : OwnEnds u
   pub ends : EndsRight u
   pub initial_is : u.initial ≡ initial
-  pub first : lines_on (held_in u x).rows (unsent_on u.initial u.more (right_of (view_at u v) x) v) ≡ lines_in u (next_packet (moved_to u x v) no_sending)
+  pub first : lines_on (held_in u x).rows (unsent_on u.initial u.more (right_of (view_in u v) x) v) ≡ lines_in u (next_packet (moved_to u x v) no_sending)
 
 -- whether a link stays at x's door
 abbrev pub keeps_it : World → ℕ → ℕ → ℕ → Bool
-keeps_it u x v s = stays (view_at u v) x (incoming_in u s)
+keeps_it u x v s = stays (view_in u v) x (incoming_in u s)
 
 -- What a refresh leaves of the links that were there.
 pub record AfterLook (u u' : World) (x v : ℕ) : Type 0 where
@@ -116,7 +116,7 @@ looks_after u x v m g = record {
     here = member_same u x (moved_to u x v) m.is_member
 
 pub looks_on : (initial : ℕ) (u : World) (x v : ℕ) (q : Parties) (b : Shown) → IsLooking initial u x v → sends_right u x v ≡ true → Stand initial u q → filter (waits_at x) q.post ≡ []
-    → b ≡ record { held = refreshed_held (node_at q (x - 1)).held (view_at u v); ends = looked_ends (view_at u v) (node_at q (x - 1)) }
+    → b ≡ record { held = refreshed_held (node_at q (x - 1)).held (view_in u v); ends = looked_ends (view_in u v) (node_at q (x - 1)) }
     → StandMoved initial x (refreshed u x v) (with_node q (x - 1) b) None
 looks_on initial u x v q b k e st none eb = subst (λ w. StandMoved initial x w (with_node q (x - 1) b) None) (sym (refresh_looks u x v e)) (record {
   places = p;

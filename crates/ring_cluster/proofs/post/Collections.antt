@@ -6,7 +6,7 @@ use Rattle.std.proofs.lemmas.List.{append-nil, append_assoc, map-append, length-
 use Rattle.credit_flow.specs.Credit.{none_taken}
 use Rattle.group_view.specs.Ring.{is_in}
 use Rattle.group_view.proofs.Rings.{nat_eq-not}
-use Rattle.ring_world.specs.Machine.{World, link_at, view_at}
+use Rattle.ring_world.specs.Machine.{World, link_at, view_in}
 use Rattle.ring_world.specs.OpenLinks.{version_of, is_door_link}
 use Rattle.ring_world.specs.Step.{size}
 use Rattle.ring_world.proofs.rings.Rounds.{nat_eq-is}
@@ -69,14 +69,14 @@ without_to w x p = record p { post = filter (λ s. not (is_to w x s)) p.post }
 -- a link that waits for x stays at its door, and is as x has it
 record Arrives (w : World) (x s : ℕ) : Type 0 where
   waits : waits_for w x s ≡ true
-  keeps : stays (view_at w (version_of w x)) x (incoming_in w s) ≡ true
+  keeps : stays (view_in w (version_of w x)) x (incoming_in w s) ≡ true
   same : received (held_in w x) (record { name = name_of w s; end = None }) ≡ incoming_in w s
 
 arrives : (w : World) (p : Places) (x s : ℕ) (m : Shown) → IsGood w → AreFresh w → MemberStands w p x m → is_in s (filter (is_to w x) p.post) ≡ true → Arrives w x s
 arrives w p x s m g fresh h e =
     let both = and_parts (is_to w x s) (is_in s p.post) (sym (in_filter (is_to w x) s p.post) ∙ e) in
     let k = posted_is w p x s m h (nat_eq-is (link_at w s).receiver x both.0) both.1 in
-    let parts = and_parts (is_door_link w x s) (stays (view_at w (version_of w x)) x (incoming_in w s)) (sym (waits_is w x s g k.0) ∙ k.1) in
+    let parts = and_parts (is_door_link w x s) (stays (view_in w (version_of w x)) x (incoming_in w s)) (sym (waits_is w x s g k.0) ∙ k.1) in
     record {
       waits = k.1;
       keeps = parts.1;
@@ -90,7 +90,7 @@ collected w q p x b g fresh post h c = record {
   comes = h.comes ∙ ap (λ ys. h.door ++ ys) (sym (append-nil zs)) ∙ ap (λ ys. h.door ++ (zs ++ ys)) (sym none) ∙ sym (append_assoc h.door zs (filter (is_to w x) (filter (λ s. not (is_to w x s)) p.post)));
   held = c.held ∙ ap (λ k. collected_held k (map (received k) (filter (waits_at x) q.post))) h.held
       ∙ ap (λ ls. collected_held (old) (map (received old) ls)) links
-      ∙ ap (λ (is : List Incoming). record (held_in w x) { door = map (incoming_in w) h.door ++ is }) (ap (filter (stays (view_at w (version_of w x)) x)) incoming ∙ kept)
+      ∙ ap (λ (is : List Incoming). record (held_in w x) { door = map (incoming_in w) h.door ++ is }) (ap (filter (stays (view_in w (version_of w x)) x)) incoming ∙ kept)
       ∙ ap (λ (is : List Incoming). record (held_in w x) { door = is }) (sym (map-append (incoming_in w) h.door zs));
   out = ap (λ (e : EndsSeen). e.out) c.ends ∙ h.out;
   kept = ap (λ (e : EndsSeen). e.kept) c.ends ∙ h.kept;
@@ -125,12 +125,12 @@ collected w q p x b g fresh post h c = record {
     incoming : map (received old) (map (waiting_at w p) zs) ≡ map (incoming_in w) zs
     incoming = map_twice (waiting_at w p) (received old) zs ∙ map_agree (λ s. received old (waiting_at w p s)) (incoming_in w) zs (λ s e. (each s e).same)
 
-    kept : filter (stays (view_at w (version_of w x)) x) (map (incoming_in w) zs) ≡ map (incoming_in w) zs
-    kept = filter_map (stays (view_at w (version_of w x)) x) (incoming_in w) zs ∙ ap (map (incoming_in w)) (filter_all (λ s. stays (view_at w (version_of w x)) x (incoming_in w s)) zs (λ s e. (each s e).keeps))
+    kept : filter (stays (view_in w (version_of w x)) x) (map (incoming_in w) zs) ≡ map (incoming_in w) zs
+    kept = filter_map (stays (view_in w (version_of w x)) x) (incoming_in w) zs ∙ ap (map (incoming_in w)) (filter_all (λ s. stays (view_in w (version_of w x)) x (incoming_in w s)) zs (λ s e. (each s e).keeps))
 
     all_kept : filter (is_kept_by old) (map (waiting_at w p) zs) ≡ map (waiting_at w p) zs
     all_kept = filter_map (is_kept_by old) (waiting_at w p) zs
-        ∙ ap (map (waiting_at w p)) (filter_all (λ s. is_kept_by old (waiting_at w p s)) zs (λ s e. ap (stays (view_at w (version_of w x)) x) (each s e).same ∙ (each s e).keeps))
+        ∙ ap (map (waiting_at w p)) (filter_all (λ s. is_kept_by old (waiting_at w p s)) zs (λ s e. ap (stays (view_in w (version_of w x)) x) (each s e).same ∙ (each s e).keeps))
 
 -- another
 not_collected : (w : World) (p : Places) (x z : ℕ) (m : Shown) → z ≢ x → MemberStands w p z m → MemberStands w (without_to w x p) z m

@@ -10,7 +10,7 @@ use Rattle.group_view.specs.declared.link.LinkName.{LinkName}
 use Rattle.group_view.specs.declared.request.Deposited.{Deposited}
 use Rattle.group_view.specs.View.{Group, as_id, ids as ids_of}
 use Rattle.ring_world.specs.View.{ids}
-use Rattle.ring_world.specs.Machine.{World, link_at, view_at, newest}
+use Rattle.ring_world.specs.Machine.{World, link_at, view_in, newest}
 use Rattle.ring_world.proofs.rings.Rounds.{nat_eq-is}
 use Rattle.ring_world.proofs.invariants.FromLeft.{sender_known}
 use Rattle.ring_world.proofs.invariants.Happens.{IsGood}
@@ -58,7 +58,7 @@ knows_both w r s h st l = (
   now (link_at w s).receiver (h.inv.history.known s l),
 )
   where
-    now : (q : ℕ) → is_in q (ids (view_at w (link_at w s).opened)) ≡ true → is_known r q ≡ true
+    now : (q : ℕ) → is_in q (ids (view_in w (link_at w s).opened)) ≡ true → is_known r q ≡ true
     now q i = ap (λ (g : Group). is_in q (ids_of g.entries)) (newest_same w r st) ∙ h.inv.history.grows q (link_at w s).opened (newest w) i (h.inv.linked.opened s l) (omega arith)
 
 -- so it takes each link that waits

@@ -5,7 +5,7 @@ use Rattle.group_view.specs.declared.link.LinkName.{LinkName}
 use Rattle.ring_names.specs.declared.numbers.CreditSpec.{CreditSpec}
 use Rattle.ring_world.specs.declared.event.Event.{Event}
 use Rattle.ring_world.specs.Rows.{Row}
-use Rattle.ring_world.specs.Machine.{World, member_at, view_at, newest}
+use Rattle.ring_world.specs.Machine.{World, member_at, view_in, newest}
 use Rattle.ring_world.specs.Step.{size}
 use Rattle.ring_world.specs.Lawful.{row_of}
 use Rattle.gm_member.specs.Held.{Held, Incoming, known_at}
@@ -66,10 +66,10 @@ not_and true b = refl
 not_and false b = refl
 
 -- the version of the newest view
-pub newest_version : (w : World) → IsFit w → (view_at w (newest w)).version ≡ newest w
+pub newest_version : (w : World) → IsFit w → (view_in w (newest w)).version ≡ newest w
 newest_version w f = version_of_view w (newest w) f.good.views (omega arith)
 
-pub held_stale : (w : World) (x have newer : ℕ) (name : Option LinkName) (h : Held) → IsFit w → IsHeld w x h → have ≡ h.view.version → newer ≡ (view_at w (newest w)).version → name ≡ out_name_of h
+pub held_stale : (w : World) (x have newer : ℕ) (name : Option LinkName) (h : Held) → IsFit w → IsHeld w x h → have ≡ h.view.version → newer ≡ (view_in w (newest w)).version → name ≡ out_name_of h
     → (not (nat_eq have newer) || not (is_some name)) ≡ is_stale (newest w) (member_at w x)
 held_stale w x have newer name h f e he ne oe =
     let own : have ≡ (member_at w x).version = he ∙ ap (λ (k : Held). k.view.version) e ∙ version_of_view w (member_at w x).version f.good.views (f.good.inv.is_ring.held x) in

@@ -8,7 +8,7 @@ use Rattle.group_view.specs.View.{right_of as right_of_entries}
 use Rattle.group_view.proofs.Rings.{nat_eq-is}
 use Rattle.group_view.proofs.Passing.{live_in}
 use Rattle.ring_world.specs.View.{is_live}
-use Rattle.ring_world.specs.Machine.{World, member_at, view_at, newest, right, runs}
+use Rattle.ring_world.specs.Machine.{World, member_at, view_in, newest, right, runs}
 use Rattle.ring_world.specs.Step.{size}
 use Rattle.ring_world.specs.Quiet.{IsQuiet}
 use Rattle.ring_world.proofs.invariants.Period.{right_lives}
@@ -36,14 +36,14 @@ going_reached c g = reached c.credit c.names c.events g.are g.run
 pub right_there : (w : World) (x : ℕ) → IsReached w → runs w x ≡ true → (1 ≤ right w (newest w) x) × (right w (newest w) x < size w)
 right_there w x h r =
     let d : ℕ = right w (newest w) x in
-    let lives : is_live (view_at w (newest w)) x ≡ true = h.fit.good.inv.is_ring.lives x (newest w) r (h.fit.good.inv.is_ring.held x) (omega arith) in
-    let k = range_in 1 (size w - 1) d (ap (is_in d) (sym h.each_id) ∙ live_in (view_at w (newest w)).entries d (right_lives w (newest w) x lives)) in
+    let lives : is_live (view_in w (newest w)) x ≡ true = h.fit.good.inv.is_ring.lives x (newest w) r (h.fit.good.inv.is_ring.held x) (omega arith) in
+    let k = range_in 1 (size w - 1) d (ap (is_in d) (sym h.each_id) ∙ live_in (view_in w (newest w)).entries d (right_lives w (newest w) x lives)) in
     (k.0, omega (arith, k.0, k.1))
 
 -- the view finds it
-pub right_found : (w : World) (x : ℕ) → IsReached w → runs w x ≡ true → right_of_entries (view_at w (newest w)).entries x ≡ right w (newest w) x
+pub right_found : (w : World) (x : ℕ) → IsReached w → runs w x ≡ true → right_of_entries (view_in w (newest w)).entries x ≡ right w (newest w) x
 right_found w x h r =
-    sym (right_is w (newest w) x (view_at w (newest w)) refl)
+    sym (right_is w (newest w) x (view_in w (newest w)) refl)
 
 -- ---- who has nothing to do
 

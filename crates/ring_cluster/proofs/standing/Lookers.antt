@@ -6,7 +6,7 @@ use Rattle.std.proofs.lemmas.Bool.{and_parts}
 use Rattle.std.proofs.lemmas.List.{append-nil}
 use Rattle.group_view.specs.View.{Group}
 use Rattle.group_view.specs.Ring.{is_in}
-use Rattle.ring_world.specs.Machine.{World, member_at, link_at, view_at, runs, runs_phase, is_kept}
+use Rattle.ring_world.specs.Machine.{World, member_at, link_at, view_in, runs, runs_phase, is_kept}
 use Rattle.ring_world.specs.Step.{kept_current}
 use Rattle.ring_world.proofs.events.WhatRefuses.{MayLook}
 use Rattle.ring_world.proofs.invariants.Happens.{IsGood}
@@ -46,7 +46,7 @@ filter_both t u (x ∷ xs) = by_case (t x) (filter_both t u xs)
 -- ---- the member that looks
 
 -- its current link stays by its own test where the ring keeps it
-pub for_kept : (u : World) (x v s : ℕ) → MayLook u x v → IsGood u → (member_at u x).current ≡ Some s → is_for (view_at u v) x (incoming_in u s) ≡ is_kept u (link_at u s) v
+pub for_kept : (u : World) (x v s : ℕ) → MayLook u x v → IsGood u → (member_at u x).current ≡ Some s → is_for (view_in u v) x (incoming_in u s) ≡ is_kept u (link_at u s) v
 for_kept u x v s m h e =
     let rx : runs u x ≡ true = ap runs_phase m.up in
     let older = h.inv.current.opened x s rx e in
@@ -62,11 +62,11 @@ pub whole_held : (u : World) (p : Places) (x : ℕ) (a : Shown) → MemberStands
 whole_held u p x a h none = h.held ∙ ap (λ d. record (held_in u x) { door = map (incoming_in u) d }) (sym (whole_door u p x a h none))
 
 pub looker : (u u' : World) (p p' : Places) (x v : ℕ) (a b : Shown) (out' : Option OutSeen) → MayLook u x v → IsGood u → (h : MemberStands u p x a) → filter (is_to u x) p.post ≡ []
-    → b.held ≡ refreshed_held a.held (view_at u v) → b.ends ≡ record (looked_ends (view_at u v) a) { out = out' } → out' ≡ option_map p'.outs (member_at u' x).out
+    → b.held ≡ refreshed_held a.held (view_in u v) → b.ends ≡ record (looked_ends (view_in u v) a) { out = out' } → out' ≡ option_map p'.outs (member_at u' x).out
     → (member_at u' x).current ≡ kept_current (λ s. is_kept u (link_at u s) v) (member_at u x).current
-    → ((ds : List Incoming) → record (refreshed_held (held_in u x) (view_at u v)) { door = ds } ≡ record (held_in u' x) { door = ds })
+    → ((ds : List Incoming) → record (refreshed_held (held_in u x) (view_in u v)) { door = ds } ≡ record (held_in u' x) { door = ds })
     → ((s : ℕ) → s < length u.links → p'.ins s ≡ p.ins s) → ((s : ℕ) → s < length u.links → incoming_in u' s ≡ incoming_in u s)
-    → door_links u' x ≡ filter (λ s. stays (view_at u v) x (incoming_in u s)) (door_links u x) ++ filter (is_to u' x) p'.post
+    → door_links u' x ≡ filter (λ s. stays (view_in u v) x (incoming_in u s)) (door_links u x) ++ filter (is_to u' x) p'.post
     → MemberStands u' p' x b
 looker u u' p p' x v a b out' m g h none eh ee eo ec stand ins inc comes = record {
   door = filter keeps h.door;
@@ -89,10 +89,10 @@ looker u u' p p' x v a b out' m g h none eh ee eo ec stand ins inc comes = recor
 }
   where
     view : Group
-    view = view_at u v
+    view = view_in u v
 
     keeps : ℕ → Bool
-    keeps s = stays (view_at u v) x (incoming_in u s)
+    keeps s = stays (view_in u v) x (incoming_in u s)
 
     at : door_links u x ≡ h.door
     at = whole_door u p x a h none

@@ -8,7 +8,7 @@ use Rattle.group_view.specs.declared.link.LinkName.{LinkName}
 use Rattle.group_view.specs.Ring.{is_in, AreDistinct}
 use Rattle.group_view.proofs.Rings.{distinct_parts, distinct_second, is_in-append, nat_eq-same}
 use Rattle.ring_world.specs.View.{ids}
-use Rattle.ring_world.specs.Machine.{World, member_at, link_at, view_at, newest, ring, left}
+use Rattle.ring_world.specs.Machine.{World, member_at, link_at, view_in, newest, ring, left}
 use Rattle.ring_world.specs.OpenLinks.{is_place, is_current, is_door_link, passes}
 use Rattle.ring_world.specs.Step.{size}
 use Rattle.ring_world.proofs.rings.Rounds.{nat_eq-is}
@@ -63,7 +63,7 @@ go_between w h ids_are = record {
   receiver = λ s l. known s l (link_at w s).receiver (h.inv.history.known s l);
 }
   where
-    known : (s : ℕ) → s < length w.links → (q : ℕ) → is_in q (ids (view_at w (link_at w s).opened)) ≡ true → (1 ≤ q) × (q < size w)
+    known : (s : ℕ) → s < length w.links → (q : ℕ) → is_in q (ids (view_in w (link_at w s).opened)) ≡ true → (1 ≤ q) × (q < size w)
     known s l q i =
         let now : is_in q (ring w) ≡ true = h.inv.history.grows q (link_at w s).opened (newest w) i (h.inv.linked.opened s l) (omega arith) in
         let r = range_in 1 (size w - 1) q (sym (ap (is_in q) ids_are) ∙ now) in

@@ -3,7 +3,7 @@ use Rattle.std.proofs.Common.{◌≡◌, ℕ, List, [], ◌∷◌, refl, arith}
 use Rattle.ring_names.specs.declared.numbers.CreditSpec.{CreditSpec}
 use Rattle.ring_world.specs.declared.event.Event.{Event}
 use Rattle.ring_world.specs.declared.event.Event.TheVariants.{Cast, Put, Take, TakeEnd, Stop, Mark, Refresh, Pick}
-use Rattle.ring_world.specs.View.{left_at, right_at}
+use Rattle.ring_world.specs.View.{left_by, right_by}
 use Rattle.ring_world.specs.Machine.{World, is_kept_of}
 use Rattle.ring_world.specs.Step.{opening}
 use Rattle.ring_world.specs.Event.{last}
@@ -29,45 +29,45 @@ three es = last (opening some_credit (a ∷ b ∷ c ∷ [])) es
 
 -- at the opening, only what entries and links have before them
 at_first : work (three []) ≡ 3513
-unfolding left_at right_at is_kept_of
+unfolding left_by right_by is_kept_of
 at_first = refl
 
 -- a publishes
 after_cast : work (three (Cast a (120 ∷ []) ∷ [])) ≡ 3540
-unfolding left_at right_at is_kept_of
+unfolding left_by right_by is_kept_of
 after_cast = refl
 
 -- its packet is on its way
 after_put : work (three (Cast a (120 ∷ []) ∷ Put a ∷ [])) ≡ 3539
-unfolding left_at right_at is_kept_of
+unfolding left_by right_by is_kept_of
 after_put = refl
 
 -- b takes it, and has numbers to send
 after_take : work (three (Cast a (120 ∷ []) ∷ Put a ∷ Take b ∷ [])) ≡ 3537
-unfolding left_at right_at is_kept_of
+unfolding left_by right_by is_kept_of
 after_take = refl
 
 -- a stops: its link has an end to take
 after_stop : work (three (Cast a (120 ∷ []) ∷ Put a ∷ Take b ∷ Stop a ∷ [])) ≡ 3539
-unfolding left_at right_at is_kept_of
+unfolding left_by right_by is_kept_of
 after_stop = refl
 
 -- b takes the end
 after_end : work (three (Cast a (120 ∷ []) ∷ Put a ∷ Take b ∷ Stop a ∷ TakeEnd b ∷ [])) ≡ 3536
-unfolding left_at right_at is_kept_of
+unfolding left_by right_by is_kept_of
 after_end = refl
 
 -- b marks a: both others are stale then
 after_mark : work (three (Cast a (120 ∷ []) ∷ Put a ∷ Take b ∷ Stop a ∷ TakeEnd b ∷ Mark b a ∷ [])) ≡ 2969
-unfolding left_at right_at is_kept_of
+unfolding left_by right_by is_kept_of
 after_mark = refl
 
 -- c refreshes: its link to a ends, and one opens to b
 after_refresh : work (three (Cast a (120 ∷ []) ∷ Put a ∷ Take b ∷ Stop a ∷ TakeEnd b ∷ Mark b a ∷ Refresh c 2 ∷ [])) ≡ 2966
-unfolding left_at right_at is_kept_of
+unfolding left_by right_by is_kept_of
 after_refresh = refl
 
 -- and b picks that
 after_pick : work (three (Cast a (120 ∷ []) ∷ Put a ∷ Take b ∷ Stop a ∷ TakeEnd b ∷ Mark b a ∷ Refresh c 2 ∷ Pick b ∷ [])) ≡ 2965
-unfolding left_at right_at is_kept_of
+unfolding left_by right_by is_kept_of
 after_pick = refl

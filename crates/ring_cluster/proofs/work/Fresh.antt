@@ -9,7 +9,7 @@ use Rattle.group_view.specs.View.{Group}
 use Rattle.group_view.specs.Change.{AreOpeningNames, marked}
 use Rattle.ring_world.specs.declared.event.Event.{Event}
 use Rattle.ring_world.specs.declared.phase.Ending.TheVariants.{Halted}
-use Rattle.ring_world.specs.Machine.{Member, Link, World, no_link, member_at, link_at, view_at, newest, runs_phase}
+use Rattle.ring_world.specs.Machine.{Member, Link, World, no_link, member_at, link_at, view_in, newest, runs_phase}
 use Rattle.ring_world.specs.OpenLinks.{is_place, is_current, is_door_link, passes}
 use Rattle.ring_world.specs.Step.{size, pushed, popped, next_packet, finished, stop_at, ended, end_out, opening}
 use Rattle.ring_world.specs.Event.{refreshed, refusal, effect, IsRun, last}
@@ -104,7 +104,7 @@ event_keeps w e g r = each_event (Keeps w) w e g.none_waits (record {
   leaves = λ y s u current k. keeps_set w _ s (finished (link_at w s)) (g.inv.current.lt y s (ap runs_phase u.up) current) (λ _. refl);
   gains = λ x o u out k. keeps_set w w.members o _ (g.inv.linked.out_lt x o (ap runs_phase u.up) out) (λ _. refl);
   stops = λ x u. stop_keeps w x (member_at w x).out (λ k out. g.inv.linked.out_lt x k (ap runs_phase u.up) out);
-  marks = λ x d u m. refresh_keeps w (w.views ++ marked (view_at w (newest w)) d ∷ []) x (newest w + 1) u.lt;
+  marks = λ x d u m. refresh_keeps w (w.views ++ marked (view_in w (newest w)) d ∷ []) x (newest w + 1) u.lt;
   refreshes = λ x v u m. refresh_keeps w w.views x v u.lt;
   picks = λ y s u none at upto. keeps_links w w.views _;
 }) r

@@ -6,7 +6,7 @@ use Rattle.group_view.specs.Change.{AreOpeningNames, marked}
 use Rattle.ring_world.specs.declared.event.Event.{Event}
 use Rattle.ring_world.specs.declared.phase.Ending.{Ending}
 use Rattle.ring_world.specs.declared.phase.Ending.TheVariants.{Moved, Halted}
-use Rattle.ring_world.specs.Machine.{Member, Link, World, no_link, no_member, member_at, link_at, view_at, newest, runs, runs_phase}
+use Rattle.ring_world.specs.Machine.{Member, Link, World, no_link, no_member, member_at, link_at, view_in, newest, runs, runs_phase}
 use Rattle.ring_world.specs.Step.{size, published, taker, popped, pushed, next_packet, current_is, with_current, finished, ended, ended_so, stop_at, stopped, end_out, with_member, with_link, with_view, moved_to, opening}
 use Rattle.ring_world.specs.Event.{refreshed, refusal, effect, IsRun, last}
 use Rattle.ring_world.proofs.rings.Lists.{at_set, at_push}
@@ -88,7 +88,7 @@ event_goes w e g r h = each_event GoOn w e g.none_waits (record {
   leaves = λ y s u current k. link_goes (current_is w y None) s (finished (link_at w s)) (g.inv.current.lt y s (ap runs_phase u.up) current) refl (λ e2. e2) (member_goes w y (with_current None (member_at w y)) u.lt refl refl h);
   gains = λ x o u out k. link_goes w o _ (g.inv.linked.out_lt x o (ap runs_phase u.up) out) refl (λ e2. e2) h;
   stops = λ x u. stop_goes w x (member_at w x).out u.lt (λ k. g.inv.linked.out_lt x k (ap runs_phase u.up)) h refl;
-  marks = λ x d u m. refresh_goes (with_view w (marked (view_at w (newest w)) d)) x (newest w + 1) u.lt (ap runs_phase u.up) (λ k. g.inv.linked.out_lt x k (ap runs_phase u.up)) h;
+  marks = λ x d u m. refresh_goes (with_view w (marked (view_in w (newest w)) d)) x (newest w + 1) u.lt (ap runs_phase u.up) (λ k. g.inv.linked.out_lt x k (ap runs_phase u.up)) h;
   refreshes = λ x v u m. refresh_goes w x v u.lt (ap runs_phase u.up) (λ k. g.inv.linked.out_lt x k (ap runs_phase u.up)) h;
   picks = λ y s u none door upto. member_goes w y (with_current (Some s) (member_at w y)) u.lt refl refl h;
 }) r

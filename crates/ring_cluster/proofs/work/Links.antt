@@ -11,7 +11,7 @@ use Rattle.ring_world.specs.Rows.{is_sent}
 use Rattle.ring_world.specs.declared.numbers.Numbers.{Numbers}
 use Rattle.ring_world.specs.declared.phase.Phase.TheVariants.{Up}
 use Rattle.ring_world.specs.View.{is_live, right_of}
-use Rattle.ring_world.specs.Machine.{World, Link, numbers_at, member_at, link_at, view_at, newest, ring, left, right, runs, is_kept}
+use Rattle.ring_world.specs.Machine.{World, Link, numbers_at, member_at, link_at, view_in, newest, ring, left, right, runs, is_kept}
 use Rattle.ring_world.specs.Step.{size, is_owned}
 use Rattle.ring_world.specs.OpenLinks.{version_of, comes_from_left, passes, is_current, is_door_link, is_open}
 use Rattle.ring_world.specs.Lawful.{row_of}
@@ -53,8 +53,8 @@ kept_is_free credit l h packets grants =
 
 -- what y has is what its left neighbour in the newest view has; for whom y answers, it has come round
 pub record IsEven (w : World) (y p : ℕ) : Type 0 where
-  pub got : low (is_owned (view_at w (newest w)) y (left w (newest w) y) p) (row_of w y p) ≡ (row_of w (left w (newest w) y) p).got
-  pub forgot : low_forgot (is_owned (view_at w (newest w)) y (left w (newest w) y) p) (row_of w y p) ≡ (row_of w (left w (newest w) y) p).forgot
+  pub got : low (is_owned (view_in w (newest w)) y (left w (newest w) y) p) (row_of w y p) ≡ (row_of w (left w (newest w) y) p).got
+  pub forgot : low_forgot (is_owned (view_in w (newest w)) y (left w (newest w) y) p) (row_of w y p) ≡ (row_of w (left w (newest w) y) p).forgot
 
 -- the left neighbour of y sends on the link o, and y takes from it
 pub record IsTie (w : World) (y o : ℕ) : Type 0 where
@@ -87,7 +87,7 @@ module _ (w : World) (h : IsReached w) (idle : IsIdle w) where
   stands_there y r = good.inv.is_ring.stands y (newest w) r (good.inv.is_ring.held y) (omega arith)
 
   -- and is live there
-  pub lives_there : (y : ℕ) → runs w y ≡ true → is_live (view_at w (newest w)) y ≡ true
+  pub lives_there : (y : ℕ) → runs w y ≡ true → is_live (view_in w (newest w)) y ≡ true
   lives_there y r = good.inv.is_ring.lives y (newest w) r (good.inv.is_ring.held y) (omega arith)
 
   -- what it is refused, by its id
@@ -111,7 +111,7 @@ module _ (w : World) (h : IsReached w) (idle : IsIdle w) where
       let test : passes w y l ≡ true = passes_is w y s good k.takes.lt k.takes.receiver ∙ ap (is_kept w l) new ∙ k.kept in
       let late : max v l.opened ≡ v = omega (arith, good.inv.linked.opened s k.takes.lt) in
       let comes : comes_from_left w y l v ≡ true = ap (comes_from_left w y l) (sym late) ∙ test in
-      let passed : (nat_eq l.sender (left_neighbour w y) && nat_le (since w y) l.opened) ≡ true = ap (λ q. nat_eq l.sender q && nat_le (since w y) l.opened) (sym (left_is w v y (view_at w v) refl)) ∙ comes in
+      let passed : (nat_eq l.sender (left_neighbour w y) && nat_le (since w y) l.opened) ≡ true = ap (λ q. nat_eq l.sender q && nat_le (since w y) l.opened) (sym (left_is w v y (view_in w v) refl)) ∙ comes in
       and_from (nat_eq l.receiver y) (not l.over && (nat_eq l.sender (left_neighbour w y) && nat_le (since w y) l.opened)) (ap (λ q. nat_eq q y) k.takes.receiver ∙ nat_eq-same y)
       (and_from (not l.over) (nat_eq l.sender (left_neighbour w y) && nat_le (since w y) l.opened) (ap not k.takes.goes_on) passed)
 
@@ -128,7 +128,7 @@ module _ (w : World) (h : IsReached w) (idle : IsIdle w) where
       let new : (member_at w l.sender).version ≡ newest w = (idle l.sender rs).newest in
       let out : (member_at w l.sender).out ≡ Some s =
       good.inv.linked.is_out s k.takes.lt rs (subst (Kept w l) (sym new) (true_kept w l (newest w) k.kept))
-      (subst (λ u. is_live (view_at w u) l.receiver ≡ true) (sym new) (subst (λ q. is_live (view_at w (newest w)) q ≡ true) (sym k.takes.receiver) (lives_there y ry))) in
+      (subst (λ u. is_live (view_in w u) l.receiver ≡ true) (sym new) (subst (λ q. is_live (view_in w (newest w)) q ≡ true) (sym k.takes.receiver) (lives_there y ry))) in
       subst (λ q. (member_at w q).out ≡ Some s) (sym from) out
 
   -- the current link is kept up to the newest view
@@ -159,8 +159,8 @@ module _ (w : World) (h : IsReached w) (idle : IsIdle w) where
         takes = record {
           lt = sends.lt;
           receiver =
-              good.inv.linked.out_to x o rx e ∙ ap (λ u. right w u x) (idle x rx).newest ∙ right_is w v x (view_at w v) refl
-              ∙ ap (right_of (view_at w v)) (left_is w v y (view_at w v) refl) ∙ (are_mutual (view_at w v).entries y (good.inv.is_ring.distinct v (omega arith)) (lives_there y ry)).right_of_left;
+              good.inv.linked.out_to x o rx e ∙ ap (λ u. right w u x) (idle x rx).newest ∙ right_is w v x (view_in w v) refl
+              ∙ ap (right_of (view_in w v)) (left_is w v y (view_in w v) refl) ∙ (are_mutual (view_in w v).entries y (good.inv.is_ring.distinct v (omega arith)) (lives_there y ry)).right_of_left;
           goes_on = false_from_ne_true (link_at w o).over (λ over. false≢true (sym (ap is_some sends.goes_on) ∙ h.fit.ends.ended o over));
         };
         kept = kept_true w (link_at w o) v (out_stays w x o good.inv.is_ring good.inv.linked rx e);
@@ -245,8 +245,8 @@ module _ (w : World) (h : IsReached w) (idle : IsIdle w) where
       let x : ℕ = left w (newest w) y in
       let last : Numbers = numbers_at (link_at w o).sending.sent p in
       let sent : is_sent (row_of w x p) last ≡ true = left_has_sent y o p ry rx tie.1 pl in
-      let has : Has (is_owned (view_at w (member_at w y).version) y (link_at w o).sender p) (row_of w y p) last = h.sent y o p ry tie.1.current pl (nothing_held (link_at w o) (current_holds_nothing y o ry tie.1.current)) in
-      let now : Has (is_owned (view_at w (newest w)) y x p) (row_of w y p) last = subst (λ u. Has (is_owned (view_at w u) y x p) (row_of w y p) last) (idle y ry).newest (subst (λ q. Has (is_owned (view_at w (member_at w y).version) y q p) (row_of w y p) last) tie.1.sends.sender has) in
+      let has : Has (is_owned (view_in w (member_at w y).version) y (link_at w o).sender p) (row_of w y p) last = h.sent y o p ry tie.1.current pl (nothing_held (link_at w o) (current_holds_nothing y o ry tie.1.current)) in
+      let now : Has (is_owned (view_in w (newest w)) y x p) (row_of w y p) last = subst (λ u. Has (is_owned (view_in w u) y x p) (row_of w y p) last) (idle y ry).newest (subst (λ q. Has (is_owned (view_in w (member_at w y).version) y q p) (row_of w y p) last) tie.1.sends.sender has) in
       record {
         got = now.got ∙ sym (sent_got (row_of w x p) last sent);
         forgot = now.forgot ∙ sym (sent_forgot (row_of w x p) last sent);

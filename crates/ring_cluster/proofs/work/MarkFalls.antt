@@ -12,7 +12,7 @@ use Rattle.group_view.specs.Kept.{changes_of}
 use Rattle.group_view.proofs.Groups.{few_changes, length-marked_group, changes-marked_group}
 use Rattle.group_view.proofs.Passing.{live_in}
 use Rattle.ring_world.specs.declared.event.Event.TheVariants as event
-use Rattle.ring_world.specs.Machine.{Member, World, member_at, view_at, newest}
+use Rattle.ring_world.specs.Machine.{Member, World, member_at, view_in, newest}
 use Rattle.ring_world.specs.Step.{size, with_view}
 use Rattle.ring_world.specs.Event.{mark_refusal, refreshed}
 use Rattle.ring_world.proofs.walks.Views.{view_new}
@@ -66,7 +66,7 @@ mark_stale w w' x y v u m top fresh =
     most false = omega arith
 
 -- one change less is left to an entry
-mark_pays : (w : World) (x d : ℕ) → IsFit w → IsUp w x → MayMark w x d → Pays w (w.views ++ marked (view_at w (newest w)) d ∷ []) x 1 0 (size w - 2)
+mark_pays : (w : World) (x d : ℕ) → IsFit w → IsUp w x → MayMark w x d → Pays w (w.views ++ marked (view_in w (newest w)) d ∷ []) x 1 0 (size w - 2)
 mark_pays w x d f u m = record {
   marks = omega (arith, left);
   stale = λ w' y k top fresh. let most : stale w' + 1 ≤ size w - 1 = mark_stale w w' x y (length vs - 1) u k top fresh in omega (arith, most, u.some, u.lt);
@@ -74,7 +74,7 @@ mark_pays w x d f u m = record {
 }
   where
     g : Group
-    g = view_at w (newest w)
+    g = view_in w (newest w)
 
     vs : List Group
     vs = w.views ++ marked g d ∷ []
@@ -87,8 +87,8 @@ mark_pays w x d f u m = record {
 -- whatever name is marked
 pub mark_lowers : (w : World) (x : ℕ) (dead : List ℕ) → IsFit w → 1 ≤ x → x < size w → LeavesLess w (event.Mark (member_at w x).name dead)
 mark_lowers w x dead f some lt = leaves_less w x (event.Mark (member_at w x).name dead) f some lt refl
-    (λ u h. at_named (Lowers w) w dead (mark_refusal w x) (λ d. refreshed (with_view w (marked (view_at w (newest w)) d)) x (newest w + 1)) h
+    (λ u h. at_named (Lowers w) w dead (mark_refusal w x) (λ d. refreshed (with_view w (marked (view_in w (newest w)) d)) x (newest w + 1)) h
     (λ d _ _ r.
-    let vs : List Group = w.views ++ marked (view_at w (newest w)) d ∷ [] in
-    refresh_falls w vs x (newest w + 1) 1 0 (size w - 2) f u (let top : newest w + 1 ≡ length vs - 1 = omega (arith, length_push w.views (marked (view_at w (newest w)) d), f.good.inv.is_ring.some) in top)
+    let vs : List Group = w.views ++ marked (view_in w (newest w)) d ∷ [] in
+    refresh_falls w vs x (newest w + 1) 1 0 (size w - 2) f u (let top : newest w + 1 ≡ length vs - 1 = omega (arith, length_push w.views (marked (view_in w (newest w)) d), f.good.inv.is_ring.some) in top)
     (mark_pays w x d f u (may_mark w x d lt u.up r))))

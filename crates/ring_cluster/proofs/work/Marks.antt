@@ -18,7 +18,7 @@ use Rattle.ring_world.specs.declared.phase.Phase.{Phase}
 use Rattle.ring_world.specs.declared.event.Event.TheVariants.{Mark}
 use Rattle.ring_world.specs.Refusal.{refuse_if, or_else}
 use Rattle.ring_world.specs.View.{is_live, right_of}
-use Rattle.ring_world.specs.Machine.{World, member_at, view_at, newest, ring, left, right, runs, runs_phase}
+use Rattle.ring_world.specs.Machine.{World, member_at, view_in, newest, ring, left, right, runs, runs_phase}
 use Rattle.ring_world.specs.Step.{size, opening}
 use Rattle.ring_world.specs.Event.{id_of, is_stopped, left_neighbour, is_neighbour, is_still_taken, at_door, mark_refusal, IsRun, last}
 use Rattle.ring_world.specs.Quiet.{IsSettled, IsQuiet}
@@ -45,14 +45,14 @@ has_stopped f rests = true_from_ne_false (is_stopped f) (λ e. false≢true (sym
 -- ---- an idle ring in which nobody can be marked
 module _ (w : World) (h : IsReached w) (idle : IsIdle w) (marks : MarksNobody w) where
   -- the right neighbour is live
-  right_is_live : (x : ℕ) → runs w x ≡ true → is_live (view_at w (newest w)) (right w (newest w) x) ≡ true
+  right_is_live : (x : ℕ) → runs w x ≡ true → is_live (view_in w (newest w)) (right w (newest w) x) ≡ true
   right_is_live x rx = right_lives w (newest w) x (lives_there w h idle x rx)
 
   -- it is one of the members
   right_there : (x : ℕ) → runs w x ≡ true → (1 ≤ right w (newest w) x) × (right w (newest w) x < 1 + (size w - 1))
   right_there x rx =
       let d : ℕ = right w (newest w) x in
-      range_in 1 (size w - 1) d (ap (is_in d) (sym h.each_id) ∙ live_in (view_at w (newest w)).entries d (right_is_live x rx))
+      range_in 1 (size w - 1) d (ap (is_in d) (sym h.each_id) ∙ live_in (view_in w (newest w)).entries d (right_is_live x rx))
 
   -- had it stopped, it could be marked
   pub right_runs : (x : ℕ) → runs w x ≡ true → runs w (right w (newest w) x) ≡ true
@@ -74,8 +74,8 @@ module _ (w : World) (h : IsReached w) (idle : IsIdle w) (marks : MarksNobody w)
 
       beside : is_neighbour w x d ≡ true
       beside =
-          or_right (nat_eq d (left_neighbour w x)) (nat_eq d (right_of (view_at w (member_at w x).version) x))
-          (ap (λ v. nat_eq d (right_of (view_at w v) x)) new ∙ ap (λ q. nat_eq d q) (sym (right_is w (newest w) x (view_at w (newest w)) refl)) ∙ nat_eq-same d)
+          or_right (nat_eq d (left_neighbour w x)) (nat_eq d (right_of (view_in w (member_at w x).version) x))
+          (ap (λ v. nat_eq d (right_of (view_in w v) x)) new ∙ ap (λ q. nat_eq d q) (sym (right_is w (newest w) x (view_in w (newest w)) refl)) ∙ nat_eq-same d)
 
       left_alone : runs w d ≡ false → is_still_taken w x d ≡ false
       left_alone rests = by_test (nat_eq d (left_neighbour w x)) refl
@@ -83,20 +83,20 @@ module _ (w : World) (h : IsReached w) (idle : IsIdle w) (marks : MarksNobody w)
           by_test : (b : Bool) → nat_eq d (left_neighbour w x) ≡ b → (b && (is_some (member_at w x).current || is_some (at_door w x))) ≡ false
           by_test false e = refl
           by_test true e =
-              let from : d ≡ left w (newest w) x = nat_eq-is d (left_neighbour w x) e ∙ sym (left_is w (member_at w x).version x (view_at w (member_at w x).version) refl) ∙ ap (λ v. left w v x) new in
+              let from : d ≡ left w (newest w) x = nat_eq-is d (left_neighbour w x) e ∙ sym (left_is w (member_at w x).version x (view_in w (member_at w x).version) refl) ∙ ap (λ v. left w v x) new in
               let stopped : runs w (left w (newest w) x) ≡ false = ap (runs w) (sym from) ∙ rests in
               rw (no_current w h idle x rx stopped, no_door w h idle x rx stopped) refl
 
       by_run : (b : Bool) → runs w d ≡ b → b ≡ true
       by_run true e = refl
       by_run false e =
-          absurd (asked (none_fails (not (is_neighbour w x d)) (not (is_live (view_at w (newest w)) d)) (not (is_stopped (member_at w d).phase)) (is_still_taken w x d) reason.NotNeighbour reason.AlreadyDead reason.NotStopped reason.LinkNotEnded
+          absurd (asked (none_fails (not (is_neighbour w x d)) (not (is_live (view_in w (newest w)) d)) (not (is_stopped (member_at w d).phase)) (is_still_taken w x d) reason.NotNeighbour reason.AlreadyDead reason.NotStopped reason.LinkNotEnded
           (ap not beside) (ap not (right_is_live x rx)) (ap not (has_stopped (member_at w d).phase e)) (left_alone e)))
 
   -- so where one runs, each runs that is live in the newest view
-  pub live_ones_run : (p : ℕ) → runs w p ≡ true → (z : ℕ) → is_live (view_at w (newest w)) z ≡ true → runs w z ≡ true
+  pub live_ones_run : (p : ℕ) → runs w p ≡ true → (z : ℕ) → is_live (view_in w (newest w)) z ≡ true → runs w z ≡ true
   live_ones_run p rp z lz =
-      let v = view_at w (newest w) in
+      let v = view_in w (newest w) in
       round (is_live v) p (ring w) (h.fit.good.inv.is_ring.distinct (newest w) (omega arith)) (stands_there w h idle p rp) (lives_there w h idle p rp) (λ y. runs w y ≡ true) rp
       (λ y iy ly ne rl.
       let x : ℕ = left_in (is_live v) y (ring w) in
@@ -106,11 +106,11 @@ module _ (w : World) (h : IsReached w) (idle : IsIdle w) (marks : MarksNobody w)
       z (live_in v.entries z lz) lz
 
   -- all entries are settled, where none is dead
-  pub entries_settle : (p : ℕ) → runs w p ≡ true → All (λ (e : Entry). e.mark ≢ Dead) (view_at w (newest w)).entries → All (IsSettled w) (view_at w (newest w)).entries
+  pub entries_settle : (p : ℕ) → runs w p ≡ true → All (λ (e : Entry). e.mark ≢ Dead) (view_in w (newest w)).entries → All (IsSettled w) (view_in w (newest w)).entries
   entries_settle p rp none k d lt = record {
     not_dead = none k d lt;
     runs = λ live.
-        let es : List Entry = (view_at w (newest w)).entries in
+        let es : List Entry = (view_in w (newest w)).entries in
         live_ones_run p rp (get_or es k d).id.0 (ap (λ (e : Entry). is_live_mark e.mark) (entry_at es k d (h.fit.good.inv.is_ring.distinct (newest w) (omega arith)) lt) ∙ ap is_live_mark live);
   }
 
@@ -137,7 +137,7 @@ beyond_rests w x ge = by_run (runs w x) refl
 -- ---- every state of every run
 
 -- an idle ring in which nobody can be marked, and no entry is dead, is quiet
-pub run_marked_is_quiet : (credit : CreditSpec) (names : List (List ℕ)) (events : List Event) → AreOpeningNames names → IsRun (opening credit names) events → IsIdle (last (opening credit names) events) → MarksNobody (last (opening credit names) events) → All (λ (e : Entry). e.mark ≢ Dead) (view_at (last (opening credit names) events) (newest (last (opening credit names) events))).entries → IsQuiet (last (opening credit names) events)
+pub run_marked_is_quiet : (credit : CreditSpec) (names : List (List ℕ)) (events : List Event) → AreOpeningNames names → IsRun (opening credit names) events → IsIdle (last (opening credit names) events) → MarksNobody (last (opening credit names) events) → All (λ (e : Entry). e.mark ≢ Dead) (view_in (last (opening credit names) events) (newest (last (opening credit names) events))).entries → IsQuiet (last (opening credit names) events)
 run_marked_is_quiet credit names events are r idle marks none =
     let w : World = last (opening credit names) events in
     let h : IsReached w = reached credit names events are r in

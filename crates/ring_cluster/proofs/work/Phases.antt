@@ -11,7 +11,7 @@ use Rattle.ring_world.specs.declared.phase.Phase.{Phase}
 use Rattle.ring_world.specs.declared.phase.Phase.TheVariants.{Waiting, Up, Stopped}
 use Rattle.ring_world.specs.declared.phase.Ending.TheVariants.{Moved}
 use Rattle.ring_world.specs.View.{right_of}
-use Rattle.ring_world.specs.Machine.{Member, Link, World, no_member, member_at, link_at, view_at, newest, is_waiting, runs, runs_phase}
+use Rattle.ring_world.specs.Machine.{Member, Link, World, no_member, member_at, link_at, view_in, newest, is_waiting, runs, runs_phase}
 use Rattle.ring_world.specs.Step.{published, taker, with_current, with_view, with_link, moved_to, look_at, open_to, ended}
 use Rattle.ring_world.specs.Event.{is_asked, by_of, at_found, taken_by, done_at, refreshed, effect, id_of, at_door}
 use Rattle.ring_world.proofs.events.NoneWaits.{NoneWaits}
@@ -58,7 +58,7 @@ open_same w x z = same_set w x (record (member_at w x) { out = Some (length w.li
 refreshed_same : (w : World) (x v : ℕ) → SamePhases w (refreshed w x v)
 refreshed_same w x v = refresh_composed (SamePhases w) w x v
     (λ k _ h. same_trans w (look_at w x v) (with_link (look_at w x v) k (ended Moved (link_at w k))) h (record { many = refl; phase = λ q. refl }))
-    (λ u _ h. let z : ℕ = right_of (view_at w v) x in same_trans w u (open_to u x z) h (open_same u x z))
+    (λ u _ h. let z : ℕ = right_of (view_in w v) x in same_trans w u (open_to u x z) h (open_same u x z))
     (same_set w x (moved_to w x v) w.links w.views refl)
 
 view_same : (w : World) (v : Group) → SamePhases w (with_view w v)
@@ -81,7 +81,7 @@ done_phases w (Take by) x n own = found_same w (member_at w x).current _ (λ s. 
 done_phases w (TakeEnd by) x n own = found_same w (member_at w x).current _ (λ s. same_set w x (with_current None (member_at w x)) _ w.views refl)
 done_phases w (Gain by) x n own = found_same w (member_at w x).out _ (λ o. record { many = refl; phase = λ q. refl })
 done_phases w (Stop by) x n own = absurd (false≢true (sym own))
-done_phases w (Mark by dead) x n own = found_same w (id_of w dead) _ (λ d. marked_same w (marked (view_at w (newest w)) d) x _)
+done_phases w (Mark by dead) x n own = found_same w (id_of w dead) _ (λ d. marked_same w (marked (view_in w (newest w)) d) x _)
 done_phases w (Refresh by version) x n own = refreshed_same w x version
 done_phases w (Pick by) x n own = found_same w (at_door w x) _ (λ s. same_set w x (with_current (Some s) (member_at w x)) w.links w.views refl)
 

@@ -6,7 +6,7 @@ use Rattle.group_view.specs.View.{Group}
 use Rattle.group_view.specs.Change.{marked}
 use Rattle.ring_world.specs.declared.event.Event.{Event}
 use Rattle.ring_world.specs.declared.phase.Ending.TheVariants.{Halted}
-use Rattle.ring_world.specs.Machine.{Member, Link, World, no_member, no_link, member_at, link_at, view_at, newest, runs_phase, is_kept, is_kept_of}
+use Rattle.ring_world.specs.Machine.{Member, Link, World, no_member, no_link, member_at, link_at, view_in, newest, runs_phase, is_kept, is_kept_of}
 use Rattle.ring_world.specs.OpenLinks.{version_of, passes, is_place, is_current}
 use Rattle.ring_world.specs.Step.{size, publish_at, published, put_on, gain_on, take_from, taker, current_is, with_current, leave_link, finished, stop_at, stopped, end_out, kept_current, moved_to, look_at}
 use Rattle.ring_world.specs.Event.{at_door, refreshed, refusal, effect}
@@ -222,7 +222,7 @@ event_places w e g r = each_event (KeepsPlaces w) w e g.none_waits (record {
   leaves = λ y s u current c. leave_places w y s g u current;
   gains = λ x o u out c h k t tl. place_stays w (gain_on w o) x t (member_at w x) g h k (unwritten w x (gain_on w o).links) tl refl;
   stops = λ x u. stop_places w x g u;
-  marks = λ x d u m. refresh_places w (w.views ++ marked (view_at w (newest w)) d ∷ []) x (newest w + 1) g u;
+  marks = λ x d u m. refresh_places w (w.views ++ marked (view_in w (newest w)) d ∷ []) x (newest w + 1) g u;
   refreshes = λ x v u m. refresh_places w w.views x v g u;
   picks = λ y s u none at upto. pick_places w y s g u none at upto;
 }) r (event_good w e g r) (event_later w e g r)

@@ -5,7 +5,7 @@ use Rattle.ring_names.specs.declared.numbers.CreditSpec.{CreditSpec}
 use Rattle.group_view.specs.Change.{AreOpeningNames}
 use Rattle.ring_world.specs.declared.event.Event.{Event}
 use Rattle.ring_world.specs.View.{ids}
-use Rattle.ring_world.specs.Machine.{World, view_at, ring, runs}
+use Rattle.ring_world.specs.Machine.{World, view_in, ring, runs}
 use Rattle.ring_world.specs.Step.{size, opening}
 use Rattle.ring_world.specs.Event.{IsRun, last}
 use Rattle.ring_world.proofs.runs.AllRuns.{every_run_goes_on}
@@ -31,8 +31,8 @@ HasEachId w = ring w ≡ range_with_len 1 (size w - 1)
 reached_ids : (credit : CreditSpec) (names : List (List ℕ)) (es : List Event) → AreOpeningNames names → IsRun (opening credit names) es → HasEachId (last (opening credit names) es)
 reached_ids credit names es are r =
     let w : World = last (opening credit names) es in
-    let begins : (1 < length w.views) × (ids (view_at w 1) ≡ range_with_len 1 (length names)) =
-    run_events (λ u. (1 < length u.views) × (ids (view_at u 1) ≡ range_with_len 1 (length names)))
+    let begins : (1 < length w.views) × (ids (view_in w 1) ≡ range_with_len 1 (length names)) =
+    run_events (λ u. (1 < length u.views) × (ids (view_in u 1) ≡ range_with_len 1 (length names)))
     (λ u e g k h. let later = event_later u e g k in (omega (arith, later.many, h.0), ap ids (later.views 1 h.0) ∙ h.1))
     (opening credit names) es (opening_good credit names are) r (omega arith, opening_ids 1 names) in
     let many : length names ≡ size w - 1 = omega (arith, first_size credit names, (every_run_goes_on credit names [] es are tt r).never_falls.same_size) in

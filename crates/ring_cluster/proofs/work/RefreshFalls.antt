@@ -8,7 +8,7 @@ use Rattle.group_view.specs.View.{Group}
 use Rattle.group_view.specs.Since.{no_group}
 use Rattle.ring_world.specs.declared.event.Event.TheVariants as event
 use Rattle.ring_world.specs.declared.phase.Ending.TheVariants.{Moved}
-use Rattle.ring_world.specs.Machine.{Member, Link, World, no_link, no_sending, member_at, link_at, view_at, newest}
+use Rattle.ring_world.specs.Machine.{Member, Link, World, no_link, no_sending, member_at, link_at, view_in, newest}
 use Rattle.ring_world.specs.View.{right_of}
 use Rattle.ring_world.specs.Step.{size, ended, ended_so, end_out, moved_to, look_at}
 use Rattle.ring_world.specs.Event.{refreshed, has_nothing_new}
@@ -103,7 +103,7 @@ module _ (w : World) (vs : List Group) (x v a b c : ℕ) (f : IsFit w) (u : IsUp
       out : Option ℕ
       out = (member_at w x).out
 
-      by_out : (o : Option ℕ) → sends_to (option_map (outgoing_in seen) o) (right_of (view_at seen v) x) ≡ true → is_some o ≡ true
+      by_out : (o : Option ℕ) → sends_to (option_map (outgoing_in seen) o) (right_of (view_in seen v) x) ≡ true → is_some o ≡ true
       by_out None k = absurd (false≢true k)
       by_out (Some o) k = refl
 

@@ -15,7 +15,7 @@ use Rattle.group_view.proofs.Neighbours.{filter_empty_at, left_gap, IsLeft, itse
 use Rattle.ring_world.specs.declared.event.Event.{Event}
 use Rattle.ring_world.specs.Rows.{Row}
 use Rattle.ring_world.specs.View.{is_live}
-use Rattle.ring_world.specs.Machine.{World, view_at, newest, ring, left, runs, runs_phase}
+use Rattle.ring_world.specs.Machine.{World, view_in, newest, ring, left, runs, runs_phase}
 use Rattle.ring_world.specs.Step.{size, log_of, is_owned, opening}
 use Rattle.ring_world.specs.Event.{IsRun, last}
 use Rattle.ring_world.specs.Lawful.{row_of}
@@ -65,11 +65,11 @@ entry_at (e ∷ es) (suc k) d dx l =
     rw apart (entry_at es k d dx.1 (omega arith))
 
 -- where nobody has stopped, all entries of the newest view are settled
-pub all_settled : (w : World) → IsReached w → NobodyStopped w → All (IsSettled w) (view_at w (newest w)).entries
+pub all_settled : (w : World) → IsReached w → NobodyStopped w → All (IsSettled w) (view_in w (newest w)).entries
 all_settled w h up k d lt = record { not_dead = λ dead. let bad : Live ≡ Dead = sym lives ∙ dead in cc; runs = λ _. rz }
   where
     es : List Entry
-    es = (view_at w (newest w)).entries
+    es = (view_in w (newest w)).entries
 
     z : ℕ
     z = (get_or es k d).id.0
@@ -87,25 +87,25 @@ all_settled w h up k d lt = record { not_dead = λ dead. let bad : Live ≡ Dead
     lives = live_is (get_or es k d).mark (ap (λ (e : Entry). is_live_mark e.mark) (sym (entry_at es k d (h.fit.good.inv.is_ring.distinct (newest w) (omega arith)) lt)) ∙ live)
 
 -- ---- an idle ring whose entries are settled
-module _ (w : World) (h : IsReached w) (idle : IsIdle w) (settled : All (IsSettled w) (view_at w (newest w)).entries) where
+module _ (w : World) (h : IsReached w) (idle : IsIdle w) (settled : All (IsSettled w) (view_in w (newest w)).entries) where
   -- no id stands twice
   distinct : AreDistinct (ring w)
   distinct = h.fit.good.inv.is_ring.distinct (newest w) (omega arith)
 
   -- who is live runs
-  runs_there : (z : ℕ) → is_live (view_at w (newest w)) z ≡ true → runs w z ≡ true
-  runs_there z l = settled_runs w (view_at w (newest w)).entries z settled l
+  runs_there : (z : ℕ) → is_live (view_in w (newest w)) z ≡ true → runs w z ≡ true
+  runs_there z l = settled_runs w (view_in w (newest w)).entries z settled l
 
   -- the left neighbour as the list of ids has it
-  left_in_is : (y : ℕ) → is_in y (ring w) ≡ true → left w (newest w) y ≡ left_in (is_live (view_at w (newest w))) y (ring w)
+  left_in_is : (y : ℕ) → is_in y (ring w) ≡ true → left w (newest w) y ≡ left_in (is_live (view_in w (newest w))) y (ring w)
   left_in_is y = left_in_view w (newest w) y
 
   -- the left neighbour of a running member is live and runs
-  left_lives : (y : ℕ) → runs w y ≡ true → (is_in (left w (newest w) y) (ring w) ≡ true) × (is_live (view_at w (newest w)) (left w (newest w) y) ≡ true)
-  left_lives y ry = by_left (left_is_left (is_live (view_at w (newest w))) (left w (newest w) y) y (ring w) (distinct_others y (ring w) distinct (stands_there w h idle y ry)) (stands_there w h idle y ry) (sym (left_in_is y (stands_there w h idle y ry))))
+  left_lives : (y : ℕ) → runs w y ≡ true → (is_in (left w (newest w) y) (ring w) ≡ true) × (is_live (view_in w (newest w)) (left w (newest w) y) ≡ true)
+  left_lives y ry = by_left (left_is_left (is_live (view_in w (newest w))) (left w (newest w) y) y (ring w) (distinct_others y (ring w) distinct (stands_there w h idle y ry)) (stands_there w h idle y ry) (sym (left_in_is y (stands_there w h idle y ry))))
     where
-      by_left : IsLeft (is_live (view_at w (newest w))) (left w (newest w) y) y (ring w) → (is_in (left w (newest w) y) (ring w) ≡ true) × (is_live (view_at w (newest w)) (left w (newest w) y) ≡ true)
-      by_left (itself e) = (ap (λ q. is_in q (ring w)) e ∙ stands_there w h idle y ry, ap (is_live (view_at w (newest w))) e ∙ lives_there w h idle y ry)
+      by_left : IsLeft (is_live (view_in w (newest w))) (left w (newest w) y) y (ring w) → (is_in (left w (newest w) y) (ring w) ≡ true) × (is_live (view_in w (newest w)) (left w (newest w) y) ≡ true)
+      by_left (itself e) = (ap (λ q. is_in q (ring w)) e ∙ stands_there w h idle y ry, ap (is_live (view_in w (newest w))) e ∙ lives_there w h idle y ry)
       by_left (other l i) = (i, l)
 
   -- it runs
@@ -113,7 +113,7 @@ module _ (w : World) (h : IsReached w) (idle : IsIdle w) (settled : All (IsSettl
   left_runs y ry = runs_there (left w (newest w) y) (left_lives y ry).1
 
   -- nobody answers for another that is live
-  not_answered : (y p : ℕ) → runs w y ≡ true → is_live (view_at w (newest w)) p ≡ true → y ≢ p → is_owned (view_at w (newest w)) y (left w (newest w) y) p ≡ false
+  not_answered : (y p : ℕ) → runs w y ≡ true → is_live (view_in w (newest w)) p ≡ true → y ≢ p → is_owned (view_in w (newest w)) y (left w (newest w) y) p ≡ false
   not_answered y p ry lp ne = rw (nat_eq-not p y (λ e. ne (sym e))) (by_test (is_in p (before y (others x (ring w)))) refl)
     where
       x : ℕ
@@ -122,22 +122,22 @@ module _ (w : World) (h : IsReached w) (idle : IsIdle w) (settled : All (IsSettl
       iy : is_in y (ring w) ≡ true
       iy = stands_there w h idle y ry
 
-      gap : filter (is_live (view_at w (newest w))) (before y (others x (ring w))) ≡ []
-      gap = left_gap (is_live (view_at w (newest w))) x y (ring w) distinct (distinct_others y (ring w) distinct iy) iy (sym (left_in_is y iy))
+      gap : filter (is_live (view_in w (newest w))) (before y (others x (ring w))) ≡ []
+      gap = left_gap (is_live (view_in w (newest w))) x y (ring w) distinct (distinct_others y (ring w) distinct iy) iy (sym (left_in_is y iy))
 
       by_test : (b : Bool) → is_in p (before y (others x (ring w))) ≡ b → b ≡ false
-      by_test true e = absurd (false≢true (sym (filter_empty_at (is_live (view_at w (newest w))) p (before y (others x (ring w))) gap e) ∙ lp))
+      by_test true e = absurd (false≢true (sym (filter_empty_at (is_live (view_in w (newest w))) p (before y (others x (ring w))) gap e) ∙ lp))
       by_test false e = refl
 
   -- what each other member has of p as its left neighbour has it, and p as it has come round, p has as it first had it
   came_round : (of : Bool → Row → ℕ) (part : Row → ℕ) → ((r : Row) → of false r ≡ part r) → (p : ℕ) → runs w p ≡ true
-      → ((y : ℕ) → runs w y ≡ true → of (is_owned (view_at w (newest w)) y (left w (newest w) y) p) (row_of w y p) ≡ part (row_of w (left w (newest w) y) p)) → of true (row_of w p p) ≡ part (row_of w p p)
+      → ((y : ℕ) → runs w y ≡ true → of (is_owned (view_in w (newest w)) y (left w (newest w) y) p) (row_of w y p) ≡ part (row_of w (left w (newest w) y) p)) → of true (row_of w p p) ≡ part (row_of w p p)
   came_round of part late p rp even =
       let x : ℕ = left w (newest w) p in
       let there = left_lives p rp in
-      let own : is_owned (view_at w (newest w)) p x p ≡ true = rw (nat_eq-same p) refl in
+      let own : is_owned (view_in w (newest w)) p x p ≡ true = rw (nat_eq-same p) refl in
       subst (λ b. of b (row_of w p p) ≡ part (row_of w x p)) own (even p rp)
-      ∙ round_same (is_live (view_at w (newest w))) p (ring w) (λ k. part (row_of w k p)) distinct (stands_there w h idle p rp) (lives_there w h idle p rp)
+      ∙ round_same (is_live (view_in w (newest w))) p (ring w) (λ k. part (row_of w k p)) distinct (stands_there w h idle p rp) (lives_there w h idle p rp)
       (λ y iy ly ne.
       let ry : runs w y ≡ true = runs_there y ly in
       sym (late (row_of w y p)) ∙ subst (λ b. of b (row_of w y p) ≡ part (row_of w (left w (newest w) y) p)) (not_answered y p ry (lives_there w h idle p rp) ne) (even y ry) ∙ ap (λ q. part (row_of w q p)) (left_in_is y iy))
@@ -165,7 +165,7 @@ module _ (w : World) (h : IsReached w) (idle : IsIdle w) (settled : All (IsSettl
 -- ---- every state of every run
 
 -- an idle ring rests where each live entry of the newest view runs and none is dead
-pub run_idle_rests : (credit : CreditSpec) (names : List (List ℕ)) (events : List Event) → AreOpeningNames names → IsRun (opening credit names) events → IsIdle (last (opening credit names) events) → All (IsSettled (last (opening credit names) events)) (view_at (last (opening credit names) events) (newest (last (opening credit names) events))).entries → IsAtRest (last (opening credit names) events)
+pub run_idle_rests : (credit : CreditSpec) (names : List (List ℕ)) (events : List Event) → AreOpeningNames names → IsRun (opening credit names) events → IsIdle (last (opening credit names) events) → All (IsSettled (last (opening credit names) events)) (view_in (last (opening credit names) events) (newest (last (opening credit names) events))).entries → IsAtRest (last (opening credit names) events)
 run_idle_rests credit names events are r idle settled = idle_rests (last (opening credit names) events) (reached credit names events are r) idle settled
 
 -- an idle ring in which nobody has stopped is quiet

@@ -12,7 +12,7 @@ use Rattle.ring_world.specs.declared.phase.Ending.TheVariants.{Moved, Halted}
 use Rattle.ring_world.specs.Rows.{Row, no_row, published_row, taken_row}
 use Rattle.ring_world.specs.Refusal.{is_empty}
 use Rattle.ring_world.specs.View.{ids, right_of}
-use Rattle.ring_world.specs.Machine.{Packet, Member, Link, World, no_packet, no_link, no_member, row_at, numbers_at, member_at, link_at, view_at, newest, runs, runs_phase, oldest}
+use Rattle.ring_world.specs.Machine.{Packet, Member, Link, World, no_packet, no_link, no_member, row_at, numbers_at, member_at, link_at, view_in, newest, runs, runs_phase, oldest}
 use Rattle.ring_world.specs.Step.{size, log_of, put_on, pushed, popped, next_packet, gain_on, publish_at, published, take_from, taker, is_owned, current_is, with_current, leave_link, stop_at, stopped, end_out, ended, with_member, with_link, with_view, look_at, moved_to, open_to, opened_link, opening}
 use Rattle.ring_world.specs.Event.{at_door, refreshed, refusal, effect, IsRun, last}
 use Rattle.ring_world.proofs.invariants.Good.{low, low_forgot}
@@ -41,7 +41,7 @@ pub record Has (own : Bool) (r : Row) (k : Numbers) : Type 0 where
 
 -- what was last sent on a link of an origin, its receiver y has
 abbrev pub HasAt : World → ℕ → Member → Link → ℕ → Type 0
-HasAt w y m l p = Has (is_owned (view_at w m.version) y l.sender p) (row_at m p) (numbers_at l.sending.sent p)
+HasAt w y m l p = Has (is_owned (view_in w m.version) y l.sender p) (row_at m p) (numbers_at l.sending.sent p)
 
 -- in a state: of each current link without packets, and each origin
 abbrev pub HasSent : World → Type 0
@@ -64,7 +64,7 @@ sends w inv h = record { has = h; there = inv.current.lt }
 
 -- what a row had it has still
 abbrev pub StillHas : World → World → Type 0
-StillHas w w' = (y z p : ℕ) (k : Numbers) → Has (is_owned (view_at w (member_at w y).version) y z p) (row_at (member_at w y) p) k → Has (is_owned (view_at w (member_at w y).version) y z p) (row_at (member_at w' y) p) k
+StillHas w w' = (y z p : ℕ) (k : Numbers) → Has (is_owned (view_in w (member_at w y).version) y z p) (row_at (member_at w y) p) k → Has (is_owned (view_in w (member_at w y).version) y z p) (row_at (member_at w' y) p) k
 
 -- such a step keeps it
 still_sends : (w w' : World) → Still w w' → StillHas w w' → Sends w → Sends w'
@@ -72,9 +72,9 @@ still_sends w w' k rows h = record {
   has = λ y s p r e l empty.
       let z : ℕ = (link_at w s).sender in
       let last : Numbers = numbers_at (link_at w s).sending.sent p in
-      let now : Has (is_owned (view_at w (member_at w y).version) y z p) (row_at (member_at w' y) p) last = rows y z p last (h.has y s p (k.runs_less y r) (k.current y s e) (omega (arith, k.same_size)) (sym (k.lines s).packets ∙ empty)) in
-      subst (λ q. Has (is_owned (view_at w' (member_at w' y).version) y q p) (row_at (member_at w' y) p) (numbers_at (link_at w' s).sending.sent p)) (sym (k.lines s).sender)
-      (subst (λ a. Has (is_owned (view_at w' (member_at w' y).version) y z p) (row_at (member_at w' y) p) (numbers_at a.sent p)) (sym (k.lines s).sending)
+      let now : Has (is_owned (view_in w (member_at w y).version) y z p) (row_at (member_at w' y) p) last = rows y z p last (h.has y s p (k.runs_less y r) (k.current y s e) (omega (arith, k.same_size)) (sym (k.lines s).packets ∙ empty)) in
+      subst (λ q. Has (is_owned (view_in w' (member_at w' y).version) y q p) (row_at (member_at w' y) p) (numbers_at (link_at w' s).sending.sent p)) (sym (k.lines s).sender)
+      (subst (λ a. Has (is_owned (view_in w' (member_at w' y).version) y z p) (row_at (member_at w' y) p) (numbers_at a.sent p)) (sym (k.lines s).sending)
       (subst (λ b. Has b (row_at (member_at w' y) p) last) (sym (k.owned y z p r)) now));
   there = λ y s r e. omega (arith, k.many, h.there y s (k.runs_less y r) (k.current y s e));
 }
@@ -83,22 +83,22 @@ still_sends w w' k rows h = record {
 same_rows : (w : World) (x : ℕ) (m : Member) (ls : List Link) → x < size w → m.rows ≡ (member_at w x).rows → StillHas w (record w { members = set w.members x m; links = ls })
 same_rows w x m ls lt same y z p k h =
     let rows : (member_at (with_member w x m) y).rows ≡ (member_at w y).rows = at_set (λ i a. a.rows ≡ (member_at w i).rows) w.members x y m no_member lt same (λ _. refl) in
-    subst (λ rs. Has (is_owned (view_at w (member_at w y).version) y z p) (get_or rs p no_row) k) (sym rows) h
+    subst (λ rs. Has (is_owned (view_in w (member_at w y).version) y z p) (get_or rs p no_row) k) (sym rows) h
 
 -- nobody is written
 no_rows : (w w' : World) → w'.members ≡ w.members → StillHas w w'
-no_rows w w' e y z p k h = subst (λ ms. Has (is_owned (view_at w (member_at w y).version) y z p) (row_at (get_or ms y no_member) p) k) (sym e) h
+no_rows w w' e y z p k h = subst (λ ms. Has (is_owned (view_in w (member_at w y).version) y z p) (row_at (get_or ms y no_member) p) k) (sym e) h
 
 -- ---- single events
 
 -- a publish writes what its publisher got of itself alone
 cast_rows : (w : World) (x : ℕ) (m : Message) → x < size w → StillHas w (publish_at w x m)
 cast_rows w x m lt y z p k =
-    at_set (λ i a. Has (is_owned (view_at w (member_at w i).version) i z p) (row_at (member_at w i) p) k → Has (is_owned (view_at w (member_at w i).version) i z p) (row_at a p) k) w.members x y (published x m (member_at w x)) no_member lt
+    at_set (λ i a. Has (is_owned (view_in w (member_at w i).version) i z p) (row_at (member_at w i) p) k → Has (is_owned (view_in w (member_at w i).version) i z p) (row_at a p) k) w.members x y (published x m (member_at w x)) no_member lt
     (⊎_elim mine other (cases_eq p x)) (λ _ h. h)
   where
     own : Bool
-    own = is_owned (view_at w (member_at w x).version) x z p
+    own = is_owned (view_in w (member_at w x).version) x z p
 
     mine : p ≡ x → Has own (row_at (member_at w x) p) k → Has own (row_at (published x m (member_at w x)) p) k
     mine e =
@@ -113,7 +113,7 @@ cast_rows w x m lt y z p k =
 put_has : (w : World) (x o : ℕ) → o < length w.links → HasSent w → HasSent (put_on w x o)
 put_has w x o lt h y s p r e l empty =
     let new : Link = pushed (link_at w o) (next_packet (member_at w x) (link_at w o).sending) in
-    at_set (λ i a. (member_at w y).current ≡ Some i → a.packets ≡ [] → Has (is_owned (view_at w (member_at w y).version) y a.sender p) (row_at (member_at w y) p) (numbers_at a.sending.sent p)) w.links o s new no_link lt
+    at_set (λ i a. (member_at w y).current ≡ Some i → a.packets ≡ [] → Has (is_owned (view_in w (member_at w y).version) y a.sender p) (row_at (member_at w y) p) (numbers_at a.sending.sent p)) w.links o s new no_link lt
     (λ _ bad. absurd (false≢true (sym (not_empty_push (link_at w o).packets (next_packet (member_at w x) (link_at w o).sending)) ∙ ap is_empty bad))) (λ _ c none. h y s p r c l none) e empty
 
 -- the last packet of a link is what was last sent
@@ -143,7 +143,7 @@ take_has w y s m inv lines h z t p r e l empty = ⊎_elim mine other (cases_eq z
     -- of the taker, which has what the packet says
     mine : z ≡ y → HasAt w' z (member_at w' z) (link_at w' t) p
     mine is =
-        let own : Bool = is_owned (view_at w (member_at w y).version) y (link_at w s).sender p in
+        let own : Bool = is_owned (view_in w (member_at w y).version) y (link_at w s).sender p in
         let now : member_at w' z ≡ taker w y s = ap (member_at w') is ∙ get_or-set_same w.members y (taker w y s) no_member m.is_member in
         let same : t ≡ s = (let both : Some s ≡ Some t = sym m.current ∙ ap (λ (a : Member). a.current) (sym now) ∙ e in cc) in
         let old : link_at w' t ≡ popped (link_at w s) = ap (link_at w') same ∙ get_or-set_same w.links s (popped (link_at w s)) no_link there in
@@ -216,16 +216,16 @@ open_sends w x z lt h = still_sends w1 (open_to w x z) (out_still w x z lt) (sam
     w1 = with_opened w new
 
 -- a whole refresh
-refresh_sends : (w : World) (x v : ℕ) → x < size w → runs w x ≡ true → (member_at w x).version ≤ v → ids (view_at w v) ≡ ids (view_at w (member_at w x).version) → Inv w → Sends w → Sends (refreshed w x v)
+refresh_sends : (w : World) (x v : ℕ) → x < size w → runs w x ≡ true → (member_at w x).version ≤ v → ids (view_in w v) ≡ ids (view_in w (member_at w x).version) → Inv w → Sends w → Sends (refreshed w x v)
 refresh_sends w x v lt rx later same inv h =
     refresh_composed Sends w x v (λ o e. end_sends Moved (look_at w x v) o (inv.linked.out_lt x o rx e))
-    (λ u members. open_sends u x (right_of (view_at w v) x) (omega (arith, ap length members, length-set w.members x (moved_to w x v))))
+    (λ u members. open_sends u x (right_of (view_in w v) x) (omega (arith, ap length members, length-set w.members x (moved_to w x v))))
     (still_sends w (look_at w x v) (look_still w x v lt later same) (same_rows w x (moved_to w x v) w.links lt refl) h)
 
 -- a mark
-mark_sends : (w : World) (x d : ℕ) → IsUp w x → runs w d ≡ false → IsGood w → Sends w → Sends (refreshed (with_view w (marked (view_at w (newest w)) d)) x (newest w + 1))
+mark_sends : (w : World) (x d : ℕ) → IsUp w x → runs w d ≡ false → IsGood w → Sends w → Sends (refreshed (with_view w (marked (view_in w (newest w)) d)) x (newest w + 1))
 mark_sends w x d u rests g h =
-    let v : Group = marked (view_at w (newest w)) d in
+    let v : Group = marked (view_in w (newest w)) d in
     refresh_sends (with_view w v) x (newest w + 1) u.lt (ap runs_phase u.up) (omega (arith, g.inv.is_ring.held x)) (mark_ids w x d u.up g) (mark_keeps w d rests g.inv)
     (still_sends w (with_view w v) (mark_still w v g.inv.is_ring) (no_rows w (with_view w v) refl) h)
 
@@ -255,7 +255,7 @@ event_has w e g r lines h = each_event HasSent w e g.none_waits (record {
 opening_has : (credit : CreditSpec) (names : List (List ℕ)) → HasSent (opening credit names)
 opening_has credit names y s p r e l empty =
     let w : World = opening credit names in
-    let own : Bool = is_owned (view_at w (member_at w y).version) y (link_at w s).sender p in
+    let own : Bool = is_owned (view_in w (member_at w y).version) y (link_at w s).sender p in
     let nothing : numbers_at (link_at w s).sending.sent p ≡ numbers_at no_packet p = first_link credit names s (λ a. numbers_at a.sending.sent p ≡ numbers_at no_packet p) (λ i. refl) refl in
     subst (λ k. Has own (row_at (member_at w y) p) k) (sym nothing) (subst (λ a. Has own a (numbers_at no_packet p)) (sym (first_row credit names y p)) (zeros own))
   where

@@ -6,7 +6,7 @@ use Rattle.credit_flow.specs.Credit.{grant_due}
 use Rattle.ring_world.specs.declared.numbers.Numbers.{Numbers}
 use Rattle.ring_world.specs.declared.event.Event.TheVariants as event
 use Rattle.ring_world.specs.Rows.{Row, is_sent}
-use Rattle.ring_world.specs.Machine.{Member, Sending, Link, World, no_link, row_at, numbers_at, member_at, link_at, view_at, oldest}
+use Rattle.ring_world.specs.Machine.{Member, Sending, Link, World, no_link, row_at, numbers_at, member_at, link_at, view_in, oldest}
 use Rattle.ring_world.specs.Step.{size, log_of, is_owned, taker, take_from, popped}
 use Rattle.ring_world.specs.Lawful.{RowIsWithin}
 use Rattle.ring_world.specs.Event.{take_refusal, has_nothing_new, taken_by}
@@ -98,7 +98,7 @@ module _ (w : World) (y s : ℕ) (f : IsFit w) (u : IsUp w y) (may : MayTake w y
   within : (p : ℕ) → p < size w → RowIsWithin (length (log_of w p)) (row' p)
   within p pl =
       subst (RowIsWithin (length (log_of w p))) (sym (row_at-taker w y s p pl))
-      (taken_within (length (log_of w p)) (is_owned (view_at w (member_at w y).version) y (link_at w s).sender p) (log_of w p) (row p) (numbers_at (oldest (link_at w s)) p)
+      (taken_within (length (log_of w p)) (is_owned (view_in w (member_at w y).version) y (link_at w s).sender p) (log_of w p) (row p) (numbers_at (oldest (link_at w s)) p)
       (f.lawful.within.rows y p) (oldest_within w s p f may.has))
 
   -- so where the taker has numbers to send that had been sent before, it came less behind

@@ -6,8 +6,8 @@ use Rattle.group_view.specs.View.{Group}
 use Rattle.group_view.specs.Since.{no_group}
 use Rattle.group_view.specs.Change.{mark_refusal}
 use Rattle.group_view.proofs.Passing.{live_in}
-use Rattle.ring_world.specs.View.{left_at, left_of, right_of, is_live}
-use Rattle.ring_world.specs.Machine.{is_kept_of, World, Moved, member_at, view_at}
+use Rattle.ring_world.specs.View.{left_by, left_of, right_of, is_live}
+use Rattle.ring_world.specs.Machine.{is_kept_of, World, Moved, member_at, view_in}
 use Rattle.ring_world.specs.Step.{look_at, open_to, end_out}
 use Rattle.ring_world.specs.Event.{send_to, refreshed}
 use Rattle.ring_world.specs.Shows.{sends_to}
@@ -15,40 +15,40 @@ use Rattle.group_view.proofs.Lists.{all_range, at_range}
 use Rattle.group_view.proofs.Rings.{nat_eq-is, nat_eq-same}
 
 -- each view says so
-pub kept_yes : (vs : List Group) (to sender opened v : ℕ) → ((u : ℕ) → opened ≤ u → u < v + 1 → left_at vs u to ≡ sender) → is_kept_of vs to sender opened v ≡ true
+pub kept_yes : (vs : List Group) (to sender opened v : ℕ) → ((u : ℕ) → opened ≤ u → u < v + 1 → left_by vs u to ≡ sender) → is_kept_of vs to sender opened v ≡ true
 unfolding is_kept_of
 kept_yes vs to sender opened v h = all_range _ opened (v + 1 - opened) (λ u a b. ap (λ q. nat_eq q sender) (h u a (omega arith)) ∙ nat_eq-same sender)
 
 -- one doesn't
-pub kept_no : (vs : List Group) (to sender opened v u : ℕ) → opened ≤ u → u ≤ v → left_at vs u to ≢ sender → is_kept_of vs to sender opened v ≡ false
+pub kept_no : (vs : List Group) (to sender opened v u : ℕ) → opened ≤ u → u ≤ v → left_by vs u to ≢ sender → is_kept_of vs to sender opened v ≡ false
 unfolding is_kept_of
 kept_no vs to sender opened v u a b other = by_case (is_kept_of vs to sender opened v) refl
   where
     by_case : (k : Bool) → is_kept_of vs to sender opened v ≡ k → is_kept_of vs to sender opened v ≡ false
     by_case false e = e
-    by_case true e = absurd (other (nat_eq-is (left_at vs u to) sender (at_range (λ u. nat_eq (left_at vs u to) sender) opened (v + 1 - opened) u e a (omega arith))))
+    by_case true e = absurd (other (nat_eq-is (left_by vs u to) sender (at_range (λ u. nat_eq (left_by vs u to) sender) opened (v + 1 - opened) u e a (omega arith))))
 
-pub left_at_is : (vs : List Group) (u y : ℕ) → left_at vs u y ≡ left_of (get_or vs u no_group) y
-unfolding left_at
+pub left_at_is : (vs : List Group) (u y : ℕ) → left_by vs u y ≡ left_of (get_or vs u no_group) y
+unfolding left_by
 left_at_is vs u y = refl
 
 -- ---- a refresh
 
-pub refreshed_stays : (w : World) (x v z : ℕ) → z ≡ right_of (view_at w v) x → sends_to w z (member_at w x).out ≡ true → refreshed w x v ≡ look_at w x v
+pub refreshed_stays : (w : World) (x v z : ℕ) → z ≡ right_of (view_in w v) x → sends_to w z (member_at w x).out ≡ true → refreshed w x v ≡ look_at w x v
 refreshed_stays w x v z e h = by_out (member_at w x).out (subst (λ k. sends_to w k (member_at w x).out ≡ true) e h)
   where
     r : ℕ
-    r = right_of (view_at w v) x
+    r = right_of (view_in w v) x
 
     by_out : (o : Option ℕ) → sends_to w r o ≡ true → send_to (look_at w x v) x r o ≡ look_at w x v
     by_out None k = absurd (false≢true k)
     by_out (Some o) k = rw k refl
 
-pub refreshed_moves : (w : World) (x v z : ℕ) → z ≡ right_of (view_at w v) x → sends_to w z (member_at w x).out ≡ false → refreshed w x v ≡ open_to (end_out Moved (look_at w x v) (member_at w x).out) x z
+pub refreshed_moves : (w : World) (x v z : ℕ) → z ≡ right_of (view_in w v) x → sends_to w z (member_at w x).out ≡ false → refreshed w x v ≡ open_to (end_out Moved (look_at w x v) (member_at w x).out) x z
 refreshed_moves w x v z e h = by_out (member_at w x).out (subst (λ k. sends_to w k (member_at w x).out ≡ false) e h) ∙ ap (open_to (end_out Moved (look_at w x v) (member_at w x).out) x) (sym e)
   where
     r : ℕ
-    r = right_of (view_at w v) x
+    r = right_of (view_in w v) x
 
     by_out : (o : Option ℕ) → sends_to w r o ≡ false → send_to (look_at w x v) x r o ≡ open_to (end_out Moved (look_at w x v) o) x r
     by_out None k = refl

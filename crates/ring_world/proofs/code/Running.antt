@@ -11,7 +11,7 @@ use Rattle.group_view.specs.Since as group
 use Rattle.group_view.specs.Change.{AreOpeningNames, marked}
 use Rattle.group_view.proofs.Groups.{small_version}
 use Rattle.ring_world.specs.View.{is_live}
-use Rattle.ring_world.specs.Machine.{World, Stopped, member_at, link_at, view_at, newest}
+use Rattle.ring_world.specs.Machine.{World, Stopped, member_at, link_at, view_in, newest}
 use Rattle.ring_world.specs.Step.{with_view, opening}
 use Rattle.ring_world.specs.Event.{Event, IsRun, last, refusal, effect}
 use Rattle.ring_world.specs.Placed.{IsPlaced}
@@ -50,9 +50,9 @@ good_placed w h s = record {
 }
 
 -- a view in which one who has stopped is dead
-pub marked_placed : (w : World) (d : ℕ) → (member_at w d).phase ≡ Stopped → is_live (view_at w (newest w)) d ≡ true → IsGood w → IsSized w → IsPlaced (with_view w (marked (view_at w (newest w)) d))
+pub marked_placed : (w : World) (d : ℕ) → (member_at w d).phase ≡ Stopped → is_live (view_in w (newest w)) d ≡ true → IsGood w → IsSized w → IsPlaced (with_view w (marked (view_in w (newest w)) d))
 marked_placed w d rests lives h s =
-    let next = with_view w (marked (view_at w (newest w)) d) in
+    let next = with_view w (marked (view_in w (newest w)) d) in
     good_placed next (mark_view_good w d rests lives h) (other_sized w w.links next.views s)
 
 -- ---- runs
@@ -108,8 +108,8 @@ placed_from w n v r f = record {
 pub running_placed : (a : Inside) → IsRunning a → IsPlaced (world_of a.ring)
 running_placed a r = placed_from (state_of a) a.applied (state_of a) r.reached (λ h. let s = reached_sound (state_of a) a.applied h in good_placed (state_of a) s.0 s.1)
 
-pub running_marked : (a : Inside) → IsRunning a → (d : ℕ) → (member_at (state_of a) d).phase ≡ Stopped → is_live (view_at (state_of a) (newest (state_of a))) d ≡ true → IsPlaced (with_view (state_of a) (marked (view_at (state_of a) (newest (state_of a))) d))
-running_marked a r d rests lives = placed_from (state_of a) a.applied (with_view (state_of a) (marked (view_at (state_of a) (newest (state_of a))) d)) r.reached (λ h. let s = reached_sound (state_of a) a.applied h in marked_placed (state_of a) d rests lives s.0 s.1)
+pub running_marked : (a : Inside) → IsRunning a → (d : ℕ) → (member_at (state_of a) d).phase ≡ Stopped → is_live (view_in (state_of a) (newest (state_of a))) d ≡ true → IsPlaced (with_view (state_of a) (marked (view_in (state_of a) (newest (state_of a))) d))
+running_marked a r d rests lives = placed_from (state_of a) a.applied (with_view (state_of a) (marked (view_in (state_of a) (newest (state_of a))) d)) r.reached (λ h. let s = reached_sound (state_of a) a.applied h in marked_placed (state_of a) d rests lives s.0 s.1)
 
 pub running_opening : (a : Inside) (credit : CreditSpec) (names : List (List ℕ)) → AreOpeningNames names → state_of a ≡ opening credit names → a.applied ≡ 0 → IsRunning a
 running_opening a credit names are e z = record { reached = ∣ record { credit = credit; names = names; are = are; events = []; run = tt; is = e; count = sym z } ∣₁; few = rw z (lit< tt) }

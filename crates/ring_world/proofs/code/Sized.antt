@@ -9,7 +9,7 @@ use Rattle.ring_world.specs.Rows.{no_row, Row, taken_row}
 use Rattle.group_view.specs.View.{Group}
 use Rattle.group_view.specs.Change.{AreOpeningNames, marked}
 use Rattle.ring_world.specs.View.{right_of}
-use Rattle.ring_world.specs.Machine.{Member, Link, World, Moved, Halted, no_member, member_at, link_at, view_at, newest, row_at, numbers_at, oldest}
+use Rattle.ring_world.specs.Machine.{Member, Link, World, Moved, Halted, no_member, member_at, link_at, view_in, newest, row_at, numbers_at, oldest}
 use Rattle.ring_world.specs.Step.{size, publish_at, published, take_from, taker, is_owned, log_of, current_is, with_current, leave_link, stop_at, stopped, end_out, with_view, look_at, moved_to, open_to, ended, opening, opening_member}
 use Rattle.ring_world.specs.Event.{Event, refreshed, refusal, effect}
 use Rattle.ring_world.proofs.rings.Lists.{at_set}
@@ -53,7 +53,7 @@ publish_sized w x m lt h =
 
 take_sized : (w : World) (y s : ℕ) → y < size w → IsSized w → IsSized (take_from w y s)
 take_sized w y s lt h =
-    let v = view_at w (member_at w y).version in
+    let v = view_in w (member_at w y).version in
     let l = link_at w s in
     let f : ℕ → Row = λ p. taken_row (is_owned v y l.sender p) (log_of w p) (row_at (member_at w y) p) (numbers_at (oldest l) p) in
     let own : is_owned v y l.sender y ≡ true = rw (nat_eq-same y) refl in
@@ -78,7 +78,7 @@ refresh_sized w x v lt h =
     let many : length (set w.members x (moved_to w x v)) ≡ size w = length-set w.members x (moved_to w x v) in
     refresh_composed IsSized w x v
     (λ k _ g. other_sized (look_at w x v) (set w.links k (ended Moved (link_at w k))) w.views g)
-    (λ u same g. open_sized u x (right_of (view_at w v) x) (omega (arith, lt, many, ap length same)) g)
+    (λ u same g. open_sized u x (right_of (view_in w v) x) (omega (arith, lt, many, ap length same)) g)
     (same_sized w x (moved_to w x v) w.links w.views lt refl refl h)
 
 -- one event more
@@ -90,7 +90,7 @@ event_sized w e g r h = each_event IsSized w e g.none_waits (record {
   leaves = λ y s u current k. current_sized w y None (leave_link w y s).links u.lt h;
   gains = λ x o u out k. other_sized w _ w.views h;
   stops = λ x u. stop_sized w x (member_at w x).out u.lt h;
-  marks = λ x d u m. let v : Group = marked (view_at w (newest w)) d in refresh_sized (with_view w v) x (newest w + 1) u.lt (other_sized w w.links (with_view w v).views h);
+  marks = λ x d u m. let v : Group = marked (view_in w (newest w)) d in refresh_sized (with_view w v) x (newest w + 1) u.lt (other_sized w w.links (with_view w v).views h);
   refreshes = λ x v u m. refresh_sized w x v u.lt h;
   picks = λ y s u none e upto. current_sized w y (Some s) w.links u.lt h;
 }) r

@@ -7,7 +7,7 @@ use Rattle.ring_names.specs.declared.reason.Reason.{Reason}
 use Rattle.ring_names.specs.declared.reason.Reason.TheVariants as reason
 use Rattle.ring_world.specs.Refusal.{is_empty}
 use Rattle.group_view.specs.Change.{marked}
-use Rattle.ring_world.specs.Machine.{Phase, Waiting, Up, Stopped, Halted, World, member_at, link_at, view_at, newest, runs, runs_phase, is_waiting, oldest}
+use Rattle.ring_world.specs.Machine.{Phase, Waiting, Up, Stopped, Halted, World, member_at, link_at, view_in, newest, runs, runs_phase, is_waiting, oldest}
 use Rattle.ring_world.specs.Step.{size, put_on, gain_on, publish_at, take_from, current_is, leave_link, stop_at, end_out, with_view}
 use Rattle.ring_world.specs.Event.{Event, Cast, Put, Take, TakeEnd, Gain, Stop, Mark, Refresh, Pick, id_of, of_member, on_link, put_refusal, take_refusal, end_refusal, gain_refusal, version_refusal, refresh_refusal, holds_nothing, at_door, mark_refusal, refreshed, by_of, is_for_up, phase_refusal, further_refusal, refused_at, refusal, at_found, taken_by, done_at, effect}
 use Rattle.ring_world.proofs.events.WhatRefuses.{MayTake, MayLook, MayMark}
@@ -29,7 +29,7 @@ pub record Cases (P : World → Type 0) (w : World) : Type 0 where
   pub leaves : (y s : ℕ) → IsUp w y → (member_at w y).current ≡ Some s → end_refusal w s ≡ None → P (leave_link w y s)
   pub gains : (x o : ℕ) → IsUp w x → (member_at w x).out ≡ Some o → gain_refusal w o ≡ None → P (gain_on w o)
   pub stops : (x : ℕ) → IsUp w x → P (end_out Halted (stop_at w x) (member_at w x).out)
-  pub marks : (x d : ℕ) → IsUp w x → MayMark w x d → P (refreshed (with_view w (marked (view_at w (newest w)) d)) x (newest w + 1))
+  pub marks : (x d : ℕ) → IsUp w x → MayMark w x d → P (refreshed (with_view w (marked (view_in w (newest w)) d)) x (newest w + 1))
   pub refreshes : (x v : ℕ) → IsUp w x → MayLook w x v → P (refreshed w x v)
   pub picks : (y s : ℕ) → IsUp w y → (member_at w y).current ≡ None → at_door w y ≡ Some s → (link_at w s).opened ≤ (member_at w y).version → P (current_is w y (Some s))
 
@@ -90,7 +90,7 @@ each_up P w (Take by) x c u h = at_link P w reason.NoCurrentLink (take_refusal w
 each_up P w (TakeEnd by) x c u h = at_link P w reason.NoCurrentLink (end_refusal w) (leave_link w x) (member_at w x).current h (λ s current k. c.leaves x s u current k)
 each_up P w (Gain by) x c u h = at_link P w reason.NoOutLink (gain_refusal w) (gain_on w) (member_at w x).out h (λ o out k. c.gains x o u out k)
 each_up P w (Stop by) x c u h = c.stops x u
-each_up P w (Mark by dead) x c u h = at_named P w dead (mark_refusal w x) (λ d. refreshed (with_view w (marked (view_at w (newest w)) d)) x (newest w + 1)) h
+each_up P w (Mark by dead) x c u h = at_named P w dead (mark_refusal w x) (λ d. refreshed (with_view w (marked (view_in w (newest w)) d)) x (newest w + 1)) h
     (λ d some lt k. c.marks x d u (may_mark w x d u.lt u.up k))
 each_up P w (Refresh by version) x c u h = c.refreshes x version u (may_look w x version u.lt u.up h)
 each_up P w (Pick by) x c u h =

@@ -1,7 +1,7 @@
 -- Steps that consist of smaller ones, for whatever holds after these.
 use Rattle.std.proofs.Common.{◌≡◌, ℕ, Bool, true, false, nat_eq, Option, Some, None, if◌then◌else◌, refl}
 use Rattle.ring_world.specs.View.{right_of}
-use Rattle.ring_world.specs.Machine.{Ending, Moved, World, member_at, link_at, view_at}
+use Rattle.ring_world.specs.Machine.{Ending, Moved, World, member_at, link_at, view_in}
 use Rattle.ring_world.specs.Step.{with_link, ended, end_out, look_at, open_to}
 use Rattle.ring_world.specs.Event.{send_to, refreshed}
 
@@ -25,6 +25,6 @@ send_composed P w x z (Some o) ends opens h = by_receiver (nat_eq (link_at w o).
 -- a refresh: x looks, and sends to its right neighbour
 pub refresh_composed : (P : World → Type 0) (w : World) (x v : ℕ)
     → ((k : ℕ) → (member_at w x).out ≡ Some k → P (look_at w x v) → P (with_link (look_at w x v) k (ended Moved (link_at w k))))
-    → ((u : World) → u.members ≡ (look_at w x v).members → P u → P (open_to u x (right_of (view_at w v) x)))
+    → ((u : World) → u.members ≡ (look_at w x v).members → P u → P (open_to u x (right_of (view_in w v) x)))
     → P (look_at w x v) → P (refreshed w x v)
-refresh_composed P w x v ends opens h = send_composed P (look_at w x v) x (right_of (view_at w v) x) (member_at w x).out ends opens h
+refresh_composed P w x v ends opens h = send_composed P (look_at w x v) x (right_of (view_in w v) x) (member_at w x).out ends opens h

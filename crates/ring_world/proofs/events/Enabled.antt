@@ -6,7 +6,7 @@ use Rattle.ring_names.specs.declared.reason.Reason.TheVariants as reason
 use Rattle.credit_flow.specs.Credit.{is_blocked}
 use Rattle.ring_world.specs.Refusal.{refuse_if, or_else, is_empty}
 use Rattle.ring_world.specs.View.{is_live}
-use Rattle.ring_world.specs.Machine.{Phase, Up, Stopped, World, member_at, link_at, view_at, newest, is_waiting}
+use Rattle.ring_world.specs.Machine.{Phase, Up, Stopped, World, member_at, link_at, view_in, newest, is_waiting}
 use Rattle.ring_world.specs.Event.{is_stopped, on_link, running_refusal, up_refusal, put_refusal, take_refusal, gain_refusal, holds_nothing, is_neighbour, mark_refusal, refresh_refusal, at_found, taken_by}
 use Rattle.ring_world.specs.Step.{take_from}
 use Rattle.ring_world.proofs.events.Refusals.{none_of, refuse_none, up_from, stopped_from, or_false, not_false}
@@ -53,15 +53,15 @@ take_some w y s h = (none_of (is_empty (link_at w s).packets) reason.EndNext _ (
 pub gain_some : (w : World) (o : ℕ) → gain_refusal w o ≡ None → is_empty (link_at w o).flow.grants ≡ false
 gain_some w o h = refuse_none (is_empty (link_at w o).flow.grants) reason.NoGrant h
 
-pub mark_lives : (w : World) (x d : ℕ) → mark_refusal w x d ≡ None → is_live (view_at w (newest w)) d ≡ true
+pub mark_lives : (w : World) (x d : ℕ) → mark_refusal w x d ≡ None → is_live (view_in w (newest w)) d ≡ true
 mark_lives w x d h =
     let a = none_of (not (is_neighbour w x d)) reason.NotNeighbour _ h in
-    not_false _ (none_of (not (is_live (view_at w (newest w)) d)) reason.AlreadyDead _ a.1).0
+    not_false _ (none_of (not (is_live (view_in w (newest w)) d)) reason.AlreadyDead _ a.1).0
 
 pub mark_stops : (w : World) (x d : ℕ) → mark_refusal w x d ≡ None → (member_at w d).phase ≡ Stopped
 mark_stops w x d h =
     let a = none_of (not (is_neighbour w x d)) reason.NotNeighbour _ h in
-    let b = none_of (not (is_live (view_at w (newest w)) d)) reason.AlreadyDead _ a.1 in
+    let b = none_of (not (is_live (view_in w (newest w)) d)) reason.AlreadyDead _ a.1 in
     stopped_from (member_at w d).phase (not_false _ (none_of (not (is_stopped (member_at w d).phase)) reason.NotStopped _ b.1).0)
 
 pub refresh_later : (w : World) (x v : ℕ) → refresh_refusal w x v ≡ None → (member_at w x).version ≤ v

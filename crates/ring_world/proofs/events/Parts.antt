@@ -7,7 +7,7 @@ use Rattle.ring_world.specs.Refusal.{is_empty}
 use Rattle.group_view.specs.Change.{marked}
 use Rattle.group_view.specs.View.{Group}
 use Rattle.ring_world.specs.View.{right_of}
-use Rattle.ring_world.specs.Machine.{Member, Ending, Moved, Halted, Link, World, member_at, link_at, view_at, newest, runs_phase}
+use Rattle.ring_world.specs.Machine.{Member, Ending, Moved, Halted, Link, World, member_at, link_at, view_in, newest, runs_phase}
 use Rattle.ring_world.specs.Step.{size, publish_at, put_on, gain_on, take_from, current_is, with_current, leave_link, finished, ended, stop_at, with_member, with_link, with_view, look_at, moved_to, open_to}
 use Rattle.ring_world.specs.Event.{Event, refreshed, refusal, effect, IsRun, last}
 use Rattle.ring_world.proofs.events.WhatRefuses.{MayTake}
@@ -112,7 +112,7 @@ module _ (G P : World → Type 0) (keeps : (w w' : World) → Part G w w' → P 
   refreshed_keeps : (w : World) (x v : ℕ) → P w → P (refreshed w x v)
   refreshed_keeps w x v h = refresh_composed P w x v
       (λ k _. ends_keeps Moved (look_at w x v) k)
-      (λ u _. keeps u (open_to u x (right_of (view_at w v) x)) (open_part x (right_of (view_at w v) x) refl))
+      (λ u _. keeps u (open_to u x (right_of (view_in w v) x)) (open_part x (right_of (view_in w v) x) refl))
       (still_keeps w (look_at w x v) (member_still w x (moved_to w x v) refl refl refl) h)
 
   -- an event of a state that is good
@@ -126,8 +126,8 @@ module _ (G P : World → Type 0) (keeps : (w w' : World) → Part G w w' → P 
         (still_keeps w (current_is w y None) (member_still w y (with_current None (member_at w y)) refl refl refl) h);
     gains = λ x o u out k. keeps w _ (gain_part o (g.inv.linked.out_lt x o (ap runs_phase u.up) out) (gain_some w o k) refl) h;
     stops = λ x u. end_composed P Halted (stop_at w x) (member_at w x).out (λ o _. ends_keeps Halted (stop_at w x) o) (keeps w _ (stop_part x u.lt refl) h);
-    marks = λ x d u m. refreshed_keeps (with_view w (marked (view_at w (newest w)) d)) x (newest w + 1)
-        (still_keeps w (with_view w (marked (view_at w (newest w)) d)) (view_still w (marked (view_at w (newest w)) d)) h);
+    marks = λ x d u m. refreshed_keeps (with_view w (marked (view_in w (newest w)) d)) x (newest w + 1)
+        (still_keeps w (with_view w (marked (view_in w (newest w)) d)) (view_still w (marked (view_in w (newest w)) d)) h);
     refreshes = λ x v u m. refreshed_keeps w x v h;
     picks = λ y s u none e upto. still_keeps w (current_is w y (Some s)) (member_still w y (with_current (Some s) (member_at w y)) refl refl refl) h;
   }) r

@@ -1,7 +1,7 @@
 -- When a step of a member may happen.
 use Rattle.std.specs.Prelude.{◌≡◌, ℕ, ◌<◌, ◌≤◌, true, false, length, Option, Some}
 use Rattle.ring_world.specs.View.{is_live}
-use Rattle.ring_world.specs.Machine.{Up, Stopped, Link, World, member_at, link_at, view_at, newest, is_kept, oldest}
+use Rattle.ring_world.specs.Machine.{Up, Stopped, Link, World, member_at, link_at, view_in, newest, is_kept, oldest}
 use Rattle.ring_world.specs.Step.{size}
 use Rattle.ring_world.specs.Refusal.{is_empty}
 
@@ -32,7 +32,7 @@ pub record MayMark (w : World) (x d : ℕ) : Type 0 where
   pub is_member : x < size w
   pub up : (member_at w x).phase ≡ Up
   pub rests : (member_at w d).phase ≡ Stopped
-  pub lives : is_live (view_at w (newest w)) d ≡ true
+  pub lives : is_live (view_in w (newest w)) d ≡ true
 
 -- a link goes the same way with the same packets, whatever its credit and its end are
 pub record IsSameWay (l l' : Link) : Type 0 where

@@ -11,8 +11,8 @@ use Rattle.group_view.proofs.History.{Ends}
 use Rattle.group_view.proofs.KeptLeft.{keeps_since, since_keeps}
 use Rattle.group_view.proofs.Passing.{left_inside}
 use Rattle.group_view.proofs.Rings.{nat_eq-is, nat_eq-same}
-use Rattle.ring_world.specs.View.{ids, is_live, left_of, left_at}
-use Rattle.ring_world.specs.Machine.{Link, World, no_link, member_at, link_at, view_at, newest, left, is_kept}
+use Rattle.ring_world.specs.View.{ids, is_live, left_of, left_by}
+use Rattle.ring_world.specs.Machine.{Link, World, no_link, member_at, link_at, view_in, newest, left, is_kept}
 use Rattle.ring_world.specs.Event.{is_at_door, at_door}
 use Rattle.ring_world.specs.OpenLinks.{since_in, comes_from_left}
 use Rattle.ring_world.proofs.invariants.Good.{Kept, kept_true, true_kept}
@@ -26,7 +26,7 @@ use Rattle.ring_world.proofs.events.NoneWaits.{NoneWaits}
 pub record HasViews (w : World) : Type 0 where
   pub groups : List Group
   pub is : w.views ≡ no_group ∷ groups
-  pub ends : Ends groups (view_at w (newest w))
+  pub ends : Ends groups (view_in w (newest w))
 
 -- the invariant of the walk; nobody waits; and the views
 pub record IsGood (w : World) : Type 0 where
@@ -38,11 +38,11 @@ pub record IsGood (w : World) : Type 0 where
 
 -- the left neighbour as the group's history has it
 left_of_group : (w : World) (h : HasViews w) (u y : ℕ) → left w u y ≡ group.left_at h.groups u y
-unfolding left_at group.left_at
+unfolding left_by group.left_at
 left_of_group w h u y = ap (λ vs. left_of (get_or vs u no_group) y) h.is
 
 -- in version 0 is nobody
-pub nobody_first : (w : World) (h : HasViews w) (u y : ℕ) → is_in y (ids (view_at w u)) ≡ true → 1 ≤ u
+pub nobody_first : (w : World) (h : HasViews w) (u y : ℕ) → is_in y (ids (view_in w u)) ≡ true → 1 ≤ u
 nobody_first w h zero y i = absurd (false≢true (sym (ap (λ vs. is_in y (ids (get_or vs 0 no_group))) h.is) ∙ i))
 nobody_first w h (suc u) y i = omega arith
 
@@ -60,16 +60,16 @@ came w y u l h =
 pub record OpenedRight (w : World) (l : Link) : Type 0 where
   pub upto : l.opened ≤ newest w
   pub from_left : left w l.opened l.receiver ≡ l.sender
-  pub known : is_in l.receiver (ids (view_at w l.opened)) ≡ true
+  pub known : is_in l.receiver (ids (view_in w l.opened)) ≡ true
 
 pub opened_right : (w : World) (s : ℕ) → IsGood w → s < length w.links → OpenedRight w (link_at w s)
 opened_right w s h l = record { upto = h.inv.linked.opened s l; from_left = h.inv.linked.from_left s l; known = h.inv.history.known s l }
 
 -- its sender stands in the view in which it opened
-pub sender_known : (w : World) (s : ℕ) → IsGood w → s < length w.links → is_in (link_at w s).sender (ids (view_at w (link_at w s).opened)) ≡ true
+pub sender_known : (w : World) (s : ℕ) → IsGood w → s < length w.links → is_in (link_at w s).sender (ids (view_in w (link_at w s).opened)) ≡ true
 sender_known w s h there =
     let l = link_at w s in
-    let v = view_at w l.opened in
+    let v = view_in w l.opened in
     let known : is_in l.receiver (ids v) ≡ true = h.inv.history.known s there in
     subst (λ q. is_in q (ids v) ≡ true) (sym (left_in_view w l.opened l.receiver known) ∙ h.inv.linked.from_left s there)
     (left_inside (is_live v) l.receiver (ids v) (h.inv.is_ring.distinct l.opened (h.inv.linked.opened s there)) known)
@@ -92,13 +92,13 @@ comes_is w l v h o upto =
     groups : List Group
     groups = h.views.groups
 
-    present : (u : ℕ) → l.opened ≤ u → u ≤ newest w → is_in y (ids (view_at w u)) ≡ true
+    present : (u : ℕ) → l.opened ≤ u → u ≤ newest w → is_in y (ids (view_in w u)) ≡ true
     present u a b = h.inv.history.grows y l.opened u o.known a b
 
     some : 1 ≤ l.opened
     some = nobody_first w h.views l.opened y o.known
 
-    same_view : (u : ℕ) → view_at w u ≡ group.view_at groups u
+    same_view : (u : ℕ) → view_in w u ≡ group.view_at groups u
     same_view u = ap (λ vs. get_or vs u no_group) h.views.is
 
     since_is : (u : ℕ) → since_at groups u y ≡ since_in w u y
@@ -133,7 +133,7 @@ pub record StandsAtDoor (w : World) (y s : ℕ) : Type 0 where
 
 -- of any link by the test
 pub at_door_stands : (w : World) (y s : ℕ) → s < length w.links → is_at_door w y (link_at w s) ≡ true → StandsAtDoor w y s
-unfolding left_at
+unfolding left_by
 at_door_stands w y s lt e =
     let l = link_at w s in
     let a = and_parts (nat_eq l.receiver y) _ e in

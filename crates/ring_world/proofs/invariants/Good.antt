@@ -7,7 +7,7 @@ use Rattle.group_view.proofs.Lists.{all_range, at_range}
 use Rattle.group_view.proofs.Rings.{nat_eq-is, nat_eq-same}
 use Rattle.ring_world.specs.View.{ids, is_live}
 use Rattle.group_view.specs.Ring.{first_or, is_in, AreDistinct}
-use Rattle.ring_world.specs.Machine.{is_kept_of, Waiting, Link, World, member_at, link_at, view_at, newest, left, right, runs, is_kept}
+use Rattle.ring_world.specs.Machine.{is_kept_of, Waiting, Link, World, member_at, link_at, view_in, newest, left, right, runs, is_kept}
 use Rattle.ring_world.specs.OpenLinks.{FallsFrom, NeverRises}
 use Rattle.ring_world.specs.Step.{size}
 use Rattle.ring_world.proofs.rings.Weakens.{FallsTo, Weakens, FallsFrom-FallsTo, FallsTo-FallsFrom}
@@ -31,11 +31,11 @@ Kept w l v = (u : ℕ) → l.opened ≤ u → u ≤ v → left w u l.receiver �
 
 pub record IsRing (w : World) : Type 0 where
   pub some : 0 < length w.views
-  pub distinct : (v : ℕ) → v ≤ newest w → AreDistinct (ids (view_at w v))
+  pub distinct : (v : ℕ) → v ≤ newest w → AreDistinct (ids (view_in w v))
   pub held : (x : ℕ) → (member_at w x).version ≤ newest w
   -- a running member stands live in each view from its own on
-  pub stands : (x v : ℕ) → runs w x ≡ true → (member_at w x).version ≤ v → v ≤ newest w → is_in x (ids (view_at w v)) ≡ true
-  pub lives : (x v : ℕ) → runs w x ≡ true → (member_at w x).version ≤ v → v ≤ newest w → is_live (view_at w v) x ≡ true
+  pub stands : (x v : ℕ) → runs w x ≡ true → (member_at w x).version ≤ v → v ≤ newest w → is_in x (ids (view_in w v)) ≡ true
+  pub lives : (x v : ℕ) → runs w x ≡ true → (member_at w x).version ≤ v → v ≤ newest w → is_live (view_in w v) x ≡ true
   -- nobody comes between a running member and its right neighbour unless by itself
   pub front : (x v u : ℕ) → runs w x ≡ true → (member_at w x).version ≤ v → v ≤ u → u ≤ newest w → left w u (right w v x) ≡ x
 
@@ -52,7 +52,7 @@ pub record IsLinked (w : World) : Type 0 where
   pub out_to : (x o : ℕ) → runs w x ≡ true → (member_at w x).out ≡ Some o → (link_at w o).receiver ≡ right w (member_at w x).version x
   pub out_kept : (x o : ℕ) → runs w x ≡ true → (member_at w x).out ≡ Some o → Kept w (link_at w o) (member_at w x).version
   -- a link that its running sender has as kept is its out link
-  pub is_out : (s : ℕ) → s < length w.links → runs w (link_at w s).sender ≡ true → Kept w (link_at w s) (member_at w (link_at w s).sender).version → is_live (view_at w (member_at w (link_at w s).sender).version) (link_at w s).receiver ≡ true → (member_at w (link_at w s).sender).out ≡ Some s
+  pub is_out : (s : ℕ) → s < length w.links → runs w (link_at w s).sender ≡ true → Kept w (link_at w s) (member_at w (link_at w s).sender).version → is_live (view_in w (member_at w (link_at w s).sender).version) (link_at w s).receiver ≡ true → (member_at w (link_at w s).sender).out ≡ Some s
 
 pub record IsWaitingRight (w : World) : Type 0 where
   -- a waiting member's current link has its first packet

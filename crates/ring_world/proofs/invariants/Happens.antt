@@ -8,8 +8,8 @@ use Rattle.ring_names.specs.declared.numbers.CreditSpec.{CreditSpec}
 use Rattle.group_view.specs.Change.{AreOpeningNames, marked, opening as opening_group}
 use Rattle.group_view.proofs.History.{Ends, mark_goes_on, opening_begins}
 use Rattle.group_view.proofs.Passing.{live_in}
-use Rattle.ring_world.specs.View.{is_live, right_of, right_at}
-use Rattle.ring_world.specs.Machine.{Waiting, Up, Stopped, Member, Moved, Halted, Link, World, no_link, no_member, member_at, link_at, view_at, newest, left, right, runs, runs_phase, is_kept}
+use Rattle.ring_world.specs.View.{is_live, right_of, right_by}
+use Rattle.ring_world.specs.Machine.{Waiting, Up, Stopped, Member, Moved, Halted, Link, World, no_link, no_member, member_at, link_at, view_in, newest, left, right, runs, runs_phase, is_kept}
 use Rattle.ring_world.specs.Step.{size, publish_at, put_on, take_from, current_is, with_current, finished, ended, stop_at, stopped, end_out, with_link, with_view, look_at, moved_to, open_to, opened_link, taker, published, opening}
 use Rattle.ring_world.proofs.events.WhatRefuses.{IsSameWay, MayTake, IsPickable, MayLook}
 use Rattle.ring_world.specs.Event.{Event, at_door, send_to, refreshed, refusal, effect, IsRun, last}
@@ -98,14 +98,14 @@ stop_good w x lt up h = by_out (member_at w x).out refl
 -- ---- a refresh
 
 refresh_good : (w : World) (x v : ℕ) → x < size w → (member_at w x).phase ≡ Up → (member_at w x).version ≤ v → v ≤ newest w → IsGood w → IsGood (refreshed w x v)
-unfolding right_at
+unfolding right_by
 refresh_good w x v lt up later upto h = by_out (member_at w x).out refl
   where
     m : MayLook w x v
     m = record { is_member = lt; up = up; later = later; upto = upto }
 
     z : ℕ
-    z = right_of (view_at w v) x
+    z = right_of (view_in w v) x
 
     w1 : World
     w1 = look_at w x v
@@ -151,9 +151,9 @@ refresh_good w x v lt up later upto h = by_out (member_at w x).out refl
 
 -- ---- a mark
 
-pub mark_view_good : (w : World) (d : ℕ) → (member_at w d).phase ≡ Stopped → is_live (view_at w (newest w)) d ≡ true → IsGood w → IsGood (with_view w (marked (view_at w (newest w)) d))
+pub mark_view_good : (w : World) (d : ℕ) → (member_at w d).phase ≡ Stopped → is_live (view_in w (newest w)) d ≡ true → IsGood w → IsGood (with_view w (marked (view_in w (newest w)) d))
 mark_view_good w d rests lives h =
-    let g = view_at w (newest w) in
+    let g = view_in w (newest w) in
     let v' = marked g d in
     let more : length (w.views ++ v' ∷ []) ≡ length w.views + 1 = length_push w.views v' in
     let some : 0 < length w.views = h.inv.is_ring.some in
@@ -199,8 +199,8 @@ event_good w e h = each_event IsGood w e h.none_waits (record {
   gains = λ x o u out k. way_good w o _ (h.inv.linked.out_lt x o (ap runs_phase u.up) out) (record { sender = refl; receiver = refl; opened = refl; packets = refl }) h;
   stops = λ x u. stop_good w x u.lt u.up h;
   marks = λ x d u m.
-      let w' = with_view w (marked (view_at w (newest w)) d) in
-      let more : length w'.views ≡ length w.views + 1 = length_push w.views (marked (view_at w (newest w)) d) in
+      let w' = with_view w (marked (view_in w (newest w)) d) in
+      let more : length w'.views ≡ length w.views + 1 = length_push w.views (marked (view_in w (newest w)) d) in
       refresh_good w' x (newest w + 1) u.lt u.up (omega (arith, h.inv.is_ring.held x)) (omega (arith, h.inv.is_ring.some)) (mark_view_good w d m.rests m.lives h);
   refreshes = λ x v u m. refresh_good w x v u.lt u.up m.later m.upto h;
   picks = λ y s u none e upto. current_good w y (Some s) u.lt u.up (door_pickable w y s e upto h) h;

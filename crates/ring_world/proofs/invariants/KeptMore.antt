@@ -8,7 +8,7 @@ use Rattle.ring_world.proofs.events.WhatRefuses.{IsSameWay, IsPickable}
 use Rattle.ring_world.specs.View.{ids}
 use Rattle.group_view.specs.Ring.{rotated, is_in}
 use Rattle.group_view.specs.View.{Group}
-use Rattle.ring_world.specs.Machine.{Phase, Waiting, Up, Stopped, Link, World, Member, no_link, no_member, numbers_at, member_at, link_at, view_at, row_at, newest, ring, runs, runs_phase, is_kept, oldest}
+use Rattle.ring_world.specs.Machine.{Phase, Waiting, Up, Stopped, Link, World, Member, no_link, no_member, numbers_at, member_at, link_at, view_in, row_at, newest, ring, runs, runs_phase, is_kept, oldest}
 use Rattle.ring_world.proofs.walks.CountedWalk.{walk, running_from, counted}
 use Rattle.ring_world.specs.OpenLinks.{number, own_number, first_packet}
 use Rattle.ring_world.specs.Step.{size, stopped, stop_at, with_member, with_link, with_current, with_view}
@@ -130,13 +130,13 @@ current_keeps w y c lt up k h =
 
 -- ---- a mark or an erasure, before its member refreshes
 
-pub mark_keeps : (w : World) (d : ℕ) → runs w d ≡ false → Inv w → Inv (with_view w (marked (view_at w (newest w)) d))
+pub mark_keeps : (w : World) (d : ℕ) → runs w d ≡ false → Inv w → Inv (with_view w (marked (view_in w (newest w)) d))
 mark_keeps w d rd h =
-    let v' : Group = marked (view_at w (newest w)) d in
+    let v' : Group = marked (view_in w (newest w)) d in
     let w' : World = with_view w v' in
     let some : 0 < length w.views = h.is_ring.some in
     let more : length (w.views ++ v' ∷ []) ≡ length w.views + 1 = length_push w.views v' in
-    let same_ring : ring w' ≡ ring w = ap ids (view_new w v' (newest w') (omega arith)) ∙ ids-marked (view_at w (newest w)) d in
+    let same_ring : ring w' ≡ ring w = ap ids (view_new w v' (newest w') (omega arith)) ∙ ids-marked (view_in w (newest w)) d in
     record {
       is_ring = ring_more w v' (mark_follows w d rd h.is_ring) h.is_ring;
       linked = linked_more w v' h.is_ring h.linked;

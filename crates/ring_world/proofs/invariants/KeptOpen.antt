@@ -7,7 +7,7 @@ use Rattle.ring_world.specs.Refusal.{is_empty}
 use Rattle.ring_world.proofs.events.WhatRefuses.{MayLook}
 use Rattle.ring_world.specs.View.{ids, is_live}
 use Rattle.group_view.specs.Ring.{rotated, others, is_in}
-use Rattle.ring_world.specs.Machine.{Phase, Waiting, Up, Stopped, World, Member, Link, no_member, no_link, member_at, link_at, view_at, row_at, newest, ring, left, right, runs, runs_phase, is_kept, is_waiting, no_sending}
+use Rattle.ring_world.specs.Machine.{Phase, Waiting, Up, Stopped, World, Member, Link, no_member, no_link, member_at, link_at, view_in, row_at, newest, ring, left, right, runs, runs_phase, is_kept, is_waiting, no_sending}
 use Rattle.ring_world.specs.Rows.{Row}
 use Rattle.ring_world.specs.declared.numbers.Numbers.{Numbers}
 use Rattle.ring_world.specs.OpenLinks.{own_number, number}
@@ -61,7 +61,7 @@ open_rest w x z m r =
       history = record {
         grows = r.history.grows;
         dies = r.history.dies;
-        known = λ s lt. at_push (λ i k. is_in k.receiver (ids (view_at w k.opened)) ≡ true) w.links s l no_link (omega arith) m.inside (λ o. r.history.known s o);
+        known = λ s lt. at_push (λ i k. is_in k.receiver (ids (view_in w k.opened)) ≡ true) w.links s l no_link (omega arith) m.inside (λ o. r.history.known s o);
       };
       ordered = record { part = r.ordered.part; order = r.ordered.order };
       packed = record { packets = λ s lt. at_push (λ i k. AllPackets (IsPacket w' k) k.packets) w.links s l no_link (omega arith) (new_packet, tt) (λ o. packets_stay w w'.members w'.links (link_at w s) (link_at w s).packets (r.packed.packets s o)) };
@@ -128,7 +128,7 @@ open_keeps w x v m moves fresh h =
       newest_left = h.is_ring.front x v (newest w) rx m.later m.upto (omega arith);
       left_now = ap (λ t. left w t z) its_view ∙ h.is_ring.front x v v rx m.later (omega arith) m.upto;
       inside = ap (λ t. knows w t z) its_view ∙ subst (λ q. knows w v q ≡ true) (sym (right_in_view w v x (h.is_ring.stands x v rx m.later m.upto)))
-          (first_inside (is_live (view_at w v)) x (others x (ids (view_at w v))) (ids (view_at w v)) (h.is_ring.stands x v rx m.later m.upto) (λ q i. others_inside x q (ids (view_at w v)) i));
+          (first_inside (is_live (view_in w v)) x (others x (ids (view_in w v))) (ids (view_in w v)) (h.is_ring.stands x v rx m.later m.upto) (λ q i. others_inside x q (ids (view_in w v)) i));
       fresh = fresh;
     } in
     let members : (P : ℕ → Member → Type 0) (q : ℕ) → P x (out_member w1 x) → (q ≢ x → P q (member_at w1 q)) → P q (member_at (open_to w1 x z) q) = λ P q a b. at_set P w1.members x q (out_member w1 x) no_member lt a b in

@@ -8,7 +8,7 @@ use Rattle.ring_world.specs.Refusal.{is_empty}
 use Rattle.ring_world.proofs.events.WhatRefuses.{MayTake}
 use Rattle.group_view.specs.Ring.{others, is_in}
 use Rattle.ring_world.specs.View.{ids, between}
-use Rattle.ring_world.specs.Machine.{Waiting, Up, World, no_member, no_link, no_packet, member_at, link_at, view_at, row_at, numbers_at, newest, ring, runs, is_kept}
+use Rattle.ring_world.specs.Machine.{Waiting, Up, World, no_member, no_link, no_packet, member_at, link_at, view_in, row_at, numbers_at, newest, ring, runs, is_kept}
 use Rattle.ring_world.specs.Rows.{no_row, taken_row}
 use Rattle.ring_world.proofs.walks.CountedWalk.{counted, walk, running_from}
 use Rattle.ring_world.specs.Step.{size, popped, take_from, taker, is_owned, log_of}
@@ -75,18 +75,18 @@ take_standing w y s p h m inside pl =
         standing w y s p h.is_ring h.linked h.history h.ordered h.numbered.zero (packet_zero w s h c.is_link c.has).zero
         (record { can = c; opened = h.current.opened y s (runs_phase-Up w y m.up) m.current; version = m.version }) i
 
-pub not_owned : (w : World) (y s p : ℕ) → Inv w → MayTake w y s → knows w (member_at w y).version p ≡ false → is_owned (view_at w (member_at w y).version) y (link_at w s).sender p ≡ false
+pub not_owned : (w : World) (y s p : ℕ) → Inv w → MayTake w y s → knows w (member_at w y).version p ≡ false → is_owned (view_in w (member_at w y).version) y (link_at w s).sender p ≡ false
 not_owned w y s p h m k = by_self (nat_eq p y) refl
   where
-    outside : (b : Bool) → is_in p (between (view_at w (member_at w y).version) (link_at w s).sender y) ≡ b → b ≡ false
+    outside : (b : Bool) → is_in p (between (view_in w (member_at w y).version) (link_at w s).sender y) ≡ b → b ≡ false
     outside false e = refl
     outside true e =
-        absurd (false≢true (sym k ∙ others_inside (link_at w s).sender p (ids (view_at w (member_at w y).version)) (in_before p y (others (link_at w s).sender (ids (view_at w (member_at w y).version))) e)))
+        absurd (false≢true (sym k ∙ others_inside (link_at w s).sender p (ids (view_in w (member_at w y).version)) (in_before p y (others (link_at w s).sender (ids (view_in w (member_at w y).version))) e)))
 
-    by_self : (b : Bool) → nat_eq p y ≡ b → cond b true (is_in p (between (view_at w (member_at w y).version) (link_at w s).sender y)) ≡ false
+    by_self : (b : Bool) → nat_eq p y ≡ b → cond b true (is_in p (between (view_in w (member_at w y).version) (link_at w s).sender y)) ≡ false
     by_self true e =
         absurd (false≢true (sym k ∙ ap (knows w (member_at w y).version) (nat_eq-is p y e) ∙ h.is_ring.stands y (member_at w y).version (runs_phase-Up w y m.up) (omega arith) (h.is_ring.held y)))
-    by_self false e = outside (is_in p (between (view_at w (member_at w y).version) (link_at w s).sender y)) refl
+    by_self false e = outside (is_in p (between (view_in w (member_at w y).version) (link_at w s).sender y)) refl
 
 pub take_zero : (w : World) (y s p : ℕ) → Inv w → MayTake w y s → knows w (member_at w y).version p ≡ false → ((row_at (taker w y s) p).got ≡ 0) × ((row_at (taker w y s) p).forgot ≡ 0)
 take_zero w y s p h m k = ⊎_elim
@@ -98,7 +98,7 @@ take_zero w y s p h m k = ⊎_elim
     row_at-taker w y s p lt ∙ ap (λ b. taken_row b (log_of w p) (row_at (member_at w y) p) (numbers_at (taken_packet w s) p)) (not_owned w y s p h m k) in
     (ap (λ a. a.got) row ∙ (z.zero p older).0, ap (λ a. a.forgot) row ∙ (z.zero p older).1))
     (λ (ge : size w ≤ p).
-    let none : row_at (taker w y s) p ≡ no_row = get_or_beyond (taker w y s).rows p no_row (omega (arith, length-map-range_with_len (λ p. taken_row (is_owned (view_at w (member_at w y).version) y (link_at w s).sender p) (log_of w p) (row_at (member_at w y) p) (numbers_at (taken_packet w s) p)) 0 (size w))) in
+    let none : row_at (taker w y s) p ≡ no_row = get_or_beyond (taker w y s).rows p no_row (omega (arith, length-map-range_with_len (λ p. taken_row (is_owned (view_in w (member_at w y).version) y (link_at w s).sender p) (log_of w p) (row_at (member_at w y) p) (numbers_at (taken_packet w s) p)) 0 (size w))) in
     (ap (λ a. a.got) none, ap (λ a. a.forgot) none))
     (cases_lt p (size w))
   where
@@ -128,7 +128,7 @@ take_retires w y s h m = record { none = λ p x z us r e i. by_place p x z us r 
     beyond : (p : ℕ) → size w ≤ p → (row_at (member_at (take_from w y s) y) p).retired ≡ 0
     beyond p ge =
         at_set (λ k a. k ≡ y → (row_at a p).retired ≡ 0) w.members y y (taker w y s) no_member c.is_member
-        (λ _. ap (λ a. a.retired) (get_or_beyond (taker w y s).rows p no_row (omega (arith, length-map-range_with_len (λ p. taken_row (is_owned (view_at w (member_at w y).version) y (link_at w s).sender p) (log_of w p) (row_at (member_at w y) p) (numbers_at (taken_packet w s) p)) 0 (size w)))))
+        (λ _. ap (λ a. a.retired) (get_or_beyond (taker w y s).rows p no_row (omega (arith, length-map-range_with_len (λ p. taken_row (is_owned (view_in w (member_at w y).version) y (link_at w s).sender p) (log_of w p) (row_at (member_at w y) p) (numbers_at (taken_packet w s) p)) 0 (size w)))))
         (λ d e. absurd (d e)) refl
 
     by_place : (p x z : ℕ) (us : List ℕ) → is_in p (ring w) ≡ true → running_from w p ≡ x ∷ us → is_in z us ≡ true → (z ≡ y) ⊎ (z ≢ y) → (row_at (member_at (take_from w y s) z) p).retired ≡ 0

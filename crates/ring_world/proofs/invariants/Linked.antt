@@ -3,7 +3,7 @@ use Rattle.std.proofs.Common.{◌≡◌, ◌≢◌, ℕ, ◌<◌, ◌≤◌, ◌
 use Rattle.std.proofs.lemmas.Bool.{cases_eq}
 use Rattle.std.proofs.lemmas.List.{length_push, get_or_append_left, get_or_push}
 use Rattle.ring_world.specs.View.{is_live, right_of}
-use Rattle.ring_world.specs.Machine.{World, Member, Link, no_link, member_at, link_at, view_at, newest, left, right, runs, is_kept}
+use Rattle.ring_world.specs.Machine.{World, Member, Link, no_link, member_at, link_at, view_in, newest, left, right, runs, is_kept}
 use Rattle.group_view.proofs.Passing.{are_mutual}
 use Rattle.ring_world.proofs.invariants.Good.{Kept, IsRing, IsLinked, out_stays}
 use Rattle.ring_world.proofs.walks.Views.{left_is, right_is}
@@ -28,16 +28,16 @@ look_views w ms x v q h =
     (cases_eq q x)
 
 -- what is live in the later view is live in the earlier one
-pub look_lives : (w : World) (ms : List Member) (x v q s : ℕ) → IsRing w → IsLinked w → IsHistory w → HasLaterView w ms x v → s < length w.links → (link_at w s).sender ≡ q → is_live (view_at w (member_at (record w { members = ms }) q).version) (link_at w s).receiver ≡ true → is_live (view_at w (member_at w q).version) (link_at w s).receiver ≡ true
+pub look_lives : (w : World) (ms : List Member) (x v q s : ℕ) → IsRing w → IsLinked w → IsHistory w → HasLaterView w ms x v → s < length w.links → (link_at w s).sender ≡ q → is_live (view_in w (member_at (record w { members = ms }) q).version) (link_at w s).receiver ≡ true → is_live (view_in w (member_at w q).version) (link_at w s).receiver ≡ true
 look_lives w ms x v q s hr hl hh h sl mine l =
     ⊎_elim
     (λ (is : q ≡ x).
-    let at_v : is_live (view_at w v) (link_at w s).receiver ≡ true = subst (λ k. is_live (view_at w k) (link_at w s).receiver ≡ true) (ap (λ k. (member_at (record w { members = ms }) k).version) is ∙ h.its_view) l in
-    subst (λ k. is_live (view_at w (member_at w k).version) (link_at w s).receiver ≡ true) (sym is)
+    let at_v : is_live (view_in w v) (link_at w s).receiver ≡ true = subst (λ k. is_live (view_in w k) (link_at w s).receiver ≡ true) (ap (λ k. (member_at (record w { members = ms }) k).version) is ∙ h.its_view) l in
+    subst (λ k. is_live (view_in w (member_at w k).version) (link_at w s).receiver ≡ true) (sym is)
     (hh.dies (link_at w s).receiver (member_at w x).version v
     (hh.grows (link_at w s).receiver (link_at w s).opened (member_at w x).version (hh.known s sl) (subst (λ k. (link_at w s).opened ≤ (member_at w k).version) (mine ∙ is) (hl.seen s sl)) (hr.held x))
     h.later h.upto at_v))
-    (λ (d : q ≢ x). subst (λ k. is_live (view_at w k) (link_at w s).receiver ≡ true) (h.other_view q d) l)
+    (λ (d : q ≢ x). subst (λ k. is_live (view_in w k) (link_at w s).receiver ≡ true) (h.other_view q d) l)
     (cases_eq q x)
 
 pub linked_look : (w : World) (ms : List Member) (x v : ℕ) → IsRing w → IsLinked w → IsHistory w → HasLaterView w ms x v → ((q : ℕ) → (member_at (record w { members = ms }) q).out ≡ (member_at w q).out) → ((o : ℕ) → runs w x ≡ true → (member_at w x).out ≡ Some o → (link_at w o).receiver ≡ right w v x) → IsLinked (record w { members = ms })
@@ -113,7 +113,7 @@ linked_open w ms x v l hr hl hh h = record {
       (λ u a b. let now : u ≡ l.opened = omega (arith, a, b, k.its_view, h.opened) in ap (λ t. left w t l.receiver) now ∙ new_left))
       (λ d. subst (λ a. Kept w a (member_at w2 q).version) (sym (link_old w ms l o (hl.out_lt q o (k.runs_less q r) (old_out q o d e))))
       (λ u a b. out_stays w q o hr hl (k.runs_less q r) (old_out q o d e) u a (omega (arith, b, k.other_view q d, hr.held q))));
-  is_out = λ s lt. at_push (λ i a. runs w2 a.sender ≡ true → Kept w a (member_at w2 a.sender).version → is_live (view_at w (member_at w2 a.sender).version) a.receiver ≡ true → (member_at w2 a.sender).out ≡ Some i) w.links s l no_link (within s lt)
+  is_out = λ s lt. at_push (λ i a. runs w2 a.sender ≡ true → Kept w a (member_at w2 a.sender).version → is_live (view_in w (member_at w2 a.sender).version) a.receiver ≡ true → (member_at w2 a.sender).out ≡ Some i) w.links s l no_link (within s lt)
       (λ r kp lv. ap (λ q. (member_at w2 q).out) h.sender ∙ h.its_out)
       (λ old r kp lv. old_is_out s old r kp lv);
 }
@@ -143,7 +143,7 @@ linked_open w ms x v l hr hl hh h = record {
         (λ (d : q ≢ x). old d)
         (cases_eq q x)
 
-    old_is_out : (s : ℕ) → s < length w.links → runs w2 (link_at w s).sender ≡ true → Kept w (link_at w s) (member_at w2 (link_at w s).sender).version → is_live (view_at w (member_at w2 (link_at w s).sender).version) (link_at w s).receiver ≡ true → (member_at w2 (link_at w s).sender).out ≡ Some s
+    old_is_out : (s : ℕ) → s < length w.links → runs w2 (link_at w s).sender ≡ true → Kept w (link_at w s) (member_at w2 (link_at w s).sender).version → is_live (view_in w (member_at w2 (link_at w s).sender).version) (link_at w s).receiver ≡ true → (member_at w2 (link_at w s).sender).out ≡ Some s
     old_is_out s sl r kp lv =
         let before_is : (member_at w (link_at w s).sender).out ≡ Some s =
         hl.is_out s sl (k.runs_less (link_at w s).sender r) (λ u a b. kp u a (omega (arith, b, look_views w ms x v (link_at w s).sender k)))
@@ -153,10 +153,10 @@ linked_open w ms x v l hr hl hh h = record {
         let at_v : (member_at w2 (link_at w s).sender).version ≡ v = ap (λ q. (member_at w2 q).version) is ∙ k.its_view in
         let open_before : (link_at w s).opened ≤ v = omega (arith, hl.seen s sl, ap (λ q. (member_at w q).version) is, k.later) in
         let left_is_x : left w v (link_at w s).receiver ≡ x = kp v open_before (omega (arith, at_v)) ∙ is in
-        let live : is_live (view_at w v) (link_at w s).receiver ≡ true = subst (λ a. is_live (view_at w a) (link_at w s).receiver ≡ true) at_v lv in
+        let live : is_live (view_in w v) (link_at w s).receiver ≡ true = subst (λ a. is_live (view_in w a) (link_at w s).receiver ≡ true) at_v lv in
         let right_is_it : right w v x ≡ (link_at w s).receiver =
-        right_is w v x (view_at w v) refl ∙ ap (right_of (view_at w v)) (sym left_is_x ∙ left_is w v (link_at w s).receiver (view_at w v) refl)
-        ∙ (are_mutual (view_at w v).entries (link_at w s).receiver (hr.distinct v k.upto) live).right_of_left in
+        right_is w v x (view_in w v) refl ∙ ap (right_of (view_in w v)) (sym left_is_x ∙ left_is w v (link_at w s).receiver (view_in w v) refl)
+        ∙ (are_mutual (view_in w v).entries (link_at w s).receiver (hr.distinct v k.upto) live).right_of_left in
         absurd (h.moves s (ap (λ q. (member_at w q).out) (sym is) ∙ before_is) (sym right_is_it)))
         (λ (d : (link_at w s).sender ≢ x). h.other_out (link_at w s).sender d ∙ before_is)
         (cases_eq (link_at w s).sender x)

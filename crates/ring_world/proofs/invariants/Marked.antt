@@ -4,7 +4,7 @@ use Rattle.std.proofs.lemmas.Bool.{cases_lt}
 use Rattle.std.proofs.lemmas.List.{length_push}
 use Rattle.group_view.specs.View.{Group}
 use Rattle.ring_world.specs.View.{ids, is_live}
-use Rattle.ring_world.specs.Machine.{World, member_at, link_at, view_at, newest, ring}
+use Rattle.ring_world.specs.Machine.{World, member_at, link_at, view_in, newest, ring}
 use Rattle.group_view.specs.Ring.{is_in}
 use Rattle.ring_world.specs.Step.{with_view}
 use Rattle.group_view.specs.Change.{marked}
@@ -38,7 +38,7 @@ linked_more w v' hr hl =
 -- a new view has the newest one's entries, and brings none of them back to life
 pub record Ages (w : World) (v' : Group) : Type 0 where
   pub grows : (z : ℕ) → is_in z (ring w) ≡ true → is_in z (ids v') ≡ true
-  pub dies : (z : ℕ) → is_in z (ring w) ≡ true → is_live v' z ≡ true → is_live (view_at w (newest w)) z ≡ true
+  pub dies : (z : ℕ) → is_in z (ring w) ≡ true → is_live v' z ≡ true → is_live (view_in w (newest w)) z ≡ true
 
 pub history_more : (w : World) (v' : Group) → IsRing w → IsLinked w → IsHistory w → Ages w v' → IsHistory (with_view w v')
 history_more w v' hr hl hh g =
@@ -47,29 +47,29 @@ history_more w v' hr hl hh g =
     record {
       grows = λ z u v i le lt. ⊎_elim
           (λ (uold : u < length w.views).
-          let before_is : is_in z (ids (view_at w u)) ≡ true = subst (λ a. is_in z (ids a) ≡ true) (view_old w v' u uold) i in
+          let before_is : is_in z (ids (view_in w u)) ≡ true = subst (λ a. is_in z (ids a) ≡ true) (view_old w v' u uold) i in
           ⊎_elim
           (λ (vold : v < length w.views). subst (λ a. is_in z (ids a) ≡ true) (sym (view_old w v' v vold)) (hh.grows z u v before_is le (omega arith)))
           (λ (vnew : length w.views ≤ v). subst (λ a. is_in z (ids a) ≡ true) (sym (view_new w v' v (omega arith))) (g.grows z (hh.grows z u (newest w) before_is (omega arith) (omega arith))))
           (cases_lt v (length w.views)))
-          (λ (unew : length w.views ≤ u). let same : u ≡ v = omega arith in subst (λ k. is_in z (ids (view_at (with_view w v') k)) ≡ true) same i)
+          (λ (unew : length w.views ≤ u). let same : u ≡ v = omega arith in subst (λ k. is_in z (ids (view_in (with_view w v') k)) ≡ true) same i)
           (cases_lt u (length w.views));
       dies = λ z u v i le lt lv. ⊎_elim
           (λ (uold : u < length w.views).
-          let before_is : is_in z (ids (view_at w u)) ≡ true = subst (λ a. is_in z (ids a) ≡ true) (view_old w v' u uold) i in
+          let before_is : is_in z (ids (view_in w u)) ≡ true = subst (λ a. is_in z (ids a) ≡ true) (view_old w v' u uold) i in
           subst (λ a. is_live a z ≡ true) (sym (view_old w v' u uold)) (⊎_elim
           (λ (vold : v < length w.views). hh.dies z u v before_is le (omega arith) (subst (λ a. is_live a z ≡ true) (view_old w v' v vold) lv))
           (λ (vnew : length w.views ≤ v).
           hh.dies z u (newest w) before_is (omega arith) (omega arith)
           (g.dies z (hh.grows z u (newest w) before_is (omega arith) (omega arith)) (subst (λ a. is_live a z ≡ true) (view_new w v' v (omega arith)) lv)))
           (cases_lt v (length w.views))))
-          (λ (unew : length w.views ≤ u). let same : v ≡ u = omega arith in subst (λ k. is_live (view_at (with_view w v') k) z ≡ true) same lv)
+          (λ (unew : length w.views ≤ u). let same : v ≡ u = omega arith in subst (λ k. is_live (view_in (with_view w v') k) z ≡ true) same lv)
           (cases_lt u (length w.views));
       known = λ s l. subst (λ a. is_in (link_at w s).receiver (ids a) ≡ true) (sym (view_old w v' (link_at w s).opened (omega (arith, hl.opened s l)))) (hh.known s l);
     }
 
-pub mark_ages : (w : World) (d : ℕ) → Ages w (marked (view_at w (newest w)) d)
+pub mark_ages : (w : World) (d : ℕ) → Ages w (marked (view_in w (newest w)) d)
 mark_ages w d = record {
-  grows = λ z i. ap (is_in z) (ids-marked (view_at w (newest w)) d) ∙ i;
-  dies = λ z i l. other_true (nat_eq z d) (is_live (view_at w (newest w)) z) (sym (live-marked (view_at w (newest w)) d z) ∙ l);
+  grows = λ z i. ap (is_in z) (ids-marked (view_in w (newest w)) d) ∙ i;
+  dies = λ z i l. other_true (nat_eq z d) (is_live (view_in w (newest w)) z) (sym (live-marked (view_in w (newest w)) d z) ∙ l);
 }

@@ -15,7 +15,7 @@ use Rattle.group_view.proofs.Passing.{are_mutual, left_inside as left_inside_rin
 use Rattle.group_view.proofs.Marks.{left_is as left_of_entry, right_is as right_of_entry}
 use Rattle.group_view.proofs.Rings.{in_before, nat_eq-is, nat_eq-same, nat_eq-not, others_inside}
 use Rattle.ring_world.specs.View.{ids, is_live, left_of, right_of}
-use Rattle.ring_world.specs.Machine.{Phase, Waiting, Packet, Member, Link, World, no_member, no_link, member_at, link_at, view_at, row_at, numbers_at, ring, left, right, runs, runs_phase, is_kept, is_waiting}
+use Rattle.ring_world.specs.Machine.{Phase, Waiting, Packet, Member, Link, World, no_member, no_link, member_at, link_at, view_in, row_at, numbers_at, ring, left, right, runs, runs_phase, is_kept, is_waiting}
 use Rattle.ring_world.specs.OpenLinks.{FallsFrom, NeverRises, own_number, number}
 use Rattle.ring_world.proofs.walks.CountedWalk.{is_early, only, no_but, counted, when, past_first, newest_first, numbers, block, round, round_of, retired_by, walk, running_from, stopped_from}
 use Rattle.ring_world.specs.Step.{opening, opening_member}
@@ -141,8 +141,8 @@ module _ (credit : CreditSpec) (names : List (List ℕ)) where
   opening_left_right : (q : ℕ) → IsId q → left_of first_view (right_of first_view q) ≡ q
   opening_left_right q i = (are_mutual first_view.entries q opening_distinct (opening_live q i)).left_of_right
 
-  at_one : (v : ℕ) → 1 ≤ v → v ≤ 1 → view_at first_world v ≡ first_view
-  at_one v a b = ap (view_at first_world) (let is : v ≡ 1 = omega arith in is)
+  at_one : (v : ℕ) → 1 ≤ v → v ≤ 1 → view_in first_world v ≡ first_view
+  at_one v a b = ap (view_in first_world) (let is : v ≡ 1 = omega arith in is)
 
   left_one : (v y : ℕ) → 1 ≤ v → v ≤ 1 → left first_world v y ≡ left_of first_view y
   left_one v y a b = left_is first_world v y first_view (at_one v a b)
@@ -157,7 +157,7 @@ module _ (credit : CreditSpec) (names : List (List ℕ)) where
   opening_ring = record {
     some = omega arith;
     distinct = λ v l. ⊎_elim
-        (λ (none : v < 1). subst (λ k. AreDistinct (ids (view_at first_world k))) (let is : 0 ≡ v = omega arith in is) tt)
+        (λ (none : v < 1). subst (λ k. AreDistinct (ids (view_in first_world k))) (let is : 0 ≡ v = omega arith in is) tt)
         (λ (one : 1 ≤ v). subst (λ a. AreDistinct (ids a)) (sym (at_one v one (omega arith))) opening_distinct)
         (cases_lt v 1);
     held = λ x. opening_each x (λ k z. z.version ≤ 1) (λ _. omega arith) (omega arith);
@@ -179,17 +179,17 @@ module _ (credit : CreditSpec) (names : List (List ℕ)) where
   opening_history = record {
     grows = λ z u v i a b. ⊎_elim
         (λ (none : u < 1). absurd (nothing z u none i))
-        (λ (one : 1 ≤ u). let same : u ≡ v = omega arith in subst (λ k. is_in z (ids (view_at first_world k)) ≡ true) same i)
+        (λ (one : 1 ≤ u). let same : u ≡ v = omega arith in subst (λ k. is_in z (ids (view_in first_world k)) ≡ true) same i)
         (cases_lt u 1);
     dies = λ z u v i a b l. ⊎_elim
         (λ (none : u < 1). absurd (nothing z u none i))
-        (λ (one : 1 ≤ u). let same : v ≡ u = omega arith in subst (λ k. is_live (view_at first_world k) z ≡ true) same l)
+        (λ (one : 1 ≤ u). let same : v ≡ u = omega arith in subst (λ k. is_live (view_in first_world k) z ≡ true) same l)
         (cases_lt u 1);
-    known = λ s lt. subst (λ l. is_in l.receiver (ids (view_at first_world l.opened)) ≡ true) (sym (first_link_is credit names s lt)) (right_inside (s + 1) (link_id s lt));
+    known = λ s lt. subst (λ l. is_in l.receiver (ids (view_in first_world l.opened)) ≡ true) (sym (first_link_is credit names s lt)) (right_inside (s + 1) (link_id s lt));
   }
     where
-      nothing : (z u : ℕ) → u < 1 → is_in z (ids (view_at first_world u)) ≡ true → ⊥
-      nothing z u lt i = false≢true (subst (λ k. is_in z (ids (view_at first_world k)) ≡ true) (let is : u ≡ 0 = omega arith in is) i)
+      nothing : (z u : ℕ) → u < 1 → is_in z (ids (view_in first_world u)) ≡ true → ⊥
+      nothing z u lt i = false≢true (subst (λ k. is_in z (ids (view_in first_world k)) ≡ true) (let is : u ≡ 0 = omega arith in is) i)
 
   filter_nothing : (t : ℕ → Bool) (xs : List ℕ) → ((q : ℕ) → t q ≡ false) → filter t xs ≡ []
   filter_nothing t [] h = refl
@@ -198,7 +198,7 @@ module _ (credit : CreditSpec) (names : List (List ℕ)) where
   opening_ordered : IsOrdered first_world
   opening_ordered = record {
     part = λ v l. ⊎_elim
-        (λ (none : v < 1). subst (λ k. ids (view_at first_world k) ≡ filter (knows first_world k) (ring first_world)) (let is : 0 ≡ v = omega arith in is) (sym (filter_nothing (knows first_world 0) (ring first_world) (λ q. refl))))
+        (λ (none : v < 1). subst (λ k. ids (view_in first_world k) ≡ filter (knows first_world k) (ring first_world)) (let is : 0 ≡ v = omega arith in is) (sym (filter_nothing (knows first_world 0) (ring first_world) (λ q. refl))))
         (λ (one : 1 ≤ v). subst (λ k. ids k ≡ filter (λ q. is_in q (ids k)) (ring first_world)) (sym (at_one v one (omega arith)))
         (sym (filter_all (λ q. is_in q (ids first_view)) (ids first_view) (all_true_same (λ q. is_in q (ids first_view)) (ids first_view) (λ q i. i)))))
         (cases_lt v 1);

@@ -6,7 +6,7 @@ use Rattle.std.proofs.lemmas.List.{length_push}
 use Rattle.group_view.specs.Ring.{before, others, is_in, first_or}
 use Rattle.ring_world.specs.View.{ids}
 use Rattle.group_view.specs.View.{Group}
-use Rattle.ring_world.specs.Machine.{World, view_at, newest, ring, left}
+use Rattle.ring_world.specs.Machine.{World, view_in, newest, ring, left}
 use Rattle.ring_world.specs.Step.{with_view}
 use Rattle.group_view.specs.Change.{marked}
 use Rattle.group_view.proofs.Rings.{in_before, in_head, in_tail, others_inside}
@@ -40,16 +40,16 @@ first_inside t d us xs h k = by_list (filter t us) (λ q i. k q (filtered_in t q
 -- ---- one more view
 
 pub record KeepsOrder (w : World) (v' : Group) : Type 0 where
-  pub part : (v : ℕ) → v ≤ newest w → ids (view_at w v) ≡ filter (knows w v) (ids v')
+  pub part : (v : ℕ) → v ≤ newest w → ids (view_in w v) ≡ filter (knows w v) (ids v')
   pub order : (v e : ℕ) → v ≤ newest w → knows w v e ≡ true → OldLast (knows w v) (before e (others (left w v e) (ids v')))
 
 pub ordered_more : (w : World) (v' : Group) → IsRing w → KeepsOrder w v' → IsOrdered (with_view w v')
 ordered_more w v' hr h =
     let some : 0 < length w.views = hr.some in
     let more : length (w.views ++ v' ∷ []) ≡ length w.views + 1 = length_push w.views v' in
-    let newest_is : view_at (with_view w v') (newest (with_view w v')) ≡ v' = view_new w v' (newest (with_view w v')) (omega arith) in
+    let newest_is : view_in (with_view w v') (newest (with_view w v')) ≡ v' = view_new w v' (newest (with_view w v')) (omega arith) in
     record {
-      part = λ v l. subst (λ us. ids (view_at (with_view w v') v) ≡ filter (knows (with_view w v') v) us) (sym (ap ids newest_is)) (⊎_elim
+      part = λ v l. subst (λ us. ids (view_in (with_view w v') v) ≡ filter (knows (with_view w v') v) us) (sym (ap ids newest_is)) (⊎_elim
           (λ (old : v < length w.views). subst (λ a. ids a ≡ filter (λ q. is_in q (ids a)) (ids v')) (sym (view_old w v' v old)) (h.part v (omega arith)))
           (λ (new : length w.views ≤ v).
           subst (λ a. ids a ≡ filter (λ q. is_in q (ids a)) (ids v')) (sym (view_new w v' v (omega arith)))
@@ -68,10 +68,10 @@ ordered_more w v' hr h =
           (cases_lt v (length w.views)));
     }
 
-pub mark_order : (w : World) (d : ℕ) → IsOrdered w → KeepsOrder w (marked (view_at w (newest w)) d)
+pub mark_order : (w : World) (d : ℕ) → IsOrdered w → KeepsOrder w (marked (view_in w (newest w)) d)
 mark_order w d h =
-    let e : ids (marked (view_at w (newest w)) d) ≡ ring w = ids-marked (view_at w (newest w)) d in
+    let e : ids (marked (view_in w (newest w)) d) ≡ ring w = ids-marked (view_in w (newest w)) d in
     record {
-      part = λ v l. subst (λ us. ids (view_at w v) ≡ filter (knows w v) us) (sym e) (h.part v l);
+      part = λ v l. subst (λ us. ids (view_in w v) ≡ filter (knows w v) us) (sym e) (h.part v l);
       order = λ v x l k. subst (λ us. OldLast (knows w v) (before x (others (left w v x) us))) (sym e) (h.order v x l k);
     }

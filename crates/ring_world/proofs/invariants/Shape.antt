@@ -1,7 +1,7 @@
 -- Events that change no view, no link's ends and no member's view and out link.
 use Rattle.std.proofs.Common.{◌≡◌, ℕ, ◌<◌, ◌≤◌, true, List, length, refl, sym, ap, subst, ◌∙◌, arith}
 use Rattle.ring_world.specs.View.{ids, is_live}
-use Rattle.ring_world.specs.Machine.{World, Member, Link, member_at, link_at, view_at, left, right, runs, is_kept}
+use Rattle.ring_world.specs.Machine.{World, Member, Link, member_at, link_at, view_in, left, right, runs, is_kept}
 use Rattle.group_view.specs.Ring.{is_in}
 use Rattle.ring_world.proofs.invariants.Good.{Kept, IsRing, IsLinked}
 use Rattle.ring_world.proofs.invariants.Period.{IsHistory}
@@ -32,8 +32,8 @@ pub shaped_history : (w : World) (ms : List Member) (ls : List Link) → IsShape
 shaped_history w ms ls h hh = record {
   grows = hh.grows;
   dies = hh.dies;
-  known = λ s l. subst (λ v. is_in (link_at (shaped w ms ls) s).receiver (ids (view_at w v)) ≡ true) (sym (h.ends s).opened)
-      (subst (λ q. is_in q (ids (view_at w (link_at w s).opened)) ≡ true) (sym (h.ends s).receiver) (hh.known s (omega (arith, h.many))));
+  known = λ s l. subst (λ v. is_in (link_at (shaped w ms ls) s).receiver (ids (view_in w v)) ≡ true) (sym (h.ends s).opened)
+      (subst (λ q. is_in q (ids (view_in w (link_at w s).opened)) ≡ true) (sym (h.ends s).receiver) (hh.known s (omega (arith, h.many))));
 }
 
 pub shaped_ordered : (w : World) (ms : List Member) (ls : List Link) → IsOrdered w → IsOrdered (shaped w ms ls)
@@ -70,6 +70,6 @@ shaped_linked w ms ls h hl = record {
       ∙ hl.is_out s lt (h.runs_less (link_at w s).sender (subst (λ q. runs (shaped w ms ls) q ≡ true) sender r))
       (Kept_shaped w (link_at w s) (link_at (shaped w ms ls) s) (member_at w (link_at w s).sender).version (h.ends s)
       (subst (λ v. Kept w (link_at (shaped w ms ls) s) v) (ap (λ q. (member_at (shaped w ms ls) q).version) sender ∙ h.version (link_at w s).sender) k))
-      (subst (λ v. is_live (view_at w v) (link_at w s).receiver ≡ true) (ap (λ q. (member_at (shaped w ms ls) q).version) sender ∙ h.version (link_at w s).sender)
-      (subst (λ q. is_live (view_at w (member_at (shaped w ms ls) (link_at (shaped w ms ls) s).sender).version) q ≡ true) (h.ends s).receiver lv));
+      (subst (λ v. is_live (view_in w v) (link_at w s).receiver ≡ true) (ap (λ q. (member_at (shaped w ms ls) q).version) sender ∙ h.version (link_at w s).sender)
+      (subst (λ q. is_live (view_in w (member_at (shaped w ms ls) (link_at (shaped w ms ls) s).sender).version) q ≡ true) (h.ends s).receiver lv));
 }

@@ -7,7 +7,7 @@ use Rattle.std.proofs.lemmas.Bool.{cases_lt, false≢true, false_from_ne_true}
 use Rattle.group_view.specs.Ring.{before, from, after, rotated, others, is_in}
 use Rattle.ring_world.specs.View.{ids, is_live, between}
 use Rattle.ring_world.proofs.rings.Lists.{get_or_beyond}
-use Rattle.ring_world.specs.Machine.{no_link, World, member_at, link_at, view_at, row_at, numbers_at, newest, ring, left, runs, is_kept}
+use Rattle.ring_world.specs.Machine.{no_link, World, member_at, link_at, view_in, row_at, numbers_at, newest, ring, left, runs, is_kept}
 use Rattle.ring_world.proofs.walks.CountedWalk.{is_early, only, counted, stopped_from, running_from}
 use Rattle.ring_world.specs.Step.{is_owned}
 use Rattle.group_view.proofs.Rings.{sym_test, is_in-rotated, not_in_before, rotated_is, in_before, nat_eq-is, nat_eq-same, distinct_others, from_inside}
@@ -51,11 +51,11 @@ all_true_at t q (x ∷ xs) h i = by_case (nat_eq q x) refl i (λ k. all_true_at 
     by_case false e k ih = ih k
 
 abbrev pub knows : World → ℕ → ℕ → Bool
-knows w v q = is_in q (ids (view_at w v))
+knows w v q = is_in q (ids (view_in w v))
 
 pub record IsOrdered (w : World) : Type 0 where
   -- an old view has those of the newest ring that it knows, in their order
-  pub part : (v : ℕ) → v ≤ newest w → ids (view_at w v) ≡ filter (knows w v) (ring w)
+  pub part : (v : ℕ) → v ≤ newest w → ids (view_in w v) ≡ filter (knows w v) (ring w)
   -- between an entry and its left neighbour in a view, those that it doesn't know come first
   pub order : (v e : ℕ) → v ≤ newest w → knows w v e ≡ true → OldLast (knows w v) (before e (others (left w v e) (ring w)))
 
@@ -64,10 +64,10 @@ pub record IsOrdered (w : World) : Type 0 where
 -- the left neighbour of an entry is known where the entry is
 pub left_known : (w : World) (v y s : ℕ) → IsRing w → v ≤ newest w → knows w v y ≡ true → left w v y ≡ s → knows w v s ≡ true
 left_known w v y s hr vn yv e =
-    subst (λ q. knows w v q ≡ true) (sym (left_in_view w v y yv) ∙ e) (left_inside (is_live (view_at w v)) y (ids (view_at w v)) (hr.distinct v vn) yv)
+    subst (λ q. knows w v q ≡ true) (sym (left_in_view w v y yv) ∙ e) (left_inside (is_live (view_in w v)) y (ids (view_in w v)) (hr.distinct v vn) yv)
 
 -- what stands between two entries of a view is what it knows of those between them in the newest ring
-pub between_is : (w : World) (v y s : ℕ) → IsOrdered w → v ≤ newest w → knows w v y ≡ true → knows w v s ≡ true → between (view_at w v) s y ≡ filter (knows w v) (before y (others s (ring w)))
+pub between_is : (w : World) (v y s : ℕ) → IsOrdered w → v ≤ newest w → knows w v y ≡ true → knows w v s ≡ true → between (view_in w v) s y ≡ filter (knows w v) (before y (others s (ring w)))
 between_is w v y s ho vn yv sv =
     ap (λ us. before y (after s us ++ before s us)) (ho.part v vn)
     ∙ ap (before y) (rw (after-filter (knows w v) s (ring w) sv, before-filter (knows w v) s (ring w) sv) (sym (filter-append (knows w v) (after s (ring w)) (before s (ring w)))))
@@ -76,14 +76,14 @@ between_is w v y s ho vn yv sv =
 -- p strictly between, in y's view: then from p up to y all stand in that view and are live in none from it on
 pub record OwnedFacts (w : World) (y v p : ℕ) : Type 0 where
   pub old : (q : ℕ) → is_in q (before y (rotated p (ring w))) ≡ true → knows w v q ≡ true
-  pub dead : (q : ℕ) → is_in q (before y (rotated p (ring w))) ≡ true → is_live (view_at w v) q ≡ false
+  pub dead : (q : ℕ) → is_in q (before y (rotated p (ring w))) ≡ true → is_live (view_in w v) q ≡ false
 
-pub owned_facts : (w : World) (y v s p : ℕ) → IsRing w → IsHistory w → IsOrdered w → v ≤ newest w → knows w v y ≡ true → left w v y ≡ s → is_in p (between (view_at w v) s y) ≡ true → OwnedFacts w y v p
+pub owned_facts : (w : World) (y v s p : ℕ) → IsRing w → IsHistory w → IsOrdered w → v ≤ newest w → knows w v y ≡ true → left w v y ≡ s → is_in p (between (view_in w v) s y) ≡ true → OwnedFacts w y v p
 owned_facts w y v s p hr hh ho vn yv el hp = record {
   old = λ q i. all_true_at t q (from p b) old_b (ap (is_in q) (sym pre) ∙ i);
   dead = λ q i.
       let iq : is_in q (from p b) ≡ true = ap (is_in q) (sym pre) ∙ i in
-      filter_empty_at (is_live (view_at w v)) q (between (view_at w v) s y) (left_gap (is_live (view_at w v)) s y (ids (view_at w v)) (hr.distinct v vn) (distinct_others y (ids (view_at w v)) (hr.distinct v vn) yv) yv (sym (left_in_view w v y yv) ∙ el))
+      filter_empty_at (is_live (view_in w v)) q (between (view_in w v) s y) (left_gap (is_live (view_in w v)) s y (ids (view_in w v)) (hr.distinct v vn) (distinct_others y (ids (view_in w v)) (hr.distinct v vn) yv) yv (sym (left_in_view w v y yv) ∙ el))
       (ap (is_in q) is ∙ in-filter t q b (from_inside p q b iq) (all_true_at t q (from p b) old_b iq));
 }
   where
@@ -102,7 +102,7 @@ owned_facts w y v s p hr hh ho vn yv el hp = record {
     sn : is_in s (ring w) ≡ true
     sn = hh.grows s v (newest w) sv vn (omega arith)
 
-    is : between (view_at w v) s y ≡ filter t b
+    is : between (view_in w v) s y ≡ filter t b
     is = between_is w v y s ho vn yv sv
 
     hpf : is_in p (filter t b) ≡ true
@@ -112,14 +112,14 @@ owned_facts w y v s p hr hh ho vn yv el hp = record {
     hpb = filtered_in t p b hpf
 
     pv : t p ≡ true
-    pv = in_ids p (in_before p y (others s (ids (view_at w v))) hp)
+    pv = in_ids p (in_before p y (others s (ids (view_in w v))) hp)
       where
-        in_ids : (q : ℕ) → is_in q (others s (ids (view_at w v))) ≡ true → knows w v q ≡ true
+        in_ids : (q : ℕ) → is_in q (others s (ids (view_in w v))) ≡ true → knows w v q ≡ true
         in_ids q i = by_test (nat_eq q s) refl
           where
             by_test : (c : Bool) → nat_eq q s ≡ c → knows w v q ≡ true
             by_test true e = ap t (nat_eq-is q s e) ∙ sv
-            by_test false e = sym (is_in-rotated q s (ids (view_at w v))) ∙ ap (is_in q) (rotated_is s (ids (view_at w v)) sv) ∙ rw e i
+            by_test false e = sym (is_in-rotated q s (ids (view_in w v))) ∙ ap (is_in q) (rotated_is s (ids (view_in w v)) sv) ∙ rw e i
 
     old_b : AllTrue t (from p b)
     old_b = old_from t p b (subst (λ k. OldLast t (before y (others k (ring w)))) el (ho.order v y vn yv)) pv
@@ -144,7 +144,7 @@ no_front r y qs c i ry e = by_front (filter r (before y c)) refl (sym (filter-sp
         absurd (false≢true (sym (not_in_before y c) ∙ filtered_in r y (before y c) (ap (is_in y) a ∙ rw is (rw (nat_eq-same y) refl))))
 
 pub standing : (w : World) (y s p : ℕ) → IsRing w → IsLinked w → IsHistory w → IsOrdered w → ((x p : ℕ) → knows w (member_at w x).version p ≡ false → ((row_at (member_at w x) p).got ≡ 0) × ((row_at (member_at w x) p).forgot ≡ 0)) → ((p : ℕ) → knows w (taken_packet w s).version p ≡ false → ((numbers_at (taken_packet w s) p).got ≡ 0) × ((numbers_at (taken_packet w s) p).forgot ≡ 0)) → IsTaker w y s → is_in p (ring w) ≡ true → Standing w y s p
-standing w y s p hr hl hh ho hm hk ht pn = by_owned (nat_eq p y) refl (is_in p (between (view_at w v) z y)) refl
+standing w y s p hr hl hh ho hm hk ht pn = by_owned (nat_eq p y) refl (is_in p (between (view_in w v) z y)) refl
   where
     v : ℕ
     v = (member_at w y).version
@@ -173,10 +173,10 @@ standing w y s p hr hl hh ho hm hk ht pn = by_owned (nat_eq p y) refl (is_in p (
     el : left w v y ≡ z
     el = ap (left w v) (sym ht.can.receiver) ∙ true_kept w (link_at w s) v ht.can.is_kept_so_far v ht.opened (omega arith)
 
-    left_at_view : (u : ℕ) (q : ℕ) → v ≤ u → u ≤ newest w → left w u y ≡ q → IsLeft (is_live (view_at w u)) q y (ids (view_at w u))
+    left_at_view : (u : ℕ) (q : ℕ) → v ≤ u → u ≤ newest w → left w u y ≡ q → IsLeft (is_live (view_in w u)) q y (ids (view_in w u))
     left_at_view u q a b e =
         let yu : knows w u y ≡ true = hr.stands y u ry a b in
-        left_is_left (is_live (view_at w u)) q y (ids (view_at w u)) (distinct_others y (ids (view_at w u)) (hr.distinct u b) yu) yu (sym (left_in_view w u y yu) ∙ e)
+        left_is_left (is_live (view_in w u)) q y (ids (view_in w u)) (distinct_others y (ids (view_in w u)) (hr.distinct u b) yu) yu (sym (left_in_view w u y yu) ∙ e)
 
     zv : knows w v z ≡ true
     zv = left_known w v y z hr vn yv el
@@ -188,13 +188,13 @@ standing w y s p hr hl hh ho hm hk ht pn = by_owned (nat_eq p y) refl (is_in p (
     not_left : (o : OwnedFacts w y v p) (u q : ℕ) → v ≤ u → u ≤ newest w → left w u y ≡ q → is_in q (before y c) ≡ false
     not_left o u q a b e = by_test (is_in q (before y c)) refl (left_at_view u q a b e)
       where
-        by_test : (t : Bool) → is_in q (before y c) ≡ t → IsLeft (is_live (view_at w u)) q y (ids (view_at w u)) → t ≡ false
+        by_test : (t : Bool) → is_in q (before y c) ≡ t → IsLeft (is_live (view_in w u)) q y (ids (view_in w u)) → t ≡ false
         by_test false i k = refl
         by_test true i (itself e2) = absurd (false≢true (sym (not_in_before y c) ∙ ap (λ x. is_in x (before y c)) (sym e2) ∙ i))
         by_test true i (other l i2) = absurd (false≢true (sym (o.dead q i) ∙ hh.dies q v u (o.old q i) a b l))
 
     -- the packet has come round
-    rounds : is_owned (view_at w v) y z p ≡ true → OwnedFacts w y v p → Standing w y s p
+    rounds : is_owned (view_in w v) y z p ≡ true → OwnedFacts w y v p → Standing w y s p
     rounds own o = come_round (filter (runs w) (after y c)) running own no_early (ap (is_in z) prefix ∙ not_left o v z (omega arith) vn el)
       where
         idle : filter (runs w) (before y c) ≡ []
@@ -244,7 +244,7 @@ standing w y s p hr hl hh ho hm hk ht pn = by_owned (nat_eq p y) refl (is_in p (
                 absurd (false≢true (sym (late_sender (nat_eq-is (link_at w j).receiver y ea) (true_kept w (link_at w j) v eb)) ∙ ap (is_in (link_at w j).sender) (sym prefix) ∙ ee))
 
     -- what y's view doesn't own, of an origin whose owner is y
-    unseen : is_in p (between (view_at w v) z y) ≡ false → nat_eq p y ≡ false → (qs : List ℕ) → running_from w p ≡ y ∷ qs → is_early (stopped_from w p) (link_at w s) ≡ false → knows w v p ≡ false
+    unseen : is_in p (between (view_in w v) z y) ≡ false → nat_eq p y ≡ false → (qs : List ℕ) → running_from w p ≡ y ∷ qs → is_early (stopped_from w p) (link_at w s) ≡ false → knows w v p ≡ false
     unseen outside differs qs e late = false_from_ne_true (knows w v p) (λ k. false≢true (sym outside ∙ ap (is_in p) (between_is w v y z ho vn yv zv) ∙ in-filter (knows w v) p (before y (others z (ring w))) inside k))
       where
         inside : is_in p (before y (others z (ring w))) ≡ true
@@ -252,7 +252,7 @@ standing w y s p hr hl hh ho hm hk ht pn = by_owned (nat_eq p y) refl (is_in p (
             between_from p z y (ring w) (hr.distinct (newest w) (omega arith)) (distinct_others z (ring w) (hr.distinct (newest w) (omega arith)) zn) zn pn (sym_test p y false differs)
             (ap (is_in z) (sym (prefix_before (runs w) y c (no_front (runs w) y qs c yc ry e) yc ry)) ∙ late)
 
-    elsewhere_or : is_in p (between (view_at w v) z y) ≡ false → nat_eq p y ≡ false → is_owned (view_at w v) y z p ≡ false → (us : List ℕ) → running_from w p ≡ us → Standing w y s p
+    elsewhere_or : is_in p (between (view_in w v) z y) ≡ false → nat_eq p y ≡ false → is_owned (view_in w v) y z p ≡ false → (us : List ℕ) → running_from w p ≡ us → Standing w y s p
     elsewhere_or outside differs own [] e = absurd (false≢true (ap (is_in y) (sym e) ∙ in-filter (runs w) y c yc ry))
     elsewhere_or outside differs own (q ∷ qs) e = by_head (nat_eq q y) refl (is_early (stopped_from w p) (link_at w s)) refl
       where
@@ -269,7 +269,7 @@ standing w y s p hr hl hh ho hm hk ht pn = by_owned (nat_eq p y) refl (is_in p (
             older false f g = refl
             older true f g = absurd (false≢true (sym g ∙ hh.grows p (taken_packet w s).version v f ht.version vn))
 
-    by_owned : (a : Bool) → nat_eq p y ≡ a → (b : Bool) → is_in p (between (view_at w v) z y) ≡ b → Standing w y s p
+    by_owned : (a : Bool) → nat_eq p y ≡ a → (b : Bool) → is_in p (between (view_in w v) z y) ≡ b → Standing w y s p
     by_owned true ea b eb = rounds (rw ea refl) (record { old = λ q i. absurd (nothing q i); dead = λ q i. absurd (nothing q i) })
       where
         nothing : (q : ℕ) → is_in q (before y c) ≡ true → ⊥

@@ -2,7 +2,7 @@
 use Rattle.std.proofs.Common.{◌≡◌, ℕ, List, [], ◌∷◌, Some, refl}
 use Rattle.ring_names.specs.declared.numbers.CreditSpec.{CreditSpec}
 use Rattle.ring_names.specs.declared.reason.Reason.TheVariants as reason
-use Rattle.ring_world.specs.View.{left_at, right_at}
+use Rattle.ring_world.specs.View.{left_by, right_by}
 use Rattle.ring_world.specs.Machine.{World, is_kept_of}
 use Rattle.ring_world.proofs.walks.CountedWalk.{walk}
 use Rattle.ring_world.specs.Step.{opening}
@@ -25,43 +25,43 @@ cast_x = Cast a (120 ∷ [])
 
 -- after the cast
 after_cast : (credit : CreditSpec) → walk (three credit (cast_x ∷ [])) 1 ≡ 1 ∷ 0 ∷ 0 ∷ 0 ∷ 0 ∷ 0 ∷ 0 ∷ []
-unfolding left_at right_at is_kept_of
+unfolding left_by right_by is_kept_of
 after_cast credit = refl
 
 -- the packet stands before b's own number
 after_put : (credit : CreditSpec) → walk (three credit (cast_x ∷ Put a ∷ [])) 1 ≡ 1 ∷ 1 ∷ 0 ∷ 0 ∷ 0 ∷ 0 ∷ 0 ∷ 0 ∷ 0 ∷ []
-unfolding left_at right_at is_kept_of
+unfolding left_by right_by is_kept_of
 after_put credit = refl
 
 after_take : (credit : CreditSpec) → walk (three credit (cast_x ∷ Put a ∷ Take b ∷ [])) 1 ≡ 1 ∷ 1 ∷ 0 ∷ 0 ∷ 0 ∷ 0 ∷ 0 ∷ []
-unfolding left_at right_at is_kept_of
+unfolding left_by right_by is_kept_of
 after_take credit = refl
 
 -- a stops: b is the owner of its origin
 after_stop : (credit : CreditSpec) → walk (three credit (cast_x ∷ Put a ∷ Take b ∷ Stop a ∷ [])) 1 ≡ 1 ∷ 0 ∷ 0 ∷ 0 ∷ 0 ∷ []
-unfolding left_at right_at is_kept_of
+unfolding left_by right_by is_kept_of
 after_stop credit = refl
 
 after_end : (credit : CreditSpec) → walk (three credit (cast_x ∷ Put a ∷ Take b ∷ Stop a ∷ TakeEnd b ∷ [])) 1 ≡ 1 ∷ 0 ∷ 0 ∷ 0 ∷ 0 ∷ []
-unfolding left_at right_at is_kept_of
+unfolding left_by right_by is_kept_of
 after_end credit = refl
 
 -- b marks a: its right neighbour stays c, so that no link opens
 after_mark : (credit : CreditSpec) → walk (three credit (cast_x ∷ Put a ∷ Take b ∷ Stop a ∷ TakeEnd b ∷ Mark b a ∷ [])) 1 ≡ 1 ∷ 0 ∷ 0 ∷ 0 ∷ 0 ∷ []
-unfolding left_at right_at is_kept_of
+unfolding left_by right_by is_kept_of
 after_mark credit = refl
 
 -- b's packet at c is of b's view, the second
 after_second_put : (credit : CreditSpec) → walk (three credit (cast_x ∷ Put a ∷ Take b ∷ Stop a ∷ TakeEnd b ∷ Mark b a ∷ Put b ∷ [])) 1 ≡ 1 ∷ 1 ∷ 0 ∷ 0 ∷ 0 ∷ 0 ∷ 0 ∷ []
-unfolding left_at right_at is_kept_of
+unfolding left_by right_by is_kept_of
 after_second_put credit = refl
 
 -- which c may not take yet
 take_too_old : (credit : CreditSpec) → refusal (three credit (cast_x ∷ Put a ∷ Take b ∷ Stop a ∷ TakeEnd b ∷ Mark b a ∷ Put b ∷ [])) (Take c) ≡ Some (reason.ViewTooOld 2 1)
-unfolding left_at right_at is_kept_of
+unfolding left_by right_by is_kept_of
 take_too_old credit = refl
 
 -- c refreshes: it opens a link to b with a first packet, which b can't take before it picks it
 after_refresh : (credit : CreditSpec) → walk (three credit (cast_x ∷ Put a ∷ Take b ∷ Stop a ∷ TakeEnd b ∷ Mark b a ∷ Put b ∷ Refresh c 2 ∷ [])) 1 ≡ 1 ∷ 1 ∷ 0 ∷ 0 ∷ 0 ∷ 0 ∷ 0 ∷ 0 ∷ 0 ∷ []
-unfolding left_at right_at is_kept_of
+unfolding left_by right_by is_kept_of
 after_refresh credit = refl

@@ -8,7 +8,7 @@ use Rattle.ring_names.specs.declared.numbers.CreditSpec.{CreditSpec}
 use Rattle.ring_world.specs.declared.numbers.Numbers.{Numbers}
 use Rattle.ring_world.specs.Rows.{Row, published_row, messages_between, taken_row}
 use Rattle.group_view.specs.Change.{AreOpeningNames}
-use Rattle.ring_world.specs.Machine.{World, no_member, row_at, numbers_at, member_at, link_at, view_at, oldest}
+use Rattle.ring_world.specs.Machine.{World, no_member, row_at, numbers_at, member_at, link_at, view_in, oldest}
 use Rattle.ring_world.specs.Step.{size, log_of, put_on, gain_on, published, publish_at, is_owned, taker, take_from, stopped, stop_at, open_to, opening}
 use Rattle.ring_world.proofs.events.WhatRefuses.{MayTake}
 use Rattle.ring_world.specs.Event.{Event, IsRun, refusal, effect, last}
@@ -24,7 +24,7 @@ use Rattle.ring_world.proofs.runs.NeverFalls.{taker_rises_all, open_same, run_ne
 
 -- before a take, no packet begins after what the taker has got, of the origins that the taker doesn't answer for
 abbrev pub HasNoGap : World → Type 0
-HasNoGap w = (y s : ℕ) → MayTake w y s → (p : ℕ) → 1 ≤ p → p < size w → is_owned (view_at w (member_at w y).version) y (link_at w s).sender p ≡ false → (numbers_at (oldest (link_at w s)) p).lo ≤ (row_at (member_at w y) p).got
+HasNoGap w = (y s : ℕ) → MayTake w y s → (p : ℕ) → 1 ≤ p → p < size w → is_owned (view_in w (member_at w y).version) y (link_at w s).sender p ≡ false → (numbers_at (oldest (link_at w s)) p).lo ≤ (row_at (member_at w y) p).got
 
 -- a row has heard this log up to its number
 abbrev pub HasHeard : List Message → Row → Type 0
@@ -87,12 +87,12 @@ take_order w y s m g gap l h q p =
     subst (λ log. HasHeard log (row_of (take_from w y s) q p)) (sym (take_log w y s p m.is_member))
     (at_set (λ k z. HasHeard (log_of w p) (row_at z p)) w.members y q (taker w y s) no_member m.is_member
     (taker_row (HasHeard (log_of w p)) w y s p
-    (λ lt. taken_heard (is_owned (view_at w (member_at w y).version) y (link_at w s).sender p) (log_of w p) (row_of w y p) (numbers_at (taken_packet w s) p)
+    (λ lt. taken_heard (is_owned (view_in w (member_at w y).version) y (link_at w s).sender p) (log_of w p) (row_of w y p) (numbers_at (taken_packet w s) p)
     (λ own. no_gap p lt own) (taker_rises_all w y s p g.inv l m lt).got (h y p))
     (λ ge. sym (ap (λ z. take 0 z.log) (get_or_beyond w.members p no_member ge))))
     (λ _. h q p))
   where
-    no_gap : (p : ℕ) → p < size w → is_owned (view_at w (member_at w y).version) y (link_at w s).sender p ≡ false → (numbers_at (taken_packet w s) p).lo ≤ (row_of w y p).got
+    no_gap : (p : ℕ) → p < size w → is_owned (view_in w (member_at w y).version) y (link_at w s).sender p ≡ false → (numbers_at (taken_packet w s) p).lo ≤ (row_of w y p).got
     no_gap zero lt own =
         let within : NumbersAreWithin (length (log_of w 0)) (numbers_at (taken_packet w s) 0) = oldest_within (length (log_of w 0)) 0 (link_at w s).packets (l.within.packets s 0) in
         omega (arith, within.lo, ap length l.nobody)

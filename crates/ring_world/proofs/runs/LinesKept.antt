@@ -8,7 +8,7 @@ use Rattle.group_view.specs.View.{Group}
 use Rattle.group_view.specs.Since.{no_group}
 use Rattle.group_view.specs.Change.{marked}
 use Rattle.ring_world.specs.View.{ids, right_of}
-use Rattle.ring_world.specs.Machine.{Up, Packet, Member, Ending, Moved, Halted, Link, World, no_link, no_member, no_sending, row_at, numbers_at, member_at, link_at, view_at, newest, ring, runs, runs_phase, is_kept, oldest}
+use Rattle.ring_world.specs.Machine.{Up, Packet, Member, Ending, Moved, Halted, Link, World, no_link, no_member, no_sending, row_at, numbers_at, member_at, link_at, view_in, newest, ring, runs, runs_phase, is_kept, oldest}
 use Rattle.ring_world.specs.Step.{size, log_of, next_packet, pushed, popped, put_on, gain_on, publish_at, published, take_from, taker, is_owned, current_is, with_current, leave_link, finished, ended, stop_at, stopped, end_out, with_member, with_link, with_view, look_at, moved_to, kept_current, open_to, opened_link}
 use Rattle.ring_world.specs.Rows.{taken_row}
 use Rattle.ring_world.proofs.events.WhatRefuses.{MayTake}
@@ -64,7 +64,7 @@ pub record Eases (w : World) (x : ℕ) (m : Member) : Type 0 where
   pub keeps : (s : ℕ) → is_kept w (link_at w s) m.version ≡ true → is_kept w (link_at w s) (member_at w x).version ≡ true
   pub current : (s : ℕ) → m.current ≡ Some s → (member_at w x).current ≡ Some s
   pub stays : (s : ℕ) → is_kept w (link_at w s) m.version ≡ true → (member_at w x).current ≡ Some s → m.current ≡ Some s
-  pub owned : (z p : ℕ) → is_owned (view_at w m.version) x z p ≡ is_owned (view_at w (member_at w x).version) x z p
+  pub owned : (z p : ℕ) → is_owned (view_in w m.version) x z p ≡ is_owned (view_in w (member_at w x).version) x z p
   pub got : (p : ℕ) → (row_at (member_at w x) p).got ≤ (row_at m p).got
 
 -- a member that changes so
@@ -77,7 +77,7 @@ member_still w x m lt k = record {
   keeps = λ y s _. at_set (λ i a. is_kept w (link_at w s) a.version ≡ true → is_kept w (link_at w s) (member_at w i).version ≡ true) w.members x y m no_member lt (k.keeps s) (λ _ e. e);
   current = λ y s. at_set (λ i a. a.current ≡ Some s → (member_at w i).current ≡ Some s) w.members x y m no_member lt (k.current s) (λ _ e. e);
   stays = λ y s _ _. at_set (λ i a. is_kept w (link_at w s) a.version ≡ true → (member_at w i).current ≡ Some s → a.current ≡ Some s) w.members x y m no_member lt (k.stays s) (λ _ _ e. e);
-  owned = λ y z p _. at_set (λ i a. is_owned (view_at w a.version) i z p ≡ is_owned (view_at w (member_at w i).version) i z p) w.members x y m no_member lt (k.owned z p) (λ _. refl);
+  owned = λ y z p _. at_set (λ i a. is_owned (view_in w a.version) i z p ≡ is_owned (view_in w (member_at w i).version) i z p) w.members x y m no_member lt (k.owned z p) (λ _. refl);
   got = λ y p. at_set (λ i a. (row_at (member_at w i) p).got ≤ (row_at a p).got) w.members x y m no_member lt (k.got p) (λ _. omega arith);
 }
 
@@ -143,7 +143,7 @@ leave_still w y s yl lt c =
       current = λ q j. at_set (λ i a. a.current ≡ Some j → (member_at w i).current ≡ Some j) w.members y q m no_member yl (λ e. cc) (λ _ e. e);
       stays = λ q j _ o _. at_set (λ i a. (member_at w i).current ≡ Some j → a.current ≡ Some j) w.members y q m no_member yl
           (λ e. let same : s ≡ j = (let both : Some s ≡ Some j = sym c ∙ e in cc) in absurd (false≢true (sym o ∙ done j same))) (λ _ e. e);
-      owned = λ q z p _. ap (λ v. is_owned (view_at w v) q z p) (version q);
+      owned = λ q z p _. ap (λ v. is_owned (view_in w v) q z p) (version q);
       got = λ q p. at_set (λ i a. (row_at (member_at w i) p).got ≤ (row_at a p).got) w.members y q m no_member yl (omega arith) (λ _. omega arith);
     }
 
@@ -157,7 +157,7 @@ put_lines w x o up out inv n h = record {
       (λ _. chain_push old.packets old.sending k (h.begun o lt) (h.chain o lt) (λ e p. next_later (member_at w x) old.sending p e)) (λ _ l2. h.chain s l2) (within s l);
   untouched = λ y s l r. at_set (λ i a. i < length w.links → a.receiver ≡ y → a.over ≡ false → is_kept w a (member_at w y).version ≡ true → (member_at w y).current ≢ Some i → HasFirst a.packets) w.links o s new no_link lt
       (λ _ to over kept c. first_push old.packets k (h.untouched y o lt r to over kept c)) (λ _ l2. h.untouched y s l2 r) (within s l);
-  current = λ y s p r e some l. at_set (λ i a. (member_at w y).current ≡ Some i → is_owned (view_at w (member_at w y).version) y a.sender p ≡ false → BeginsBy a.packets a.sending p (row_at (member_at w y) p).got) w.links o s new no_link lt
+  current = λ y s p r e some l. at_set (λ i a. (member_at w y).current ≡ Some i → is_owned (view_in w (member_at w y).version) y a.sender p ≡ false → BeginsBy a.packets a.sending p (row_at (member_at w y) p).got) w.links o s new no_link lt
       (λ c own. begins_push old.packets old.sending new.sending k p (row_at (member_at w y) p).got (h.current y o p r c some l own)
       (λ fresh.
       let first : (numbers_at k p).lo ≤ (numbers_at k p).forgot = next_first (member_at w x) old.sending p fresh in
@@ -206,8 +206,8 @@ take_lines w y s m inv h = record {
   current = λ z t p r e some l own.
       let pl : p < size w = omega (arith, length-set w.members y (taker w y s)) in
       at_set (λ i a. i ≡ z → BeginsBy (link_at w' t).packets (link_at w' t).sending p (row_at a p).got) w.members y z (taker w y s) no_member m.is_member
-      (λ is. mine z t p pl is (sym ((same z).current) ∙ e) (ap (λ v. is_owned (view_at w v) z (link_at w' t).sender p) (sym ((same z).version)) ∙ own))
-      (λ d _. others z t p d (sym ((same z).runs) ∙ r) (sym ((same z).current) ∙ e) some pl (ap (λ v. is_owned (view_at w v) z (link_at w' t).sender p) (sym ((same z).version)) ∙ own)) refl;
+      (λ is. mine z t p pl is (sym ((same z).current) ∙ e) (ap (λ v. is_owned (view_in w v) z (link_at w' t).sender p) (sym ((same z).version)) ∙ own))
+      (λ d _. others z t p d (sym ((same z).runs) ∙ r) (sym ((same z).current) ∙ e) some pl (ap (λ v. is_owned (view_in w v) z (link_at w' t).sender p) (sym ((same z).version)) ∙ own)) refl;
 }
   where
     w' : World
@@ -229,21 +229,21 @@ take_lines w y s m inv h = record {
     same z = at_set (λ i a. StandsAs (member_at w i) a) w.members y z (taker w y s) no_member m.is_member (record { current = refl; version = refl; runs = refl }) (λ _. record { current = refl; version = refl; runs = refl })
 
     -- of the link that was taken from
-    at_link : (p : ℕ) → p < size w → is_owned (view_at w (member_at w y).version) y old.sender p ≡ false → BeginsBy new.packets new.sending p (row_at (taker w y s) p).got
+    at_link : (p : ℕ) → p < size w → is_owned (view_in w (member_at w y).version) y old.sender p ≡ false → BeginsBy new.packets new.sending p (row_at (taker w y s) p).got
     at_link p pl own =
         let row : (row_at (taker w y s) p).got ≡ (numbers_at (oldest old) p).got =
         ap (λ a. a.got) (row_at-taker w y s p pl) ∙ ap (λ b. (taken_row b (log_of w p) (row_at (member_at w y) p) (numbers_at (oldest old) p)).got) own in
         subst (BeginsBy new.packets new.sending p) (sym row) (begins_drop old.packets old.sending p m.has (h.chain s can.is_link))
 
-    mine : (z t p : ℕ) → p < size w → y ≡ z → (member_at w z).current ≡ Some t → is_owned (view_at w (member_at w z).version) z (link_at w' t).sender p ≡ false → BeginsBy (link_at w' t).packets (link_at w' t).sending p (row_at (taker w y s) p).got
+    mine : (z t p : ℕ) → p < size w → y ≡ z → (member_at w z).current ≡ Some t → is_owned (view_in w (member_at w z).version) z (link_at w' t).sender p ≡ false → BeginsBy (link_at w' t).packets (link_at w' t).sending p (row_at (taker w y s) p).got
     mine z t p pl is c own =
         let same : t ≡ s = (let both : Some s ≡ Some t = sym m.current ∙ ap (λ q. (member_at w q).current) is ∙ c in cc) in
-        at_set (λ i a. i ≡ s → is_owned (view_at w (member_at w z).version) z a.sender p ≡ false → BeginsBy a.packets a.sending p (row_at (taker w y s) p).got) w.links s t new no_link can.is_link
-        (λ _ own2. at_link p pl (ap (λ q. is_owned (view_at w (member_at w q).version) q old.sender p) is ∙ own2)) (λ d k. absurd (d k)) same own
+        at_set (λ i a. i ≡ s → is_owned (view_in w (member_at w z).version) z a.sender p ≡ false → BeginsBy a.packets a.sending p (row_at (taker w y s) p).got) w.links s t new no_link can.is_link
+        (λ _ own2. at_link p pl (ap (λ q. is_owned (view_in w (member_at w q).version) q old.sender p) is ∙ own2)) (λ d k. absurd (d k)) same own
 
-    others : (z t p : ℕ) → z ≢ y → runs w z ≡ true → (member_at w z).current ≡ Some t → 1 ≤ p → p < size w → is_owned (view_at w (member_at w z).version) z (link_at w' t).sender p ≡ false → BeginsBy (link_at w' t).packets (link_at w' t).sending p (row_at (member_at w z) p).got
+    others : (z t p : ℕ) → z ≢ y → runs w z ≡ true → (member_at w z).current ≡ Some t → 1 ≤ p → p < size w → is_owned (view_in w (member_at w z).version) z (link_at w' t).sender p ≡ false → BeginsBy (link_at w' t).packets (link_at w' t).sending p (row_at (member_at w z) p).got
     others z t p d rz c some pl =
-        at_set (λ i a. (member_at w z).current ≡ Some i → is_owned (view_at w (member_at w z).version) z a.sender p ≡ false → BeginsBy a.packets a.sending p (row_at (member_at w z) p).got) w.links s t new no_link can.is_link
+        at_set (λ i a. (member_at w z).current ≡ Some i → is_owned (view_in w (member_at w z).version) z a.sender p ≡ false → BeginsBy a.packets a.sending p (row_at (member_at w z) p).got) w.links s t new no_link can.is_link
         (λ c2 _. absurd (d (sym (inv.current.receiver z s rz c2) ∙ can.receiver))) (λ _ c2 own. h.current z t p rz c2 some pl own) c
 
 -- ---- a pick
@@ -257,7 +257,7 @@ pick_lines w y s yl up none door upto good h = record {
       (λ r to over kept _. h.untouched y t l r to over kept (no_current t)) (λ _. h.untouched z t l);
   current = λ z t p r e some l.
       let pl : p < size w = omega (arith, length-set w.members y m) in
-      at_set (λ i a. runs_phase a.phase ≡ true → a.current ≡ Some t → is_owned (view_at w a.version) i (link_at w t).sender p ≡ false → BeginsBy (link_at w t).packets (link_at w t).sending p (row_at a p).got) w.members y z m no_member yl
+      at_set (λ i a. runs_phase a.phase ≡ true → a.current ≡ Some t → is_owned (view_in w a.version) i (link_at w t).sender p ≡ false → BeginsBy (link_at w t).packets (link_at w t).sending p (row_at a p).got) w.members y z m no_member yl
       (λ _ c _. let same : s ≡ t = cc in subst (λ j. BeginsBy (link_at w j).packets (link_at w j).sending p (row_at (member_at w y) p).got) same (begins p some pl))
       (λ _ r2 c own. h.current z t p r2 c some pl own) r e;
 }
@@ -291,7 +291,7 @@ opened_lines w x z within h = record {
   untouched = λ y s l r. at_push (λ i a. a.receiver ≡ y → a.over ≡ false → is_kept w a (member_at w y).version ≡ true → (member_at w y).current ≢ Some i → HasFirst a.packets) w.links s new no_link (upto s l)
       (λ _ _ _ _ p. next_first (member_at w x) no_sending p refl) (λ l2. h.untouched y s l2 r);
   current = λ y s p r e some l.
-      at_push (λ i a. i < length w.links → is_owned (view_at w (member_at w y).version) y a.sender p ≡ false → BeginsBy a.packets a.sending p (row_at (member_at w y) p).got) w.links s new no_link (omega (arith, within y s r e))
+      at_push (λ i a. i < length w.links → is_owned (view_in w (member_at w y).version) y a.sender p ≡ false → BeginsBy a.packets a.sending p (row_at (member_at w y) p).got) w.links s new no_link (omega (arith, within y s r e))
       (λ bad _. absurd (omega arith)) (λ _ _. h.current y s p r e some l) (within y s r e);
 }
   where
@@ -319,7 +319,7 @@ open_lines w x z lt within h = lines_still (with_opened w (opened_link w x z)) (
 -- ---- a refresh
 
 -- the member has a later view of the same ids
-pub look_still : (w : World) (x v : ℕ) → x < size w → (member_at w x).version ≤ v → ids (view_at w v) ≡ ids (view_at w (member_at w x).version) → Still w (look_at w x v)
+pub look_still : (w : World) (x v : ℕ) → x < size w → (member_at w x).version ≤ v → ids (view_in w v) ≡ ids (view_in w (member_at w x).version) → Still w (look_at w x v)
 look_still w x v lt later same = member_still w x (moved_to w x v) lt (record {
   runs_less = λ r. r;
   keeps = λ s e. kept_less w (link_at w s) (member_at w x).version v later e;
@@ -336,14 +336,14 @@ look_within w x v lt inv y s =
     (λ r e. inv.current.lt x s r (kept_current-Some (λ j. is_kept w (link_at w j) v) (member_at w x).current s e).0) (λ _ r e. inv.current.lt y s r e)
 
 -- a whole refresh
-pub refresh_lines : (w : World) (x v : ℕ) → x < size w → (member_at w x).phase ≡ Up → (member_at w x).version ≤ v → ids (view_at w v) ≡ ids (view_at w (member_at w x).version) → Inv w → LinesRight w → LinesRight (refreshed w x v)
+pub refresh_lines : (w : World) (x v : ℕ) → x < size w → (member_at w x).phase ≡ Up → (member_at w x).version ≤ v → ids (view_in w v) ≡ ids (view_in w (member_at w x).version) → Inv w → LinesRight w → LinesRight (refreshed w x v)
 refresh_lines w x v lt up later same inv h = by_out (member_at w x).out refl
   where
     w1 : World
     w1 = look_at w x v
 
     z : ℕ
-    z = right_of (view_at w v) x
+    z = right_of (view_in w v) x
 
     looked : LinesRight w1
     looked = lines_still w w1 (look_still w x v lt later same) h
@@ -367,7 +367,7 @@ refresh_lines w x v lt up later same inv h = by_out (member_at w x).out refl
 -- ---- the ids of all views
 
 -- each view has those of the newest
-pub view_ids : (w : World) (v : ℕ) → HasViews w → 1 ≤ v → v ≤ newest w → ids (view_at w v) ≡ ring w
+pub view_ids : (w : World) (v : ℕ) → HasViews w → 1 ≤ v → v ≤ newest w → ids (view_in w v) ≡ ring w
 view_ids w v h some upto =
     ap (λ vs. ids (get_or vs v no_group)) h.is ∙ h.ends.same_ids v some (omega (arith, ap length h.is))
 
@@ -376,7 +376,7 @@ pub version_some : (w : World) (x : ℕ) → IsRing w → HasViews w → runs w 
 version_some w x hr h r = nobody_first w h (member_at w x).version x (hr.stands x (member_at w x).version r (omega arith) (hr.held x))
 
 -- which has those ids too
-pub own_ids : (w : World) (x : ℕ) → IsRing w → HasViews w → runs w x ≡ true → ids (view_at w (member_at w x).version) ≡ ring w
+pub own_ids : (w : World) (x : ℕ) → IsRing w → HasViews w → runs w x ≡ true → ids (view_in w (member_at w x).version) ≡ ring w
 own_ids w x hr h r = view_ids w (member_at w x).version h (version_some w x hr h r) (hr.held x)
 
 -- ---- a mark
@@ -398,18 +398,18 @@ mark_still w g hr =
     }
 
 -- the view of the mark has the ids of the view that a running member has
-pub mark_ids : (w : World) (x d : ℕ) → (member_at w x).phase ≡ Up → IsGood w → ids (view_at (with_view w (marked (view_at w (newest w)) d)) (newest w + 1)) ≡ ids (view_at (with_view w (marked (view_at w (newest w)) d)) (member_at w x).version)
+pub mark_ids : (w : World) (x d : ℕ) → (member_at w x).phase ≡ Up → IsGood w → ids (view_in (with_view w (marked (view_in w (newest w)) d)) (newest w + 1)) ≡ ids (view_in (with_view w (marked (view_in w (newest w)) d)) (member_at w x).version)
 mark_ids w x d up good =
-    let g : Group = marked (view_at w (newest w)) d in
+    let g : Group = marked (view_in w (newest w)) d in
     let hr : IsRing w = good.inv.is_ring in
     let some : 0 < length w.views = hr.some in
     let held : (member_at w x).version ≤ newest w = hr.held x in
-    ap ids (view_new w g (newest w + 1) (omega arith)) ∙ ids-marked (view_at w (newest w)) d
+    ap ids (view_new w g (newest w + 1) (omega arith)) ∙ ids-marked (view_in w (newest w)) d
     ∙ sym (ap ids (view_old w g (member_at w x).version (omega arith)) ∙ own_ids w x hr good.views (ap runs_phase up))
 
 -- a whole mark
-pub mark_lines : (w : World) (x d : ℕ) → x < size w → (member_at w x).phase ≡ Up → runs w d ≡ false → IsGood w → LinesRight w → LinesRight (refreshed (with_view w (marked (view_at w (newest w)) d)) x (newest w + 1))
+pub mark_lines : (w : World) (x d : ℕ) → x < size w → (member_at w x).phase ≡ Up → runs w d ≡ false → IsGood w → LinesRight w → LinesRight (refreshed (with_view w (marked (view_in w (newest w)) d)) x (newest w + 1))
 mark_lines w x d lt up rests good h =
-    let g : Group = marked (view_at w (newest w)) d in
+    let g : Group = marked (view_in w (newest w)) d in
     let held : (member_at w x).version ≤ newest w = good.inv.is_ring.held x in
     refresh_lines (with_view w g) x (newest w + 1) lt up (omega arith) (mark_ids w x d up good) (mark_keeps w d rests good.inv) (lines_still w (with_view w g) (mark_still w g good.inv.is_ring) h)

@@ -8,7 +8,7 @@ use Rattle.ring_world.specs.declared.numbers.Numbers.{Numbers}
 use Rattle.ring_world.specs.Rows.{Row, no_row, published_row, taken_row}
 use Rattle.group_view.specs.Ring.{is_in}
 use Rattle.group_view.specs.Change.{AreOpeningNames}
-use Rattle.ring_world.specs.Machine.{Up, Packet, World, no_member, row_at, numbers_at, member_at, link_at, view_at}
+use Rattle.ring_world.specs.Machine.{Up, Packet, World, no_member, row_at, numbers_at, member_at, link_at, view_in}
 use Rattle.ring_world.specs.OpenLinks.{NeverRises, number}
 use Rattle.ring_world.proofs.walks.CountedWalk.{numbers, counted, only, no_but, is_early, round_of, retired_by, stopped_from, running_from, walk_over}
 use Rattle.ring_world.specs.Step.{size, log_of, put_on, gain_on, published, publish_at, is_owned, taker, take_from, stopped, stop_at, opened_link, open_to, opening}
@@ -92,7 +92,7 @@ owner_there g r w y p qs up =
     (number g r w p) y qs)
 
 -- the row of the taker for an origin of the ring
-pub taker_rises : (w : World) (y s p : ℕ) → Inv w → MayTake w y s → 1 ≤ p → p < size w → RowRises (row_of w y p) (taken_row (is_owned (view_at w (member_at w y).version) y (link_at w s).sender p) (log_of w p) (row_of w y p) (numbers_at (taken_packet w s) p))
+pub taker_rises : (w : World) (y s p : ℕ) → Inv w → MayTake w y s → 1 ≤ p → p < size w → RowRises (row_of w y p) (taken_row (is_owned (view_in w (member_at w y).version) y (link_at w s).sender p) (log_of w p) (row_of w y p) (numbers_at (taken_packet w s) p))
 taker_rises w y s p h m some lt = by_standing (take_standing w y s p h m (h.origins p some lt) lt)
   where
     c : CanTake w y s
@@ -123,10 +123,10 @@ taker_rises w y s p h m some lt = by_standing (take_standing w y s p h m (h.orig
     forgot_falls ys e = rises_first (second_round ys) (retired_by w p ys) (rest_falls ys e)
 
     -- of an origin that y doesn't answer for
-    outside : is_owned (view_at w (member_at w y).version) y (link_at w s).sender p ≡ false → (row_of w y p).got ≤ k.got → (row_of w y p).forgot ≤ k.forgot → RowRises (row_of w y p) (taken_row (is_owned (view_at w (member_at w y).version) y (link_at w s).sender p) (log_of w p) (row_of w y p) k)
+    outside : is_owned (view_in w (member_at w y).version) y (link_at w s).sender p ≡ false → (row_of w y p).got ≤ k.got → (row_of w y p).forgot ≤ k.forgot → RowRises (row_of w y p) (taken_row (is_owned (view_in w (member_at w y).version) y (link_at w s).sender p) (log_of w p) (row_of w y p) k)
     outside own a b = subst (λ o. RowRises (row_of w y p) (taken_row o (log_of w p) (row_of w y p) k)) (sym own) (record { got = a; forgot = b; retired = omega arith })
 
-    by_standing : Standing w y s p → RowRises (row_of w y p) (taken_row (is_owned (view_at w (member_at w y).version) y (link_at w s).sender p) (log_of w p) (row_of w y p) k)
+    by_standing : Standing w y s p → RowRises (row_of w y p) (taken_row (is_owned (view_in w (member_at w y).version) y (link_at w s).sender p) (log_of w p) (row_of w y p) k)
     by_standing (elsewhere q qs e d own) =
         let inside : is_in y qs ≡ true = in_behind y q qs d (subst (λ ys. is_in y ys ≡ true) e (runs_in_walk w y p h (runs_phase-Up w y m.up))) in
         outside own
@@ -161,7 +161,7 @@ pub beyond_within : (w : World) (q p : ℕ) → size w ≤ p → IsLogged w → 
 beyond_within w q p ge l = subst (λ n. RowIsWithin n (row_of w q p)) (ap (λ z. length z.log) (get_or_beyond w.members p no_member ge)) (l.within.rows q p)
 
 -- and for any
-pub taker_rises_all : (w : World) (y s p : ℕ) → Inv w → IsLogged w → MayTake w y s → p < size w → RowRises (row_of w y p) (taken_row (is_owned (view_at w (member_at w y).version) y (link_at w s).sender p) (log_of w p) (row_of w y p) (numbers_at (taken_packet w s) p))
+pub taker_rises_all : (w : World) (y s p : ℕ) → Inv w → IsLogged w → MayTake w y s → p < size w → RowRises (row_of w y p) (taken_row (is_owned (view_in w (member_at w y).version) y (link_at w s).sender p) (log_of w p) (row_of w y p) (numbers_at (taken_packet w s) p))
 taker_rises_all w y s zero h l m lt = none_rises (row_of w y 0) _ (nobody_within w y l)
 taker_rises_all w y s (suc p) h l m lt = taker_rises w y s (suc p) h m (omega arith) lt
 

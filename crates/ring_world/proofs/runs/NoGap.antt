@@ -4,7 +4,7 @@ use Rattle.std.proofs.lemmas.Bool.{false≢true}
 use Rattle.ring_names.specs.declared.numbers.CreditSpec.{CreditSpec}
 use Rattle.group_view.specs.Change.{AreOpeningNames, opening as opening_group}
 use Rattle.ring_world.specs.View.{left_of}
-use Rattle.ring_world.specs.Machine.{Packet, World, no_packet, row_at, numbers_at, member_at, link_at, view_at, left, runs, runs_phase, oldest}
+use Rattle.ring_world.specs.Machine.{Packet, World, no_packet, row_at, numbers_at, member_at, link_at, view_in, left, runs, runs_phase, oldest}
 use Rattle.ring_world.specs.Step.{size, gain_on, publish_at, is_owned, leave_link, opening}
 use Rattle.ring_world.specs.Event.{Event, refusal, effect, IsRun, last}
 use Rattle.ring_world.specs.NoGap.{NoGapAtTake}
@@ -75,7 +75,7 @@ reached_lines credit names es are r =
 -- ---- no gap
 
 -- a current link's oldest packet, where there is one, leaves no gap
-pub no_gap : (w : World) (y s p : ℕ) → LinesRight w → runs w y ≡ true → (member_at w y).current ≡ Some s → 1 ≤ p → p < size w → is_owned (view_at w (member_at w y).version) y (link_at w s).sender p ≡ false → (numbers_at (oldest (link_at w s)) p).lo ≤ (row_at (member_at w y) p).got
+pub no_gap : (w : World) (y s p : ℕ) → LinesRight w → runs w y ≡ true → (member_at w y).current ≡ Some s → 1 ≤ p → p < size w → is_owned (view_in w (member_at w y).version) y (link_at w s).sender p ≡ false → (numbers_at (oldest (link_at w s)) p).lo ≤ (row_at (member_at w y) p).got
 no_gap w y s p h r c some l own = by_packets (link_at w s).packets (h.current y s p r c some l own)
   where
     by_packets : (ks : List Packet) → BeginsBy ks (link_at w s).sending p (row_at (member_at w y) p).got → (numbers_at (get_or ks 0 no_packet) p).lo ≤ (row_at (member_at w y) p).got

@@ -8,7 +8,7 @@ use Rattle.ring_names.specs.declared.numbers.CreditSpec.{CreditSpec}
 use Rattle.ring_world.specs.declared.numbers.Numbers.{Numbers}
 use Rattle.ring_world.specs.Rows.{Row, no_row, no_numbers, published_row, next_numbers, taken_row}
 use Rattle.group_view.specs.Change.{AreOpeningNames}
-use Rattle.ring_world.specs.Machine.{Packet, Member, Sending, Link, World, no_link, no_member, no_sending, no_packet, row_at, numbers_at, member_at, link_at, view_at}
+use Rattle.ring_world.specs.Machine.{Packet, Member, Sending, Link, World, no_link, no_member, no_sending, no_packet, row_at, numbers_at, member_at, link_at, view_in}
 use Rattle.ring_world.specs.Step.{size, log_of, next_lines, next_packet, pushed, popped, put_on, gain_on, published, publish_at, is_owned, taker, take_from, stopped, stop_at, opened_link, open_to, opening}
 use Rattle.ring_world.specs.Event.{Event, IsRun, last}
 use Rattle.ring_world.specs.Lawful.{row_of, HasOwnLog, RowIsWithin, NumbersAreWithin, PacketsAreWithin, StaysWithinLogs}
@@ -163,14 +163,14 @@ open_logged w x z h =
     h)
 
 -- a row of the taker
-pub taker_row : (P : Row → Type 0) (w : World) (y s p : ℕ) → (p < size w → P (taken_row (is_owned (view_at w (member_at w y).version) y (link_at w s).sender p) (log_of w p) (row_at (member_at w y) p) (numbers_at (taken_packet w s) p))) → (size w ≤ p → P no_row) → P (row_at (taker w y s) p)
+pub taker_row : (P : Row → Type 0) (w : World) (y s p : ℕ) → (p < size w → P (taken_row (is_owned (view_in w (member_at w y).version) y (link_at w s).sender p) (log_of w p) (row_at (member_at w y) p) (numbers_at (taken_packet w s) p))) → (size w ≤ p → P no_row) → P (row_at (taker w y s) p)
 taker_row P w y s p here beyond = ⊎_elim
     (λ (lt : p < size w). subst P (sym (row_at-taker w y s p lt)) (here lt))
-    (λ (ge : size w ≤ p). subst P (sym (get_or_beyond (taker w y s).rows p no_row (omega (arith, length-map-range_with_len (λ p. taken_row (is_owned (view_at w (member_at w y).version) y (link_at w s).sender p) (log_of w p) (row_at (member_at w y) p) (numbers_at (taken_packet w s) p)) 0 (size w))))) (beyond ge))
+    (λ (ge : size w ≤ p). subst P (sym (get_or_beyond (taker w y s).rows p no_row (omega (arith, length-map-range_with_len (λ p. taken_row (is_owned (view_in w (member_at w y).version) y (link_at w s).sender p) (log_of w p) (row_at (member_at w y) p) (numbers_at (taken_packet w s) p)) 0 (size w))))) (beyond ge))
     (cases_lt p (size w))
 
 -- a taker answers for itself
-pub owns_itself : (w : World) (y s : ℕ) → is_owned (view_at w (member_at w y).version) y (link_at w s).sender y ≡ true
+pub owns_itself : (w : World) (y s : ℕ) → is_owned (view_in w (member_at w y).version) y (link_at w s).sender y ≡ true
 owns_itself w y s = rw (nat_eq-same y) refl
 
 -- a take leaves the members as many
@@ -188,7 +188,7 @@ take_logged w y s lt there h = record {
   sized = λ q some l.
       let l2 : q < size w = omega (arith, take_size w y s) in
       at_set (λ k z. 1 ≤ k → k < size w → length z.rows ≡ size w) w.members y q (taker w y s) no_member lt
-      (λ _ _. length-map-range_with_len (λ p. taken_row (is_owned (view_at w (member_at w y).version) y (link_at w s).sender p) (log_of w p) (row_at (member_at w y) p) (numbers_at (taken_packet w s) p)) 0 (size w))
+      (λ _ _. length-map-range_with_len (λ p. taken_row (is_owned (view_in w (member_at w y).version) y (link_at w s).sender p) (log_of w p) (row_at (member_at w y) p) (numbers_at (taken_packet w s) p)) 0 (size w))
       (λ _. h.sized q) some l2 ∙ sym (take_size w y s);
   own = λ p.
       at_set (λ k z. (row_at z k).got ≡ length (log_of w k)) w.members y p (taker w y s) no_member lt
@@ -200,7 +200,7 @@ take_logged w y s lt there h = record {
     rows = λ q p. subst (λ n. RowIsWithin n (row_of (take_from w y s) q p)) (ap length (sym (take_log w y s p lt)))
         (at_set (λ k z. RowIsWithin (length (log_of w p)) (row_at z p)) w.members y q (taker w y s) no_member lt
         (taker_row (RowIsWithin (length (log_of w p))) w y s p
-        (λ _. taken_within (length (log_of w p)) (is_owned (view_at w (member_at w y).version) y (link_at w s).sender p) (log_of w p) (row_at (member_at w y) p) (numbers_at (taken_packet w s) p) (h.within.rows y p) (oldest_within (length (log_of w p)) p (link_at w s).packets (h.within.packets s p)))
+        (λ _. taken_within (length (log_of w p)) (is_owned (view_in w (member_at w y).version) y (link_at w s).sender p) (log_of w p) (row_at (member_at w y) p) (numbers_at (taken_packet w s) p) (h.within.rows y p) (oldest_within (length (log_of w p)) p (link_at w s).packets (h.within.packets s p)))
         (λ _. no_row_within (length (log_of w p))))
         (λ _. h.within.rows q p));
     packets = λ j p. subst (λ n. PacketsAreWithin n p (link_at (take_from w y s) j).packets) (ap length (sym (take_log w y s p lt)))

@@ -10,7 +10,7 @@ use Rattle.ring_world.specs.Refusal.{is_empty}
 use Rattle.group_view.specs.View.{Group}
 use Rattle.group_view.specs.Change.{marked}
 use Rattle.ring_world.specs.View.{right_of}
-use Rattle.ring_world.specs.Machine.{Phase, Waiting, Up, Stopped, Packet, Member, Ending, Moved, Halted, Link, World, no_link, no_member, member_at, link_at, view_at, newest, runs, runs_phase, oldest}
+use Rattle.ring_world.specs.Machine.{Phase, Waiting, Up, Stopped, Packet, Member, Ending, Moved, Halted, Link, World, no_link, no_member, member_at, link_at, view_in, newest, runs, runs_phase, oldest}
 use Rattle.ring_world.specs.Step.{size, published, pushed, popped, next_packet, put_on, gain_on, taker, begun, current_is, with_current, leave_link, finished, ended, ended_so, stop_at, stopped, end_out, with_member, with_link, with_view, look_at, moved_to, kept_current, open_to, opened_link, opening_link, opening}
 use Rattle.ring_world.specs.Event.{Event, end_refusal, holds_nothing, at_door, send_to, refreshed, refusal, taken_by, effect, IsRun, last}
 use Rattle.ring_world.proofs.rings.Lists.{at_set, at_push, get_or_beyond}
@@ -238,7 +238,7 @@ ends_refresh : (w : World) (x v : ℕ) → runs w x ≡ true → EndsRight w →
 ends_refresh w x v rx h = by_out (member_at w x).out refl
   where
     z : ℕ
-    z = right_of (view_at w v) x
+    z = right_of (view_in w v) x
 
     w1 : World
     w1 = look_at w x v
@@ -304,7 +304,7 @@ ends_step w e g r h = each_event EndsRight w e g.none_waits (record {
   leaves = λ y s u current k. let n = end_none w s k in ends_leave w y s (ap runs_phase u.up) current n.0 n.1 h;
   gains = λ x o u out k. ends_gain w x o (ap runs_phase u.up) out h;
   stops = λ x u. ends_stop w x (ap runs_phase u.up) h;
-  marks = λ x d u m. let v : Group = marked (view_at w (newest w)) d in ends_refresh (with_view w v) x (newest w + 1) (ap runs_phase u.up) (ends_view w v h);
+  marks = λ x d u m. let v : Group = marked (view_in w (newest w)) d in ends_refresh (with_view w v) x (newest w + 1) (ap runs_phase u.up) (ends_view w v h);
   refreshes = λ x v u m. ends_refresh w x v (ap runs_phase u.up) h;
   picks = λ y s u none e upto. ends_pick w y s (ap runs_phase u.up) e h;
 }) r

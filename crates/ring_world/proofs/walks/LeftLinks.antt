@@ -5,7 +5,7 @@ use Rattle.std.proofs.lemmas.List.{length-set, length_push}
 use Rattle.group_view.specs.View.{Group}
 use Rattle.group_view.specs.Change.{marked}
 use Rattle.ring_world.specs.View.{right_of}
-use Rattle.ring_world.specs.Machine.{Member, Ending, Moved, Halted, Link, World, member_at, link_at, view_at, newest, left, is_kept}
+use Rattle.ring_world.specs.Machine.{Member, Ending, Moved, Halted, Link, World, member_at, link_at, view_in, newest, left, is_kept}
 use Rattle.ring_world.specs.Step.{published, pushed, popped, next_packet, taker, take_from, current_is, with_current, leave_link, finished, ended, stop_at, stopped, end_out, with_member, with_link, with_view, look_at, moved_to, open_to, opened_link}
 use Rattle.ring_world.specs.Event.{Event, refreshed, refusal, effect}
 use Rattle.ring_world.specs.OpenLinks.{version_of, passes}
@@ -23,7 +23,7 @@ use Rattle.ring_world.proofs.walks.OpenWalk.{passes_is}
 -- its views and its links, with nobody's view older; and a link that was taken to its end stays so
 pub record IsLater (w w' : World) : Type 0 where
   pub many : length w.views ≤ length w'.views
-  pub views : (u : ℕ) → u < length w.views → view_at w' u ≡ view_at w u
+  pub views : (u : ℕ) → u < length w.views → view_in w' u ≡ view_in w u
   pub links : length w.links ≤ length w'.links
   pub ends : (s : ℕ) → s < length w.links → SameEnds (link_at w s) (link_at w' s)
   pub over : (s : ℕ) → s < length w.links → (link_at w s).over ≡ true → (link_at w' s).over ≡ true
@@ -108,7 +108,7 @@ later_open w x z =
 later_refresh : (w : World) (x v : ℕ) → version_of w x ≤ v → IsLater w (refreshed w x v)
 later_refresh w x v le = refresh_composed (IsLater w) w x v
     (λ k _ h. later_then w (look_at w x v) (with_link (look_at w x v) k (ended Moved (link_at w k))) h (later_end (look_at w x v) Moved k))
-    (λ u _ h. let z : ℕ = right_of (view_at w v) x in later_then w u (open_to u x z) h (later_open u x z))
+    (λ u _ h. let z : ℕ = right_of (view_in w v) x in later_then w u (open_to u x z) h (later_open u x z))
     (later_member w x (moved_to w x v) le)
 
 -- one event more
@@ -123,8 +123,8 @@ event_later w e h = each_event (IsLater w) w e h.none_waits (record {
       (later_link (current_is w y None) s (finished (link_at w s)) (record { sender = refl; receiver = refl; opened = refl }) (λ _. refl));
   gains = λ x o u out k. later_link w o _ (record { sender = refl; receiver = refl; opened = refl }) (λ b. b);
   stops = λ x u. later_then w (stop_at w x) (end_out Halted (stop_at w x) (member_at w x).out) (later_member w x (stopped (member_at w x)) (omega arith)) (end_composed (IsLater (stop_at w x)) Halted (stop_at w x) (member_at w x).out (λ k _ _. later_end (stop_at w x) Halted k) (later_same (stop_at w x)));
-  marks = λ x d u m. let w1 : World = with_view w (marked (view_at w (newest w)) d) in
-      later_then w w1 (refreshed w1 x (newest w + 1)) (later_view w (marked (view_at w (newest w)) d)) (later_refresh w1 x (newest w + 1) (omega (arith, h.inv.is_ring.held x)));
+  marks = λ x d u m. let w1 : World = with_view w (marked (view_in w (newest w)) d) in
+      later_then w w1 (refreshed w1 x (newest w + 1)) (later_view w (marked (view_in w (newest w)) d)) (later_refresh w1 x (newest w + 1) (omega (arith, h.inv.is_ring.held x)));
   refreshes = λ x v u m. later_refresh w x v m.later;
   picks = λ y s u none e upto. later_member w y (with_current (Some s) (member_at w y)) (omega arith);
 })
@@ -147,7 +147,7 @@ fails_later w w' y s h h' k there to fails = passes_is w' y s h' (omega (arith, 
     stays : Kept w' l' (version_of w' y) → Kept w l (version_of w y)
     stays kept u a b =
         let in_time : u < length w.views = omega (arith, h.inv.is_ring.held y, h.inv.is_ring.some) in
-        left_is w u l.receiver (view_at w u) refl ∙ sym (left_is w' u l.receiver (view_at w u) (k.views u in_time)) ∙ ap (left w' u) (sym e.receiver)
+        left_is w u l.receiver (view_in w u) refl ∙ sym (left_is w' u l.receiver (view_in w u) (k.views u in_time)) ∙ ap (left w' u) (sym e.receiver)
         ∙ kept u (omega (arith, e.opened)) (omega (arith, k.version y)) ∙ e.sender
 
     by_kept : (b : Bool) → is_kept w' l' (version_of w' y) ≡ b → b ≡ false

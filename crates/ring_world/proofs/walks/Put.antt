@@ -5,7 +5,7 @@ use Rattle.std.proofs.lemmas.Bool.{cases_eq, false≢true}
 use Rattle.ring_world.specs.Refusal.{is_empty}
 use Rattle.ring_world.specs.View.{is_live}
 use Rattle.group_view.specs.Ring.{rotated, is_in}
-use Rattle.ring_world.specs.Machine.{Phase, Waiting, Up, Stopped, Packet, Link, World, no_link, no_packet, row_at, numbers_at, member_at, link_at, view_at, newest, ring, left, runs, is_kept, is_waiting, runs_phase, oldest}
+use Rattle.ring_world.specs.Machine.{Phase, Waiting, Up, Stopped, Packet, Link, World, no_link, no_packet, row_at, numbers_at, member_at, link_at, view_in, newest, ring, left, runs, is_kept, is_waiting, runs_phase, oldest}
 use Rattle.ring_world.specs.Rows.{Row}
 use Rattle.ring_world.specs.declared.numbers.Numbers.{Numbers}
 use Rattle.ring_world.proofs.walks.CountedWalk.{numbers, when, only, no_but, past_first, counted, is_early, round_of, retired_by, stopped_from, running_from, stopped_prefix, walk_over, walk}
@@ -92,7 +92,7 @@ receiver_follows w x z p y ys h rx l e = by_case (runs w z) refl
   where
     by_case : (b : Bool) → runs w z ≡ b → Follows x z y ys
     by_case true rz =
-        follows (is_live (view_at w (newest w))) (runs w) x z p y ys (ring w) (h.distinct (newest w) (omega arith))
+        follows (is_live (view_in w (newest w))) (runs w) x z p y ys (ring w) (h.distinct (newest w) (omega arith))
         (h.stands z (newest w) rz (h.held z) (omega arith))
         (λ q rq. h.lives q (newest w) rq (h.held q) (omega arith)) rx rz (sym (left_in_view w (newest w) z (h.stands z (newest w) rz (h.held z) (omega arith))) ∙ l) e
     by_case false rz = follows_none (runs w) x z y ys (rotated p (ring w)) rz e

@@ -5,7 +5,7 @@ use Rattle.std.proofs.lemmas.Bool.{false≢true}
 use Rattle.std.proofs.lemmas.List.FromFn.{get_or-map-range_with_len}
 use Rattle.ring_world.specs.Refusal.{is_empty}
 use Rattle.group_view.specs.Ring.{rotated, is_in, AreDistinct, before, after}
-use Rattle.ring_world.specs.Machine.{Phase, Waiting, Up, Stopped, Packet, Link, World, no_link, no_packet, no_member, row_at, numbers_at, member_at, link_at, view_at, ring, runs, is_kept, runs_phase, oldest}
+use Rattle.ring_world.specs.Machine.{Phase, Waiting, Up, Stopped, Packet, Link, World, no_link, no_packet, no_member, row_at, numbers_at, member_at, link_at, view_in, ring, runs, is_kept, runs_phase, oldest}
 use Rattle.ring_world.specs.Rows.{Row, no_row, taken_row}
 use Rattle.ring_world.specs.declared.numbers.Numbers.{Numbers}
 use Rattle.ring_world.proofs.walks.CountedWalk.{numbers, only, no_but, counted_by, counted, block, is_early, round_of, stopped_from, running_from, walk_over, walk}
@@ -123,23 +123,23 @@ take_number_other g r w y s p q h differs =
     by_phase Up e = refl
     by_phase Stopped e = refl
 
-pub row_at-taker : (w : World) (y s p : ℕ) → p < size w → row_at (taker w y s) p ≡ taken_row (is_owned (view_at w (member_at w y).version) y (link_at w s).sender p) (log_of w p) (row_at (member_at w y) p) (numbers_at (taken_packet w s) p)
+pub row_at-taker : (w : World) (y s p : ℕ) → p < size w → row_at (taker w y s) p ≡ taken_row (is_owned (view_in w (member_at w y).version) y (link_at w s).sender p) (log_of w p) (row_at (member_at w y) p) (numbers_at (taken_packet w s) p)
 row_at-taker w y s p lt =
-    get_or-map-range_with_len (λ p. taken_row (is_owned (view_at w (member_at w y).version) y (link_at w s).sender p) (log_of w p) (row_at (member_at w y) p) (numbers_at (taken_packet w s) p)) 0 (size w) p p no_row lt (omega arith)
+    get_or-map-range_with_len (λ p. taken_row (is_owned (view_in w (member_at w y).version) y (link_at w s).sender p) (log_of w p) (row_at (member_at w y) p) (numbers_at (taken_packet w s) p)) 0 (size w) p p no_row lt (omega arith)
 
-pub take_row : (w : World) (y s p : ℕ) → y < size w → p < size w → row_at (member_at (take_from w y s) y) p ≡ taken_row (is_owned (view_at w (member_at w y).version) y (link_at w s).sender p) (log_of w p) (row_at (member_at w y) p) (numbers_at (taken_packet w s) p)
-take_row w y s p lt pl = at_set (λ k z. k ≡ y → row_at z p ≡ taken_row (is_owned (view_at w (member_at w y).version) y (link_at w s).sender p) (log_of w p) (row_at (member_at w y) p) (numbers_at (taken_packet w s) p)) w.members y y (taker w y s) no_member lt (λ _. row_at-taker w y s p pl) (λ ne e. absurd (ne e)) refl
+pub take_row : (w : World) (y s p : ℕ) → y < size w → p < size w → row_at (member_at (take_from w y s) y) p ≡ taken_row (is_owned (view_in w (member_at w y).version) y (link_at w s).sender p) (log_of w p) (row_at (member_at w y) p) (numbers_at (taken_packet w s) p)
+take_row w y s p lt pl = at_set (λ k z. k ≡ y → row_at z p ≡ taken_row (is_owned (view_in w (member_at w y).version) y (link_at w s).sender p) (log_of w p) (row_at (member_at w y) p) (numbers_at (taken_packet w s) p)) w.members y y (taker w y s) no_member lt (λ _. row_at-taker w y s p pl) (λ ne e. absurd (ne e)) refl
 
 pub take_phase : (w : World) (y s : ℕ) → y < size w → (member_at (take_from w y s) y).phase ≡ (member_at w y).phase
 take_phase w y s lt = at_set (λ k z. z.phase ≡ (member_at w k).phase) w.members y y (taker w y s) no_member lt refl (λ _. refl)
 
-pub take_number : (g : Numbers → ℕ) (r : Row → ℕ) (w : World) (y s p : ℕ) → CanTake w y s → p < size w → number g r (take_from w y s) p y ≡ r (taken_row (is_owned (view_at w (member_at w y).version) y (link_at w s).sender p) (log_of w p) (row_at (member_at w y) p) (numbers_at (taken_packet w s) p))
+pub take_number : (g : Numbers → ℕ) (r : Row → ℕ) (w : World) (y s p : ℕ) → CanTake w y s → p < size w → number g r (take_from w y s) p y ≡ r (taken_row (is_owned (view_in w (member_at w y).version) y (link_at w s).sender p) (log_of w p) (row_at (member_at w y) p) (numbers_at (taken_packet w s) p))
 take_number g r w y s p h pl =
     ap (λ f. own_number g r (take_from w y s) p f (member_at (take_from w y s) y)) (take_phase w y s h.is_member ∙ h.up)
     ∙ ap r (take_row w y s p h.is_member pl)
 
 -- where it doesn't own the origin, that is what the packet says
-pub take_number_elsewhere : (g : Numbers → ℕ) (r : Row → ℕ) (w : World) (y s p : ℕ) → ((a : Row) (k : Numbers) (l : List Message) → r (taken_row false l a k) ≡ g k) → CanTake w y s → p < size w → is_owned (view_at w (member_at w y).version) y (link_at w s).sender p ≡ false → number g r (take_from w y s) p y ≡ g (numbers_at (taken_packet w s) p)
+pub take_number_elsewhere : (g : Numbers → ℕ) (r : Row → ℕ) (w : World) (y s p : ℕ) → ((a : Row) (k : Numbers) (l : List Message) → r (taken_row false l a k) ≡ g k) → CanTake w y s → p < size w → is_owned (view_in w (member_at w y).version) y (link_at w s).sender p ≡ false → number g r (take_from w y s) p y ≡ g (numbers_at (taken_packet w s) p)
 take_number_elsewhere g r w y s p gr h pl no_own =
     take_number g r w y s p h pl
     ∙ ap (λ b. r (taken_row b (log_of w p) (row_at (member_at w y) p) (numbers_at (taken_packet w s) p))) no_own
@@ -150,17 +150,17 @@ take_number_elsewhere g r w y s p gr h pl no_own =
 -- how origin p stands to the taker y of link s
 pub data Standing (w : World) (y s p : ℕ) : Type 0 where
   -- y isn't its owner, and what y owns doesn't hold it
-  elsewhere : (q : ℕ) (qs : List ℕ) → running_from w p ≡ q ∷ qs → q ≢ y → is_owned (view_at w (member_at w y).version) y (link_at w s).sender p ≡ false → Standing w y s p
+  elsewhere : (q : ℕ) (qs : List ℕ) → running_from w p ≡ q ∷ qs → q ≢ y → is_owned (view_in w (member_at w y).version) y (link_at w s).sender p ≡ false → Standing w y s p
   -- y is its owner, and the packet hasn't come round
-  first_time : (qs : List ℕ) → running_from w p ≡ y ∷ qs → is_early (stopped_from w p) (link_at w s) ≡ true → is_owned (view_at w (member_at w y).version) y (link_at w s).sender p ≡ false → Standing w y s p
+  first_time : (qs : List ℕ) → running_from w p ≡ y ∷ qs → is_early (stopped_from w p) (link_at w s) ≡ true → is_owned (view_in w (member_at w y).version) y (link_at w s).sender p ≡ false → Standing w y s p
   -- y is its owner, and neither y's view nor the packet's knows it
-  unknown : (qs : List ℕ) → running_from w p ≡ y ∷ qs → is_early (stopped_from w p) (link_at w s) ≡ false → is_owned (view_at w (member_at w y).version) y (link_at w s).sender p ≡ false → (numbers_at (taken_packet w s) p).got ≡ (row_at (member_at w y) p).got → (numbers_at (taken_packet w s) p).forgot ≡ (row_at (member_at w y) p).forgot → Standing w y s p
+  unknown : (qs : List ℕ) → running_from w p ≡ y ∷ qs → is_early (stopped_from w p) (link_at w s) ≡ false → is_owned (view_in w (member_at w y).version) y (link_at w s).sender p ≡ false → (numbers_at (taken_packet w s) p).got ≡ (row_at (member_at w y) p).got → (numbers_at (taken_packet w s) p).forgot ≡ (row_at (member_at w y) p).forgot → Standing w y s p
   -- y is its owner, and the packet has come round
-  come_round : (qs : List ℕ) → running_from w p ≡ y ∷ qs → is_owned (view_at w (member_at w y).version) y (link_at w s).sender p ≡ true → ((j : ℕ) → only (is_early (stopped_from w p)) (counted w y) (link_at w j) ≡ []) → is_early (stopped_from w p) (link_at w s) ≡ false → Standing w y s p
+  come_round : (qs : List ℕ) → running_from w p ≡ y ∷ qs → is_owned (view_in w (member_at w y).version) y (link_at w s).sender p ≡ true → ((j : ℕ) → only (is_early (stopped_from w p)) (counted w y) (link_at w j) ≡ []) → is_early (stopped_from w p) (link_at w s) ≡ false → Standing w y s p
 
 -- ---- a round where y doesn't own the origin in its view
 
-module _ (g : Numbers → ℕ) (r : Row → ℕ) (w : World) (y s p : ℕ) (says : (a : Row) (k : Numbers) (l : List Message) → r (taken_row false l a k) ≡ g k) (h : CanTake w y s) (pl : p < size w) (no_own : is_owned (view_at w (member_at w y).version) y (link_at w s).sender p ≡ false) where
+module _ (g : Numbers → ℕ) (r : Row → ℕ) (w : World) (y s p : ℕ) (says : (a : Row) (k : Numbers) (l : List Message) → r (taken_row false l a k) ≡ g k) (h : CanTake w y s) (pl : p < size w) (no_own : is_owned (view_in w (member_at w y).version) y (link_at w s).sender p ≡ false) where
   -- what a packet says of the origin
   abbrev said : Packet → ℕ
   said k = g (numbers_at k p)
@@ -208,7 +208,7 @@ module _ (g : Numbers → ℕ) (r : Row → ℕ) (w : World) (y s p : ℕ) (says
 pub take_retired_other : (w : World) (y s p q : ℕ) → y < size w → q ≢ y → (row_at (member_at (take_from w y s) q) p).retired ≡ (row_at (member_at w q) p).retired
 take_retired_other w y s p q lt differs = at_set (λ k z. k ≢ y → (row_at z p).retired ≡ (row_at (member_at w k) p).retired) w.members y q (taker w y s) no_member lt (λ n. absurd (n refl)) (λ _ _. refl) differs
 
-pub take_retired : (w : World) (y s p : ℕ) → y < size w → p < size w → is_owned (view_at w (member_at w y).version) y (link_at w s).sender p ≡ false → (row_at (member_at (take_from w y s) y) p).retired ≡ (row_at (member_at w y) p).retired
+pub take_retired : (w : World) (y s p : ℕ) → y < size w → p < size w → is_owned (view_in w (member_at w y).version) y (link_at w s).sender p ≡ false → (row_at (member_at (take_from w y s) y) p).retired ≡ (row_at (member_at w y) p).retired
 take_retired w y s p lt pl no_own = ap (λ a. a.retired) (take_row w y s p lt pl) ∙ ap (λ b. (taken_row b (log_of w p) (row_at (member_at w y) p) (numbers_at (taken_packet w s) p)).retired) no_own
 
 -- a running member stands once among those that run

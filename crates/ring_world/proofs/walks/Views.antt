@@ -5,9 +5,9 @@ use Rattle.std.proofs.lemmas.List.{get_or_append_left, get_or_push, length_push}
 use Rattle.std.specs.Prelude.{◌&&◌, Option, Some, None}
 use Rattle.group_view.specs.View.{Group}
 use Rattle.group_view.specs.Since.{no_group}
-use Rattle.ring_world.specs.View.{ids, is_live, left_of, right_of, left_at, right_at}
+use Rattle.ring_world.specs.View.{ids, is_live, left_of, right_of, left_by, right_by}
 use Rattle.group_view.specs.Ring.{left_in, right_in, is_in, AreDistinct}
-use Rattle.ring_world.specs.Machine.{World, member_at, view_at, newest, ring, left, right, runs, Phase, Waiting, Up, Stopped, Link, is_kept, is_kept_of, is_waiting, link_at, numbers_at}
+use Rattle.ring_world.specs.Machine.{World, member_at, view_in, newest, ring, left, right, runs, Phase, Waiting, Up, Stopped, Link, is_kept, is_kept_of, is_waiting, link_at, numbers_at}
 use Rattle.ring_world.specs.Step.{with_view}
 use Rattle.group_view.specs.Change.{marked}
 use Rattle.group_view.proofs.Lists.{all_range_agree}
@@ -35,37 +35,37 @@ ring_less w w' ev hr hv hn h = record {
   held = λ x. subst (λ vs. (member_at w' x).version ≤ length vs - 1) (sym ev) (hn x);
   stands = λ x v rx a b. subst (λ vs. is_in x (ids (get_or vs v no_group)) ≡ true) (sym ev) (h.stands x v (hr x rx) (omega (arith, hv x rx)) (subst (λ vs. v ≤ length vs - 1) ev b));
   lives = λ x v rx a b. subst (λ vs. is_live (get_or vs v no_group) x ≡ true) (sym ev) (h.lives x v (hr x rx) (omega (arith, hv x rx)) (subst (λ vs. v ≤ length vs - 1) ev b));
-  front = λ x v u rx a b c. subst (λ vs. left_at vs u (right_at vs v x) ≡ x) (sym ev) (h.front x v u (hr x rx) (omega (arith, hv x rx)) b (subst (λ vs. u ≤ length vs - 1) ev c));
+  front = λ x v u rx a b c. subst (λ vs. left_by vs u (right_by vs v x) ≡ x) (sym ev) (h.front x v u (hr x rx) (omega (arith, hv x rx)) b (subst (λ vs. u ≤ length vs - 1) ev c));
 }
 
 -- ---- one more view
 
-pub view_old : (w : World) (v' : Group) (u : ℕ) → u < length w.views → view_at (with_view w v') u ≡ view_at w u
+pub view_old : (w : World) (v' : Group) (u : ℕ) → u < length w.views → view_in (with_view w v') u ≡ view_in w u
 view_old w v' u l = get_or_append_left w.views (v' ∷ []) no_group u l
 
-pub view_new : (w : World) (v' : Group) (u : ℕ) → length w.views ≡ u → view_at (with_view w v') u ≡ v'
+pub view_new : (w : World) (v' : Group) (u : ℕ) → length w.views ≡ u → view_in (with_view w v') u ≡ v'
 view_new w v' u e = get_or_push w.views v' no_group u e
 
-pub left_is : (w : World) (u y : ℕ) (v : Group) → view_at w u ≡ v → left w u y ≡ left_of v y
-unfolding left_at
+pub left_is : (w : World) (u y : ℕ) (v : Group) → view_in w u ≡ v → left w u y ≡ left_of v y
+unfolding left_by
 left_is w u y v e = ap (λ v. left_of v y) e
 
-pub right_is : (w : World) (u y : ℕ) (v : Group) → view_at w u ≡ v → right w u y ≡ right_of v y
-unfolding right_at
+pub right_is : (w : World) (u y : ℕ) (v : Group) → view_in w u ≡ v → right w u y ≡ right_of v y
+unfolding right_by
 right_is w u y v e = ap (λ v. right_of v y) e
 
 -- of an entry of that view
-pub left_in_view : (w : World) (u y : ℕ) → is_in y (ids (view_at w u)) ≡ true → left w u y ≡ left_in (is_live (view_at w u)) y (ids (view_at w u))
-left_in_view w u y i = left_is w u y (view_at w u) refl ∙ left_of_entry (view_at w u).entries y i
+pub left_in_view : (w : World) (u y : ℕ) → is_in y (ids (view_in w u)) ≡ true → left w u y ≡ left_in (is_live (view_in w u)) y (ids (view_in w u))
+left_in_view w u y i = left_is w u y (view_in w u) refl ∙ left_of_entry (view_in w u).entries y i
 
-pub right_in_view : (w : World) (u y : ℕ) → is_in y (ids (view_at w u)) ≡ true → right w u y ≡ right_in (is_live (view_at w u)) y (ids (view_at w u))
-right_in_view w u y i = right_is w u y (view_at w u) refl ∙ right_of_entry (view_at w u).entries y i
+pub right_in_view : (w : World) (u y : ℕ) → is_in y (ids (view_in w u)) ≡ true → right w u y ≡ right_in (is_live (view_in w u)) y (ids (view_in w u))
+right_in_view w u y i = right_is w u y (view_in w u) refl ∙ right_of_entry (view_in w u).entries y i
 
 pub left_old : (w : World) (v' : Group) (u y : ℕ) → u < length w.views → left (with_view w v') u y ≡ left w u y
-left_old w v' u y l = left_is (with_view w v') u y (view_at w u) (view_old w v' u l) ∙ sym (left_is w u y (view_at w u) refl)
+left_old w v' u y l = left_is (with_view w v') u y (view_in w u) (view_old w v' u l) ∙ sym (left_is w u y (view_in w u) refl)
 
 pub right_old : (w : World) (v' : Group) (u y : ℕ) → u < length w.views → right (with_view w v') u y ≡ right w u y
-right_old w v' u y l = right_is (with_view w v') u y (view_at w u) (view_old w v' u l) ∙ sym (right_is w u y (view_at w u) refl)
+right_old w v' u y l = right_is (with_view w v') u y (view_in w u) (view_old w v' u l) ∙ sym (right_is w u y (view_in w u) refl)
 
 -- what a new view has to bring, said of the newest one
 pub record MayFollow (w : World) (v' : Group) : Type 0 where
@@ -113,9 +113,9 @@ pub live-marked : (v : Group) (d q : ℕ) → is_live (marked v d) q ≡ cond (n
 live-marked v d q = live_marked_group v d q ∙ live-marked_entries Dead d q v.entries refl
 
 -- d doesn't run, and is marked dead
-pub mark_follows : (w : World) (d : ℕ) → runs w d ≡ false → IsRing w → MayFollow w (marked (view_at w (newest w)) d)
+pub mark_follows : (w : World) (d : ℕ) → runs w d ≡ false → IsRing w → MayFollow w (marked (view_in w (newest w)) d)
 mark_follows w d rd h =
-    let v : Group = view_at w (newest w) in
+    let v : Group = view_in w (newest w) in
     let still : (x : ℕ) → runs w x ≡ true → is_live (marked v d) x ≡ true = λ x rx.
     live-marked v d x ∙ ap (λ b. cond b false (is_live v x)) (nat_eq-not x d (λ e. false≢true (sym rd ∙ ap (runs w) (sym e) ∙ rx))) ∙ h.lives x (newest w) rx (h.held x) (omega arith) in
     record {
@@ -160,5 +160,5 @@ view_walk w v' p e h =
     by_phase g r q Stopped = refl
 
 -- a mark
-pub mark_walk : (w : World) (d p : ℕ) → IsRing w → Weakens (walk w p) (walk (with_view w (marked (view_at w (newest w)) d)) p)
-mark_walk w d p h = view_walk w (marked (view_at w (newest w)) d) p (ids-marked (view_at w (newest w)) d) h
+pub mark_walk : (w : World) (d p : ℕ) → IsRing w → Weakens (walk w p) (walk (with_view w (marked (view_in w (newest w)) d)) p)
+mark_walk w d p h = view_walk w (marked (view_in w (newest w)) d) p (ids-marked (view_in w (newest w)) d) h

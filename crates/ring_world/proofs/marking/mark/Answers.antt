@@ -1,7 +1,7 @@
 use Rattle.std.proofs.Common.{◌≡◌, suc, ap, sym, subst, ◌∙◌, arith}
 use Rattle.std.proofs.lemmas.Grind.{common_steps}
 use Rattle.group_view.specs.Change.{marked}
-use Rattle.ring_world.specs.Machine.{World, member_at, view_at, newest}
+use Rattle.ring_world.specs.Machine.{World, member_at, view_in, newest}
 use Rattle.ring_world.specs.Step.{with_view}
 use Rattle.ring_world.specs.Placed.{IsPlaced}
 use Rattle.ring_world.specs.Shows.{world_of}
@@ -19,5 +19,5 @@ refresh-requires-clause-placed c =
     let x = suc c.args.place in
     let d = suc c.args.dead in
     let after = c.requires.ready.after d (mark_stops w x d c.requires.enabled) (mark_lives w x d c.requires.enabled) in
-    let next : c.in_ok-next.next ≡ marked (view_at w (newest w)) d = grind (arith, common_steps) in
+    let next : c.in_ok-next.next ≡ marked (view_in w (newest w)) d = grind (arith, common_steps) in
     subst IsPlaced (sym (c.in_ok-push_view.ensures.ok ∙ ap (with_view w) next)) after

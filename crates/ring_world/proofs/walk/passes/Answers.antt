@@ -15,7 +15,7 @@ view_of-requires-clause-within c =
     (tested_within c.args.ring.now c.args.place c.index.result.now c.args.wire.now.opened c.requires.runs.placed c.requires.runs.place c.index.ensures c.requires.opened))
 
 pub returns : goal.returns
-unfolding Rattle.ring_world.specs.View.left_at
+unfolding Rattle.ring_world.specs.View.left_by
 returns c =
     c.comes_from_left.ensures
     ∙ ap (λ v. is_from_left v c.id_at.result (link_of c.args.wire.now)) (c.view_of.ensures ∙ ap (λ vs. get_or (no_group ∷ vs) c.max-version.result no_group) c.deref.ensures.value)
