@@ -96,7 +96,7 @@ find_agree t t' a (suc n) h =
     ∙ ap (λ o. cond (t' a) (Some a) o) (find_agree t t' (a + 1) n (λ s l m. h s (omega arith) (omega arith)))
 
 -- one more on each side
-lt_suc : (a b : ℕ) → nat_lt (suc a) (suc b) ≡ nat_lt a b
+pub lt_suc : (a b : ℕ) → nat_lt (suc a) (suc b) ≡ nat_lt a b
 lt_suc a b = ⊎_elim
     (λ (l : a < b). lt-ltb (suc a) (suc b) (omega arith) ∙ sym (lt-ltb a b l))
     (λ (g : b ≤ a). le-ltb (suc a) (suc b) (omega arith) ∙ sym (le-ltb a b g))

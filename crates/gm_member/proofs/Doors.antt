@@ -1,19 +1,13 @@
 -- What stands at a member's door: the test by the member's view, and the ring's.
-use Rattle.std.proofs.Common.{◌≡◌, ℕ, zero, suc, ◌<◌, ◌≤◌, Bool, true, false, not, nat_eq, nat_lt, nat_le, List, length, get_or, max, refl, sym, ap, subst, ◌∙◌, ⊎_elim, arith}
+use Rattle.std.proofs.Common.{◌≡◌, ℕ, ◌<◌, ◌≤◌, Bool, true, false, not, nat_eq, nat_lt, length, max, refl, sym, ap, subst, ◌∙◌, ⊎_elim, arith}
 use Rattle.std.specs.Prelude.{◌&&◌, ◌||◌}
-use Rattle.std.specs.Cmp.{both_ways}
-use Rattle.std.proofs.lemmas.Bool.{and_from, and_parts, false≢true, leb-true, le-leb, lt-ltb, le-ltb, cases_lt}
-use Rattle.group_view.specs.Ring.{is_in}
-use Rattle.group_view.specs.View.{Group, entry_in}
-use Rattle.group_view.specs.Since as group
-use Rattle.group_view.specs.Since.{no_group, IsSince, KeepsLeft, since_at}
-use Rattle.group_view.proofs.KeptLeft.{keeps_since, since_keeps}
-use Rattle.ring_world.specs.View.{ids, left_of, left_by}
-use Rattle.ring_world.specs.Machine.{Link, World, link_at, view_in, newest, left, is_kept}
-use Rattle.ring_world.specs.OpenLinks.{version_of, since_in, comes_from_left, passes, is_current, is_door_link}
+use Rattle.std.proofs.lemmas.Bool.{and_parts, false≢true, lt-ltb, le-ltb, cases_lt}
+use Rattle.ring_world.specs.View.{left_by}
+use Rattle.ring_world.specs.Machine.{Link, World, link_at, view_in, newest, is_kept}
+use Rattle.ring_world.specs.OpenLinks.{version_of, comes_from_left, passes, is_current, is_door_link}
 use Rattle.ring_world.specs.Event.{is_at_door}
-use Rattle.ring_world.proofs.rings.Rounds.{nat_eq-is, nat_eq-same}
-use Rattle.ring_world.proofs.invariants.Good.{Kept, kept_true, true_kept}
+use Rattle.ring_world.proofs.rings.Rounds.{nat_eq-is}
+use Rattle.ring_world.proofs.invariants.Good.{kept_true}
 use Rattle.ring_world.proofs.walks.Refresh.{kept_less}
 use Rattle.ring_world.proofs.invariants.FromLeft.{IsGood, OpenedRight, opened_right, comes_is}
 use Rattle.gm_member.specs.Held.{Incoming, is_for, stays}

@@ -32,7 +32,7 @@ pub log_past : (w : World) (p : ℕ) → size w ≤ p → log_of w p ≡ []
 log_past w p ge = ap (λ (y : Member). y.log) (get_or_past w.members p no_member ge)
 
 pub row_past : (w : World) (x p : ℕ) → IsFit w → 1 ≤ x → x < size w → size w ≤ p → row_of w x p ≡ no_row
-row_past w x p f some lt ge = get_or_past (member_at w x).rows p no_row (omega (arith, f.sized.rows x some lt))
+row_past w x p f some lt ge = get_or_past (member_at w x).rows p no_row (omega (arith, f.rows x some lt))
 
 -- a number of an origin that publishes nothing is 0
 pub got_zero : (w : World) (q p : ℕ) → IsFit w → log_of w p ≡ [] → (row_of w q p).got ≡ 0
@@ -65,7 +65,7 @@ oldest_nothing w s p f some e = no_numbers_within (numbers_at (oldest (link_at w
 -- ---- ids from 1 stand at places from 0
 
 pub place_few : (w : World) (x : ℕ) → IsFit w → 1 ≤ x → x < size w → x - 1 < 64
-place_few w x f some lt = omega (arith, f.sized.few)
+place_few w x f some lt = omega (arith, f.few)
 
 pub held_row : (w : World) (x p : ℕ) → p < 64 → known_at (held_in w x).rows p ≡ row_of w x (p + 1)
 held_row w x p l = tabled_at (λ q. row_at (member_at w x) (q + 1)) 64 p no_row l
@@ -77,7 +77,7 @@ held_sent w o p l = tabled_at (λ q. numbers_at (link_at w o).sending.sent (q + 
 pub own_row : (w : World) (x : ℕ) → IsFit w → 1 ≤ x → x < size w → (known_at (held_in w x).rows (x - 1)).got ≡ length (log_of w x)
 own_row w x f some lt =
     let back : x - 1 + 1 ≡ x = omega arith in
-    ap (λ (r : Row). r.got) (held_row w x (x - 1) (place_few w x f some lt)) ∙ ap (λ p. (row_of w x p).got) back ∙ f.sized.own x some lt
+    ap (λ (r : Row). r.got) (held_row w x (x - 1) (place_few w x f some lt)) ∙ ap (λ p. (row_of w x p).got) back ∙ f.own x
 
 -- ---- views
 

@@ -16,7 +16,6 @@ pub mod Names
 pub mod OpenDoors
 pub mod Others
 pub mod OthersStand
-pub mod OwnEnds
 pub mod Parcels
 pub mod Parts
 pub mod PickStands
@@ -24,9 +23,12 @@ pub mod Places
 pub mod Pruned
 pub mod PublishStands
 pub mod PutStands
+pub mod Ready
 pub mod RefreshStands
 pub mod Refusals
 pub mod RowViews
+pub mod Same
 pub mod StopStands
 pub mod TakeStands
+pub mod Whole
 pub mod WithinLinks

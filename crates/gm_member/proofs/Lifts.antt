@@ -11,9 +11,9 @@ use Rattle.ring_world.specs.declared.event.Event.TheVariants as event
 use Rattle.ring_world.specs.declared.phase.Phase.{Phase}
 use Rattle.ring_world.specs.declared.phase.Phase.TheVariants.{Up}
 use Rattle.ring_world.specs.Refusal.{refuse_if, or_else, is_empty}
-use Rattle.ring_world.specs.Machine.{World, member_at, link_at, is_waiting, oldest, view_in, newest}
+use Rattle.ring_world.specs.Machine.{World, member_at, link_at, oldest, view_in, newest}
 use Rattle.ring_world.specs.Step.{size, log_of, put_on as put_in, gain_on, leave_link, opening, current_is}
-use Rattle.ring_world.specs.Event.{is_stopped, on_link, running_refusal, up_refusal, put_refusal, end_refusal, gain_refusal, refusal, at_found, last, id_of, by_of, refresh_refusal, refused_at, done_at}
+use Rattle.ring_world.specs.Event.{is_stopped, on_link, running_refusal, up_refusal, put_refusal, end_refusal, gain_refusal, refusal, at_found, last, id_of, by_of, refresh_refusal, refused_at, done_at, refreshed}
 use Rattle.ring_world.proofs.events.Enabled.{up_later, up_none, running_none}
 use Rattle.gm_member.specs.declared.taken.Taken.{Taken}
 use Rattle.gm_member.specs.Parcels.{Parcel}
@@ -84,7 +84,7 @@ takes_of w x k s f some lt up is l n = record {
 
 -- who may take is up, and has a link
 has_link : (w : World) (x : ℕ) → IsFit w → take_refused (held_in w x) None ≡ None → ((member_at w x).phase ≡ Up) × (on_link (member_at w x).current reason.NoCurrentLink (λ _. None) ≡ None)
-has_link w x f e = running_none w x (on_link (member_at w x).current reason.NoCurrentLink (λ _. None)) (f.good.none_waits x) (sym (take_refuses w x None) ∙ e)
+has_link w x f e = running_none w x (on_link (member_at w x).current reason.NoCurrentLink (λ _. None)) (f.none_waits x) (sym (take_refuses w x None) ∙ e)
 
 -- what a member needs in order to take this packet
 abbrev pub MayTakeIt : Parcel → Held → Type 0
@@ -164,6 +164,13 @@ none_some (Some a) p e k = cc
 abbrev pub refreshed_alone : Group → Held → Held
 refreshed_alone v h = with_own_link h v (refreshed_held h v)
 
+-- it stands where the ring's leaves it
+pub refresh_alone : (w : World) (x n : ℕ) (v : Group) → MayLook w x n → IsGood w → v ≡ view_in w n → v.version ≡ n → refreshed_alone v (held_in w x) ≡ held_in (refreshed w x n) x
+refresh_alone w x n v m h is numbered =
+    ap (λ (g : Group). with_own_link (held_in w x) (record g { version = v.version }) (refreshed_held (held_in w x) g)) is
+    ∙ ap (λ i. with_own_link (held_in w x) (record (view_in w n) { version = i }) (refreshed_held (held_in w x) (view_in w n))) numbered
+    ∙ refresh_stands w x n m h
+
 -- a view that is one of the ring's
 abbrev pub IsThere : World → Group → Type 0
 IsThere w v = (v.version ≤ newest w) × (v ≡ view_in w v.version)
@@ -172,61 +179,60 @@ pub refresh_steps : (w : World) (x : ℕ) (v : Group) → IsFit w → 1 ≤ x �
 refresh_steps w x v f some lt e there =
     steps_there w x (event.Refresh (member_at w x).name v.version) (refreshed_alone v (held_in w x)) (f.named x some lt)
     (none_some (refresh_refused (held_in w x) v.version) (up_refusal w x (refresh_refusal w x v.version)) e (refresh_refuses_too w x v.version f.good there.0))
-    (ap (λ (g : Group). with_own_link (held_in w x) (record g { version = v.version }) (refreshed_held (held_in w x) g)) there.1
-    ∙ refresh_stands w x v.version (may_look w x v.version lt f.good there.0 e) f.good)
+    (refresh_alone w x v.version v (may_look w x v.version lt f.good there.0 e) f.good there.1 refl)
 
 -- ---- in every state of every run
 
 -- what holds of a member in each state in which all that is fit holds
 pub lifts : (h : Held) (P : World → ℕ → Held → Type 0) → ((w : World) (x : ℕ) → IsFit w → 1 ≤ x → x < size w → P w x (held_in w x)) → WhereItStands h (λ w x. P w x h)
-lifts h P each credit names events x are r some lt s =
+lifts h P each credit names events x are plain r some lt s =
     let w : World = last (opening credit names) events in
-    subst (P w x) (sym s) (each w x (reached_fit credit names events are r) some lt)
+    subst (P w x) (sym s) (each w x (reached_fit credit names events are plain r) some lt)
 
 -- a call of a member of which this holds, and which leaves it with what the step makes of it, is the event where P holds
 pub steps_where : (R : Held → Type 0) (P : World → ℕ → Type 0) (event : List ℕ → Event) (step : Held → Held)
     → ((w : World) (x : ℕ) → IsFit w → 1 ≤ x → x < size w → R (held_in w x) → P w x → StepsTo w x (event (member_at w x).name) (step (held_in w x)))
     → (h h' : Held) → R h → h' ≡ step h → WhereItStands h (λ w x. P w x → StepsTo w x (event h.name) h')
-steps_where R P event step each h h' en is credit names events x are r some lt s p =
-    let t : StepsTo (last (opening credit names) events) x (event h.name) (step h) = lifts h (λ w y k. R k → P w y → StepsTo w y (event k.name) (step k)) each credit names events x are r some lt s en p in
+steps_where R P event step each h h' en is credit names events x are plain r some lt s p =
+    let t : StepsTo (last (opening credit names) events) x (event h.name) (step h) = lifts h (λ w y k. R k → P w y → StepsTo w y (event k.name) (step k)) each credit names events x are plain r some lt s en p in
     (t.0, is ∙ t.1)
 
 -- and in every state
 pub steps_lift : (R : Held → Type 0) (event : List ℕ → Event) (step : Held → Held)
     → ((w : World) (x : ℕ) → IsFit w → 1 ≤ x → x < size w → R (held_in w x) → StepsTo w x (event (member_at w x).name) (step (held_in w x)))
     → (h h' : Held) → R h → h' ≡ step h → WhereItStands h (λ w x. StepsTo w x (event h.name) h')
-steps_lift R event step each h h' en is credit names events x are r some lt s =
-    steps_where R (λ _ _. Unit {0}) event step (λ w y f a b k _. each w y f a b k) h h' en is credit names events x are r some lt s tt
+steps_lift R event step each h h' en is credit names events x are plain r some lt s =
+    steps_where R (λ _ _. Unit {0}) event step (λ w y f a b k _. each w y f a b k) h h' en is credit names events x are plain r some lt s tt
 
 -- what the ring refuses where P holds, a call refuses that is refused for the first failing condition
 pub refuses_where : {A : Type 0} (failing : Held → Option Reason) (P : World → ℕ → Type 0) (event : List ℕ → Event) (a : A) (answer : Reason → A)
     → ((w : World) (x : ℕ) → IsFit w → 1 ≤ x → x < size w → P w x → failing (held_in w x) ≡ refusal w (event (member_at w x).name))
     → (h : Held) → ((r : Reason) → failing h ≡ Some r → a ≡ answer r) → WhereItStands h (λ w x. P w x → (r : Reason) → refusal w (event h.name) ≡ Some r → a ≡ answer r)
-refuses_where failing P event a answer each h refused credit names events x are r some lt s p q e =
-    refused q (lifts h (λ w y k. P w y → failing k ≡ refusal w (event k.name)) each credit names events x are r some lt s p ∙ e)
+refuses_where failing P event a answer each h refused credit names events x are plain r some lt s p q e =
+    refused q (lifts h (λ w y k. P w y → failing k ≡ refusal w (event k.name)) each credit names events x are plain r some lt s p ∙ e)
 
 -- and in every state
 pub refuses_too : {A : Type 0} (failing : Held → Option Reason) (event : List ℕ → Event) (a : A) (answer : Reason → A)
     → ((w : World) (x : ℕ) → IsFit w → 1 ≤ x → x < size w → failing (held_in w x) ≡ refusal w (event (member_at w x).name))
     → (h : Held) → ((r : Reason) → failing h ≡ Some r → a ≡ answer r) → WhereItStands h (λ w x. (r : Reason) → refusal w (event h.name) ≡ Some r → a ≡ answer r)
-refuses_too failing event a answer each h refused credit names events x are r some lt s =
-    refuses_where failing (λ _ _. Unit {0}) event a answer (λ w y f b l _. each w y f b l) h refused credit names events x are r some lt s tt
+refuses_too failing event a answer each h refused credit names events x are plain r some lt s =
+    refuses_where failing (λ _ _. Unit {0}) event a answer (λ w y f b l _. each w y f b l) h refused credit names events x are plain r some lt s tt
 
 pub number_lifts : (h : Held) (n : ℕ) → n ≡ (known_at h.rows (h.id - 1)).got + 1 → WhereItStands h (λ w x. n ≡ length (log_of w x) + 1)
-number_lifts h n e credit names events x are r some lt s =
-    e ∙ lifts h (λ w y k. (known_at k.rows (k.id - 1)).got + 1 ≡ length (log_of w y) + 1) publish_number credit names events x are r some lt s
+number_lifts h n e credit names events x are plain r some lt s =
+    e ∙ lifts h (λ w y k. (known_at k.rows (k.id - 1)).got + 1 ≡ length (log_of w y) + 1) publish_number credit names events x are plain r some lt s
 
 pub put_packet_lifts : (h : Held) (o : Outgoing) → h.out ≡ Some o → WhereItStands h (λ w x. IsPutPacket w x (parcel_on h.view.version h.rows o))
-put_packet_lifts h o e credit names events x are r some lt s =
-    lifts h (λ w y k. k.out ≡ Some o → IsPutPacket w y (parcel_on k.view.version k.rows o)) (λ w y f a b. put_is w y o f a b) credit names events x are r some lt s e
+put_packet_lifts h o e credit names events x are plain r some lt s =
+    lifts h (λ w y k. k.out ≡ Some o → IsPutPacket w y (parcel_on k.view.version k.rows o)) (λ w y f a b. put_is w y o f a b) credit names events x are plain r some lt s e
 
 pub news_lift : (h : Held) (k : Parcel) (t : List Taken) → t ≡ news_of h k → WhereItStands h (λ w x. IsNextPacket w x k → t ≡ taken_in w (member_at w x).current x)
-news_lift h k t e credit names events x are r some lt s n =
-    e ∙ lifts h (λ w y g. IsNextPacket w y k → news_of g k ≡ taken_in w (member_at w y).current y) (λ w y f a b. news_are w y k f) credit names events x are r some lt s n
+news_lift h k t e credit names events x are plain r some lt s n =
+    e ∙ lifts h (λ w y g. IsNextPacket w y k → news_of g k ≡ taken_in w (member_at w y).current y) (λ w y f a b. news_are w y k f) credit names events x are plain r some lt s n
 
 -- a refresh to one of the ring's views, with the link that a member that is alone opens to itself
 pub refresh_lifts : (h h' : Held) (v : Group) → refresh_refused h v.version ≡ None → h' ≡ refreshed_held h v
     → WhereItStands h (λ w x. v.version ≤ newest w → v ≡ view_in w v.version → StepsTo w x (event.Refresh h.name v.version) (with_own_link h v h'))
-refresh_lifts h h' v en e credit names events x are r some lt s upto is =
+refresh_lifts h h' v en e credit names events x are plain r some lt s upto is =
     steps_where (λ k. refresh_refused k v.version ≡ None) (λ w _. IsThere w v) (λ name. event.Refresh name v.version) (refreshed_alone v) (λ w y f a b. refresh_steps w y v f a b)
-    h (with_own_link h v h') en (ap (with_own_link h v) e) credit names events x are r some lt s (upto, is)
+    h (with_own_link h v h') en (ap (with_own_link h v) e) credit names events x are plain r some lt s (upto, is)

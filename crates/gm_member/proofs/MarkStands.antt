@@ -1,15 +1,19 @@
 -- A member that has another marked dead stands where the ring's mark leaves it.
-use Rattle.std.proofs.Common.{◌≡◌, ℕ, ◌+◌, ◌<◌, nat_eq, nat_le, [], ◌∷◌, ◌++◌, length, map, max, refl, sym, ap, ◌∙◌, arith}
+use Rattle.std.proofs.Common.{◌≡◌, ℕ, ◌+◌, ◌<◌, nat_eq, nat_le, List, length, map, max, Some, None, refl, sym, ap, ◌∙◌, arith}
 use Rattle.std.specs.Prelude.{◌&&◌}
-use Rattle.std.proofs.lemmas.List.{length_push}
 use Rattle.group_view.specs.View.{Group, entry_in}
 use Rattle.group_view.specs.Change.{marked}
 use Rattle.ring_world.specs.Machine.{Link, World, member_at, link_at, view_in, newest, left}
 use Rattle.ring_world.specs.OpenLinks.{version_of, since_in, comes_from_left, is_door_link}
 use Rattle.ring_world.specs.Step.{with_view}
-use Rattle.ring_world.proofs.events.WhatRefuses.{MayLook, MayMark}
+use Rattle.ring_world.specs.declared.event.Event.TheVariants.{Mark}
+use Rattle.ring_world.specs.Event.{id_of, of_member, at_found, mark_refusal, refused_at, refreshed, refusal, done_at, effect}
+use Rattle.ring_world.proofs.events.Refusals.{id_within}
+use Rattle.ring_world.proofs.events.Enabled.{up_none}
+use Rattle.ring_world.proofs.events.Cases.{may_mark}
+use Rattle.ring_world.proofs.events.WhatRefuses.{MayMark}
 use Rattle.ring_world.proofs.walks.Views.{view_old, view_new, left_old}
-use Rattle.ring_world.proofs.invariants.Happens.{IsGood, mark_view_good}
+use Rattle.ring_world.proofs.invariants.Happens.{IsGood}
 use Rattle.gm_member.specs.Stands.{incoming_in, waits_for, door_in, held_in}
 use Rattle.gm_member.proofs.DoorLists.{filter_agree}
 use Rattle.gm_member.proofs.Parts.{held_same}
@@ -43,18 +47,20 @@ mark_view w d = marked (view_in w (newest w)) d
 abbrev pub mark_world : World → ℕ → World
 mark_world w d = with_view w (mark_view w d)
 
--- that state is one in which everything holds
-pub mark_good : (w : World) (x d : ℕ) → MayMark w x d → IsGood w → IsGood (mark_world w d)
-mark_good w x d m h = mark_view_good w d m.rests m.lives h
-
--- x may look at that view
-pub mark_look : (w : World) (x d : ℕ) → MayMark w x d → IsGood w → MayLook (mark_world w d) x (newest w + 1)
-mark_look w x d m h =
-    let more : length (w.views ++ mark_view w d ∷ []) ≡ length w.views + 1 = length_push w.views (mark_view w d) in
-    let some : 0 < length w.views = h.inv.is_ring.some in
-    let upto = h.inv.is_ring.held x in
-    record { is_member = m.is_member; up = m.up; later = omega arith; upto = omega arith }
-
--- it is the one that the mark makes
+-- the newest view is the one that the mark makes
 pub mark_newest : (w : World) (d : ℕ) → IsGood w → view_in (mark_world w d) (newest w + 1) ≡ mark_view w d
 mark_newest w d h = let some : 0 < length w.views = h.inv.is_ring.some in view_new w (mark_view w d) (newest w + 1) (omega arith)
+
+-- ---- the event
+
+-- who was found may mark
+pub mark_may : (w : World) (x d : ℕ) (by dead : List ℕ) → id_of w by ≡ Some x → id_of w dead ≡ Some d → refusal w (Mark by dead) ≡ None → MayMark w x d
+mark_may w x d by dead named there r =
+    let a = up_none w x (of_member (id_of w dead) (mark_refusal w x)) (sym (ap (λ o. of_member o (refused_at w (Mark by dead))) named) ∙ r) in
+    may_mark w x d (id_within w by x named).1 a.0 (sym (ap (λ o. of_member o (mark_refusal w x)) there) ∙ a.1)
+
+-- it is a look at that view
+pub mark_is : (w : World) (x d : ℕ) (by dead : List ℕ) → id_of w by ≡ Some x → id_of w dead ≡ Some d → effect w (Mark by dead) ≡ refreshed (mark_world w d) x (newest w + 1)
+mark_is w x d by dead named there =
+    ap (λ o. at_found o w (done_at w (Mark by dead))) named
+    ∙ ap (λ o. at_found o w (λ e. refreshed (mark_world w e) x (newest w + 1))) there

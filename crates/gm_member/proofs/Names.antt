@@ -1,22 +1,18 @@
--- The names of the members stay, and different names find their members; nobody stands at id 0.
-use Rattle.std.proofs.Common.{◌≡◌, ℕ, zero, suc, ◌+◌, ◌<◌, ◌≤◌, bytes_eq, List, [], ◌∷◌, length, map, drop, get_or, set, Some, None, refl, sym, ap, ◌∙◌, arith}
-use Rattle.std.specs.Prelude.{position, option_map}
+-- Where nobody is admitted, the members are those of the opening, by their names.
+use Rattle.std.proofs.Common.{◌≡◌, ℕ, suc, ◌+◌, ◌<◌, true, List, [], ◌∷◌, length, map, get_or, Some, None, refl, sym, ap, ◌∙◌, arith}
 use Rattle.std.specs.List.{range_with_len}
 use Rattle.std.proofs.Math.Seq.{map-set_same}
-use Rattle.std.proofs.lemmas.List.{length-map, get_or-map, get_or-set_other}
 use Rattle.ring_names.specs.declared.numbers.CreditSpec.{CreditSpec}
-use Rattle.group_view.specs.Change.{AreDifferent, AreOpeningNames, marked}
+use Rattle.group_view.specs.Change.{AreOpeningNames, marked}
 use Rattle.ring_world.specs.declared.event.Event.{Event}
 use Rattle.ring_world.specs.declared.phase.Ending.TheVariants.{Halted}
 use Rattle.ring_world.specs.Machine.{Member, World, no_member, member_at, view_in, newest}
-use Rattle.ring_world.specs.Step.{size, log_of, published, taker, with_current, stop_at, stopped, with_member, with_view, moved_to, opening, opening_member}
-use Rattle.ring_world.specs.Event.{id_of, refreshed, refusal, effect, IsRun, last}
-use Rattle.ring_world.proofs.events.Names.{same_bytes, own_bytes, found_at}
-use Rattle.ring_world.proofs.rings.Lists.{at_set}
-use Rattle.ring_world.proofs.events.Cases.{Cases, each_event}
+use Rattle.ring_world.specs.Step.{published, taker, with_current, stop_at, stopped, with_member, with_view, moved_to, opening, opening_member}
+use Rattle.ring_world.specs.Event.{is_plain, ArePlain, refreshed, refusal, effect, IsRun, last}
+use Rattle.ring_world.proofs.events.Cases.{PlainCases}
 use Rattle.ring_world.proofs.events.Composed.{end_composed, refresh_composed}
-use Rattle.ring_world.proofs.events.Parts.{Part, cast_part, put_part, take_part, gain_part, stop_part, open_part, still_part, run_keeps}
-use Rattle.ring_world.proofs.invariants.Happens.{IsGood, run_events, opening_good}
+use Rattle.ring_world.proofs.events.Plain.{NoneWaits, each_plain, plain_events, opening_none}
+use Rattle.ring_world.proofs.invariants.Happens.{opening_good}
 
 -- ---- the names stay
 
@@ -35,10 +31,10 @@ refreshed_names names w x v h = refresh_composed (NamesAre names) w x v
     (λ u _ g. set_names names u x (record (member_at u x) { out = Some (length u.links) }) refl g)
     (set_names names w x (moved_to w x v) refl h)
 
-event_names : (names : List (List ℕ)) (w : World) (e : Event) → IsGood w → refusal w e ≡ None → NamesAre names w → NamesAre names (effect w e)
-event_names names w e g r h = each_event (NamesAre names) w e g.none_waits cases r
+plain_names : (names : List (List ℕ)) (w : World) (e : Event) → is_plain e ≡ true → NoneWaits w → refusal w e ≡ None → NamesAre names w → NamesAre names (effect w e)
+plain_names names w e p n r h = each_plain (NamesAre names) w e p n cases r
   where
-    cases : Cases (NamesAre names) w
+    cases : PlainCases (NamesAre names) w
     cases = record {
       casts = λ x m u. set_names names w x (published x m (member_at w x)) refl h;
       puts = λ x o u is k. h;
@@ -68,56 +64,7 @@ opening_names credit names =
     (named_alike (opening_member names) (λ i. record no_member { name = get_or ([] ∷ names) i [] }) (range_with_len 1 (length names)) (λ i. refl)
     ∙ names_from names ([] ∷ names) 1 (λ k l. let next : 1 + k ≡ suc k = omega arith in ap (λ n. get_or ([] ∷ names) n []) next))
 
-run_names : (names : List (List ℕ)) (w : World) (es : List Event) → IsGood w → IsRun w es → NamesAre names w → NamesAre names (last w es)
-run_names names = run_events (NamesAre names) (event_names names)
-
--- in every state of every run
-pub reached_names : (credit : CreditSpec) (names : List (List ℕ)) (events : List Event) → AreOpeningNames names → IsRun (opening credit names) events → NamesAre names (last (opening credit names) events)
-reached_names credit names events are r = run_names names (opening credit names) events (opening_good credit names are) r (opening_names credit names)
-
--- ---- and find their members
-
-found_in : (names : List (List ℕ)) (ms : List Member) (x : ℕ) → AreDifferent names → map (λ (m : Member). m.name) ms ≡ [] ∷ names → 1 ≤ x → x < length ms
-    → option_map (λ i. i + 1) (position (λ (y : Member). bytes_eq y.name (get_or ms x no_member).name) (drop 1 ms)) ≡ Some x
-found_in names [] x d e some lt = cc
-found_in names (m ∷ ms) zero d e some lt = absurd (omega arith)
-found_in names (m ∷ ms) (suc k) d e some lt =
-    ap (option_map (λ i. i + 1))
-    (found_at (λ (y : Member). bytes_eq y.name (get_or ms k no_member).name) ms k no_member (omega arith) (own_bytes (get_or ms k no_member).name)
-    (λ j jl same. d j k (omega (arith, many)) (omega (arith, many)) (sym (name_at j jl) ∙ same_bytes _ _ same ∙ name_at k (omega arith))))
-    ∙ (let is : k + 1 ≡ suc k = omega arith in ap (λ n. Some n) is)
-  where
-    rest : map (λ (y : Member). y.name) ms ≡ names
-    rest = cc
-
-    many : length ms ≡ length names
-    many = sym (length-map ms (λ (y : Member). y.name)) ∙ ap length rest
-
-    name_at : (j : ℕ) → j < length ms → (get_or ms j no_member).name ≡ get_or names j []
-    name_at j jl = sym (get_or-map (λ (y : Member). y.name) ms j no_member [] jl) ∙ ap (λ xs. get_or xs j []) rest
-
--- each member is the one that its name finds, in every state of every run
-pub reached_named : (credit : CreditSpec) (names : List (List ℕ)) (events : List Event) (x : ℕ) → AreOpeningNames names → IsRun (opening credit names) events
-    → 1 ≤ x → x < size (last (opening credit names) events) → id_of (last (opening credit names) events) (member_at (last (opening credit names) events) x).name ≡ Some x
-reached_named credit names events x are r some lt =
-    let w : World = last (opening credit names) events in
-    found_in names w.members x are.different (reached_names credit names events are r) some lt
-
--- ---- nobody publishes at id 0
-
-part_nobody : (w w' : World) → Part IsGood w w' → log_of w 0 ≡ [] → log_of w' 0 ≡ []
-part_nobody w w' (cast_part x m some lt e) h = ap (λ v. log_of v 0) e ∙ ap (λ (y : Member). y.log) (get_or-set_other w.members x 0 (published x m (member_at w x)) no_member (λ z. absurd (omega arith))) ∙ h
-part_nobody w w' (put_part x o lt free e) h = ap (λ v. log_of v 0) e ∙ h
-part_nobody w w' (take_part y s some t lt g e) h = ap (λ v. log_of v 0) e ∙ ap (λ (z : Member). z.log) (get_or-set_other w.members y 0 (taker w y s) no_member (λ z. absurd (omega arith))) ∙ h
-part_nobody w w' (gain_part o lt some e) h = ap (λ v. log_of v 0) e ∙ h
-part_nobody w w' (stop_part x lt e) h = ap (λ v. log_of v 0) e ∙ at_set (λ k (z : Member). z.log ≡ log_of w k) w.members x 0 (stopped (member_at w x)) no_member lt refl (λ _. refl) ∙ h
-part_nobody w w' (open_part x z e) h = ap (λ v. log_of v 0) e ∙ same_log w.members x (record (member_at w x) { out = Some (length w.links) }) refl ∙ h
-  where
-    same_log : (ms : List Member) (i : ℕ) (y : Member) → y.log ≡ (get_or ms i no_member).log → (get_or (set ms i y) 0 no_member).log ≡ (get_or ms 0 no_member).log
-    same_log [] i y k = refl
-    same_log (m ∷ ms) zero y k = k
-    same_log (m ∷ ms) (suc i) y k = refl
-part_nobody w w' (still_part k) h = k.same.log 0 ∙ h
-
-pub reached_nobody : (credit : CreditSpec) (names : List (List ℕ)) (events : List Event) → AreOpeningNames names → IsRun (opening credit names) events → log_of (last (opening credit names) events) 0 ≡ []
-reached_nobody credit names events are r = run_keeps (λ w. log_of w 0 ≡ []) part_nobody (opening credit names) events (opening_good credit names are) r refl
+-- in every state of every run of plain events
+pub reached_names : (credit : CreditSpec) (names : List (List ℕ)) (events : List Event) → AreOpeningNames names → ArePlain events → IsRun (opening credit names) events → NamesAre names (last (opening credit names) events)
+reached_names credit names events are plain r =
+    plain_events (NamesAre names) (λ w e p _ n k h. plain_names names w e p n k h) (opening credit names) events plain (opening_good credit names are) (opening_none credit names) r (opening_names credit names)

@@ -21,7 +21,7 @@ published_rows_are w x m f some lt =
     tabled_set (λ p. row_at y (p + 1)) (λ p. row_at (published x m y) (p + 1)) 64 (x - 1) (published_row (known_at (held_in w x).rows (x - 1)) m) no_row few
     (ap (λ r. published_row r m) (held_row w x (x - 1) few)
     ∙ ap (λ p. published_row (row_of w x p) m) back
-    ∙ sym (get_or-set_same y.rows x (published_row (row_at y x) m) no_row (omega (arith, f.sized.rows x some lt)))
+    ∙ sym (get_or-set_same y.rows x (published_row (row_at y x) m) no_row (omega (arith, f.rows x some lt)))
     ∙ ap (row_at (published x m y)) (sym back))
     (λ k kl ne. sym (get_or-set_other y.rows x (k + 1) (published_row (row_at y x) m) no_row (λ e. ne (omega arith))))
 

@@ -32,9 +32,9 @@ leaving w x o = next_packet (member_at w x) (link_at w o).sending
 pub leaving_at : (w : World) (x o p : ℕ) → IsFit w → 1 ≤ x → x < size w → numbers_at (leaving w x o) p ≡ next_numbers (link_at w o).sending.fresh (row_of w x p) (numbers_at (link_at w o).sending.sent p)
 leaving_at w x o p f some lt =
     ⊎_elim
-    (λ (pl : p < size w). next_at (member_at w x) (link_at w o).sending p (omega (arith, f.sized.rows x some lt)))
+    (λ (pl : p < size w). next_at (member_at w x) (link_at w o).sending p (omega (arith, f.rows x some lt)))
     (λ (ge : size w ≤ p).
-    next_past (member_at w x) (link_at w o).sending p (omega (arith, f.sized.rows x some lt))
+    next_past (member_at w x) (link_at w o).sending p (omega (arith, f.rows x some lt))
     ∙ sym (next_numbers-nothing (link_at w o).sending.fresh)
     ∙ ap (λ r. next_numbers (link_at w o).sending.fresh r no_numbers) (sym (row_past w x p f some lt ge))
     ∙ ap (λ k. next_numbers (link_at w o).sending.fresh (row_of w x p) k) (sym (sent_nothing w o p f (log_past w p ge))))
@@ -68,7 +68,7 @@ nothing_new w x o f =
     all_range_agree (λ p. is_sent (known_at (held_in w x).rows p) (numbers_of (outgoing_in w o).sent p)) (λ p. t (p + 1)) 0 64
     (λ p _ l. let lt : p < 64 = omega arith in ap (λ r. is_sent r (numbers_of (outgoing_in w o).sent p)) (held_row w x p lt) ∙ ap (is_sent (row_of w x (p + 1))) (held_sent w o p lt))
     ∙ all_from_one t 64 (silent_is_sent w x o 0 f f.nobody)
-    ∙ all-range_longer t (size w) 65 f.sized.few (λ p ge. silent_is_sent w x o p f (log_past w p ge))
+    ∙ all-range_longer t (size w) 65 f.few (λ p ge. silent_is_sent w x o p f (log_past w p ge))
 
 pub put_refuses : (w : World) (x : ℕ) → IsFit w → put_refused (held_in w x) ≡ up_refusal w x (on_link (member_at w x).out reason.NoOutLink (put_refusal w x))
 put_refuses w x f =
@@ -113,7 +113,7 @@ put_lines w x o f some lt =
     let fresh : Bool = (link_at w o).sending.fresh in
     map-range_same (λ p. carried_now fresh p (known_at (held_in w x).rows p) (numbers_of (outgoing_in w o).sent p)) (λ p. carried_in (log_of w (p + 1)) p (numbers_at (leaving w x o) (p + 1))) 64
     (λ p pl. ap (λ r. carried_now fresh p r (numbers_of (outgoing_in w o).sent p)) (held_row w x p pl) ∙ ap (carried_now fresh p (row_of w x (p + 1))) (held_sent w o p pl)
-    ∙ carried_same fresh p (log_of w (p + 1)) (row_of w x (p + 1)) (numbers_at (link_at w o).sending.sent (p + 1)) (numbers_at (leaving w x o) (p + 1)) (leaving_at w x o (p + 1) f some lt) (f.lawful.in_order x (p + 1)))
+    ∙ carried_same fresh p (log_of w (p + 1)) (row_of w x (p + 1)) (numbers_at (link_at w o).sending.sent (p + 1)) (numbers_at (leaving w x o) (p + 1)) (leaving_at w x o (p + 1) f some lt) (f.heard x (p + 1)))
 
 pub put_packet : (w : World) (x o : ℕ) → IsFit w → 1 ≤ x → x < size w → StandsFor w (parcel_on (held_in w x).view.version (held_in w x).rows (outgoing_in w o)) (leaving w x o)
 put_packet w x o f some lt = record { view = version_is w x f; lines = put_lines w x o f some lt }

@@ -149,7 +149,7 @@ pub accepted_at : (w : World) (x s q p : ℕ) → IsFit w → TakesFrom w x s �
 accepted_at w x s q p f t some =
     ⊎_elim
     (λ (pl : p < size w).
-    accepted_is (owned w x s p) q (log_of w p) (row_of w x p) (numbers_at (oldest (link_at w s)) p) (oldest_within w s p f t.has).got (f.lawful.in_order x p)
+    accepted_is (owned w x s p) q (log_of w p) (row_of w x p) (numbers_at (oldest (link_at w s)) p) (oldest_within w s p f t.has).got (f.heard x p)
     (arriving_lo w x s p f t some pl) (arriving_rises w x s p f t pl)
     ∙ sym (row_at-taker w x s p pl))
     (λ (ge : size w ≤ p).

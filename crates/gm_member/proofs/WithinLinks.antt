@@ -6,7 +6,7 @@ use Rattle.ring_world.specs.declared.event.Event.{Event}
 use Rattle.ring_world.specs.Machine.{Member, World, member_at}
 use Rattle.ring_world.specs.Step.{opening}
 use Rattle.ring_world.specs.Event.{IsRun, last}
-use Rattle.gm_member.proofs.OwnEnds.{OwnEnds, reached_owns}
+use Rattle.ring_world.proofs.work.OwnEnds.{OwnEnds, reached_owns}
 
 -- of n links
 pub record Within (n : ℕ) (m : Member) : Type 0 where

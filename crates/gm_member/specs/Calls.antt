@@ -10,6 +10,7 @@ use Rattle.group_view.specs.declared.request.Request.{Request}
 use Rattle.ring_world.specs.declared.event.Event.{Event}
 use Rattle.ring_world.specs.Machine.{World}
 use Rattle.ring_world.specs.Event.{refusal}
+use Rattle.ordered_link.specs.declared.ends.LinkOut.{Ghosts}
 use Rattle.ordered_link.specs.declared.item.EndReason.{EndReason}
 use Rattle.ordered_link.specs.declared.item.EndReason.TheVariants.{Stopped}
 use Rattle.ordered_link.specs.declared.item.Item.{Item}
@@ -23,7 +24,7 @@ use Rattle.gm_member.specs.News.{news_of}
 use Rattle.gm_member.specs.Held.{Held, known_at, active_refused, published_held, put_refused, put_held, take_refused, took_held, gain_refused, gained_held, ended_held, stopped_held, pick_refused, first_at_door, picked_held}
 use Rattle.gm_member.specs.Stands.{WhereItStands, StepsTo}
 use Rattle.gm_member.specs.Ends.{IsPutFault, IsTakeFault, IsEndRefusal}
-use Rattle.gm_member.specs.Shown.{Ends, held_of, ends_of, in_name_of, in_end, with_in, has_in, KeepsSpare, OutIsReady, PutsOn, LooksOut, LooksIn, TookOn, LeavesOn, EndsOn, PicksOn, LooksBy, MovesTo}
+use Rattle.gm_member.specs.Shown.{Ends, held_of, ends_of, in_name_of, in_end, with_in, has_in, StaysReady, OutIsReady, PutsOn, LooksOut, LooksIn, TookOn, LeavesOn, EndsOn, PicksOn, LooksBy, MovesTo}
 
 -- ---- conditions, by the first that fails
 
@@ -48,116 +49,122 @@ pub record HandsBack {A X : Type 0} (failing : Option Reason) (given : X) (resul
 
 -- ---- the calls, from a member m to n
 
-module _ {O I : Type 0} where
+module _ {O I : Type 0} {g : Ghosts O Load} where
   -- it has the id, the credit and the rows that it had
-  abbrev pub SameSelf : Member O I → Member O I → Type 0
+  abbrev pub SameSelf : Member O I g → Member O I g → Type 0
   SameSelf m n = (n.id ≡ m.id) × (n.credit ≡ m.credit) × (n.known ≡ m.known)
 
   -- the links to it, with the ends of those that it has left
-  abbrev pub KeepsIns : Member O I → Member O I → Type 0
+  abbrev pub KeepsIns : Member O I g → Member O I g → Type 0
   KeepsIns m n = (n.current ≡ m.current) × (n.door ≡ m.door) × (n.old_ins ≡ m.old_ins)
 
   -- the link on which it sends, with the ends of those that it has replaced
-  abbrev pub KeepsOuts : Member O I → Member O I → Type 0
+  abbrev pub KeepsOuts : Member O I g → Member O I g → Type 0
   KeepsOuts m n = (n.out ≡ m.out) × (n.old_outs ≡ m.old_outs)
 
   -- all links, with the ends that it has replaced or left; there may be more room for these
-  abbrev pub SameLinks : Member O I → Member O I → Type 0
+  abbrev pub SameLinks : Member O I g → Member O I g → Type 0
   SameLinks m n = (n.out ≡ m.out) × (n.current ≡ m.current) × (n.door ≡ m.door) × (n.old_outs.items ≡ m.old_outs.items) × (n.old_ins ≡ m.old_ins)
 
   -- A message joins the member's own log, and its number there is the answer.
-  pub record Publishes (message : Message) (m n : Member O I) (result : Result ℕ (Message × MemberFault)) : Type 0 where
+  pub record Publishes (message : Message) (m n : Member O I g) (result : Result ℕ (Message × MemberFault)) : Type 0 where
     pub ok : OnOk result (held_of n ≡ published_held (held_of m) message)
     pub number : IfOk result (λ k. k ≡ (known_at (held_of m).rows ((held_of m).id - 1)).got + 1)
     pub err : OnErr result (held_of n ≡ held_of m)
     pub ends : ends_of n ≡ ends_of m
+    pub kept : OnErr result (StaysReady m n)
 
   -- The next packet goes on the link on which the member sends; else the end of that link may know more.
-  pub record Puts (free : O → ℕ) (ended : O → Bool) (puts : O → Item Load → O → Type 0) (looked : O → O → Type 0) (m n : Member O I) (result : Result (Unit {0}) MemberFault) : Type 0 where
+  pub record Puts (free : O → ℕ) (ended : O → Bool) (puts : O → Item Load → O → Type 0) (looked : O → O → Type 0) (m n : Member O I g) (result : Result (Unit {0}) MemberFault) : Type 0 where
     pub ok : OnOk result (held_of n ≡ put_held (held_of m))
     pub packet : OnOk result (PutsOn puts m n)
     pub fault : IfErr result (λ fault. IsRefusal (put_refused (held_of m)) fault ⊎ ((put_refused (held_of m) ≡ None) × IsPutFault free fault (ends_of n).out))
     pub err : OnErr result (held_of n ≡ held_of m)
     pub looks : OnErr result (LooksOut looked m n)
     pub ready : OutIsReady ended n
+    pub kept : OnErr result (StaysReady m n)
 
   -- The oldest packet is taken from the link from which the member takes, and what it brings is the answer.
-  pub record Takes (known : I → List (Item Load)) (waiting : I → Option ℕ) (takes : I → Item Load → I → Type 0) (looked : I → I → Type 0) (sends : I → ℕ → I → Type 0) (m n : Member O I) (result : Result (Vec Taken Global) MemberFault) : Type 0 where
+  pub record Takes (known : I → List (Item Load)) (waiting : I → Option ℕ) (takes : I → Item Load → I → Type 0) (looked : I → I → Type 0) (sends : I → ℕ → I → Type 0) (m n : Member O I g) (result : Result (Vec Taken Global) MemberFault) : Type 0 where
     pub ok : IfOk result (λ taken. (k : Parcel) × (k.view ≤ (held_of m).view.version) × (held_of n ≡ took_held (held_of m) k)
         × (taken.items ≡ news_of (held_of m) k) × TookOn waiting takes looked sends k m n)
     pub fault : IfErr result (λ fault. IsRefusal (take_refused (held_of m) None) fault
         ⊎ ((take_refused (held_of m) None ≡ None) × MatchOption n.current ⊥ (λ l. IsTakeFault known waiting (held_of m).view.version fault l.end)))
     pub err : OnErr result (held_of n ≡ held_of m)
     pub looks : OnErr result (LooksIn looked m n)
+    pub kept : OnErr result (StaysReady m n)
 
   -- The end of that link is taken, and the member leaves it.
-  pub record TakesEnd (known : I → List (Item Load)) (waiting : I → Option ℕ) (takes : I → Item Load → I → Type 0) (looked : I → I → Type 0) (m n : Member O I) (result : Result EndReason MemberFault) : Type 0 where
+  pub record TakesEnd (known : I → List (Item Load)) (waiting : I → Option ℕ) (takes : I → Item Load → I → Type 0) (looked : I → I → Type 0) (m n : Member O I g) (result : Result EndReason MemberFault) : Type 0 where
     pub ok : OnOk result (held_of n ≡ ended_held (held_of m))
     pub leaves : IfOk result (λ reason. LeavesOn takes looked reason m n)
     pub fault : IfErr result (λ fault. (r : Reason) × (fault ≡ faults.Refused r)
         × ((take_refused (held_of m) None ≡ Some r) ⊎ ((take_refused (held_of m) None ≡ None) × MatchOption n.current ⊥ (λ l. IsEndRefusal known waiting r l.end))))
     pub err : OnErr result (held_of n ≡ held_of m)
     pub looks : OnErr result (LooksIn looked m n)
+    pub kept : OnErr result (StaysReady m n)
 
   -- A call that only a condition can fail: the member then holds h, and P of its ends; else all of it is as it was.
-  pub record Acts (failing : Option Reason) (h : Held) (P : Type 0) (m n : Member O I) (result : Result (Unit {0}) MemberFault) : Type 0 where
+  pub record Acts (failing : Option Reason) (h : Held) (P : Type 0) (m n : Member O I g) (result : Result (Unit {0}) MemberFault) : Type 0 where
     pub ok : OnOk result (held_of n ≡ h)
     pub ends : OnOk result P
     pub fault : IfErr result (λ fault. IsRefusal failing fault)
     pub err : OnErr result (n ≡ m)
 
   -- It stops, and the link on which it sends ends.
-  abbrev pub Stops : (O → Item Load → O → Type 0) → Member O I → Member O I → Result (Unit {0}) MemberFault → Type 0
+  abbrev pub Stops : (O → Item Load → O → Type 0) → Member O I g → Member O I g → Result (Unit {0}) MemberFault → Type 0
   Stops puts m n result = Acts (active_refused (held_of m) None) (stopped_held (held_of m)) (EndsOn puts Stopped m n) m n result
 
   -- A grant becomes credit of the link on which it sends.
-  abbrev pub Gains : ℕ → Member O I → Member O I → Result (Unit {0}) MemberFault → Type 0
+  abbrev pub Gains : ℕ → Member O I g → Member O I g → Result (Unit {0}) MemberFault → Type 0
   Gains amount m n result = Acts (gain_refused (held_of m)) (gained_held (held_of m) amount) (ends_of n ≡ record (ends_of m) { kept = None }) m n result
 
   -- It takes from now on from the first link at its door that it may.
-  abbrev pub PicksUp : Member O I → Member O I → Result (Unit {0}) MemberFault → Type 0
+  abbrev pub PicksUp : Member O I g → Member O I g → Result (Unit {0}) MemberFault → Type 0
   PicksUp m n result = Acts (pick_refused (held_of m)) (picked_held (held_of m)) ((i : ℕ) × (first_at_door (held_of m) ≡ Some i) × PicksOn i m n) m n result
 
   -- The member reads a view and then holds h, and the answer is what is to be asked of the registrar then.
-  pub record Reads {E : Type 0} (are_fresh : ℕ → O → I → Type 0) (free : O → ℕ) (ended : O → Bool) (puts : O → Item Load → O → Type 0) (h : Held) (view : Group) (m n : Member O I) (result : Result (Vec (Request I) Global) E) : Type 0 where
+  pub record Reads {E : Type 0} (are_fresh : ℕ → O → I → Type 0) (free : O → ℕ) (ended : O → Bool) (puts : O → Item Load → O → Type 0) (h : Held) (view : Group) (m n : Member O I g) (result : Result (Vec (Request I) Global) E) : Type 0 where
     pub ok : OnOk result (held_of n ≡ h)
     pub links : OnOk result (LooksBy view m n)
     pub moves : IfOk result (λ requests. MovesTo are_fresh free ended puts view m n requests.items)
     pub err : OnErr result (held_of n ≡ held_of m)
     pub err_ends : OnErr result (ends_of n ≡ ends_of m)
+    pub ready : OutIsReady ended n
+    pub kept : OnErr result (StaysReady m n)
 
 -- ---- ends that are lent and given up
 
-module _ {O I : Type 0} where
+module _ {O I : Type 0} {g : Ghosts O Load} where
   -- An end comes back, and these are the ends that the member then has.
-  pub record Gives (e : Ends O I) (m n : Member O I) : Type 0 where
+  pub record Gives (e : Ends O I) (m n : Member O I g) : Type 0 where
     pub ends : ends_of n ≡ e
     pub held : held_of n ≡ held_of m
-    pub kept : KeepsSpare m n
+    pub kept : StaysReady m n
 
   -- This end is lent, where it is there, and these are the ends that the member then has.
-  pub record Lends {A : Type 0} (end : Option A) (e : Ends O I) (m n : Member O I) (result : Option A) : Type 0 where
+  pub record Lends {A : Type 0} (end : Option A) (e : Ends O I) (m n : Member O I g) (result : Option A) : Type 0 where
     pub lent : result ≡ end
     pub ends : ends_of n ≡ e
     pub held : held_of n ≡ held_of m
-    pub kept : KeepsSpare m n
+    pub kept : StaysReady m n
 
   -- an end to the member comes back to a place
-  abbrev pub GivesIn : ℕ → I → Member O I → Member O I → Type 0
+  abbrev pub GivesIn : ℕ → I → Member O I g → Member O I g → Type 0
   GivesIn place end m n = Gives (with_in (ends_of m) place (Some end)) m n
 
   -- the one at a place is lent
-  abbrev pub LendsIn : ℕ → Member O I → Member O I → Option I → Type 0
+  abbrev pub LendsIn : ℕ → Member O I g → Member O I g → Option I → Type 0
   LendsIn place m n result = Lends (in_end (ends_of m) place) (with_in (ends_of m) place None) m n result
 
   -- The oldest of these ends is given up, where there is one, and these are the ends that the member then has.
-  pub record GivesUp {A : Type 0} (old new : List (LinkName × A)) (e : Ends O I) (m n : Member O I) (result : Option (LinkName × A)) : Type 0 where
+  pub record GivesUp {A : Type 0} (old new : List (LinkName × A)) (e : Ends O I) (m n : Member O I g) (result : Option (LinkName × A)) : Type 0 where
     pub some : IfSome result (λ end. old ≡ end ∷ new)
     pub none : IfNone result (old ≡ [])
     pub still : IfNone result (n ≡ m)
     pub ends : ends_of n ≡ e
     pub held : held_of n ≡ held_of m
-    pub kept : KeepsSpare m n
+    pub kept : StaysReady m n
 
 -- This is the name of the link at a place: none exactly where no such link is there.
 pub record NamesIn (h : Held) (place : ℕ) (result : Option LinkName) : Type 0 where
@@ -166,15 +173,15 @@ pub record NamesIn (h : Held) (place : ℕ) (result : Option LinkName) : Type 0 
 
 -- ---- the ring's events, wherever the member stands in a state of a run
 
-module _ {O I : Type 0} where
+module _ {O I : Type 0} {g : Ghosts O Load} where
   -- what was done is the event
-  abbrev pub IsEvent : Event → Member O I → Member O I → Type 0
+  abbrev pub IsEvent : Event → Member O I g → Member O I g → Type 0
   IsEvent e m n = WhereItStands (held_of m) (λ w x. StepsTo w x e (held_of n))
 
   -- the call is refused where P holds and the event is, for the same reason
-  abbrev pub RefusesWhere : {A : Type 0} → (World → ℕ → Type 0) → Event → Member O I → Result A MemberFault → Type 0
+  abbrev pub RefusesWhere : {A : Type 0} → (World → ℕ → Type 0) → Event → Member O I g → Result A MemberFault → Type 0
   RefusesWhere P e m result = WhereItStands (held_of m) (λ w x. P w x → (r : Reason) → refusal w e ≡ Some r → result ≡ Err (faults.Refused r))
 
   -- it is refused where the event is
-  abbrev pub RefusesAs : {A : Type 0} → Event → Member O I → Result A MemberFault → Type 0
+  abbrev pub RefusesAs : {A : Type 0} → Event → Member O I g → Result A MemberFault → Type 0
   RefusesAs e m result = WhereItStands (held_of m) (λ w x. (r : Reason) → refusal w e ≡ Some r → result ≡ Err (faults.Refused r))

@@ -1,6 +1,7 @@
 pub mod Arrivals
 pub mod Calls
 pub mod Ends
+pub mod Faults
 pub mod Held
 pub mod Loads
 pub mod News

@@ -5,6 +5,7 @@ use Rattle.ring_names.specs.declared.numbers.MemberId.{MemberId}
 use Rattle.group_view.specs.declared.link.LinkKind.TheVariants.{Ring}
 use Rattle.group_view.specs.declared.request.Request.{Request}
 use Rattle.group_view.specs.declared.request.Request.TheVariants.{Deposit}
+use Rattle.ordered_link.specs.declared.ends.LinkOut.{Ghosts}
 use Rattle.ordered_link.specs.declared.item.Item.{Item}
 use Rattle.ring_world.specs.Rows.{Row}
 use Rattle.gm_member.specs.declared.packet.Load.{Load}
@@ -14,10 +15,10 @@ use Rattle.gm_member.specs.Loads.{as_item}
 use Rattle.gm_member.specs.View.{out_of}
 use Rattle.gm_member.specs.Held.{fresh_out, put_on, lines_on, next_sent, parcel_on}
 
-module _ {O I : Type 0} where
+module _ {O I : Type 0} {g : Ghosts O Load} where
   -- A spare link of a member with these rows: nothing was put on it, its packet is the first that the member will put, and no request
   -- stands in its room.
-  pub record IsSpareFor (are_fresh : ℕ → O → I → Type 0) (free : O → ℕ) (ended : O → Bool) (initial : ℕ) (rows : List Row) (s : Spare O I) : Type 0 where
+  pub record IsSpareFor (are_fresh : ℕ → O → I → Type 0) (free : O → ℕ) (ended : O → Bool) (initial : ℕ) (rows : List Row) (s : Spare O I g) : Type 0 where
     pub fresh : are_fresh initial s.out s.link
     pub free_slots : free s.out ≡ initial + 1
     pub unended : ended s.out ≡ false
@@ -27,7 +28,7 @@ module _ {O I : Type 0} where
     pub none : s.requests.items ≡ []
 
   -- The link opens from one member to another, in a version: its first packet was put, and the receiving end stands in a request.
-  pub record OpensOn (puts : O → Item Load → O → Type 0) (credit : CreditSpec) (rows : List Row) (by to : MemberId) (version : ℕ) (s : Spare O I) (l : OutLink O) (requests : List (Request I)) : Type 0 where
+  pub record OpensOn (puts : O → Item Load → O → Type 0) (credit : CreditSpec) (rows : List Row) (by to : MemberId) (version : ℕ) (s : Spare O I g) (l : OutLink O) (requests : List (Request I)) : Type 0 where
     pub held : out_of l ≡ put_on rows (fresh_out credit.initial credit.more to.0 version)
     pub kept : l.kept ≡ None
     pub end : O

@@ -6,16 +6,16 @@ use Rattle.ring_names.specs.declared.message.Message.TheVariants.{Cast}
 use Rattle.ring_names.specs.declared.numbers.CreditSpec.{CreditSpec}
 use Rattle.credit_flow.specs.Link.{oldest as oldest_grant}
 use Rattle.group_view.specs.View.{Group}
-use Rattle.group_view.specs.Change.{AreOpeningNames}
+use Rattle.group_view.specs.Change.{AreOpeningNames, marked}
 use Rattle.ring_world.specs.declared.event.Event.{Event}
 use Rattle.ring_world.specs.declared.event.Event.TheVariants as event
 use Rattle.ring_world.specs.Rows.{most_members}
 use Rattle.ring_world.specs.Refusal.{is_empty}
 use Rattle.ring_world.specs.View.{right_of}
-use Rattle.ring_world.specs.Machine.{World, Packet, row_at, numbers_at, member_at, link_at, view_in, oldest}
+use Rattle.ring_world.specs.Machine.{World, Packet, row_at, numbers_at, member_at, link_at, view_in, newest, oldest}
 use Rattle.ring_world.specs.OpenLinks.{is_door_link, passes}
 use Rattle.ring_world.specs.Step.{size, log_of, is_owned, next_packet, opening}
-use Rattle.ring_world.specs.Event.{refusal, effect, IsRun, last}
+use Rattle.ring_world.specs.Event.{id_of, refusal, effect, ArePlain, IsRun, last}
 use Rattle.gm_member.specs.declared.taken.Taken.{Taken}
 use Rattle.gm_member.specs.Parcels.{Carried, Parcel, places}
 use Rattle.gm_member.specs.News.{carried_in, taken_of}
@@ -71,16 +71,20 @@ Stands w x h = h ≡ held_in w x
 abbrev pub lines_in : World → Packet → List Carried
 lines_in w k = map (λ p. carried_in (log_of w (p + 1)) p (numbers_at k (p + 1))) places
 
--- P holds of every state of a run, and id there, at which a member that holds h stands
+-- P holds of every state of a run of the events that the parties do so far, and id there, at which a member that holds h stands
 abbrev pub WhereItStands : Held → (World → ℕ → Type 0) → Type 0
 WhereItStands h P = (credit : CreditSpec) (names : List (List ℕ)) (events : List Event) (x : ℕ)
-    → AreOpeningNames names → IsRun (opening credit names) events
+    → AreOpeningNames names → ArePlain events → IsRun (opening credit names) events
     → 1 ≤ x → x < size (last (opening credit names) events) → Stands (last (opening credit names) events) x h
     → P (last (opening credit names) events) x
 
 -- the event is enabled, and a member that holds h stands at the id x after it
 abbrev pub StepsTo : World → ℕ → Event → Held → Type 0
 StepsTo w x e h = (refusal w e ≡ None) × Stands (effect w e) x h
+
+-- a view is what marking the member of a name makes of the newest
+abbrev pub IsMarkedView : World → List ℕ → Group → Type 0
+IsMarkedView w dead v = (d : ℕ) × (id_of w dead ≡ Some d) × (v ≡ marked (view_in w (newest w)) d)
 
 -- the event by which a message is published
 abbrev pub publishing : List ℕ → Message → Event

@@ -14,9 +14,9 @@ use Rattle.gm_member.specs.declared.links.OutLink.{OutLink}
 use Rattle.gm_member.specs.declared.links.InLink.{InLink}
 use Rattle.gm_member.specs.Held.{Outgoing, Incoming, is_for, stays, at_some}
 
--- what a member knows of one origin
+-- what a member of the opening knows of one origin: it receives from the first message on
 abbrev pub row_of : Known → Row
-row_of r = record { got = length r.all.items; forgot = r.forgot; retired = r.retired; heard = r.all.items }
+row_of r = record { got = length r.all.items; forgot = r.forgot; retired = r.retired; heard = r.all.items; base = 0; born = 0 }
 
 -- a line of a packet
 abbrev pub carried_of : Line → Carried
@@ -68,10 +68,11 @@ module _ {I : Type 0} where
   abbrev pub left_link : ℕ → InLink I → List (LinkName × I)
   left_link y l = left_end (ring_link l.from.0 y l.opened) l.end
 
-  -- what stays of one link, and what is left of it
+  -- what stays of one link
   abbrev pub kept_one : Group → ℕ → InLink I → List (InLink I)
   kept_one v y l = cond (stays_at v y l) (l ∷ []) []
 
+  -- its end, where it is left
   abbrev pub left_one : Group → ℕ → InLink I → List (LinkName × I)
   left_one v y l = cond (stays_at v y l) [] (left_link y l)
 
@@ -79,12 +80,14 @@ module _ {I : Type 0} where
   abbrev pub kept_links : Group → ℕ → List (InLink I) → List (InLink I)
   kept_links v y links = filter (stays_at v y) links
 
+  -- the ends of those that are left
   abbrev pub left_links : Group → ℕ → List (InLink I) → List (LinkName × I)
   left_links v y links = flat_map (left_one v y) links
 
-  -- what stays of the link from which such a member takes, and what is left of it
+  -- what stays of the link from which such a member takes
   abbrev pub kept_link : Group → ℕ → Option (InLink I) → Option (InLink I)
   kept_link v y link = at_some link None (λ l. cond (is_for v y (in_of l)) (Some l) None)
 
+  -- its end, where it is left
   abbrev pub left_current : Group → ℕ → Option (InLink I) → List (LinkName × I)
   left_current v y link = at_some link [] (λ l. cond (is_for v y (in_of l)) [] (left_link y l))

@@ -3,11 +3,14 @@ ghost use Rattle.std.specs.Prelude.{◌≡◌};
 
 use crate::member::Member;
 use crate::packet::Load;
+use crate::views::{left, since};
 use group_view::LinkName;
 use ordered_link::{LinkIn, LinkPair};
 
 impl<O: LinkPair<Load, In = I>, I: LinkIn<Load> + Drop> Member<O, I> {
     ghost use Rattle.std.specs.Prelude.{◌≡◌, length, None, Some, slice_set, slice_index_or, nat_lt, is_some, true};
+    ghost use Rattle.std.specs.Prelude.{MatchOption, nat_eq, ◌&&◌};
+    ghost use Rattle.gm_member.specs.Held.{is_for, fresh_in};
     ghost use Rattle.gm_member.specs.Shown.{held_of, ends_of, in_end, has_in};
     ghost use Rattle.gm_member.specs.Calls.{Gives, GivesIn, Lends, LendsIn, GivesUp, NamesIn};
 
@@ -118,6 +121,38 @@ impl<O: LinkPair<Load, In = I>, I: LinkIn<Load> + Drop> Member<O, I> {
         }
         match self.door.get(place - 1) {
             Some(link) => Some(link.name(self.id)),
+            None => None,
+        }
+    }
+
+    /// Whether a link of that name goes to the member and comes from its left neighbour, which was that already when
+    /// the link opened: so at the member's door it is one to be picked.
+    pub fn comes_for(&self, name: &LinkName) -> bool
+        ensures { result ≡ (nat_eq name.now.to.0 (held_of self.now).id
+            && is_for (held_of self.now).view (held_of self.now).id
+            (fresh_in (held_of self.now).initial (held_of self.now).more name.now.from.0 name.now.view)) }
+    {
+        name.to.0 == self.id.0
+            && name.from.0 == left(&self.view, self.id).0
+            && since(&self.view, self.id) <= name.view
+    }
+
+    /// The end of the link on which the member sends: none where it isn't there.
+    pub fn out_end(&self) -> Option<&O>
+        ensures { MatchOption result ((ends_of self.now).out ≡ None) (λ end. (ends_of self.now).out ≡ Some end.now) }
+    {
+        match &self.out {
+            Some(link) => link.end.as_ref(),
+            None => None,
+        }
+    }
+
+    /// The end of the link from which the member takes: none where it isn't there.
+    pub fn link_end(&self) -> Option<&I>
+        ensures { MatchOption result ((ends_of self.now).link ≡ None) (λ end. (ends_of self.now).link ≡ Some end.now) }
+    {
+        match &self.current {
+            Some(link) => link.end.as_ref(),
             None => None,
         }
     }

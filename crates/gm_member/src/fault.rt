@@ -1,8 +1,10 @@
 //! Why a call of a member is not done.
 ghost use Rattle.std.specs.Prelude.{◌≡◌};
 ghost use Rattle.gm_member.specs.declared.fault.MemberFault.TheVariants as faults;
+ghost use Rattle.gm_member.specs.Faults.{refused_as};
 
 use ring_names::{OutOfMemory, Reason};
+use ring_world::Refused;
 
 /// Why a call of a member is not done. The member is then as before.
 #[derive(Clone, Copy, PartialEq, Eq, Debug)]
@@ -26,5 +28,16 @@ impl From<OutOfMemory> for MemberFault {
 
     fn from(_error: OutOfMemory) -> MemberFault {
         MemberFault::OutOfMemory
+    }
+}
+
+impl From<MemberFault> for Refused {
+    ghost from_gives = { λ fault refused. refused ≡ refused_as fault };
+
+    fn from(fault: MemberFault) -> Refused {
+        match fault {
+            MemberFault::Refused(reason) => Refused::NotEnabled(reason),
+            MemberFault::OutOfMemory => Refused::OutOfMemory,
+        }
     }
 }

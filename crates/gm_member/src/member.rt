@@ -16,7 +16,7 @@ use crate::taken::Taken;
 use crate::views::{left, right, version};
 use credit_flow::{CreditIn, CreditOut};
 use group_view::{LinkName, Request, View};
-use ordered_link::{EndReason, LinkIn, LinkPair};
+use ordered_link::{EndReason, LinkIn, LinkOut, LinkPair};
 use ring_names::{CreditSpec, MemberId, Message, Name, OutOfMemory, Reason};
 use ring_world::Phase;
 use std::alloc::Global;
@@ -28,7 +28,7 @@ const MOST_MEMBERS: usize = 64;
 /// has heard of, its own among them. It sends on one link and takes from one, and further links may stand at its
 /// door. While its question for a view is open it has a link ready, with which the answer wants no memory.
 #[derive(Drop)]
-pub struct Member<O, I> {
+pub struct Member<O: LinkOut<Load>, I> {
     pub(crate) alloc: Global,
     pub(crate) name: Name,
     pub(crate) id: MemberId,
@@ -48,7 +48,7 @@ pub struct Member<O, I> {
     ghost stands: { is_in id.0 (ids view) ≡ true },
     ghost up: { is_up_where asked phase ≡ true },
     ghost room_in: { vec_len old_ins + vec_len door + count_of current ≤ vec_capacity old_ins },
-    ghost room_out: { vec_len old_outs + count_of out ≤ vec_capacity old_outs },
+    ghost room_out: { vec_len old_outs + count_of out + count_of spare ≤ vec_capacity old_outs },
 }
 
 impl<O: LinkPair<Load, In = I>, I: LinkIn<Load> + Drop> Member<O, I> {
@@ -78,8 +78,8 @@ impl<O: LinkPair<Load, In = I>, I: LinkIn<Load> + Drop> Member<O, I> {
     ghost use Rattle.gm_member.specs.News.{news_of};
     ghost use Rattle.gm_member.specs.Shown.{Ends, held_of, ends_of, out_name_of, OutIsReady, InIsReady, PutsOn};
     ghost use Rattle.gm_member.specs.Shown.{LooksOut, LooksIn, TookOn, LeavesOn, EndsOn, KeepsGrant, NoGrantBack};
-    ghost use Rattle.gm_member.specs.Shown.{GrantIsBack, LooksBy, IsReadyToMove, SendsOn, MovesTo, PicksOn};
-    ghost use Rattle.gm_member.specs.Shown.{KeepsSpare, OutIsOpen};
+    ghost use Rattle.gm_member.specs.Shown.{GrantIsBack, LooksBy, SpareIsReady, SendsOn, MovesTo, PicksOn};
+    ghost use Rattle.gm_member.specs.Shown.{KeepsSpare, StaysReady, OutIsOpen};
     ghost use Rattle.gm_member.specs.Calls.{Heeds, HandsBack, Publishes, Puts, Takes, TakesEnd, Stops, Gains, PicksUp};
     ghost use Rattle.gm_member.specs.Calls.{Reads, IsEvent, RefusesAs, RefusesWhere, SameSelf, SameLinks, KeepsIns};
     ghost use Rattle.gm_member.specs.Calls.{KeepsOuts, Gives, Lends};
@@ -490,6 +490,7 @@ impl<O: LinkPair<Load, In = I>, I: LinkIn<Load> + Drop> Member<O, I> {
         requires { OutIsReady O.ended self.old }
         ensures held { held_of self.new ≡ held_of self.old }
         ensures looks { LooksOut O.looked self.old self.new }
+        ensures kept { StaysReady self.old self.new }
         ensures none { IfNone result ((gain_refused (held_of self.old) ≡ None) × GrantIsBack O.grants self.new) }
         ensures some { IfSome result (λ r. (gain_refused (held_of self.old) ≡ Some r)
             ⊎ ((r ≡ Reason.NoGrant) × (gain_refused (held_of self.old) ≡ None) × NoGrantBack O.grants self.new)) }
@@ -519,6 +520,7 @@ impl<O: LinkPair<Load, In = I>, I: LinkIn<Load> + Drop> Member<O, I> {
         ensures held { held_of self.new ≡ held_of self.old }
         ensures some { IfSome result (λ amount. KeepsGrant O.gains amount self.old self.new) }
         ensures none { IfNone result (LooksOut O.looked self.old self.new × NoGrantBack O.grants self.new) }
+        ensures kept { StaysReady self.old self.new }
         ensures ready { OutIsReady O.ended self.new }
     {
         match &mut self.out {
@@ -611,7 +613,7 @@ impl<O: LinkPair<Load, In = I>, I: LinkIn<Load> + Drop> Member<O, I> {
             × (self.new.credit ≡ self.old.credit) }
         ensures others { KeepsIns self.old self.new }
         ensures room { vec_capacity self.old.old_outs ≤ vec_capacity self.new.old_outs }
-        ensures len { vec_len self.new.old_outs ≤ vec_len self.old.old_outs + 1 }
+        ensures len { vec_len self.new.old_outs ≤ vec_len self.old.old_outs + count_of self.old.out }
         ensures kept { self.new.spare ≡ self.old.spare }
     {
         let Some(link) = self.out.take() else {
@@ -632,29 +634,35 @@ impl<O: LinkPair<Load, In = I>, I: LinkIn<Load> + Drop> Member<O, I> {
         }
     }
 
-    /// A link that is ready to open, with room for the end of the one that it replaces.
-    pub(crate) fn prepare(&mut self) -> Result<Spare<O, I>, OutOfMemory>
+    /// A link is ready to open, with room for the end of the one that it replaces.
+    pub(crate) fn prepare(&mut self) -> Result<(), OutOfMemory>
         ensures held { held_of self.new ≡ held_of self.old }
         ensures ends { SameLinks self.old self.new }
         ensures same { SameSelf self.old self.new }
-        ensures kept { self.new.spare ≡ self.old.spare }
-        ensures ready { IfOk result (λ spare. IsReadyToMove O.are_fresh O.free O.ended self.new spare) }
+        ensures kept { OnErr result (KeepsSpare self.old self.new) }
+        ensures ready { OnOk result (SpareIsReady O.are_fresh O.free O.ended self.new) }
     {
         self.old_outs.reserve(2)?;
         let spare = Spare::make(self.alloc, self.credit, &self.known)?;
-        Ok(spare)
+        self.spare = Some(spare);
+        Ok(())
     }
 
-    /// The member sends on a link that was ready, to another, and what it sent on before ends.
-    fn send_to(&mut self, spare: Spare<O, I>, to: MemberId) -> Vec<Request<I>>
-        requires ready { IsReadyToMove O.are_fresh O.free O.ended self.old spare }
+    /// The member sends on the link that was ready, to another, and what it sent on before ends.
+    fn send_to(&mut self, to: MemberId) -> Vec<Request<I>>
+        requires ready { IsSome self.old.spare }
         requires out { OutIsOpen O.ended self.old }
-        ensures held { held_of self.new ≡ record (held_of self.old) { out = Some (first_out (held_of self.old) to.0) } }
-        ensures sends { SendsOn O.are_fresh O.free O.ended O.puts self.old.view.version to self.old self.new
-            result.items }
+        ensures held { SpareIsReady O.are_fresh O.free O.ended self.old → held_of self.new
+            ≡ record (held_of self.old) { out = Some (first_out (held_of self.old) to.0) } }
+        ensures sends { SpareIsReady O.are_fresh O.free O.ended self.old
+            → SendsOn O.are_fresh O.free O.ended O.puts self.old.view.version to self.old self.new result.items }
+        ensures open { OutIsOpen O.ended self.new }
         ensures others { KeepsIns self.old self.new }
-        ensures kept { self.new.spare ≡ self.old.spare }
+        ensures spare { self.new.spare ≡ None }
     {
+        let Some(spare) = self.spare.take() else {
+            unreachable!()
+        };
         self.move_on();
         let (link, requests) = spare.open(self.id, to, version(&self.view), self.credit);
         self.out = Some(link);
@@ -680,19 +688,22 @@ impl<O: LinkPair<Load, In = I>, I: LinkIn<Load> + Drop> Member<O, I> {
         None
     }
 
-    /// The member reads a view, and sends to its right neighbour in it on a link that was ready.
-    pub(crate) fn read(&mut self, view: View, to: MemberId, spare: Spare<O, I>) -> Vec<Request<I>>
+    /// The member reads a view, and sends to its right neighbour in it on the link that was ready.
+    pub(crate) fn read(&mut self, view: View, to: MemberId) -> Vec<Request<I>>
         requires stands { is_in self.old.id.0 (ids view) ≡ true }
-        requires ready { IsReadyToMove O.are_fresh O.free O.ended self.old spare }
+        requires ready { IsSome self.old.spare }
         requires out { OutIsOpen O.ended self.old }
-        ensures held { held_of self.new ≡ record (looked_held (held_of self.old) view)
+        ensures held { SpareIsReady O.are_fresh O.free O.ended self.old → held_of self.new
+            ≡ record (looked_held (held_of self.old) view)
             { out = Some (first_out (looked_held (held_of self.old) view) to.0) } }
         ensures links { LooksBy view self.old self.new }
-        ensures sends { SendsOn O.are_fresh O.free O.ended O.puts view.version to self.old self.new result.items }
-        ensures kept { self.new.spare ≡ self.old.spare }
+        ensures sends { SpareIsReady O.are_fresh O.free O.ended self.old
+            → SendsOn O.are_fresh O.free O.ended O.puts view.version to self.old self.new result.items }
+        ensures open { OutIsOpen O.ended self.new }
+        ensures spare { self.new.spare ≡ None }
     {
         self.look(view);
-        self.send_to(spare, to)
+        self.send_to(to)
     }
 
     /// The member reads a view of the ring in which it stands, as `gm:check_neighbours`: it goes on taking from its
@@ -732,10 +743,10 @@ impl<O: LinkPair<Load, In = I>, I: LinkIn<Load> + Drop> Member<O, I> {
             self.look(view);
             return Ok(Vec::new(self.alloc));
         }
-        let Ok(spare) = self.prepare() else {
+        let Ok(()) = self.prepare() else {
             return Err((view, MemberFault::OutOfMemory));
         };
-        let requests = self.read(view, to, spare);
+        let requests = self.read(view, to);
         Ok(requests)
     }
 

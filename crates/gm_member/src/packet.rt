@@ -61,7 +61,7 @@ impl Packet {
     }
 
     /// Why a member whose view is of this version may not take it: it is of a newer one.
-    pub(crate) fn view_refusal(&self, version: u32) -> Option<Reason>
+    pub fn view_refusal(&self, version: u32) -> Option<Reason>
         ensures { result ≡ version_refusal (self.now).view version }
     {
         if self.view > version {

@@ -5,7 +5,6 @@ use crate::arrivals::arrive_all;
 use crate::fault::MemberFault;
 use crate::member::Member;
 use crate::packet::Load;
-use crate::spare::Spare;
 use crate::views::{right, version};
 use group_view::{Answer, Deposited, Request, View};
 use ordered_link::{LinkIn, LinkPair};
@@ -25,17 +24,18 @@ pub enum Ask {
 impl<O: LinkPair<Load, In = I>, I: LinkIn<Load> + Drop> Member<O, I> {
     ghost use Rattle.std.specs.Prelude.{◌≡◌, ◌⊎◌, ◌+◌, ◌<◌, ◌≤◌, ◌^◌, ◌||◌, ℕ, [], OnOk, OnErr, IfOk, IfErr};
     ghost use Rattle.std.specs.Prelude.{IfSome, IfNone, IsOk, IsSome, None, Some, Ok, Err, length, false, true};
-    ghost use Rattle.std.specs.Prelude.{is_some, vec_len};
+    ghost use Rattle.std.specs.Prelude.{is_some, vec_len, List};
     ghost use Rattle.ring_names.specs.declared.reason.Reason.{Reason};
     ghost use Rattle.group_view.specs.Ring.{is_in};
-    ghost use Rattle.ring_world.specs.declared.event.Event.TheVariants.{Refresh as TheRefresh};
+    ghost use Rattle.ring_world.specs.declared.event.Event.TheVariants.{Mark as TheMark, Refresh as TheRefresh};
     ghost use Rattle.ring_world.specs.Machine.{view_in, newest};
     ghost use Rattle.ring_world.specs.View.{ids};
     ghost use Rattle.gm_member.specs.View.{count_of};
     ghost use Rattle.gm_member.specs.Held.{ask_refused, asking_held, answered_held, collected_held, refreshed_held};
-    ghost use Rattle.gm_member.specs.Stands.{WhereItStands, StepsTo, with_own_link};
-    ghost use Rattle.gm_member.specs.Shown.{When, held_of, ends_of, OutIsReady, LooksBy, MovesTo, IsReadyToMove};
-    ghost use Rattle.gm_member.specs.Shown.{SpareIsReady, SpareIsSound, HasRoom};
+    ghost use Rattle.ring_world.specs.Event.{refusal, effect};
+    ghost use Rattle.gm_member.specs.Stands.{WhereItStands, Stands, StepsTo, IsMarkedView, with_own_link};
+    ghost use Rattle.gm_member.specs.Shown.{When, held_of, ends_of, OutIsReady, LooksBy, MovesTo};
+    ghost use Rattle.gm_member.specs.Shown.{SpareIsReady, SpareIsSound, KeepsSpare, HasRoom, StaysReady};
     ghost use Rattle.gm_member.specs.Arrivals.{incoming_of, with_arrived};
     ghost use Rattle.gm_member.specs.Calls.{Heeds, IsFault, Reads, SameSelf, SameLinks, KeepsIns, KeepsOuts};
     ghost use Rattle.gm_member.specs.Questions.{may_bring_view, has_link as has_a_link, asked_for, OfView, OfLinks};
@@ -50,7 +50,7 @@ impl<O: LinkPair<Load, In = I>, I: LinkIn<Load> + Drop> Member<O, I> {
         ensures memory { HasRoom links self.old → IsOk result }
         ensures outs { KeepsOuts self.old self.new }
         ensures same { SameSelf self.old self.new }
-        ensures spare { self.new.spare ≡ self.old.spare }
+        ensures kept { StaysReady self.old self.new }
     {
         let Some(ends) = self.ends_with(links) else {
             return Err(OutOfMemory);
@@ -86,6 +86,7 @@ impl<O: LinkPair<Load, In = I>, I: LinkIn<Load> + Drop> Member<O, I> {
         ensures room { (n : ℕ) → HasRoom n self.old → HasRoom n self.new }
         ensures spare { OnOk result (When (may_bring_view what) (SpareIsReady O.are_fresh O.free O.ended self.new)) }
         ensures sound { OnOk result (SpareIsSound O.are_fresh O.free O.ended self.new) }
+        ensures kept { OnErr result (StaysReady self.old self.new) }
     {
         if let Some(reason) = self.up_refusal() {
             return Err(MemberFault::Refused(reason));
@@ -103,13 +104,11 @@ impl<O: LinkPair<Load, In = I>, I: LinkIn<Load> + Drop> Member<O, I> {
         ensures same { (self.new.phase ≡ self.old.phase) × (self.new.id ≡ self.old.id) }
         ensures spare { OnOk result (When (may_bring_view what) (SpareIsReady O.are_fresh O.free O.ended self.new)) }
         ensures sound { OnOk result (SpareIsSound O.are_fresh O.free O.ended self.new) }
+        ensures kept { OnErr result (KeepsSpare self.old self.new) }
     {
         match what {
             Ask::Collect => self.spare = None,
-            Ask::Mark(_) | Ask::Refresh => {
-                let spare = self.prepare()?;
-                self.spare = Some(spare);
-            }
+            Ask::Mark(_) | Ask::Refresh => self.prepare()?,
         }
         Ok(())
     }
@@ -145,10 +144,10 @@ impl<O: LinkPair<Load, In = I>, I: LinkIn<Load> + Drop> Member<O, I> {
         requires open { (held_of self.old).asks ≡ true }
         requires stands { OfView answer (λ v. is_in self.old.id.0 (ids v) ≡ true) }
         requires ready { OfView answer (λ _. OutIsReady O.ended self.old) }
-        requires sound { SpareIsSound O.are_fresh O.free O.ended self.old }
-        ensures ok { OnOk result (held_of self.new ≡ answered_by (held_of self.old) answer) }
+        ensures ok { OfView answer (λ _. SpareIsSound O.are_fresh O.free O.ended self.old)
+            → OnOk result (held_of self.new ≡ answered_by (held_of self.old) answer) }
         ensures links { OnOk result (OfView answer (λ v. LooksBy v self.old self.new)) }
-        ensures moves { IfOk result (λ requests. OfView answer
+        ensures moves { SpareIsSound O.are_fresh O.free O.ended self.old → IfOk result (λ requests. OfView answer
             (λ v. MovesTo O.are_fresh O.free O.ended O.puts v self.old self.new requests.items)) }
         ensures arrived { OnOk result (OfLinks answer (λ links. ends_of self.new
             ≡ with_arrived (held_of self.old) (ends_of self.old) links)) }
@@ -158,7 +157,8 @@ impl<O: LinkPair<Load, In = I>, I: LinkIn<Load> + Drop> Member<O, I> {
         ensures dropped { OnOk result (self.new.spare ≡ None) }
         ensures err { OnErr result (held_of self.new ≡ held_of self.old) }
         ensures err_ends { OnErr result (ends_of self.new ≡ ends_of self.old) }
-        ensures err_sound { OnErr result (SpareIsSound O.are_fresh O.free O.ended self.new) }
+        ensures kept { OnErr result (StaysReady self.old self.new) }
+        ensures out { OutIsReady O.ended self.old → OutIsReady O.ended self.new }
         ensures back { IfErr result (λ e. e.0 ≡ answer) }
         ensures spared { OfView answer (λ _. IsSome self.old.spare → IsOk result) }
         ensures roomy { OfLinks answer (λ links. HasRoom (length links) self.old → IsOk result) }
@@ -167,9 +167,17 @@ impl<O: LinkPair<Load, In = I>, I: LinkIn<Load> + Drop> Member<O, I> {
         // Wherever the member, its question closed, stands in a state of a run, and the view is the ring's newest,
         // this is the ring's event. A member that is left alone stands there once the link that it opens to itself
         // has come to its door.
-        ensures steps { OnOk result (OfView answer (λ v. WhereItStands (answered_held (held_of self.old)) (λ w x. v
-            ≡ view_in w (newest w)
+        ensures steps { SpareIsSound O.are_fresh O.free O.ended self.old → OnOk result (OfView answer
+            (λ v. WhereItStands (answered_held (held_of self.old)) (λ w x. v ≡ view_in w (newest w)
             → StepsTo w x (TheRefresh (held_of self.old).name v.version)
+            (with_own_link (held_of self.old) v (held_of self.new))))) }
+
+        // And where the view is what a mark makes of the newest there, and the ring doesn't refuse the member that
+        // mark, it stands where the mark leaves it.
+        ensures marks { SpareIsSound O.are_fresh O.free O.ended self.old → OnOk result (OfView answer
+            (λ v. WhereItStands (answered_held (held_of self.old)) (λ w x. (dead : List ℕ) → IsMarkedView w dead v
+            → refusal w (TheMark (held_of self.old).name dead) ≡ None
+            → Stands (effect w (TheMark (held_of self.old).name dead)) x
             (with_own_link (held_of self.old) v (held_of self.new))))) }
     {
         match answer {
@@ -201,20 +209,21 @@ impl<O: LinkPair<Load, In = I>, I: LinkIn<Load> + Drop> Member<O, I> {
         self.spare = None;
     }
 
-    /// The link that is ready, or one that is made so.
-    fn take_spare(&mut self) -> Result<Spare<O, I>, OutOfMemory>
-        requires { SpareIsSound O.are_fresh O.free O.ended self.old }
+    /// A link is ready, or is made so.
+    fn be_ready(&mut self) -> Result<(), OutOfMemory>
         ensures held { held_of self.new ≡ held_of self.old }
         ensures ends { SameLinks self.old self.new }
         ensures same { SameSelf self.old self.new }
-        ensures taken { self.new.spare ≡ None }
-        ensures ready { IfOk result (λ spare. IsReadyToMove O.are_fresh O.free O.ended self.new spare) }
+        ensures spare { OnOk result (IsSome self.new.spare) }
+        ensures ready { SpareIsSound O.are_fresh O.free O.ended self.old
+            → OnOk result (SpareIsReady O.are_fresh O.free O.ended self.new) }
         ensures memory { IsSome self.old.spare → IsOk result }
+        ensures kept { OnErr result (KeepsSpare self.old self.new) }
     {
-        match self.spare.take() {
-            Some(spare) => Ok(spare),
-            None => self.prepare(),
+        if self.spare.is_some() {
+            return Ok(());
         }
+        self.prepare()
     }
 
     /// A view closes the question, and is read.
@@ -222,11 +231,15 @@ impl<O: LinkPair<Load, In = I>, I: LinkIn<Load> + Drop> Member<O, I> {
         requires open { (held_of self.old).asks ≡ true }
         requires stands { is_in self.old.id.0 (ids view) ≡ true }
         requires ready { OutIsReady O.ended self.old }
-        requires sound { SpareIsSound O.are_fresh O.free O.ended self.old }
-        ensures reads { Reads O.are_fresh O.free O.ended O.puts (refreshed_held (answered_held (held_of self.old)) view)
+        ensures reads { SpareIsSound O.are_fresh O.free O.ended self.old
+            → Reads O.are_fresh O.free O.ended O.puts (refreshed_held (answered_held (held_of self.old)) view)
             view self.old self.new result }
+        ensures links { OnOk result (LooksBy view self.old self.new) }
+        ensures err { OnErr result (held_of self.new ≡ held_of self.old) }
+        ensures err_ends { OnErr result (ends_of self.new ≡ ends_of self.old) }
+        ensures out { OutIsReady O.ended self.new }
+        ensures kept { OnErr result (StaysReady self.old self.new) }
         ensures dropped { OnOk result (self.new.spare ≡ None) }
-        ensures err_spare { OnErr result (self.new.spare ≡ None) }
         ensures back { IfErr result (λ e. e.0 ≡ view) }
         ensures memory { IsSome self.old.spare → IsOk result }
     {
@@ -236,11 +249,11 @@ impl<O: LinkPair<Load, In = I>, I: LinkIn<Load> + Drop> Member<O, I> {
             self.look(view);
             return Ok(Vec::new(self.alloc));
         }
-        let Ok(spare) = self.take_spare() else {
+        let Ok(()) = self.be_ready() else {
             return Err((view, OutOfMemory));
         };
-        self.close();
-        Ok(self.read(view, to, spare))
+        self.asked = false;
+        Ok(self.read(view, to))
     }
 
     /// Links close the question, and come to the door.
@@ -253,7 +266,7 @@ impl<O: LinkPair<Load, In = I>, I: LinkIn<Load> + Drop> Member<O, I> {
         ensures err { OnErr result (held_of self.new ≡ held_of self.old) }
         ensures err_ends { OnErr result (ends_of self.new ≡ ends_of self.old) }
         ensures err_same { OnErr result (SameSelf self.old self.new) }
-        ensures err_kept { OnErr result ((self.new.spare ≡ self.old.spare) × (self.new.old_outs ≡ self.old.old_outs)) }
+        ensures err_kept { OnErr result (StaysReady self.old self.new) }
         ensures back { IfErr result (λ e. e.0 ≡ links) }
         ensures memory { HasRoom (length links.items) self.old → IsOk result }
     {

@@ -1,5 +1,5 @@
 //! A link that a member has ready before it asks for a view, with its first packet.
-ghost use Rattle.std.specs.Prelude.{◌<◌, ◌≡◌};
+ghost use Rattle.std.specs.Prelude.{◌<◌, ◌≡◌, false};
 ghost use Rattle.std.specs.Vec.{vec_len, vec_capacity};
 
 use crate::known::{Known, nothing_sent};
@@ -7,15 +7,15 @@ use crate::links::OutLink;
 use crate::packet::{Load, Packet};
 use credit_flow::CreditOut;
 use group_view::{LinkKind, Request};
-use ordered_link::LinkPair;
+use ordered_link::{LinkOut, LinkPair};
 use ring_names::{CreditSpec, MemberId, OutOfMemory};
 use ring_world::Numbers;
 use std::alloc::Global;
 
-/// The ends of a link on which nothing was put, the packet that will be its first, the numbers that it says, and room
-/// for the request by which the receiving end goes to the registrar.
+/// The ends of a link on which nothing was put, the packet that will be its first, for which it has room, the numbers
+/// that it says, and room for the request by which the receiving end goes to the registrar.
 #[derive(Drop)]
-pub(crate) struct Spare<O, I> {
+pub(crate) struct Spare<O: LinkOut<Load>, I> {
     pub(crate) out: O,
     pub(crate) link: I,
     pub(crate) packet: Packet,
@@ -23,6 +23,8 @@ pub(crate) struct Spare<O, I> {
     pub(crate) requests: Vec<Request<I>>,
     ghost each_sent: { vec_len sent ≡ 64 },
     ghost room: { vec_len requests < vec_capacity requests },
+    ghost unended: { O.ended out ≡ false },
+    ghost slots: { 1 < O.free out },
 }
 
 impl<O: LinkPair<Load, In = I>, I: Drop> Spare<O, I> {
@@ -71,8 +73,6 @@ impl<O: LinkPair<Load, In = I>, I: Drop> Spare<O, I> {
         version: u32,
         credit: CreditSpec,
     ) -> (OutLink<O>, Vec<Request<I>>)
-        requires free { 1 < O.free self.out }
-        requires unended { O.ended self.out ≡ false }
         ensures opens { (rows : List Row) → IsSpareFor O.are_fresh O.free O.ended credit.initial rows self
             → OpensOn O.puts credit rows by to version self result.0 result.1.items }
         ensures unended { MatchOption result.0.end ⊥ (λ o. O.ended o ≡ false) }

@@ -3,7 +3,7 @@ use Rattle.std.proofs.Common.{◌≡◌, ℕ, zero, suc, ◌+◌, Bool, true, fa
 use Rattle.std.specs.Prelude.{unwrap_or, option_map, is_some, reverse}
 use Rattle.std.specs.Option.{option_or}
 use Rattle.std.specs.List.{filter, prefix_len}
-use Rattle.std.proofs.lemmas.Bool.{false≢true}
+use Rattle.std.proofs.lemmas.Bool.{false≢true, ltb-true}
 use Rattle.std.proofs.lemmas.List.{append-nil, map-append, reverse-append}
 use Rattle.std.proofs.lemmas.List.Elements.{filter-append, filter_more}
 use Rattle.std.proofs.lemmas.Bool.Decides.{nat_tests}
@@ -147,6 +147,9 @@ place_in (e ∷ es) p = by_case (nat_eq e.id.0 p) refl (place_in es p)
     by_case : (b : Bool) → nat_eq e.id.0 p ≡ b → nat_lt (place_of es p) (length es) ≡ is_in p (ids es) → nat_lt (cond (not b) (1 + place_of es p) 0) (suc (length es)) ≡ cond (nat_eq p e.id.0) true (is_in p (ids es))
     by_case true q h = first_lt (length es) ∙ rw (sym_test e.id.0 p true q) refl
     by_case false q h = one_more (place_of es p) (length es) ∙ h ∙ rw (sym_test e.id.0 p false q) refl
+
+pub place_inside : (es : List Entry) (p : ℕ) → is_in p (ids es) ≡ true → place_of es p < length es
+place_inside es p h = ltb-true (place_of es p) (length es) (place_in es p ∙ h)
 
 pub found_some : (b : Bool) (n : ℕ) → is_some (cond b (Some n) None) ≡ b
 found_some true n = refl

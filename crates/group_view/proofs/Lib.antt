@@ -8,4 +8,8 @@ pub mod Groups
 pub mod Passing
 pub mod KeptLeft
 pub mod History
+pub mod Joining
+pub mod Erasing
+pub mod Named
+pub mod AllViews
 pub mod Arcs

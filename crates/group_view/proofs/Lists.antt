@@ -1,5 +1,5 @@
--- Tests of all numbers of a range, and lists that a test leaves empty.
-use Rattle.std.proofs.Common.{◌≡◌, ◌≢◌, ℕ, zero, suc, ◌+◌, ◌≤◌, ◌<◌, Bool, true, false, cond, List, [], refl, ap, ◌∙◌, arith, ⊎_elim}
+-- Tests of all numbers of a range, lists that a test leaves empty, and writes over lists.
+use Rattle.std.proofs.Common.{◌≡◌, ◌≢◌, ℕ, zero, suc, ◌+◌, ◌≤◌, ◌<◌, Bool, true, false, cond, List, [], ◌∷◌, map, refl, ap, ◌∙◌, arith, ⊎_elim}
 use Rattle.std.specs.Prelude.{◌&&◌}
 use Rattle.std.specs.List.{list_all, range_with_len}
 use Rattle.std.proofs.lemmas.Bool.{and_parts, cases_eq}
@@ -36,3 +36,10 @@ cond_empty false xs e = refl
 pub cond_empty_late : {A : Type 0} (b : Bool) (xs : List A) → xs ≡ [] → cond b [] xs ≡ []
 cond_empty_late true xs e = refl
 cond_empty_late false xs e = e
+
+-- ---- writes
+
+-- writes that agree on each element
+pub map_agree : {A B : Type 0} (f g : A → B) → ((x : A) → f x ≡ g x) → (xs : List A) → map f xs ≡ map g xs
+map_agree f g h [] = refl
+map_agree f g h (x ∷ xs) = ap (λ y. y ∷ map f xs) (h x) ∙ ap (λ ys. g x ∷ ys) (map_agree f g h xs)

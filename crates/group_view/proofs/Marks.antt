@@ -8,11 +8,12 @@ use Rattle.std.proofs.lemmas.List.Elements.{filter_agree}
 use Rattle.std.proofs.lemmas.List.Sums.{sum_by-cons}
 use Rattle.group_view.specs.declared.entry.Entry.{Entry}
 use Rattle.group_view.specs.declared.entry.Mark.{Mark}
-use Rattle.group_view.specs.declared.entry.Mark.TheVariants.{Live, Dead, Erased}
+use Rattle.group_view.specs.declared.entry.Mark.TheVariants.{Dead}
 use Rattle.group_view.specs.Ring.{is_in, AreDistinct, others, last_or, first_or, left_in, right_in}
 use Rattle.group_view.specs.View.{ids, entry_in, is_live, is_live_mark, left_of, right_of}
 use Rattle.group_view.specs.Change.{dated, with_mark}
 use Rattle.group_view.specs.Kept.{changes_of, changes_of_mark}
+use Rattle.group_view.specs.Parts.{dated_right_of}
 use Rattle.group_view.proofs.Truth.{other_true}
 use Rattle.group_view.proofs.Rings.{nat_eq-is, nat_eq-same, nat_eq-not, sym_test, not_in_others, distinct_others}
 use Rattle.group_view.proofs.Neighbours.{IsLast, none, one, is_last, last_stronger, IsLeft, itself, other, left_is_left, filter_agree_in}
@@ -244,25 +245,73 @@ over_more f es ys zs i d y l same inv is e =
 pub over_same : (f : Entry → Entry) (es ys zs : List Entry) (i : ℕ) (d : Entry) → i < length es → length ys ≡ length es → ys ≡ map f (take i es) ++ drop i es → zs ≡ ys → f (get_or ys i d) ≡ get_or ys i d → zs ≡ map f (take (i + 1) es) ++ drop (i + 1) es
 over_same f es ys zs i d l same inv is e = over_more f es ys zs i d (get_or ys i d) l same inv (is ∙ sym (set-get_or ys i d)) (sym e)
 
--- the entry that is read so far, dated
-pub date_then : (version d : ℕ) (es ys zs : List Entry) (i : ℕ) (x y : Entry) → AreDistinct (ids es) → i < length es → length ys ≡ length es → ys ≡ map (dated version es (map (with_mark Dead d) es)) (take i es) ++ drop i es → zs ≡ set ys i (record (get_or ys i y) { since = version }) → (get_or ys i x).id.0 ≢ d → left_of ys (get_or ys i x).id.0 ≡ d → zs ≡ map (dated version es (map (with_mark Dead d) es)) (take (i + 1) es) ++ drop (i + 1) es
-date_then version d es ys zs i x y dx l same inv is ne left =
+-- ---- whose left neighbour an entry is
+
+pub dated_right_keeps : (d version : ℕ) (es : List Entry) → KeepsRing (dated_right_of d version es)
+dated_right_keeps d version es = record { keeps_id = λ e. on_id (nat_eq e.id.0 d) (nat_eq (left_of es e.id.0) d) e; keeps_mark = λ e. on_mark (nat_eq e.id.0 d) (nat_eq (left_of es e.id.0) d) e }
+  where
+    on_id : (a b : Bool) (e : Entry) → (cond a e (cond b (record e { since = version }) e)).id.0 ≡ e.id.0
+    on_id true b e = refl
+    on_id false true e = refl
+    on_id false false e = refl
+
+    on_mark : (a b : Bool) (e : Entry) → (cond a e (cond b (record e { since = version }) e)).mark ≡ e.mark
+    on_mark true b e = refl
+    on_mark false true e = refl
+    on_mark false false e = refl
+
+-- which are those that a mark dates
+pub dated_by_mark : (version d : ℕ) (es : List Entry) (e : Entry) → AreDistinct (ids es) → dated_right_of d version es e ≡ dated version es (map (with_mark Dead d) es) e
+dated_by_mark version d es e dx = by_case (nat_eq e.id.0 d) refl (nat_eq (left_of es e.id.0) d) refl
+  where
+    by_case : (a : Bool) → nat_eq e.id.0 d ≡ a → (b : Bool) → nat_eq (left_of es e.id.0) d ≡ b → cond a e (cond b (record e { since = version }) e) ≡ dated version es (map (with_mark Dead d) es) e
+    by_case true ea b eb = sym (dated_itself version d es e dx (nat_eq-is e.id.0 d ea))
+    by_case false ea true eb = sym (dated_bereft version d es e dx (λ is. false≢true (sym ea ∙ ap (λ q. nat_eq q d) is ∙ nat_eq-same d)) (nat_eq-is (left_of es e.id.0) d eb))
+    by_case false ea false eb = sym (dated_other version d es e dx (λ is. false≢true (sym eb ∙ ap (λ q. nat_eq q d) is ∙ nat_eq-same d)))
+
+-- a list that is dated so far has the neighbours that it had
+pub dated_left : (d version : ℕ) (es ys : List Entry) (i p : ℕ) → ys ≡ map (dated_right_of d version es) (take i es) ++ drop i es → left_of ys p ≡ left_of es p
+dated_left d version es ys i p inv = same_left ys es p (subst (λ us. SameRing us es) (sym inv) (same_ring_so_far (dated_right_of d version es) es i (dated_right_keeps d version es)))
+
+-- the entry that is read so far, dated or left as it is
+pub date_then : (d version : ℕ) (es ys zs : List Entry) (i : ℕ) (x y : Entry) → i < length es → length ys ≡ length es → ys ≡ map (dated_right_of d version es) (take i es) ++ drop i es → zs ≡ set ys i (record (get_or ys i y) { since = version }) → (get_or ys i x).id.0 ≢ d → left_of ys (get_or ys i x).id.0 ≡ d → zs ≡ map (dated_right_of d version es) (take (i + 1) es) ++ drop (i + 1) es
+date_then d version es ys zs i x y l same inv is ne left =
     let inside : i < length ys = omega arith in
-    let one_read : get_or ys i x ≡ get_or ys i y = get_or_default ys i x y inside in
-    let ring : SameRing ys es = subst (λ us. SameRing us es) (sym inv) (same_ring_so_far (dated version es (map (with_mark Dead d) es)) es i (dated_keeps version es (map (with_mark Dead d) es))) in
-    let apart : (get_or ys i y).id.0 ≢ d = subst (λ (e : Entry). e.id.0 ≢ d) one_read ne in
-    let bereft : left_of es (get_or ys i y).id.0 ≡ d = sym (same_left ys es (get_or ys i y).id.0 ring) ∙ ap (λ (e : Entry). left_of ys e.id.0) (sym one_read) ∙ left in
-    over_more (dated version es (map (with_mark Dead d) es)) es ys zs i y (record (get_or ys i y) { since = version }) l same inv is (sym (dated_bereft version d es (get_or ys i y) dx apart bereft))
+    let read : get_or ys i x ≡ get_or ys i y = get_or_default ys i x y inside in
+    let apart : nat_eq (get_or ys i y).id.0 d ≡ false = nat_eq-not (get_or ys i y).id.0 d (subst (λ (e : Entry). e.id.0 ≢ d) read ne) in
+    let has : left_of es (get_or ys i y).id.0 ≡ d = sym (dated_left d version es ys i (get_or ys i y).id.0 inv) ∙ ap (λ (e : Entry). left_of ys e.id.0) (sym read) ∙ left in
+    over_more (dated_right_of d version es) es ys zs i y (record (get_or ys i y) { since = version }) l same inv is
+    (rw (apart, has, nat_eq-same d) refl)
 
-pub date_other : (version d : ℕ) (es ys zs : List Entry) (i : ℕ) (x : Entry) → AreDistinct (ids es) → i < length es → length ys ≡ length es → ys ≡ map (dated version es (map (with_mark Dead d) es)) (take i es) ++ drop i es → zs ≡ ys → left_of ys (get_or ys i x).id.0 ≢ d → zs ≡ map (dated version es (map (with_mark Dead d) es)) (take (i + 1) es) ++ drop (i + 1) es
-date_other version d es ys zs i x dx l same inv is ne =
-    let ring : SameRing ys es = subst (λ us. SameRing us es) (sym inv) (same_ring_so_far (dated version es (map (with_mark Dead d) es)) es i (dated_keeps version es (map (with_mark Dead d) es))) in
-    let apart : left_of es (get_or ys i x).id.0 ≢ d = subst (λ n. n ≢ d) (same_left ys es (get_or ys i x).id.0 ring) ne in
-    over_same (dated version es (map (with_mark Dead d) es)) es ys zs i x l same inv is (dated_other version d es (get_or ys i x) dx apart)
+pub date_other : (d version : ℕ) (es ys zs : List Entry) (i : ℕ) (x : Entry) → i < length es → length ys ≡ length es → ys ≡ map (dated_right_of d version es) (take i es) ++ drop i es → zs ≡ ys → left_of ys (get_or ys i x).id.0 ≢ d → zs ≡ map (dated_right_of d version es) (take (i + 1) es) ++ drop (i + 1) es
+date_other d version es ys zs i x l same inv is ne =
+    let has : nat_eq (left_of es (get_or ys i x).id.0) d ≡ false = nat_eq-not _ d (λ e. ne (dated_left d version es ys i (get_or ys i x).id.0 inv ∙ e)) in
+    over_same (dated_right_of d version es) es ys zs i x l same inv is (rw has (by_case (nat_eq (get_or ys i x).id.0 d)))
+  where
+    by_case : (b : Bool) → cond b (get_or ys i x) (get_or ys i x) ≡ get_or ys i x
+    by_case true = refl
+    by_case false = refl
 
-pub date_itself : (version d : ℕ) (es ys zs : List Entry) (i : ℕ) (x : Entry) → AreDistinct (ids es) → i < length es → length ys ≡ length es → ys ≡ map (dated version es (map (with_mark Dead d) es)) (take i es) ++ drop i es → zs ≡ ys → (get_or ys i x).id.0 ≡ d → zs ≡ map (dated version es (map (with_mark Dead d) es)) (take (i + 1) es) ++ drop (i + 1) es
-date_itself version d es ys zs i x dx l same inv is e =
-    over_same (dated version es (map (with_mark Dead d) es)) es ys zs i x l same inv is (dated_itself version d es (get_or ys i x) dx e)
+pub date_itself : (d version : ℕ) (es ys zs : List Entry) (i : ℕ) (x : Entry) → i < length es → length ys ≡ length es → ys ≡ map (dated_right_of d version es) (take i es) ++ drop i es → zs ≡ ys → (get_or ys i x).id.0 ≡ d → zs ≡ map (dated_right_of d version es) (take (i + 1) es) ++ drop (i + 1) es
+date_itself d version es ys zs i x l same inv is e =
+    over_same (dated_right_of d version es) es ys zs i x l same inv is
+    (ap (λ n. cond (nat_eq n d) (get_or ys i x) (cond (nat_eq (left_of es (get_or ys i x).id.0) d) (record (get_or ys i x) { since = version }) (get_or ys i x))) e ∙ rw (nat_eq-same d) refl)
+
+-- an entry whose neighbours didn't change isn't dated
+pub dated_same : (version : ℕ) (old new : List Entry) → SameRing new old → (es : List Entry) → map (dated version old new) es ≡ es
+dated_same version old new s [] = refl
+dated_same version old new s (e ∷ es) =
+    ap (λ q. cond (nat_eq (left_of old e.id.0) q) e (record e { since = version }) ∷ map (dated version old new) es) (same_left new old e.id.0 s)
+    ∙ ap (λ b. cond b e (record e { since = version }) ∷ map (dated version old new) es) (nat_eq-same (left_of old e.id.0))
+    ∙ ap (λ us. e ∷ us) (dated_same version old new s es)
+
+-- one that isn't live has neighbours that it leaves as they are, whatever mark but Live it gets
+pub marked_same : (m : Mark) (d : ℕ) (es : List Entry) → is_live_mark m ≡ false → is_live es d ≡ false → SameRing (map (with_mark m d) es) es
+marked_same m d es hm l = record { same_ids = ids-marked m d es; same_live = λ q. live-marked m d q es hm ∙ by_case q (nat_eq q d) refl }
+  where
+    by_case : (q : ℕ) (b : Bool) → nat_eq q d ≡ b → cond b false (is_live es q) ≡ is_live es q
+    by_case q true e = sym (ap (is_live es) (nat_eq-is q d e) ∙ l)
+    by_case q false e = refl
 
 -- ---- how many changes the entries stand for
 
@@ -286,26 +335,24 @@ mark_nobody m d (e ∷ es) h = by_case (nat_eq d e.id.0) refl h (λ k. mark_nobo
     by_case true q k ih = absurd (false≢true (sym k))
     by_case false q k ih = ap (λ b. cond b (record e { mark = m }) e ∷ map (with_mark m d) es) (sym_test d e.id.0 false q) ∙ ap (λ us. e ∷ us) (ih k)
 
--- a live entry that is marked dead stands for one more
-pub changes-marked : (d : ℕ) (es : List Entry) → AreDistinct (ids es) → is_in d (ids es) ≡ true → is_live es d ≡ true → sum_by changes_of (map (with_mark Dead d) es) ≡ sum_by changes_of es + 1
-changes-marked d [] dx i l = absurd (false≢true i)
-changes-marked d (e ∷ es) dx i l = by_case (nat_eq e.id.0 d) refl l i (λ a b. changes-marked d es dx.1 a b)
+-- an entry that gets the next mark stands for one more
+pub changes-marked : (m : Mark) (d : ℕ) (es : List Entry) → AreDistinct (ids es) → is_in d (ids es) ≡ true → changes_of_mark m ≡ changes_of_mark (entry_in es d).mark + 1 → sum_by changes_of (map (with_mark m d) es) ≡ sum_by changes_of es + 1
+changes-marked m d [] dx i l = absurd (false≢true i)
+changes-marked m d (e ∷ es) dx i l = by_case (nat_eq e.id.0 d) refl l i (λ a b. changes-marked m d es dx.1 a b)
   where
-    one_more : (mark : Mark) (synced : Bool) → is_live_mark mark ≡ true → 1 + changes_of_mark Dead + cond synced 1 0 ≡ 1 + changes_of_mark mark + cond synced 1 0 + 1
-    one_more Live synced h = omega arith
-    one_more Dead synced h = absurd (false≢true h)
-    one_more Erased synced h = absurd (false≢true h)
+    one_more : (mark : Mark) (synced : Bool) → changes_of_mark m ≡ changes_of_mark mark + 1 → 1 + changes_of_mark m + cond synced 1 0 ≡ 1 + changes_of_mark mark + cond synced 1 0 + 1
+    one_more mark synced h = omega (arith, h)
 
-    by_case : (b : Bool) → nat_eq e.id.0 d ≡ b → is_live_mark (cond b e (entry_in es d)).mark ≡ true → is_in d (e.id.0 ∷ ids es) ≡ true → (is_in d (ids es) ≡ true → is_live es d ≡ true → sum_by changes_of (map (with_mark Dead d) es) ≡ sum_by changes_of es + 1) → sum_by changes_of (cond b (record e { mark = Dead }) e ∷ map (with_mark Dead d) es) ≡ sum_by changes_of (e ∷ es) + 1
+    by_case : (b : Bool) → nat_eq e.id.0 d ≡ b → changes_of_mark m ≡ changes_of_mark (cond b e (entry_in es d)).mark + 1 → is_in d (e.id.0 ∷ ids es) ≡ true → (is_in d (ids es) ≡ true → changes_of_mark m ≡ changes_of_mark (entry_in es d).mark + 1 → sum_by changes_of (map (with_mark m d) es) ≡ sum_by changes_of es + 1) → sum_by changes_of (cond b (record e { mark = m }) e ∷ map (with_mark m d) es) ≡ sum_by changes_of (e ∷ es) + 1
     by_case true q live k ih =
         let gone : is_in d (ids es) ≡ false = subst (λ n. is_in n (ids es) ≡ false) (nat_eq-is e.id.0 d q) dx.0 in
-        ap (λ us. sum_by changes_of (record e { mark = Dead } ∷ us)) (mark_nobody Dead d es gone)
-        ∙ sum_by-cons changes_of (record e { mark = Dead }) es
+        ap (λ us. sum_by changes_of (record e { mark = m } ∷ us)) (mark_nobody m d es gone)
+        ∙ sum_by-cons changes_of (record e { mark = m }) es
         ∙ ap (λ n. n + sum_by changes_of es) (one_more e.mark e.synced live)
         ∙ (let swap : changes_of e + 1 + sum_by changes_of es ≡ changes_of e + sum_by changes_of es + 1 = omega arith in swap)
         ∙ ap (λ n. n + 1) (sym (sum_by-cons changes_of e es))
     by_case false q live k ih =
-        sum_by-cons changes_of e (map (with_mark Dead d) es)
+        sum_by-cons changes_of e (map (with_mark m d) es)
         ∙ ap (λ n. changes_of e + n) (ih (rw (sym_test e.id.0 d false q) at k) live)
         ∙ (let swap : changes_of e + (sum_by changes_of es + 1) ≡ changes_of e + sum_by changes_of es + 1 = omega arith in swap)
         ∙ ap (λ n. n + 1) (sym (sum_by-cons changes_of e es))

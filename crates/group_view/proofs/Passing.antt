@@ -8,8 +8,8 @@ use Rattle.group_view.specs.declared.entry.Entry.{Entry}
 use Rattle.group_view.specs.declared.entry.Mark.{Mark}
 use Rattle.group_view.specs.declared.entry.Mark.TheVariants.{Dead}
 use Rattle.group_view.specs.Ring.{is_in, AreDistinct, before, after, others, last_or, first_or, left_in, right_in}
-use Rattle.group_view.specs.View.{Group, ids, entry_in, is_live, is_live_mark, left_of, right_of}
-use Rattle.group_view.specs.Change.{dated, with_mark, marked}
+use Rattle.group_view.specs.View.{Group, ids, entry_in, is_live, is_live_mark, is_dead, is_dead_mark, left_of, right_of}
+use Rattle.group_view.specs.Change.{dated, with_mark, remarked, marked}
 use Rattle.group_view.specs.Laws.{AreMutual, PassesOn}
 use Rattle.group_view.proofs.Rings.{nat_eq-same, sym_test, split_at, not_in_before, not_in_after, not_in_others, not_equal_in, others_inside, others-rotated, rotated_is, distinct_others, head_differs}
 use Rattle.group_view.proofs.Neighbours.{not_in_filter, FirstPass, first_pass, IsLast, none, one, is_last, IsLeft, itself, other, left_is_left, left_of_right, right_of_left, filter_agree_in, first_passes}
@@ -23,6 +23,15 @@ live_in [] p h = absurd (false≢true h)
 live_in (e ∷ es) p h = by_case (nat_eq e.id.0 p) refl h (λ k. live_in es p k)
   where
     by_case : (b : Bool) → nat_eq e.id.0 p ≡ b → is_live_mark (cond b e (entry_in es p)).mark ≡ true → (is_live es p ≡ true → is_in p (ids es) ≡ true) → cond (nat_eq p e.id.0) true (is_in p (ids es)) ≡ true
+    by_case true q k ih = rw (sym_test e.id.0 p true q) refl
+    by_case false q k ih = rw (sym_test e.id.0 p false q) (ih k)
+
+-- what is dead is there
+pub dead_in : (es : List Entry) (p : ℕ) → is_dead es p ≡ true → is_in p (ids es) ≡ true
+dead_in [] p h = absurd (false≢true h)
+dead_in (e ∷ es) p h = by_case (nat_eq e.id.0 p) refl h (λ k. dead_in es p k)
+  where
+    by_case : (b : Bool) → nat_eq e.id.0 p ≡ b → is_dead_mark (cond b e (entry_in es p)).mark ≡ true → (is_dead es p ≡ true → is_in p (ids es) ≡ true) → cond (nat_eq p e.id.0) true (is_in p (ids es)) ≡ true
     by_case true q k ih = rw (sym_test e.id.0 p true q) refl
     by_case false q k ih = rw (sym_test e.id.0 p false q) (ih k)
 
@@ -284,8 +293,11 @@ passes_same old new fresh d s h = record {
   right_of_itself = same_right fresh new d s ∙ h.right_of_itself;
 }
 
+pub remarked_passes : (m : Mark) (g : Group) (d : ℕ) → is_live_mark m ≡ false → AreDistinct (ids g.entries) → PassesOn g.entries (remarked m g d).entries d
+remarked_passes m g d hm dx =
+    passes_same g.entries (map (with_mark m d) g.entries) (remarked m g d).entries d
+    (same_ring_all (dated (g.version + 1) g.entries (map (with_mark m d) g.entries)) (map (with_mark m d) g.entries) (dated_keeps (g.version + 1) g.entries (map (with_mark m d) g.entries)))
+    (mark_passes m d g.entries hm dx)
+
 pub marked_passes : (g : Group) (d : ℕ) → AreDistinct (ids g.entries) → PassesOn g.entries (marked g d).entries d
-marked_passes g d dx =
-    passes_same g.entries (map (with_mark Dead d) g.entries) (marked g d).entries d
-    (same_ring_all (dated (g.version + 1) g.entries (map (with_mark Dead d) g.entries)) (map (with_mark Dead d) g.entries) (dated_keeps (g.version + 1) g.entries (map (with_mark Dead d) g.entries)))
-    (mark_passes Dead d g.entries refl dx)
+marked_passes g d dx = remarked_passes Dead g d refl dx

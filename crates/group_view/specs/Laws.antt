@@ -23,6 +23,19 @@ pub record PassesOn (old new : List Entry) (d : ℕ) : Type 0 where
   pub right_of_lonely : (p : ℕ) → p ≢ d → right_of old p ≡ d → right_of old d ≡ d → right_of new p ≡ p
   pub right_of_itself : right_of new d ≡ right_of old d
 
+-- all keep their neighbours
+pub record KeepsNeighbours (old new : List Entry) : Type 0 where
+  pub left : (p : ℕ) → left_of new p ≡ left_of old p
+  pub right : (p : ℕ) → right_of new p ≡ right_of old p
+
+-- When m has admitted n, each is the other's neighbour. Those that had m on their left have n there, and all others keep
+-- their left neighbour.
+pub record ComesBetween (old new : List Entry) (m n : ℕ) : Type 0 where
+  pub left_of_new : left_of new n ≡ m
+  pub right_of_admitter : right_of new m ≡ n
+  pub left_of_next : (p : ℕ) → is_in p (ids old) ≡ true → left_of old p ≡ m → left_of new p ≡ n
+  pub left_of_others : (p : ℕ) → is_in p (ids old) ≡ true → left_of old p ≢ m → left_of new p ≡ left_of old p
+
 -- What holds of the views of a group, by version: each keeps what every view keeps and has its version's number; entries
 -- stay, and who isn't live never is again; what stands between a left neighbour and an entry stays while the neighbour
 -- does; and `since` is the version from which the left neighbour has been the present one.

@@ -1,10 +1,10 @@
 -- Parts of a list of entries, for the functions that go over them.
-use Rattle.std.specs.Prelude.{◌≡◌, ℕ, Bool, true, false, nat_eq, List, [], ◌∷◌, Option, Some, None, cond}
+use Rattle.std.specs.Prelude.{◌≡◌, ℕ, Bool, true, false, nat_eq, List, [], ◌∷◌, Option, Some, None, cond, if◌then◌else◌}
 use Rattle.std.specs.List.{filter, position_or_len}
 use Rattle.group_view.specs.declared.entry.Entry.{Entry}
 use Rattle.group_view.specs.declared.entry.Mark.{Mark}
 use Rattle.group_view.specs.Ring.{last_or}
-use Rattle.group_view.specs.View.{ids, entry_in, is_live_mark}
+use Rattle.group_view.specs.View.{ids, entry_in, is_live_mark, left_of}
 
 -- the place of the entry of an id, or the number of entries where there is none
 abbrev pub place_of : List Entry → ℕ → ℕ
@@ -28,6 +28,13 @@ comes_before x y (z ∷ zs) = cond (nat_eq z y) (Some false) (cond (nat_eq z x) 
 abbrev pub mark_in : List Entry → ℕ → Option Mark
 mark_in [] p = None
 mark_in (e ∷ es) p = cond (nat_eq e.id.0 p) (Some e.mark) (mark_in es p)
+
+-- an entry, with this version as `since` where it is another than d and has d for its left neighbour
+abbrev pub dated_right_of : ℕ → ℕ → List Entry → Entry → Entry
+dated_right_of d version entries e =
+    if nat_eq e.id.0 d then e
+    else (if nat_eq (left_of entries e.id.0) d then record e { since = version }
+    else e)
 
 -- each entry of a part is what its id stands for in the whole
 abbrev pub AreFound : List Entry → List Entry → Type 0

@@ -1,5 +1,5 @@
 -- What a view says: who is whose neighbour, who owns whom, who stands between.
-use Rattle.std.specs.Prelude.{ℕ, Bool, true, false, cond, ◌&&◌, nat_eq, bytes_eq, List, [], ◌∷◌, map, reverse, Option, Some, None, option_map}
+use Rattle.std.specs.Prelude.{ℕ, Bool, true, false, cond, not, ◌&&◌, nat_eq, bytes_eq, List, [], ◌∷◌, map, reverse, Option, Some, None, option_map}
 use Rattle.std.specs.List.{filter, find}
 use Rattle.ring_names.specs.declared.numbers.MemberId.{MemberId}
 use Rattle.group_view.specs.declared.entry.Entry.{Entry}
@@ -49,6 +49,12 @@ is_dead_mark Live = false
 is_dead_mark Dead = true
 is_dead_mark Erased = false
 
+-- whether it is Erased
+abbrev pub is_erased_mark : Mark → Bool
+is_erased_mark Live = false
+is_erased_mark Dead = false
+is_erased_mark Erased = true
+
 -- whether the entry of an id is live
 abbrev pub is_live : List Entry → ℕ → Bool
 is_live entries p = is_live_mark (entry_in entries p).mark
@@ -56,6 +62,15 @@ is_live entries p = is_live_mark (entry_in entries p).mark
 -- whether it is dead
 abbrev pub is_dead : List Entry → ℕ → Bool
 is_dead entries p = is_dead_mark (entry_in entries p).mark
+
+-- whether it is erased
+abbrev pub is_erased : List Entry → ℕ → Bool
+is_erased entries p = is_erased_mark (entry_in entries p).mark
+
+-- whether a master stands: there is one, and it isn't erased
+abbrev pub stands_in : List Entry → Option MemberId → Bool
+stands_in entries None = false
+stands_in entries (Some id) = not (is_erased entries id.0)
 
 -- The left neighbour of an entry of any mark: the nearest live one of the others, going left. A sole live entry is its own
 -- neighbour, and where nobody lives each is. An id without an entry is its own neighbour too.

@@ -1,11 +1,12 @@
 //! The entries of a view.
-ghost use Rattle.std.specs.Prelude.{◌≡◌, ◌<◌, ◌^◌, map, length, IfOk, true};
-ghost use Rattle.group_view.specs.declared.entry.Mark.TheVariants.{Dead};
-ghost use Rattle.group_view.specs.Change.{dated, with_mark};
-ghost use Rattle.group_view.specs.Ring.{AreDistinct};
+ghost use Rattle.std.specs.Prelude.{◌≡◌, ◌<◌, ◌^◌, map, length, IfOk, OnOk, OnErr, true};
+ghost use Rattle.group_view.specs.declared.entry.Mark.TheVariants.{Dead, Erased};
+ghost use Rattle.group_view.specs.Change.{dated, with_mark, with_entry};
+ghost use Rattle.group_view.specs.Parts.{dated_right_of};
+ghost use Rattle.group_view.specs.Ring.{AreDistinct, is_in};
 ghost use Rattle.group_view.specs.View.{ids};
 
-use crate::entry::Entry;
+use crate::entry::{Entry, Mark};
 use crate::ring;
 use ring_names::{MemberId, OutOfMemory};
 use std::alloc::Global;
@@ -69,5 +70,36 @@ impl Entries {
             (map (with_mark Dead id.0) self.old) }
     {
         ring::mark_dead(&mut self.entries, id, version);
+    }
+
+    /// Marks a dead entry erased. Nobody has it for a neighbour, so all keep theirs.
+    pub(crate) fn erase(&mut self, id: MemberId)
+        ensures { self.new ≡ map (with_mark Erased id.0) self.old }
+    {
+        ring::set_mark(&mut self.entries, id, Mark::Erased);
+    }
+
+    /// Adds an entry directly right of another.
+    pub(crate) fn insert_right_of(
+        &mut self,
+        left: MemberId,
+        entry: Entry,
+    ) -> Result<(), OutOfMemory>
+        requires distinct { AreDistinct (ids self.old) }
+        requires there { is_in left.0 (ids self.old) ≡ true }
+        ensures ok { OnOk result (self.new ≡ with_entry left.0 entry self.old) }
+        ensures err { OnErr result (self.new ≡ self.old) }
+    {
+        let place = ring::place_right_of(&self.entries, left);
+        self.entries.insert(place, entry)?;
+        Ok(())
+    }
+
+    /// Notes the version with the others whose left neighbour an entry is.
+    pub(crate) fn date_right_of(&mut self, left: MemberId, version: u32)
+        requires { AreDistinct (ids self.old) }
+        ensures { self.new ≡ map (dated_right_of left.0 version self.old) self.old }
+    {
+        ring::date_right_of(&mut self.entries, left, version);
     }
 }

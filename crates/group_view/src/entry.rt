@@ -1,7 +1,7 @@
 //! One entry of a view.
 ghost use Rattle.std.specs.Prelude.{◌≡◌, nat_eq, bytes_eq};
-ghost use Rattle.group_view.specs.View.{is_live_mark};
-ghost use Rattle.group_view.specs.Change.{opening_entry};
+ghost use Rattle.group_view.specs.View.{is_live_mark, is_dead_mark, is_erased_mark};
+ghost use Rattle.group_view.specs.Change.{opening_entry, new_entry};
 
 use ring_names::{MemberId, Name};
 
@@ -21,6 +21,18 @@ impl Mark {
         ensures { result ≡ is_live_mark self }
     {
         matches!(self, Mark::Live)
+    }
+
+    pub(crate) fn is_dead(self) -> bool
+        ensures { result ≡ is_dead_mark self }
+    {
+        matches!(self, Mark::Dead)
+    }
+
+    pub(crate) fn is_erased(self) -> bool
+        ensures { result ≡ is_erased_mark self }
+    {
+        matches!(self, Mark::Erased)
     }
 }
 
@@ -53,6 +65,20 @@ impl Entry {
             synced: true,
             joined: 1,
             since: 1,
+        }
+    }
+
+    /// An entry that is admitted in this version.
+    pub(crate) fn admitted(id: MemberId, name: Name, version: u32) -> Entry
+        ensures { result ≡ new_entry id.0 name version }
+    {
+        Entry {
+            id,
+            name,
+            mark: Mark::Live,
+            synced: false,
+            joined: version,
+            since: version,
         }
     }
 

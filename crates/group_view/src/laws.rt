@@ -1,12 +1,13 @@
 //! The laws of views.
-ghost use Rattle.std.specs.Prelude.{◌≡◌, ◌↔◌, ◌||◌, ℕ, ◌≤◌, true, nat_eq, List};
+ghost use Rattle.std.specs.Prelude.{◌≡◌, ◌↔◌, ◌||◌, ℕ, ◌<◌, ◌≤◌, true, nat_eq, List, None};
 ghost use Rattle.group_view.specs.declared.entry.Entry.{Entry};
 ghost use Rattle.group_view.specs.Ring.{AreDistinct, is_in};
-ghost use Rattle.group_view.specs.View.{Group, ids, is_live, left_of, owns, is_between};
+ghost use Rattle.group_view.specs.View.{Group, ids, is_live, is_dead, left_of, owns, is_between};
 ghost use Rattle.group_view.specs.Change.{Change, AreOpeningNames, AreChanges, opening, marked, views_from};
+ghost use Rattle.group_view.specs.Change.{erased, admitted, admit_refusal};
 ghost use Rattle.group_view.specs.Since.{left_at, KeepsLeft, IsSince};
 ghost use Rattle.group_view.specs.Kept.{IsGroup};
-ghost use Rattle.group_view.specs.Laws.{AreMutual, PassesOn, IsHistory};
+ghost use Rattle.group_view.specs.Laws.{AreMutual, PassesOn, KeepsNeighbours, ComesBetween, IsHistory};
 
 /// In each view of a group that opens and changes, each entry's `since` is the least version from which its
 /// left neighbour has been the same in every view. Entries stay, none lives again, versions are numbered
@@ -29,6 +30,19 @@ pub fn a_mark_passes_neighbours_on()
         → PassesOn g.entries (marked g dead).entries dead }
 {}
 
+/// An erasure leaves everyone's neighbours as they are.
+pub fn an_erasure_keeps_neighbours()
+    ensures { (g : Group) (dead : ℕ) → is_dead g.entries dead ≡ true
+        → KeepsNeighbours g.entries (erased g dead).entries }
+{}
+
+/// Who is admitted stands between its admitter and those that had the admitter on their left; all others keep
+/// their left neighbour.
+pub fn an_admission_comes_between()
+    ensures { (g : Group) (by : ℕ) (name : List ℕ) → IsGroup g → admit_refusal g.entries by name ≡ None
+        → ComesBetween g.entries (admitted g by name).entries by g.next_id }
+{}
+
 /// That an entry's left neighbour is this one, and has been it since some version or before, says that it is
 /// its left neighbour in each view from that version on.
 pub fn since_says_who_was_left()
@@ -46,5 +60,5 @@ pub fn owners_own_what_stands_between()
 
 /// A group has few versions, since each but the first is one change of one of at most 64 entries.
 pub fn versions_are_few()
-    ensures { (g : Group) → IsGroup g → g.version ≤ 256 }
+    ensures { (g : Group) → IsGroup g → g.version < 256 }
 {}

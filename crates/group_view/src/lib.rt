@@ -5,6 +5,7 @@
 
 mod entries;
 mod entry;
+mod fault;
 mod laws;
 mod link;
 mod names;
@@ -16,9 +17,11 @@ mod view;
 
 pub use entries::Entries;
 pub use entry::{Entry, Mark};
+pub use fault::ViewFault;
 pub use laws::{
-    a_mark_passes_neighbours_on, every_view_keeps_since, neighbours_are_mutual,
-    owners_own_what_stands_between, since_says_who_was_left, versions_are_few,
+    a_mark_passes_neighbours_on, an_admission_comes_between, an_erasure_keeps_neighbours,
+    every_view_keeps_since, neighbours_are_mutual, owners_own_what_stands_between,
+    since_says_who_was_left, versions_are_few,
 };
 pub use link::{LinkKind, LinkName};
 pub use names::are_opening_names;

@@ -5,7 +5,7 @@ ghost use Rattle.group_view.specs.Change.{AreOpeningNames, AreDifferent};
 use ring_names::Name;
 
 /// How many entries a view ever has.
-const MOST_ENTRIES: usize = 64;
+pub(crate) const MOST_ENTRIES: usize = 64;
 
 /// Whether a group may open with these names: 1 to 64 different ones. It wants no memory.
 pub fn are_opening_names(names: &[Name]) -> bool

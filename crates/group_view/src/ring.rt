@@ -1,17 +1,21 @@
 //! Entries in ring order, as slices.
-ghost use Rattle.std.specs.Prelude.{◌≡◌, ◌&&◌, ◌++◌, reverse, filter, position, nat_eq, ◌<◌, ◌≤◌, ◌+◌, ℕ, length};
-ghost use Rattle.std.specs.Prelude.{take, drop, map, option_map, IfOk, OnOk, IfSome};
+ghost use Rattle.std.specs.Prelude.{MatchOption, ◌≡◌, ◌&&◌, ◌++◌, reverse, filter, position, nat_eq, ◌<◌, ◌≤◌, ◌+◌, ℕ, length};
+ghost use Rattle.std.specs.Prelude.{take, drop, map, option_map, IfOk, OnOk, IfSome, true};
 ghost use Rattle.group_view.specs.declared.entry.Mark.TheVariants.{Dead};
+ghost use Rattle.group_view.specs.View.{is_dead as died};
 ghost use Rattle.group_view.specs.View.{ids, number, as_id, left_of as the_left, right_of as the_right};
 ghost use Rattle.group_view.specs.View.{owner_of as the_owner, is_between as the_test, aliases_of as the_aliases};
 ghost use Rattle.group_view.specs.View.{id_named as the_id, owns, is_alias as is_the_alias, is_dead_mark};
-ghost use Rattle.group_view.specs.View.{entry_in, is_live as lives};
-ghost use Rattle.group_view.specs.Change.{dated, with_mark, opening_entries};
+ghost use Rattle.group_view.specs.View.{entry_in, no_entry, is_live as lives, is_erased as rests};
+ghost use Rattle.group_view.specs.Change.{dated, with_mark, opening_entries, answer_of};
+ghost use Rattle.group_view.specs.Change.{mark_refusal, erase_refusal, admit_refusal};
 ghost use Rattle.group_view.specs.Ring.{AreDistinct, first, is_in};
 ghost use Rattle.group_view.specs.Parts.{place_of as the_place, live_ids, last, comes_before, mark_in, AreFound};
+ghost use Rattle.group_view.specs.Parts.{dated_right_of};
 
 use crate::entry::{Entry, Mark};
-use ring_names::{MemberId, Name, OutOfMemory};
+use crate::names::MOST_ENTRIES;
+use ring_names::{MemberId, Name, OutOfMemory, Reason};
 use std::alloc::Global;
 
 /// The place of the entry of that id.
@@ -142,28 +146,67 @@ pub(crate) fn mark_of(entries: &[Entry], id: MemberId) -> Option<Mark>
     None
 }
 
+/// The entry of that id.
+fn entry_of(entries: &[Entry], id: MemberId) -> Option<&Entry>
+    ensures { MatchOption result (entry_in entries.now id.0 ≡ no_entry)
+        (λ entry. entry.now ≡ entry_in entries.now id.0) }
+{
+    for entry in entries {
+        if entry.has_id(id) {
+            return Some(entry);
+        }
+    }
+    None
+}
+
 /// Whether the entry of that id is live.
 pub(crate) fn is_live(entries: &[Entry], id: MemberId) -> bool
     ensures { result ≡ lives entries.now id.0 }
 {
-    for entry in entries {
-        if entry.has_id(id) {
-            return entry.is_live();
-        }
+    match entry_of(entries, id) {
+        Some(entry) => entry.is_live(),
+        None => false,
     }
-    false
+}
+
+/// Whether the entry of that id is erased; an id without one counts as erased.
+pub(crate) fn is_erased(entries: &[Entry], id: MemberId) -> bool
+    ensures { result ≡ rests entries.now id.0 }
+{
+    match entry_of(entries, id) {
+        Some(entry) => entry.mark.is_erased(),
+        None => true,
+    }
+}
+
+/// Whether the entry of that id is dead.
+pub(crate) fn is_dead(entries: &[Entry], id: MemberId) -> bool
+    ensures { result ≡ died entries.now id.0 }
+{
+    match entry_of(entries, id) {
+        Some(entry) => entry.mark.is_dead(),
+        None => false,
+    }
 }
 
 /// The version from which its left neighbour has been the present one; 0 without the entry.
 pub(crate) fn since_of(entries: &[Entry], id: MemberId) -> u32
     ensures { result ≡ (entry_in entries.now id.0).since }
 {
-    for entry in entries {
-        if entry.has_id(id) {
-            return entry.since;
-        }
+    match entry_of(entries, id) {
+        Some(entry) => entry.since,
+        None => 0,
     }
-    0
+}
+
+/// Whether the entry of that id is registered as synchronised.
+pub(crate) fn is_synced(entries: &[Entry], id: MemberId) -> bool
+    ensures { result ≡ (entry_in entries.now id.0).synced }
+{
+    match entry_of(entries, id) {
+        Some(entry) => entry.synced,
+        None => false,
+    }
 }
 
 /// Whether `id` answers for this entry, which is dead.
@@ -171,18 +214,29 @@ fn is_alias(entries: &[Entry], entry: &Entry, id: MemberId) -> bool
     requires { AreDistinct (ids entries.now) }
     ensures { result ≡ (is_dead_mark entry.now.mark && owns entries.now id.0 entry.now.id.0) }
 {
-    matches!(entry.mark, Mark::Dead) && owner_of(entries, entry.id) == Some(id)
+    entry.mark.is_dead() && owner_of(entries, entry.id) == Some(id)
 }
 
-/// Notes the version with those whose left neighbour an entry ceases to be when it is marked dead.
-fn date_right_of(entries: &mut [Entry], dead: MemberId, version: u32)
+/// Notes the version with the others whose left neighbour an entry is.
+pub(crate) fn date_right_of(entries: &mut [Entry], left: MemberId, version: u32)
     requires { AreDistinct (ids entries.old) }
-    ensures { entries.new ≡ map (dated version entries.old (map (with_mark Dead dead.0) entries.old)) entries.old }
+    ensures { entries.new ≡ map (dated_right_of left.0 version entries.old) entries.old }
 {
     for place in 0..entries.len() {
         let id = entries[place].id;
-        if id.0 != dead.0 && left_of(entries, id).0 == dead.0 {
+        if id.0 != left.0 && left_of(entries, id).0 == left.0 {
             entries[place].since = version;
+        }
+    }
+}
+
+/// Gives the entry this mark.
+pub(crate) fn set_mark(entries: &mut [Entry], id: MemberId, mark: Mark)
+    ensures { entries.new ≡ map (with_mark mark id.0) entries.old }
+{
+    for entry in entries.iter_mut() {
+        if entry.has_id(id) {
+            entry.mark = mark;
         }
     }
 }
@@ -194,10 +248,57 @@ pub(crate) fn mark_dead(entries: &mut [Entry], dead: MemberId, version: u32)
         (map (with_mark Dead dead.0) entries.old) }
 {
     date_right_of(entries, dead, version);
-    for entry in entries.iter_mut() {
-        if entry.has_id(dead) {
-            entry.mark = Mark::Dead;
-        }
+    set_mark(entries, dead, Mark::Dead);
+}
+
+/// Whether the entry is a live one, and why not.
+pub(crate) fn must_live(entries: &[Entry], id: MemberId) -> Result<(), Reason>
+    ensures { result ≡ answer_of (mark_refusal entries.now id.0) }
+{
+    let Some(mark) = mark_of(entries, id) else {
+        return Err(Reason::UnknownMember);
+    };
+    if !mark.is_live() {
+        return Err(Reason::AlreadyDead);
+    }
+    Ok(())
+}
+
+/// Whether the entry is a dead one, and why not.
+pub(crate) fn must_be_dead(entries: &[Entry], id: MemberId) -> Result<(), Reason>
+    ensures { result ≡ answer_of (erase_refusal entries.now id.0) }
+{
+    let Some(mark) = mark_of(entries, id) else {
+        return Err(Reason::UnknownMember);
+    };
+    if !mark.is_dead() {
+        return Err(Reason::NotDead);
+    }
+    Ok(())
+}
+
+/// Whether the entry may admit one of this name, and why not.
+pub(crate) fn may_admit(entries: &[Entry], by: MemberId, name: &Name) -> Result<(), Reason>
+    ensures { result ≡ answer_of (admit_refusal entries.now by.0 name.now) }
+{
+    must_live(entries, by)?;
+    if find(entries, name).is_some() {
+        return Err(Reason::NameTaken);
+    }
+    if entries.len() >= MOST_ENTRIES {
+        return Err(Reason::TooManyMembers);
+    }
+    Ok(())
+}
+
+/// The place directly right of the entry of the id, and the end where it has none.
+pub(crate) fn place_right_of(entries: &[Entry], id: MemberId) -> usize
+    ensures within { result ≤ length entries.now }
+    ensures place { is_in id.0 (ids entries.now) ≡ true → result ≡ the_place entries.now id.0 + 1 }
+{
+    match place_of(entries, id) {
+        Some(place) => place + 1,
+        None => entries.len(),
     }
 }
 

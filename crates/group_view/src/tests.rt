@@ -1,8 +1,9 @@
 //! Small rings against a slow reading of what a view says, and each public call once, with ample memory.
 ghost use Rattle.std.specs.Prelude.{◌≡◌, true, nat_lt, ◌<◌};
 ghost use Rattle.std.specs.Bool.{OnTrue};
-ghost use Rattle.std.specs.List.{list_all};
+ghost use Rattle.std.specs.List.{list_all, sum_by};
 ghost use Rattle.group_view.specs.View.{ids};
+ghost use Rattle.group_view.specs.Kept.{changes_of};
 ghost use Rattle.group_view.specs.Ring.{AreDistinct};
 
 use crate::*;
@@ -10,6 +11,8 @@ use ring_names::{Items, MemberId, Name};
 use std::alloc::Global;
 use std::process::Abort;
 use std::test::Fail;
+
+mod changes;
 
 fn name(text: &str) -> Result<Name, Fail> {
     Ok(Name::read(text.as_bytes())?)
@@ -50,9 +53,19 @@ fn are_view_ids(entries: &[Entry], next_id: u32) -> bool
     true
 }
 
+/// Whether there is an entry, and the first is synchronised, as in each group that opened.
+fn begins_synced(entries: &[Entry]) -> bool
+    ensures { OnTrue result (1 < sum_by changes_of entries.now) }
+{
+    match entries.first() {
+        Some(first) => first.synced,
+        None => false,
+    }
+}
+
 /// The view of these entries, if they are those of one.
 fn view_of(entries: Vec<Entry>) -> Option<View> {
-    if entries.is_empty() || entries.len() > 64 {
+    if !begins_synced(&entries) || entries.len() > 64 {
         return None;
     }
     let next_id = entries.len() as u32 + 1;
@@ -63,7 +76,7 @@ fn view_of(entries: Vec<Entry>) -> Option<View> {
         version: 1,
         entries: Entries::from_vec(entries),
         master: None,
-        term: 1,
+        term: 0,
         next_id,
     })
 }

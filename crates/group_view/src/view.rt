@@ -1,19 +1,23 @@
 //! A view of the group.
-ghost use Rattle.std.specs.Prelude.{◌≡◌, map, option_map, IfOk, OnOk, OnErr};
+ghost use Rattle.std.specs.Prelude.{◌≡◌, map, option_map, IfOk, IfErr, OnOk, OnErr, None};
+ghost use Rattle.group_view.specs.View.{is_dead as died, is_alias as the_alias};
 ghost use Rattle.group_view.specs.View.{number, as_id, left_of as the_left, right_of as the_right};
 ghost use Rattle.group_view.specs.View.{owner_of as the_owner, is_between as the_test, aliases_of as the_aliases};
-ghost use Rattle.group_view.specs.View.{id_named, ids, entry_in, is_live as lives};
+ghost use Rattle.group_view.specs.View.{id_named, ids, entry_in, is_live as lives, is_erased as rests};
 ghost use Rattle.group_view.specs.Ring.{is_in};
 ghost use Rattle.group_view.specs.Change.{AreOpeningNames, opening, marked, mark_refusal, answer_of};
+ghost use Rattle.group_view.specs.Change.{erased, erase_refusal, admitted, admit_refusal, IsFault};
 
 use crate::entries::Entries;
+use crate::entry::Entry;
+use crate::fault::ViewFault;
 use crate::ring;
 use ring_names::{MemberId, Name, OutOfMemory, Reason};
 use std::alloc::Global;
 use std::marker::Model;
 
 /// One version of the group: its entries in ring order, going right. Versions go from 1, and a group has
-/// at most 256.
+/// fewer than 256.
 #[derive(Drop, Debug)]
 pub struct View {
     /// Its number, from 1; each change makes the next.
@@ -79,6 +83,34 @@ impl View {
         ring::is_live(self.entries.as_slice(), id)
     }
 
+    /// Whether the view has that entry as erased; an id without one counts as erased. It wants no memory.
+    pub fn is_erased(&self, id: MemberId) -> bool
+        ensures { result ≡ rests self.now.entries id.0 }
+    {
+        ring::is_erased(self.entries.as_slice(), id)
+    }
+
+    /// Whether the view has that entry as dead. It wants no memory.
+    pub fn is_dead(&self, id: MemberId) -> bool
+        ensures { result ≡ died self.now.entries id.0 }
+    {
+        ring::is_dead(self.entries.as_slice(), id)
+    }
+
+    /// Whether `origin` is dead and `id` answers for it. It wants no memory.
+    pub fn is_alias(&self, id: MemberId, origin: MemberId) -> bool
+        ensures { result ≡ the_alias self.now.entries id.0 origin.0 }
+    {
+        self.is_dead(origin) && self.owner_of(origin) == Some(id)
+    }
+
+    /// Whether the ring registers the entry of that id as synchronised; an id without one isn't.
+    pub fn is_synced(&self, id: MemberId) -> bool
+        ensures { result ≡ (entry_in self.now.entries id.0).synced }
+    {
+        ring::is_synced(self.entries.as_slice(), id)
+    }
+
     /// The version from which on the left neighbour of an entry has been the present one; 0 where the view has no such
     /// entry. It wants no memory.
     pub fn since_of(&self, id: MemberId) -> u32
@@ -136,16 +168,49 @@ impl View {
         ensures ok { OnOk result (self.new ≡ marked self.old id.0) }
         ensures err { OnErr result (self.new ≡ self.old) }
     {
-        let Some(mark) = ring::mark_of(self.entries.as_slice(), id) else {
-            return Err(Reason::UnknownMember);
-        };
-        if !mark.is_live() {
-            return Err(Reason::AlreadyDead);
-        }
+        ring::must_live(self.entries.as_slice(), id)?;
         let version = self.version + 1;
         self.entries.mark_dead(id, version);
         self.version = version;
         Ok(())
+    }
+
+    /// The group once nothing of what a dead member published is on its way any more: its entry is marked
+    /// erased. `gm:erase_members_in_group` drops it; here it stays, so that no name and no id comes back. It
+    /// is refused as `UnknownMember` where the id has no entry, and as `NotDead` where the entry is live or
+    /// erased. It wants no memory.
+    pub fn erase(&mut self, id: MemberId) -> Result<(), Reason>
+        ensures answer { result ≡ answer_of (erase_refusal self.old.entries id.0) }
+        ensures ok { OnOk result (self.new ≡ erased self.old id.0) }
+        ensures err { OnErr result (self.new ≡ self.old) }
+    {
+        ring::must_be_dead(self.entries.as_slice(), id)?;
+        self.entries.erase(id);
+        self.version += 1;
+        Ok(())
+    }
+
+    /// The group with one member more, which stands directly right of the one that admits it: it is live,
+    /// isn't synchronised, and its id is the answer. It is refused as `UnknownMember` where the admitter has
+    /// no entry, as `AlreadyDead` where it isn't live, as `NameTaken` where an entry of any mark has the
+    /// name, and as `TooManyMembers` where 64 entries stand. Only an admission that nothing refuses wants
+    /// memory. As `gm:record_new_member_in_group`.
+    pub fn admit(&mut self, by: MemberId, name: Name) -> Result<MemberId, ViewFault>
+        ensures fault { IfErr result (IsFault (admit_refusal self.old.entries by.0 name)) }
+        ensures may { OnOk result (admit_refusal self.old.entries by.0 name ≡ None) }
+        ensures id { IfOk result (λ id. id.0 ≡ self.old.next_id) }
+        ensures ok { OnOk result (self.new ≡ admitted self.old by.0 name) }
+        ensures err { OnErr result (self.new ≡ self.old) }
+    {
+        ring::may_admit(self.entries.as_slice(), by, &name)?;
+        let id = MemberId(self.next_id);
+        let version = self.version + 1;
+        self.entries
+            .insert_right_of(by, Entry::admitted(id, name, version))?;
+        self.entries.date_right_of(id, version);
+        self.version = version;
+        self.next_id += 1;
+        Ok(id)
     }
 
     /// An equal view.

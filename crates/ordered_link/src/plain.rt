@@ -77,9 +77,30 @@ impl<T> LinkOut<T> for PlainOut<T> {
     }
 }
 
+impl<T> PlainOut<T> {
+    ghost use Rattle.std.specs.Prelude.{◌≡◌, ◌<◌, [], true, false, length};
+
+    /// Whether a grant has come back that was not taken yet.
+    pub fn has_back(&self) -> bool
+        ensures some { result ≡ true → 0 < length (self.now).back.items }
+        ensures none { result ≡ false → (self.now).back.items ≡ [] }
+    {
+        !self.back.is_empty()
+    }
+}
+
 impl<T> PlainIn<T> {
-    ghost use Rattle.std.specs.Prelude.{◌≡◌, ◌<◌, None};
+    ghost use Rattle.std.specs.Prelude.{◌≡◌, ◌<◌, ◌∷◌, [], None, List, MatchOption};
+    ghost use Rattle.ordered_link.specs.declared.item.Item.{Item as One};
     ghost use Rattle.ordered_link.specs.Steps.{PlainSent};
+
+    /// The oldest item that has come and was not taken yet.
+    pub fn first(&self) -> Option<&Item<T>>
+        ensures { MatchOption result ((self.now).items.items ≡ [])
+            (λ x. (rest : List (One T)) × ((self.now).items.items ≡ x.now ∷ rest)) }
+    {
+        self.items.first()
+    }
 
     // Sends the grant that waits, where the way back has room.
     fn send_late(&mut self)

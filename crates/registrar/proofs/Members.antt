@@ -1,17 +1,18 @@
--- What of a state of the ring the registrar has: its views, and who has stopped. All events but marks and stops keep both.
+-- What of a state of the ring the registrar has: its views, and who has stopped. Each event in which it has no part keeps both.
 use Rattle.std.proofs.Common.{List, ◌≡◌, ℕ, ◌++◌, ◌∷◌, [], length, Option, Some, None, refl, sym, ap, ◌∙◌, get_or, zero, suc, Bool, map}
 use Rattle.ring_world.specs.View.{right_of}
 use Rattle.ring_world.specs.declared.phase.Phase.{Phase}
 use Rattle.ring_world.specs.declared.phase.Phase.TheVariants.{Waiting, Up, Stopped}
 use Rattle.ring_names.specs.declared.message.Message.TheVariants as message
 use Rattle.ring_world.specs.declared.event.Event.{Event}
-use Rattle.ring_world.specs.declared.event.Event.TheVariants.{Cast, Put, Take, TakeEnd, Gain, Stop, Mark, Refresh, Pick}
+use Rattle.ring_world.specs.declared.event.Event.TheVariants.{Cast, Put, Take, TakeEnd, Gain, Stop, Mark, Refresh, Admit, Pick, Erase, Refuse}
 use Rattle.registrar.specs.Stands.{IsOwn}
 use Rattle.ring_world.specs.Machine.{Member, World, no_member, member_at, link_at, view_in, oldest}
 use Rattle.ring_world.specs.Step.{size, with_member, moved_to, opened_link, end_out, begun, taker, published, with_current}
 use Rattle.ring_world.specs.Event.{is_stopped, refreshed, at_found, taken_by, effect, at_door, id_of, by_of, done_at}
 use Rattle.ring_world.proofs.events.Composed.{refresh_composed}
 use Rattle.std.proofs.Math.Seq.{map-set_same}
+use Rattle.std.proofs.lemmas.Bool.{false≢true}
 use Rattle.std.proofs.lemmas.List.{length-map}
 use Rattle.group_view.specs.View.{Group}
 use Rattle.ring_world.specs.declared.phase.Ending.{Ending}
@@ -76,10 +77,13 @@ told_done w (Put by) x h = told_found w (member_at w x).out _ (λ o. refl)
 told_done w (Take by) x h = told_found w (member_at w x).current _ (λ s. told_taken w x s (member_at w x).phase refl)
 told_done w (TakeEnd by) x h = told_found w (member_at w x).current _ (λ s. told_member w x (with_current None (member_at w x)) refl)
 told_done w (Gain by) x h = told_found w (member_at w x).out _ (λ o. refl)
-told_done w (Stop by) x h = absurd h
-told_done w (Mark by dead) x h = absurd h
+told_done w (Stop by) x h = absurd (false≢true (sym h))
+told_done w (Mark by dead) x h = absurd (false≢true (sym h))
 told_done w (Refresh by version) x h = told_refreshed w x version
+told_done w (Admit by name) x h = absurd (false≢true (sym h))
 told_done w (Pick by) x h = told_found w (at_door w x) _ (λ s. told_member w x (with_current (Some s) (member_at w x)) refl)
+told_done w (Erase by origin) x h = absurd (false≢true (sym h))
+told_done w (Refuse code inner) x h = refl
 
 pub told_effect : (w : World) (e : Event) → IsOwn e → told (effect w e) ≡ told w
 told_effect w e h = told_found w (id_of w (by_of e)) (done_at w e) (λ x. told_done w e x h)

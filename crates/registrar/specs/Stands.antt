@@ -1,5 +1,5 @@
 -- When a registrar stands in a state of the ring, and what its requests are there.
-use Rattle.std.specs.Prelude.{◌≡◌, ℕ, ◌<◌, ◌≤◌, Bool, true, ◌||◌, is_some, List, ◌∷◌, Some}
+use Rattle.std.specs.Prelude.{◌≡◌, ℕ, ◌<◌, ◌≤◌, Bool, true, false, ◌||◌, is_some, List, ◌∷◌, Some}
 use Rattle.ring_names.specs.declared.numbers.CreditSpec.{CreditSpec}
 use Rattle.group_view.specs.declared.request.Request.{Request}
 use Rattle.group_view.specs.declared.request.Request.TheVariants as request
@@ -11,7 +11,7 @@ use Rattle.ring_world.specs.declared.event.Event.{Event}
 use Rattle.ring_world.specs.declared.event.Event.TheVariants.{Stop, Mark, Refresh}
 use Rattle.ring_world.specs.Machine.{World, member_at, newest}
 use Rattle.ring_world.specs.Step.{size, opening}
-use Rattle.ring_world.specs.Event.{IsRun, last, id_of, is_stopped, at_door}
+use Rattle.ring_world.specs.Event.{IsRun, last, id_of, is_stopped, is_registered, at_door}
 use Rattle.registrar.specs.Registry.{Registry}
 use Rattle.registrar.specs.Asked.{is_left, since_in, waits_from}
 
@@ -33,11 +33,9 @@ pub record AsksRefresh (w : World) (x v : ℕ) (e : Event) : Type 0 where
   pub asker : IsAsker w name x v
   pub is : e ≡ Refresh name (newest w)
 
--- an event that neither stops a member nor has one marked
+-- an event that neither stops a member nor adds a view
 abbrev pub IsOwn : Event → Type 0
-IsOwn (Stop by) = ⊥
-IsOwn (Mark by dead) = ⊥
-IsOwn e = Unit {0}
+IsOwn e = is_registered e ≡ false
 
 module _ {I : Type 0} where
   -- a registrar that keeps r has the views of the state, and notice of just those members that have stopped

@@ -15,6 +15,7 @@ pub mod Opens
 pub mod PickGoes
 pub mod PutGoes
 pub mod Questioned
+pub mod Reads
 pub mod Ready
 pub mod Refreshing
 pub mod Refusals

@@ -4,3 +4,4 @@ pub mod Delivered
 pub mod Gathers
 pub mod Handing
 pub mod Owed
+pub mod Waiting

@@ -1,25 +1,7 @@
--- What a ring has to do, of the plain states: each step of repair leaves less, and an idle ring rests.
-pub mod Asked
-pub mod Examples
-pub mod Falls
+-- What holds in every state that a cluster reaches: what its parties need, and that an idle ring rests.
 pub mod Fresh
 pub mod Given
-pub mod Going
 pub mod Heard
-pub mod IdleExamples
 pub mod Lawful
-pub mod Links
-pub mod MarkFalls
-pub mod Marks
-pub mod Moves
-pub mod Parts
 pub mod Phases
-pub mod Places
-pub mod Reached
-pub mod RefreshFalls
-pub mod Refreshed
 pub mod Rest
-pub mod Round
-pub mod Sent
-pub mod Sums
-pub mod TakeFalls

@@ -12,11 +12,11 @@ use Rattle.group_view.specs.View.{Group}
 use Rattle.group_view.specs.Change.{marked}
 use Rattle.group_view.specs.Since.{view_at}
 use Rattle.ring_world.specs.declared.event.Event.{Event}
-use Rattle.ring_world.specs.declared.event.Event.TheVariants.{Cast, Put, Take, TakeEnd, Gain, Stop, Mark, Refresh, Pick}
+use Rattle.ring_world.specs.declared.event.Event.TheVariants.{Cast, Put, Take, TakeEnd, Gain, Stop, Mark, Refresh, Admit, Pick, Erase, Refuse}
 use Rattle.ring_world.specs.Refusal.{refuse_if, is_empty}
 use Rattle.ring_world.specs.View.{right_of}
 use Rattle.ring_world.specs.Machine.{runs_phase}
-use Rattle.ring_world.specs.Event.{version_refusal}
+use Rattle.ring_world.specs.Event.{version_refusal, is_registered}
 use Rattle.gm_member.specs.Parcels.{Parcel}
 use Rattle.gm_member.specs.Held.{Held, Outgoing, Incoming, at_some, active_refused, up_refused, on_some, published_held, put_held, parcel_on, put_refused, pick_refused, take_refused, took_held, gained_held, ended_held, stopped_held, is_for, stays, sends_to, fresh_out as unsent_on, fresh_in as arriving_in, refreshed_held, first_at_door, picked_held, without, collected_held}
 use Rattle.gm_member.specs.View.{ring_link}
@@ -156,10 +156,9 @@ Picks a b =
 
 -- whether it does so, without the registrar
 abbrev pub is_alone : Event → Bool
-is_alone (Stop by) = false
-is_alone (Mark by dead) = false
 is_alone (Refresh by version) = false
-is_alone e = true
+is_alone (Refuse code inner) = false
+is_alone e = not (is_registered e)
 
 -- the first condition that fails
 abbrev pub alone_refused : Event → Shown → Option Reason

@@ -4,9 +4,9 @@ use Rattle.ring_cluster.specs.declared.cluster.Cluster.TheInside.{Inside}
 use Rattle.ring_cluster.specs.Seen.{Seen}
 use Rattle.ring_cluster.specs.Standing.{StandAfter}
 
--- what is seen of a cluster: it owes what its parties owe
+-- what is seen of a cluster: it owes what its parties owe, and shows what they show
 abbrev pub seen_of : Inside → Seen
-seen_of a = record { credit = a.credit; names = a.names.items; events = a.journal.items; agendas = a.parties.agendas; rounds = a.rounds; given = a.given.items; owes = a.parties.owes }
+seen_of a = record { credit = a.credit; names = a.names.items; events = a.journal.items; agendas = a.parties.agendas; rounds = a.rounds; given = a.given.items; owes = a.parties.owes; shows = a.parties.all }
 
 -- its parties stand in the last state of its journal, and each member has an agenda
 pub record IsStanding (a : Inside) : Type 0 where

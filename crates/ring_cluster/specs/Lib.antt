@@ -15,8 +15,8 @@ pub mod Opened
 pub mod Parties
 pub mod Plays
 pub mod Refused
+pub mod Rounds
 pub mod Seen
 pub mod Standing
 pub mod Tried
 pub mod Turns
-pub mod Work

@@ -1,9 +1,11 @@
 -- What the parties of a cluster show: its members with the ends of their links, and its registrar with the links that wait there.
-use Rattle.std.specs.Prelude.{ℕ, ◌++◌, Bool, false, List, [], map, slice_index_or, slice_set, Option, Some, None, option_map}
+use Rattle.std.specs.Prelude.{◌≡◌, ℕ, ◌++◌, Bool, false, List, [], map, slice_index_or, slice_set, Option, Some, None, option_map}
 use Rattle.ordered_link.specs.declared.item.Item.{Item}
 use Rattle.ordered_link.specs.declared.item.Item.TheVariants as item
+use Rattle.ordered_link.specs.declared.ends.LinkOut.{Ghosts}
 use Rattle.ordered_link.specs.declared.plain.PlainOut.{PlainOut}
 use Rattle.ordered_link.specs.declared.plain.PlainIn.{PlainIn}
+use Rattle.ordered_link.specs.Steps.{PlainPuts, PlainGains}
 use Rattle.group_view.specs.declared.link.LinkName.{LinkName}
 use Rattle.group_view.specs.View.{Group}
 use Rattle.group_view.specs.Since.{no_group}
@@ -19,9 +21,13 @@ use Rattle.ring_cluster.specs.declared.agenda.Task.{Task}
 use Rattle.ring_cluster.specs.declared.party.Party.{Party}
 use Rattle.ring_cluster.specs.Ends.{Sent, OutSeen, InSeen}
 
+-- what a plain out end shows as the end of a link
+abbrev pub plain_out : Ghosts (PlainOut Load) Load
+plain_out = record { free = λ e. e.free; ended = λ e. e.ended; grants = λ e. e.back.items; puts = PlainPuts; gains = PlainGains; looked = λ a b. b ≡ a }
+
 -- a member over plain pairs
 abbrev pub ANode : Type 0
-ANode = Member (PlainOut Load) (PlainIn Load)
+ANode = Member (PlainOut Load) (PlainIn Load) plain_out
 
 -- ---- what ends show
 

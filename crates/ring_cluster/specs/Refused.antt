@@ -1,17 +1,21 @@
 -- Why an event is refused, by what the parties show.
-use Rattle.std.specs.Prelude.{◌≡◌, ℕ, ◌+◌, ◌||◌, bytes_eq, List, [], Option, Some, None, map, option_map, position, is_some}
+use Rattle.std.specs.Prelude.{◌≡◌, ℕ, ◌+◌, ◌&&◌, ◌||◌, Bool, cond, bytes_eq, List, [], ◌∷◌, Option, Some, None, map, option_map, position, is_some}
 use Rattle.std.specs.List.{filter}
 use Rattle.ring_names.specs.declared.reason.Reason.{Reason}
 use Rattle.ring_names.specs.declared.reason.Reason.TheVariants as reason
+use Rattle.ring_names.specs.declared.numbers.CreditSpec.{CreditSpec}
 use Rattle.ring_world.specs.declared.event.Event.{Event}
 use Rattle.ring_world.specs.declared.event.Event.TheVariants.{Mark, Refresh}
+use Rattle.ring_world.specs.Event.{refusal}
 use Rattle.registrar.specs.declared.standing.Standing.{Standing}
 use Rattle.registrar.specs.Registry.{Registry}
 use Rattle.registrar.specs.Asked.{mark_refusal}
-use Rattle.gm_member.specs.Held.{at_some, up_refused, first_at_door}
+use Rattle.gm_member.specs.Held.{Held, at_some, up_refused, first_at_door, is_for, collected_held}
 use Rattle.ring_cluster.specs.Ends.{InSeen}
 use Rattle.ring_cluster.specs.Parties.{Shown, Posted, Parties, node_at}
-use Rattle.ring_cluster.specs.Acting.{waits_at, alone_refused, look_refused, newest_of}
+use Rattle.ring_cluster.specs.Seen.{state, IsEventAt}
+use Rattle.ring_cluster.specs.Standing.{StandAfter}
+use Rattle.ring_cluster.specs.Acting.{waits_at, received, alone_refused, look_refused, newest_of}
 
 -- the id of the member of that name
 abbrev pub id_named : Parties → List ℕ → Option ℕ
@@ -44,3 +48,22 @@ act_refused e i q = alone_refused e (node_at q i)
 abbrev pub marked_in : Event → Parties → ℕ
 marked_in (Mark by dead) q = at_some (id_named q dead) 0 (λ d. d)
 marked_in e q = 0
+
+-- ---- before the member has collected what waits for it
+
+-- h, with those of these links at its door that wait for it and that it keeps
+abbrev pub with_post : Held → List Posted → Held
+with_post h ps = collected_held h (map (received h) (filter (waits_at h.id) ps))
+
+-- whether a link waits for the member, and comes from its left neighbour, which was that already when the link opened
+abbrev pub comes_for : Held → Posted → Bool
+comes_for h d = waits_at h.id d && is_for h.view h.id (received h d)
+
+-- in which version of its sender's view the first of these links opened that does
+abbrev pub first_for : Held → List Posted → Option ℕ
+first_for h [] = None
+first_for h (d ∷ ps) = cond (comes_for h d) (Some d.name.view) (first_for h ps)
+
+-- wherever these parties stand, this is the first failing condition of an event of the member at a place
+abbrev pub IsRefusalAt : ℕ → Event → Parties → Option Reason → Type 0
+IsRefusalAt i e q r = (credit : CreditSpec) (names : List (List ℕ)) (events : List Event) → StandAfter credit names events q → IsEventAt names i e → r ≡ refusal (state credit names events) e

@@ -6,21 +6,23 @@ use Rattle.group_view.specs.Change.{AreOpeningNames}
 use Rattle.ring_world.specs.declared.event.Event.{Event}
 use Rattle.ring_world.specs.Machine.{World}
 use Rattle.ring_world.specs.Step.{opening}
-use Rattle.ring_world.specs.Event.{IsRun, last, by_of}
+use Rattle.ring_world.specs.Event.{is_plain, ArePlain, IsRun, last, by_of}
 use Rattle.ring_cluster.specs.declared.agenda.Task.{Task}
+use Rattle.ring_cluster.specs.Parties.{Parties}
+use Rattle.ring_cluster.specs.Opened.{opened_parties}
 
 -- the state of the ring after these events from its opening
 abbrev pub state : CreditSpec → List (List ℕ) → List Event → World
 state credit names events = last (opening credit names) events
 
--- it is an event of the member at this place
+-- it is an event of the member at this place, and one that the parties do so far
 abbrev pub IsEventAt : List (List ℕ) → ℕ → Event → Type 0
-IsEventAt names i e = (i < length names) × (by_of e ≡ slice_index_or names i [])
+IsEventAt names i e = (i < length names) × (by_of e ≡ slice_index_or names i []) × (is_plain e ≡ true)
 
 -- A cluster is seen as the names and the credit with which its ring opened, its journal, what each member has
 -- still to do, by places, how many rounds were given a number, what it was given: the commands that it took
--- and its rounds and settlings, in their order; and whether it owes the registrar a link, which was opened by an event
--- and couldn't be handed over for want of memory.
+-- and its rounds and settlings, in their order; whether it owes the registrar a link, which was opened by an event
+-- and couldn't be handed over for want of memory; and what its parties show, with the links that wait for their receivers.
 pub record Seen : Type 0 where
   pub credit : CreditSpec
   pub names : List (List ℕ)
@@ -29,6 +31,7 @@ pub record Seen : Type 0 where
   pub rounds : ℕ
   pub given : List Command
   pub owes : Bool
+  pub shows : Parties
 
 -- the last state of its journal
 abbrev pub state_of : Seen → World
@@ -36,32 +39,38 @@ state_of c = state c.credit c.names c.events
 
 -- a cluster that has just opened: nothing has happened, and nobody has anything to do
 abbrev pub opening_seen : CreditSpec → List (List ℕ) → Seen
-opening_seen credit names = record { credit = credit; names = names; events = []; agendas = replicate (length names) []; rounds = 0; given = []; owes = false }
+opening_seen credit names = record { credit = credit; names = names; events = []; agendas = replicate (length names) []; rounds = 0; given = []; owes = false; shows = opened_parties credit names }
 
--- what every cluster keeps of this: its journal is a run of the ring of fewer than 2^59 events, and each member has
--- an agenda
+-- what every cluster keeps of this: its journal is a run of the ring of fewer than 2^59 events, of those that the parties
+-- do so far, each member has an agenda, and the count of rounds is a u32
 pub record IsGoing (c : Seen) : Type 0 where
   pub are : AreOpeningNames c.names
+  pub plain : ArePlain c.events
   pub run : IsRun (opening c.credit c.names) c.events
   pub few : length c.events < 2 ^ 59
   pub agendas : length c.agendas ≡ length c.names
+  pub rounds : c.rounds < 2 ^ 32
 
 -- c, but that it owes a link or nothing
 abbrev pub owing : Bool → Seen → Seen
 owing owes c = record c { owes = owes }
 
--- d is c, but for what is owed
-abbrev pub SameButOwed : Seen → Seen → Type 0
-SameButOwed c d = (b : Bool) × (d ≡ owing b c)
+-- and that its parties show this
+abbrev pub showing : Bool × Parties → Seen → Seen
+showing x c = record c { owes = x.0; shows = x.1 }
 
--- d is c, but that it may have handed over what it owed
+-- d is c, but for what is owed and what the parties show
+abbrev pub SameButOwed : Seen → Seen → Type 0
+SameButOwed c d = (x : Bool × Parties) × (d ≡ showing x c)
+
+-- d is c, but that it may have handed over what it owed, and members collected links
 abbrev pub MayHandOver : Seen → Seen → Type 0
-MayHandOver c d = (b : Bool) × (d ≡ owing b c) × (b ≡ true → c.owes ≡ true)
+MayHandOver c d = (x : Bool × Parties) × (d ≡ showing x c) × (x.0 ≡ true → c.owes ≡ true)
 
 -- one event has happened
 abbrev pub with_event : Seen → Event → Seen
 with_event c e = record c { events = c.events ++ e ∷ [] }
 
 -- as a round of its own, after which it owes a link or nothing
-abbrev pub stepped : Seen → Event → Bool → Seen
-stepped c e owes = record c { events = c.events ++ e ∷ []; rounds = min (c.rounds + 1) (2 ^ 32 - 1); owes = owes }
+abbrev pub IsStepped : Seen → Event → Bool → Seen → Type 0
+IsStepped c e owes d = (q : Parties) × (d ≡ record c { events = c.events ++ e ∷ []; rounds = min (c.rounds + 1) (2 ^ 32 - 1); owes = owes; shows = q })

@@ -10,7 +10,7 @@ use Rattle.ring_world.specs.declared.event.Event.{Event}
 use Rattle.ring_world.specs.Machine.{World, member_at, link_at}
 use Rattle.ring_world.specs.OpenLinks.{is_place, is_open}
 use Rattle.ring_world.specs.Step.{size, opening}
-use Rattle.ring_world.specs.Event.{IsRun, is_stopped}
+use Rattle.ring_world.specs.Event.{ArePlain, IsRun, is_stopped}
 use Rattle.gm_member.specs.View.{ring_link}
 use Rattle.gm_member.specs.Stands.{incoming_in, door_links, held_in}
 use Rattle.ring_cluster.specs.Ends.{OutSeen, InSeen, Carries, HaveMet, HasRested}
@@ -91,9 +91,10 @@ pub record Stand (initial : ℕ) (w : World) (q : Parties) : Type 0 where
 
 -- ---- a cluster
 
--- The journal is a run of the ring of fewer than 2^59 events.
+-- The journal is a run of the ring of fewer than 2^59 events, of those that the parties do so far.
 pub record IsJournal (credit : CreditSpec) (names : List (List ℕ)) (events : List Event) : Type 0 where
   pub are : AreOpeningNames names
+  pub plain : ArePlain events
   pub run : IsRun (opening credit names) events
   pub few : length events < 2 ^ 59
 

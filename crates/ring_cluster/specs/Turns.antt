@@ -1,16 +1,16 @@
 -- The turns of a cluster.
-use Rattle.std.specs.Prelude.{◌≡◌, ◌≢◌, ℕ, ◌+◌, ◌<◌, ◌≤◌, Bool, true, false, List, [], length, None, Result, IfOk}
+use Rattle.std.specs.Prelude.{◌≡◌, ◌≢◌, ℕ, ◌+◌, ◌<◌, ◌≤◌, Bool, true, false, List, [], ◌++◌, length, bytes_eq, None, Result, IfOk}
+use Rattle.std.specs.List.{All, filter}
 use Rattle.ring_names.specs.declared.memory.OutOfMemory.{OutOfMemory}
 use Rattle.ring_world.specs.declared.event.Event.{Event}
 use Rattle.ring_world.specs.declared.event.Event.TheVariants.{Put, Take, TakeEnd, Gain, Mark, Pick}
 use Rattle.ring_world.specs.Machine.{World, member_at, newest, right, runs}
 use Rattle.ring_world.specs.Step.{size}
-use Rattle.ring_world.specs.Event.{refusal}
+use Rattle.ring_world.specs.Event.{by_of, refusal}
 use Rattle.ring_cluster.specs.declared.driver.OwnStep.{OwnStep}
 use Rattle.ring_cluster.specs.declared.driver.OwnStep.TheVariants as step
-use Rattle.ring_cluster.specs.Idle.{HasNothingToDo}
-use Rattle.ring_cluster.specs.Seen.{Seen, state_of, SameButOwed}
-use Rattle.ring_cluster.specs.Work.{work}
+use Rattle.ring_cluster.specs.Seen.{Seen, state_of, IsEventAt, SameButOwed}
+use Rattle.ring_world.specs.Work.{is_stale, total}
 use Rattle.ring_cluster.specs.Plays.{agenda_at, HasGoneOn, SameGiven, SameElsewhere}
 
 -- the event of a step on its links, by the member of this name
@@ -41,7 +41,7 @@ pub record Works (c d : Seen) : Type 0 where
 -- Members do a step of their own, or none. Where one was done there is less to do; where none was, all stays and this holds.
 pub record DoesOrRests (c d : Seen) (rests : Type 0) (result : Result Bool OutOfMemory) : Type 0 where
   pub works : Works c d
-  pub falls : IfOk result (λ b. b ≡ true → work (state_of d) < work (state_of c))
+  pub falls : IfOk result (λ b. b ≡ true → total (state_of d) < total (state_of c))
   pub stays : IfOk result (λ b. b ≡ false → SameButOwed c d × rests)
 
 -- the member at place i has taken turns: its agenda hasn't grown, and the others' stay
@@ -49,6 +49,18 @@ pub record TakesTurns (i : ℕ) (c d : Seen) : Type 0 where
   pub round : TakesRound c d
   pub shrinks : length (agenda_at d.agendas i) ≤ length (agenda_at c.agendas i)
   pub elsewhere : SameElsewhere i c d
+
+-- at most so many events have happened since, each a turn of the member at place i
+abbrev pub DoesAtMost : ℕ → ℕ → Seen → Seen → Type 0
+DoesAtMost turns i c d = (more : List Event) × (d.events ≡ c.events ++ more) × (length more ≤ turns) × All (IsEventAt c.names i) more
+
+-- the events of the member of that name
+abbrev pub events_of : List ℕ → List Event → List Event
+events_of name events = filter (λ e. bytes_eq (by_of e) name) events
+
+-- of the events that have happened since, at most so many are of each member
+abbrev pub EachDoesAtMost : ℕ → Seen → Seen → Type 0
+EachDoesAtMost turns c d = (more : List Event) × (d.events ≡ c.events ++ more) × ((name : List ℕ) → length (events_of name more) ≤ turns)
 
 -- the member at a place is done with its agenda, where it runs
 abbrev pub IsDoneAt : ℕ → Seen → Type 0
@@ -66,6 +78,6 @@ MayStepNowhere w y = (s : OwnStep) → MayStep w y s → ⊥
 abbrev pub MarksNoneAt : World → ℕ → Type 0
 MarksNoneAt w y = refusal w (Mark (member_at w y).name (member_at w (right w (newest w) y)).name) ≢ None
 
--- it has nothing to do and nobody to have marked, where it runs
+-- where it runs, it isn't stale, may do no step, and has nobody to have marked
 abbrev pub RestsAt : World → ℕ → Type 0
-RestsAt w y = runs w y ≡ true → HasNothingToDo w y × MarksNoneAt w y
+RestsAt w y = runs w y ≡ true → (is_stale (newest w) (member_at w y) ≡ false) × MayStepNowhere w y × MarksNoneAt w y

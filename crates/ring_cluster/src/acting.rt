@@ -1,13 +1,11 @@
 //! An event of a member of the cluster.
 ghost use Rattle.std.specs.Prelude.{◌≡◌, ◌+◌, ◌-◌, ◌<◌, ◌≤◌, ℕ, List, [], true, false, IfSome, IfErr, IfOk, OnOk};
 ghost use Rattle.std.specs.Prelude.{OnErr, Some, None, map, length, position, bytes_eq, option_map};
-ghost use Rattle.ring_names.specs.declared.reason.Reason.{Reason};
 ghost use Rattle.registrar.specs.Registry.{AreHere};
 ghost use Rattle.registrar.specs.Handled.{with_stopped};
-ghost use Rattle.registrar.specs.Asked.{stop_refusal};
-ghost use Rattle.gm_member.specs.Held.{up_refused};
+ghost use Rattle.registrar.specs.Asked.{stop_refusal as the_stop_refusal};
 ghost use Rattle.ring_cluster.specs.Parties.{shown_of, shown_in};
-ghost use Rattle.ring_cluster.specs.Acting.{IsReady, stop_refused, look_refused};
+ghost use Rattle.ring_cluster.specs.Acting.{IsReady};
 ghost use Rattle.ring_cluster.specs.Acting.{is_alone as the_alone, alone_refused, DoesAlone};
 ghost use Rattle.ring_cluster.specs.Tried.{IsJudged};
 
@@ -15,12 +13,13 @@ use crate::looking::{Loose, look, mark};
 use crate::node::{Node, cast, gain, pick, put, stop, take, take_end};
 use crate::parties::Parties;
 use crate::party::Party;
+use crate::refusing::{look_refusal, stop_refusal, unknown};
 use gm_member::Load;
 use group_view::Request;
 use ordered_link::PlainIn;
 use registrar::Registrar;
-use ring_names::{MemberId, Name, Reason};
-use ring_world::{Event, Phase, Refused};
+use ring_names::{MemberId, Name};
+use ring_world::{Event, Refused};
 
 /// Whether the member has that name.
 fn has_name(node: &Node, name: &Name) -> bool
@@ -54,7 +53,10 @@ fn do_alone(node: &mut Node, event: &Event) -> Result<(), Refused>
         Event::Pick { by: _ } => pick(node),
         Event::Stop { by: _ }
         | Event::Mark { by: _, dead: _ }
-        | Event::Refresh { by: _, view: _ } => unreachable!(),
+        | Event::Refresh { by: _, view: _ }
+        | Event::Admit { by: _, name: _ }
+        | Event::Erase { by: _, origin: _ }
+        | Event::Refuse { code: _, inner: _ } => unreachable!(),
     }
 }
 
@@ -64,14 +66,19 @@ pub(crate) fn is_alone(event: &Event) -> bool
 {
     !matches!(
         event,
-        Event::Stop { .. } | Event::Mark { .. } | Event::Refresh { .. }
+        Event::Stop { .. }
+            | Event::Mark { .. }
+            | Event::Refresh { .. }
+            | Event::Admit { .. }
+            | Event::Erase { .. }
+            | Event::Refuse { .. }
     )
 }
 
 /// The registrar hears that a member stops, of which it hasn't heard before.
 fn notify(registrar: &mut Registrar<PlainIn<Load>>, by: MemberId) -> Result<(), Refused>
     requires here { AreHere (registrar.old).links }
-    requires allowed { stop_refusal registrar.old by.0 ≡ None }
+    requires allowed { the_stop_refusal registrar.old by.0 ≡ None }
     ensures ok { OnOk result (registrar.new ≡ with_stopped registrar.old by.0) }
     ensures reason { IfErr result (λ e. e ≡ Refused.OutOfMemory) }
     ensures err { OnErr result (registrar.new ≡ registrar.old) }
@@ -82,64 +89,12 @@ fn notify(registrar: &mut Registrar<PlainIn<Load>>, by: MemberId) -> Result<(), 
     }
 }
 
-/// Why a member may not stop, of which no question is open.
-fn stop_refusal_of(node: &Node) -> Option<Reason>
-    requires { (shown_of node.now).held.asks ≡ false }
-    ensures { result ≡ stop_refused (shown_of node.now) }
-{
-    match node.phase() {
-        Phase::Stopped => Some(Reason::Stopped),
-        Phase::Waiting | Phase::Up => None,
-    }
-}
-
-/// Why a member may not act, of which no question is open.
-fn up_refusal(node: &Node) -> Option<Reason>
-    requires { (shown_of node.now).held.asks ≡ false }
-    ensures { result ≡ up_refused (shown_of node.now).held None }
-{
-    match node.phase() {
-        Phase::Stopped => Some(Reason::Stopped),
-        Phase::Waiting => Some(Reason::Waiting),
-        Phase::Up => None,
-    }
-}
-
-/// Why the member may not read the view of a version, where the newest is another.
-fn look_refusal(node: &Node, newest: u32, version: u32) -> Option<Reason>
-    requires { (shown_of node.now).held.asks ≡ false }
-    ensures { result ≡ look_refused newest (shown_of node.now) version }
-{
-    if let Some(reason) = up_refusal(node) {
-        return Some(reason);
-    }
-    let held = node.view().version;
-    if version < held || newest < version {
-        return Some(Reason::ViewOutOfRange {
-            asked: version,
-            held,
-            newest,
-        });
-    }
-    None
-}
-
-/// Why a member has nobody marked of whom nobody knows.
-fn unknown(node: &Node) -> Reason
-    requires { (shown_of node.now).held.asks ≡ false }
-    ensures { up_refused (shown_of node.now).held (Some Reason.UnknownMember) ≡ Some result }
-{
-    match up_refusal(node) {
-        Some(reason) => reason,
-        None => Reason::UnknownMember,
-    }
-}
-
 impl Parties {
     ghost use Rattle.std.specs.Prelude.{◌≡◌, ◌+◌, ◌<◌, ℕ, List, true, false, IfSome, IfOk, OnOk, OnErr, None, length};
     ghost use Rattle.std.specs.Prelude.{option_map};
     ghost use Rattle.group_view.specs.Since.{view_at};
     ghost use Rattle.ring_world.specs.declared.event.Event.TheVariants.{Stop, Mark};
+    ghost use Rattle.ring_world.specs.Event.{is_plain};
     ghost use Rattle.ring_cluster.specs.Parties.{node_at};
     ghost use Rattle.ring_cluster.specs.Standing.{StandSomewhere};
     ghost use Rattle.ring_cluster.specs.Tried.{IsJudged};
@@ -159,6 +114,7 @@ impl Parties {
     /// The event of the member at a place happens there, where it is enabled: the out end that the member replaces.
     pub(crate) fn act(&mut self, i: usize, event: &Event) -> Result<Option<Loose>, Refused>
         requires within { i < length (self.old).all.nodes }
+        requires plain { is_plain event.now ≡ true }
         requires delivered { (self.old).owes ≡ false }
         requires standing { StandSomewhere (self.old).all }
         ensures judged { IsJudged (act_refused event.now i (self.old).all) result }
@@ -183,7 +139,10 @@ impl Parties {
             | Event::Take { by: _ }
             | Event::TakeEnd { by: _ }
             | Event::Gain { by: _ }
-            | Event::Pick { by: _ } => unreachable!(),
+            | Event::Pick { by: _ }
+            | Event::Admit { by: _, name: _ }
+            | Event::Erase { by: _, origin: _ }
+            | Event::Refuse { code: _, inner: _ } => unreachable!(),
         }
     }
 
@@ -212,7 +171,7 @@ impl Parties {
         ensures agendas { (self.new).agendas ≡ (self.old).agendas }
         ensures err { OnErr result (self.new ≡ self.old) }
     {
-        if let Some(reason) = stop_refusal_of(&self.members[i].node) {
+        if let Some(reason) = stop_refusal(&self.members[i].node) {
             return Err(Refused::NotEnabled(reason));
         }
         notify(&mut self.registrar, MemberId(i as u32 + 1))?;

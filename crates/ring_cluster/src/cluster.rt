@@ -6,6 +6,7 @@ ghost use Rattle.ring_cluster.specs.Plays.{IsCommandTo, IsTaskOf, place_among as
 use crate::agenda::Task;
 use crate::driver::{drain, round};
 use crate::node::Node;
+use crate::numbering::Rounds;
 use crate::opening::copied;
 use crate::parties::Parties;
 use group_view::View;
@@ -33,7 +34,7 @@ pub struct Cluster {
     names: Vec<Name>,
     parties: Parties,
     journal: Vec<Event>,
-    rounds: u32,
+    rounds: Rounds,
     given: Vec<Command>,
 }
 
@@ -60,18 +61,21 @@ impl Cluster {
     ghost use Rattle.ring_world.specs.declared.event.Event.{Event};
     ghost use Rattle.ring_world.specs.Machine.{view_in, newest, runs};
     ghost use Rattle.ring_world.specs.Quiet.{IsQuiet};
-    ghost use Rattle.ring_world.specs.Event.{refusal};
+    ghost use Rattle.ring_world.specs.Event.{refusal, is_plain};
     ghost use Rattle.gm_member.specs.Stands.{held_in};
     ghost use Rattle.gm_member.specs.Shown.{held_of};
-    ghost use Rattle.ring_cluster.specs.Idle.{IsIdle, NobodyStopped, MarksNobody};
+    ghost use Rattle.ring_world.specs.Idle.{NobodySteps, MarksNobody};
+    ghost use Rattle.ring_cluster.specs.Idle.{NobodyStopped};
     ghost use Rattle.ring_cluster.specs.Holds.{HoldsOf};
+    ghost use Rattle.ring_cluster.specs.Parties.{shown_of, node_at};
     ghost use Rattle.ring_cluster.specs.Seen.{Seen, IsGoing, IsEventAt, SameButOwed, MayHandOver, state_of};
-    ghost use Rattle.ring_cluster.specs.Seen.{opening_seen, with_event, owing, stepped};
+    ghost use Rattle.ring_cluster.specs.Seen.{IsStepped, opening_seen, with_event, owing};
     ghost use Rattle.ring_cluster.specs.declared.agenda.Task.{Task};
     ghost use Rattle.ring_cluster.specs.Plays.{PlaysSoFar, Plays, task_event, place_among, IsCommandTo, commanded};
     ghost use Rattle.ring_cluster.specs.Plays.{performed, agenda_at, GoesOn, HasGoneOn, HasBegun, HeadsAre};
     ghost use Rattle.ring_cluster.specs.Plays.{AgendasAreDone, AgendasAreEmpty};
-    ghost use Rattle.ring_cluster.specs.Turns.{SamePhases, TakesRound};
+    ghost use Rattle.ring_cluster.specs.Turns.{SamePhases, TakesRound, EachDoesAtMost};
+    ghost use Rattle.ring_cluster.specs.Rounds.{more_rounds, GivesNumbers};
 
     /// The cluster of a ring that has just opened with these members, in ring order: nobody has anything
     /// to do.
@@ -100,7 +104,7 @@ impl Cluster {
             names,
             parties,
             journal: Vec::new(alloc),
-            rounds: 0,
+            rounds: Rounds::none(),
             given: Vec::new(alloc),
         })
     }
@@ -110,7 +114,7 @@ impl Cluster {
     pub fn is_going(&self)
         ensures { IsGoing self.now }
     {
-        let _ = &self.rounds;
+        let _ = self.rounds.count();
     }
 
     /// Whether the ring has a member of that name.
@@ -153,20 +157,22 @@ impl Cluster {
         Ok(())
     }
 
-    /// The one event, where it is enabled; after it nothing is owed. After a refusal all stands as it stood, but that
-    /// what was owed may have been handed over; or, for want of memory, the event has happened and the cluster owes
-    /// the registrar a link. What it owes, and the collecting of the links that wait for the acting member, comes
-    /// before the next event, and without memory for it no event happens.
+    /// The one event, where it is enabled; after it nothing is owed. After a refusal all stands as it stood, and each
+    /// member shows what it showed. Before an event that isn't refused the acting member collects the links that wait
+    /// for it, and what is owed is handed over. For want of memory no event happens, though some of that may have
+    /// been done; or the event has happened, and the cluster owes the registrar a link. An admission, an erasure and a
+    /// refusal aren't done by the members yet.
     pub fn step(&mut self, event: &Event) -> Result<(), Refused>
+        requires { is_plain event.now ≡ true }
         ensures enabled { OnOk result (refusal (state_of self.old) event.now ≡ None) }
-        ensures ok { OnOk result (self.new ≡ stepped self.old event.now false) }
+        ensures ok { OnOk result (IsStepped self.old event.now false self.new) }
         ensures refused { (r : Reason) → refusal (state_of self.old) event.now ≡ Some r
-            → (result ≡ Err (Refused.NotEnabled r)) ⊎ (result ≡ Err Refused.OutOfMemory) }
+            → (result ≡ Err (Refused.NotEnabled r)) × (self.new ≡ self.old) }
         ensures reason { IfErr result (λ e. (r : Reason) → e ≡ Refused.NotEnabled r
             → refusal (state_of self.old) event.now ≡ Some r) }
-        ensures err { IfErr result (λ e. MayHandOver self.old self.new
+        ensures err { IfErr result (λ e. (self.new ≡ self.old)
             ⊎ ((e ≡ Refused.OutOfMemory) × (refusal (state_of self.old) event.now ≡ None)
-            × (self.new ≡ stepped self.old event.now true))) }
+            × (MayHandOver self.old self.new ⊎ IsStepped self.old event.now true self.new))) }
     {
         let Some(place) = self.place_of(event) else {
             return Err(Refused::NotEnabled(Reason::UnknownMember));
@@ -181,6 +187,7 @@ impl Cluster {
 
     /// The place of the member of an event, where the ring has it.
     fn place_of(&self, event: &Event) -> Option<usize>
+        requires { is_plain event.now ≡ true }
         ensures { MatchOption result (refusal (state_of self.now) event.now ≡ Some Reason.UnknownMember)
             (λ place. IsEventAt (self.now).names place event.now) }
     {
@@ -194,7 +201,7 @@ impl Cluster {
         ensures enabled { OnOk result (refusal (state_of self.old) event.now ≡ None) }
         ensures ok { OnOk result (SameButOwed (with_event self.old event.now) self.new) }
         ensures refused { (r : Reason) → refusal (state_of self.old) event.now ≡ Some r
-            → (result ≡ Err (Refused.NotEnabled r)) ⊎ (result ≡ Err Refused.OutOfMemory) }
+            → (result ≡ Err (Refused.NotEnabled r)) × (self.new ≡ self.old) }
         ensures reason { IfErr result (λ e. (r : Reason) → e ≡ Refused.NotEnabled r
             → refusal (state_of self.old) event.now ≡ Some r) }
         ensures err { OnErr result (MayHandOver self.old self.new) }
@@ -284,9 +291,9 @@ impl Cluster {
         self.journal.len()
     }
 
-    /// One round: each member takes at least one and at most so many turns, the first of which does the head of its
-    /// agenda, where it has one and hasn't stopped; after it nothing is owed. Want of memory leaves what has
-    /// happened.
+    /// One round: each member that hasn't stopped takes at least one and at most so many turns, the first of which
+    /// does the head of its agenda, where it has one; after it nothing is owed. Before and after each turn the gate is
+    /// passed. Want of memory leaves what has happened.
     pub fn go<T: Threads, G: Gate>(
         &mut self,
         threads: &T,
@@ -297,11 +304,12 @@ impl Cluster {
         ensures heads { OnOk result ((more : List Event)
             × GoesOn self.old self.new more × HeadsAre self.old more) }
         ensures goes { HasGoneOn self.old self.new }
+        ensures few { EachDoesAtMost turns self.old self.new }
         ensures alive { NobodyStopped (state_of self.old) → NobodyStopped (state_of self.new) }
         ensures given { OnOk result
             ((self.new).given ≡ (self.old).given ++ command.Go turns ∷ []) }
         ensures not_given { OnErr result ((self.new).given ≡ (self.old).given) }
-        ensures rounds { (self.new).rounds ≡ min ((self.old).rounds + 1) (2 ^ 32 - 1) }
+        ensures rounds { (self.new).rounds ≡ more_rounds 1 (self.old).rounds }
         ensures delivered { OnOk result ((self.new).owes ≡ false) }
         ensures plays { PlaysSoFar self.old → PlaysSoFar self.new }
     {
@@ -321,6 +329,7 @@ impl Cluster {
     fn take_round<G: Gate>(&mut self, turns: u32, gate: &G) -> Result<(), OutOfMemory>
         requires { 1 ≤ turns }
         ensures round { TakesRound self.old self.new }
+        ensures few { EachDoesAtMost turns self.old self.new }
         ensures begun { OnOk result ((i : ℕ) → i < length (self.old).names → HasBegun i self.old self.new) }
         ensures delivered { OnOk result ((self.new).owes ≡ false) }
     {
@@ -330,18 +339,20 @@ impl Cluster {
     }
 
     /// Rounds of 16 turns until one does nothing, 64 at most, and then a drain: each member that runs does all of its
-    /// agenda, and the ring works and repairs itself until no member has anything left to do. Where nobody has
-    /// stopped it is quiet then. After it nothing is owed. Want of memory leaves what has happened.
+    /// agenda, and the ring works and repairs itself until no member has anything left to do. Each round has a number,
+    /// and so has the drain. Where nobody has stopped it is quiet then. After it nothing is owed. Want of memory
+    /// leaves what has happened.
     pub fn settle<T: Threads, G: Gate>(&mut self, threads: &T, gate: &G) -> Result<(), OutOfMemory>
         ensures goes { HasGoneOn self.old self.new }
         ensures alive { NobodyStopped (state_of self.old) → NobodyStopped (state_of self.new) }
         ensures done { OnOk result (AgendasAreDone self.new) }
-        ensures idle { OnOk result (IsIdle (state_of self.new) × MarksNobody (state_of self.new)) }
+        ensures idle { OnOk result (NobodySteps (state_of self.new) × MarksNobody (state_of self.new)) }
         ensures quiet { OnOk result (NobodyStopped (state_of self.old) → IsQuiet (state_of self.new)
             × AgendasAreEmpty self.new) }
         ensures given { OnOk result ((self.new).given ≡ (self.old).given ++ command.Settle ∷ []) }
         ensures not_given { OnErr result ((self.new).given ≡ (self.old).given) }
-        ensures rounds { (self.new).rounds ≤ (self.old).rounds + 129 }
+        ensures rounds { OnOk result (GivesNumbers 2 65 self.old self.new) }
+        ensures rounds_begun { OnErr result (GivesNumbers 0 65 self.old self.new) }
         ensures delivered { OnOk result ((self.new).owes ≡ false) }
         ensures plays { PlaysSoFar self.old → PlaysSoFar self.new }
         ensures played { OnOk result (PlaysSoFar self.old
@@ -365,25 +376,38 @@ impl Cluster {
         ensures phases { SamePhases (state_of self.old) (state_of self.new) }
         ensures given { (self.new).given ≡ (self.old).given }
         ensures done { OnOk result (AgendasAreDone self.new) }
-        ensures idle { OnOk result (IsIdle (state_of self.new)) }
+        ensures idle { OnOk result (NobodySteps (state_of self.new)) }
         ensures marks { OnOk result (MarksNobody (state_of self.new)) }
         ensures quiet { OnOk result (NobodyStopped (state_of self.new) → IsQuiet (state_of self.new)) }
         ensures empty { OnOk result (NobodyStopped (state_of self.new) → AgendasAreEmpty self.new) }
-        ensures rounds { (self.new).rounds ≤ (self.old).rounds + 129 }
+        ensures rounds { OnOk result (GivesNumbers 2 65 self.old self.new) }
+        ensures rounds_begun { OnErr result (GivesNumbers 1 65 self.old self.new) }
         ensures delivered { OnOk result ((self.new).owes ≡ false) }
     {
+        self.work_rounds(gate)?;
+        self.number_round();
+        drain(self)?;
+        self.deliver()?;
+        self.is_going();
+        Ok(())
+    }
+
+    /// The rounds of a settling.
+    fn work_rounds<G: Gate>(&mut self, gate: &G) -> Result<(), OutOfMemory>
+        ensures goes { HasGoneOn self.old self.new }
+        ensures phases { SamePhases (state_of self.old) (state_of self.new) }
+        ensures given { (self.new).given ≡ (self.old).given }
+        ensures rounds { GivesNumbers 1 64 self.old self.new }
+    {
+        self.is_going();
         for _round in 0..MOST_ROUNDS {
             let before = self.happened();
             self.number_round();
             round(self, TURNS, gate)?;
             if self.happened() == before {
-                break;
+                return Ok(());
             }
         }
-        self.number_round();
-        drain(self)?;
-        self.deliver()?;
-        self.is_going();
         Ok(())
     }
 
@@ -409,9 +433,9 @@ impl Cluster {
 
     /// One more round is given a number.
     fn number_round(&mut self)
-        ensures { self.new ≡ record self.old { rounds = min ((self.old).rounds + 1) (2 ^ 32 - 1) } }
+        ensures { self.new ≡ record self.old { rounds = more_rounds 1 (self.old).rounds } }
     {
-        self.rounds = self.rounds.saturating_add(1);
+        self.rounds.number_one();
     }
 
     /// The member of that id: it stands in the last state of the journal, but for the links at its door that it
@@ -421,6 +445,7 @@ impl Cluster {
         ensures stands { IfSome result (λ m. held_of m.now
             ≡ record (held_in (state_of self.now) id.0) { door = (held_of m.now).door }) }
         ensures holds { IfSome result (λ m. HoldsOf (state_of self.now) id.0 (held_of m.now)) }
+        ensures shown { IfSome result (λ m. shown_of m.now ≡ node_at (self.now).shows (id.0 - 1)) }
     {
         self.parties.member(id)
     }
@@ -440,11 +465,11 @@ impl Cluster {
         Ok(events)
     }
 
-    /// How many rounds were given a number: a step counts as one, a settling as 129 at most.
+    /// How many rounds were given a number: a step counts as one, and so does the drain of a settling.
     pub fn rounds(&self) -> u32
         ensures { result ≡ (self.now).rounds }
     {
-        self.rounds
+        self.rounds.count()
     }
 }
 

@@ -1,9 +1,7 @@
 //! A member collects the links that wait for it at the registrar.
 ghost use Rattle.std.specs.Prelude.{◌≡◌, true, false, OnOk, OnErr, IfOk, None, List, length, map};
 ghost use Rattle.std.specs.List.{filter};
-ghost use Rattle.ordered_link.specs.declared.plain.PlainOut.{PlainOut as Out};
 ghost use Rattle.ordered_link.specs.declared.plain.PlainIn.{PlainIn as In};
-ghost use Rattle.ordered_link.specs.Steps.{IsFreshPair};
 ghost use Rattle.group_view.specs.declared.request.Answer.TheVariants.{Links};
 ghost use Rattle.group_view.specs.declared.request.Deposited.{Deposited as Given};
 ghost use Rattle.ring_world.specs.declared.phase.Phase.TheVariants.{Up};
@@ -12,7 +10,7 @@ ghost use Rattle.registrar.specs.Asked.{request_refusal};
 ghost use Rattle.registrar.specs.Handled.{handled, answered, without_links};
 ghost use Rattle.gm_member.specs.declared.packet.Load.{Load as Loaded};
 ghost use Rattle.gm_member.specs.Held.{asking_held};
-ghost use Rattle.gm_member.specs.Shown.{HasRoom, SpareIsSound, held_of, ends_of};
+ghost use Rattle.gm_member.specs.Shown.{HasRoom, held_of, ends_of};
 ghost use Rattle.gm_member.specs.Questions.{asked_for};
 ghost use Rattle.ring_cluster.specs.Parties.{shown_of, posted};
 ghost use Rattle.ring_cluster.specs.Acting.{IsReady, waits_at, Collects};
@@ -104,8 +102,6 @@ fn ask_to_collect(node: &mut Node, waiting: usize) -> Result<Request<PlainIn<Loa
     ensures ends { OnOk result (ends_of node.new ≡ ends_of node.old) }
     ensures request { IfOk result (λ r. r ≡ asked_for (held_of node.old) Ask.Collect) }
     ensures room { OnOk result (HasRoom waiting node.new) }
-    ensures sound { OnOk result (SpareIsSound (λ n o i. IsFreshPair n o i) (λ (o : Out Loaded). o.free)
-        (λ (o : Out Loaded). o.ended) node.new) }
     ensures err { OnErr result (shown_of node.new ≡ shown_of node.old) }
 {
     node.make_room(waiting)?;
@@ -140,8 +136,6 @@ fn ask_for_links(
 fn receive(node: &mut Node, links: Items<Deposited<PlainIn<Load>>>)
     requires open { (shown_of node.old).held.asks ≡ true }
     requires room { HasRoom (length links) node.old }
-    requires sound { SpareIsSound (λ n o i. IsFreshPair n o i) (λ (o : Out Loaded). o.free)
-        (λ (o : Out Loaded). o.ended) node.old }
     ensures { shown_of node.new ≡ given_links node.old links }
 {
     match node.answer(Answer::Links(links)) {

@@ -2,13 +2,13 @@
 ghost use Rattle.std.specs.Prelude.{◌≡◌, ◌≢◌, ℕ, ◌+◌, ◌-◌, ◌<◌, ◌≤◌, ◌∷◌, ◌++◌, ◌||◌, [], true, false, length, IfOk};
 ghost use Rattle.std.specs.Prelude.{OnOk, OnErr, None};
 ghost use Rattle.ring_world.specs.Machine.{member_at, newest as the_newest, right as the_right, runs as runs_at};
-ghost use Rattle.ring_world.specs.Event.{by_of, refusal, is_asked};
-ghost use Rattle.ring_cluster.specs.Idle.{IsIdle, MarksNobody};
+ghost use Rattle.ring_world.specs.Event.{by_of, refusal, is_asked, is_plain};
+ghost use Rattle.ring_world.specs.Idle.{NobodySteps, MarksNobody};
+ghost use Rattle.ring_world.specs.Work.{total, is_stale as the_staleness, LeavesLess};
 ghost use Rattle.ring_cluster.specs.Seen.{Seen, state_of, IsGoing, SameButOwed};
 ghost use Rattle.ring_cluster.specs.Plays.{agenda_at, HasBegun, AgendasAreDone};
 ghost use Rattle.ring_cluster.specs.Turns.{step_event, Works, DoesOrRests, TakesTurns, TakesRound, IsDoneAt};
-ghost use Rattle.ring_cluster.specs.Turns.{MayStep, MayStepNowhere, MarksNoneAt, RestsAt};
-ghost use Rattle.ring_cluster.specs.Work.{work, is_stale as the_staleness, LeavesLess};
+ghost use Rattle.ring_cluster.specs.Turns.{MayStep, MayStepNowhere, MarksNoneAt, RestsAt, DoesAtMost, EachDoesAtMost};
 
 use crate::cluster::Cluster;
 use ring_io::Gate;
@@ -51,8 +51,10 @@ fn happens(cluster: &mut Cluster, id: MemberId, event: &Event) -> Result<bool, O
     requires within { (1 ≤ id.0) × (id.0 ≤ length (cluster.old).names) }
     requires named { by_of event.now ≡ (member_at (state_of cluster.old) id.0).name }
     requires own { is_asked event.now ≡ false }
+    requires plain { is_plain event.now ≡ true }
     requires less { LeavesLess (state_of cluster.old) event.now }
-    ensures { DoesOrRests cluster.old cluster.new (refusal (state_of cluster.old) event.now ≢ None) result }
+    ensures does { DoesOrRests cluster.old cluster.new (refusal (state_of cluster.old) event.now ≢ None) result }
+    ensures once { DoesAtMost 1 (id.0 - 1) cluster.old cluster.new }
 {
     cluster.is_going();
     match cluster.happen(id.0 as usize - 1, event) {
@@ -119,7 +121,8 @@ fn right_of(cluster: &Cluster, id: MemberId) -> MemberId
 /// A step of a member on its links, where it is enabled: whether it was.
 fn attempt(cluster: &mut Cluster, id: MemberId, step: OwnStep) -> Result<bool, OutOfMemory>
     requires { (1 ≤ id.0) × (id.0 ≤ length (cluster.old).names) }
-    ensures { DoesOrRests cluster.old cluster.new (MayStep (state_of cluster.old) id.0 step → ⊥) result }
+    ensures does { DoesOrRests cluster.old cluster.new (MayStep (state_of cluster.old) id.0 step → ⊥) result }
+    ensures once { DoesAtMost 1 (id.0 - 1) cluster.old cluster.new }
 {
     cluster.is_going();
     let by = name_of(cluster, id);
@@ -132,7 +135,8 @@ fn attempt(cluster: &mut Cluster, id: MemberId, step: OwnStep) -> Result<bool, O
 #[tactic(auto, using(crate::proofs::rounds::Turning::works_trans))]
 fn step_on_links(cluster: &mut Cluster, id: MemberId) -> Result<bool, OutOfMemory>
     requires { (1 ≤ id.0) × (id.0 ≤ length (cluster.old).names) }
-    ensures { DoesOrRests cluster.old cluster.new (MayStepNowhere (state_of cluster.old) id.0) result }
+    ensures does { DoesOrRests cluster.old cluster.new (MayStepNowhere (state_of cluster.old) id.0) result }
+    ensures once { DoesAtMost 1 (id.0 - 1) cluster.old cluster.new }
 {
     if attempt(cluster, id, OwnStep::Pick)? {
         return Ok(true);
@@ -156,7 +160,8 @@ fn refresh(cluster: &mut Cluster, id: MemberId) -> Result<(), OutOfMemory>
     requires runs { runs_at (state_of cluster.old) id.0 ≡ true }
     requires stale { the_staleness (the_newest (state_of cluster.old)) (member_at (state_of cluster.old) id.0) ≡ true }
     ensures works { Works cluster.old cluster.new }
-    ensures falls { OnOk result (work (state_of cluster.new) < work (state_of cluster.old)) }
+    ensures falls { OnOk result (total (state_of cluster.new) < total (state_of cluster.old)) }
+    ensures once { DoesAtMost 1 (id.0 - 1) cluster.old cluster.new }
 {
     cluster.is_going();
     let by = name_of(cluster, id);
@@ -172,7 +177,8 @@ fn refresh(cluster: &mut Cluster, id: MemberId) -> Result<(), OutOfMemory>
 fn mark(cluster: &mut Cluster, id: MemberId) -> Result<bool, OutOfMemory>
     requires within { (1 ≤ id.0) × (id.0 ≤ length (cluster.old).names) }
     requires runs { runs_at (state_of cluster.old) id.0 ≡ true }
-    ensures { DoesOrRests cluster.old cluster.new (MarksNoneAt (state_of cluster.old) id.0) result }
+    ensures does { DoesOrRests cluster.old cluster.new (MarksNoneAt (state_of cluster.old) id.0) result }
+    ensures once { DoesAtMost 1 (id.0 - 1) cluster.old cluster.new }
 {
     cluster.is_going();
     let by = name_of(cluster, id);
@@ -188,7 +194,8 @@ fn mark(cluster: &mut Cluster, id: MemberId) -> Result<bool, OutOfMemory>
 fn own_turn(cluster: &mut Cluster, id: MemberId) -> Result<bool, OutOfMemory>
     requires within { (1 ≤ id.0) × (id.0 ≤ length (cluster.old).names) }
     requires runs { runs_at (state_of cluster.old) id.0 ≡ true }
-    ensures { DoesOrRests cluster.old cluster.new (RestsAt (state_of cluster.old) id.0) result }
+    ensures does { DoesOrRests cluster.old cluster.new (RestsAt (state_of cluster.old) id.0) result }
+    ensures once { DoesAtMost 1 (id.0 - 1) cluster.old cluster.new }
 {
     if is_stale(cluster, id) {
         refresh(cluster, id)?;
@@ -205,7 +212,8 @@ fn own_turn(cluster: &mut Cluster, id: MemberId) -> Result<bool, OutOfMemory>
 #[tactic(auto, using(crate::proofs::rounds::Turning::works_refl, crate::proofs::post::Owed::but_refl))]
 fn work_turn(cluster: &mut Cluster, place: usize) -> Result<bool, OutOfMemory>
     requires { place < length (cluster.old).names }
-    ensures { DoesOrRests cluster.old cluster.new (RestsAt (state_of cluster.old) (place + 1)) result }
+    ensures does { DoesOrRests cluster.old cluster.new (RestsAt (state_of cluster.old) (place + 1)) result }
+    ensures once { DoesAtMost 1 place cluster.old cluster.new }
 {
     cluster.is_going();
     let id = MemberId(place as u32 + 1);
@@ -221,6 +229,7 @@ fn work_turn(cluster: &mut Cluster, place: usize) -> Result<bool, OutOfMemory>
 fn turn(cluster: &mut Cluster, place: usize) -> Result<bool, OutOfMemory>
     requires { place < length (cluster.old).names }
     ensures turns { TakesTurns place cluster.old cluster.new }
+    ensures once { DoesAtMost 1 place cluster.old cluster.new }
     ensures begun { OnOk result (HasBegun place cluster.old cluster.new) }
 {
     cluster.is_going();
@@ -231,8 +240,8 @@ fn turn(cluster: &mut Cluster, place: usize) -> Result<bool, OutOfMemory>
     Ok(did)
 }
 
-/// The member at a place takes at least one and at most so many turns.
-#[tactic(auto, using(crate::proofs::rounds::Turning::turns_trans, crate::proofs::rounds::Turning::begun_still))]
+/// The member at a place takes at least one and at most so many turns, where it hasn't stopped.
+#[tactic(auto, using(crate::proofs::rounds::Turning::more_turns))]
 fn turns_of<G: Gate>(
     cluster: &mut Cluster,
     place: usize,
@@ -242,8 +251,13 @@ fn turns_of<G: Gate>(
     requires place { place < length (cluster.old).names }
     requires some { 1 ≤ turns }
     ensures turns { TakesTurns place cluster.old cluster.new }
+    ensures few { DoesAtMost turns place cluster.old cluster.new }
     ensures begun { OnOk result (HasBegun place cluster.old cluster.new) }
 {
+    cluster.is_going();
+    if !runs(cluster, MemberId(place as u32 + 1)) {
+        return Ok(());
+    }
     if gated_turn(cluster, place, gate)? {
         more_turns(cluster, place, turns - 1, gate)?;
     }
@@ -251,7 +265,7 @@ fn turns_of<G: Gate>(
 }
 
 /// Up to so many further turns, while it has anything to do.
-#[tactic(auto, using(crate::proofs::rounds::Turning::turns_trans, crate::proofs::rounds::Turning::turns_refl))]
+#[tactic(auto, using(crate::proofs::rounds::Turning::more_turns))]
 fn more_turns<G: Gate>(
     cluster: &mut Cluster,
     place: usize,
@@ -259,7 +273,8 @@ fn more_turns<G: Gate>(
     gate: &G,
 ) -> Result<(), OutOfMemory>
     requires { place < length (cluster.old).names }
-    ensures { TakesTurns place cluster.old cluster.new }
+    ensures turns { TakesTurns place cluster.old cluster.new }
+    ensures few { DoesAtMost turns place cluster.old cluster.new }
 {
     for _turn in 0..turns {
         if !gated_turn(cluster, place, gate)? {
@@ -269,18 +284,19 @@ fn more_turns<G: Gate>(
     Ok(())
 }
 
-/// A turn, between the gate's two passes.
+/// A turn, between the gate's two passes, whatever comes of it.
 fn gated_turn<G: Gate>(cluster: &mut Cluster, place: usize, gate: &G) -> Result<bool, OutOfMemory>
     requires { place < length (cluster.old).names }
     ensures turns { TakesTurns place cluster.old cluster.new }
+    ensures once { DoesAtMost 1 place cluster.old cluster.new }
     ensures begun { OnOk result (HasBegun place cluster.old cluster.new) }
 {
     cluster.is_going();
     let who = MemberId(place as u32 + 1);
     gate.pass(who, BEFORE);
-    let did = turn(cluster, place)?;
+    let did = turn(cluster, place);
     gate.pass(who, AFTER);
-    Ok(did)
+    did
 }
 
 /// How a gate is told that a member's turn comes, and that it is over.
@@ -288,14 +304,16 @@ const BEFORE: u8 = 1;
 
 const AFTER: u8 = 2;
 
-/// Every member takes its turns, one member after another.
+/// Every member that hasn't stopped takes its turns, one member after another.
 #[tactic(auto, using(crate::proofs::rounds::Turning::rounds))]
 pub(crate) fn round<G: Gate>(cluster: &mut Cluster, turns: u32, gate: &G) -> Result<(), OutOfMemory>
     requires { 1 ≤ turns }
     ensures round { TakesRound cluster.old cluster.new }
+    ensures few { EachDoesAtMost turns cluster.old cluster.new }
     ensures begun { OnOk result ((i : ℕ) → i < length (cluster.old).names
         → HasBegun i cluster.old cluster.new) }
 {
+    cluster.is_going();
     let count = cluster.count();
     for place in 0..count {
         turns_of(cluster, place, turns, gate)?;
@@ -356,7 +374,7 @@ fn pass(cluster: &mut Cluster) -> Result<bool, OutOfMemory>
 #[tactic(auto, using(crate::proofs::rounds::Turning::works_trans, crate::proofs::rounds::Turning::works_refl))]
 fn work_out(cluster: &mut Cluster) -> Result<(), OutOfMemory>
     ensures works { Works cluster.old cluster.new }
-    ensures idle { OnOk result (IsIdle (state_of cluster.new)) }
+    ensures idle { OnOk result (NobodySteps (state_of cluster.new)) }
     ensures marks { OnOk result (MarksNobody (state_of cluster.new)) }
 {
     'passes: loop {
@@ -372,7 +390,7 @@ fn work_out(cluster: &mut Cluster) -> Result<(), OutOfMemory>
 pub(crate) fn drain(cluster: &mut Cluster) -> Result<(), OutOfMemory>
     ensures round { TakesRound cluster.old cluster.new }
     ensures done { OnOk result (AgendasAreDone cluster.new) }
-    ensures idle { OnOk result (IsIdle (state_of cluster.new)) }
+    ensures idle { OnOk result (NobodySteps (state_of cluster.new)) }
     ensures marks { OnOk result (MarksNobody (state_of cluster.new)) }
 {
     finish_all(cluster)?;

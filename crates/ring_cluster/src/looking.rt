@@ -4,7 +4,7 @@ ghost use Rattle.ring_names.specs.declared.reason.Reason.{Reason};
 ghost use Rattle.ordered_link.specs.declared.plain.PlainOut.{PlainOut as Out};
 ghost use Rattle.ordered_link.specs.Steps.{IsFreshPair};
 ghost use Rattle.gm_member.specs.declared.packet.Load.{Load as Loaded};
-ghost use Rattle.gm_member.specs.Shown.{SpareIsReady, SpareIsSound};
+ghost use Rattle.gm_member.specs.Shown.{SpareIsReady};
 ghost use Rattle.group_view.specs.Change.{marked};
 ghost use Rattle.registrar.specs.Registry.{AreHere, newest};
 ghost use Rattle.registrar.specs.Handled.{with_view, handled, answered};
@@ -21,7 +21,7 @@ ghost use Rattle.ring_cluster.specs.Acting.{IsReady};
 ghost use Rattle.ring_cluster.specs.Looking.{first_of, to_post, kept_post, loose_seen, tidied, without_question};
 ghost use Rattle.ring_cluster.specs.Looking.{HasLooked};
 
-use crate::node::{Node, drop_old_ins, refused};
+use crate::node::{Node, drop_old_ins};
 use crate::undelivered::Undelivered;
 use gm_member::{Ask, Load};
 use group_view::{Answer, LinkName, Request, View};
@@ -69,10 +69,7 @@ pub(crate) fn mark(
     ensures registrar { OnOk result (registrar.new ≡ with_view registrar.old (marked (newest registrar.old) dead.0)) }
     ensures err { OnErr result ((shown_of node.new ≡ shown_of node.old) × (registrar.new ≡ registrar.old)) }
 {
-    let request = match node.ask(Ask::Mark(dead)) {
-        Ok(request) => request,
-        Err(fault) => return Err(refused(fault)),
-    };
+    let request = node.ask(Ask::Mark(dead))?;
     match ask_for_view(registrar, request) {
         Ok(view) => Ok(read_answer(node, view)),
         Err(refused) => {
@@ -125,8 +122,6 @@ fn read_answer(node: &mut Node, view: View) -> Looked
 /// The member's question is closed, unanswered.
 pub(crate) fn close(node: &mut Node)
     requires open { (shown_of node.old).held.asks ≡ true }
-    requires sound { SpareIsSound (λ n o i. IsFreshPair n o i) (λ (o : Out Loaded). o.free)
-        (λ (o : Out Loaded). o.ended) node.old }
     ensures { shown_of node.new ≡ without_question (shown_of node.old) }
 {
     match node.answer(Answer::No(Reason::AwaitingAnswer)) {

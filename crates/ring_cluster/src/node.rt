@@ -1,6 +1,5 @@
 //! A member over plain ends, and what it does by itself.
 ghost use Rattle.std.specs.Prelude.{◌≡◌, [], OnOk, OnErr, IsOk, None};
-ghost use Rattle.ring_names.specs.declared.reason.Reason.{Reason};
 ghost use Rattle.ring_names.specs.declared.message.Message.TheVariants as message;
 ghost use Rattle.gm_member.specs.Held.{up_refused, put_refused, pick_refused};
 ghost use Rattle.ring_cluster.specs.Parties.{shown_of};
@@ -9,24 +8,13 @@ ghost use Rattle.ring_cluster.specs.Acting.{stop_refused, Casts, PutsPacket, Tak
 ghost use Rattle.ring_cluster.specs.Acting.{Picks};
 ghost use Rattle.ring_cluster.specs.Tried.{IsJudged, Tries};
 
-use gm_member::{Load, Member, MemberFault};
+use gm_member::{Load, Member};
 use ordered_link::{PlainIn, PlainOut};
 use ring_names::{Body, Message};
 use ring_world::Refused;
 
 /// A member whose links are plain pairs.
 pub type Node = Member<PlainOut<Load>, PlainIn<Load>>;
-
-/// Why an event didn't happen, of which a member answered this.
-pub(crate) fn refused(fault: MemberFault) -> Refused
-    ensures only { (r : Reason) → result ≡ Refused.NotEnabled r → fault ≡ MemberFault.Refused r }
-    ensures refused { (r : Reason) → fault ≡ MemberFault.Refused r → result ≡ Refused.NotEnabled r }
-{
-    match fault {
-        MemberFault::Refused(reason) => Refused::NotEnabled(reason),
-        MemberFault::OutOfMemory => Refused::OutOfMemory,
-    }
-}
 
 /// The member publishes the body.
 pub(crate) fn cast(node: &mut Node, body: &Body) -> Result<(), Refused>
@@ -39,7 +27,7 @@ pub(crate) fn cast(node: &mut Node, body: &Body) -> Result<(), Refused>
     };
     match node.publish(Message::Cast(body)) {
         Ok(_number) => Ok(()),
-        Err((_message, fault)) => Err(refused(fault)),
+        Err((_message, fault)) => Err(Refused::from(fault)),
     }
 }
 
@@ -48,10 +36,8 @@ pub(crate) fn put(node: &mut Node) -> Result<(), Refused>
     requires { IsReady (shown_of node.old) }
     ensures { Tries (put_refused (shown_of node.old).held) PutsPacket (shown_of node.old) (shown_of node.new) result }
 {
-    match node.put() {
-        Ok(()) => Ok(()),
-        Err(fault) => Err(refused(fault)),
-    }
+    node.put()?;
+    Ok(())
 }
 
 /// The member takes the oldest packet of the link from which it takes, where there is one.
@@ -59,10 +45,8 @@ pub(crate) fn take(node: &mut Node) -> Result<(), Refused>
     requires { IsReady (shown_of node.old) }
     ensures { Tries (packet_refused (shown_of node.old)) TakesPacket (shown_of node.old) (shown_of node.new) result }
 {
-    match node.take() {
-        Ok(_taken) => Ok(()),
-        Err(fault) => Err(refused(fault)),
-    }
+    node.take()?;
+    Ok(())
 }
 
 /// The member takes the end of that link, where it is next, and leaves it.
@@ -70,10 +54,7 @@ pub(crate) fn take_end(node: &mut Node) -> Result<(), Refused>
     requires { IsReady (shown_of node.old) }
     ensures { Tries (link_end_refused (shown_of node.old)) TakesEnd (shown_of node.old) (shown_of node.new) result }
 {
-    match node.take_end() {
-        Ok(_reason) => {}
-        Err(fault) => return Err(refused(fault)),
-    }
+    node.take_end()?;
     drop_old_ins(node);
     Ok(())
 }
@@ -109,10 +90,8 @@ pub(crate) fn stop(node: &mut Node) -> Result<(), Refused>
     ensures tries { Tries (stop_refused (shown_of node.old)) Stops (shown_of node.old) (shown_of node.new) result }
     ensures succeeds { stop_refused (shown_of node.old) ≡ None → IsOk result }
 {
-    match node.stop() {
-        Ok(()) => Ok(()),
-        Err(fault) => Err(refused(fault)),
-    }
+    node.stop()?;
+    Ok(())
 }
 
 /// The member takes from now on from the first link at its door that it may, where there is one.
@@ -120,8 +99,6 @@ pub(crate) fn pick(node: &mut Node) -> Result<(), Refused>
     requires { IsReady (shown_of node.old) }
     ensures { Tries (pick_refused (shown_of node.old).held) Picks (shown_of node.old) (shown_of node.new) result }
 {
-    match node.pick() {
-        Ok(()) => Ok(()),
-        Err(fault) => Err(refused(fault)),
-    }
+    node.pick()?;
+    Ok(())
 }

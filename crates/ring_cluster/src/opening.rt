@@ -92,6 +92,7 @@ pub(crate) fn copied(alloc: Global, names: &[Name]) -> Result<Vec<Name>, OutOfMe
 impl Parties {
     ghost use Rattle.std.specs.Prelude.{◌≡◌, [], false, IfOk, length, replicate};
     ghost use Rattle.group_view.specs.Change.{AreOpeningNames};
+    ghost use Rattle.ring_cluster.specs.Opened.{opened_parties};
     ghost use Rattle.ring_cluster.specs.Standing.{StandAfter};
 
     /// The parties of a ring that opens with these members, in ring order.
@@ -101,6 +102,7 @@ impl Parties {
         credit: CreditSpec,
     ) -> Result<Parties, OutOfMemory>
         requires { AreOpeningNames names.now }
+        ensures opened { IfOk result (λ p. p.all ≡ opened_parties credit names.now) }
         ensures standing { IfOk result (λ p. StandAfter credit names.now [] p.all) }
         ensures delivered { IfOk result (λ p. p.owes ≡ false) }
         ensures agendas { IfOk result (λ p. p.agendas ≡ replicate (length names.now) []) }

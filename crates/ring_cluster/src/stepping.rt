@@ -1,5 +1,5 @@
 //! One event of a cluster.
-ghost use Rattle.std.specs.Prelude.{◌≡◌, ◌∷◌, ◌++◌, ◌+◌, ◌<◌, ◌^◌, [], true, length, OnOk, OnErr, IfErr, IfSome};
+ghost use Rattle.std.specs.Prelude.{◌≡◌, ◌∷◌, ◌++◌, ◌+◌, ◌<◌, ◌^◌, [], true, length, OnOk, OnErr, IfErr, IfOk};
 ghost use Rattle.std.specs.Prelude.{Some, vec_len, vec_capacity};
 ghost use Rattle.registrar.specs.Registry.{AreHere, is_known};
 ghost use Rattle.registrar.specs.Handled.{with_link};
@@ -28,22 +28,20 @@ fn push_reserved(journal: &mut Vec<Event>, event: Event)
 }
 
 /// An equal event for the journal, and room for it there.
-fn make_room(journal: &mut Vec<Event>, event: &Event) -> Option<Event>
+fn make_room(journal: &mut Vec<Event>, event: &Event) -> Result<Event, OutOfMemory>
     ensures same { journal.new.items ≡ journal.old.items }
-    ensures event { IfSome result (λ e. e ≡ event.now) }
-    ensures room { IfSome result (λ _. vec_len journal.new < vec_capacity journal.new) }
-    ensures few { IfSome result (λ _. length journal.new.items + 1 < 2 ^ 59) }
+    ensures event { IfOk result (λ e. e ≡ event.now) }
+    ensures room { OnOk result (vec_len journal.new < vec_capacity journal.new) }
+    ensures few { OnOk result (length journal.new.items + 1 < 2 ^ 59) }
 {
     if journal.len() >= MOST_EVENTS {
-        return None;
+        return Err(OutOfMemory);
     }
-    let Ok(copy) = event.copy() else {
-        return None;
-    };
+    let copy = event.copy()?;
     if journal.reserve(1).is_err() {
-        return None;
+        return Err(OutOfMemory);
     }
-    Some(copy)
+    Ok(copy)
 }
 
 /// A link goes to the registrar, which knows both its members. Without memory for that it comes back.
@@ -69,11 +67,11 @@ fn deposit(
 }
 
 impl Parties {
-    ghost use Rattle.std.specs.Prelude.{◌≡◌, ◌⊎◌, ◌∷◌, ◌++◌, ◌+◌, ◌<◌, ◌^◌, [], true, false, length, OnOk, OnErr};
-    ghost use Rattle.std.specs.Prelude.{Some, Err};
+    ghost use Rattle.std.specs.Prelude.{◌≡◌, ◌∷◌, ◌++◌, ◌+◌, ◌<◌, ◌^◌, [], true, false, length, OnOk, OnErr};
+    ghost use Rattle.std.specs.Prelude.{Some, None, Err};
     ghost use Rattle.ring_names.specs.declared.reason.Reason.{Reason};
     ghost use Rattle.ring_world.specs.declared.phase.Phase.TheVariants.{Up};
-    ghost use Rattle.ring_world.specs.Event.{by_of, refusal};
+    ghost use Rattle.ring_world.specs.Event.{by_of, is_plain, refusal};
     ghost use Rattle.ring_cluster.specs.Seen.{state, IsEventAt};
     ghost use Rattle.ring_cluster.specs.Parties.{node_at};
     ghost use Rattle.ring_cluster.specs.Tried.{IsJudged};
@@ -82,9 +80,9 @@ impl Parties {
     ghost use Rattle.ring_cluster.specs.Looking.{loose_seen};
     ghost use Rattle.ring_cluster.specs.Refused.{id_named, NothingWaits};
 
-    /// The event of the member at a place happens, where it is enabled, and joins the journal. Before it what the
-    /// registrar is owed goes there, and the member collects the links that wait for it; without memory for that
-    /// nothing happens, whatever the event.
+    /// The event of the member at a place happens, where it is enabled, and joins the journal. A refusal changes
+    /// nothing. Before an event that isn't refused what the registrar is owed goes there, and the member collects the
+    /// links that wait for it; without memory for that nothing happens.
     pub(crate) fn step(
         &mut self,
         credit: CreditSpec,
@@ -100,25 +98,46 @@ impl Parties {
         ensures judged { IsJudged (refusal (state credit names.now journal.old.items) event.now) result }
         ensures ok { OnOk result (journal.new.items ≡ journal.old.items ++ event.now ∷ []) }
         ensures refused { (r : Reason) → refusal (state credit names.now journal.old.items) event.now ≡ Some r
-            → (result ≡ Err (Refused.NotEnabled r)) ⊎ (result ≡ Err Refused.OutOfMemory) }
+            → (result ≡ Err (Refused.NotEnabled r)) × (self.new ≡ self.old) }
         ensures err { OnErr result (journal.new.items ≡ journal.old.items) }
         ensures owes { OnErr result ((self.new).owes ≡ true → (self.old).owes ≡ true) }
     {
-        if self.hand_over().is_err() {
-            return Err(Refused::OutOfMemory);
+        if let Some(reason) = self.refusal(i, event) {
+            return Err(Refused::NotEnabled(reason));
         }
-        if self.collect(i).is_err() {
-            return Err(Refused::OutOfMemory);
+        match self.step_enabled(credit, names, journal, i, event) {
+            Ok(()) => Ok(()),
+            Err(OutOfMemory) => Err(Refused::OutOfMemory),
         }
-        let Some(copy) = make_room(journal, event) else {
-            return Err(Refused::OutOfMemory);
-        };
+    }
+
+    /// The same of an event that nothing refuses.
+    fn step_enabled(
+        &mut self,
+        credit: CreditSpec,
+        names: &[Name],
+        journal: &mut Vec<Event>,
+        i: usize,
+        event: &Event,
+    ) -> Result<(), OutOfMemory>
+        requires at { IsEventAt names.now i event.now }
+        requires standing { StandAfter credit names.now journal.old.items (self.old).all }
+        requires enabled { refusal (state credit names.now journal.old.items) event.now ≡ None }
+        ensures standing { StandAfter credit names.now journal.new.items (self.new).all }
+        ensures agendas { (self.new).agendas ≡ (self.old).agendas }
+        ensures ok { OnOk result (journal.new.items ≡ journal.old.items ++ event.now ∷ []) }
+        ensures err { OnErr result (journal.new.items ≡ journal.old.items) }
+        ensures owes { OnErr result ((self.new).owes ≡ true → (self.old).owes ≡ true) }
+    {
+        self.hand_over()?;
+        self.collect(i)?;
+        let copy = make_room(journal, event)?;
         self.happen(credit, names, journal, i, event)?;
         push_reserved(journal, copy);
         Ok(())
     }
 
-    /// The event of the member at a place happens, where it is enabled, and then the ends meet that it has moved.
+    /// The event of the member at a place happens, which nothing refuses, and then the ends meet that it has moved.
     fn happen(
         &mut self,
         credit: CreditSpec,
@@ -126,22 +145,28 @@ impl Parties {
         events: &[Event],
         i: usize,
         event: &Event,
-    ) -> Result<(), Refused>
+    ) -> Result<(), OutOfMemory>
         requires within { i < length (self.old).all.nodes }
         requires delivered { (self.old).owes ≡ false }
         requires named { id_named (self.old).all (by_of event.now) ≡ Some (i + 1) }
+        requires plain { is_plain event.now ≡ true }
         requires waits { (node_at (self.old).all i).held.phase ≡ Up → NothingWaits (i + 1) (self.old).all }
         requires few { length events.now + 1 < 2 ^ 59 }
         requires standing { StandAfter credit names.now events.now (self.old).all }
+        requires enabled { refusal (state credit names.now events.now) event.now ≡ None }
         ensures standing { OnOk result (StandAfter credit names.now (events.now ++ event.now ∷ []) (self.new).all) }
         ensures agendas { (self.new).agendas ≡ (self.old).agendas }
-        ensures judged { IsJudged (refusal (state credit names.now events.now) event.now) result }
         ensures err { OnErr result (self.new ≡ self.old) }
     {
-        let loose = self.act(i, event)?;
-        self.meet_loose(loose);
-        self.meet_moved(i);
-        Ok(())
+        match self.act(i, event) {
+            Ok(loose) => {
+                self.meet_loose(loose);
+                self.meet_moved(i);
+                Ok(())
+            }
+            Err(Refused::NotEnabled(_)) => unreachable!(),
+            Err(Refused::OutOfMemory) => Err(OutOfMemory),
+        }
     }
 
     /// An out end that was just replaced meets its other end for the last time, and is dropped.

@@ -6,6 +6,7 @@ use Rattle.ring_script.specs.declared.words.Words.{Words}
 abbrev pub line_in : Words → List ℕ
 line_in words = words.line.now
 
+-- the place in it from which the next word is read
 abbrev pub place_in : Words → ℕ
 place_in words = words.at
 

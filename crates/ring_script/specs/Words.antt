@@ -16,6 +16,7 @@ is_text_byte b = nat_le 32 b && nat_le b 126
 
 -- ---- words
 
+-- whether a byte is a space
 abbrev pub is_space : ℕ → Bool
 is_space b = b == 32
 

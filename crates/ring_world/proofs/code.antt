@@ -1,7 +1,12 @@
 -- For the code of the plain machine.
+pub mod Agreed
+pub mod Enables
 pub mod Found
 pub mod HeldLaws
+pub mod Joins
 pub mod Looks
+pub mod Noting
+pub mod Padded
 pub mod Rules
 pub mod Running
 pub mod Sent
@@ -9,3 +14,4 @@ pub mod ShownParts
 pub mod Sized
 pub mod Starts
 pub mod Taken
+pub mod Viewed

@@ -5,7 +5,7 @@ pub mod Enabled
 pub mod First
 pub mod Leaves
 pub mod Names
-pub mod NoneWaits
 pub mod Parts
+pub mod Plain
 pub mod Refusals
 pub mod WhatRefuses

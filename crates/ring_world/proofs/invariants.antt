@@ -1,8 +1,12 @@
 -- What every state of a run has, and that each event keeps it.
+pub mod Beside
+pub mod FirstVersion
 pub mod FromLeft
 pub mod Good
 pub mod Happens
 pub mod Kept
+pub mod KeptAdmit
+pub mod KeptBegin
 pub mod KeptCast
 pub mod KeptLook
 pub mod KeptMore
@@ -10,8 +14,12 @@ pub mod KeptOpen
 pub mod KeptTake
 pub mod Linked
 pub mod Marked
+pub mod Moves
+pub mod Named
+pub mod Newest
 pub mod Opening
 pub mod Ordered
 pub mod Period
 pub mod Shape
 pub mod Standing
+pub mod TwiceKept

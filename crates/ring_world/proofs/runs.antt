@@ -1,9 +1,16 @@
 -- The laws over every run.
 pub mod AllRuns
 pub mod Apart
+pub mod BornStays
 pub mod Confirmed
+pub mod Erased
 pub mod Examples
+pub mod Guarantee
+pub mod HasSent
 pub mod InOrder
+pub mod JoinExamples
+pub mod JoinsInTime
+pub mod Leads
 pub mod Lines
 pub mod LinesKept
 pub mod LinkCredit

@@ -1,19 +1,23 @@
 -- The events of the ring: when one may happen, and what it does.
-use Rattle.std.specs.Prelude.{◌≡◌, ℕ, ◌+◌, Bool, true, false, ◌&&◌, ◌||◌, not, nat_eq, nat_le, nat_lt, bytes_eq, if◌then◌else◌, List, [], ◌∷◌, drop, position, option_map, is_some, Option, Some, None, ⊤}
-use Rattle.std.specs.List.{list_all, range_with_len}
+use Rattle.std.specs.Prelude.{◌≡◌, ℕ, ◌+◌, Bool, true, false, ◌&&◌, ◌||◌, not, nat_eq, nat_le, nat_lt, bytes_eq, if◌then◌else◌, List, [], ◌∷◌, length, drop, position, option_map, is_some, Option, Some, None, ⊤}
+use Rattle.std.specs.List.{list_all, filter, range_with_len}
 use Rattle.ring_names.specs.declared.message.Message.TheVariants as message
 use Rattle.ring_names.specs.declared.reason.Reason.{Reason}
 use Rattle.ring_names.specs.declared.reason.Reason.TheVariants as reason
+use Rattle.ring_names.specs.Reason.{code_of}
 use Rattle.credit_flow.specs.Credit.{is_blocked}
 use Rattle.ring_world.specs.Rows.{is_sent}
 use Rattle.ring_world.specs.Refusal.{refuse_if, or_else, is_empty}
-use Rattle.group_view.specs.View.{entry_in}
-use Rattle.group_view.specs.Change.{marked}
+use Rattle.group_view.specs.View.{Group, entry_in, is_dead, is_alias}
+use Rattle.group_view.specs.Change.{marked, erased, is_taken, most_entries}
+use Rattle.promotion.specs.Elect.{installed}
 use Rattle.ring_world.specs.View.{is_live, left_of, right_of}
 use Rattle.ring_world.specs.Machine.{Phase, Waiting, Up, Stopped, Member, Sending, Moved, Halted, Link, World, row_at, numbers_at, member_at, link_at, view_in, newest, is_waiting, oldest}
-use Rattle.ring_world.specs.Step.{size, publish_at, put_on, gain_on, take_from, begin_from, current_is, leave_link, stop_at, end_out, with_view, look_at, open_to, with_link, ended}
+use Rattle.ring_world.specs.Step.{size, publish_at, put_on, gain_on, take_from, begin_from, current_is, leave_link, stop_at, end_out, with_view, come_to, look_at, open_to, with_link, ended}
 pub use Rattle.ring_world.specs.declared.event.Event.{Event}
-pub use Rattle.ring_world.specs.declared.event.Event.TheVariants.{Cast, Put, Take, TakeEnd, Gain, Stop, Mark, Refresh, Pick}
+pub use Rattle.ring_world.specs.declared.event.Event.TheVariants.{Cast, Put, Take, TakeEnd, Gain, Stop, Mark, Refresh, Admit, Pick, Erase, Refuse}
+use Rattle.ring_world.specs.declared.event.Client.{Client}
+use Rattle.ring_world.specs.declared.event.Client.TheVariants as client
 
 -- ---- conditions
 
@@ -122,6 +126,32 @@ mark_refusal w x d =
     (or_else (refuse_if (not (is_stopped (member_at w d).phase)) reason.NotStopped)
     (refuse_if (is_still_taken w x d) reason.LinkNotEnded)))
 
+-- ---- erasing
+
+-- what x has got of p, and what it has retired
+abbrev pub not_retired : World → ℕ → ℕ → Reason
+not_retired w x p = reason.NotRetired (row_at (member_at w x) p).got (row_at (member_at w x) p).retired
+
+-- x has p erased only where p is dead in the newest view, x answers for it as dead in x's view, and all that x has got of it
+-- has come round, and the acknowledgement too
+abbrev pub erase_refusal : World → ℕ → ℕ → Option Reason
+erase_refusal w x p =
+    or_else (refuse_if (not (is_dead (view_in w (newest w)).entries p)) reason.NotDead)
+    (or_else (refuse_if (not (is_alias (view_in w (member_at w x).version).entries x p)) reason.NotOwner)
+    (refuse_if (not (nat_eq (row_at (member_at w x) p).got (row_at (member_at w x) p).retired)) (not_retired w x p)))
+
+-- the view in which p is erased, and a master is elected where none stands
+abbrev pub erased_view : World → ℕ → Group
+erased_view w p = installed (erased (view_in w (newest w)) p)
+
+-- ---- admitting
+
+-- one of this name is admitted only where no entry, of any mark, has the name, and where there is room
+abbrev pub admit_refusal : World → List ℕ → Option Reason
+admit_refusal w name =
+    or_else (refuse_if (is_taken (view_in w (newest w)).entries name) reason.NameTaken)
+    (refuse_if (nat_le most_entries (length (view_in w (newest w)).entries)) reason.TooManyMembers)
+
 -- ---- refreshing
 
 -- x reads the view of version v only where that isn't older than its own, and is there
@@ -140,6 +170,18 @@ refreshed w x v = send_to (look_at w x v) x (right_of (view_in w v) x) (member_a
 
 -- ---- events
 
+-- the event that a client asked for
+abbrev pub event_of : Client → Event
+event_of (client.Cast by body) = Cast by body
+event_of (client.Stop by) = Stop by
+event_of (client.Admit by name) = Admit by name
+
+-- the name of the member of which it was asked
+abbrev pub asked_of : Client → List ℕ
+asked_of (client.Cast by body) = by
+asked_of (client.Stop by) = by
+asked_of (client.Admit by name) = by
+
 -- the name of the member that acts
 abbrev pub by_of : Event → List ℕ
 by_of (Cast by body) = by
@@ -150,13 +192,26 @@ by_of (Gain by) = by
 by_of (Stop by) = by
 by_of (Mark by dead) = by
 by_of (Refresh by version) = by
+by_of (Admit by name) = by
 by_of (Pick by) = by
+by_of (Erase by origin) = by
+by_of (Refuse code inner) = asked_of inner
 
 -- whether a client asks for it; the others a member does by itself
 abbrev pub is_asked : Event → Bool
 is_asked (Cast by body) = true
 is_asked (Stop by) = true
+is_asked (Admit by name) = true
+is_asked (Refuse code inner) = true
 is_asked e = false
+
+-- whether the registrar has a part in it: it hears of a stop, and makes the view of a mark, an admission and an erasure
+abbrev pub is_registered : Event → Bool
+is_registered (Stop by) = true
+is_registered (Mark by dead) = true
+is_registered (Admit by name) = true
+is_registered (Erase by origin) = true
+is_registered e = false
 
 -- whether only a member that is up does it; else one that waits does it too
 abbrev pub is_for_up : Event → Bool
@@ -170,7 +225,7 @@ abbrev pub phase_refusal : Bool → World → ℕ → Option Reason → Option R
 phase_refusal true w x later = up_refusal w x later
 phase_refusal false w x later = running_refusal w x later
 
--- these others, of an event of member x
+-- these others, of an event of member x; a refusal has none
 abbrev pub further_refusal : World → Event → ℕ → Option Reason
 further_refusal w (Cast by body) x = None
 further_refusal w (Put by) x = on_link (member_at w x).out reason.NoOutLink (put_refusal w x)
@@ -180,11 +235,30 @@ further_refusal w (Gain by) x = on_link (member_at w x).out reason.NoOutLink (ga
 further_refusal w (Stop by) x = None
 further_refusal w (Mark by dead) x = of_member (id_of w dead) (mark_refusal w x)
 further_refusal w (Refresh by version) x = refresh_refusal w x version
+further_refusal w (Admit by name) x = admit_refusal w name
 further_refusal w (Pick by) x = or_else (refuse_if (is_some (member_at w x).current) reason.HasCurrentLink) (pick_refusal w x)
+further_refusal w (Erase by origin) x = of_member (id_of w origin) (erase_refusal w x)
+further_refusal w (Refuse code inner) x = None
 
--- the first failing condition of an event of member x
+-- the first failing condition of an event that member x does
+abbrev pub doing_refusal : World → Event → ℕ → Option Reason
+doing_refusal w e x = phase_refusal (is_for_up e) w x (further_refusal w e x)
+
+-- whether a client is told that the member waits for its state, or hasn't started as master: it isn't, its command stays
+abbrev pub is_passing : Reason → Bool
+is_passing reason.Waiting = true
+is_passing reason.NotStarted = true
+is_passing r = false
+
+-- whether a client is refused with this number
+abbrev pub is_told : ℕ → Option Reason → Bool
+is_told code None = false
+is_told code (Some r) = nat_eq (code_of r) code && not (is_passing r)
+
+-- the first failing condition of an event of member x: a refusal is told only where what the client asked for is refused with its number
 abbrev pub refused_at : World → Event → ℕ → Option Reason
-refused_at w e x = phase_refusal (is_for_up e) w x (further_refusal w e x)
+refused_at w (Refuse code inner) x = refuse_if (not (is_told code (doing_refusal w (event_of inner) x))) reason.NotRefused
+refused_at w e x = doing_refusal w e x
 
 -- the first failing condition of an event, if one fails
 abbrev pub refusal : World → Event → Option Reason
@@ -201,7 +275,7 @@ taken_by Waiting w y s = begin_from w y s
 taken_by Up w y s = take_from w y s
 taken_by Stopped w y s = w
 
--- what member x does
+-- what member x does; a refusal leaves the ring as it is, and stands in the journal
 abbrev pub done_at : World → Event → ℕ → World
 done_at w (Cast by body) x = publish_at w x (message.Cast body)
 done_at w (Put by) x = at_found (member_at w x).out w (put_on w x)
@@ -211,7 +285,10 @@ done_at w (Gain by) x = at_found (member_at w x).out w (gain_on w)
 done_at w (Stop by) x = end_out Halted (stop_at w x) (member_at w x).out
 done_at w (Mark by dead) x = at_found (id_of w dead) w (λ d. refreshed (with_view w (marked (view_in w (newest w)) d)) x (newest w + 1))
 done_at w (Refresh by version) x = refreshed w x version
+done_at w (Admit by name) x = refreshed (come_to w x name) x (newest w + 1)
 done_at w (Pick by) x = at_found (at_door w x) w (λ s. current_is w x (Some s))
+done_at w (Erase by origin) x = at_found (id_of w origin) w (λ p. refreshed (with_view w (erased_view w p)) x (newest w + 1))
+done_at w (Refuse code inner) x = w
 
 -- the state after an event
 abbrev pub effect : World → Event → World
@@ -226,3 +303,25 @@ IsRun w (e ∷ es) = (refusal w e ≡ None) × IsRun (effect w e) es
 abbrev pub last : World → List Event → World
 last w [] = w
 last w (e ∷ es) = last (effect w e) es
+
+-- ---- what was refused
+
+-- whether it is a refusal
+abbrev pub is_refusal : Event → Bool
+is_refusal (Refuse code inner) = true
+is_refusal e = false
+
+-- whether the parties do such an event so far: it is no admission, no erasure and no refusal
+abbrev pub is_plain : Event → Bool
+is_plain (Admit by name) = false
+is_plain (Erase by origin) = false
+is_plain (Refuse code inner) = false
+is_plain e = true
+
+-- whether they do each of these so far
+abbrev pub ArePlain : List Event → Type 0
+ArePlain events = list_all is_plain events ≡ true
+
+-- the refusals among these events, in their order
+abbrev pub refusals_of : List Event → List Event
+refusals_of events = filter is_refusal events

@@ -1,9 +1,12 @@
 -- The laws of the ring: of single states, and from one state to the next.
-use Rattle.std.specs.Prelude.{◌≡◌, ℕ, ◌+◌, ◌<◌, ◌≤◌, true, List, [], ◌∷◌, ◌++◌, length, take, sum, ⊤}
+use Rattle.std.specs.Prelude.{Bool, ◌≡◌, ◌⊎◌, None, ℕ, ◌+◌, ◌-◌, ◌<◌, ◌≤◌, true, Some, slice_index_or, List, [], ◌∷◌, ◌++◌, length, take, max, sum, ⊤}
+use Rattle.ring_names.specs.declared.message.Message.{Message}
 use Rattle.credit_flow.specs.Link.{oldest as oldest_grant}
 use Rattle.ring_world.specs.declared.numbers.Numbers.{Numbers}
 use Rattle.ring_world.specs.Rows.{Row, messages_between, regained}
-use Rattle.ring_world.specs.Machine.{Up, Packet, Link, World, row_at, numbers_at, member_at, link_at, runs}
+use Rattle.group_view.specs.View.{as_id, is_erased}
+use Rattle.ring_world.specs.Machine.{Waiting, Up, Packet, Link, World, no_packet, row_at, numbers_at, member_at, link_at, view_in, newest, runs, oldest}
+use Rattle.ring_world.specs.OpenLinks.{number, is_open, packets_of}
 use Rattle.ring_world.specs.Step.{size, log_of}
 
 -- what member q knows of origin p
@@ -56,27 +59,92 @@ KeepsCredit initial w = (s : ℕ) → s < length w.links → CreditIsKept initia
 
 -- ---- confirmed means everywhere
 
--- a message that has come round to a publisher that runs is at every member that is up
-abbrev pub ConfirmedEverywhere : World → Type 0
-ConfirmedEverywhere w = (q p : ℕ) → 1 ≤ p → runs w p ≡ true → (member_at w q).phase ≡ Up → (row_of w p p).forgot ≤ (row_of w q p).got
+-- a message that has come round to its publisher, whether that runs still or has stopped, is at every member that is up, and
+-- before the first packet of every member that waits
+pub record ConfirmedEverywhere (w : World) : Type 0 where
+  pub up : (q p : ℕ) → 1 ≤ p → p < size w → (member_at w q).phase ≡ Up → (row_of w p p).forgot ≤ (row_of w q p).got
+  pub waits : (q p s : ℕ) → 1 ≤ p → p < size w → (member_at w q).phase ≡ Waiting → (member_at w q).current ≡ Some s → (row_of w p p).forgot ≤ (numbers_at (oldest (link_at w s)) p).got
+
+-- ---- erasure
+
+-- whether an origin is erased in the newest view
+abbrev pub has_erased : World → ℕ → Bool
+has_erased w p = is_erased (view_in w (newest w)).entries p
+
+-- All that is said of an origin is one number: what each running member got and forgot, where one that waits counts with the
+-- first packet of its link, and what each packet says that is open to one.
+pub record AgreesOn (w : World) (p n : ℕ) : Type 0 where
+  pub got : (q : ℕ) → runs w q ≡ true → number (λ k. k.got) (λ r. r.got) w p q ≡ n
+  pub forgot : (q : ℕ) → runs w q ≡ true → number (λ k. k.forgot) (λ r. r.forgot) w p q ≡ n
+  pub packets : (q s i : ℕ) → runs w q ≡ true → s < length w.links → is_open w q s ≡ true → i < length (packets_of w q s)
+      → ((numbers_at (slice_index_or (packets_of w q s) i no_packet) p).got ≡ n) × ((numbers_at (slice_index_or (packets_of w q s) i no_packet) p).forgot ≡ n)
+
+-- of an erased origin there is such a number
+pub record IsAgreed (w : World) (p : ℕ) : Type 0 where
+  pub on : ℕ
+  pub agrees : AgreesOn w p on
+
+-- of each
+abbrev pub ErasedAgrees : World → Type 0
+ErasedAgrees w = (p : ℕ) → 1 ≤ p → p < size w → has_erased w p ≡ true → IsAgreed w p
+
+-- from one state to a later one, an erased origin stays it, and what is agreed on of it stays too
+pub record StaysErased (w w' : World) : Type 0 where
+  pub erased : (p : ℕ) → 1 ≤ p → p < size w → has_erased w p ≡ true → has_erased w' p ≡ true
+  pub agrees : (p n : ℕ) → 1 ≤ p → p < size w → has_erased w p ≡ true → AgreesOn w p n → AgreesOn w' p n
+
+-- ---- who leads
+
+-- From one state to a later one no term falls; in one term the master stays, or there is none any more; and another leads, or
+-- nobody, only where the master is erased.
+pub record LeadsOn (w w' : World) : Type 0 where
+  pub rises : (view_in w (newest w)).term ≤ (view_in w' (newest w')).term
+  pub stays : (view_in w' (newest w')).term ≡ (view_in w (newest w)).term → ((view_in w' (newest w')).master ≡ (view_in w (newest w)).master) ⊎ ((view_in w' (newest w')).master ≡ None)
+  pub gone : (m : ℕ) → 1 ≤ m → m < size w → (view_in w (newest w)).master ≡ Some (as_id m) → ((view_in w' (newest w')).master ≡ (view_in w (newest w)).master) ⊎ (has_erased w' m ≡ true)
+
+-- ---- joining
+
+-- A member receives each origin from its base on, and its base isn't above the length that the origin's log had when it was
+-- admitted. So it receives every message that was published after its admission.
+pub record JoinsInTime (w : World) : Type 0 where
+  pub base : (q p : ℕ) → (row_of w q p).base ≤ (row_of w q p).born
+  pub born : (q p : ℕ) → (row_of w q p).born ≤ length (log_of w p)
+  pub first : (q p s : ℕ) → (member_at w q).phase ≡ Waiting → (member_at w q).current ≡ Some s → (numbers_at (oldest (link_at w s)) p).got ≤ (row_of w q p).born
+
+-- from one state to a later one, the length that an origin's log had at a member's admission is kept as it was
+abbrev pub KeepsBorn : World → World → Type 0
+KeepsBorn w w' = (q p : ℕ) → q < size w → p < size w → (row_of w' q p).born ≡ (row_of w q p).born
 
 -- ---- numbers never fall
 
--- from one state to a later one the members stay, logs only grow, and numbers never fall
+-- from one state to a later one the members stay, logs only grow, and numbers never fall; and who has got something of an
+-- origin has the same base for it, from which on it receives
 pub record NeverFalls (w w' : World) : Type 0 where
-  pub same_size : size w' ≡ size w
+  pub more : size w ≤ size w'
   pub logs : (p : ℕ) → take (length (log_of w p)) (log_of w' p) ≡ log_of w p
   pub got : (q p : ℕ) → (row_of w q p).got ≤ (row_of w' q p).got
   pub forgot : (q p : ℕ) → (row_of w q p).forgot ≤ (row_of w' q p).forgot
   pub retired : (q p : ℕ) → (row_of w q p).retired ≤ (row_of w' q p).retired
+  pub base : (q p : ℕ) → 0 < (row_of w q p).got → (row_of w' q p).base ≡ (row_of w q p).base
 
 -- ---- in order
 
--- what a member heard of a publisher is the publisher's log up to the number that the member got: in order, without gap, and
--- each message once
+-- what a member heard of a publisher is the publisher's log from the member's base up to the number that it got: in order,
+-- without gap, and each message once; the base of a member of the opening is 0
 abbrev pub HearsInOrder : World → Type 0
-HearsInOrder w = (q p : ℕ) → (row_of w q p).heard ≡ take (row_of w q p).got (log_of w p)
+HearsInOrder w = (q p : ℕ) → (row_of w q p).heard ≡ messages_between (row_of w q p).base (row_of w q p).got (log_of w p)
 
--- from one state to a later one, what a member hears is what follows in the publisher's log
+-- what was published after a member was admitted, and no later than something that it has got, it has heard, at its place: the
+-- message at place k of the log, counted from 0, stands in what it heard where those before the base are left out
+pub record StandsAt (heard log : List Message) (base k : ℕ) : Type 0 where
+  pub there : k - base < length heard
+  pub same : (m : Message) → slice_index_or heard (k - base) m ≡ slice_index_or log k m
+
+-- of each member and origin
+abbrev pub HearsAllSince : World → Type 0
+HearsAllSince w = (q p k : ℕ) → (row_of w q p).born ≤ k → k < (row_of w q p).got → StandsAt (row_of w q p).heard (log_of w p) (row_of w q p).base k
+
+-- from one state to a later one, what a member hears is what follows in the publisher's log: after what it has got, and from
+-- its base on where it takes its first packet meanwhile
 abbrev pub HearsWhatFollows : World → World → Type 0
-HearsWhatFollows w w' = (q p : ℕ) → (row_of w' q p).heard ≡ (row_of w q p).heard ++ messages_between (row_of w q p).got (row_of w' q p).got (log_of w' p)
+HearsWhatFollows w w' = (q p : ℕ) → (row_of w' q p).heard ≡ (row_of w q p).heard ++ messages_between (max (row_of w q p).got (row_of w' q p).base) (row_of w' q p).got (log_of w' p)

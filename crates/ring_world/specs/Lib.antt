@@ -1,5 +1,6 @@
 pub mod Asked
 pub mod Event
+pub mod Idle
 pub mod Lawful
 pub mod Laws
 pub mod Machine
@@ -10,8 +11,10 @@ pub mod Quiet
 pub mod Reached
 pub mod Refusal
 pub mod Rows
+pub mod Settling
 pub mod Shown
 pub mod Shows
 pub mod Step
 pub mod View
 pub mod Walking
+pub mod Work

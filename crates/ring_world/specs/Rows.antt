@@ -1,5 +1,5 @@
 -- What a member knows of one origin, the credit of a link, and what a step does to each.
-use Rattle.std.specs.Prelude.{ℕ, ◌+◌, Bool, true, false, if◌then◌else◌, ◌&&◌, List, [], ◌∷◌, ◌++◌, take, drop, nat_eq, max}
+use Rattle.std.specs.Prelude.{ℕ, ◌+◌, Bool, true, false, if◌then◌else◌, ◌&&◌, List, [], ◌∷◌, ◌++◌, length, take, drop, nat_eq, max}
 use Rattle.ring_names.specs.declared.message.Message.{Message}
 use Rattle.credit_flow.specs.Credit.{sent, gained, took, grant_due, Credit, Counted, full_credit, none_taken}
 use Rattle.credit_flow.specs.Link.{with_grant, oldest as oldest_grant}
@@ -10,11 +10,14 @@ pub use Rattle.group_view.specs.Change.{AreDifferent, AreOpeningNames, most_entr
 -- What a member knows of one origin: the number up to which it has received the origin's messages, the
 -- number up to which it has forgotten them (their acknowledgement has passed), the number up to which that
 -- acknowledgement has come round, and the messages themselves in the order in which they were received.
+-- And for a member that joined: the number from which on it receives, and how many messages there were when it was admitted.
 pub record Row : Type 0 where
   pub got : ℕ
   pub forgot : ℕ
   pub retired : ℕ
   pub heard : List Message
+  pub base : ℕ
+  pub born : ℕ
 
 -- The credit of a link, as credit_flow has it: what its sender may still send, what its receiver has taken
 -- since the last grant, and the grants under way back to the sender, the oldest first.
@@ -25,7 +28,11 @@ pub record Flow : Type 0 where
 
 -- what is known of an origin without a row
 abbrev pub no_row : Row
-no_row = record { got = 0; forgot = 0; retired = 0; heard = [] }
+no_row = record { got = 0; forgot = 0; retired = 0; heard = []; base = 0; born = 0 }
+
+-- what one that joins knows of an origin with this log
+abbrev pub born_row : List Message → Row
+born_row log = record no_row { born = length log }
 
 -- what a packet says of an origin of which it says nothing
 abbrev pub no_numbers : Numbers

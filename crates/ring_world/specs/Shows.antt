@@ -16,7 +16,7 @@ use Rattle.ring_world.specs.Step.{is_owned, pushed, next_lines}
 
 -- a row
 abbrev pub row_of : KnownOrigin → Row
-row_of r = record { got = r.got; forgot = r.forgot; retired = r.retired; heard = r.heard.items }
+row_of r = record { got = r.got; forgot = r.forgot; retired = r.retired; heard = r.heard.items; base = r.base; born = r.born }
 
 -- a member
 abbrev pub member_of : Seat → Member

@@ -4,12 +4,12 @@ use Rattle.std.specs.List.{range_with_len}
 use Rattle.ring_names.specs.declared.numbers.CreditSpec.{CreditSpec}
 use Rattle.ring_names.specs.declared.message.Message.{Message}
 use Rattle.ring_world.specs.declared.numbers.Numbers.{Numbers}
-use Rattle.ring_world.specs.Rows.{Row, no_row, no_numbers, full_flow, published_row, next_numbers, spent, counted as counted_flow, regained, taken_row}
+use Rattle.ring_world.specs.Rows.{Row, no_row, no_numbers, full_flow, born_row, published_row, next_numbers, spent, counted as counted_flow, regained, taken_row}
 use Rattle.group_view.specs.View.{Group}
 use Rattle.group_view.specs.Ring.{is_in}
 use Rattle.group_view.specs.Since.{no_group}
-use Rattle.group_view.specs.Change.{opening as opening_group}
-use Rattle.ring_world.specs.Machine.{Up, Stopped, Packet, Member, Sending, Ending, Link, World, no_sending, no_member, row_at, numbers_at, member_at, link_at, view_in, is_kept, oldest}
+use Rattle.group_view.specs.Change.{opening as opening_group, admitted}
+use Rattle.ring_world.specs.Machine.{Waiting, Up, Stopped, Packet, Member, Sending, Ending, Link, World, no_sending, no_member, row_at, numbers_at, member_at, link_at, view_in, newest, is_kept, oldest}
 use Rattle.ring_world.specs.View.{between, left_of, right_of}
 
 -- the member of id i is another
@@ -86,7 +86,7 @@ take_from w y s = with_link (with_member w y (taker w y s)) s (popped (link_at w
 
 -- the first take of a member that waits: it receives nothing, and is up
 abbrev pub begun_row : Row → Numbers → Row
-begun_row r k = record r { got = k.got; forgot = k.forgot }
+begun_row r k = record r { got = k.got; forgot = k.forgot; base = k.got }
 
 -- its rows are those of the packet
 abbrev pub begun : ℕ → Member → Packet → Member
@@ -143,6 +143,28 @@ stop_at w x = with_member w x (stopped (member_at w x))
 -- a view follows the others
 abbrev pub with_view : World → Group → World
 with_view w v = record w { views = w.views ++ v ∷ [] }
+
+-- ---- an admission
+
+-- who joins: it waits for the first packet on the link that opens next, and has the version that comes next
+abbrev pub joiner : World → List ℕ → Member
+joiner w name = record {
+  name = name;
+  phase = Waiting;
+  version = length w.views;
+  log = [];
+  rows = map (λ p. born_row (log_of w p)) (range_with_len 0 (size w + 1));
+  out = None;
+  current = Some (length w.links);
+}
+
+-- the view in which m has admitted one of this name
+abbrev pub admitted_view : World → ℕ → List ℕ → Group
+admitted_view w m name = admitted (view_in w (newest w)) m name
+
+-- it and its view have come
+abbrev pub come_to : World → ℕ → List ℕ → World
+come_to w m name = record w { members = w.members ++ joiner w name ∷ []; views = w.views ++ admitted_view w m name ∷ [] }
 
 -- ---- a refresh of x to v
 

@@ -12,9 +12,8 @@ ghost use Rattle.ring_world.specs.Event.{at_door as the_door};
 ghost use Rattle.ring_world.specs.Placed.{IsPlaced};
 ghost use Rattle.ring_world.specs.Shows.{world_of};
 
-pub(crate) use crate::marking::mark;
 use crate::neighbours::{at_door, id_at};
-use crate::phase::Ending;
+use crate::phase::{Ending, Phase};
 use crate::state::Ring;
 use crate::{seats, taking, wires};
 use ring_names::{Body, Message, OutOfMemory};
@@ -71,7 +70,7 @@ pub(crate) fn gain(ring: &mut Ring, place: usize)
     }
 }
 
-/// It takes a packet.
+/// It takes a packet, where it waits its first.
 #[tactic(auto, using(crate::proofs::code::Rules::receiving, crate::proofs::events::Enabled::take_some))]
 pub(crate) fn take(alloc: Global, ring: &mut Ring, place: usize) -> Result<(), OutOfMemory>
     requires placed { IsPlaced (world_of ring.old) }
@@ -87,7 +86,11 @@ pub(crate) fn take(alloc: Global, ring: &mut Ring, place: usize) -> Result<(), O
 {
     match ring.seats[place].current {
         None => unreachable!(),
-        Some(current) => taking::take(alloc, ring, place, current),
+        Some(current) => match ring.seats[place].phase {
+            Phase::Waiting => taking::begin(alloc, ring, place, current),
+            Phase::Up => taking::take(alloc, ring, place, current),
+            Phase::Stopped => unreachable!(),
+        },
     }
 }
 

@@ -1,14 +1,16 @@
 //! What is asked of a state.
-ghost use Rattle.std.specs.Prelude.{◌≡◌, ◌<◌, suc, length, Option, Some, IsSome, IfOk};
+ghost use Rattle.std.specs.Prelude.{◌≡◌, ◌<◌, suc, cond, length, Option, Some, None, IsSome, IfOk};
+ghost use Rattle.group_view.specs.declared.entry.Entry.{Entry};
 ghost use Rattle.ring_world.specs.Machine.{row_at, member_at};
 ghost use Rattle.ring_world.specs.Asked.{heard_at as the_heard, id_at as the_id_at, state_of as the_state};
+ghost use Rattle.ring_world.specs.Asked.{state_at as the_state_at};
 ghost use Rattle.ring_world.specs.Asked.{counts_of as the_counts};
 ghost use Rattle.ring_world.specs.Event.{id_of as the_id};
 ghost use Rattle.ring_world.specs.Placed.{IsPlaced};
 ghost use Rattle.ring_world.specs.Shows.{world_of, member_of, member_in};
 
 use crate::log::copied;
-use crate::neighbours::id_at;
+use crate::neighbours::{id_at, newest_view};
 use crate::phase::Phase;
 use crate::places::place_in;
 use crate::seat::Seat;
@@ -18,17 +20,17 @@ use ring_names::{MemberId, Message, Name, OutOfMemory};
 use std::alloc::Global;
 
 /// What a member has heard of an origin.
-#[tactic(auto, using(crate::proofs::code::ShownParts::read_row))]
 fn heard_from(alloc: Global, seat: &Seat, origin: usize) -> Result<Vec<Message>, OutOfMemory>
-    requires { origin < length seat.now.rows.items }
     ensures { IfOk result (λ v. v.items ≡ (row_at (member_of seat.now) origin).heard) }
 {
-    let all = copied(alloc, &seat.rows[origin].heard)?;
-    Ok(all)
+    match seat.rows.get(origin) {
+        Some(row) => copied(alloc, &row.heard),
+        None => Ok(Vec::new(alloc)),
+    }
 }
 
 /// What the member at a place has heard of that at another.
-#[tactic(auto, using(crate::proofs::code::ShownParts::read_member, crate::proofs::code::Found::row_there))]
+#[tactic(auto, using(crate::proofs::code::ShownParts::read_member, crate::proofs::code::Found::few_seats))]
 pub(crate) fn heard_at(
     alloc: Global,
     ring: &Ring,
@@ -44,12 +46,21 @@ pub(crate) fn heard_at(
     Ok(all)
 }
 
-fn state_of(phase: Phase) -> MemberState
-    ensures { result ≡ the_state phase }
+/// What the mirror of a member lacks, by whether the ring registers it as synchronised.
+fn missing(is_synced: bool) -> Option<u64>
+    ensures { result ≡ cond is_synced (Some 0) None }
+{
+    if is_synced { Some(0) } else { None }
+}
+
+fn state_of(is_synced: bool, phase: Phase) -> MemberState
+    ensures { (entry : Entry) → is_synced ≡ entry.synced → result ≡ the_state entry phase }
 {
     match phase {
         Phase::Waiting => MemberState::Waiting,
-        Phase::Up => MemberState::Up { missing: Some(0) },
+        Phase::Up => MemberState::Up {
+            missing: missing(is_synced),
+        },
         Phase::Stopped => MemberState::Stopped,
     }
 }
@@ -57,10 +68,12 @@ fn state_of(phase: Phase) -> MemberState
 /// Where the member at a place stands.
 #[tactic(auto, using(crate::proofs::code::ShownParts::read_member))]
 pub(crate) fn state_at(ring: &Ring, place: usize) -> MemberState
-    requires { place < length ring.now.seats.items }
-    ensures { result ≡ the_state (member_at (world_of ring.now) (suc place)).phase }
+    requires placed { IsPlaced (world_of ring.now) }
+    requires place { place < length ring.now.seats.items }
+    ensures { result ≡ the_state_at (world_of ring.now) (Some (suc place)) }
 {
-    state_of(ring.seats[place].phase)
+    let is_synced = newest_view(ring).is_synced(MemberId(id_at(place)));
+    state_of(is_synced, ring.seats[place].phase)
 }
 
 /// What the member of one name has heard of that of another.

@@ -5,9 +5,13 @@ ghost use Rattle.ring_world.specs.Event.{refusal, refused_at, effect, done_at};
 ghost use Rattle.ring_world.specs.Placed.{IsPlaced, IsReady};
 ghost use Rattle.ring_world.specs.Shows.{world_of};
 
+use crate::erasing::erase;
 use crate::event::Event;
+use crate::joining::admit;
+use crate::marking::mark;
 use crate::places::place_in;
 use crate::refreshing::refresh;
+use crate::refusing::may_refuse;
 use crate::state::Ring;
 use crate::{arms, conditions, membership};
 use ring_names::{OutOfMemory, Reason};
@@ -39,7 +43,10 @@ fn enabled_at(ring: &Ring, place: usize, event: &Event) -> Result<(), Reason>
         Event::Stop { .. } => conditions::may_stop(ring, place),
         Event::Mark { dead, .. } => membership::may_mark(ring, place, dead),
         Event::Refresh { view, .. } => membership::may_refresh(ring, place, *view),
+        Event::Admit { name, .. } => membership::may_admit(ring, place, name),
         Event::Pick { .. } => membership::may_pick(ring, place),
+        Event::Erase { origin, .. } => membership::may_erase(ring, place, origin),
+        Event::Refuse { code, inner } => may_refuse(ring, place, *code, inner),
     }
 }
 
@@ -83,12 +90,18 @@ fn step_at(alloc: Global, ring: &mut Ring, place: usize, event: &Event) -> Resul
         }
         Event::Mark { dead, .. } => match place_in(ring, dead) {
             None => unreachable!(),
-            Some(dead) => arms::mark(alloc, ring, place, dead),
+            Some(dead) => mark(alloc, ring, place, dead),
         },
         Event::Refresh { view, .. } => refresh(alloc, ring, place, *view),
+        Event::Admit { name, .. } => admit(alloc, ring, place, name),
         Event::Pick { .. } => {
             arms::pick(ring, place);
             Ok(())
         }
+        Event::Erase { origin, .. } => match place_in(ring, origin) {
+            None => unreachable!(),
+            Some(origin) => erase(alloc, ring, place, origin),
+        },
+        Event::Refuse { .. } => Ok(()),
     }
 }

@@ -1,6 +1,6 @@
 //! The events of the ring.
 ghost use Rattle.std.specs.Prelude.{◌≡◌, IfOk};
-ghost use Rattle.ring_world.specs.Event.{by_of};
+ghost use Rattle.ring_world.specs.Event.{by_of, is_refusal as refusal_is};
 
 use ring_names::{Body, Name, OutOfMemory};
 
@@ -24,8 +24,58 @@ pub enum Event {
     Mark { by: Name, dead: Name },
     /// The member reads the view of a version, and sends to its right neighbour in it.
     Refresh { by: Name, view: u32 },
+    /// The member admits one of a new name, directly right of itself.
+    Admit { by: Name, name: Name },
     /// The member takes from now on from the oldest link at its door.
     Pick { by: Name },
+    /// The member has a dead origin erased, for which it answers, and whose messages have all come round.
+    Erase { by: Name, origin: Name },
+    /// What a client asked of a member can't be done, and is told with the number of its refusal.
+    Refuse { code: u32, inner: Client },
+}
+
+/// What a client asks of a member.
+#[derive(Drop, Debug)]
+pub enum Client {
+    /// To publish a message.
+    Cast { by: Name, body: Body },
+    /// To stop.
+    Stop { by: Name },
+    /// To admit a member of a new name.
+    Admit { by: Name, name: Name },
+}
+
+impl Client {
+    ghost use Rattle.std.specs.Prelude.{◌≡◌, IfOk};
+    ghost use Rattle.ring_world.specs.Event.{asked_of};
+
+    /// The name of the member of which it is asked.
+    pub fn by(&self) -> &Name
+        ensures { result.now ≡ asked_of self.now }
+    {
+        match self {
+            Client::Cast { by, body: _ } => by,
+            Client::Stop { by } => by,
+            Client::Admit { by, name: _ } => by,
+        }
+    }
+
+    /// An equal one.
+    pub fn copy(&self) -> Result<Client, OutOfMemory>
+        ensures { IfOk result (λ client. client ≡ self.now) }
+    {
+        match self {
+            Client::Cast { by, body } => Ok(Client::Cast {
+                by: *by,
+                body: body.copy()?,
+            }),
+            Client::Stop { by } => Ok(Client::Stop { by: *by }),
+            Client::Admit { by, name } => Ok(Client::Admit {
+                by: *by,
+                name: *name,
+            }),
+        }
+    }
 }
 
 impl Event {
@@ -42,8 +92,18 @@ impl Event {
             Event::Stop { by } => by,
             Event::Mark { by, dead: _ } => by,
             Event::Refresh { by, view: _ } => by,
+            Event::Admit { by, name: _ } => by,
             Event::Pick { by } => by,
+            Event::Erase { by, origin: _ } => by,
+            Event::Refuse { code: _, inner } => inner.by(),
         }
+    }
+
+    /// Whether it is a refusal, which leaves the ring as it is.
+    pub(crate) fn is_refusal(&self) -> bool
+        ensures { result ≡ refusal_is self.now }
+    {
+        matches!(self, Event::Refuse { .. })
     }
 
     /// An equal event.
@@ -68,7 +128,19 @@ impl Event {
                 by: *by,
                 view: *view,
             }),
+            Event::Admit { by, name } => Ok(Event::Admit {
+                by: *by,
+                name: *name,
+            }),
             Event::Pick { by } => Ok(Event::Pick { by: *by }),
+            Event::Erase { by, origin } => Ok(Event::Erase {
+                by: *by,
+                origin: *origin,
+            }),
+            Event::Refuse { code, inner } => Ok(Event::Refuse {
+                code: *code,
+                inner: inner.copy()?,
+            }),
         }
     }
 }

@@ -1,5 +1,5 @@
 //! The ring as a plain machine: its state, its events, and what each event does, as `gm` has it for a ring whose
-//! members may stop. Begin at `World`, and at specs/Machine.antt for what a state is.
+//! members may stop, and which others may join. Begin at `World`, and at specs/Machine.antt for what a state is.
 //!
 //! Members stand in a ring. Each sends on one link, to its right neighbour, and takes from one link, from its left
 //! neighbour.
@@ -36,17 +36,32 @@
 //! `every_state_is_lawful` and `nothing_falls_through_deaths` are the laws of every run. docs/PROTOCOL.md plays a cast
 //! and a death with all numbers.
 //!
-//! Not built: nobody joins, so nobody waits (`Phase::Waiting` has its rules, and no event leads there). The dead
-//! aren't erased, so a ring with a dead member isn't quiet while a member runs. There is no queue, so all messages are
-//! casts. This machine's packets have numbers alone, and messages are read from their publisher's log; those of
-//! gm_member carry the messages.
+//! Who answers for a dead member has it erased (`Erase`) once all that it got of it has come round, and the
+//! acknowledgement too. The entry stays, and nothing of the member is under way any more. Where the master is erased, the
+//! oldest member that is live and registered as synchronised becomes it.
+//!
+//! A member admits another of a new name (`Admit`), which stands directly right of it: `gm:handle_call` `add_on_right`.
+//! The admitter sends to it from now on, and the new one takes from that link and waits. Its first take brings what the
+//! admitter knows: it hears nothing of what came before (its base), answers for itself, and is up. At its next
+//! refresh it opens a link of its own. A member has rows only for those that it knew of at its last take: of the others it
+//! knows nothing yet.
+//!
+//! What a client asked of a member and can't be done is told by an event too (`Refuse`), with the number of the first
+//! condition that fails. It leaves the ring as it is, and a `World` keeps the list (`World::refusals`).
+//!
+//! Not built: there is no queue, so all messages are casts, and who joined isn't registered as synchronised. This
+//! machine's packets have numbers alone, and messages are read from their publisher's log; those of gm_member carry the
+//! messages.
 #![tactic(auto)]
 
 mod arms;
 mod asked;
+mod changing;
 mod conditions;
 mod dispatch;
+mod erasing;
 mod event;
+mod joining;
 mod laws;
 mod log;
 mod marking;
@@ -57,6 +72,7 @@ mod phase;
 mod places;
 mod quiet;
 mod refreshing;
+mod refusing;
 mod seat;
 mod seats;
 mod shown;
@@ -68,9 +84,12 @@ mod wire;
 mod wires;
 mod world;
 
-pub use event::Event;
+pub use event::{Client, Event};
 pub use group_view::are_opening_names;
-pub use laws::{every_state_is_lawful, nothing_falls_through_deaths};
+pub use laws::{
+    an_idle_ring_is_quiet, each_step_of_repair_leaves_less_to_do, every_ring_settles,
+    every_state_is_lawful, nothing_falls_through_deaths,
+};
 pub use numbers::Numbers;
 pub use phase::{Ending, Phase};
 pub use shown::{Counts, MemberState};

@@ -1,5 +1,5 @@
 //! A member has a neighbour marked dead that has stopped.
-ghost use Rattle.std.specs.Prelude.{◌≡◌, ◌<◌, ◌+◌, suc, true, ◌-◌, take, length, None, IfOk, OnOk, OnErr};
+ghost use Rattle.std.specs.Prelude.{◌≡◌, ◌<◌, ◌+◌, suc, true, length, None, IfOk, OnOk, OnErr};
 ghost use Rattle.group_view.specs.Change.{marked};
 ghost use Rattle.ring_world.specs.declared.phase.Phase.TheVariants as phase;
 ghost use Rattle.ring_world.specs.View.{is_live};
@@ -9,8 +9,8 @@ ghost use Rattle.ring_world.specs.Event.{mark_refusal, refreshed};
 ghost use Rattle.ring_world.specs.Placed.{IsReady};
 ghost use Rattle.ring_world.specs.Shows.{world_of};
 
-use crate::neighbours::{id_at, newest, view_of};
-use crate::refreshing::refresh;
+use crate::changing::change;
+use crate::neighbours::{id_at, newest_view};
 use crate::state::Ring;
 use group_view::View;
 use ring_names::{MemberId, OutOfMemory};
@@ -29,25 +29,9 @@ fn without(view: &View, dead: u32) -> Result<View, OutOfMemory>
     Ok(next)
 }
 
-/// A view follows the others.
-fn push_view(ring: &mut Ring, view: View) -> Result<(), OutOfMemory>
-    ensures ok { OnOk result (world_of ring.new ≡ with_view (world_of ring.old) view) }
-    ensures seats { length ring.new.seats.items ≡ length ring.old.seats.items }
-    ensures err { OnErr result (world_of ring.new ≡ world_of ring.old) }
-{
-    ring.views.push(view)?;
-    Ok(())
-}
-
-/// The last view is gone.
-fn pop_view(views: &mut Vec<View>)
-    ensures { views.new.items ≡ take (length views.old.items - 1) views.old.items }
-{
-    views.pop();
-}
-
-/// The member at a place has the member at another marked dead, and reads the view that follows.
-#[tactic(auto, using(crate::proofs::events::Enabled::mark_lives, crate::proofs::events::Enabled::mark_stops))]
+/// The member at a place has the member at another marked dead, and reads the view that follows, as
+/// `gm:record_dead_member_in_group`.
+#[tactic(auto, using(crate::proofs::events::Enabled::mark_lives))]
 pub(crate) fn mark(
     alloc: Global,
     ring: &mut Ring,
@@ -64,12 +48,6 @@ pub(crate) fn mark(
         (suc place) (the_newest (world_of ring.old) + 1)) }
     ensures err { OnErr result (world_of ring.new ≡ world_of ring.old) }
 {
-    let version = newest(ring) + 1;
-    let next = without(view_of(&ring.views, newest(ring)), id_at(dead))?;
-    push_view(ring, next)?;
-    if refresh(alloc, ring, place, version).is_err() {
-        pop_view(&mut ring.views);
-        return Err(OutOfMemory);
-    }
-    Ok(())
+    let next = without(newest_view(ring), id_at(dead))?;
+    change(alloc, ring, place, next)
 }

@@ -6,14 +6,20 @@ ghost use Rattle.ring_world.specs.declared.phase.Phase.TheVariants as phase;
 ghost use Rattle.ring_world.specs.Machine.{member_at};
 ghost use Rattle.ring_world.specs.Event.{id_of as the_id, of_member, up_refusal, pick_refusal, mark_refusal};
 ghost use Rattle.ring_world.specs.Event.{refresh_refusal, is_still_taken as still_taken};
+ghost use Rattle.ring_world.specs.Event.{admit_refusal, erase_refusal};
 ghost use Rattle.ring_world.specs.Placed.{IsPlaced, IsUpAt};
 ghost use Rattle.ring_world.specs.Shows.{world_of};
 
 use crate::conditions::is_known;
-use crate::neighbours::{at_door, id_at, is_neighbour, left_neighbour, newest, view_of};
+use crate::neighbours::{
+    at_door, id_at, is_neighbour, left_neighbour, newest, newest_view, view_at_place,
+};
 use crate::places::place_in;
 use crate::state::Ring;
 use ring_names::{MemberId, Name, Reason};
+
+/// How many members a ring ever has.
+const MOST_MEMBERS: usize = 64;
 
 /// Whether the member at a place may pick the oldest link at its door.
 #[tactic(auto, using(crate::proofs::code::ShownParts::read_member, crate::proofs::code::ShownParts::read_link))]
@@ -64,7 +70,7 @@ fn may_mark_at(ring: &Ring, place: usize, dead: usize) -> Result<(), Reason>
     if !is_neighbour(ring, place, id) {
         return Err(Reason::NotNeighbour);
     }
-    if !view_of(&ring.views, newest(ring)).is_live(MemberId(id)) {
+    if !newest_view(ring).is_live(MemberId(id)) {
         return Err(Reason::AlreadyDead);
     }
     if !ring.seats[dead].phase.is_stopped() {
@@ -90,6 +96,64 @@ pub(crate) fn may_mark(ring: &Ring, place: usize, dead: &Name) -> Result<(), Rea
         None => Err(Reason::UnknownMember),
         Some(dead) => may_mark_at(ring, place, dead),
     }
+}
+
+/// Whether it may have the origin at another place erased.
+#[tactic(auto, using(crate::proofs::code::ShownParts::read_member))]
+fn may_erase_at(ring: &Ring, place: usize, origin: usize) -> Result<(), Reason>
+    requires up { IsUpAt ring.now place }
+    requires origin { origin < length ring.now.seats.items }
+    ensures { result ≡ answer_of (erase_refusal (world_of ring.now) (suc place) (suc origin)) }
+{
+    let id = id_at(origin);
+    if !newest_view(ring).is_dead(MemberId(id)) {
+        return Err(Reason::NotDead);
+    }
+    if !view_at_place(ring, place).is_alias(MemberId(id_at(place)), MemberId(id)) {
+        return Err(Reason::NotOwner);
+    }
+    let seat = &ring.seats[place];
+    let (got, _) = seat.got_and_forgot(id as usize);
+    let retired = seat.retired(id as usize);
+    if got != retired {
+        return Err(Reason::NotRetired { got, retired });
+    }
+    Ok(())
+}
+
+/// Whether it may have the origin of a name erased.
+#[tactic(auto, using(crate::proofs::code::ShownParts::read_member))]
+pub(crate) fn may_erase(ring: &Ring, place: usize, origin: &Name) -> Result<(), Reason>
+    requires placed { IsPlaced (world_of ring.now) }
+    requires place { place < length ring.now.seats.items }
+    ensures { result ≡ answer_of (up_refusal (world_of ring.now) (suc place)
+        (of_member (the_id (world_of ring.now) origin.now)
+        (erase_refusal (world_of ring.now) (suc place)))) }
+{
+    ring.seats[place].phase.is_up()?;
+    match place_in(ring, origin) {
+        None => Err(Reason::UnknownMember),
+        Some(origin) => may_erase_at(ring, place, origin),
+    }
+}
+
+/// Whether it may admit one of a name.
+#[tactic(auto, using(crate::proofs::code::ShownParts::read_member))]
+pub(crate) fn may_admit(ring: &Ring, place: usize, name: &Name) -> Result<(), Reason>
+    requires placed { IsPlaced (world_of ring.now) }
+    requires place { place < length ring.now.seats.items }
+    ensures { result ≡ answer_of (up_refusal (world_of ring.now) (suc place)
+        (admit_refusal (world_of ring.now) name.now)) }
+{
+    ring.seats[place].phase.is_up()?;
+    let view = newest_view(ring);
+    if view.find(name).is_some() {
+        return Err(Reason::NameTaken);
+    }
+    if view.entries.as_slice().len() >= MOST_MEMBERS {
+        return Err(Reason::TooManyMembers);
+    }
+    Ok(())
 }
 
 /// Whether it may read the view of a version.

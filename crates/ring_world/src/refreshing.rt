@@ -79,6 +79,8 @@ fn look(ring: &mut Ring, place: usize, version: u32, current: Option<usize>)
         (member_at (world_of ring.old) (suc place)).current }
     ensures state { world_of ring.new ≡ look_at (world_of ring.old) (suc place) version }
     ensures wires { ring.new.wires ≡ ring.old.wires }
+    ensures seats { vec_len ring.new.seats ≡ vec_len ring.old.seats }
+    ensures seats_room { vec_capacity ring.new.seats ≡ vec_capacity ring.old.seats }
 {
     seats::look(&mut ring.seats, place, version, current);
 }
@@ -89,6 +91,7 @@ fn end_sending(ring: &mut Ring, out: Option<usize>)
     ensures state { world_of ring.new ≡ end_out ending.Moved (world_of ring.old) out }
     ensures room { vec_capacity ring.new.wires ≡ vec_capacity ring.old.wires }
     ensures many { vec_len ring.new.wires ≡ vec_len ring.old.wires }
+    ensures seats { ring.new.seats ≡ ring.old.seats }
 {
     if let Some(out) = out {
         wires::end(&mut ring.wires, out, Ending::Moved);
@@ -109,7 +112,9 @@ fn open(ring: &mut Ring, place: usize, receiver: u32, wire: Wire)
     requires place { place < length ring.old.seats.items }
     requires room { vec_len ring.old.wires < vec_capacity ring.old.wires }
     requires wire { link_of wire ≡ opened_link (world_of ring.old) (suc place) receiver }
-    ensures { world_of ring.new ≡ open_to (world_of ring.old) (suc place) receiver }
+    ensures state { world_of ring.new ≡ open_to (world_of ring.old) (suc place) receiver }
+    ensures seats { vec_len ring.new.seats ≡ vec_len ring.old.seats }
+    ensures seats_room { vec_capacity ring.new.seats ≡ vec_capacity ring.old.seats }
 {
     let out = ring.wires.len();
     ring.wires.push_reserved(wire);
@@ -133,6 +138,8 @@ fn move_to(
         (end_out ending.Moved (look_at (world_of ring.old) (suc place) version)
         (member_at (world_of ring.old) (suc place)).out) (suc place) receiver) }
     ensures err { OnErr result (world_of ring.new ≡ world_of ring.old) }
+    ensures seats { vec_len ring.new.seats ≡ vec_len ring.old.seats }
+    ensures seats_room { vec_capacity ring.new.seats ≡ vec_capacity ring.old.seats }
 {
     let out = ring.seats[place].out;
     let wire = Wire::open(
@@ -166,6 +173,8 @@ pub(crate) fn refresh(
     ensures ok { OnOk result (world_of ring.new
         ≡ refreshed (world_of ring.old) (suc place) version) }
     ensures err { OnErr result (world_of ring.new ≡ world_of ring.old) }
+    ensures seats { vec_len ring.new.seats ≡ vec_len ring.old.seats }
+    ensures seats_room { vec_capacity ring.new.seats ≡ vec_capacity ring.old.seats }
 {
     let receiver = right_in(view_of(&ring.views, version), id_at(place));
     let current = kept_current(ring, place, version);

@@ -1,10 +1,10 @@
 //! A member's seat in the machine.
 ghost use Rattle.std.specs.Prelude.{◌≡◌, ◌↔◌, IsTrue, ℕ, ◌+◌, ◌^◌, ◌<◌, ◌≤◌, length, map, nat_eq};
-ghost use Rattle.std.specs.Prelude.{bytes_eq, vec_len, vec_capacity, IfOk, OnOk, OnErr};
+ghost use Rattle.std.specs.Prelude.{bytes_eq, take, vec_len, vec_capacity, IfOk, OnOk, OnErr};
 ghost use Rattle.std.specs.List.{range_with_len};
 ghost use Rattle.ring_world.specs.Rows.{no_row, published_row, taken_with};
 ghost use Rattle.ring_world.specs.Machine.{row_at, numbers_at as the_numbers};
-ghost use Rattle.ring_world.specs.Step.{published as is_published};
+ghost use Rattle.ring_world.specs.Step.{published as is_published, begun_row, begun};
 ghost use Rattle.ring_world.specs.Shows.{row_of, row_in, member_of, packet_of, room_of, with_rows, News, news_of};
 ghost use Rattle.ring_world.specs.Shows.{news_in, looked, HasRoom};
 
@@ -21,10 +21,13 @@ pub struct KnownOrigin {
     pub(crate) forgot: u64,
     pub(crate) retired: u64,
     pub(crate) heard: Vec<Message>,
+    pub(crate) base: u64,
+    pub(crate) born: u64,
 }
 
-/// A member with its log and a row for each origin, by id, of which place 0 has nobody's; and where among
-/// the links the one stands on which it sends, and the one from which it takes.
+/// A member with its log and its rows by origins' ids, of which place 0 has nobody's; and where among the links
+/// the one stands on which it sends, and the one from which it takes. Of an origin that was admitted after its
+/// last take it has no row yet, and knows nothing.
 #[derive(Drop)]
 pub struct Seat {
     pub(crate) name: Name,
@@ -47,11 +50,20 @@ impl KnownOrigin {
     fn opening(alloc: Global) -> KnownOrigin
         ensures { row_of result ≡ no_row }
     {
+        KnownOrigin::born(alloc, 0)
+    }
+
+    /// What one that joins knows of an origin that has published so many messages.
+    pub(crate) fn born(alloc: Global, published: u64) -> KnownOrigin
+        ensures { row_of result ≡ record no_row { born = published } }
+    {
         KnownOrigin {
             got: 0,
             forgot: 0,
             retired: 0,
             heard: Vec::new(alloc),
+            base: 0,
+            born: published,
         }
     }
 
@@ -92,6 +104,15 @@ impl KnownOrigin {
         if self.heard.append(&mut news.messages).is_err() {
             unreachable!()
         }
+    }
+
+    /// Takes in what the first packet says of the origin, from which on its messages are received.
+    fn begin(&mut self, numbers: Numbers)
+        ensures { row_of self.new ≡ begun_row (row_of self.old) numbers }
+    {
+        self.got = numbers.got;
+        self.forgot = numbers.forgot;
+        self.base = numbers.got;
     }
 }
 
@@ -156,18 +177,58 @@ impl Seat {
     }
 
     /// Takes in a packet with what it brings of each origin.
-    pub(crate) fn take(&mut self, packet: &Packet, news: &mut [Brought]) -> Result<(), OutOfMemory>
-        requires { length self.old.rows.items ≡ length news.old }
+    pub(crate) fn take(
+        &mut self,
+        alloc: Global,
+        packet: &Packet,
+        news: &mut [Brought],
+    ) -> Result<(), OutOfMemory>
+        requires { length self.old.rows.items ≤ length news.old }
         ensures ok { OnOk result (member_of self.new ≡ with_rows (member_of self.old)
             (map (λ p. taken_with (news_in news.old p).own (row_at (member_of self.old) p)
             (the_numbers (packet_of packet.now) p) (news_in news.old p).messages)
             (range_with_len 0 (length news.old)))) }
         ensures err { OnErr result (member_of self.new ≡ member_of self.old) }
     {
-        make_room(&mut self.rows, news)?;
+        make_ready(alloc, &mut self.rows, news)?;
         take_rows(&mut self.rows, packet, news);
         Ok(())
     }
+
+    /// Takes in its first packet, in a ring of ids below `size`: it is up.
+    pub(crate) fn begin(
+        &mut self,
+        alloc: Global,
+        size: usize,
+        packet: &Packet,
+    ) -> Result<(), OutOfMemory>
+        requires { length self.old.rows.items ≤ size }
+        ensures ok { OnOk result (member_of self.new
+            ≡ begun size (member_of self.old) (packet_of packet.now)) }
+        ensures err { OnErr result (member_of self.new ≡ member_of self.old) }
+    {
+        pad_rows(alloc, &mut self.rows, size)?;
+        begin_rows(&mut self.rows, packet);
+        self.phase = Phase::Up;
+        Ok(())
+    }
+}
+
+/// Rows that say nothing join these, until there are so many.
+#[tactic(auto, using(crate::proofs::code::Rules::padding))]
+fn pad_rows(alloc: Global, rows: &mut Vec<KnownOrigin>, size: usize) -> Result<(), OutOfMemory>
+    requires { length rows.old.items ≤ size }
+    ensures known { OnOk result (take (length rows.old.items) (map row_of rows.new.items)
+        ≡ map row_of rows.old.items) }
+    ensures size { OnOk result (length rows.new.items ≡ size) }
+    ensures same { OnOk result ((p : ℕ) → row_in rows.new.items p ≡ row_in rows.old.items p) }
+    ensures err { OnErr result (map row_of rows.new.items ≡ map row_of rows.old.items) }
+{
+    rows.reserve(size - rows.len())?;
+    for _id in rows.len()..size {
+        rows.push_reserved(KnownOrigin::opening(alloc));
+    }
+    Ok(())
 }
 
 /// So many rows that say nothing.
@@ -195,6 +256,27 @@ fn make_room(rows: &mut [KnownOrigin], news: &[Brought]) -> Result<(), OutOfMemo
     Ok(())
 }
 
+/// Makes a row for each origin, with room for its news.
+fn make_ready(
+    alloc: Global,
+    rows: &mut Vec<KnownOrigin>,
+    news: &[Brought],
+) -> Result<(), OutOfMemory>
+    requires { length rows.old.items ≤ length news.now }
+    ensures size { OnOk result (length rows.new.items ≡ length news.now) }
+    ensures same { OnOk result ((p : ℕ) → row_in rows.new.items p ≡ row_in rows.old.items p) }
+    ensures room { OnOk result (HasRoom rows.new.items news.now) }
+    ensures err { OnErr result (map row_of rows.new.items ≡ map row_of rows.old.items) }
+{
+    let known = rows.len();
+    pad_rows(alloc, rows, news.len())?;
+    if make_room(rows, news).is_err() {
+        rows.truncate(known);
+        return Err(OutOfMemory);
+    }
+    Ok(())
+}
+
 /// Each row takes in its part of a packet.
 fn take_rows(rows: &mut [KnownOrigin], packet: &Packet, news: &mut [Brought])
     requires lengths { length rows.old ≡ length news.old }
@@ -206,5 +288,16 @@ fn take_rows(rows: &mut [KnownOrigin], packet: &Packet, news: &mut [Brought])
 {
     for k in 0..rows.len() {
         rows[k].take(numbers_at(&packet.numbers, k), &mut news[k]);
+    }
+}
+
+/// Each row begins with its part of a first packet.
+fn begin_rows(rows: &mut [KnownOrigin], packet: &Packet)
+    ensures { map row_of rows.new
+        ≡ map (λ p. begun_row (row_in rows.old p) (the_numbers (packet_of packet.now) p))
+        (range_with_len 0 (length rows.old)) }
+{
+    for k in 0..rows.len() {
+        rows[k].begin(numbers_at(&packet.numbers, k));
     }
 }

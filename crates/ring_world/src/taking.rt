@@ -1,12 +1,12 @@
-//! A member takes the oldest packet from the link that it takes from.
+//! A member takes the oldest packet from the link that it takes from: its first, where it waits, or another.
 ghost use Rattle.std.specs.Prelude.{◌≡◌, ◌<◌, ◌≤◌, ◌+◌, ◌∷◌, suc, false, length, map, slice_set, slice_index_or};
 ghost use Rattle.std.specs.Prelude.{IfOk, OnOk, OnErr};
 ghost use Rattle.std.specs.List.{range_with_len};
 ghost use Rattle.ring_world.specs.Refusal.{is_empty};
 ghost use Rattle.ring_world.specs.Machine.{link_at, no_member, row_at, numbers_at as the_numbers, oldest};
-ghost use Rattle.ring_world.specs.Step.{is_owned as owned_is, taken, popped, take_from};
+ghost use Rattle.ring_world.specs.Step.{is_owned as owned_is, taken, begun, popped, take_from, begin_from};
 ghost use Rattle.ring_world.specs.Rows.{brought};
-ghost use Rattle.ring_world.specs.Placed.{IsUpAt};
+ghost use Rattle.ring_world.specs.Placed.{IsUpAt, IsRunningAt};
 ghost use Rattle.ring_world.specs.Shows.{world_of, member_of, member_in, link_of, packet_of, news_of as the_news};
 ghost use Rattle.ring_world.specs.Shows.{news_at};
 
@@ -108,7 +108,7 @@ fn take_packet(
 ) -> Result<(), OutOfMemory>
     requires within { place < length seats.old }
     requires few { length seats.old < 65 }
-    requires rows { length (member_in seats.old place).rows ≡ suc (length seats.old) }
+    requires rows { length (member_in seats.old place).rows ≤ suc (length seats.old) }
     requires some { is_empty (link_of wire.old).packets ≡ false }
     ensures seats { OnOk result (map member_of seats.new ≡ slice_set (map member_of seats.old) place
         (taken (suc (length seats.old)) (owned_is view.now (suc place) (link_of wire.old).sender)
@@ -122,7 +122,7 @@ fn take_packet(
     let sender = wire.sender;
     let packet = wire.oldest();
     let mut news = all_news(alloc, seats, place, view, sender, packet)?;
-    seats[place].take(packet, &mut news)?;
+    seats[place].take(alloc, packet, &mut news)?;
     wire.pop();
     Ok(())
 }
@@ -146,5 +146,50 @@ pub(crate) fn take(
     let view = view_of(&ring.views, version);
     let wire = &mut ring.wires[current];
     take_packet(alloc, &mut ring.seats, place, view, wire)?;
+    Ok(())
+}
+
+/// The first packet of a member that waits.
+#[tactic(auto, using(crate::proofs::code::ShownParts::rewrite_seat))]
+fn take_first(
+    alloc: Global,
+    seats: &mut [Seat],
+    place: usize,
+    link: &mut Wire,
+) -> Result<(), OutOfMemory>
+    requires within { place < length seats.old }
+    requires few { length seats.old < 65 }
+    requires rows { length (member_in seats.old place).rows ≤ suc (length seats.old) }
+    requires some { is_empty (link_of link.old).packets ≡ false }
+    ensures seats { OnOk result (map member_of seats.new ≡ slice_set (map member_of seats.old) place
+        (begun (suc (length seats.old)) (member_in seats.old place) (oldest (link_of link.old)))) }
+    ensures link { OnOk result (link_of link.new ≡ popped (link_of link.old)) }
+    ensures err_seats { OnErr result (map member_of seats.new ≡ map member_of seats.old) }
+    ensures err_link { OnErr result (link_of link.new ≡ link_of link.old) }
+{
+    link.reserve_grant()?;
+    let size = seats.len() + 1;
+    seats[place].begin(alloc, size, link.oldest())?;
+    link.pop();
+    Ok(())
+}
+
+/// The waiting member at a place takes the oldest packet from its link: it hears nothing, and is up.
+#[tactic(auto, using(crate::proofs::code::Found::few_seats))]
+pub(crate) fn begin(
+    alloc: Global,
+    ring: &mut Ring,
+    place: usize,
+    current: usize,
+) -> Result<(), OutOfMemory>
+    requires runs { IsRunningAt ring.old place }
+    requires current { current < length ring.old.wires.items }
+    requires some { is_empty (link_at (world_of ring.old) current).packets ≡ false }
+    ensures ok { OnOk result (world_of ring.new
+        ≡ begin_from (world_of ring.old) (suc place) current) }
+    ensures err { OnErr result (world_of ring.new ≡ world_of ring.old) }
+{
+    let wire = &mut ring.wires[current];
+    take_first(alloc, &mut ring.seats, place, wire)?;
     Ok(())
 }

@@ -1,16 +1,20 @@
 //! The machine.
-ghost use Rattle.std.specs.Prelude.{◌≡◌, ◌↔◌, IsTrue, Some, None, Result, Ok, Err, take, IsSome, IfOk, IfErr, OnOk};
+ghost use Rattle.std.specs.Prelude.{◌≡◌, ◌↔◌, IsTrue, ◌++◌, ◌∷◌, [], Some, None, Result, Ok, Err, IsSome, IfOk, IfErr, OnOk};
 ghost use Rattle.std.specs.Prelude.{OnErr};
 ghost use Rattle.ring_names.specs.declared.reason.Reason.{Reason};
 ghost use Rattle.ring_world.specs.Refusal.{answer_of};
 ghost use Rattle.group_view.specs.Change.{AreOpeningNames};
 ghost use Rattle.ring_world.specs.Step.{opening as the_opening};
 ghost use Rattle.ring_world.specs.Machine.{view_in, newest};
+ghost use Rattle.ring_world.specs.Rows.{messages_between};
+ghost use Rattle.ring_world.specs.Placed.{IsReady};
+ghost use Rattle.ring_world.specs.Shows.{world_of};
 ghost use Rattle.ring_world.specs.OpenLinks.{walk_named, NeverRises};
-ghost use Rattle.ring_world.specs.Asked.{id_at, heard_at, got_at, log_at, state_at, counts_at};
+ghost use Rattle.ring_world.specs.Asked.{id_at, heard_at, got_at, base_at, log_at, state_at};
+ghost use Rattle.ring_world.specs.Asked.{counts_at};
 ghost use Rattle.ring_world.specs.Quiet.{IsQuiet};
 ghost use Rattle.ring_world.specs.Laws.{IsLawful};
-ghost use Rattle.ring_world.specs.Event.{refusal, effect, id_of};
+ghost use Rattle.ring_world.specs.Event.{refusal, effect, id_of, refusals_of};
 
 use crate::event::Event;
 use crate::neighbours::newest_view;
@@ -36,22 +40,45 @@ pub enum Refused {
     OutOfMemory,
 }
 
-/// A ring: its members, the links between them, and its views.
+/// A refusal is noted, which leaves the ring as it is; another event happens.
+#[tactic(auto, using(crate::proofs::code::Rules::noting))]
+fn happen(
+    alloc: Global,
+    ring: &mut Ring,
+    refusals: &mut Vec<Event>,
+    event: &Event,
+) -> Result<(), OutOfMemory>
+    requires ready { IsReady (world_of ring.old) }
+    requires enabled { refusal (world_of ring.old) event.now ≡ None }
+    ensures ok { OnOk result (world_of ring.new ≡ effect (world_of ring.old) event.now) }
+    ensures refusals { OnOk result (refusals.new.items ≡ refusals.old.items ++ refusals_of (event.now ∷ [])) }
+    ensures err { OnErr result (world_of ring.new ≡ world_of ring.old) }
+    ensures err_refusals { OnErr result (refusals.new.items ≡ refusals.old.items) }
+{
+    if event.is_refusal() {
+        refusals.push(event.copy()?)?;
+        return Ok(());
+    }
+    dispatch::step(alloc, ring, event)
+}
+
+/// A ring: its members, the links between them, its views, and what its members refused.
 #[derive(Drop)]
 pub struct World {
     alloc: Global,
     ring: Ring,
+    refusals: Vec<Event>,
     applied: u64,
 }
 
 impl Model for World {
-    ghost use Rattle.ring_world.specs.Machine.{World as State};
+    ghost use Rattle.ring_world.specs.Reached.{WorldSeen};
 
-    ghost Value = { State };
+    ghost Value = { WorldSeen };
 
-    ghost use Rattle.ring_world.specs.Reached.{state_of, IsRunning};
+    ghost use Rattle.ring_world.specs.Reached.{seen_of, IsRunning};
 
-    ghost view = { state_of };
+    ghost view = { seen_of };
 
     ghost invariant = { IsRunning };
 }
@@ -65,12 +92,14 @@ impl World {
         credit: CreditSpec,
     ) -> Result<World, OutOfMemory>
         requires { AreOpeningNames members.now }
-        ensures { IfOk result (λ w. w ≡ the_opening credit members.now) }
+        ensures ring { IfOk result (λ w. w.ring ≡ the_opening credit members.now) }
+        ensures refusals { IfOk result (λ w. w.refusals ≡ []) }
     {
         let ring = starting::opening(alloc, members, credit)?;
         Ok(World {
             alloc,
             ring,
+            refusals: Vec::new(alloc),
             applied: 0,
         })
     }
@@ -78,47 +107,54 @@ impl World {
     /// The newest view.
     #[tactic(auto, using(crate::proofs::code::Running::running_placed))]
     pub fn view(&self) -> &View
-        ensures { result.now ≡ view_in self.now (newest self.now) }
+        ensures { result.now ≡ view_in (self.now).ring (newest (self.now).ring) }
     {
         newest_view(&self.ring)
     }
 
     /// The walk of an origin round the ring, from its owner on: what the early packets to the owner, the owner, and
     /// each further running member with the packets open to it say that they got, and the late packets; the same of
-    /// what was forgotten; and how much the owner has retired. It is empty where every member has stopped, and for a
-    /// name that nobody has.
+    /// what was forgotten; and how much the owner has retired. A member that waits counts with its first packet. It
+    /// is empty where every member has stopped, and for a name that nobody has.
     #[tactic(auto, using(crate::proofs::code::Running::running_placed, crate::proofs::code::HeldLaws::named_falls))]
     pub fn walk(&self, of: &Name) -> Result<Vec<u64>, OutOfMemory>
-        ensures walk { IfOk result (λ walk. walk.items ≡ walk_named self.now (id_of self.now of.now)) }
+        ensures walk { IfOk result (λ walk. walk.items
+            ≡ walk_named (self.now).ring (id_of (self.now).ring of.now)) }
         ensures falls { IfOk result (λ walk. NeverRises walk.items) }
     {
         walk_of_name(self.alloc, &self.ring, of)
     }
 
-    /// The messages of one member that another has heard, in order: each once, from the first on, without a gap.
+    /// The messages of one member that another has heard, in order: each once and without a gap, from the first
+    /// on, or, where the other joined, from what its first packet told on.
     pub fn heard(&self, by: &Name, of: &Name) -> Result<Vec<Message>, OutOfMemory>
-        requires by { IsSome (id_of self.now by.now) }
-        requires of { IsSome (id_of self.now of.now) }
-        ensures heard { IfOk result (λ v. v.items ≡ heard_at self.now (id_of self.now by.now) (id_of self.now of.now)) }
-        ensures in_order { IfOk result (λ v. v.items
-            ≡ take (got_at self.now (id_of self.now by.now) (id_of self.now of.now))
-            (log_at self.now (id_of self.now of.now))) }
+        requires by { IsSome (id_of (self.now).ring by.now) }
+        requires of { IsSome (id_of (self.now).ring of.now) }
+        ensures heard { IfOk result (λ v. v.items ≡ heard_at (self.now).ring
+            (id_of (self.now).ring by.now) (id_of (self.now).ring of.now)) }
+        ensures in_order { IfOk result (λ v. v.items ≡ messages_between
+            (base_at (self.now).ring (id_of (self.now).ring by.now) (id_of (self.now).ring of.now))
+            (got_at (self.now).ring (id_of (self.now).ring by.now) (id_of (self.now).ring of.now))
+            (log_at (self.now).ring (id_of (self.now).ring of.now))) }
     {
         let all = asked::heard_named(self.alloc, &self.ring, by, of)?;
         Ok(all)
     }
 
-    /// The id of the member of a name. It wants no memory.
+    /// The id of the member of a name, also of one that waits, or has stopped: none where nobody of the name was
+    /// ever admitted. It wants no memory.
     pub fn member(&self, name: &Name) -> Option<MemberId>
-        ensures { result ≡ id_at (id_of self.now name.now) }
+        ensures { result ≡ id_at (id_of (self.now).ring name.now) }
     {
         asked::member_named(&self.ring, name)
     }
 
-    /// Where a member stands. It wants no memory.
+    /// Where a member stands: a member that is up lacks nothing where it was there from the opening on, and of one that
+    /// was admitted it isn't known. It wants no memory.
+    #[tactic(auto, using(crate::proofs::code::Running::running_placed))]
     pub fn state(&self, of: &Name) -> MemberState
-        requires { IsSome (id_of self.now of.now) }
-        ensures { result ≡ state_at self.now (id_of self.now of.now) }
+        requires { IsSome (id_of (self.now).ring of.now) }
+        ensures { result ≡ state_at (self.now).ring (id_of (self.now).ring of.now) }
     {
         match place_in(&self.ring, of) {
             Some(place) => asked::state_at(&self.ring, place),
@@ -129,8 +165,8 @@ impl World {
     /// What a member has published, and how much of it has come round to it, so that every member that is up
     /// has it. It wants no memory.
     pub fn counts(&self, by: &Name) -> Counts
-        requires { IsSome (id_of self.now by.now) }
-        ensures { result ≡ counts_at self.now (id_of self.now by.now) }
+        requires { IsSome (id_of (self.now).ring by.now) }
+        ensures { result ≡ counts_at (self.now).ring (id_of (self.now).ring by.now) }
     {
         match place_in(&self.ring, by) {
             Some(place) => asked::counts_at(&self.ring, place),
@@ -142,15 +178,22 @@ impl World {
     /// take, and all that it published has come round, no entry is dead, and nobody who lives has stopped. It
     /// wants no memory.
     pub fn quiet(&self) -> bool
-        ensures { IsTrue result ↔ IsQuiet self.now }
+        ensures { IsTrue result ↔ IsQuiet (self.now).ring }
     {
         quiet::is_quiet(&self.ring)
+    }
+
+    /// What the members refused, in order: the events `Refuse` that were applied. It wants no memory.
+    pub fn refusals(&self) -> &[Event]
+        ensures { result.now ≡ (self.now).refusals }
+    {
+        &self.refusals
     }
 
     /// The first condition of the event that fails, if one fails. It wants no memory.
     #[tactic(auto, using(crate::proofs::code::Running::running_placed))]
     pub fn enabled(&self, event: &Event) -> Result<(), Reason>
-        ensures { result ≡ answer_of (refusal self.now event.now) }
+        ensures { result ≡ answer_of (refusal (self.now).ring event.now) }
     {
         dispatch::enabled(&self.ring, event)
     }
@@ -158,15 +201,17 @@ impl World {
     /// The event happens, where it is enabled. Want of memory leaves the ring as it was; after
     /// 2^59 - 1 events each further one is answered so.
     pub fn apply(&mut self, event: &Event) -> Result<(), Refused>
-        ensures enabled { OnOk result (refusal self.old event.now ≡ None) }
-        ensures ok { OnOk result (self.new ≡ effect self.old event.now) }
-        ensures lawful { OnOk result (IsLawful (self.new).initial self.new) }
-        ensures refused { (reason : Reason) → refusal self.old event.now ≡ Some reason
+        ensures enabled { OnOk result (refusal (self.old).ring event.now ≡ None) }
+        ensures ok { OnOk result ((self.new).ring ≡ effect (self.old).ring event.now) }
+        ensures refusals { OnOk result ((self.new).refusals
+            ≡ (self.old).refusals ++ refusals_of (event.now ∷ [])) }
+        ensures lawful { OnOk result (IsLawful (self.new).ring.initial (self.new).ring) }
+        ensures refused { (reason : Reason) → refusal (self.old).ring event.now ≡ Some reason
             → result ≡ Err (Refused.NotEnabled reason) }
         ensures reason { IfErr result (λ e. (reason : Reason) → e ≡ Refused.NotEnabled reason
-            → refusal self.old event.now ≡ Some reason) }
+            → refusal (self.old).ring event.now ≡ Some reason) }
         ensures memory { IfErr result (λ e. e ≡ Refused.OutOfMemory
-            → refusal self.old event.now ≡ None) }
+            → refusal (self.old).ring event.now ≡ None) }
         ensures err { OnErr result (self.new ≡ self.old) }
     {
         if let Err(reason) = self.enabled(event) {
@@ -175,7 +220,7 @@ impl World {
         if self.applied >= MOST_EVENTS {
             return Err(Refused::OutOfMemory);
         }
-        if dispatch::step(self.alloc, &mut self.ring, event).is_err() {
+        if happen(self.alloc, &mut self.ring, &mut self.refusals, event).is_err() {
             return Err(Refused::OutOfMemory);
         }
         self.applied += 1;

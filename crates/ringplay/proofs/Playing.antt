@@ -1,7 +1,8 @@
 -- What the journal of a played script has.
 use Rattle.std.proofs.Common.{◌≡◌, ℕ, zero, suc, ◌+◌, ◌<◌, ◌≤◌, ◌^◌, Bool, true, false, cond, nat_lt, not, List, [], ◌∷◌, ◌++◌, length, take, drop, get_or, Some, None, IsSome, bytes_eq, refl, sym, ap, subst, ◌∙◌, arith}
 use Rattle.std.specs.Prelude.{Contains}
-use Rattle.std.specs.List.{position, prefix_len}
+use Rattle.std.specs.List.{list_all, position, prefix_len}
+use Rattle.std.proofs.lemmas.Bool.{and_parts}
 use Rattle.std.proofs.lemmas.Bool.Decides.{nat_tests}
 use Rattle.std.proofs.lemmas.List.{take-take, take-append-drop}
 use Rattle.ring_names.specs.declared.numbers.CreditSpec.{CreditSpec}
@@ -11,12 +12,13 @@ use Rattle.group_view.specs.Change.{AreOpeningNames}
 use Rattle.ring_world.specs.declared.event.Event.{Event}
 use Rattle.ring_world.specs.Machine.{World}
 use Rattle.ring_world.specs.Step.{opening}
-use Rattle.ring_world.specs.Event.{IsRun, effect, last}
+use Rattle.ring_world.specs.Event.{is_plain, ArePlain, IsRun, effect, last}
 use Rattle.ring_world.specs.Laws.{IsLawful, GoesOn}
 use Rattle.ring_world.specs.Quiet.{IsQuiet}
 use Rattle.ring_world.proofs.events.Names.{own_bytes}
 use Rattle.ring_world.proofs.runs.InOrder.{last_append}
 use Rattle.ring_world.proofs.runs.AllRuns.{every_state_lawful, every_run_goes_on}
+use Rattle.gm_member.proofs.Fit.{reached_fit}
 use Rattle.ring_cluster.specs.Seen.{Seen, IsGoing, state_of, opening_seen}
 use Rattle.ring_cluster.specs.Idle.{NobodyStopped}
 use Rattle.ring_cluster.specs.Plays.{Plays, HasGoneOn, AgendasAreEmpty, place_among}
@@ -26,7 +28,7 @@ use Rattle.ring_cluster.proofs.work.Heard.{run_quiet_has_heard}
 use Rattle.ring_script.specs.declared.text.Text.{Text}
 use Rattle.ring_script.specs.Reading.{MayBeGiven}
 use Rattle.ringplay.specs.Report.{report_of}
-use Rattle.ringplay.specs.Call.{state_after, IsLawfulRun, SameRing, commands_on, given_of, IsPlayedBy}
+use Rattle.ringplay.specs.Call.{state_after, HearsFronts, IsLawfulRun, SameRing, commands_on, given_of, IsPlayedBy}
 
 -- ---- a name that the ring has, has a place
 
@@ -68,13 +70,24 @@ run_back w zero events r = r
 run_back w (suc k) [] r = tt
 run_back w (suc k) (e ∷ es) r = run_back (effect w e) k es r.1
 
+-- events that the parties do so far, in two parts too
+pub plain_front : (k : ℕ) (events : List Event) → ArePlain events → ArePlain (take k events)
+plain_front zero events p = refl
+plain_front (suc k) [] p = refl
+plain_front (suc k) (e ∷ es) p = let both = and_parts (is_plain e) (list_all is_plain es) p in rw (both.0, plain_front k es both.1) refl
+
+pub plain_back : (k : ℕ) (events : List Event) → ArePlain events → ArePlain (drop k events)
+plain_back zero events p = p
+plain_back (suc k) [] p = refl
+plain_back (suc k) (e ∷ es) p = plain_back k es (and_parts (is_plain e) (list_all is_plain es) p).1
+
 -- after both stands the whole
 whole_run : (w : World) (k : ℕ) (events : List Event) → last (last w (take k events)) (drop k events) ≡ last w events
 whole_run w k events = sym (last_append w (take k events) (drop k events)) ∙ ap (last w) (take-append-drop k events)
 
 -- ---- the laws after each prefix
 
-module _ (credit : CreditSpec) (names : List (List ℕ)) (journal : List Event) (are : AreOpeningNames names) (run : IsRun (opening credit names) journal) where
+module _ (credit : CreditSpec) (names : List (List ℕ)) (journal : List Event) (are : AreOpeningNames names) (plain : ArePlain journal) (run : IsRun (opening credit names) journal) where
   -- the ring as it opened
   abbrev opened : World
   opened = opening credit names
@@ -82,10 +95,13 @@ module _ (credit : CreditSpec) (names : List (List ℕ)) (journal : List Event) 
   lawful_after : (k : ℕ) → IsLawful credit.initial (state_after credit names journal k)
   lawful_after k = every_state_lawful credit names (take k journal) are (run_front opened k journal run)
 
+  fronts_after : (k : ℕ) → HearsFronts (state_after credit names journal k)
+  fronts_after k = (reached_fit credit names (take k journal) are (plain_front k journal plain) (run_front opened k journal run)).heard
+
   -- nobody had stopped before where nobody has at the end
   pub alive_after : NobodyStopped (last opened journal) → (k : ℕ) → NobodyStopped (state_after credit names journal k)
   alive_after up k =
-      nobody_stopped_before credit names (take k journal) (drop k journal) are (run_front opened k journal run) (run_back opened k journal run)
+      nobody_stopped_before credit names (take k journal) (drop k journal) are (plain_front k journal plain) (plain_back k journal plain) (run_front opened k journal run) (run_back opened k journal run)
       (subst NobodyStopped (sym (whole_run opened k journal)) up)
 
   goes_on_after : (j k : ℕ) → j ≤ k → GoesOn (state_after credit names journal j) (state_after credit names journal k)
@@ -99,7 +115,7 @@ module _ (credit : CreditSpec) (names : List (List ℕ)) (journal : List Event) 
 
   -- each run is lawful
   pub lawful_run : length journal < 2 ^ 59 → IsLawfulRun credit names journal
-  lawful_run few = record { run = run; few = few; lawful = lawful_after; goes_on = goes_on_after }
+  lawful_run few = record { plain = plain; run = run; few = few; lawful = lawful_after; fronts = fronts_after; goes_on = goes_on_after }
 
 -- ---- a cluster and what happened in it
 
@@ -113,7 +129,8 @@ pub has_run : (credit : CreditSpec) (names : List (List ℕ)) (journal : List Ev
 has_run credit names journal c ec en ej going =
     let are : AreOpeningNames names = subst AreOpeningNames en going.are in
     let run : IsRun (opening credit names) journal = rw (sym ec, sym en, ej) going.run in
-    record { are = are; run = lawful_run credit names journal are run (rw ej going.few); state = rw (ec, en, sym ej) refl }
+    let plain : ArePlain journal = rw ej going.plain in
+    record { are = are; run = lawful_run credit names journal are plain run (rw ej going.few); state = rw (ec, en, sym ej) refl }
 
 -- ---- a played script
 
@@ -128,9 +145,9 @@ played_by script c journal text ec en eg going up quiet empty plays ej et =
       played = record {
         run = ran.run;
         plays = rw (sym ec, sym en, ej, sym eg) plays;
-        alive = alive_after script.credit script.members journal ran.are ran.run.run (subst NobodyStopped ran.state up);
+        alive = alive_after script.credit script.members journal ran.are ran.run.plain ran.run.run (subst NobodyStopped ran.state up);
         quiet = quiet';
-        heard_all = run_quiet_has_heard script.credit script.members journal ran.are ran.run.run quiet';
+        heard_all = run_quiet_has_heard script.credit script.members journal ran.are ran.run.plain ran.run.run quiet';
         report = et ∙ ap report_of ran.state;
       };
       by = record { seen = c; is = refl; names = en; credit = ec; events = sym ej; given = eg; empty = empty };

@@ -36,10 +36,10 @@ row_stands w x p h few some lt e =
 counts_stand : (w : World) (x : ℕ) (h : Held) → IsFit w → 1 ≤ x → x < size w → IsHeld w x h
     → counts_in (known_at h.rows (h.id - 1)).forgot (known_at h.rows (h.id - 1)).heard ≡ counts_of x (member_at w x)
 counts_stand w x h f some lt e =
-    let row : known_at h.rows (h.id - 1) ≡ row_at (member_at w x) x = ap (λ g. known_at h.rows (g.id - 1)) e ∙ row_stands w x x h f.sized.few some lt e in
-    let whole : length (log_of w x) ≤ (row_at (member_at w x) x).got = omega (arith, f.sized.own x some lt) in
+    let row : known_at h.rows (h.id - 1) ≡ row_at (member_at w x) x = ap (λ g. known_at h.rows (g.id - 1)) e ∙ row_stands w x x h f.few some lt e in
+    let whole : length (log_of w x) ≤ (row_at (member_at w x) x).got = omega (arith, f.own x) in
     ap (λ r. counts_in r.forgot r.heard) row
-    ∙ ap (counts_in (row_at (member_at w x) x).forgot) (f.lawful.in_order x x ∙ take_all (row_at (member_at w x) x).got (log_of w x) whole)
+    ∙ ap (counts_in (row_at (member_at w x) x).forgot) (f.heard x x ∙ take_all (row_at (member_at w x) x).got (log_of w x) whole)
 
 -- what is pushed for a member that stands at the id x is what the report says of it
 pub lines_stand : (w : World) (x : ℕ) (h : Held) (g : Group) (old named counted heard : List ℕ) → IsFit w → 1 ≤ x → x < size w → IsHeld w x h → g ≡ newest_view w

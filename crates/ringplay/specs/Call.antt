@@ -12,8 +12,9 @@ use Rattle.ring_script.specs.Steps.{step_grammar}
 use Rattle.ring_script.specs.Reading.{IsScriptOf, AreStepsOf, IsFirstFault}
 use Rattle.ring_world.specs.declared.event.Event.{Event}
 use Rattle.ring_world.specs.Machine.{World}
-use Rattle.ring_world.specs.Step.{opening}
-use Rattle.ring_world.specs.Event.{IsRun, last}
+use Rattle.ring_world.specs.Step.{opening, log_of}
+use Rattle.ring_world.specs.Event.{ArePlain, IsRun, last}
+use Rattle.ring_world.specs.Lawful.{row_of}
 use Rattle.ring_world.specs.Laws.{IsLawful, GoesOn}
 use Rattle.ring_world.specs.Quiet.{IsQuiet}
 use Rattle.ring_cluster.specs.Seen.{Seen}
@@ -35,12 +36,19 @@ use Rattle.ringplay.specs.Step.{enabled_of, refused_lines}
 abbrev pub state_after : CreditSpec → List (List ℕ) → List Event → ℕ → World
 state_after credit names journal k = last (opening credit names) (take k journal)
 
--- The journal is a run of the ring from these members and this credit. The laws hold after each of its prefixes, and from
--- each to each longer one nothing falls.
+-- each member has heard, of each publisher, the front of its log: all that it got, from the first message on
+abbrev pub HearsFronts : World → Type 0
+HearsFronts w = (q p : ℕ) → (row_of w q p).heard ≡ take (row_of w q p).got (log_of w p)
+
+-- The journal is a run of the ring from these members and this credit, in which nobody is admitted or erased and no refusal
+-- stands. The laws hold after each of its prefixes, each member has heard the front of each log, and from each to each longer
+-- one nothing falls.
 pub record IsLawfulRun (credit : CreditSpec) (names : List (List ℕ)) (journal : List Event) : Type 0 where
+  pub plain : ArePlain journal
   pub run : IsRun (opening credit names) journal
   pub few : length journal < 2 ^ 59
   pub lawful : (k : ℕ) → IsLawful credit.initial (state_after credit names journal k)
+  pub fronts : (k : ℕ) → HearsFronts (state_after credit names journal k)
   pub goes_on : (j k : ℕ) → j ≤ k → GoesOn (state_after credit names journal j) (state_after credit names journal k)
 
 -- It happened in this cluster: its ring opened with these members and this credit, it was given these commands and nothing

@@ -3,6 +3,10 @@
 //! whose `ring_call` does all that the program does, and at specs/Call.antt for what it answers.
 #![tactic(auto)]
 
+ghost use Rattle.std.specs.Prelude.{◌≡◌};
+ghost use Rattle.std.specs.Process.{exit_status};
+ghost use Rattle.ringplay.specs.Call.{status_of};
+
 mod call;
 mod play;
 mod report;
@@ -36,12 +40,19 @@ fn words_of(rt: &(impl Env + AllocGlobal)) -> Result<Vec<Word>, OutOfMemory> {
     Ok(words)
 }
 
+/// What the program ends with, by the cause.
+fn exit_code(cause: Cause) -> ExitCode
+    ensures { exit_status result ≡ status_of cause }
+{
+    ExitCode::from(cause.status())
+}
+
 fn main(rt: HostRuntime) -> ExitCode {
     let Ok(words) = words_of(&rt) else {
-        return ExitCode::from(Cause::OutOfMemory.status());
+        return exit_code(Cause::OutOfMemory);
     };
     let mut source = ReadSource::new(rt.stdin());
     let mut sink = WriteSink::new(rt.stdout());
     let ended = ring_call(&rt, rt.alloc(), &words, &mut source, &mut sink, &ShutGate);
-    ExitCode::from(ended.status)
+    exit_code(ended.cause)
 }

@@ -5,7 +5,7 @@ use Rattle.group_view.specs.declared.link.LinkName.{LinkName}
 use Rattle.group_view.specs.View.{Group}
 use Rattle.group_view.specs.Change.{marked}
 use Rattle.ring_world.specs.declared.event.Event.{Event}
-use Rattle.ring_world.specs.declared.event.Event.TheVariants.{Stop, Mark, Refresh}
+use Rattle.ring_world.specs.declared.event.Event.TheVariants.{Stop, Mark, Refresh, Admit, Erase, Refuse}
 use Rattle.registrar.specs.Registry.{Registry, newest}
 use Rattle.registrar.specs.Handled.{with_view, with_stopped}
 use Rattle.gm_member.specs.declared.packet.Load.{Load}
@@ -34,6 +34,9 @@ pub alone_acts : (e : Event) (i d : ℕ) (nodes nodes' : List Party) (r : Regist
 alone_acts (Stop by) i d nodes nodes' r k does e = cc
 alone_acts (Mark by dead) i d nodes nodes' r k does e = cc
 alone_acts (Refresh by version) i d nodes nodes' r k does e = cc
+alone_acts (Admit by name) i d nodes nodes' r k does e = cc
+alone_acts (Erase by origin) i d nodes nodes' r k does e = cc
+alone_acts (Refuse code inner) i d nodes nodes' r k does e = cc
 alone_acts event i d nodes nodes' r k does e = (_, does, one_other nodes nodes' r i e, refl)
 
 -- ---- a stop

@@ -26,7 +26,7 @@ shown_inside nodes i l = subst (λ n. i < n) (sym (length-map nodes shown_in)) l
 module _ (credit : CreditSpec) (names : List (List ℕ)) (events : List Event) where
   -- the state is lawful, and its links go from member to member
   pub lawful_after : IsJournal credit names events → IsLawfulAt credit (state credit names events)
-  lawful_after j = lawful_at credit names events j.are j.run
+  lawful_after j = lawful_at credit names events j.are j.plain j.run
 
   pub go_after : IsJournal credit names events → GoBetween (state credit names events)
   go_after j = reached_go credit names events j.are j.run

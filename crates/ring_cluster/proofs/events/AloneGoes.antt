@@ -4,7 +4,7 @@ use Rattle.std.specs.Prelude.{⊤}
 use Rattle.ring_names.specs.declared.numbers.CreditSpec.{CreditSpec}
 use Rattle.group_view.specs.declared.link.LinkName.{LinkName}
 use Rattle.ring_world.specs.declared.event.Event.{Event}
-use Rattle.ring_world.specs.declared.event.Event.TheVariants.{Cast, Put, Take, TakeEnd, Gain, Stop, Mark, Refresh, Pick}
+use Rattle.ring_world.specs.declared.event.Event.TheVariants.{Cast, Put, Take, TakeEnd, Gain, Stop, Mark, Refresh, Admit, Pick, Erase, Refuse}
 use Rattle.ring_world.specs.Machine.{World}
 use Rattle.ring_world.specs.Event.{by_of, id_of, refusal, effect}
 use Rattle.ring_cluster.specs.Ends.{OutSeen}
@@ -21,11 +21,14 @@ use Rattle.ring_cluster.proofs.events.StopGoes.{stop_goes}
 use Rattle.ring_cluster.proofs.events.PickGoes.{NonePosted, pick_goes}
 use Rattle.ring_cluster.proofs.standing.Frames.{StandMoved}
 
--- The event is none that reads or makes a view; and where the member of id x picks, no link waits for it at the registrar.
+-- The event is none that reads or makes a view, and no refusal; and where the member of id x picks, no link waits for it at the registrar.
 abbrev pub IsAlone : Event → ℕ → Parties → Type 0
 IsAlone (Mark by dead) x q = ⊥
 IsAlone (Refresh by version) x q = ⊥
+IsAlone (Admit by name) x q = ⊥
 IsAlone (Pick by) x q = NonePosted q x
+IsAlone (Erase by origin) x q = ⊥
+IsAlone (Refuse code inner) x q = ⊥
 IsAlone e x q = ⊤
 
 pub alone_goes : (credit : CreditSpec) (w : World) (e : Event) (i d : ℕ) (q q' : Parties) (loose : Option (LinkName × OutSeen)) → IsLawfulAt credit w → refusal w e ≡ None → id_of w (by_of e) ≡ Some (i + 1) → IsAlone e (i + 1) q → Stand credit.initial w q → Acts e i d q q' loose → StandMoved credit.initial (i + 1) (effect w e) q' loose
@@ -37,4 +40,7 @@ alone_goes credit w (Gain by) i d q q' loose h r found alone st a = gain_goes cr
 alone_goes credit w (Stop by) i d q q' loose h r found alone st a = stop_goes credit w by i d q q' loose h r found st a
 alone_goes credit w (Mark by dead) i d q q' loose h r found alone st a = absurd alone
 alone_goes credit w (Refresh by version) i d q q' loose h r found alone st a = absurd alone
+alone_goes credit w (Admit by name) i d q q' loose h r found alone st a = absurd alone
 alone_goes credit w (Pick by) i d q q' loose h r found alone st a = pick_goes credit w by i d q q' loose h r found alone st a
+alone_goes credit w (Erase by origin) i d q q' loose h r found alone st a = absurd alone
+alone_goes credit w (Refuse code inner) i d q q' loose h r found alone st a = absurd alone

@@ -2,7 +2,7 @@
 use Rattle.std.proofs.Common.{◌≡◌, ℕ, ◌-◌, ◌<◌, ◌≤◌, Some, sym, ap, ◌∙◌}
 use Rattle.ring_names.specs.declared.numbers.CreditSpec.{CreditSpec}
 use Rattle.ring_world.specs.declared.event.Event.{Event}
-use Rattle.ring_world.specs.declared.event.Event.TheVariants.{Cast, Put, Take, TakeEnd, Gain, Stop, Mark, Refresh, Pick}
+use Rattle.ring_world.specs.declared.event.Event.TheVariants.{Cast, Put, Take, TakeEnd, Gain, Stop, Mark, Refresh, Admit, Pick, Erase, Refuse}
 use Rattle.ring_world.specs.Machine.{World, member_at}
 use Rattle.ring_world.specs.Step.{size}
 use Rattle.ring_world.specs.Event.{id_of, by_of, of_member, refused_at, refusal}
@@ -29,4 +29,7 @@ alone_refusal_is credit w q e x h st found alone =
     by_event (Stop by) a some lt = stop_refusal_same credit w q x h st some lt
     by_event (Mark by dead) a some lt = absurd a
     by_event (Refresh by version) a some lt = absurd a
+    by_event (Admit by name) a some lt = absurd a
     by_event (Pick by) a some lt = pick_refusal_is credit w q x h st some lt a
+    by_event (Erase by origin) a some lt = absurd a
+    by_event (Refuse code inner) a some lt = absurd a

@@ -14,19 +14,20 @@ use Rattle.group_view.specs.Change.{marked}
 use Rattle.group_view.specs.Since.{no_group, view_at}
 use Rattle.ring_world.specs.Refusal.{refuse_if, or_else}
 use Rattle.ring_world.specs.declared.event.Event.{Event}
-use Rattle.ring_world.specs.declared.event.Event.TheVariants.{Stop, Mark, Refresh, Pick}
+use Rattle.ring_world.specs.declared.event.Event.TheVariants.{Stop, Mark, Refresh, Admit, Pick, Erase, Refuse}
 use Rattle.ring_world.specs.declared.phase.Phase.{Phase}
 use Rattle.ring_world.specs.declared.phase.Phase.TheVariants.{Waiting, Up, Stopped}
 use Rattle.ring_world.specs.View.{ids}
 use Rattle.ring_world.specs.Machine.{World, member_at, is_waiting, runs_phase}
 use Rattle.ring_world.specs.Machine as machine
 use Rattle.ring_world.specs.Step.{opening}
-use Rattle.ring_world.specs.Event.{by_of, id_of, of_member, is_stopped, up_refusal, refresh_refusal, pick_refusal, refusal, effect}
+use Rattle.ring_world.specs.Event.{by_of, id_of, of_member, is_plain, is_stopped, up_refusal, refresh_refusal, pick_refusal, refusal, effect}
 use Rattle.ring_world.specs.Event as event
 use Rattle.ring_world.proofs.runs.InOrder.{last_append, run_append}
 use Rattle.ring_world.proofs.events.WhatRefuses.{MayLook}
 use Rattle.ring_world.proofs.events.Refusals.{none_of}
 use Rattle.ring_world.proofs.events.Enabled.{up_none}
+use Rattle.ring_world.proofs.events.Plain.{plain_push}
 use Rattle.registrar.specs.Registry.{Registry, is_known, newest}
 use Rattle.registrar.specs.Asked.{mark_refusal, stop_refusal}
 use Rattle.registrar.specs.Stands.{StandsIn}
@@ -71,7 +72,7 @@ module _ (credit : CreditSpec) (names : List (List ℕ)) (events : List Event) w
 
   -- an event is one of the member at its place
   pub found_at : (q : Parties) (e : Event) (i : ℕ) → StandAfter credit names events q → IsEventAt names i e → id_named q (by_of e) ≡ Some (i + 1)
-  found_at q e i s at = found q (by_of e) s ∙ ap (id_of (state credit names events)) at.1 ∙ run_found credit names events i s.journal.are s.journal.run at.0
+  found_at q e i s at = found q (by_of e) s ∙ ap (id_of (state credit names events)) at.1 ∙ run_found credit names events i s.journal.are s.journal.plain s.journal.run at.0
 
   -- ---- refusals
 
@@ -98,9 +99,9 @@ module _ (credit : CreditSpec) (names : List (List ℕ)) (events : List Event) w
   found_place q name i e = omega (arith, (found_within q name (i + 1) e).1)
 
   -- a member refuses an event just where the ring does, for the same reason
-  pub refused_is : (q : Parties) (e : Event) (i : ℕ) → StandAfter credit names events q → id_named q (by_of e) ≡ Some (i + 1) → ((node_at q i).held.phase ≡ Up → NothingWaits (i + 1) q)
+  pub refused_is : (q : Parties) (e : Event) (i : ℕ) → StandAfter credit names events q → is_plain e ≡ true → id_named q (by_of e) ≡ Some (i + 1) → ((node_at q i).held.phase ≡ Up → NothingWaits (i + 1) q)
       → act_refused e i q ≡ refusal (state credit names events) e
-  refused_is q e i s named waits = by_event e (sym (found q (by_of e) s) ∙ named) (found_place q (by_of e) i named)
+  refused_is q e i s plain named waits = by_event e plain (sym (found q (by_of e) s) ∙ named) (found_place q (by_of e) i named)
     where
       w : World
       w = state credit names events
@@ -132,11 +133,14 @@ module _ (credit : CreditSpec) (names : List (List ℕ)) (events : List Event) w
       by_dead by dead None k d l = subst (λ j. mark_refused (office_of q) (node_at q j) None ≡ refusal w (Mark by dead)) (place i) (mark_unknown credit w q (i + 1) by dead (lawful_after credit names events s.journal) k d s.stand)
       by_dead by dead (Some d) k e l = mark_up by dead d k e l (node_at q i).held.phase refl
 
-      by_event : (f : Event) → id_of w (by_of f) ≡ Some (i + 1) → i < length q.nodes → act_refused f i q ≡ refusal w f
-      by_event (Mark by dead) k l = ap (mark_refused (office_of q) (node_at q i)) (found q dead s) ∙ by_dead by dead (id_of w dead) k refl l
-      by_event (Refresh by version) k l = subst (λ j. look_refused (newest_of q).version (node_at q j) version ≡ refusal w (Refresh by version)) (place i) (look_refuses credit w q (i + 1) version by (lawful_after credit names events s.journal) k s.stand)
-      by_event (Pick by) k l = pick_up by k l (node_at q i).held.phase refl
-      by_event f k l = alone f k tt
+      by_event : (f : Event) → is_plain f ≡ true → id_of w (by_of f) ≡ Some (i + 1) → i < length q.nodes → act_refused f i q ≡ refusal w f
+      by_event (Mark by dead) p k l = ap (mark_refused (office_of q) (node_at q i)) (found q dead s) ∙ by_dead by dead (id_of w dead) k refl l
+      by_event (Refresh by version) p k l = subst (λ j. look_refused (newest_of q).version (node_at q j) version ≡ refusal w (Refresh by version)) (place i) (look_refuses credit w q (i + 1) version by (lawful_after credit names events s.journal) k s.stand)
+      by_event (Admit by name) p k l = absurd (false≢true p)
+      by_event (Erase by origin) p k l = absurd (false≢true p)
+      by_event (Refuse code inner) p k l = absurd (false≢true p)
+      by_event (Pick by) p k l = pick_up by k l (node_at q i).held.phase refl
+      by_event f p k l = alone f k tt
 
   -- ---- the event happens
 
@@ -205,10 +209,10 @@ module _ (credit : CreditSpec) (names : List (List ℕ)) (events : List Event) w
       by_event (Pick by) e k l = up (λ y. or_else (refuse_if (is_some (member_at w y).current) reason.HasCurrentLink) (pick_refusal w y)) (id_of w by) k e l
       by_event f e k l = tt
 
-  pub acted : (q q' : Parties) (e : Event) (i : ℕ) (loose : Option (LinkName × OutSeen)) → StandAfter credit names events q → act_refused e i q ≡ None → id_named q (by_of e) ≡ Some (i + 1)
+  pub acted : (q q' : Parties) (e : Event) (i : ℕ) (loose : Option (LinkName × OutSeen)) → StandAfter credit names events q → is_plain e ≡ true → act_refused e i q ≡ None → id_named q (by_of e) ≡ Some (i + 1)
       → ((node_at q i).held.phase ≡ Up → NothingWaits (i + 1) q) → length events + 1 < 2 ^ 59 → Acts e i (marked_in e q) q q' loose
       → BetweenAfter credit names (events ++ e ∷ []) (moved_by (i + 1) (state credit names (events ++ e ∷ []))) q' loose
-  acted q q' e i loose s refused named waits few a = record {
+  acted q q' e i loose s plain refused named waits few a = record {
     journal = journal;
     stand = stand;
     goes = λ name o k. goes name o (subst (Acts e i (marked_in e q) q q') k a);
@@ -218,11 +222,12 @@ module _ (credit : CreditSpec) (names : List (List ℕ)) (events : List Event) w
       w = state credit names events
 
       enabled : refusal w e ≡ None
-      enabled = sym (refused_is q e i s named waits) ∙ refused
+      enabled = sym (refused_is q e i s plain named waits) ∙ refused
 
       journal : IsJournal credit names (events ++ e ∷ [])
       journal = record {
         are = s.journal.are;
+        plain = plain_push events e s.journal.plain plain;
         run = run_append (opening credit names) events (e ∷ []) s.journal.run (enabled, tt);
         few = subst (λ n. n < 2 ^ 59) (sym (length_push events e)) few;
       }
@@ -269,7 +274,7 @@ module _ (credit : CreditSpec) (names : List (List ℕ)) (events : List Event) w
   pub few_after : (nodes : List Party) (r : Registry (PlainIn Load)) (behind : List Posted) → StandAfter credit names events (parties nodes r behind) → length nodes ≤ 64
   few_after nodes r behind s =
       let shown : length (map shown_in nodes) ≡ length nodes = length-map nodes shown_in in
-      let many = run_many credit names events s.journal.are s.journal.run in
+      let many = run_many credit names events s.journal.are s.journal.plain s.journal.run in
       omega (arith, shown, many, s.stand.stand.count, s.journal.are.few)
 
   -- the registrar hasn't heard of one that hasn't stopped

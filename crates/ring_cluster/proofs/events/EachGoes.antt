@@ -5,7 +5,7 @@ use Rattle.std.specs.List.{filter}
 use Rattle.ring_names.specs.declared.numbers.CreditSpec.{CreditSpec}
 use Rattle.group_view.specs.declared.link.LinkName.{LinkName}
 use Rattle.ring_world.specs.declared.event.Event.{Event}
-use Rattle.ring_world.specs.declared.event.Event.TheVariants.{Mark, Refresh, Pick}
+use Rattle.ring_world.specs.declared.event.Event.TheVariants.{Mark, Refresh, Admit, Pick, Erase, Refuse}
 use Rattle.ring_world.specs.Machine.{World}
 use Rattle.ring_world.specs.Event.{by_of, id_of, refusal, effect}
 use Rattle.ring_cluster.specs.Ends.{OutSeen}
@@ -27,4 +27,7 @@ MayGo w e x d q = ⊤
 pub each_goes : (credit : CreditSpec) (w : World) (e : Event) (i d : ℕ) (q q' : Parties) (loose : Option (LinkName × OutSeen)) → IsLawfulAt credit w → IsLawfulAt credit (effect w e) → refusal w e ≡ None → id_of w (by_of e) ≡ Some (i + 1) → MayGo w e (i + 1) d q → Stand credit.initial w q → Acts e i d q q' loose → StandMoved credit.initial (i + 1) (effect w e) q' loose
 each_goes credit w (Mark by dead) i d q q' loose h h' r found may st a = mark_between credit w q q' i d by dead loose h h' r found may.0 st may.1 a
 each_goes credit w (Refresh by version) i d q q' loose h h' r found may st a = refresh_between credit w q q' i d version by loose h h' r found st may a
+each_goes credit w (Admit by name) i d q q' loose h h' r found may st a = absurd a.1
+each_goes credit w (Erase by origin) i d q q' loose h h' r found may st a = absurd a.1
+each_goes credit w (Refuse code inner) i d q q' loose h h' r found may st a = absurd a.1
 each_goes credit w e i d q q' loose h h' r found may st a = alone_goes credit w e i d q q' loose h r found may st a

@@ -15,13 +15,13 @@ use Rattle.ring_world.specs.View.{right_of}
 use Rattle.ring_world.specs.Machine.{World, Link, numbers_at, member_at, link_at, view_in, newest, left, row_at}
 use Rattle.ring_world.specs.OpenLinks.{version_of, since_in, comes_from_left, is_door_link}
 use Rattle.ring_world.specs.Step.{size, log_of, next_lines, with_view}
-use Rattle.ring_world.specs.Event.{id_of, of_member, at_found, refresh_refusal, mark_refusal, refused_at, refreshed, refusal, done_at, effect}
+use Rattle.ring_world.specs.Event.{id_of, of_member, at_found, refresh_refusal, refused_at, refreshed, refusal, done_at, effect}
 use Rattle.ring_world.proofs.events.WhatRefuses.{MayLook, MayMark}
 use Rattle.ring_world.proofs.events.Refusals.{id_within}
 use Rattle.ring_world.proofs.events.Enabled.{up_none}
-use Rattle.ring_world.proofs.events.Cases.{may_look, may_mark}
+use Rattle.ring_world.proofs.events.Cases.{may_look}
 use Rattle.ring_world.proofs.walks.Views.{view_old, left_old}
-use Rattle.ring_world.proofs.invariants.Happens.{IsGood}
+use Rattle.ring_world.proofs.invariants.Happens.{IsGood, mark_good, newer_look}
 use Rattle.gm_member.specs.Parcels.{carried_now}
 use Rattle.gm_member.specs.News.{carried_in}
 use Rattle.gm_member.specs.Held.{Held, known_at, numbers_of, nothing_sent, lines_on, sends_to, refreshed_held, fresh_out as unsent_on}
@@ -33,9 +33,9 @@ use Rattle.gm_member.proofs.Parcels.{carried_same}
 use Rattle.gm_member.proofs.DoorLists.{filter_agree}
 use Rattle.gm_member.proofs.Facts.{held_row}
 use Rattle.gm_member.proofs.Fit.{IsFit}
-use Rattle.gm_member.proofs.MarkStands.{mark_view, mark_world, mark_good, mark_look, mark_newest, view_held}
+use Rattle.gm_member.proofs.MarkStands.{mark_view, mark_world, mark_newest, mark_may, mark_is, view_held}
 use Rattle.gm_member.proofs.OpenDoors.{sends_right}
-use Rattle.gm_member.proofs.OwnEnds.{OwnEnds}
+use Rattle.ring_world.proofs.work.OwnEnds.{OwnEnds}
 use Rattle.gm_member.proofs.RefreshStands.{first_lines}
 use Rattle.ring_cluster.specs.Ends.{OutSeen, opened_out, fresh_in}
 use Rattle.ring_cluster.specs.Parties.{Parties, node_at, with_node}
@@ -56,7 +56,7 @@ first_packet w x i m z n k f =
     map-range_same (λ p. carried_now true p (known_at (held_in w x).rows p) (numbers_of nothing_sent p)) (λ p. carried_in (log_of w (p + 1)) p (numbers_at (record { version = k; numbers = next_lines true (member_at w x).rows [] }) (p + 1))) 64
     (λ p l. ap (λ r. carried_now true p r (numbers_of nothing_sent p)) (held_row w x p l)
     ∙ ap (carried_now true p (row_at (member_at w x) (p + 1))) (tabled_at (λ (_ : ℕ). no_numbers) 64 p no_numbers l)
-    ∙ carried_same true p (log_of w (p + 1)) (row_at (member_at w x) (p + 1)) no_numbers (numbers_at (record { version = k; numbers = next_lines true (member_at w x).rows [] }) (p + 1)) (first_lines (member_at w x).rows (p + 1)) (f.lawful.in_order x (p + 1)))
+    ∙ carried_same true p (log_of w (p + 1)) (row_at (member_at w x) (p + 1)) no_numbers (numbers_at (record { version = k; numbers = next_lines true (member_at w x).rows [] }) (p + 1)) (first_lines (member_at w x).rows (p + 1)) (f.heard x (p + 1)))
 
 -- ---- one of the two ways to look
 
@@ -167,24 +167,13 @@ view_stands initial w g q h own st = record {
 
 -- ---- a mark
 
--- who was found may mark
-pub mark_may : (w : World) (x d : ℕ) (by dead : List ℕ) → id_of w by ≡ Some x → id_of w dead ≡ Some d → refusal w (Mark by dead) ≡ None → MayMark w x d
-mark_may w x d by dead named there r =
-    let a = up_none w x (of_member (id_of w dead) (mark_refusal w x)) (sym (ap (λ o. of_member o (refused_at w (Mark by dead))) named) ∙ r) in
-    may_mark w x d (id_within w by x named).1 a.0 (sym (ap (λ o. of_member o (mark_refusal w x)) there) ∙ a.1)
-
-pub mark_is : (w : World) (x d : ℕ) (by dead : List ℕ) → id_of w by ≡ Some x → id_of w dead ≡ Some d → effect w (Mark by dead) ≡ refreshed (mark_world w d) x (newest w + 1)
-mark_is w x d by dead named there =
-    ap (λ o. at_found o w (done_at w (Mark by dead))) named
-    ∙ ap (λ o. at_found o w (λ e. refreshed (mark_world w e) x (newest w + 1))) there
-
 pub mark_looking : (credit : CreditSpec) (w : World) (x d : ℕ) (by dead : List ℕ) → IsLawfulAt credit w → IsLawfulAt credit (effect w (Mark by dead)) → id_of w by ≡ Some x → id_of w dead ≡ Some d → refusal w (Mark by dead) ≡ None → IsLooking credit.initial (mark_world w d) x (newest w + 1)
 mark_looking credit w x d by dead g g' named there r =
     let m : MayMark w x d = mark_may w x d by dead named there r in
     record {
-      may = mark_look w x d m g.fit.good;
+      may = newer_look w x (mark_view w d) m.is_member m.up g.fit.good.inv.is_ring;
       some = (id_within w by x named).0;
-      good = mark_good w x d m g.fit.good;
+      good = mark_good w d m.rests m.lives g.fit.good;
       later = subst IsGood (mark_is w x d by dead named there) g'.fit.good;
       own = record { out = g.fit.own_ends.out; current = g.fit.own_ends.current };
       ends = record { ended = g.fit.ends.ended; nothing = g.fit.ends.nothing; sends = g.fit.ends.sends; takes = g.fit.ends.takes };

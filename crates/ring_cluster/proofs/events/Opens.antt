@@ -30,7 +30,7 @@ use Rattle.gm_member.proofs.Doors.{view_version}
 use Rattle.gm_member.proofs.DoorParts.{waits_by, member_same, member_other}
 use Rattle.gm_member.proofs.OpenDoors.{sends_right, new_link, sending_member, opened_world, old_links, refresh_opens, old_many, link_old, link_new, links_more, incoming_old, waits_old, waits_new}
 use Rattle.gm_member.proofs.OthersStand.{refresh_others}
-use Rattle.gm_member.proofs.OwnEnds.{OwnEnds}
+use Rattle.ring_world.proofs.work.OwnEnds.{OwnEnds}
 use Rattle.gm_member.proofs.RefreshStands.{current_lt, kept_lt, door_stays, refresh_stands}
 use Rattle.ring_cluster.specs.Ends.{OutSeen, InSeen, Sent, Carries, HasRested, opened_out, fresh_in, HaveMet}
 use Rattle.ring_cluster.specs.Parties.{Shown, Posted, Parties, node_at, with_node}

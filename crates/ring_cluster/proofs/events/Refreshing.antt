@@ -20,7 +20,7 @@ use Rattle.gm_member.proofs.DoorLists.{filter_agree}
 use Rattle.gm_member.proofs.DoorParts.{waits_by, member_same, member_other}
 use Rattle.gm_member.proofs.OpenDoors.{sends_right, refresh_looks}
 use Rattle.gm_member.proofs.Others.{member_others}
-use Rattle.gm_member.proofs.OwnEnds.{OwnEnds}
+use Rattle.ring_world.proofs.work.OwnEnds.{OwnEnds}
 use Rattle.gm_member.proofs.RefreshStands.{door_stays, refresh_stands}
 use Rattle.ring_cluster.specs.Parties.{Shown, Parties, node_at, with_node}
 use Rattle.ring_cluster.specs.Standing.{Places, MemberStands, Stand, HaveDone, is_to, has_out, has_in}

@@ -26,6 +26,7 @@ use Rattle.registrar.specs.Asked.{mark_refusal, is_ring_from, waits_from, since_
 use Rattle.registrar.specs.Stands.{StandsIn}
 use Rattle.registrar.proofs.Judged.{mark_judged}
 use Rattle.gm_member.specs.Held.{Held, up_refused, first_at_door}
+use Rattle.gm_member.specs.Questions.{has_link}
 use Rattle.gm_member.specs.Stands.{incoming_in, held_in}
 use Rattle.gm_member.proofs.Doors.{view_version}
 use Rattle.gm_member.proofs.PickStands.{first_is}
@@ -81,24 +82,21 @@ tells w x h = by_current (member_at w x).current refl
     by_current (Some s) e = refl
 
 module _ {I : Type 0} where
-  -- of one that is known
-  pub mark_refuses : (w : World) (r : Registry I) (x d : ℕ) (name dead : List ℕ) → IsGood w → StandsIn w r → id_of w name ≡ Some x → id_of w dead ≡ Some d → ((since : ℕ) → waits_from r.links d x since ≡ false)
+  -- of one that is known, where no link waits at the registrar of which the member doesn't know
+  pub mark_refuses : (w : World) (r : Registry I) (x d : ℕ) (name dead : List ℕ) → IsGood w → StandsIn w r → id_of w name ≡ Some x → id_of w dead ≡ Some d
+      → (is_left (view_at r.views (member_at w x).version) x d ≡ true → (has_link (held_in w x) || waits_from r.links d x (since_in (view_at r.views (member_at w x).version) x)) ≡ has_link (held_in w x))
       → up_refused (held_in w x) (mark_refusal r x d (held_in w x).view.version (is_some (held_in w x).current || is_some (first_at_door (held_in w x)))) ≡ refusal w (Mark name dead)
-  mark_refuses w r x d name dead h st named there none =
+  mark_refuses w r x d name dead h st named there waits =
       let u : ℕ = (member_at w x).version in
       let has : Bool = is_some (held_in w x).current || is_some (first_at_door (held_in w x)) in
       let later : Option Reason = of_member (id_of w dead) (event.mark_refusal w x) in
       ap (λ v. up_refusal w x (mark_refusal r x d v has)) (view_version w u h (h.inv.is_ring.held x))
       ∙ up_same w x (mark_refusal r x d u has) later
       (λ up. mark_judged w r x d u has name dead h st (record { named = named; up = up; holds = refl }) there
-      (λ left. ap (λ b. has || b) (none (since_in (view_at r.views u) x)) ∙ or_nothing has ∙ tells w x h)
+      (λ left. waits left ∙ tells w x h)
       ∙ ap (λ o. of_member o (λ y. up_refusal w y (of_member (id_of w dead) (event.mark_refusal w y)))) named
       ∙ ap (λ f. or_else (refuse_if (is_stopped f) reason.Stopped) (or_else (refuse_if (is_waiting f) reason.Waiting) later)) up)
       ∙ sym (ap (λ o. of_member o (λ y. up_refusal w y (of_member (id_of w dead) (event.mark_refusal w y)))) named)
-    where
-      or_nothing : (b : Bool) → (b || false) ≡ b
-      or_nothing true = refl
-      or_nothing false = refl
 
 -- of the name of nobody
 pub mark_unknown : (credit : CreditSpec) (w : World) (q : Parties) (x : ℕ) (name dead : List ℕ) → IsLawfulAt credit w → id_of w name ≡ Some x → id_of w dead ≡ None → Stand credit.initial w q → up_refused (node_at q (x - 1)).held (Some reason.UnknownMember) ≡ refusal w (Mark name dead)
@@ -136,7 +134,12 @@ mark_asked_refuses credit w q x d name dead m g named there st none is =
     let held : m.held ≡ held_in w x = ap (λ (k : Shown). k.held) is ∙ held_whole credit.initial w q x at.0 at.1 st none in
     let office : StandsIn w (office_of q) = record { views = st.stand.views; stopped = st.stand.stopped } in
     ap (λ (k : Held). up_refused k (mark_refusal (office_of q) x d k.view.version (is_some k.current || is_some (first_at_door k)))) held
-    ∙ mark_refuses w (office_of q) x d name dead g.fit.good office named there (λ since. none_from d x since q.post none)
+    ∙ mark_refuses w (office_of q) x d name dead g.fit.good office named there
+    (λ left. ap (λ b. has_link (held_in w x) || b) (none_from d x (since_in (view_at q.views (member_at w x).version) x) q.post none) ∙ or_nothing (has_link (held_in w x)))
+  where
+    or_nothing : (b : Bool) → (b || false) ≡ b
+    or_nothing true = refl
+    or_nothing false = refl
 
 -- ---- the registrar, and what is shown of it
 

@@ -16,7 +16,7 @@ use Rattle.ring_world.proofs.events.Enabled.{up_phase, up_later}
 use Rattle.ring_world.proofs.events.Refusals.{id_within}
 use Rattle.gm_member.specs.Held.{at_some}
 use Rattle.gm_member.specs.Stands.{held_in, waits_for, door_links}
-use Rattle.gm_member.proofs.OwnEnds.{OwnEnds}
+use Rattle.ring_world.proofs.work.OwnEnds.{OwnEnds}
 use Rattle.gm_member.proofs.Parts.{current_waits_not, other_waits_not}
 use Rattle.ring_cluster.specs.Ends.{OutSeen, InSeen, Carries, HaveMet, HasRested}
 use Rattle.ring_cluster.specs.Parties.{Shown, Parties, node_at, with_node}

@@ -145,7 +145,7 @@ take_goes credit w by i d q q' loose h enabled found st (b, (k, n, n', ends_link
     let p : Places = st.places in
     let a : MemberStands w p x (node_at q i) = stands_at credit.initial w q p i st.stand lt in
     let acts = found_later (id_of w by) x (λ y. running_refusal w y (on_link (member_at w y).current reason.NoCurrentLink (take_refusal w y))) found enabled in
-    let up : (member_at w x).phase ≡ Up = running_phase w x _ (h.fit.good.none_waits x) acts in
+    let up : (member_at w x).phase ≡ Up = running_phase w x _ (h.fit.none_waits x) acts in
     let there = link_there (member_at w x).current reason.NoCurrentLink (take_refusal w x) (running_later w x _ acts) in
     let s : ℕ = there.0 in
     let current : (member_at w x).current ≡ Some s = there.1 in

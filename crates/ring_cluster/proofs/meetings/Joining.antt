@@ -18,7 +18,7 @@ use Rattle.gm_member.specs.Held.{Outgoing}
 use Rattle.gm_member.specs.View.{ring_link}
 use Rattle.gm_member.specs.Shown.{in_name_of, out_name_of, in_end}
 use Rattle.gm_member.specs.Stands.{outgoing_in}
-use Rattle.gm_member.proofs.OwnEnds.{OwnEnds}
+use Rattle.ring_world.proofs.work.OwnEnds.{OwnEnds}
 use Rattle.ring_cluster.specs.Ends.{OutSeen, InSeen, Carries, HaveMet, HasRested, Fits, Meets}
 use Rattle.ring_cluster.specs.Parties.{Shown, Posted, Parties, no_shown, node_at, with_node, with_out, with_in}
 use Rattle.ring_cluster.specs.Standing.{Places, MemberStands, Shows, StandIn, Stand, HaveDone, name_of, has_out, has_in}

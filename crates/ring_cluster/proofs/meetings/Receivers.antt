@@ -11,7 +11,7 @@ use Rattle.ring_world.specs.Step.{size}
 use Rattle.gm_member.specs.Held.{Held, sends_to}
 use Rattle.gm_member.specs.Shown.{When, out_name_of}
 use Rattle.gm_member.specs.Stands.{outgoing_in}
-use Rattle.gm_member.proofs.OwnEnds.{OwnEnds}
+use Rattle.ring_world.proofs.work.OwnEnds.{OwnEnds}
 use Rattle.ring_cluster.specs.Ends.{OutSeen}
 use Rattle.ring_cluster.specs.Parties.{Shown, Parties, node_at}
 use Rattle.ring_cluster.specs.Standing.{Places, MemberStands, Stand, name_of}

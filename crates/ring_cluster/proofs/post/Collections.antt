@@ -83,11 +83,16 @@ arrives w p x s m g fresh h e =
       same = ap (λ c. record { from = (link_at w s).sender; opened = (link_at w s).opened; counted = c }) (sym (fresh x s k.0 k.1));
     }
 
+-- none waits for x then
+pub none_to : (w : World) (x : ℕ) (p : Places) → filter (is_to w x) (without_to w x p).post ≡ []
+none_to w x p = filter_none (is_to w x) (filter (λ s. not (is_to w x s)) p.post)
+    (λ s e. not-true (is_to w x s) (and_parts (not (is_to w x s)) (is_in s p.post) (sym (in_filter (λ k. not (is_to w x k)) s p.post) ∙ e)).0)
+
 -- the member that collects
-collected : (w : World) (q : Parties) (p : Places) (x : ℕ) (b : Shown) → IsGood w → AreFresh w → q.post ≡ map (waiting_at w p) p.post → MemberStands w p x (node_at q (x - 1)) → Collects (node_at q (x - 1)) b (filter (waits_at x) q.post) → MemberStands w (without_to w x p) x b
+pub collected : (w : World) (q : Parties) (p : Places) (x : ℕ) (b : Shown) → IsGood w → AreFresh w → q.post ≡ map (waiting_at w p) p.post → MemberStands w p x (node_at q (x - 1)) → Collects (node_at q (x - 1)) b (filter (waits_at x) q.post) → MemberStands w (without_to w x p) x b
 collected w q p x b g fresh post h c = record {
   door = h.door ++ zs;
-  comes = h.comes ∙ ap (λ ys. h.door ++ ys) (sym (append-nil zs)) ∙ ap (λ ys. h.door ++ (zs ++ ys)) (sym none) ∙ sym (append_assoc h.door zs (filter (is_to w x) (filter (λ s. not (is_to w x s)) p.post)));
+  comes = h.comes ∙ ap (λ ys. h.door ++ ys) (sym (append-nil zs)) ∙ ap (λ ys. h.door ++ (zs ++ ys)) (sym (none_to w x p)) ∙ sym (append_assoc h.door zs (filter (is_to w x) (filter (λ s. not (is_to w x s)) p.post)));
   held = c.held ∙ ap (λ k. collected_held k (map (received k) (filter (waits_at x) q.post))) h.held
       ∙ ap (λ ls. collected_held (old) (map (received old) ls)) links
       ∙ ap (λ (is : List Incoming). record (held_in w x) { door = map (incoming_in w) h.door ++ is }) (ap (filter (stays (view_in w (version_of w x)) x)) incoming ∙ kept)
@@ -114,10 +119,6 @@ collected w q p x b g fresh post h c = record {
 
     each : (s : ℕ) → is_in s zs ≡ true → Arrives w x s
     each s e = arrives w p x s a g fresh h e
-
-    none : filter (is_to w x) (filter (λ s. not (is_to w x s)) p.post) ≡ []
-    none = filter_none (is_to w x) (filter (λ s. not (is_to w x s)) p.post)
-        (λ s e. not-true (is_to w x s) (and_parts (not (is_to w x s)) (is_in s p.post) (sym (in_filter (λ k. not (is_to w x k)) s p.post) ∙ e)).0)
 
     links : filter (waits_at x) q.post ≡ map (waiting_at w p) zs
     links = ap (filter (waits_at x)) post ∙ filter_map (waits_at x) (waiting_at w p) p.post

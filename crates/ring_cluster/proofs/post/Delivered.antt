@@ -18,7 +18,7 @@ use Rattle.ring_cluster.specs.Standing.{StandSomewhere}
 use Rattle.ring_cluster.specs.Acting.{IsReady, stop_refused}
 use Rattle.ring_cluster.specs.Collecting.{AreOfRing}
 use Rattle.ring_cluster.specs.Refused.{mark_refused, office_of}
-use Rattle.ring_cluster.proofs.events.After.{here_after, shown_inside, free_after, ready_after}
+use Rattle.ring_cluster.proofs.events.After.{here_after, free_after, ready_after}
 use Rattle.ring_cluster.proofs.events.Closing.{few_after, unheard_after, stands_after, MayLookAt}
 use Rattle.ring_cluster.proofs.post.Gathers.{all_ring, is_known_there}
 use Rattle.ring_cluster.proofs.standing.Nodes.{read_shown, same_shown, shown_at}
@@ -72,32 +72,34 @@ module _ (a : Inside) (q : PartiesSeen) (is : gathered a ≡ q) where
   pub bare : q.owes ≡ false → q.all ≡ parties a.members.items a.registrar []
   bare none = sym (ap (λ (x : PartiesSeen). x.all) is) ∙ none_behind none a.members.items a.registrar
 
-  module _ (none : q.owes ≡ false) (s : StandSomewhere q.all) where
-    stand : StandSomewhere (parties a.members.items a.registrar [])
-    stand = subst StandSomewhere (bare none) s
+  module _ (s : StandSomewhere q.all) where
+    shows : StandSomewhere (parties a.members.items a.registrar (behind a.late))
+    shows = subst (λ (x : PartiesSeen). StandSomewhere x.all) (sym is) s
 
     -- no link that stands at the registrar is lent
     pub here : AreHere a.registrar.links
-    here = here_after stand.0 stand.1 stand.2 a.members.items a.registrar [] stand.3
+    here = here_after shows.0 shows.1 shows.2 a.members.items a.registrar (behind a.late) shows.3
+
+    pub few : length a.members.items ≤ 64
+    few = few_after shows.0 shows.1 shows.2 a.members.items a.registrar (behind a.late) shows.3
+
+    module _ (i : ℕ) (l : i < length q.all.nodes) where
+      -- of the member at a place no question is open, and it may be called
+      pub asks_nothing : (x : Party) → x ≡ get_or a.members.items i x → (shown_in x).held.asks ≡ false
+      asks_nothing x e = subst (λ (m : Shown). m.held.asks ≡ false) (sym (shown_is i l x e)) (free_after s.0 s.1 s.2 q.all i s.3 l)
+
+      pub is_ready : (x : Party) → x ≡ get_or a.members.items i x → IsReady (shown_in x)
+      is_ready x e = subst IsReady (sym (shown_is i l x e)) (ready_after s.0 s.1 s.2 q.all i s.3 l)
+
+  module _ (none : q.owes ≡ false) (s : StandSomewhere q.all) where
+    stand : StandSomewhere (parties a.members.items a.registrar [])
+    stand = subst StandSomewhere (bare none) s
 
     -- each is one of the ring
     pub of_ring : AreOfRing a.registrar.links
     of_ring = all_ring stand.0 stand.1 stand.2 a.members.items a.registrar stand.3
 
-    pub few : length a.members.items ≤ 64
-    few = few_after stand.0 stand.1 stand.2 a.members.items a.registrar [] stand.3
-
     module _ (i : ℕ) (l : i < length q.all.nodes) where
-      placed : i < length (map shown_in a.members.items)
-      placed = shown_inside a.members.items i (inside i l)
-
-      -- of the member at a place no question is open, and it may be called
-      pub asks_nothing : (x : Party) → x ≡ get_or a.members.items i x → (shown_in x).held.asks ≡ false
-      asks_nothing x e = subst (λ (m : Shown). m.held.asks ≡ false) (read_shown a.members.items i x (inside i l) e) (free_after stand.0 stand.1 stand.2 (parties a.members.items a.registrar []) i stand.3 placed)
-
-      pub is_ready : (x : Party) → x ≡ get_or a.members.items i x → IsReady (shown_in x)
-      is_ready x e = subst IsReady (read_shown a.members.items i x (inside i l) e) (ready_after stand.0 stand.1 stand.2 (parties a.members.items a.registrar []) i stand.3 placed)
-
       -- the registrar hasn't heard of it that it stopped, where it hasn't
       pub unheard : (x : Party) → x ≡ get_or a.members.items i x → stop_refused (shown_in x) ≡ None → stop_refusal a.registrar (i + 1) ≡ None
       unheard x e k = unheard_after stand.0 stand.1 stand.2 a.members.items a.registrar i stand.3 (inside i l) (ap stop_refused (read_shown a.members.items i x (inside i l) e) ∙ k)

@@ -1,49 +1,63 @@
--- Who is up at the end of a run was up before.
-use Rattle.std.proofs.Common.{◌≡◌, ℕ, Bool, true, false, List, length, Some, refl, sym, ap, ◌∙◌, arith}
+-- Who is up at the end of a run of plain events was up before.
+use Rattle.std.proofs.Common.{◌≡◌, ℕ, Bool, true, false, List, [], ◌∷◌, ◌++◌, length, Some, None, refl, sym, ap, ◌∙◌, arith}
 use Rattle.std.proofs.lemmas.Bool.{false≢true}
 use Rattle.ring_names.specs.declared.numbers.CreditSpec.{CreditSpec}
 use Rattle.group_view.specs.Change.{AreOpeningNames}
 use Rattle.ring_world.specs.declared.event.Event.{Event}
 use Rattle.ring_world.specs.declared.phase.Phase.TheVariants.{Up}
-use Rattle.ring_world.specs.Machine.{World, no_member, member_at, runs, runs_phase}
-use Rattle.ring_world.specs.Step.{size, published, taker, stopped, open_to, opening}
-use Rattle.ring_world.specs.Event.{IsRun, last}
-use Rattle.ring_world.proofs.rings.Lists.{at_set}
-use Rattle.ring_world.proofs.events.Parts.{Part, cast_part, put_part, take_part, gain_part, stop_part, open_part, still_part, member_still, run_keeps}
-use Rattle.ring_world.proofs.invariants.Happens.{IsGood, reached_good}
-use Rattle.ring_world.proofs.runs.Confirmed.{up_of}
+use Rattle.ring_world.specs.declared.phase.Ending.TheVariants.{Halted}
+use Rattle.ring_world.specs.Machine.{Member, World, member_at, runs, runs_phase}
+use Rattle.ring_world.specs.Step.{published, taker, with_current, stopped, stop_at, with_member, moved_to, opened_link, opening}
+use Rattle.ring_world.specs.View.{right_of}
+use Rattle.ring_world.specs.Machine.{view_in}
+use Rattle.ring_world.specs.Event.{is_plain, ArePlain, refreshed, refusal, effect, IsRun, last}
+use Rattle.ring_world.proofs.events.Composed.{end_composed, refresh_composed}
+use Rattle.ring_world.proofs.events.Leaves.{member_leaves}
+use Rattle.ring_world.proofs.events.Plain.{NoneWaits, each_plain, plain_events, plain_reached, up_of}
+use Rattle.ring_world.proofs.invariants.Happens.{reached_good}
 use Rattle.ring_world.proofs.runs.AllRuns.{every_run_goes_on}
 use Rattle.ring_cluster.specs.Idle.{NobodyStopped}
 
--- no part of an event lets one run that doesn't
-pub part_rests : (q : ℕ) (w w' : World) → Part IsGood w w' → runs w q ≡ false → runs w' q ≡ false
-part_rests q w w' (cast_part x m some lt e) h = ap (λ a. runs a q) e ∙ at_set (λ k a. runs_phase a.phase ≡ runs w k) w.members x q (published x m (member_at w x)) no_member lt refl (λ _. refl) ∙ h
-part_rests q w w' (put_part x o lt free e) h = ap (λ a. runs a q) e ∙ h
-part_rests q w w' (take_part y s some t lt g e) h = ap (λ a. runs a q) e ∙ at_set (λ k a. runs_phase a.phase ≡ runs w k) w.members y q (taker w y s) no_member t.is_member refl (λ _. refl) ∙ h
-part_rests q w w' (gain_part o lt some e) h = ap (λ a. runs a q) e ∙ h
-part_rests q w w' (stop_part x lt e) h = ap (λ a. runs a q) e ∙ at_set (λ k a. runs w k ≡ false → runs_phase a.phase ≡ false) w.members x q (stopped (member_at w x)) no_member lt (λ _. refl) (λ _ k. k) h
-part_rests q w w' (open_part x z e) h =
-    let w1 : World = record w { links = (open_to w x z).links } in
-    ap (λ a. runs a q) e ∙ ap runs_phase ((member_still w1 x (record (member_at w x) { out = Some (length w.links) }) refl refl refl).phase q) ∙ h
-part_rests q w w' (still_part k) h = ap runs_phase (k.phase q) ∙ h
+-- a member is written that runs only where it ran
+rests_set : (q : ℕ) (w : World) (x : ℕ) (y : Member) → (runs_phase (member_at w x).phase ≡ false → runs_phase y.phase ≡ false) → runs w q ≡ false → runs (with_member w x y) q ≡ false
+rests_set q w x y e h = member_leaves (λ k a b. runs_phase a.phase ≡ false → runs_phase b.phase ≡ false) w x y e (λ _ k. k) q h
+
+-- a refresh
+rests_refreshed : (q : ℕ) (w : World) (x v : ℕ) → runs w q ≡ false → runs (refreshed w x v) q ≡ false
+rests_refreshed q w x v h = refresh_composed (λ u. runs u q ≡ false) w x v
+    (λ _ _ k. k)
+    (λ u _ k. rests_set q (record u { links = u.links ++ opened_link u x (right_of (view_in w v) x) ∷ [] }) x (record (member_at u x) { out = Some (length u.links) }) (λ e. e) k)
+    (rests_set q w x (moved_to w x v) (λ e. e) h)
+
+-- no plain event lets one run that doesn't
+plain_rests : (q : ℕ) (w : World) (e : Event) → is_plain e ≡ true → NoneWaits w → refusal w e ≡ None → runs w q ≡ false → runs (effect w e) q ≡ false
+plain_rests q w e p n r h = each_plain (λ u. runs u q ≡ false) w e p n (record {
+  casts = λ x m u. rests_set q w x (published x m (member_at w x)) (λ e. e) h;
+  puts = λ x o u out k. h;
+  takes = λ y s u m. rests_set q w y (taker w y s) (λ e. e) h;
+  leaves = λ y s u current k. rests_set q w y (with_current None (member_at w y)) (λ e. e) h;
+  gains = λ x o u out k. h;
+  stops = λ x u. end_composed (λ u. runs u q ≡ false) Halted (stop_at w x) (member_at w x).out (λ _ _ k. k) (rests_set q w x (stopped (member_at w x)) (λ _. refl) h);
+  marks = λ x d u m. rests_refreshed q _ x _ h;
+  refreshes = λ x v u m. rests_refreshed q w x v h;
+  picks = λ y s u none at upto. rests_set q w y (with_current (Some s) (member_at w y)) (λ e. e) h;
+}) r
 
 -- ---- runs
 
 -- where nobody has stopped after further events, nobody had before them
-pub nobody_stopped_before : (credit : CreditSpec) (names : List (List ℕ)) (earlier later : List Event) → AreOpeningNames names → IsRun (opening credit names) earlier → IsRun (last (opening credit names) earlier) later
+pub nobody_stopped_before : (credit : CreditSpec) (names : List (List ℕ)) (earlier later : List Event) → AreOpeningNames names → ArePlain earlier → ArePlain later → IsRun (opening credit names) earlier → IsRun (last (opening credit names) earlier) later
     → NobodyStopped (last (last (opening credit names) earlier) later) → NobodyStopped (last (opening credit names) earlier)
-nobody_stopped_before credit names earlier later are r more up x some lt = by_test (runs w x) refl
+nobody_stopped_before credit names earlier later are first then r more up x some lt = by_test (runs w x) refl
   where
     w : World
     w = last (opening credit names) earlier
 
-    good : IsGood w
-    good = reached_good credit names earlier are r
-
-    same : size (last w later) ≡ size w
-    same = (every_run_goes_on credit names earlier later are r more).never_falls.same_size
+    none : NoneWaits w
+    none = plain_reached credit names earlier first r
 
     by_test : (b : Bool) → runs w x ≡ b → (member_at w x).phase ≡ Up
-    by_test true e = up_of (member_at w x).phase e (good.none_waits x)
+    by_test true e = up_of w x none e
     by_test false e =
-        absurd (false≢true (sym (run_keeps (λ v. runs v x ≡ false) (part_rests x) w later good more e) ∙ ap runs_phase (up x some (omega (arith, same)))))
+        absurd (false≢true (sym (plain_events (λ v. runs v x ≡ false) (λ v f p _ k s h. plain_rests x v f p k s h) w later then (reached_good credit names earlier are r) none more e)
+        ∙ ap runs_phase (up x some (omega (arith, lt, (every_run_goes_on credit names earlier later are r more).never_falls.more)))))

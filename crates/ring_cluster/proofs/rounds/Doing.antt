@@ -16,12 +16,12 @@ use Rattle.ring_world.specs.Quiet.{IsQuiet}
 use Rattle.ring_world.proofs.events.Names.{same_bytes, found_at}
 use Rattle.ring_cluster.specs.declared.agenda.Task.{Task}
 use Rattle.ring_cluster.specs.declared.agenda.Task.TheVariants as task
-use Rattle.ring_cluster.specs.Work.{work, LeavesLess}
+use Rattle.ring_world.specs.Work.{total, LeavesLess}
 use Rattle.ring_cluster.specs.Seen.{Seen, state, state_of, IsGoing, SameButOwed, with_event}
 use Rattle.ring_cluster.specs.Turns.{SamePhases}
 use Rattle.ring_cluster.specs.Plays.{IsCommandTo, with_task, commanded, asked, asked_by, Plays, PlaysSoFar, client_event, client_events, task_event, todo, agenda_at, agenda_found, place_among, agenda_of, performed, GoesOn, HasGoneOn, HasBegun, SameElsewhere, HeadsAre, AgendasAreEmpty}
 use Rattle.ring_cluster.proofs.rounds.Named.{going_fit}
-use Rattle.ring_world.proofs.code.Running.{last-push}
+use Rattle.ring_world.proofs.runs.InOrder.{last_append}
 use Rattle.ring_cluster.proofs.work.Phases.{own_phases, cast_phases}
 use Rattle.ring_cluster.proofs.rounds.Playing.{is_own, GoesOn-given, plays_on, plays_noted, settled_each_more, settled_now, empty_is_done, settled_plays, asked_push}
 
@@ -35,10 +35,10 @@ own_goes c d e l is = (e ∷ [], is_own e (own_event e l) c d is.0 is.1)
 
 pub own_stays : (c d : Seen) (e : Event) → IsGoing c → is_asked e ≡ false → SameButOwed (with_event c e) d → SamePhases (state_of c) (state_of d)
 own_stays c d e g l is =
-    subst (SamePhases (state_of c)) (sym (ap state_of is.1 ∙ last-push (opening c.credit c.names) c.events e)) (own_phases (state_of c) e (going_fit c g).good.none_waits l)
+    subst (SamePhases (state_of c)) (sym (ap state_of is.1 ∙ last_append (opening c.credit c.names) c.events (e ∷ []))) (own_phases (state_of c) e (going_fit c g).none_waits l)
 
-pub own_falls : (c d : Seen) (e : Event) → LeavesLess (state_of c) e → refusal (state_of c) e ≡ None → SameButOwed (with_event c e) d → work (state_of d) < work (state_of c)
-own_falls c d e less r is = subst (λ w. work w < work (state_of c)) (sym (ap state_of is.1 ∙ last-push (opening c.credit c.names) c.events e)) (less r)
+pub own_falls : (c d : Seen) (e : Event) → LeavesLess (state_of c) e → refusal (state_of c) e ≡ None → SameButOwed (with_event c e) d → total (state_of d) < total (state_of c)
+own_falls c d e less r is = subst (λ w. total w < total (state_of c)) (sym (ap state_of is.1 ∙ last_append (opening c.credit c.names) c.events (e ∷ []))) (less.less r)
 
 -- ---- tasks
 
@@ -91,7 +91,7 @@ performed_elsewhere c d i t ts is j ne = ap (λ x. agenda_at x.agendas j) is.1 �
 
 pub performed_stays : (c d : Seen) (i : ℕ) (t : Task) (ts : List Task) → SameButOwed (performed c i t ts) d → SamePhases (state_of c) (state_of d)
 performed_stays c d i (task.Cast body) ts is =
-    subst (SamePhases (state_of c)) (sym (ap state_of is.1 ∙ last-push (opening c.credit c.names) c.events (Cast (get_or c.names i []) body))) (cast_phases (state_of c) (get_or c.names i []) body)
+    subst (SamePhases (state_of c)) (sym (ap state_of is.1 ∙ last_append (opening c.credit c.names) c.events (Cast (get_or c.names i []) body ∷ []))) (cast_phases (state_of c) (get_or c.names i []) body)
 
 -- ---- heads
 

@@ -13,7 +13,7 @@ use Rattle.gm_member.specs.Stands.{held_in, outgoing_in}
 use Rattle.gm_member.specs.Shown.{out_name_of}
 use Rattle.gm_member.proofs.Fit.{IsFit, reached_fit}
 use Rattle.gm_member.proofs.Facts.{held_row, version_of_view}
-use Rattle.ring_cluster.specs.Work.{is_stale}
+use Rattle.ring_world.specs.Work.{is_stale}
 use Rattle.ring_cluster.specs.Holds.{HoldsOf}
 use Rattle.ring_cluster.specs.Seen.{state}
 use Rattle.ring_cluster.specs.Parties.{Parties, node_at}
@@ -37,27 +37,27 @@ held_holds w x h f e = record {
   got = λ p some lt. ap (λ (r : Row). r.got) (row p some lt);
   forgot = λ p some lt. ap (λ (r : Row). r.forgot) (row p some lt);
   retired = λ p some lt. ap (λ (r : Row). r.retired) (row p some lt);
-  messages = λ p some lt. ap (λ (r : Row). r.heard) (row p some lt) ∙ f.lawful.in_order x p;
+  messages = λ p some lt. ap (λ (r : Row). r.heard) (row p some lt) ∙ f.heard x p;
 }
   where
     row : (p : ℕ) → 1 ≤ p → p < size w → known_at h.rows (p - 1) ≡ row_of w x p
     row p some lt =
         let back : p - 1 + 1 ≡ p = omega arith in
-        ap (λ k. known_at k.rows (p - 1)) e ∙ held_row w x (p - 1) (omega (arith, f.sized.few)) ∙ ap (row_of w x) back
+        ap (λ k. known_at k.rows (p - 1)) e ∙ held_row w x (p - 1) (omega (arith, f.few)) ∙ ap (row_of w x) back
 
 -- ---- a cluster
 
 pub nodes_many : (credit : CreditSpec) (names : List (List ℕ)) (events : List Event) (q : Parties) → StandAfter credit names events q → length q.nodes ≡ length names
-nodes_many credit names events q s = omega (arith, s.stand.stand.count, run_many credit names events s.journal.are s.journal.run)
+nodes_many credit names events q s = omega (arith, s.stand.stand.count, run_many credit names events s.journal.are s.journal.plain s.journal.run)
 
 pub node_stands : (credit : CreditSpec) (names : List (List ℕ)) (events : List Event) (q : Parties) (x : ℕ) → StandAfter credit names events q → 1 ≤ x → x ≤ length names → IsHeld (state credit names events) x (node_at q (x - 1)).held
 node_stands credit names events q x s some le =
-    let m : MemberStands (state credit names events) s.stand.places x (node_at q (x - 1)) = s.stand.stand.each x some (omega (arith, run_many credit names events s.journal.are s.journal.run)) in
+    let m : MemberStands (state credit names events) s.stand.places x (node_at q (x - 1)) = s.stand.stand.each x some (omega (arith, run_many credit names events s.journal.are s.journal.plain s.journal.run)) in
     held_but_door (state credit names events) x (node_at q (x - 1)).held _ m.held
 
 pub node_holds : (credit : CreditSpec) (names : List (List ℕ)) (events : List Event) (q : Parties) (x : ℕ) → StandAfter credit names events q → 1 ≤ x → x ≤ length names → HoldsOf (state credit names events) x (node_at q (x - 1)).held
 node_holds credit names events q x s some le =
-    held_holds (state credit names events) x (node_at q (x - 1)).held (reached_fit credit names events s.journal.are s.journal.run) (node_stands credit names events q x s some le)
+    held_holds (state credit names events) x (node_at q (x - 1)).held (reached_fit credit names events s.journal.are s.journal.plain s.journal.run) (node_stands credit names events q x s some le)
 
 -- ---- whether a member is stale
 

@@ -1,6 +1,6 @@
 -- The members of a cluster by their names, and what they may do.
 use Rattle.std.proofs.Common.{◌≡◌, ℕ, suc, ◌+◌, ◌-◌, ◌<◌, ◌≤◌, true, false, List, [], ◌∷◌, length, map, get_or, Option, Some, None, refl, sym, ap, subst, ◌∙◌, arith}
-use Rattle.std.specs.Prelude.{MatchOption, bytes_eq, drop, option_map, position}
+use Rattle.std.specs.Prelude.{◌&&◌, nat_eq, MatchOption, bytes_eq, drop, option_map, position}
 use Rattle.std.proofs.lemmas.Bool.{false≢true, le-ltb}
 use Rattle.std.proofs.lemmas.List.{length-map, get_or-map}
 use Rattle.std.proofs.lemmas.List.Quantifiers.{position-Some}
@@ -15,8 +15,8 @@ use Rattle.ring_world.specs.declared.phase.Phase.TheVariants.{Waiting, Up, Stopp
 use Rattle.ring_world.specs.Refusal.{refuse_if, or_else}
 use Rattle.ring_world.specs.Machine.{Member, World, no_member, member_at, newest, runs, runs_phase, is_waiting}
 use Rattle.ring_world.specs.Step.{size, opening}
-use Rattle.ring_world.specs.Event.{by_of, id_of, of_member, refused_at, is_stopped, up_refusal, refresh_refusal, refusal, IsRun}
-use Rattle.ring_world.proofs.events.Cases.{up_of}
+use Rattle.ring_world.specs.Event.{by_of, id_of, of_member, is_plain, refused_at, is_stopped, up_refusal, refresh_refusal, refusal, ArePlain, IsRun}
+use Rattle.ring_world.proofs.events.Plain.{up_of}
 use Rattle.ring_world.proofs.rings.Maps.{position_map}
 use Rattle.ring_world.proofs.events.Names.{same_bytes}
 use Rattle.gm_member.proofs.Names.{NamesAre, reached_names}
@@ -25,15 +25,14 @@ use Rattle.ring_cluster.specs.declared.agenda.Task.{Task}
 use Rattle.ring_cluster.specs.declared.agenda.Task.TheVariants as task
 use Rattle.ring_cluster.specs.declared.driver.OwnStep.{OwnStep}
 use Rattle.ring_cluster.specs.declared.driver.OwnStep.TheVariants as step
-use Rattle.ring_cluster.specs.Work.{is_stale, LeavesLess}
+use Rattle.ring_world.specs.Work.{is_stale, LeavesLess}
+use Rattle.ring_world.proofs.rings.Rounds.{nat_eq-same}
+use Rattle.ring_world.proofs.work.Fit as ring
+use Rattle.ring_world.proofs.work.Settling.{repair_less}
+use Rattle.ring_world.specs.Settling.{is_repair, stale_one}
 use Rattle.ring_cluster.specs.Seen.{Seen, state, state_of, IsGoing, IsEventAt}
 use Rattle.ring_cluster.specs.Plays.{task_event, place_among}
 use Rattle.ring_cluster.specs.Turns.{step_event}
-use Rattle.ring_cluster.proofs.work.Falls.{put_lowers, gain_lowers}
-use Rattle.ring_cluster.proofs.work.Moves.{end_lowers, pick_lowers}
-use Rattle.ring_cluster.proofs.work.TakeFalls.{take_lowers}
-use Rattle.ring_cluster.proofs.work.RefreshFalls.{refresh_lowers}
-use Rattle.ring_cluster.proofs.work.MarkFalls.{mark_lowers}
 
 -- what holds of a value that is there
 pub from_some : {A : Type 0} (P : Type 0) (Q : A → Type 0) (o : Option A) (x : A) → o ≡ Some x → MatchOption o P Q → Q x
@@ -53,25 +52,29 @@ name_in names w i h l =
     ∙ ap (λ xs. get_or xs (i + 1) []) h
     ∙ ap (λ k. get_or ([] ∷ names) k []) next
 
-pub run_many : (credit : CreditSpec) (names : List (List ℕ)) (events : List Event) → AreOpeningNames names → IsRun (opening credit names) events → size (state credit names events) ≡ length names + 1
-run_many credit names events are r = names_many names (state credit names events) (reached_names credit names events are r)
+pub run_many : (credit : CreditSpec) (names : List (List ℕ)) (events : List Event) → AreOpeningNames names → ArePlain events → IsRun (opening credit names) events → size (state credit names events) ≡ length names + 1
+run_many credit names events are plain r = names_many names (state credit names events) (reached_names credit names events are plain r)
 
-pub run_found : (credit : CreditSpec) (names : List (List ℕ)) (events : List Event) (i : ℕ) → AreOpeningNames names → IsRun (opening credit names) events → i < length names → id_of (state credit names events) (get_or names i []) ≡ Some (i + 1)
-run_found credit names events i are r l =
-    ap (id_of (state credit names events)) (sym (name_in names (state credit names events) i (reached_names credit names events are r) l))
-    ∙ (reached_fit credit names events are r).named (i + 1) (omega arith) (omega (arith, run_many credit names events are r))
+pub run_found : (credit : CreditSpec) (names : List (List ℕ)) (events : List Event) (i : ℕ) → AreOpeningNames names → ArePlain events → IsRun (opening credit names) events → i < length names → id_of (state credit names events) (get_or names i []) ≡ Some (i + 1)
+run_found credit names events i are plain r l =
+    ap (id_of (state credit names events)) (sym (name_in names (state credit names events) i (reached_names credit names events are plain r) l))
+    ∙ (reached_fit credit names events are plain r).named (i + 1) (omega arith) (omega (arith, run_many credit names events are plain r))
 
 pub going_fit : (c : Seen) → IsGoing c → IsFit (state_of c)
-going_fit c g = reached_fit c.credit c.names c.events g.are g.run
+going_fit c g = reached_fit c.credit c.names c.events g.are g.plain g.run
+
+-- and what holds of it as a state of the ring
+pub going_ring : (c : Seen) → IsGoing c → ring.IsFit (state_of c)
+going_ring c g = ring.reached_fit c.credit c.names c.events g.are g.run
 
 pub going_many : (c : Seen) → IsGoing c → size (state_of c) ≡ length c.names + 1
-going_many c g = run_many c.credit c.names c.events g.are g.run
+going_many c g = run_many c.credit c.names c.events g.are g.plain g.run
 
 pub going_name : (c : Seen) (i : ℕ) → IsGoing c → i < length c.names → (member_at (state_of c) (i + 1)).name ≡ get_or c.names i []
-going_name c i g l = name_in c.names (state_of c) i (reached_names c.credit c.names c.events g.are g.run) l
+going_name c i g l = name_in c.names (state_of c) i (reached_names c.credit c.names c.events g.are g.plain g.run) l
 
 pub going_found : (c : Seen) (i : ℕ) → IsGoing c → i < length c.names → id_of (state_of c) (get_or c.names i []) ≡ Some (i + 1)
-going_found c i g l = run_found c.credit c.names c.events i g.are g.run l
+going_found c i g l = run_found c.credit c.names c.events i g.are g.plain g.run l
 
 -- the name of the member of an id, by its place
 pub name_before : (c : Seen) (x : ℕ) → IsGoing c → 1 ≤ x → x ≤ length c.names → get_or c.names (x - 1) [] ≡ (member_at (state_of c) x).name
@@ -93,20 +96,23 @@ id_among names w name h =
     ∙ ap (position (λ n. bytes_eq n name)) (names_behind w.members ∙ ap (drop 1) h))
 
 -- an event is one of the member of its name; where there is none, it is refused
-pub event_place : (c : Seen) (e : Event) (o : Option ℕ) → IsGoing c → o ≡ place_among c.names (by_of e) → MatchOption o (refusal (state_of c) e ≡ Some reason.UnknownMember) (λ i. IsEventAt c.names i e)
-event_place c e None g is = ap (λ o. of_member o (refused_at (state_of c) e)) (id_among c.names (state_of c) (by_of e) (reached_names c.credit c.names c.events g.are g.run) ∙ ap (option_map (λ i. i + 1)) (sym is))
-event_place c e (Some i) g is =
+pub event_place : (c : Seen) (e : Event) (o : Option ℕ) → IsGoing c → is_plain e ≡ true → o ≡ place_among c.names (by_of e) → MatchOption o (refusal (state_of c) e ≡ Some reason.UnknownMember) (λ i. IsEventAt c.names i e)
+event_place c e None g plain is = ap (λ o. of_member o (refused_at (state_of c) e)) (id_among c.names (state_of c) (by_of e) (reached_names c.credit c.names c.events g.are g.plain g.run) ∙ ap (option_map (λ i. i + 1)) (sym is))
+event_place c e (Some i) g plain is =
     let there = position-Some (λ n. bytes_eq n (by_of e)) c.names i [] (sym is) in
-    (there.0, sym (same_bytes (get_or c.names i []) (by_of e) there.1))
+    (there.0, sym (same_bytes (get_or c.names i []) (by_of e) there.1), plain)
 
 -- an event of the member of an id is one of that at its place
-pub event_before : (c : Seen) (e : Event) (x : ℕ) → IsGoing c → 1 ≤ x → x ≤ length c.names → by_of e ≡ (member_at (state_of c) x).name → IsEventAt c.names (x - 1) e
-event_before c e x g some le is = (omega arith, is ∙ sym (name_before c x g some le))
+pub event_before : (c : Seen) (e : Event) (x : ℕ) → IsGoing c → 1 ≤ x → x ≤ length c.names → by_of e ≡ (member_at (state_of c) x).name → is_plain e ≡ true → IsEventAt c.names (x - 1) e
+event_before c e x g some le is plain = (omega arith, is ∙ sym (name_before c x g some le), plain)
 
 -- ---- tasks
 
 pub task_by : (name : List ℕ) (t : Task) → by_of (task_event name t) ≡ name
 task_by name (task.Cast body) = refl
+
+pub task_plain : (name : List ℕ) (t : Task) → is_plain (task_event name t) ≡ true
+task_plain name (task.Cast body) = refl
 
 -- who is refused a cast has stopped
 refused_stops : (f : Phase) (r : Reason) → is_waiting f ≡ false → or_else (refuse_if (is_stopped f) reason.Stopped) (or_else (refuse_if (is_waiting f) reason.Waiting) None) ≡ Some r → runs_phase f ≡ false
@@ -116,7 +122,7 @@ refused_stops Stopped r n h = refl
 
 pub task_stops : (c : Seen) (i : ℕ) (t : Task) (r : Reason) → IsGoing c → i < length c.names → refusal (state_of c) (task_event (get_or c.names i []) t) ≡ Some r → runs (state_of c) (i + 1) ≡ false
 task_stops c i (task.Cast body) r g l h =
-    refused_stops (member_at (state_of c) (i + 1)).phase r ((going_fit c g).good.none_waits (i + 1))
+    refused_stops (member_at (state_of c) (i + 1)).phase r ((going_fit c g).none_waits (i + 1))
     (sym (ap (λ o. of_member o (λ x. up_refusal (state_of c) x None)) (going_found c i g l)) ∙ h)
 
 -- ---- a refresh
@@ -130,7 +136,7 @@ up_enabled Stopped later e h = cc
 pub refresh_enabled : (w : World) (x : ℕ) → IsFit w → 1 ≤ x → x < size w → runs w x ≡ true → refusal w (Refresh (member_at w x).name (newest w)) ≡ None
 refresh_enabled w x f some lt r =
     ap (λ o. of_member o (λ k. up_refusal w k (refresh_refusal w k (newest w)))) (f.named x some lt)
-    ∙ up_enabled (member_at w x).phase (refresh_refusal w x (newest w)) (up_of w x f.good.none_waits r)
+    ∙ up_enabled (member_at w x).phase (refresh_refusal w x (newest w)) (up_of w x f.none_waits r)
     (rw (le-ltb (newest w) (member_at w x).version (f.good.inv.is_ring.held x), le-ltb (newest w) (newest w) (omega arith)) refl)
 
 -- ---- what leaves less to do
@@ -142,24 +148,34 @@ step_by step.TakeEnd name = refl
 step_by step.Gain name = refl
 step_by step.Put name = refl
 
-pub step_less : (c : Seen) (x : ℕ) (s : OwnStep) (by : List ℕ) → IsGoing c → 1 ≤ x → x ≤ length c.names → by ≡ (member_at (state_of c) x).name → LeavesLess (state_of c) (step_event s by)
-step_less c x s by g some le e = subst (λ n. LeavesLess (state_of c) (step_event s n)) (sym e) (by_step s)
+pub step_less : (c : Seen) (s : OwnStep) (by : List ℕ) → IsGoing c → LeavesLess (state_of c) (step_event s by)
+step_less c s by g = repair_less (state_of c) (going_ring c g) (step_event s by) (by_step s)
   where
-    lt : x < size (state_of c)
-    lt = omega (arith, going_many c g)
+    by_step : (s : OwnStep) → is_repair (state_of c) (step_event s by) ≡ true
+    by_step step.Pick = refl
+    by_step step.Take = refl
+    by_step step.TakeEnd = refl
+    by_step step.Gain = refl
+    by_step step.Put = refl
 
-    by_step : (s : OwnStep) → LeavesLess (state_of c) (step_event s (member_at (state_of c) x).name)
-    by_step step.Pick = pick_lowers (state_of c) x (going_fit c g) some lt
-    by_step step.Take = take_lowers (state_of c) x (going_fit c g) some lt
-    by_step step.TakeEnd = end_lowers (state_of c) x (going_fit c g) some lt
-    by_step step.Gain = gain_lowers (state_of c) x (going_fit c g) some lt
-    by_step step.Put = put_lowers (state_of c) x (going_fit c g) some lt
+pub step_plain : (s : OwnStep) (by : List ℕ) → is_plain (step_event s by) ≡ true
+step_plain step.Pick by = refl
+step_plain step.Take by = refl
+step_plain step.TakeEnd by = refl
+step_plain step.Gain by = refl
+step_plain step.Put by = refl
 
-pub mark_less : (c : Seen) (x : ℕ) (by dead : List ℕ) → IsGoing c → 1 ≤ x → x ≤ length c.names → by ≡ (member_at (state_of c) x).name → LeavesLess (state_of c) (Mark by dead)
-mark_less c x by dead g some le e = subst (λ n. LeavesLess (state_of c) (Mark n dead)) (sym e) (mark_lowers (state_of c) x dead (going_fit c g) some (omega (arith, going_many c g)))
+pub mark_less : (c : Seen) (by dead : List ℕ) → IsGoing c → LeavesLess (state_of c) (Mark by dead)
+mark_less c by dead g = repair_less (state_of c) (going_ring c g) (Mark by dead) refl
 
 pub refresh_less : (c : Seen) (x : ℕ) (by : List ℕ) (version : ℕ) → IsGoing c → 1 ≤ x → x ≤ length c.names → by ≡ (member_at (state_of c) x).name → version ≡ newest (state_of c) → is_stale (newest (state_of c)) (member_at (state_of c) x) ≡ true → LeavesLess (state_of c) (Refresh by version)
-refresh_less c x by version g some le e v was =
-    subst (λ n. LeavesLess (state_of c) (Refresh n version)) (sym e)
-    (subst (λ u. LeavesLess (state_of c) (Refresh (member_at (state_of c) x).name u)) (sym v)
-    (refresh_lowers (state_of c) x (going_fit c g) some (omega (arith, going_many c g)) was))
+refresh_less c x by version g some le e v was = repair_less (state_of c) (going_ring c g) (Refresh by version) repairs
+  where
+    w : World
+    w = state_of c
+
+    found : id_of w by ≡ Some x
+    found = ap (id_of w) e ∙ (going_fit c g).named x some (omega (arith, going_many c g))
+
+    repairs : is_repair w (Refresh by version) ≡ true
+    repairs = ap (λ n. nat_eq n (newest w) && stale_one w (id_of w by)) v ∙ ap (λ b. b && stale_one w (id_of w by)) (nat_eq-same (newest w)) ∙ ap (stale_one w) found ∙ was

@@ -1,19 +1,19 @@
 -- Where a cluster plays what it was given, nobody has stopped.
 use Rattle.std.proofs.Common.{◌≡◌, ℕ, zero, suc, Bool, true, false, bytes_eq, List, [], ◌∷◌, ◌++◌, length, if◌then◌else◌, refl, sym, ap, subst, arith}
 use Rattle.std.specs.Prelude.{⊤}
-use Rattle.std.proofs.lemmas.Bool.{false≢true}
+use Rattle.std.specs.List.{list_all}
+use Rattle.std.proofs.lemmas.Bool.{false≢true, and_parts}
 use Rattle.std.proofs.lemmas.List.FromFn.{length-map-range_with_len, get_or-map-range_with_len}
 use Rattle.ring_names.specs.declared.numbers.CreditSpec.{CreditSpec}
 use Rattle.ring_script.specs.declared.command.Command.{Command}
 use Rattle.ring_script.specs.declared.command.Command.TheVariants as command
 use Rattle.ring_world.specs.declared.event.Event.{Event}
-use Rattle.ring_world.specs.declared.event.Event.TheVariants.{Cast, Stop}
+use Rattle.ring_world.specs.declared.event.Event.TheVariants.{Cast, Stop, Admit, Refuse}
 use Rattle.ring_world.specs.Machine.{World, no_member}
 use Rattle.ring_world.specs.Step.{opening, opening_member}
-use Rattle.ring_world.specs.Event.{effect, IsRun, last}
+use Rattle.ring_world.specs.Event.{is_plain, ArePlain, effect, IsRun, last}
 use Rattle.ring_world.proofs.events.Names.{own_bytes}
-use Rattle.ring_world.proofs.events.NoneWaits.{NoneWaits}
-use Rattle.ring_world.proofs.invariants.Happens.{IsGood, event_good, opening_good}
+use Rattle.ring_world.proofs.events.Plain.{NoneWaits, plain_waits, opening_none}
 use Rattle.ring_cluster.specs.Idle.{NobodyStopped}
 use Rattle.ring_cluster.specs.Seen.{Seen, state_of, IsGoing}
 use Rattle.ring_cluster.specs.Plays.{client_event, client_events, asked_by, asked, todo, agenda_of, PlaysSoFar}
@@ -73,14 +73,18 @@ none_there (e ∷ es) h = (
 
 -- ---- and all stay up
 
-event_phases : (w : World) (e : Event) → NoneWaits w → is_stop e ≡ false → SamePhases w (effect w e)
-event_phases w (Cast by body) n h = cast_phases w by body
-event_phases w (Stop by) n h = absurd (false≢true (sym h))
-event_phases w e n h = own_phases w e n refl
+event_phases : (w : World) (e : Event) → is_plain e ≡ true → NoneWaits w → is_stop e ≡ false → SamePhases w (effect w e)
+event_phases w (Cast by body) p n h = cast_phases w by body
+event_phases w (Stop by) p n h = absurd (false≢true (sym h))
+event_phases w (Admit by name) p n h = absurd (false≢true p)
+event_phases w (Refuse code inner) p n h = absurd (false≢true p)
+event_phases w e p n h = own_phases w e n refl
 
-run_alive : (w : World) (es : List Event) → IsGood w → IsRun w es → NoStop es → NobodyStopped w → NobodyStopped (last w es)
-run_alive w [] g r n h = h
-run_alive w (e ∷ es) g r n h = run_alive (effect w e) es (event_good w e g r.0) r.1 n.1 (still_alive_in w (effect w e) (event_phases w e g.none_waits n.0) h)
+run_alive : (w : World) (es : List Event) → ArePlain es → NoneWaits w → IsRun w es → NoStop es → NobodyStopped w → NobodyStopped (last w es)
+run_alive w [] p k r n h = h
+run_alive w (e ∷ es) p k r n h =
+    let both = and_parts (is_plain e) (list_all is_plain es) p in
+    run_alive (effect w e) es both.1 (plain_waits w e both.0 k r.0) r.1 n.1 (still_alive_in w (effect w e) (event_phases w e both.0 k n.0) h)
 
 opening_alive : (credit : CreditSpec) (names : List (List ℕ)) → NobodyStopped (opening credit names)
 opening_alive credit names zero some lt = absurd (omega arith)
@@ -89,6 +93,6 @@ opening_alive credit names (suc k) some lt =
 
 pub plays_alive : (c : Seen) → IsGoing c → PlaysSoFar c → NobodyStopped (state_of c)
 plays_alive c g h =
-    run_alive (opening c.credit c.names) c.events (opening_good c.credit c.names g.are) g.run
+    run_alive (opening c.credit c.names) c.events g.plain (opening_none c.credit c.names) g.run
     (none_there c.events (λ name. none_first (client_events name c.events) (todo name (agenda_of c name)) (subst NoStop (sym (h.asked name)) (none_asked name c.given))))
     (opening_alive c.credit c.names)

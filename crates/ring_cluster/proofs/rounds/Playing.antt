@@ -7,7 +7,8 @@ use Rattle.ring_script.specs.declared.command.Command.TheVariants as command
 use Rattle.ring_names.specs.declared.numbers.CreditSpec.{CreditSpec}
 use Rattle.ring_world.specs.declared.event.Event.{Event}
 use Rattle.ring_world.specs.Quiet.{IsQuiet}
-use Rattle.ring_cluster.specs.Seen.{Seen, state}
+use Rattle.ring_cluster.specs.Parties.{Parties}
+use Rattle.ring_cluster.specs.Seen.{Seen, state, showing, with_event}
 use Rattle.ring_cluster.specs.Plays.{client_event, client_events, asked_by, asked, todo, agenda_found, place_among, agenda_of, HasSettled, HasSettledEach, Plays, PlaysSoFar, GoesOn, HasGoneOn, AgendasAreEmpty}
 use Rattle.ring_cluster.proofs.lists.Lists.{flat_map-append, slice_get_within, slice_get_front, slice_get_last, some_injective}
 
@@ -26,11 +27,11 @@ GoesOn-trans c d e xs ys a b = record {
       ∙ a.asked name;
 }
 
-pub HasGoneOn-owing : (c : Seen) (owes : Bool) → HasGoneOn c (record c { owes = owes })
-HasGoneOn-owing c owes = ([], record { credit = refl; names = refl; count = refl; events = sym (append-nil c.events); asked = λ name. refl })
+pub HasGoneOn-showing : (c : Seen) (x : Bool × Parties) → HasGoneOn c (showing x c)
+HasGoneOn-showing c x = ([], record { credit = refl; names = refl; count = refl; events = sym (append-nil c.events); asked = λ name. refl })
 
 pub HasGoneOn-refl : (c : Seen) → HasGoneOn c c
-HasGoneOn-refl c = HasGoneOn-owing c c.owes
+HasGoneOn-refl c = HasGoneOn-showing c (c.owes, c.shows)
 
 pub HasGoneOn-trans : (c d e : Seen) → HasGoneOn c d → HasGoneOn d e → HasGoneOn c e
 HasGoneOn-trans c d e a b = (a.0 ++ b.0, GoesOn-trans c d e a.0 b.0 a.1 b.1)
@@ -46,8 +47,8 @@ GoesOn-given c d e xs ec en ee ea h = record {
 }
 
 -- a step of a member of its own
-pub is_own : (e : Event) → ((name : List ℕ) → client_event name e ≡ []) → (c d : Seen) (owes : Bool) → d ≡ record c { events = c.events ++ e ∷ []; owes = owes } → GoesOn c d (e ∷ [])
-is_own e own c d owes is = subst (λ x. GoesOn c x (e ∷ [])) (sym is) (record { credit = refl; names = refl; count = refl; events = refl; asked = λ name. ap (λ zs. (zs ++ []) ++ todo name (agenda_of c name)) (own name) })
+pub is_own : (e : Event) → ((name : List ℕ) → client_event name e ≡ []) → (c d : Seen) (x : Bool × Parties) → d ≡ showing x (with_event c e) → GoesOn c d (e ∷ [])
+is_own e own c d x is = subst (λ y. GoesOn c y (e ∷ [])) (sym is) (record { credit = refl; names = refl; count = refl; events = refl; asked = λ name. ap (λ zs. (zs ++ []) ++ todo name (agenda_of c name)) (own name) })
 
 -- ---- settling
 

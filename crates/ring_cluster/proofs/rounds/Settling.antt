@@ -1,11 +1,8 @@
 -- When a cluster has nothing left to do.
-use Rattle.std.proofs.Common.{◌≡◌, ◌≢◌, ℕ, zero, suc, ◌+◌, ◌-◌, ◌<◌, ◌≤◌, Bool, true, false, not, nat_eq, List, length, Option, Some, None, is_some, refl, sym, ap, subst, ◌∙◌, arith}
-use Rattle.std.specs.Prelude.{◌&&◌}
-use Rattle.std.proofs.lemmas.Bool.{false≢true, not-false}
+use Rattle.std.proofs.Common.{◌≡◌, ℕ, ◌+◌, ◌-◌, ◌<◌, ◌≤◌, true, false, List, length, refl, sym, ap, subst, ◌∙◌, arith}
+use Rattle.std.proofs.lemmas.Bool.{false≢true}
 use Rattle.ring_script.specs.declared.command.Command.{Command}
-use Rattle.group_view.specs.Ring.{is_in}
 use Rattle.group_view.specs.View.{right_of as right_of_entries}
-use Rattle.group_view.proofs.Rings.{nat_eq-is}
 use Rattle.group_view.proofs.Passing.{live_in}
 use Rattle.ring_world.specs.View.{is_live}
 use Rattle.ring_world.specs.Machine.{World, member_at, view_in, newest, right, runs}
@@ -15,59 +12,45 @@ use Rattle.ring_world.proofs.invariants.Period.{right_lives}
 use Rattle.ring_world.proofs.walks.Views.{right_is}
 use Rattle.ring_world.proofs.walks.Ended.{runs_lt}
 use Rattle.ring_world.proofs.walks.Put.{runs_phase-Up}
-use Rattle.ring_world.proofs.invariants.Opening.{range_in}
 use Rattle.ring_cluster.specs.declared.driver.OwnStep.TheVariants as step
-use Rattle.ring_cluster.specs.Idle.{HasNothingToDo, IsIdle, NobodyStopped, MarksNobody}
-use Rattle.ring_cluster.specs.Work.{is_stale}
+use Rattle.ring_world.specs.Idle.{HasNoStep, NobodySteps, MarksNobody}
+use Rattle.ring_world.specs.Work.{is_stale}
+use Rattle.ring_world.proofs.events.Plain.{up_of}
+use Rattle.ring_world.proofs.work.Fit as ring
+use Rattle.ring_world.proofs.work.Nobody.{ring_members}
+use Rattle.ring_world.proofs.work.Settling.{no_step, no_mark, someone}
+use Rattle.ring_cluster.specs.Idle.{NobodyStopped}
 use Rattle.ring_cluster.specs.Seen.{Seen, state_of, IsGoing, SameButOwed}
 use Rattle.ring_cluster.specs.Plays.{AgendasAreDone, AgendasAreEmpty}
 use Rattle.ring_cluster.specs.Turns.{SamePhases, MayStep, MayStepNowhere, MarksNoneAt, RestsAt}
 use Rattle.ring_cluster.proofs.post.Owed.{but_trans}
-use Rattle.ring_cluster.proofs.work.Reached.{IsReached, reached}
-use Rattle.ring_cluster.proofs.work.Rest.{run_idle_is_quiet}
-use Rattle.ring_cluster.proofs.rounds.Named.{going_many}
-
-pub going_reached : (c : Seen) → IsGoing c → IsReached (state_of c)
-going_reached c g = reached c.credit c.names c.events g.are g.run
+use Rattle.ring_cluster.proofs.work.Rest.{run_alive_is_quiet}
+use Rattle.ring_cluster.proofs.rounds.Named.{going_fit, going_ring, going_many}
 
 -- ---- the right neighbour of a member that runs
 
 -- it is one of the members
-pub right_there : (w : World) (x : ℕ) → IsReached w → runs w x ≡ true → (1 ≤ right w (newest w) x) × (right w (newest w) x < size w)
-right_there w x h r =
-    let d : ℕ = right w (newest w) x in
-    let lives : is_live (view_in w (newest w)) x ≡ true = h.fit.good.inv.is_ring.lives x (newest w) r (h.fit.good.inv.is_ring.held x) (omega arith) in
-    let k = range_in 1 (size w - 1) d (ap (is_in d) (sym h.each_id) ∙ live_in (view_in w (newest w)).entries d (right_lives w (newest w) x lives)) in
-    (k.0, omega (arith, k.0, k.1))
+pub right_there : (w : World) (x : ℕ) → ring.IsFit w → runs w x ≡ true → (1 ≤ right w (newest w) x) × (right w (newest w) x < size w)
+right_there w x f r =
+    let lives : is_live (view_in w (newest w)) x ≡ true = f.good.inv.is_ring.lives x (newest w) r (f.good.inv.is_ring.held x) (omega arith) in
+    ring_members w f.good f.nobody (right w (newest w) x) (live_in (view_in w (newest w)).entries (right w (newest w) x) (right_lives w (newest w) x lives))
 
 -- the view finds it
-pub right_found : (w : World) (x : ℕ) → IsReached w → runs w x ≡ true → right_of_entries (view_in w (newest w)).entries x ≡ right w (newest w) x
-right_found w x h r =
-    sym (right_is w (newest w) x (view_in w (newest w)) refl)
+pub right_found : (w : World) (x : ℕ) → right_of_entries (view_in w (newest w)).entries x ≡ right w (newest w) x
+right_found w x = sym (right_is w (newest w) x (view_in w (newest w)) refl)
 
 -- ---- who has nothing to do
 
-not_stale : (a b : Bool) → not (a && b) ≡ false → (a ≡ true) × (b ≡ true)
-not_stale true b e = (refl, not-false b e)
-not_stale false b e = absurd (false≢true (sym e))
-
-there : {A : Type 0} (o : Option A) → is_some o ≡ true → o ≢ None
-there None e = absurd (false≢true e)
-there (Some a) e = λ k. cc
-
--- a member that isn't stale and may do no step has nothing to do
-pub has_nothing : (w : World) (x : ℕ) → is_stale (newest w) (member_at w x) ≡ false → MayStepNowhere w x → HasNothingToDo w x
-has_nothing w x fresh none =
-    let parts = not_stale (nat_eq (member_at w x).version (newest w)) (is_some (member_at w x).out) fresh in
-    record {
-      newest = nat_eq-is (member_at w x).version (newest w) parts.0;
-      sends = there (member_at w x).out parts.1;
-      pick = none step.Pick;
-      take = none step.Take;
-      take_end = none step.TakeEnd;
-      gain = none step.Gain;
-      put = none step.Put;
-    }
+-- a member that isn't stale and may do no step has none to do
+no_step_there : (w : World) (x : ℕ) → ring.IsFit w → runs w x ≡ true → is_stale (newest w) (member_at w x) ≡ false → MayStepNowhere w x → HasNoStep w x
+no_step_there w x f r fresh none = no_step w f x r (record {
+  put = none step.Put;
+  take = none step.Take;
+  take_end = none step.TakeEnd;
+  gain = none step.Gain;
+  pick = none step.Pick;
+  refresh = λ stale. absurd (false≢true (sym fresh ∙ stale));
+})
 
 -- one step after another was refused
 pub all_refused : (c c1 c2 c3 c4 c5 : Seen) (x : ℕ) → SameButOwed c c1 × (MayStep (state_of c) x step.Pick → ⊥) → SameButOwed c1 c2 × (MayStep (state_of c1) x step.Take → ⊥) → SameButOwed c2 c3 × (MayStep (state_of c2) x step.TakeEnd → ⊥) → SameButOwed c3 c4 × (MayStep (state_of c3) x step.Gain → ⊥) → SameButOwed c4 c5 × (MayStep (state_of c4) x step.Put → ⊥) → SameButOwed c c5 × MayStepNowhere (state_of c) x
@@ -92,14 +75,15 @@ all_refused c c1 c2 c3 c4 c5 x pick take end gain put = (but_trans c c4 c5 four 
 -- it wasn't stale, and nothing was marked or done
 pub rests_after : (c c1 c2 : Seen) (x : ℕ) → is_stale (newest (state_of c)) (member_at (state_of c) x) ≡ false → SameButOwed c c1 × MarksNoneAt (state_of c) x → SameButOwed c1 c2 × MayStepNowhere (state_of c1) x → SameButOwed c c2 × RestsAt (state_of c) x
 rests_after c c1 c2 x fresh marks none =
-    (but_trans c c1 c2 marks.0 none.0, λ r. (has_nothing (state_of c) x fresh (subst (λ d. MayStepNowhere (state_of d) x) marks.0.1 none.1), marks.1))
+    (but_trans c c1 c2 marks.0 none.0, λ r. (fresh, subst (λ d. MayStepNowhere (state_of d) x) marks.0.1 none.1, marks.1))
 
 -- ---- all of them
 
 -- a member that runs is at a place
 runner_at : (c : Seen) (y : ℕ) → IsGoing c → runs (state_of c) y ≡ true → (i : ℕ) × (i < length c.names) × (i + 1 ≡ y)
-runner_at c zero g r = absurd (false≢true (sym (going_reached c g).rests ∙ r))
-runner_at c (suc i) g r = (i, omega (arith, runs_lt (state_of c) (suc i) r, going_many c g), omega arith)
+runner_at c y g r =
+    let some : 1 ≤ y = someone (state_of c) (going_ring c g) y r in
+    (y - 1, omega (arith, some, runs_lt (state_of c) y r, going_many c g), omega arith)
 
 rests_at : (c : Seen) (y : ℕ) → IsGoing c → ((i : ℕ) → i < length c.names → RestsAt (state_of c) (i + 1)) → RestsAt (state_of c) y
 rests_at c y g h r =
@@ -107,11 +91,13 @@ rests_at c y g h r =
     subst (RestsAt (state_of c)) p.2 (h p.0 p.1) r
 
 -- after a pass in which nobody did anything
-pub idle_after : (c d : Seen) → IsGoing c → SameButOwed c d × ((i : ℕ) → i < length c.names → RestsAt (state_of c) (i + 1)) → IsIdle (state_of d)
-idle_after c d g h = subst (λ x. IsIdle (state_of x)) (sym h.0.1) (λ y r. (rests_at c y g h.1 r).0)
+pub steps_after : (c d : Seen) → IsGoing c → SameButOwed c d × ((i : ℕ) → i < length c.names → RestsAt (state_of c) (i + 1)) → NobodySteps (state_of d)
+steps_after c d g h = subst (λ x. NobodySteps (state_of x)) (sym h.0.1) (λ y r. let k = rests_at c y g h.1 r in no_step_there (state_of c) y (going_ring c g) r k.0 k.1)
 
 pub marks_after : (c d : Seen) → IsGoing c → SameButOwed c d × ((i : ℕ) → i < length c.names → RestsAt (state_of c) (i + 1)) → MarksNobody (state_of d)
-marks_after c d g h = subst (λ x. MarksNobody (state_of x)) (sym h.0.1) (λ y r. (rests_at c y g h.1 r).1)
+marks_after c d g h = subst (λ x. MarksNobody (state_of x)) (sym h.0.1) (λ y r.
+    let w : World = state_of c in
+    no_mark w (going_ring c g) y (right w (newest w) y) r (up_of w y (going_fit c g).none_waits r) (right_there w y (going_ring c g) r).1 (rests_at c y g h.1 r).2)
 
 -- ---- where nobody has stopped
 
@@ -121,8 +107,8 @@ still_alive_in w w' s h x some lt = s.phase x ∙ h x some (omega (arith, s.many
 pub still_alive : (c d : Seen) → SamePhases (state_of c) (state_of d) → NobodyStopped (state_of c) → NobodyStopped (state_of d)
 still_alive c d = still_alive_in (state_of c) (state_of d)
 
-pub idle_is_quiet : (c : Seen) → IsGoing c → NobodyStopped (state_of c) → IsIdle (state_of c) → IsQuiet (state_of c)
-idle_is_quiet c g = run_idle_is_quiet c.credit c.names c.events g.are g.run
+pub alive_is_quiet : (c : Seen) → IsGoing c → NobodyStopped (state_of c) → NobodySteps (state_of c) → IsQuiet (state_of c)
+alive_is_quiet c g = run_alive_is_quiet c.credit c.names c.events g.are g.run
 
 pub done_is_empty : (c : Seen) → IsGoing c → NobodyStopped (state_of c) → AgendasAreDone c → AgendasAreEmpty c
 done_is_empty c g alive done i l = done i l (runs_phase-Up (state_of c) (i + 1) (alive (i + 1) (omega arith) (omega (arith, going_many c g, g.agendas))))

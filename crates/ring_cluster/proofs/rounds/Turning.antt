@@ -5,13 +5,14 @@ use Rattle.ring_world.specs.declared.event.Event.{Event}
 use Rattle.ring_world.specs.Machine.{runs}
 use Rattle.ring_world.specs.Event.{refusal, is_asked}
 use Rattle.ring_cluster.specs.declared.agenda.Task.{Task}
-use Rattle.ring_cluster.specs.Work.{work}
+use Rattle.ring_world.specs.Work.{total}
 use Rattle.ring_cluster.specs.Seen.{Seen, state_of, IsGoing, SameButOwed, with_event}
 use Rattle.ring_cluster.specs.Plays.{agenda_at, performed, task_event, SameGiven, HasBegun, AgendasAreDone}
 use Rattle.ring_cluster.specs.Turns.{Works, TakesTurns, TakesRound, IsDoneAt, RestsAt}
 use Rattle.ring_cluster.proofs.work.Phases.{same_refl, same_trans, same_runs}
 use Rattle.ring_cluster.proofs.post.Owed.{but_refl, but_trans}
-use Rattle.ring_cluster.proofs.rounds.Playing.{HasGoneOn-refl, HasGoneOn-owing, HasGoneOn-trans}
+use Rattle.ring_cluster.proofs.rounds.Playing.{HasGoneOn-refl, HasGoneOn-showing, HasGoneOn-trans}
+use Rattle.ring_cluster.proofs.rounds.Counting.{did_none, did_fewer, did_later, did_more, few_none, few_more, few_each}
 use Rattle.ring_cluster.proofs.rounds.Doing.{own_falls, own_goes, own_stays, performed_goes, performed_shrinks, performed_elsewhere, performed_stays, begun_on, begun_later}
 
 pub given_refl : (c : Seen) → SameGiven c c
@@ -31,7 +32,7 @@ round_trans c d e a b = record { goes = HasGoneOn-trans c d e a.goes b.goes; giv
 -- ---- work
 
 pub works_same : (c d : Seen) → SameButOwed c d → Works c d
-works_same c d e = subst (Works c) (sym e.1) (record { round = record { goes = HasGoneOn-owing c e.0; given = (refl, refl); names = refl; phases = same_refl (state_of c) }; agendas = refl })
+works_same c d e = subst (Works c) (sym e.1) (record { round = record { goes = HasGoneOn-showing c e.0; given = (refl, refl); names = refl; phases = same_refl (state_of c) }; agendas = refl })
 
 pub works_refl : (c : Seen) → Works c c
 works_refl c = works_same c c (but_refl c)
@@ -159,17 +160,17 @@ done_still c d h w i l r =
 
 pub record PassedBelow (c d : Seen) (moved : Bool) (k : ℕ) : Type 0 where
   pub works : Works c d
-  pub falls : moved ≡ true → work (state_of d) < work (state_of c)
+  pub falls : moved ≡ true → total (state_of d) < total (state_of c)
   pub stays : moved ≡ false → SameButOwed c d
   pub rests : moved ≡ false → (i : ℕ) → i < k → RestsAt (state_of c) (i + 1)
 
 pub passed_none : (c : Seen) → PassedBelow c c false 0
 passed_none c = record { works = works_refl c; falls = λ e. absurd (false≢true e); stays = λ _. but_refl c; rests = λ _ i l. absurd (omega arith) }
 
-pub passed_more : (c d e : Seen) (moved did : Bool) (k : ℕ) → PassedBelow c d moved k → Works d e → (did ≡ true → work (state_of e) < work (state_of d)) → (did ≡ false → SameButOwed d e × RestsAt (state_of d) (k + 1)) → PassedBelow c e (moved || did) (k + 1)
+pub passed_more : (c d e : Seen) (moved did : Bool) (k : ℕ) → PassedBelow c d moved k → Works d e → (did ≡ true → total (state_of e) < total (state_of d)) → (did ≡ false → SameButOwed d e × RestsAt (state_of d) (k + 1)) → PassedBelow c e (moved || did) (k + 1)
 passed_more c d e true true k h w falls rests = record { works = works_trans c d e h.works w; falls = λ _. omega (arith, falls refl, h.falls refl); stays = λ x. absurd (false≢true (sym x)); rests = λ x. absurd (false≢true (sym x)) }
-passed_more c d e true false k h w falls rests = record { works = works_trans c d e h.works w; falls = λ _. subst (λ x. work (state_of x) < work (state_of c)) (sym (rests refl).0.1) (h.falls refl); stays = λ x. absurd (false≢true (sym x)); rests = λ x. absurd (false≢true (sym x)) }
-passed_more c d e false true k h w falls rests = record { works = works_trans c d e h.works w; falls = λ _. subst (λ x. work (state_of e) < work (state_of x)) (h.stays refl).1 (falls refl); stays = λ x. absurd (false≢true (sym x)); rests = λ x. absurd (false≢true (sym x)) }
+passed_more c d e true false k h w falls rests = record { works = works_trans c d e h.works w; falls = λ _. subst (λ x. total (state_of x) < total (state_of c)) (sym (rests refl).0.1) (h.falls refl); stays = λ x. absurd (false≢true (sym x)); rests = λ x. absurd (false≢true (sym x)) }
+passed_more c d e false true k h w falls rests = record { works = works_trans c d e h.works w; falls = λ _. subst (λ x. total (state_of e) < total (state_of x)) (h.stays refl).1 (falls refl); stays = λ x. absurd (false≢true (sym x)); rests = λ x. absurd (false≢true (sym x)) }
 passed_more c d e false false k h w falls rests = record {
   works = works_trans c d e h.works w;
   falls = λ x. absurd (false≢true x);
@@ -187,10 +188,13 @@ passed_more c d e false false k h w falls rests = record {
 pub ruleset own_step = (own_falls, own_works, works_same)
 
 -- what a turn does
-pub ruleset one_turn = (performed_turns, performed_begun, works_turns, done_begun, turns_same)
+pub ruleset one_turn = (performed_turns, performed_begun, works_turns, done_begun, turns_same, did_none, did_later)
+
+-- what turns one after another do
+pub ruleset more_turns = (turns_trans, turns_refl, begun_still, did_none, did_fewer, did_more)
 
 -- what a round does
-pub ruleset rounds = (begun_more, begun_none, round_trans, turns_round)
+pub ruleset rounds = (begun_more, begun_none, round_trans, turns_round, few_none, few_more, few_each)
 
 -- what it does that all tasks of one member are done
 pub ruleset tasks = (performed_turns, performed_fewer, turns_trans, turns_same, turns_refl, done_at)

@@ -25,14 +25,10 @@ use Rattle.gm_member.proofs.Fit.{IsFit, reached_fit}
 use Rattle.gm_member.proofs.Parts.{held_is, held_from, rows_of, current_waits_not, other_waits_not}
 use Rattle.gm_member.proofs.DoorLists.{filter_agree}
 use Rattle.ring_cluster.specs.Ends.{Carries, fresh_out, fresh_in}
-use Rattle.ring_cluster.specs.Parties.{node_at, no_shown, Parties}
-use Rattle.ring_cluster.specs.Opened.{opened_at}
+use Rattle.ring_cluster.specs.Parties.{node_at, no_shown}
+use Rattle.ring_cluster.specs.Opened.{opened_at, opened_parties}
 use Rattle.ring_cluster.specs.Standing.{Places, MemberStands, StandAfter, has_out, HaveDone}
 use Rattle.ring_cluster.proofs.standing.Frames.{opened_carries}
-
--- all parties of a cluster that opens
-abbrev pub opened_parties : CreditSpec → List (List ℕ) → Parties
-opened_parties credit names = record { nodes = map (opened_at credit names) (range_with_len 0 (length names)); views = opening_group names ∷ []; stopped = []; post = [] }
 
 -- no link passes the test
 nothing_passes : (t : ℕ → Bool) (a n : ℕ) → ((s : ℕ) → a ≤ s → s < a + n → t s ≡ false) → filter t (range_with_len a n) ≡ []
@@ -44,7 +40,7 @@ nothing_passes t a n h = filter_agree t (λ _. false) a n h ∙ none (range_with
 
 module _ (credit : CreditSpec) (names : List (List ℕ)) (are : AreOpeningNames names) where
   fit : IsFit (opening credit names)
-  fit = reached_fit credit names [] are tt
+  fit = reached_fit credit names [] are refl tt
 
   many : length (opening credit names).links ≡ length names
   many = length-map-range_with_len (opening_link credit names) 1 (length names)
@@ -156,7 +152,7 @@ module _ (credit : CreditSpec) (names : List (List ℕ)) (are : AreOpeningNames 
 
   pub opened_stand : StandAfter credit names [] (opened_parties credit names)
   opened_stand = record {
-    journal = record { are = are; run = tt; few = omega arith };
+    journal = record { are = are; plain = refl; run = tt; few = omega arith };
     stand = record {
       places = first_places;
       stand = record {

@@ -13,7 +13,7 @@ use Rattle.ring_world.proofs.invariants.Happens.{IsGood}
 use Rattle.gm_member.specs.Held.{Held, Incoming, is_for, stays, kept_door, refreshed_held}
 use Rattle.gm_member.specs.Stands.{incoming_in, waits_for, door_links, door_in, held_in}
 use Rattle.gm_member.proofs.Doors.{stays_for, stays_kept}
-use Rattle.gm_member.proofs.OwnEnds.{OwnEnds}
+use Rattle.ring_world.proofs.work.OwnEnds.{OwnEnds}
 use Rattle.gm_member.proofs.Parts.{there_same}
 use Rattle.ring_cluster.specs.Ends.{OutSeen}
 use Rattle.ring_cluster.specs.Parties.{Shown, EndsSeen}

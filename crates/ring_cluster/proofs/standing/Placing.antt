@@ -23,10 +23,10 @@ use Rattle.gm_member.specs.Held.{Incoming}
 use Rattle.gm_member.specs.View.{ring_link}
 use Rattle.gm_member.specs.Shown.{in_name_of}
 use Rattle.gm_member.specs.Stands.{incoming_in, waits_for, door_links}
-use Rattle.gm_member.proofs.OwnEnds.{OwnEnds}
+use Rattle.ring_world.proofs.work.OwnEnds.{OwnEnds}
 use Rattle.ring_cluster.specs.Parties.{Shown}
 use Rattle.ring_cluster.specs.Standing.{Places, MemberStands, name_of, is_to, has_in}
-use Rattle.ring_cluster.proofs.work.Reached.{HasEachId}
+use Rattle.ring_world.proofs.work.Nobody.{NobodyAtZero, ring_members}
 use Rattle.ring_cluster.proofs.standing.Writing.{in_filter, at_in, distinct_filter}
 
 -- ---- names
@@ -55,9 +55,8 @@ pub record GoBetween (w : World) : Type 0 where
   pub sender : (s : ℕ) → s < length w.links → (1 ≤ (link_at w s).sender) × ((link_at w s).sender < size w)
   pub receiver : (s : ℕ) → s < length w.links → (1 ≤ (link_at w s).receiver) × ((link_at w s).receiver < size w)
 
--- where the newest view has just the members
-pub go_between : (w : World) → IsGood w → HasEachId w → GoBetween w
-go_between w h ids_are = record {
+pub go_between : (w : World) → IsGood w → NobodyAtZero w → GoBetween w
+go_between w h none = record {
   sender = λ s l. known s l (link_at w s).sender
       (sender_known w s h l);
   receiver = λ s l. known s l (link_at w s).receiver (h.inv.history.known s l);
@@ -66,8 +65,7 @@ go_between w h ids_are = record {
     known : (s : ℕ) → s < length w.links → (q : ℕ) → is_in q (ids (view_in w (link_at w s).opened)) ≡ true → (1 ≤ q) × (q < size w)
     known s l q i =
         let now : is_in q (ring w) ≡ true = h.inv.history.grows q (link_at w s).opened (newest w) i (h.inv.linked.opened s l) (omega arith) in
-        let r = range_in 1 (size w - 1) q (sym (ap (is_in q) ids_are) ∙ now) in
-        (r.0, omega (arith, r.0, r.1))
+        ring_members w h none q now
 
 -- ---- at a door
 

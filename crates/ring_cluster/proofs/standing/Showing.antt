@@ -11,7 +11,7 @@ use Rattle.ring_world.specs.Step.{size}
 use Rattle.ring_world.proofs.invariants.Happens.{IsGood}
 use Rattle.gm_member.specs.Stands.{waits_for}
 use Rattle.gm_member.specs.Shown.{in_name_of}
-use Rattle.gm_member.proofs.OwnEnds.{OwnEnds}
+use Rattle.ring_world.proofs.work.OwnEnds.{OwnEnds}
 use Rattle.gm_member.proofs.Parts.{there_same, current_waits_not}
 use Rattle.ring_cluster.specs.Ends.{OutSeen, InSeen, Carries}
 use Rattle.ring_cluster.specs.Parties.{Shown, Parties, no_shown, node_at, with_node, with_out, with_in}

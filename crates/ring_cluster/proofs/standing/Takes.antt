@@ -1,6 +1,7 @@
 -- What the calls show by which a member over plain ends takes from a link.
 use Rattle.std.proofs.Common.{◌≡◌, ℕ, ◌+◌, ◌<◌, ◌≤◌, Bool, true, false, List, [], ◌∷◌, map, length, Option, Some, None, refl, sym, ap, subst, ◌∙◌, ⊎_elim, arith}
-use Rattle.std.specs.Prelude.{◌⊎◌, Err, MatchOption, ⊤, option_map, nat_lt}
+use Rattle.std.specs.Prelude.{◌⊎◌, Result, Ok, Err, MatchOption, ⊤, option_map, nat_lt}
+use Rattle.std.specs.Result.{IsErrAnd}
 use Rattle.std.proofs.lemmas.Bool.Decides.{nat_tests}
 use mathlib.Core.List.{IsPrefix}
 use Rattle.ring_names.specs.declared.reason.Reason.{Reason}
@@ -16,6 +17,7 @@ use Rattle.ring_world.specs.Refusal.{or_else, refuse_if}
 use Rattle.ring_world.specs.Event.{is_stopped, version_refusal}
 use Rattle.gm_member.specs.declared.fault.MemberFault.{MemberFault}
 use Rattle.gm_member.specs.declared.fault.MemberFault.TheVariants as faults
+use Rattle.gm_member.specs.Faults.{refused_as}
 use Rattle.gm_member.specs.declared.packet.Load.{Load}
 use Rattle.gm_member.specs.declared.links.InLink.{InLink}
 use Rattle.gm_member.specs.Parcels.{Parcel}
@@ -260,7 +262,13 @@ end_refusal m n fault r is ready looks (q, why, refused) =
 
 -- ---- a step that wasn't done
 
+-- only a refused call tells why the event isn't enabled
+refused_only : (fault : MemberFault) (r : Reason) → refused_as fault ≡ NotEnabled r → fault ≡ faults.Refused r
+refused_only (faults.Refused q) r e = cc
+refused_only faults.OutOfMemory r e = cc
+
 -- its fault is a refusal where the first condition that fails is that, and the member shows what it showed
-pub not_done : (refusal : Option Reason) (does : Shown → Shown → Type 0) (m n : Shown) (fault : MemberFault) (e : Refused) → ((r : Reason) → e ≡ NotEnabled r → fault ≡ faults.Refused r) → ((r : Reason) → fault ≡ faults.Refused r → refusal ≡ Some r)
-    → n ≡ m → Tries refusal does m n (Err e)
-not_done refusal does m n fault e only why same = record { judged = record { enabled = tt; reason = λ r x. why r (only r x) }; ok = tt; err = same }
+pub not_done : (refusal : Option Reason) (does : Shown → Shown → Type 0) (m n : Shown) (fault : MemberFault) (result : Result (Unit {0}) Refused) → IsErrAnd result (λ e. e ≡ refused_as fault) → ((r : Reason) → fault ≡ faults.Refused r → refusal ≡ Some r)
+    → n ≡ m → Tries refusal does m n result
+not_done refusal does m n fault (Ok a) is why same = absurd is
+not_done refusal does m n fault (Err e) is why same = record { judged = record { enabled = tt; reason = λ r x. why r (refused_only fault r (sym is ∙ x)) }; ok = tt; err = same }

@@ -1,4 +1,4 @@
--- In every state of every run, nobody has taken from a link at a door.
+-- In every state of every run of plain events, nobody has taken from a link at a door.
 use Rattle.std.proofs.Common.{◌≡◌, ℕ, ◌+◌, ◌<◌, ◌≤◌, Bool, true, false, not, nat_eq, List, length, set, [], ◌∷◌, ◌++◌, Option, Some, None, refl, sym, ap, ◌∙◌, arith, ⊎_elim}
 use Rattle.std.specs.Prelude.{◌&&◌}
 use Rattle.std.proofs.lemmas.Bool.{false≢true, and_parts, and_from, not-true, cases_lt}
@@ -11,21 +11,23 @@ use Rattle.ring_world.specs.declared.event.Event.{Event}
 use Rattle.ring_world.specs.declared.phase.Ending.TheVariants.{Halted}
 use Rattle.ring_world.specs.Machine.{Member, Link, World, no_link, member_at, link_at, view_in, newest, runs_phase}
 use Rattle.ring_world.specs.OpenLinks.{is_place, is_current, is_door_link, passes}
-use Rattle.ring_world.specs.Step.{size, pushed, popped, next_packet, finished, stop_at, ended, end_out, opening}
-use Rattle.ring_world.specs.Event.{refreshed, refusal, effect, IsRun, last}
-use Rattle.ring_world.proofs.events.Cases.{each_event}
+use Rattle.ring_world.specs.Step.{size, published, publish_at, put_on, gain_on, taker, take_from, pushed, popped, next_packet, finished, stopped, stop_at, ended, end_out, opening}
+use Rattle.ring_world.specs.Event.{is_plain, ArePlain, refreshed, refusal, effect, IsRun, last}
+use Rattle.ring_world.proofs.events.Cases.{up_runs}
+use Rattle.ring_world.proofs.events.Composed.{end_composed}
+use Rattle.ring_world.proofs.events.Plain.{NoneWaits, each_plain, plain_events, opening_none}
 use Rattle.ring_world.proofs.events.First.{first_link_is}
 use Rattle.ring_world.proofs.rings.Lists.{at_set}
 use Rattle.ring_world.proofs.rings.Rounds.{nat_eq-is, nat_eq-same}
-use Rattle.ring_world.proofs.invariants.Happens.{IsGood, run_events, opening_good}
+use Rattle.ring_world.proofs.invariants.Happens.{IsGood, event_good, opening_good, reached_good}
+use Rattle.ring_world.specs.Work.{place_by, place_at}
+use Rattle.ring_world.proofs.walks.LeftLinks.{event_later}
+use Rattle.ring_world.proofs.work.Nobody.{reached_nobody}
+use Rattle.ring_world.proofs.work.Places.{IsWritten, KeepsPlaces, NoneRises, written, unwritten, written_places, leave_places, refresh_places, pick_places}
+use Rattle.ring_world.proofs.work.Refreshed.{opened_world, old_links, link_old, link_new, links_more, refresh_cases}
 use Rattle.gm_member.specs.Stands.{waits_for}
-use Rattle.gm_member.proofs.OpenDoors.{opened_world, old_links, link_old, link_new, links_more}
-use Rattle.ring_cluster.specs.Work.{place_by, place_at}
-use Rattle.ring_cluster.proofs.work.Reached.{reached}
-use Rattle.ring_cluster.proofs.work.Places.{event_places}
 use Rattle.ring_cluster.proofs.standing.Placing.{GoBetween, go_between}
 use Rattle.ring_cluster.proofs.post.Collections.{AreFresh}
-use Rattle.ring_cluster.proofs.work.Refreshed.{refresh_cases}
 
 -- ---- the place of a link that waits
 
@@ -94,9 +96,9 @@ refresh_keeps w vs x v lt = refresh_cases (Keeps w) seen x v lt (λ _. keeps_lin
     seen : World
     seen = record w { views = vs }
 
--- each event
-event_keeps : (w : World) (e : Event) → IsGood w → refusal w e ≡ None → Keeps w (effect w e)
-event_keeps w e g r = each_event (Keeps w) w e g.none_waits (record {
+-- each plain event
+event_keeps : (w : World) (e : Event) → is_plain e ≡ true → IsGood w → NoneWaits w → refusal w e ≡ None → Keeps w (effect w e)
+event_keeps w e p g n r = each_plain (Keeps w) w e p n (record {
   casts = λ x m u. keeps_links w w.views _;
   puts = λ x o u out k. keeps_set w w.members o (pushed (link_at w o) (next_packet (member_at w x) (link_at w o).sending)) (g.inv.linked.out_lt x o (ap runs_phase u.up) out) (λ _. refl);
   takes = λ y s u m. keeps_set w _ s (popped (link_at w s)) (g.inv.current.lt y s (ap runs_phase u.up) m.current)
@@ -109,13 +111,28 @@ event_keeps w e g r = each_event (Keeps w) w e g.none_waits (record {
   picks = λ y s u none at upto. keeps_links w w.views _;
 }) r
 
+-- no link rises from its place
+event_places : (w : World) (e : Event) → is_plain e ≡ true → IsGood w → NoneWaits w → refusal w e ≡ None → NoneRises w (effect w e)
+event_places w e p g n r = each_plain (KeepsPlaces w) w e p n (record {
+  casts = λ x m u. written_places w (publish_at w x m) x (published x m (member_at w x)) g (written w w.views x (published x m (member_at w x)) w.links u.lt) refl;
+  puts = λ x o u out k. written_places w (put_on w x o) x (member_at w x) g (unwritten w x (put_on w x o).links) refl;
+  takes = λ y s u m. written_places w (take_from w y s) y (taker w y s) g (written w w.views y (taker w y s) (take_from w y s).links u.lt) refl;
+  leaves = λ y s u current k. leave_places w y s g (up_runs w y u) current;
+  gains = λ x o u out k. written_places w (gain_on w o) x (member_at w x) g (unwritten w x (gain_on w o).links) refl;
+  stops = λ x u. written_places w (end_out Halted (stop_at w x) (member_at w x).out) x (stopped (member_at w x)) g
+      (end_composed (λ w'. IsWritten w w' x (stopped (member_at w x))) Halted (stop_at w x) (member_at w x).out (λ _ _ m. record { many = m.many; here = m.here; others = m.others }) (written w w.views x (stopped (member_at w x)) w.links u.lt)) refl;
+  marks = λ x d u m. refresh_places w (w.views ++ marked (view_in w (newest w)) d ∷ []) x (newest w + 1) g u.lt;
+  refreshes = λ x v u m. refresh_places w w.views x v g u.lt;
+  picks = λ y s u none at upto. pick_places w y s g u.lt none at upto;
+}) r (event_good w e g r) (event_later w e g r)
+
 -- a link that waits then has waited before, or is new
-event_fresh : (w : World) (e : Event) → IsGood w → refusal w e ≡ None → AreFresh w → AreFresh (effect w e)
-event_fresh w e g r f z s l waits =
-    let k = event_keeps w e g r in
+event_fresh : (w : World) (e : Event) → is_plain e ≡ true → IsGood w → NoneWaits w → refusal w e ≡ None → AreFresh w → AreFresh (effect w e)
+event_fresh w e p g n r f z s l waits =
+    let k = event_keeps w e p g n r in
     ⊎_elim
     (λ (lt : s < length w.links).
-    let falls : place_at (effect w e) s ≤ place_at w s = event_places w e g r s lt in
+    let falls : place_at (effect w e) s ≤ place_at w s = event_places w e p g n r s lt in
     let was = high_waits w s (omega (arith, falls, waits_high (effect w e) z s waits)) in
     k.counted s lt was.1 ∙ f (link_at w s).receiver s lt was.0 ∙ sym k.credit)
     (λ (ge : length w.links ≤ s). k.opened s ge l ∙ sym k.credit)
@@ -126,9 +143,9 @@ event_fresh w e g r f z s l waits =
 opening_fresh : (credit : CreditSpec) (names : List (List ℕ)) → AreFresh (opening credit names)
 opening_fresh credit names z s l e = ap (λ (a : Link). a.flow.receiver) (first_link_is credit names s l)
 
-pub reached_fresh : (credit : CreditSpec) (names : List (List ℕ)) (events : List Event) → AreOpeningNames names → IsRun (opening credit names) events → AreFresh (last (opening credit names) events)
-reached_fresh credit names events are r = run_events AreFresh event_fresh (opening credit names) events (opening_good credit names are) r (opening_fresh credit names)
+pub reached_fresh : (credit : CreditSpec) (names : List (List ℕ)) (events : List Event) → AreOpeningNames names → ArePlain events → IsRun (opening credit names) events → AreFresh (last (opening credit names) events)
+reached_fresh credit names events are plain r = plain_events AreFresh event_fresh (opening credit names) events plain (opening_good credit names are) (opening_none credit names) r (opening_fresh credit names)
 
 -- and each link goes from a member to a member
 pub reached_go : (credit : CreditSpec) (names : List (List ℕ)) (events : List Event) → AreOpeningNames names → IsRun (opening credit names) events → GoBetween (last (opening credit names) events)
-reached_go credit names events are r = let k = reached credit names events are r in go_between (last (opening credit names) events) k.fit.good k.each_id
+reached_go credit names events are r = go_between (last (opening credit names) events) (reached_good credit names events are r) (reached_nobody credit names events are r)

@@ -14,7 +14,7 @@ use Rattle.ring_world.specs.Event.{IsRun, last}
 use Rattle.ring_world.proofs.rings.Lists.{at_set, at_push, get_or_beyond}
 use Rattle.ring_world.proofs.events.First.{first_link}
 use Rattle.ring_world.proofs.invariants.Happens.{IsGood, opening_good}
-use Rattle.ring_world.proofs.events.Parts.{Part, cast_part, put_part, take_part, gain_part, stop_part, open_part, still_part, run_keeps}
+use Rattle.ring_world.proofs.events.Parts.{Part, cast_part, put_part, take_part, begin_part, come_part, gain_part, stop_part, open_part, still_part, run_keeps}
 use Rattle.ring_world.proofs.runs.LinkCredit.{LinkIsKept, IsCredited, part_credited, opening_credited}
 use Rattle.ring_cluster.proofs.lists.Grants.{ArePositive, ArePositive-count, ArePositive-with_grant}
 
@@ -40,6 +40,9 @@ part_gives initial more positive w w' (cast_part x m some lt e) h = subst AllGiv
 part_gives initial more positive w w' (put_part x o lt free e) h = subst AllGive (sym e) (link_gives w o _ lt (h.gives o) h.gives)
 part_gives initial more positive w w' (take_part y s some t lt g e) h =
     subst AllGive (sym e) (λ j. at_set (λ i k. ArePositive k.flow.grants) w.links s j (popped (link_at w s)) no_link lt (popped_gives initial more (link_at w s) positive (h.credited.links s lt) (h.gives s)) (λ _. h.gives j))
+part_gives initial more positive w w' (begin_part y s some b lt none e) h =
+    subst AllGive (sym e) (λ j. at_set (λ i k. ArePositive k.flow.grants) w.links s j (popped (link_at w s)) no_link lt (popped_gives initial more (link_at w s) positive (h.credited.links s lt) (h.gives s)) (λ _. h.gives j))
+part_gives initial more positive w w' (come_part m name e) h = subst AllGive (sym e) h.gives
 part_gives initial more positive w w' (gain_part o lt some e) h = subst AllGive (sym e) (link_gives w o _ lt (All-drop (λ g. 0 < g) 1 (link_at w o).flow.grants (h.gives o)) h.gives)
 part_gives initial more positive w w' (stop_part x lt e) h = subst AllGive (sym e) h.gives
 part_gives initial more positive w w' (open_part x z e) h = subst AllGive (sym e) (λ s. ⊎_elim

@@ -8,23 +8,25 @@ use Rattle.group_view.specs.Ring.{is_in, others}
 use Rattle.group_view.specs.Change.{AreOpeningNames}
 use Rattle.group_view.proofs.Rings.{rotated_is}
 use Rattle.ring_world.specs.declared.event.Event.{Event}
-use Rattle.ring_world.specs.Machine.{World, numbers_at, member_at, ring, runs}
+use Rattle.ring_world.specs.Machine.{World, numbers_at, ring, runs}
 use Rattle.ring_world.specs.OpenLinks.{NeverRises, number}
 use Rattle.ring_world.proofs.walks.CountedWalk.{numbers, counted, only, no_but, is_early, round_of, retired_by, stopped_from, running_from}
 use Rattle.ring_world.specs.Step.{log_of, opening}
-use Rattle.ring_world.specs.Event.{IsRun, last}
+use Rattle.ring_world.specs.Event.{ArePlain, IsRun, last}
 use Rattle.ring_world.specs.Lawful.{row_of}
 use Rattle.ring_world.specs.Quiet.{IsAtRest, IsQuiet}
 use Rattle.ring_world.proofs.walks.Put.{number_up}
 use Rattle.ring_world.proofs.rings.Falling.{falls_across, each_in_round, in_head, rises_second}
 use Rattle.ring_world.proofs.invariants.Happens.{IsGood}
-use Rattle.ring_world.proofs.runs.Confirmed.{up_of, runs_within, runs_in_walk}
+use Rattle.ring_world.proofs.runs.Confirmed.{runs_in_walk}
+use Rattle.ring_world.proofs.events.Plain.{NoneWaits, up_of}
+use Rattle.ring_world.proofs.walks.Ended.{runs_lt}
 use Rattle.gm_member.proofs.Fit.{IsFit, reached_fit}
 use Rattle.ring_cluster.specs.Heard.{HasHeardAll}
 
 -- ---- what has come round twice was forgotten by its publisher
 
-module _ (w : World) (p : ℕ) (g : IsGood w) (some : 1 ≤ p) (rp : runs w p ≡ true) where
+module _ (w : World) (p : ℕ) (g : IsGood w) (n : NoneWaits w) (some : 1 ≤ p) (rp : runs w p ≡ true) where
   -- the round of what was forgotten
   abbrev second_round : List ℕ
   second_round = round_of (λ k. k.forgot) (λ r. r.forgot) w p (stopped_from w p) (running_from w p)
@@ -39,7 +41,7 @@ module _ (w : World) (p : ℕ) (g : IsGood w) (some : 1 ≤ p) (rp : runs w p �
 
   -- the publisher owns what it published
   own_running : running_from w p ≡ p ∷ filter (runs w) (others p (ring w))
-  own_running = ap (filter (runs w)) (rotated_is p (ring w) (g.inv.origins p some (runs_within w p rp))) ∙ rw rp refl
+  own_running = ap (filter (runs w)) (rotated_is p (ring w) (g.inv.origins p some (runs_lt w p rp))) ∙ rw rp refl
 
   -- so what it has retired ends the walk
   retired_there : is_in (row_of w p p).retired (retired_by w p (running_from w p)) ≡ true
@@ -49,8 +51,8 @@ module _ (w : World) (p : ℕ) (g : IsGood w) (some : 1 ≤ p) (rp : runs w p �
   pub retired_is_forgotten : (row_of w p p).retired ≤ (row_of w p p).forgot
   retired_is_forgotten =
       let first : List ℕ = round_of (λ k. k.got) (λ r. r.got) w p (stopped_from w p) (running_from w p) in
-      let falls : NeverRises (second_round ++ retired_by w p (running_from w p)) = rises_second first (second_round ++ retired_by w p (running_from w p)) (g.inv.walks p some (runs_within w p rp)) in
-      subst (λ a. (row_of w p p).retired ≤ a) (number_up (λ k. k.forgot) (λ r. r.forgot) w p p (up_of (member_at w p).phase rp (g.none_waits p)))
+      let falls : NeverRises (second_round ++ retired_by w p (running_from w p)) = rises_second first (second_round ++ retired_by w p (running_from w p)) (g.inv.walks p some (runs_lt w p rp)) in
+      subst (λ a. (row_of w p p).retired ≤ a) (number_up (λ k. k.forgot) (λ r. r.forgot) w p p (up_of w p n rp))
       (falls_across (number (λ k. k.forgot) (λ r. r.forgot) w p p) (row_of w p p).retired second_round (retired_by w p (running_from w p)) falls forgot_there retired_there)
 
 -- ---- a ring at rest
@@ -58,17 +60,17 @@ module _ (w : World) (p : ℕ) (g : IsGood w) (some : 1 ≤ p) (rp : runs w p �
 module _ (w : World) (h : IsFit w) (rest : IsAtRest w) where
   -- all that a running member published was forgotten by it
   all_forgotten : (p : ℕ) → 1 ≤ p → runs w p ≡ true → length (log_of w p) ≤ (row_of w p p).forgot
-  all_forgotten p some rp = omega (arith, (rest.members p rp).come_round, retired_is_forgotten w p h.good some rp)
+  all_forgotten p some rp = omega (arith, (rest.members p rp).come_round, retired_is_forgotten w p h.good h.none_waits some rp)
 
   pub rest_has_heard : HasHeardAll w
   rest_has_heard = record {
     confirmed = λ p some rp. omega (arith, all_forgotten p some rp, (h.lawful.within.rows p p).forgot);
     heard = λ q p some rp up.
-        let all : length (log_of w p) ≤ (row_of w q p).got = omega (arith, all_forgotten p some rp, h.lawful.confirmed q p some rp up) in
-        h.lawful.in_order q p ∙ take_all (row_of w q p).got (log_of w p) all;
+        let all : length (log_of w p) ≤ (row_of w q p).got = omega (arith, all_forgotten p some rp, h.lawful.confirmed.up q p some (runs_lt w p rp) up) in
+        h.heard q p ∙ take_all (row_of w q p).got (log_of w p) all;
   }
 
--- ---- every state of every run
+-- ---- every state of every run of plain events
 
 -- where nobody runs, nothing has to be heard
 nobody_has : (w : World) → ((y : ℕ) → runs w y ≡ false) → HasHeardAll w
@@ -78,8 +80,8 @@ nobody_has w none = record {
 }
 
 -- a quiet ring has heard all
-pub run_quiet_has_heard : (credit : CreditSpec) (names : List (List ℕ)) (events : List Event) → AreOpeningNames names → IsRun (opening credit names) events → IsQuiet (last (opening credit names) events) → HasHeardAll (last (opening credit names) events)
-run_quiet_has_heard credit names events are r quiet =
+pub run_quiet_has_heard : (credit : CreditSpec) (names : List (List ℕ)) (events : List Event) → AreOpeningNames names → ArePlain events → IsRun (opening credit names) events → IsQuiet (last (opening credit names) events) → HasHeardAll (last (opening credit names) events)
+run_quiet_has_heard credit names events are plain r quiet =
     let w : World = last (opening credit names) events in
     ⊎_elim (λ (none : (y : ℕ) → runs w y ≡ false). nobody_has w none)
-    (λ (rest : IsAtRest w). rest_has_heard w (reached_fit credit names events are r) rest) quiet
+    (λ (rest : IsAtRest w). rest_has_heard w (reached_fit credit names events are plain r) rest) quiet

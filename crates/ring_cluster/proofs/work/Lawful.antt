@@ -1,11 +1,11 @@
--- What holds in every state of every run, as the parties of a cluster need it.
+-- What holds in every state of every run of plain events, as the parties of a cluster need it.
 use Rattle.std.proofs.Common.{◌≡◌, ℕ, ◌<◌, ◌≤◌, List, length, sum}
 use Rattle.ring_names.specs.declared.numbers.CreditSpec.{CreditSpec}
 use Rattle.group_view.specs.Change.{AreOpeningNames}
 use Rattle.ring_world.specs.declared.event.Event.{Event}
 use Rattle.ring_world.specs.Machine.{World, link_at}
 use Rattle.ring_world.specs.Step.{opening}
-use Rattle.ring_world.specs.Event.{IsRun, last}
+use Rattle.ring_world.specs.Event.{ArePlain, IsRun, last}
 use Rattle.ring_world.proofs.runs.LinkCredit.{LinkIsKept, run_credited}
 use Rattle.gm_member.proofs.Fit.{IsFit, reached_fit}
 use Rattle.gm_member.proofs.WithinLinks.{AllWithin, reached_within}
@@ -20,9 +20,9 @@ pub record IsLawfulAt (credit : CreditSpec) (w : World) : Type 0 where
   -- each grant is of some credit
   pub few : (s : ℕ) → s < length w.links → length (link_at w s).flow.grants ≤ sum (link_at w s).flow.grants
 
-pub lawful_at : (credit : CreditSpec) (names : List (List ℕ)) (events : List Event) → AreOpeningNames names → IsRun (opening credit names) events → IsLawfulAt credit (last (opening credit names) events)
-lawful_at credit names events are r = record {
-  fit = reached_fit credit names events are r;
+pub lawful_at : (credit : CreditSpec) (names : List (List ℕ)) (events : List Event) → AreOpeningNames names → ArePlain events → IsRun (opening credit names) events → IsLawfulAt credit (last (opening credit names) events)
+lawful_at credit names events are plain r = record {
+  fit = reached_fit credit names events are plain r;
   within = reached_within credit names events are r;
   initial_is = (run_credited credit names events are r).initial_is;
   more_is = (run_credited credit names events are r).more_is;

@@ -6,15 +6,15 @@ use Rattle.ring_names.specs.declared.message.Message.TheVariants as message
 use Rattle.group_view.specs.View.{Group}
 use Rattle.group_view.specs.Change.{marked}
 use Rattle.ring_world.specs.declared.event.Event.{Event}
-use Rattle.ring_world.specs.declared.event.Event.TheVariants.{Cast, Put, Take, TakeEnd, Gain, Stop, Mark, Refresh, Pick}
+use Rattle.ring_world.specs.declared.event.Event.TheVariants.{Cast, Put, Take, TakeEnd, Gain, Stop, Mark, Refresh, Admit, Pick, Erase, Refuse}
 use Rattle.ring_world.specs.declared.phase.Phase.{Phase}
 use Rattle.ring_world.specs.declared.phase.Phase.TheVariants.{Waiting, Up, Stopped}
 use Rattle.ring_world.specs.declared.phase.Ending.TheVariants.{Moved}
 use Rattle.ring_world.specs.View.{right_of}
 use Rattle.ring_world.specs.Machine.{Member, Link, World, no_member, member_at, link_at, view_in, newest, is_waiting, runs, runs_phase}
 use Rattle.ring_world.specs.Step.{published, taker, with_current, with_view, with_link, moved_to, look_at, open_to, ended}
-use Rattle.ring_world.specs.Event.{is_asked, by_of, at_found, taken_by, done_at, refreshed, effect, id_of, at_door}
-use Rattle.ring_world.proofs.events.NoneWaits.{NoneWaits}
+use Rattle.ring_world.specs.Event.{is_asked, by_of, at_found, taken_by, done_at, erased_view, refreshed, effect, id_of, at_door}
+use Rattle.ring_world.proofs.events.Plain.{NoneWaits}
 use Rattle.ring_world.proofs.events.Composed.{refresh_composed}
 use Rattle.ring_cluster.specs.Turns.{SamePhases}
 
@@ -83,7 +83,10 @@ done_phases w (Gain by) x n own = found_same w (member_at w x).out _ (λ o. reco
 done_phases w (Stop by) x n own = absurd (false≢true (sym own))
 done_phases w (Mark by dead) x n own = found_same w (id_of w dead) _ (λ d. marked_same w (marked (view_in w (newest w)) d) x _)
 done_phases w (Refresh by version) x n own = refreshed_same w x version
+done_phases w (Admit by name) x n own = absurd (false≢true (sym own))
 done_phases w (Pick by) x n own = found_same w (at_door w x) _ (λ s. same_set w x (with_current (Some s) (member_at w x)) w.links w.views refl)
+done_phases w (Erase by origin) x n own = found_same w (id_of w origin) _ (λ p. marked_same w (erased_view w p) x _)
+done_phases w (Refuse code inner) x n own = absurd (false≢true (sym own))
 
 -- so its event
 pub own_phases : (w : World) (e : Event) → NoneWaits w → is_asked e ≡ false → SamePhases w (effect w e)

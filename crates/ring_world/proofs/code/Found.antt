@@ -8,7 +8,7 @@ use Rattle.ring_world.specs.declared.wire.Wire.{Wire}
 use Rattle.ring_world.specs.declared.state.Ring.{Ring}
 use Rattle.ring_world.specs.Machine.{Up, row_at, newest, runs_phase, runs, member_at}
 use Rattle.ring_world.specs.Placed.{IsPlaced}
-use Rattle.ring_world.specs.Shows.{world_of, row_of, member_of, link_of, member_in, link_in, stands_at_door}
+use Rattle.ring_world.specs.Shows.{world_of, member_of, link_of, member_in, link_in, stands_at_door}
 use Rattle.ring_world.proofs.code.ShownParts.{read_member, read_link, position_map}
 
 -- a running member's links stand
@@ -53,16 +53,17 @@ named_place r name o e = mapped_suc o ∙ ap (option_map (λ i. i + 1)) e
 
 -- its own row stands, and has got all that it published
 pub own_row : (r : Ring) (i : ℕ) → IsPlaced (world_of r) → i < length r.seats.items → suc i < length (member_in r.seats.items i).rows
-own_row r i h l =
-    let many = length-map r.seats.items member_of in
-    omega (arith, many, h.rows (suc i) (omega arith) (omega (arith, many)))
+own_row r i h l = h.row (suc i) (omega arith) (omega (arith, length-map r.seats.items member_of))
 
 pub own_got : (r : Ring) (i : ℕ) → IsPlaced (world_of r) → i < length r.seats.items → (row_at (member_in r.seats.items i) (suc i)).got ≡ length (member_in r.seats.items i).log
 own_got r i h l = h.own (suc i) (omega arith) (omega (arith, length-map r.seats.items member_of))
 
 -- where a running member sends
+pub out_running : (r : Ring) (i o : ℕ) → IsPlaced (world_of r) → runs (world_of r) (suc i) ≡ true → (member_in r.seats.items i).out ≡ Some o → o < length r.wires.items
+out_running r i o h run out = omega (arith, length-map r.wires.items link_of, h.out (suc i) o run out)
+
 pub out_at : (r : Ring) (i o : ℕ) → IsPlaced (world_of r) → (member_in r.seats.items i).phase ≡ Up → (member_in r.seats.items i).out ≡ Some o → o < length r.wires.items
-out_at r i o h up out = omega (arith, length-map r.wires.items link_of, h.out (suc i) o (ap runs_phase up) out)
+out_at r i o h up out = out_running r i o h (ap runs_phase up) out
 
 -- the version in which a link is tested at the door of a running member: the later one of its own and of the link's opening
 pub tested_some : (r : Ring) (i : ℕ) (s : Seat) (n : ℕ) → IsPlaced (world_of r) → i < length r.seats.items → s ≡ get_or r.seats.items i s → runs (world_of r) (suc i) ≡ true → 1 ≤ max s.version n
@@ -78,8 +79,11 @@ pub same_version : (r : Ring) (i : ℕ) (s : Seat) → i < length r.seats.items 
 same_version r i s l e = sym (ap (λ m. m.version) (read_member r.seats.items i s l e))
 
 -- and from where it takes
+pub current_running : (r : Ring) (i o : ℕ) → IsPlaced (world_of r) → runs (world_of r) (suc i) ≡ true → (member_in r.seats.items i).current ≡ Some o → o < length r.wires.items
+current_running r i o h run e = omega (arith, length-map r.wires.items link_of, h.current (suc i) o run e)
+
 pub current_at : (r : Ring) (i o : ℕ) → IsPlaced (world_of r) → (member_in r.seats.items i).phase ≡ Up → (member_in r.seats.items i).current ≡ Some o → o < length r.wires.items
-current_at r i o h up e = omega (arith, length-map r.wires.items link_of, h.current (suc i) o (ap runs_phase up) e)
+current_at r i o h up e = current_running r i o h (ap runs_phase up) e
 
 -- a link's opening
 pub link_some : (r : Ring) (s : ℕ) (l : Wire) → IsPlaced (world_of r) → s < length r.wires.items → l ≡ get_or r.wires.items s l → 1 ≤ l.opened
@@ -95,10 +99,3 @@ out_some r i n s h l e up many = by_out s.out refl
     by_out (Some o) k =
         let same : member_in r.seats.items i ≡ member_of s = read_member r.seats.items i s l e in
         omega (arith, many, out_at r i o h up (ap (λ m. m.out) same ∙ k))
-
--- a member has a row for each
-pub row_there : (r : Ring) (i j : ℕ) (s : Seat) → IsPlaced (world_of r) → i < length r.seats.items → j < length r.seats.items → s ≡ get_or r.seats.items i s → suc j < length s.rows.items
-row_there r i j s h l m e =
-    let many = length-map r.seats.items member_of in
-    let same : length (member_in r.seats.items i).rows ≡ length (member_of s).rows = ap (λ k. length k.rows) (read_member r.seats.items i s l e) in
-    omega (arith, many, h.rows (suc i) (omega arith) (omega (arith, many, l)), same, length-map s.rows.items row_of, m)

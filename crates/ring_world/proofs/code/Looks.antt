@@ -1,15 +1,18 @@
 -- Whether a link is kept, by the views that were looked at.
 use Rattle.std.proofs.Common.{◌≡◌, ◌≢◌, ℕ, ◌<◌, ◌≤◌, ◌+◌, ◌-◌, Bool, true, false, List, refl, sym, ap, subst, ◌∙◌, arith, nat_eq, get_or}
 use Rattle.std.proofs.lemmas.Bool.{false≢true}
-use Rattle.std.specs.Prelude.{Option, Some, None}
+use Rattle.std.specs.Prelude.{Option, Some, None, nat_le, length}
 use Rattle.group_view.specs.View.{Group}
 use Rattle.group_view.specs.Since.{no_group}
-use Rattle.group_view.specs.Change.{mark_refusal}
-use Rattle.group_view.proofs.Passing.{live_in}
+use Rattle.group_view.specs.View.{is_dead}
+use Rattle.group_view.specs.Change.{mark_refusal, erase_refusal, admit_refusal as group_refusal, is_taken, most_entries}
+use Rattle.ring_names.specs.declared.reason.Reason.TheVariants as reason
+use Rattle.group_view.proofs.Passing.{live_in, dead_in}
 use Rattle.ring_world.specs.View.{left_by, left_of, right_of, is_live}
-use Rattle.ring_world.specs.Machine.{is_kept_of, World, Moved, member_at, view_in}
+use Rattle.ring_world.specs.Machine.{is_kept_of, World, Moved, member_at, view_in, newest}
 use Rattle.ring_world.specs.Step.{look_at, open_to, end_out}
-use Rattle.ring_world.specs.Event.{send_to, refreshed}
+use Rattle.ring_world.specs.Event.{send_to, refreshed, admit_refusal}
+use Rattle.ring_world.proofs.events.Refusals.{none_of, refuse_none}
 use Rattle.ring_world.specs.Shows.{sends_to}
 use Rattle.group_view.proofs.Lists.{all_range, at_range}
 use Rattle.group_view.proofs.Rings.{nat_eq-is, nat_eq-same}
@@ -59,3 +62,15 @@ refreshed_moves w x v z e h = by_out (member_at w x).out (subst (λ k. sends_to 
 -- nobody refuses to mark who lives
 pub nobody_refuses : (g : Group) (d : ℕ) → is_live g d ≡ true → mark_refusal g.entries d ≡ None
 nobody_refuses g d h = rw (live_in g.entries d h, h) refl
+
+-- nor to erase who is dead
+pub nobody_refuses_erasing : (g : Group) (p : ℕ) → is_dead g.entries p ≡ true → erase_refusal g.entries p ≡ None
+nobody_refuses_erasing g p h = rw (dead_in g.entries p h, h) refl
+
+-- nor that one who lives admits another, where the ring doesn't
+pub nobody_refuses_admitting : (w : World) (m : ℕ) (name : List ℕ) → is_live (view_in w (newest w)) m ≡ true → admit_refusal w name ≡ None → group_refusal (view_in w (newest w)).entries m name ≡ None
+nobody_refuses_admitting w m name lives h =
+    let g = view_in w (newest w) in
+    let a = none_of (is_taken g.entries name) reason.NameTaken _ h in
+    let room = refuse_none (nat_le most_entries (length g.entries)) reason.TooManyMembers a.1 in
+    rw (live_in g.entries m lives, lives, a.0, room) refl

@@ -1,6 +1,9 @@
 -- Lemmas that the code names together.
-use Rattle.ring_world.proofs.events.Enabled.{up_phase, up_later, running_phase, running_later, link_there, link_later, first_none, refresh_later, refresh_upto}
-use Rattle.ring_world.proofs.code.Found.{out_at, current_at}
+use Rattle.ring_world.proofs.events.Enabled.{up_phase, up_later, running_later, link_there, link_later, first_none, refresh_later, refresh_upto}
+use Rattle.ring_world.proofs.code.Enables.{running_runs}
+use Rattle.ring_world.proofs.code.Noting.{refusal_stays, refusal_noted, not_noted}
+use Rattle.ring_world.proofs.code.Padded.{known_more, row_more}
+use Rattle.ring_world.proofs.code.Found.{out_at, current_running}
 use Rattle.ring_world.proofs.code.ShownParts.{read_member, read_link, read_row, rewrite_row, rewrite_seat, rewrite_wire, published_rows, published_seats, pushed_wires}
 
 -- the member at a place, and a link
@@ -10,18 +13,24 @@ pub ruleset reading = (read_member, read_link)
 pub ruleset sending = (read_member, out_at, up_phase, up_later, link_there, link_later)
 
 -- the link from which it takes
-pub ruleset receiving = (read_member, current_at, running_phase, running_later, link_there, link_later)
+pub ruleset receiving = (read_member, current_running, running_runs, running_later, link_there, link_later)
 
 -- the link at its door
 pub ruleset picking = (up_phase, up_later, first_none, link_there)
 
 -- an enabled event of a member
-pub ruleset happening = (up_phase, up_later, running_phase, refresh_later, refresh_upto)
+pub ruleset happening = (up_phase, up_later, refresh_later, refresh_upto)
 
 -- what is published: in a row, and of a member
 pub ruleset publishing_rows = (published_rows, rewrite_row, read_row)
 
 pub ruleset publishing = (read_member, read_row, published_seats, rewrite_seat)
 
+-- rows that join
+pub ruleset padding = (known_more, row_more)
+
 -- a packet that is put on a link
 pub ruleset putting = (read_link, pushed_wires, rewrite_wire)
+
+-- what a World notes
+pub ruleset noting = (refusal_stays, refusal_noted, not_noted)

@@ -1,13 +1,13 @@
 -- The structs and what they show.
-use Rattle.std.proofs.Common.{◌≡◌, ℕ, zero, suc, ◌≤◌, arith, ◌-◌, List, ◌∷◌, length, map, get_or, set, ◌<◌, sym, ap}
+use Rattle.std.proofs.Common.{◌≡◌, ℕ, zero, suc, ◌≤◌, arith, ◌-◌, List, ◌∷◌, length, map, get_or, set, ◌<◌, sym, ap, ◌∙◌}
 use Rattle.ring_names.specs.declared.message.Message.{Message}
 use Rattle.ring_world.specs.Rows.{no_row, published_row}
 use Rattle.ring_world.specs.declared.seat.KnownOrigin.{KnownOrigin}
 use Rattle.ring_world.specs.declared.seat.Seat.{Seat}
 use Rattle.ring_world.specs.declared.wire.Wire.{Wire}
 use Rattle.std.specs.Prelude.{Option}
-use Rattle.ring_world.specs.Machine.{Member, Ending, no_member, no_link}
-use Rattle.ring_world.specs.Step.{published, with_current, stopped, pushed, next_packet, finished, ended}
+use Rattle.ring_world.specs.Machine.{Packet, Member, Ending, no_member, no_link}
+use Rattle.ring_world.specs.Step.{published, begun, with_current, stopped, pushed, next_packet, finished, ended}
 use Rattle.ring_world.specs.Shows.{row_of, member_of, link_of, row_in, member_in, link_in, gained_on, looked, with_out}
 pub use Rattle.ring_world.proofs.rings.Maps.{position_map, mapped_read, mapped_write, mapped_rewrite, at_mapped_set}
 
@@ -55,6 +55,9 @@ current_seats seats i x y s l e g = mapped_write member_of (with_current s) seat
 
 pub stopped_seats : (seats : List Seat) (i : ℕ) (x y : Seat) → i < length seats → x ≡ get_or seats i x → member_of y ≡ stopped (member_of x) → map member_of (set seats i y) ≡ set (map member_of seats) i (stopped (member_in seats i))
 stopped_seats seats i x y l e g = mapped_write member_of stopped seats i x y no_member l e g
+
+pub begun_seats : (seats : List Seat) (i n m : ℕ) (x y : Seat) (k : Packet) → i < length seats → x ≡ get_or seats i x → n ≡ m → member_of y ≡ begun n (member_of x) k → map member_of (set seats i y) ≡ set (map member_of seats) i (begun m (member_in seats i) k)
+begun_seats seats i n m x y k l e same g = mapped_write member_of (λ z. begun m z k) seats i x y no_member l e (g ∙ ap (λ j. begun j (member_of x) k) same)
 
 -- ---- links that change
 

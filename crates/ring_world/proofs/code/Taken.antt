@@ -1,5 +1,5 @@
 -- What a taken packet does to the structs.
-use Rattle.std.proofs.Common.{◌≡◌, ℕ, zero, suc, ◌<◌, Bool, true, false, List, [], ◌∷◌, length, map, get_or, set, drop, take, max, refl, sym, ap, ◌∙◌, arith}
+use Rattle.std.proofs.Common.{◌≡◌, ℕ, zero, suc, ◌<◌, ◌≤◌, Bool, true, false, List, [], ◌∷◌, length, map, get_or, set, drop, take, max, refl, sym, ap, ◌∙◌, arith}
 use Rattle.std.specs.Prelude.{Result, Ok, Err, OnErr}
 use Rattle.std.specs.List.{range_with_len}
 use Rattle.std.proofs.lemmas.List.FromFn.{get_or-map-range_with_len, length-map-range_with_len}
@@ -14,7 +14,8 @@ use Rattle.ring_world.specs.declared.state.Ring.{Ring}
 use Rattle.ring_world.specs.declared.seat.Seat.{Seat}
 use Rattle.ring_world.specs.declared.seat.Brought.{Brought}
 use Rattle.ring_world.specs.Machine.{Packet, Member, Link, World, no_link, no_member, row_at, numbers_at, oldest}
-use Rattle.ring_world.specs.Step.{is_owned, taken, popped, take_from}
+use Rattle.ring_world.specs.Step.{is_owned, taken, begun, popped, take_from, begin_from}
+use Rattle.ring_world.specs.Placed.{IsPlaced}
 use Rattle.ring_world.specs.Shows.{world_of, link_of, link_in, member_of, member_in, news_of, news_at, no_news, news_in, with_rows, News}
 use Rattle.ring_world.proofs.rings.Maps.{map-range_same}
 use Rattle.ring_world.proofs.code.ShownParts.{mapped_read, mapped_write, mapped_rewrite}
@@ -85,6 +86,30 @@ take_ring r i s x l z v seats' il ex ev sl el em ez =
     ∙ ap (λ n. state (set (map member_of seats) i (after n v (link_of l))) (set (map link_of wires) s (popped (link_in wires s)))) sizes
     ∙ ap (λ g. state (set (map member_of seats) i (after (suc (length (map member_of seats))) g (link_of l))) (set (map link_of wires) s (popped (link_in wires s)))) views
     ∙ ap (λ k. state (set (map member_of seats) i (after (suc (length (map member_of seats))) (get_or (no_group ∷ r.views.items) (member_in seats i).version no_group) k)) (set (map link_of wires) s (popped (link_in wires s)))) link
+
+-- and after the first take of a member that waits
+pub begin_ring : (r : Ring) (i s : ℕ) (l z : Wire) (seats' : List Seat) → s < length r.wires.items → l ≡ get_or r.wires.items s l
+    → map member_of seats' ≡ set (map member_of r.seats.items) i (begun (suc (length r.seats.items)) (member_in r.seats.items i) (oldest (link_of l)))
+    → link_of z ≡ popped (link_of l)
+    → record (world_of r) { members = no_member ∷ map member_of seats'; links = map link_of (set r.wires.items s z) } ≡ begin_from (world_of r) (suc i) s
+begin_ring r i s l z seats' sl el em ez =
+    let seats = r.seats.items in
+    let wires = r.wires.items in
+    let link : link_of l ≡ link_in wires s = mapped_read link_of wires s l no_link sl el in
+    let sizes : suc (length seats) ≡ suc (length (map member_of seats)) = ap suc (sym (length-map seats member_of)) in
+    let after : ℕ → Link → Member = λ n k. begun n (member_in seats i) (oldest k) in
+    let state : Member → List Link → World = λ m ks. record (world_of r) { members = no_member ∷ set (map member_of seats) i m; links = ks } in
+    ap (λ ms. record (world_of r) { members = no_member ∷ ms; links = map link_of (set wires s z) }) em
+    ∙ ap (λ ks. state (after (suc (length seats)) (link_of l)) ks) (mapped_write link_of popped wires s l z no_link sl el ez)
+    ∙ ap (λ n. state (after n (link_of l)) (set (map link_of wires) s (popped (link_in wires s)))) sizes
+    ∙ ap (λ k. state (after (suc (length (map member_of seats))) k) (set (map link_of wires) s (popped (link_in wires s)))) link
+
+-- a member has no more rows than there are members
+pub few_rows : (r : Ring) (i : ℕ) → IsPlaced (world_of r) → i < length r.seats.items → length (member_in r.seats.items i).rows ≤ suc (length r.seats.items)
+few_rows r i h l =
+    let many = length-map r.seats.items member_of in
+    let fits : length (member_in r.seats.items i).rows ≤ suc (length (map member_of r.seats.items)) = h.rows (suc i) (omega arith) (omega (arith, many)) in
+    omega (arith, many, fits)
 
 -- and after one for which memory wanted
 pub same_ring : (r : Ring) (s : ℕ) (l z : Wire) (seats' : List Seat) → s < length r.wires.items → l ≡ get_or r.wires.items s l → map member_of seats' ≡ map member_of r.seats.items → link_of z ≡ link_of l

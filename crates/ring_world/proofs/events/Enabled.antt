@@ -6,10 +6,10 @@ use Rattle.ring_names.specs.declared.reason.Reason.TheVariants as reason
 use Rattle.credit_flow.specs.Credit.{is_blocked}
 use Rattle.ring_world.specs.Refusal.{refuse_if, or_else, is_empty}
 use Rattle.ring_world.specs.View.{is_live}
-use Rattle.ring_world.specs.Machine.{Phase, Up, Stopped, World, member_at, link_at, view_in, newest, is_waiting}
-use Rattle.ring_world.specs.Event.{is_stopped, on_link, running_refusal, up_refusal, put_refusal, take_refusal, gain_refusal, holds_nothing, is_neighbour, mark_refusal, refresh_refusal, at_found, taken_by}
+use Rattle.ring_world.specs.Machine.{Phase, Up, Stopped, World, member_at, link_at, view_in, newest, is_waiting, oldest}
+use Rattle.ring_world.specs.Event.{is_stopped, on_link, running_refusal, up_refusal, put_refusal, take_refusal, end_refusal, gain_refusal, holds_nothing, is_neighbour, mark_refusal, refresh_refusal, at_found, taken_by}
 use Rattle.ring_world.specs.Step.{take_from}
-use Rattle.ring_world.proofs.events.Refusals.{none_of, refuse_none, up_from, stopped_from, or_false, not_false}
+use Rattle.ring_world.proofs.events.Refusals.{none_of, refuse_none, up_from, stopped_from, or_false, not_false, not_less}
 
 -- a member that is up, and what else is asked
 pub up_none : (w : World) (x : ℕ) (later : Option Reason) → up_refusal w x later ≡ None → ((member_at w x).phase ≡ Up) × (later ≡ None)
@@ -49,6 +49,13 @@ put_credit w x o h = (none_of (is_blocked (link_at w o).flow.sender) reason.NoCr
 
 pub take_some : (w : World) (y s : ℕ) → take_refusal w y s ≡ None → is_empty (link_at w s).packets ≡ false
 take_some w y s h = (none_of (is_empty (link_at w s).packets) reason.EndNext _ (none_of (holds_nothing (link_at w s)) reason.NothingToTake _ h).1).0
+
+pub take_version : (w : World) (y s : ℕ) → take_refusal w y s ≡ None → (oldest (link_at w s)).version ≤ (member_at w y).version
+take_version w y s h = not_less (member_at w y).version (oldest (link_at w s)).version _ (none_of (is_empty (link_at w s).packets) reason.EndNext _ (none_of (holds_nothing (link_at w s)) reason.NothingToTake _ h).1).1
+
+-- an end that may be taken stands behind no packet
+pub end_empty : (w : World) (s : ℕ) → end_refusal w s ≡ None → is_empty (link_at w s).packets ≡ true
+end_empty w s h = not_false _ (refuse_none (not (is_empty (link_at w s).packets)) reason.PacketNext (none_of (holds_nothing (link_at w s)) reason.NothingToTake _ h).1)
 
 pub gain_some : (w : World) (o : ℕ) → gain_refusal w o ≡ None → is_empty (link_at w o).flow.grants ≡ false
 gain_some w o h = refuse_none (is_empty (link_at w o).flow.grants) reason.NoGrant h

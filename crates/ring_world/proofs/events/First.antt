@@ -5,7 +5,7 @@ use Rattle.std.proofs.lemmas.Bool.{cases_lt}
 use Rattle.std.proofs.lemmas.List.FromFn.{get_or-map-range_with_len, length-map-range_with_len}
 use Rattle.ring_names.specs.declared.numbers.CreditSpec.{CreditSpec}
 use Rattle.ring_world.specs.Rows.{no_row}
-use Rattle.ring_world.specs.Machine.{Member, Link, no_member, no_link, member_at, link_at}
+use Rattle.ring_world.specs.Machine.{Waiting, Member, Link, no_member, no_link, member_at, link_at}
 use Rattle.ring_world.specs.Step.{size, log_of, opening, opening_link, opening_member}
 use Rattle.ring_world.specs.Lawful.{row_of}
 use Rattle.ring_world.proofs.rings.Lists.{get_or_beyond, get_or-mapped}
@@ -57,3 +57,7 @@ first_row credit names q p = first_each credit names q (λ y. get_or y.rows p no
 -- and nobody has published
 pub first_log : (credit : CreditSpec) (names : List (List ℕ)) (q : ℕ) → log_of (opening credit names) q ≡ []
 first_log credit names q = first_each credit names q (λ y. y.log ≡ []) (λ _ _. refl) refl
+
+-- nobody waits there
+pub first_none_waits : (credit : CreditSpec) (names : List (List ℕ)) (q : ℕ) → (member_at (opening credit names) q).phase ≡ Waiting → ⊥
+first_none_waits credit names q = first_each credit names q (λ a. a.phase ≡ Waiting → ⊥) (λ _ _ e. cc) (λ e. cc)

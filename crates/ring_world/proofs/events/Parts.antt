@@ -7,10 +7,10 @@ use Rattle.ring_world.specs.Refusal.{is_empty}
 use Rattle.group_view.specs.Change.{marked}
 use Rattle.group_view.specs.View.{Group}
 use Rattle.ring_world.specs.View.{right_of}
-use Rattle.ring_world.specs.Machine.{Member, Ending, Moved, Halted, Link, World, member_at, link_at, view_in, newest, runs_phase}
-use Rattle.ring_world.specs.Step.{size, publish_at, put_on, gain_on, take_from, current_is, with_current, leave_link, finished, ended, stop_at, with_member, with_link, with_view, look_at, moved_to, open_to}
-use Rattle.ring_world.specs.Event.{Event, refreshed, refusal, effect, IsRun, last}
-use Rattle.ring_world.proofs.events.WhatRefuses.{MayTake}
+use Rattle.ring_world.specs.Machine.{Member, Ending, Moved, Halted, Link, World, member_at, link_at, view_in, newest, runs_phase, row_at}
+use Rattle.ring_world.specs.Step.{size, publish_at, put_on, gain_on, take_from, current_is, with_current, leave_link, finished, ended, stop_at, with_member, with_link, with_view, look_at, moved_to, open_to, begin_from, come_to}
+use Rattle.ring_world.specs.Event.{Event, refreshed, refusal, effect, IsRun, last, erased_view}
+use Rattle.ring_world.proofs.events.WhatRefuses.{MayTake, MayBegin}
 use Rattle.ring_world.proofs.events.Leaves.{member_leaves, link_leaves}
 use Rattle.ring_world.proofs.events.Enabled.{put_credit, gain_some}
 use Rattle.ring_world.proofs.events.Cases.{each_event}
@@ -34,11 +34,17 @@ pub record IsStill (w w' : World) : Type 0 where
   pub sending : (s : ℕ) → (link_at w' s).sending ≡ (link_at w s).sending
   pub flow : (s : ℕ) → (link_at w' s).flow ≡ (link_at w s).flow
 
+-- a member has received nothing yet
+abbrev pub KnowsNothing : Member → Type 0
+KnowsNothing y = (p : ℕ) → ((row_at y p).got ≡ 0) × ((row_at y p).forgot ≡ 0)
+
 -- a part of an event; where a take happens, G is known of the state before
 pub data Part (G : World → Type 0) (w w' : World) : Type 0 where
   cast_part : (x : ℕ) (m : Message) → 1 ≤ x → x < size w → w' ≡ publish_at w x m → Part G w w'
   put_part : (x o : ℕ) → o < length w.links → is_blocked (link_at w o).flow.sender ≡ false → w' ≡ put_on w x o → Part G w w'
   take_part : (y s : ℕ) → 1 ≤ y → MayTake w y s → s < length w.links → G w → w' ≡ take_from w y s → Part G w w'
+  begin_part : (y s : ℕ) → 1 ≤ y → MayBegin w y s → s < length w.links → KnowsNothing (member_at w y) → w' ≡ begin_from w y s → Part G w w'
+  come_part : (m : ℕ) (name : List ℕ) → w' ≡ come_to w m name → Part G w w'
   gain_part : (o : ℕ) → o < length w.links → is_empty (link_at w o).flow.grants ≡ false → w' ≡ gain_on w o → Part G w w'
   stop_part : (x : ℕ) → x < size w → w' ≡ stop_at w x → Part G w w'
   open_part : (x z : ℕ) → w' ≡ open_to w x z → Part G w w'
@@ -115,21 +121,28 @@ module _ (G P : World → Type 0) (keeps : (w w' : World) → Part G w w' → P 
       (λ u _. keeps u (open_to u x (right_of (view_in w v) x)) (open_part x (right_of (view_in w v) x) refl))
       (still_keeps w (look_at w x v) (member_still w x (moved_to w x v) refl refl refl) h)
 
+  -- a new view, which x reads
+  view_keeps : (w : World) (x : ℕ) (v : Group) → P w → P (refreshed (with_view w v) x (newest w + 1))
+  view_keeps w x v h = refreshed_keeps (with_view w v) x (newest w + 1) (still_keeps w (with_view w v) (view_still w v) h)
+
   -- an event of a state that is good
   pub event_keeps : (w : World) (e : Event) → IsGood w → G w → refusal w e ≡ None → P w → P (effect w e)
-  event_keeps w e g gw r h = each_event P w e g.none_waits (record {
+  event_keeps w e g gw r h = each_event P w e g (record {
     casts = λ x m u. keeps w _ (cast_part x m u.some u.lt refl) h;
     puts = λ x o u out k. keeps w _ (put_part x o (g.inv.linked.out_lt x o (ap runs_phase u.up) out) (put_credit w x o k) refl) h;
     takes = λ y s u m. keeps w _ (take_part y s u.some m (g.inv.current.lt y s (ap runs_phase u.up) m.current) gw refl) h;
+    begins = λ y s u m. keeps w _ (begin_part y s u.some m (g.inv.current.lt y s (ap runs_phase m.waits) m.current) (λ p. g.inv.joining.rows y p m.waits) refl) h;
     leaves = λ y s u current k.
         still_keeps (current_is w y None) (leave_link w y s) (link_still (current_is w y None) s (finished (link_at w s)) refl refl refl)
         (still_keeps w (current_is w y None) (member_still w y (with_current None (member_at w y)) refl refl refl) h);
     gains = λ x o u out k. keeps w _ (gain_part o (g.inv.linked.out_lt x o (ap runs_phase u.up) out) (gain_some w o k) refl) h;
     stops = λ x u. end_composed P Halted (stop_at w x) (member_at w x).out (λ o _. ends_keeps Halted (stop_at w x) o) (keeps w _ (stop_part x u.lt refl) h);
-    marks = λ x d u m. refreshed_keeps (with_view w (marked (view_in w (newest w)) d)) x (newest w + 1)
-        (still_keeps w (with_view w (marked (view_in w (newest w)) d)) (view_still w (marked (view_in w (newest w)) d)) h);
+    marks = λ x d u m. view_keeps w x (marked (view_in w (newest w)) d) h;
+    erases = λ x p u m. view_keeps w x (erased_view w p) h;
+    admits = λ x name u k. refreshed_keeps (come_to w x name) x (newest w + 1) (keeps w (come_to w x name) (come_part x name refl) h);
     refreshes = λ x v u m. refreshed_keeps w x v h;
     picks = λ y s u none e upto. still_keeps w (current_is w y (Some s)) (member_still w y (with_current (Some s) (member_at w y)) refl refl refl) h;
+    refuses = h;
   }) r
 
 -- ---- runs

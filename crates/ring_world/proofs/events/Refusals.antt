@@ -1,5 +1,5 @@
 -- What it means that no condition of an event fails.
-use Rattle.std.proofs.Common.{◌≡◌, ℕ, ◌+◌, ◌<◌, ◌≤◌, Bool, true, false, not, nat_lt, bytes_eq, List, [], ◌∷◌, ◌++◌, length, drop, set, Option, Some, None, is_some, refl, sym, ap, ◌∙◌, arith}
+use Rattle.std.proofs.Common.{◌≡◌, ℕ, ◌+◌, ◌<◌, ◌≤◌, Bool, true, false, not, nat_lt, bytes_eq, List, [], ◌∷◌, ◌++◌, length, drop, set, Option, Some, None, is_some, ◌⊎◌, inl, inr, refl, sym, ap, ◌∙◌, arith}
 use Rattle.std.specs.Prelude.{◌||◌, position, option_map}
 use Rattle.std.proofs.lemmas.Bool.{ltb-false}
 use Rattle.std.proofs.lemmas.List.{length-set, set-append_left, length-drop}
@@ -22,7 +22,7 @@ refuse_none true r h = cc
 refuse_none false r h = refl
 
 -- a link that isn't there
-pub none_there : (o : Option ℕ) → is_some o ≡ false → o ≡ None
+pub none_there : {A : Type 0} (o : Option A) → is_some o ≡ false → o ≡ None
 none_there None h = refl
 none_there (Some s) h = cc
 
@@ -31,6 +31,18 @@ pub runs_from : (f : Phase) → is_stopped f ≡ false → runs_phase f ≡ true
 runs_from Waiting h = refl
 runs_from Up h = refl
 runs_from Stopped h = cc
+
+-- it is up, or it waits
+pub up_or_waits : (f : Phase) → is_stopped f ≡ false → (f ≡ Up) ⊎ (f ≡ Waiting)
+up_or_waits Waiting h = inr refl
+up_or_waits Up h = inl refl
+up_or_waits Stopped h = cc
+
+-- who is told to wait does
+pub waits_when : (f : Phase) → is_waiting f ≡ true → f ≡ Waiting
+waits_when Waiting h = refl
+waits_when Up h = cc
+waits_when Stopped h = cc
 
 -- and who is told to have stopped has
 pub stopped_from : (f : Phase) → is_stopped f ≡ true → f ≡ Stopped

@@ -12,13 +12,13 @@ use Rattle.group_view.proofs.KeptLeft.{keeps_since, since_keeps}
 use Rattle.group_view.proofs.Passing.{left_inside}
 use Rattle.group_view.proofs.Rings.{nat_eq-is, nat_eq-same}
 use Rattle.ring_world.specs.View.{ids, is_live, left_of, left_by}
-use Rattle.ring_world.specs.Machine.{Link, World, no_link, member_at, link_at, view_in, newest, left, is_kept}
+use Rattle.ring_world.specs.Machine.{Link, World, no_link, member_at, link_at, view_in, newest, left, runs, is_kept}
+use Rattle.ring_world.specs.Step.{size}
 use Rattle.ring_world.specs.Event.{is_at_door, at_door}
 use Rattle.ring_world.specs.OpenLinks.{since_in, comes_from_left}
 use Rattle.ring_world.proofs.invariants.Good.{Kept, kept_true, true_kept}
 use Rattle.ring_world.proofs.walks.Views.{left_in_view}
 use Rattle.ring_world.proofs.invariants.Kept.{Inv}
-use Rattle.ring_world.proofs.events.NoneWaits.{NoneWaits}
 
 -- ---- what holds in every state
 
@@ -28,11 +28,15 @@ pub record HasViews (w : World) : Type 0 where
   pub is : w.views ≡ no_group ∷ groups
   pub ends : Ends groups (view_in w (newest w))
 
--- the invariant of the walk; nobody waits; and the views
+-- the next id is that of the next member
+abbrev pub HasNextId : World → Type 0
+HasNextId w = (view_in w (newest w)).next_id ≡ size w
+
+-- the invariant of the walk; the views; and ids in order
 pub record IsGood (w : World) : Type 0 where
   pub inv : Inv w
-  pub none_waits : NoneWaits w
   pub views : HasViews w
+  pub next_id : HasNextId w
 
 -- ---- the test by the left neighbour and since
 
@@ -45,6 +49,10 @@ left_of_group w h u y = ap (λ vs. left_of (get_or vs u no_group) y) h.is
 pub nobody_first : (w : World) (h : HasViews w) (u y : ℕ) → is_in y (ids (view_in w u)) ≡ true → 1 ≤ u
 nobody_first w h zero y i = absurd (false≢true (sym (ap (λ vs. is_in y (ids (get_or vs 0 no_group))) h.is) ∙ i))
 nobody_first w h (suc u) y i = omega arith
+
+-- so who runs has a view
+pub version_some : (w : World) (x : ℕ) → IsGood w → runs w x ≡ true → 1 ≤ (member_at w x).version
+version_some w x h r = nobody_first w h.views (member_at w x).version x (h.inv.is_ring.stands x (member_at w x).version r (omega arith) (h.inv.is_ring.held x))
 
 -- what a link comes to that passes the test in a view
 pub comes : (w : World) (y u : ℕ) (l : Link) → l.sender ≡ left w u y → since_in w u y ≤ l.opened → comes_from_left w y l u ≡ true

@@ -1,5 +1,5 @@
 -- What holds in every state of every run.
-use Rattle.std.proofs.Common.{◌≡◌, ◌≢◌, ℕ, ◌<◌, ◌≤◌, ⊎_elim, Bool, true, false, [], ◌+◌, ◌-◌, List, ◌∷◌, length, sym, ap, subst, ◌∙◌, arith, nat_eq, Some}
+use Rattle.std.proofs.Common.{◌≡◌, ◌≢◌, ℕ, ◌<◌, ◌≤◌, ⊎_elim, Bool, true, false, [], ◌+◌, ◌-◌, List, ◌∷◌, length, sym, ap, subst, ◌∙◌, arith, nat_eq, Some, is_some}
 use Rattle.ring_world.specs.Rows.{Row}
 use Rattle.std.proofs.lemmas.Bool.{cases_lt, false≢true}
 use Rattle.ring_world.specs.Refusal.{is_empty}
@@ -7,7 +7,7 @@ use Rattle.group_view.proofs.Lists.{all_range, at_range}
 use Rattle.group_view.proofs.Rings.{nat_eq-is, nat_eq-same}
 use Rattle.ring_world.specs.View.{ids, is_live}
 use Rattle.group_view.specs.Ring.{first_or, is_in, AreDistinct}
-use Rattle.ring_world.specs.Machine.{is_kept_of, Waiting, Link, World, member_at, link_at, view_in, newest, left, right, runs, is_kept}
+use Rattle.ring_world.specs.Machine.{is_kept_of, Waiting, Link, World, member_at, link_at, view_in, newest, left, right, runs, is_kept, row_at}
 use Rattle.ring_world.specs.OpenLinks.{FallsFrom, NeverRises}
 use Rattle.ring_world.specs.Step.{size}
 use Rattle.ring_world.proofs.rings.Weakens.{FallsTo, Weakens, FallsFrom-FallsTo, FallsTo-FallsFrom}
@@ -59,6 +59,12 @@ pub record IsWaitingRight (w : World) : Type 0 where
   pub first : (y s : ℕ) → (member_at w y).phase ≡ Waiting → (member_at w y).current ≡ Some s → is_empty (link_at w s).packets ≡ false
   pub mine : (y s : ℕ) → (member_at w y).phase ≡ Waiting → (member_at w y).current ≡ Some s → (link_at w s).receiver ≡ y
   pub admission : (y s : ℕ) → (member_at w y).phase ≡ Waiting → s < length w.links → (link_at w s).receiver ≡ y → (link_at w s).opened ≡ (member_at w y).version → is_empty (link_at w s).packets ≡ false
+
+-- what a member that waits has: a current link, opened at its version, and nothing else
+pub record IsJoining (w : World) : Type 0 where
+  pub some : (y : ℕ) → (member_at w y).phase ≡ Waiting → is_some (member_at w y).current ≡ true
+  pub opened : (y s : ℕ) → (member_at w y).phase ≡ Waiting → (member_at w y).current ≡ Some s → (link_at w s).opened ≡ (member_at w y).version
+  pub rows : (y p : ℕ) → (member_at w y).phase ≡ Waiting → ((row_at (member_at w y) p).got ≡ 0) × ((row_at (member_at w y) p).forgot ≡ 0)
 
 -- ---- kept links
 

@@ -1,15 +1,15 @@
 -- The whole invariant, and how single events keep it.
-use Rattle.std.proofs.Common.{◌≡◌, ℕ, ◌<◌, ◌≤◌, true, false, List, [], ◌∷◌, ◌++◌, length, drop, get_or, refl, sym, ap, subst, ◌∙◌, arith, Some}
+use Rattle.std.proofs.Common.{◌≡◌, ℕ, ◌<◌, ◌≤◌, true, false, List, [], ◌∷◌, ◌++◌, length, drop, get_or, refl, sym, ap, subst, ◌∙◌, arith, Some, is_some}
 use Rattle.std.proofs.lemmas.Bool.{false≢true}
 use Rattle.std.proofs.lemmas.List.{length-set}
 use Rattle.ring_world.specs.Refusal.{is_empty}
-use Rattle.ring_world.specs.Machine.{Up, World, Packet, Member, Link, no_link, member_at, link_at, row_at, ring, runs, is_kept}
+use Rattle.ring_world.specs.Machine.{Waiting, Up, World, Packet, Member, Link, no_member, runs_phase, is_waiting, no_link, member_at, link_at, row_at, ring, runs, is_kept}
 use Rattle.group_view.specs.Ring.{is_in}
 use Rattle.ring_world.proofs.walks.CountedWalk.{walk}
 use Rattle.ring_world.specs.OpenLinks.{NeverRises}
-use Rattle.ring_world.specs.Step.{size, pushed, next_packet, put_on}
+use Rattle.ring_world.specs.Step.{size, pushed, next_packet, put_on, with_member}
 use Rattle.ring_world.proofs.rings.Lists.{at_set}
-use Rattle.ring_world.proofs.invariants.Good.{IsRing, IsLinked, IsWaitingRight, never_rises_still}
+use Rattle.ring_world.proofs.invariants.Good.{IsRing, IsLinked, IsWaitingRight, IsJoining, never_rises_still}
 use Rattle.ring_world.proofs.invariants.Period.{IsHistory}
 use Rattle.ring_world.proofs.invariants.Standing.{knows, IsOrdered}
 use Rattle.ring_world.proofs.walks.OwnerStops.{AllPackets, IsPacket, IsPacked, IsRetiredRight}
@@ -25,6 +25,8 @@ pub record IsCurrent (w : World) : Type 0 where
 
 pub record IsNumbered (w : World) : Type 0 where
   pub zero : (x p : ℕ) → knows w (member_at w x).version p ≡ false → ((row_at (member_at w x) p).got ≡ 0) × ((row_at (member_at w x) p).forgot ≡ 0)
+  -- nothing is retired of one who isn't there yet
+  pub beyond : (x p : ℕ) → size w ≤ p → (row_at (member_at w x) p).retired ≡ 0
 
 -- what holds in every state, with this said of its links
 pub record Holds (Links : Type 0) (w : World) : Type 0 where
@@ -36,6 +38,7 @@ pub record Holds (Links : Type 0) (w : World) : Type 0 where
   pub numbered : IsNumbered w
   pub retired : IsRetiredRight w
   pub waiting : IsWaitingRight w
+  pub joining : IsJoining w
   pub current : IsCurrent w
   pub origins : (p : ℕ) → 1 ≤ p → p < size w → is_in p (ring w) ≡ true
   pub walks : (p : ℕ) → 1 ≤ p → p < size w → NeverRises (walk w p)
@@ -92,6 +95,7 @@ pub record Remaining (w : World) (ms : List Member) (ls : List Link) : Type 0 wh
   pub numbered : IsNumbered (shaped w ms ls)
   pub retired : IsRetiredRight (shaped w ms ls)
   pub waiting : IsWaitingRight (shaped w ms ls)
+  pub joining : IsJoining (shaped w ms ls)
   pub current : IsCurrent (shaped w ms ls)
   pub walks : (p : ℕ) → 1 ≤ p → p < size w → NeverRises (walk (shaped w ms ls) p)
 
@@ -105,9 +109,28 @@ shaped_keeps w ms ls sh r h = record {
   numbered = r.numbered;
   retired = r.retired;
   waiting = r.waiting;
+  joining = r.joining;
   current = r.current;
   origins = λ p some l. h.origins p some (omega (arith, r.many));
   walks = λ p some l. r.walks p some (omega (arith, r.many));
+}
+
+-- ---- members that wait
+
+-- a member that is written, and doesn't wait then, is none of them
+pub set_alike : (w : World) (y z : ℕ) (m : Member) → y < size w → is_waiting m.phase ≡ false → (member_at (with_member w y m) z).phase ≡ Waiting → member_at (with_member w y m) z ≡ member_at w z
+set_alike w y z m lt e = at_set (λ i a. a.phase ≡ Waiting → a ≡ member_at w i) w.members y z m no_member lt (λ k. absurd (false≢true (sym e ∙ ap is_waiting k))) (λ _ _. refl)
+
+-- they stay as they are, and their links too
+pub waits_alike : (w w' : World) → ((z : ℕ) → (member_at w' z).phase ≡ Waiting → member_at w' z ≡ member_at w z) → ((s : ℕ) → s < length w.links → (link_at w' s).opened ≡ (link_at w s).opened) → IsCurrent w → IsJoining w → IsJoining w'
+waits_alike w w' same links c h = record {
+  some = λ y e. let k = same y e in ap (λ a. is_some a.current) k ∙ h.some y (sym (ap (λ a. a.phase) k) ∙ e);
+  opened = λ y s e f.
+      let k = same y e in
+      let waits : (member_at w y).phase ≡ Waiting = sym (ap (λ a. a.phase) k) ∙ e in
+      let takes : (member_at w y).current ≡ Some s = sym (ap (λ a. a.current) k) ∙ f in
+      links s (c.lt y s (ap runs_phase waits) takes) ∙ h.opened y s waits takes ∙ sym (ap (λ a. a.version) k);
+  rows = λ y p e. let k = same y e in let z = h.rows y p (sym (ap (λ a. a.phase) k) ∙ e) in (ap (λ a. (row_at a p).got) k ∙ z.0, ap (λ a. (row_at a p).forgot) k ∙ z.1);
 }
 
 -- ---- put
@@ -148,13 +171,14 @@ put_keeps w x o up out h =
                 (line_of_packet (λ k. k.got) (λ r. r.got) (member_at w x) (link_at w o).sending p reads_got ∙ (h.numbered.zero x p e).0, line_of_packet (λ k. k.forgot) (λ r. r.forgot) (member_at w x) (link_at w o).sending p reads_forgot ∙ (h.numbered.zero x p e).1);
           }))
           (λ _ l2. h.packed.packets s l2) l);
-      numbered = record { zero = h.numbered.zero };
+      numbered = record { zero = h.numbered.zero; beyond = h.numbered.beyond };
       retired = record { none = h.retired.none };
       waiting = record {
         first = λ y s e c. stays s (h.waiting.first y s e c);
         mine = λ y s e c. (sh.ends s).receiver ∙ h.waiting.mine y s e c;
         admission = λ y s e l t v. stays s (h.waiting.admission y s e (omega (arith, sh.many)) (sym (sh.ends s).receiver ∙ t) (sym (sh.ends s).opened ∙ v));
       };
+      joining = waits_alike w (put_on w x o) (λ z e. refl) (λ s l. (sh.ends s).opened) h.current h.joining;
       current = shaped_current w w.members (put_on w x o).links sh (λ q. refl) h.current;
       walks = λ p some l. never_rises_still (walk w p) (walk (put_on w x o) p) (put_walk w x o p h.is_ring h.linked h.waiting up out) (h.walks p some l);
     })

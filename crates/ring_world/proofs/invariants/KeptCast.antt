@@ -5,7 +5,7 @@ use Rattle.std.proofs.lemmas.Bool.{cases_eq, cases_lt, false≢true}
 use Rattle.std.proofs.lemmas.List.{length-set, get_or-set_other}
 use Rattle.std.proofs.lemmas.List.Elements.{filter_agree}
 use Rattle.group_view.specs.Ring.{rotated, others, is_in}
-use Rattle.ring_world.specs.Machine.{Phase, Waiting, Up, Stopped, World, Packet, Member, Link, no_member, member_at, link_at, row_at, numbers_at, newest, ring, runs, runs_phase, is_kept}
+use Rattle.ring_world.specs.Machine.{Phase, Waiting, Up, Stopped, World, Packet, Member, Link, no_member, member_at, link_at, row_at, numbers_at, newest, ring, runs, runs_phase, is_kept, is_waiting}
 use Rattle.ring_world.specs.Rows.{Row, no_row, published_row}
 use Rattle.ring_world.specs.declared.numbers.Numbers.{Numbers}
 use Rattle.ring_world.specs.OpenLinks.{FallsFrom, own_number, number, NeverRises}
@@ -21,7 +21,7 @@ use Rattle.ring_world.proofs.walks.Put.{runs_phase-Up, number_up}
 use Rattle.ring_world.proofs.walks.Take.{blocks_same, head_once}
 use Rattle.ring_world.proofs.walks.Back.{same_runners}
 use Rattle.ring_world.proofs.walks.Cast.{cast_walk_other}
-use Rattle.ring_world.proofs.invariants.Kept.{Inv, shaped_packed, shaped_current, shaped_keeps}
+use Rattle.ring_world.proofs.invariants.Kept.{Inv, shaped_packed, shaped_current, shaped_keeps, set_alike, waits_alike}
 use Rattle.ring_names.specs.declared.message.Message.{Message}
 
 -- of a message
@@ -133,6 +133,7 @@ module _ (m : Message) where
               let row : row_at (published x m (member_at w x)) p ≡ row_at (member_at w x) p = get_or-set_other (member_at w x).rows x p (published_row (row_at (member_at w x) x) m) no_row d in
               (ap (λ a. a.got) row ∙ (h.numbered.zero x p e).0, ap (λ a. a.forgot) row ∙ (h.numbered.zero x p e).1))
               (λ _. h.numbered.zero q p);
+          beyond = λ q p ge. cast_retired w x p q lt ∙ h.numbered.beyond q p (omega (arith, ge, length-set w.members x (published x m (member_at w x))));
         };
         retired = record { none = λ p a b us r e i. cast_retired w x p b lt ∙ h.retired.none p a b us r (sym (filter_agree (runs w') (runs w) (λ q. cast_runs w x q lt) (rotated p (ring w))) ∙ e) i };
         waiting = record {
@@ -140,6 +141,7 @@ module _ (m : Message) where
           mine = λ z t e k. h.waiting.mine z t (sym (phase z) ∙ e) (sym (current z) ∙ k);
           admission = λ z t e l to v. h.waiting.admission z t (sym (phase z) ∙ e) l to (v ∙ sh.version z);
         };
+        joining = waits_alike w w' (λ z e. set_alike w x z (published x m (member_at w x)) lt (ap is_waiting up) e) (λ s l. refl) h.current h.joining;
         current = shaped_current w w'.members w.links sh current h.current;
         walks = λ p some l. ⊎_elim
             (λ (is : p ≡ x). subst (λ q. NeverRises (walk w' q)) (sym is) (cast_falls w x lt up h.is_ring (h.is_ring.stands x (newest w) rx (h.is_ring.held x) (omega arith)) (h.walks x (omega (arith, is)) lt)))

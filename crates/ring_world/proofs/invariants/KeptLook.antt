@@ -6,7 +6,7 @@ use Rattle.std.proofs.lemmas.List.Elements.{filter_agree}
 use Rattle.ring_world.specs.Refusal.{is_empty}
 use Rattle.ring_world.proofs.events.WhatRefuses.{MayLook}
 use Rattle.group_view.specs.Ring.{rotated}
-use Rattle.ring_world.specs.Machine.{Waiting, Up, World, Member, no_member, member_at, link_at, row_at, newest, ring, right, runs, runs_phase, is_kept}
+use Rattle.ring_world.specs.Machine.{Waiting, Up, World, Member, no_member, member_at, link_at, row_at, newest, ring, right, runs, runs_phase, is_kept, is_waiting}
 use Rattle.ring_world.proofs.walks.CountedWalk.{walk}
 use Rattle.ring_world.specs.Step.{size, look_at, moved_to, kept_current}
 use Rattle.ring_world.proofs.rings.Lists.{at_set}
@@ -16,7 +16,7 @@ use Rattle.ring_world.proofs.invariants.Standing.{knows}
 use Rattle.ring_world.proofs.walks.Views.{ring_less}
 use Rattle.ring_world.proofs.invariants.Linked.{HasLaterView, linked_look}
 use Rattle.ring_world.proofs.walks.Refresh.{look_walk}
-use Rattle.ring_world.proofs.invariants.Kept.{Holds, Inv, packets_stay}
+use Rattle.ring_world.proofs.invariants.Kept.{Holds, Inv, packets_stay, set_alike, waits_alike}
 
 pub look_member : (w : World) (x v q : ℕ) (P : ℕ → Member → Type 0) → x < size w → P x (moved_to w x v) → (q ≢ x → P q (member_at w q)) → P q (member_at (look_at w x v) q)
 look_member w x v q P lt here other = at_set P w.members x q (moved_to w x v) no_member lt here other
@@ -55,7 +55,7 @@ Rest w = Holds (Unit {0}) w
 
 -- with its links that is the whole invariant
 pub whole : (w : World) → Rest w → IsLinked w → Inv w
-whole w r linked = record { is_ring = r.is_ring; linked = linked; history = r.history; ordered = r.ordered; packed = r.packed; numbered = r.numbered; retired = r.retired; waiting = r.waiting; current = r.current; origins = r.origins; walks = r.walks }
+whole w r linked = record { is_ring = r.is_ring; linked = linked; history = r.history; ordered = r.ordered; packed = r.packed; numbered = r.numbered; retired = r.retired; waiting = r.waiting; joining = r.joining; current = r.current; origins = r.origins; walks = r.walks }
 
 pub look_rest : (w : World) (x v : ℕ) → MayLook w x v → Inv w → Rest (look_at w x v)
 look_rest w x v m h =
@@ -74,6 +74,7 @@ look_rest w x v m h =
       numbered = record {
         zero = λ q p. look_member w x v q (λ i z. knows w z.version p ≡ false → ((row_at z p).got ≡ 0) × ((row_at z p).forgot ≡ 0)) m.is_member
             (λ e. h.numbered.zero x p (unknown_earlier w (member_at w x).version v p h.history m.later m.upto e)) (λ _. h.numbered.zero q p);
+        beyond = λ q p ge. ap (λ r. r.retired) (rows q p) ∙ h.numbered.beyond q p (omega arith);
       };
       retired = record { none = λ p a b us r e i. ap (λ r. r.retired) (rows b p) ∙ h.retired.none p a b us r (sym (filter_agree (runs w') (runs w) (λ q. look_runs w x v q m.is_member) (rotated p (ring w))) ∙ e) i };
       waiting = record {
@@ -81,6 +82,7 @@ look_rest w x v m h =
         mine = λ z t. look_member w x v z (λ i a. a.phase ≡ Waiting → a.current ≡ Some t → (link_at w t).receiver ≡ i) m.is_member (λ e. absurd (apart e)) (λ _. h.waiting.mine z t);
         admission = λ z t. look_member w x v z (λ i a. a.phase ≡ Waiting → t < length w.links → (link_at w t).receiver ≡ i → (link_at w t).opened ≡ a.version → is_empty (link_at w t).packets ≡ false) m.is_member (λ e. absurd (apart e)) (λ _. h.waiting.admission z t);
       };
+      joining = waits_alike w w' (λ z e. set_alike w x z (moved_to w x v) m.is_member (ap is_waiting m.up) e) (λ s l. refl) h.current h.joining;
       current = record {
         lt = λ q s r. look_member w x v q (λ i a. runs w i ≡ true → a.current ≡ Some s → s < length w.links) m.is_member
             (λ r2 e. h.current.lt x s r2 (kept_current-Some (λ s. is_kept w (link_at w s) v) (member_at w x).current s e).0) (λ _ r2. h.current.lt q s r2) (k.runs_less q r);

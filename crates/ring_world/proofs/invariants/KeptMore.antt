@@ -8,11 +8,10 @@ use Rattle.ring_world.proofs.events.WhatRefuses.{IsSameWay, IsPickable}
 use Rattle.ring_world.specs.View.{ids}
 use Rattle.group_view.specs.Ring.{rotated, is_in}
 use Rattle.group_view.specs.View.{Group}
-use Rattle.ring_world.specs.Machine.{Phase, Waiting, Up, Stopped, Link, World, Member, no_link, no_member, numbers_at, member_at, link_at, view_in, row_at, newest, ring, runs, runs_phase, is_kept, oldest}
+use Rattle.ring_world.specs.Machine.{Phase, Waiting, Up, Stopped, Link, World, Member, no_link, no_member, numbers_at, member_at, link_at, row_at, ring, runs, runs_phase, is_kept, oldest, is_waiting}
 use Rattle.ring_world.proofs.walks.CountedWalk.{walk, running_from, counted}
 use Rattle.ring_world.specs.OpenLinks.{number, own_number, first_packet}
 use Rattle.ring_world.specs.Step.{size, stopped, stop_at, with_member, with_link, with_current, with_view}
-use Rattle.group_view.specs.Change.{marked}
 use Rattle.ring_world.proofs.rings.Lists.{at_set}
 use Rattle.group_view.proofs.Truth.{other_true}
 use Rattle.group_view.proofs.Rings.{in_tail}
@@ -22,7 +21,7 @@ use Rattle.ring_world.proofs.invariants.Standing.{knows}
 use Rattle.ring_world.proofs.walks.OwnerStops.{AllPackets, IsPacket, IsRetiredRight, stop_falls}
 use Rattle.ring_world.proofs.walks.Stop.{is_not, stop_runs, stop_running, stop_retired}
 use Rattle.ring_world.proofs.invariants.Shape.{SameEnds, IsShaped}
-use Rattle.ring_world.proofs.walks.Views.{ring_more, mark_follows, mark_walk, view_old, view_new, kept_old, left_old, ids-marked}
+use Rattle.ring_world.proofs.walks.Views.{ring_more, mark_follows, mark_walk, view_old, newest_view, kept_old, left_old, IsMarked}
 use Rattle.ring_world.proofs.invariants.Marked.{linked_more, history_more, mark_ages}
 use Rattle.ring_world.proofs.invariants.Ordered.{ordered_more, mark_order}
 use Rattle.ring_world.specs.declared.numbers.Numbers.{Numbers}
@@ -30,7 +29,7 @@ use Rattle.ring_world.specs.Rows.{Row}
 use Rattle.ring_world.proofs.walks.Links.{IsOr, kept}
 use Rattle.ring_world.proofs.walks.Back.{Closes, closes_walk}
 use Rattle.ring_world.proofs.walks.Refresh.{current_walk}
-use Rattle.ring_world.proofs.invariants.Kept.{Inv, AllPackets-map, shaped_packed, shaped_current, shaped_keeps}
+use Rattle.ring_world.proofs.invariants.Kept.{Inv, AllPackets-map, shaped_packed, shaped_current, shaped_keeps, set_alike, waits_alike}
 
 -- ---- a stop
 
@@ -62,13 +61,14 @@ stop_keeps w x lt rx h =
     (record {
       many = length-set w.members x (stopped (member_at w x));
       packed = shaped_packed w w'.members w.links sh h.packed.packets;
-      numbered = record { zero = λ z p. at_set (λ k a. knows w a.version p ≡ false → ((row_at a p).got ≡ 0) × ((row_at a p).forgot ≡ 0)) w.members x z (stopped (member_at w x)) no_member lt (h.numbered.zero x p) (λ _. h.numbered.zero z p) };
+      numbered = record { zero = λ z p. at_set (λ k a. knows w a.version p ≡ false → ((row_at a p).got ≡ 0) × ((row_at a p).forgot ≡ 0)) w.members x z (stopped (member_at w x)) no_member lt (h.numbered.zero x p) (λ _. h.numbered.zero z p); beyond = λ z p ge. stop_retired w x p z lt ∙ h.numbered.beyond z p (omega (arith, ge, length-set w.members x (stopped (member_at w x)))) };
       retired = stop_retires w x lt h.retired;
       waiting = record {
         first = λ z t e k. h.waiting.first z t (phase z e) (current z k);
         mine = λ z t e k. h.waiting.mine z t (phase z e) (current z k);
         admission = λ z t e l to v. h.waiting.admission z t (phase z e) l to (v ∙ sh.version z);
       };
+      joining = waits_alike w w' (λ z e. set_alike w x z (stopped (member_at w x)) lt refl e) (λ s l. refl) h.current h.joining;
       current = shaped_current w w'.members w.links sh (λ q. at_set (λ k a. a.current ≡ (member_at w k).current) w.members x q (stopped (member_at w x)) no_member lt refl (λ _. refl)) h.current;
       walks = λ p some l.
           stop_falls w x p lt h.is_ring h.linked h.history h.ordered h.packed h.retired rx (h.origins p some l) (h.walks p some l);
@@ -100,13 +100,14 @@ current_keeps w y c lt up k h =
     (record {
       many = length-set w.members y m;
       packed = shaped_packed w w'.members w.links sh h.packed.packets;
-      numbered = record { zero = λ z p. at_set (λ i a. knows w a.version p ≡ false → ((row_at a p).got ≡ 0) × ((row_at a p).forgot ≡ 0)) w.members y z m no_member lt (h.numbered.zero y p) (λ _. h.numbered.zero z p) };
+      numbered = record { zero = λ z p. at_set (λ i a. knows w a.version p ≡ false → ((row_at a p).got ≡ 0) × ((row_at a p).forgot ≡ 0)) w.members y z m no_member lt (h.numbered.zero y p) (λ _. h.numbered.zero z p); beyond = λ z p ge. ap (λ r. r.retired) (rows z p) ∙ h.numbered.beyond z p (omega (arith, ge, length-set w.members y m)) };
       retired = record { none = λ p a b us r e i. ap (λ r. r.retired) (rows b p) ∙ h.retired.none p a b us r (sym (filter_agree (runs w') (runs w) runs_same (rotated p (ring w))) ∙ e) i };
       waiting = record {
         first = λ z t e j. let d : z ≢ y = waits z e in h.waiting.first z t (phase z d e) (current z d j);
         mine = λ z t e j. let d : z ≢ y = waits z e in h.waiting.mine z t (phase z d e) (current z d j);
         admission = λ z t e l to v. h.waiting.admission z t (phase z (waits z e) e) l to (v ∙ sh.version z);
       };
+      joining = waits_alike w w' (λ z e. set_alike w y z m lt (ap is_waiting up) e) (λ s l. refl) h.current h.joining;
       current = record {
         lt = λ q s r. at_set (λ i a. runs w i ≡ true → a.current ≡ Some s → s < length w.links) w.members y q m no_member lt (λ _. k.lt s) (λ _ r2. h.current.lt q s r2) (sh.runs_less q r);
         receiver = λ q s r. at_set (λ i a. runs w i ≡ true → a.current ≡ Some s → (link_at w s).receiver ≡ i) w.members y q m no_member lt (λ _. k.receiver s) (λ _ r2. h.current.receiver q s r2) (sh.runs_less q r);
@@ -130,18 +131,17 @@ current_keeps w y c lt up k h =
 
 -- ---- a mark or an erasure, before its member refreshes
 
-pub mark_keeps : (w : World) (d : ℕ) → runs w d ≡ false → Inv w → Inv (with_view w (marked (view_in w (newest w)) d))
-mark_keeps w d rd h =
-    let v' : Group = marked (view_in w (newest w)) d in
+pub mark_keeps : (w : World) (d : ℕ) (v' : Group) → IsMarked w d v' → runs w d ≡ false → Inv w → Inv (with_view w v')
+mark_keeps w d v' marks rd h =
     let w' : World = with_view w v' in
     let some : 0 < length w.views = h.is_ring.some in
     let more : length (w.views ++ v' ∷ []) ≡ length w.views + 1 = length_push w.views v' in
-    let same_ring : ring w' ≡ ring w = ap ids (view_new w v' (newest w') (omega arith)) ∙ ids-marked (view_in w (newest w)) d in
+    let same_ring : ring w' ≡ ring w = ap ids (newest_view w v' h.is_ring) ∙ marks.same_ids in
     record {
-      is_ring = ring_more w v' (mark_follows w d rd h.is_ring) h.is_ring;
+      is_ring = ring_more w v' (mark_follows w d v' marks rd h.is_ring) h.is_ring;
       linked = linked_more w v' h.is_ring h.linked;
-      history = history_more w v' h.is_ring h.linked h.history (mark_ages w d);
-      ordered = ordered_more w v' h.is_ring (mark_order w d h.ordered);
+      history = history_more w v' h.is_ring h.linked h.history (mark_ages w d v' marks);
+      ordered = ordered_more w v' h.is_ring (mark_order w d v' marks h.ordered);
       packed = record {
         packets = λ s l. AllPackets-map (IsPacket w (link_at w s)) (IsPacket w' (link_at w s)) (link_at w s).packets
             (λ k q. record {
@@ -151,9 +151,10 @@ mark_keeps w d rd h =
               zero = λ p e. q.zero p (sym (ap (λ a. is_in p (ids a)) (view_old w v' k.version (omega (arith, q.upto)))) ∙ e);
             }) (h.packed.packets s l);
       };
-      numbered = record { zero = λ x p e. h.numbered.zero x p (sym (ap (λ a. is_in p (ids a)) (view_old w v' (member_at w x).version (omega (arith, h.is_ring.held x)))) ∙ e) };
+      numbered = record { zero = λ x p e. h.numbered.zero x p (sym (ap (λ a. is_in p (ids a)) (view_old w v' (member_at w x).version (omega (arith, h.is_ring.held x)))) ∙ e); beyond = h.numbered.beyond };
       retired = record { none = λ p a b us r e i. h.retired.none p a b us (sym (ap (is_in p) same_ring) ∙ r) (sym (ap (λ c. filter (runs w) (rotated p c)) same_ring) ∙ e) i };
       waiting = record { first = h.waiting.first; mine = h.waiting.mine; admission = h.waiting.admission };
+      joining = waits_alike w w' (λ z e. refl) (λ s l. refl) h.current h.joining;
       current = record {
         lt = h.current.lt;
         receiver = h.current.receiver;
@@ -161,7 +162,7 @@ mark_keeps w d rd h =
         opened = h.current.opened;
       };
       origins = λ p some l. ap (is_in p) same_ring ∙ h.origins p some l;
-      walks = λ p some l. never_rises_still (walk w p) (walk w' p) (mark_walk w d p h.is_ring) (h.walks p some l);
+      walks = λ p some l. never_rises_still (walk w p) (walk w' p) (mark_walk w d p v' marks h.is_ring) (h.walks p some l);
     }
 
 -- ---- a link that goes the same way
@@ -208,13 +209,14 @@ way_keeps w s l lt k h =
     (record {
       many = refl;
       packed = shaped_packed w w.members w'.links sh (λ j jl. subst (AllPackets (IsPacket w (link_at w j))) (sym (packets j)) (h.packed.packets j jl));
-      numbered = record { zero = h.numbered.zero };
+      numbered = record { zero = h.numbered.zero; beyond = h.numbered.beyond };
       retired = record { none = h.retired.none };
       waiting = record {
         first = λ y t e c. ap is_empty (packets t) ∙ h.waiting.first y t e c;
         mine = λ y t e c. (sh.ends t).receiver ∙ h.waiting.mine y t e c;
         admission = λ y t e lt2 to v. ap is_empty (packets t) ∙ h.waiting.admission y t e (omega (arith, sh.many)) (sym (sh.ends t).receiver ∙ to) (sym (sh.ends t).opened ∙ v);
       };
+      joining = waits_alike w w' (λ z e. refl) (λ t l2. (sh.ends t).opened) h.current h.joining;
       current = shaped_current w w.members w'.links sh (λ q. refl) h.current;
       walks = λ p some l2. never_rises_still (walk w p) (walk w' p) (closes_walk w w' p (way_closes w s l p k lt)) (h.walks p some l2);
     })

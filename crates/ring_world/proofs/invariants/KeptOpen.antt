@@ -26,7 +26,7 @@ use Rattle.ring_world.proofs.walks.Refresh.{blind}
 use Rattle.ring_world.proofs.walks.Back.{closes_walk}
 use Rattle.ring_world.proofs.walks.Open.{open_walk, within_links, with_opened}
 use Rattle.ring_world.proofs.walks.Put.{runs_phase-Up}
-use Rattle.ring_world.proofs.invariants.Kept.{Inv, packets_stay}
+use Rattle.ring_world.proofs.invariants.Kept.{Inv, packets_stay, set_alike, waits_alike}
 use Rattle.ring_world.proofs.invariants.KeptLook.{Rest, look_rest, look_member, look_runs, look_has_later, whole}
 use Rattle.ring_world.proofs.walks.Packets.{reads_got, reads_forgot, line_of_packet}
 
@@ -69,6 +69,7 @@ open_rest w x z m r =
         zero = λ q p e.
             let e2 : knows w (member_at w q).version p ≡ false = ap (λ v. knows w v p) (sym (view_same q)) ∙ e in
             (ap (λ a. a.got) (rows q p) ∙ (r.numbered.zero q p e2).0, ap (λ a. a.forgot) (rows q p) ∙ (r.numbered.zero q p e2).1);
+        beyond = λ q p ge. ap (λ k. k.retired) (rows q p) ∙ r.numbered.beyond q p (omega arith);
       };
       retired = record { none = λ p a b us inside e i. ap (λ k. k.retired) (rows b p) ∙ r.retired.none p a b us inside (sym (filter_agree (runs w') (runs w) runs_same (rotated p (ring w))) ∙ e) i };
       waiting = record {
@@ -81,6 +82,7 @@ open_rest w x z m r =
         admission = λ q t e lt. at_push (λ i k. k.receiver ≡ q → k.opened ≡ (member_at w' q).version → is_empty k.packets ≡ false) w.links t l no_link (omega arith)
             (λ _ _. refl) (λ o to v. r.waiting.admission q t (sym (phase q) ∙ e) o to (v ∙ view_same q));
       };
+      joining = waits_alike w w' (λ q e. set_alike w x q y m.is_member (ap is_waiting m.up) e) (λ s lt. ap (λ k. k.opened) (old s lt)) r.current r.joining;
       current = record {
         lt = λ q s e c. omega (arith, r.current.lt q s (sym (runs_same q) ∙ e) (sym (current q) ∙ c));
         receiver = λ q s e c. ap (λ k. k.receiver) (old s (r.current.lt q s (sym (runs_same q) ∙ e) (sym (current q) ∙ c))) ∙ r.current.receiver q s (sym (runs_same q) ∙ e) (sym (current q) ∙ c);

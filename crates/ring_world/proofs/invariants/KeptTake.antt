@@ -8,7 +8,7 @@ use Rattle.ring_world.specs.Refusal.{is_empty}
 use Rattle.ring_world.proofs.events.WhatRefuses.{MayTake}
 use Rattle.group_view.specs.Ring.{others, is_in}
 use Rattle.ring_world.specs.View.{ids, between}
-use Rattle.ring_world.specs.Machine.{Waiting, Up, World, no_member, no_link, no_packet, member_at, link_at, view_in, row_at, numbers_at, newest, ring, runs, is_kept}
+use Rattle.ring_world.specs.Machine.{Waiting, Up, World, no_member, no_link, no_packet, member_at, link_at, view_in, row_at, numbers_at, newest, ring, runs, is_kept, is_waiting}
 use Rattle.ring_world.specs.Rows.{no_row, taken_row}
 use Rattle.ring_world.proofs.walks.CountedWalk.{counted, walk, running_from}
 use Rattle.ring_world.specs.Step.{size, popped, take_from, taker, is_owned, log_of}
@@ -21,7 +21,7 @@ use Rattle.ring_world.proofs.walks.Put.{runs_phase-Up, counted_not_kept, counted
 use Rattle.ring_world.proofs.walks.Take.{CanTake, Standing, elsewhere, first_time, unknown, come_round, taken_packet, take_walk, take_runs, row_at-taker, take_retired_other, take_retired, head_once}
 use Rattle.ring_world.proofs.walks.Refresh.{kept_less}
 use Rattle.group_view.proofs.Rings.{in_before, nat_eq-is, others_inside}
-use Rattle.ring_world.proofs.invariants.Kept.{Inv, AllPackets-first, AllPackets-drop, shaped_packed, shaped_current, shaped_keeps}
+use Rattle.ring_world.proofs.invariants.Kept.{Inv, AllPackets-first, AllPackets-drop, shaped_packed, shaped_current, shaped_keeps, set_alike, waits_alike}
 
 -- the conditions of a take
 pub can_take : (w : World) (y s : ℕ) → Inv w → MayTake w y s → CanTake w y s
@@ -106,6 +106,9 @@ take_zero w y s p h m k = ⊎_elim
     not_known false e = refl
     not_known true e = absurd (false≢true (sym k ∙ h.history.grows p (taken_packet w s).version (member_at w y).version e m.version (h.is_ring.held y)))
 
+pub taker_beyond : (w : World) (y s p : ℕ) → size w ≤ p → row_at (taker w y s) p ≡ no_row
+taker_beyond w y s p ge = get_or_beyond (taker w y s).rows p no_row (omega (arith, length-map-range_with_len (λ p. taken_row (is_owned (view_in w (member_at w y).version) y (link_at w s).sender p) (log_of w p) (row_at (member_at w y) p) (numbers_at (taken_packet w s) p)) 0 (size w)))
+
 pub take_retires : (w : World) (y s : ℕ) → Inv w → MayTake w y s → IsRetiredRight (take_from w y s)
 take_retires w y s h m = record { none = λ p x z us r e i. by_place p x z us r (same p ∙ e) i (cases_eq z y) }
   where
@@ -152,6 +155,8 @@ take_keeps w y s h m =
       numbered = record {
         zero = λ x p. at_set (λ k a. knows w a.version p ≡ false → ((row_at a p).got ≡ 0) × ((row_at a p).forgot ≡ 0)) w.members y x (taker w y s) no_member c.is_member
             (λ e. take_zero w y s p h m e) (λ _ e. h.numbered.zero x p e);
+        beyond = λ x p ge. let g : size w ≤ p = omega (arith, ge, length-set w.members y (taker w y s)) in
+            at_set (λ k a. (row_at a p).retired ≡ 0) w.members y x (taker w y s) no_member c.is_member (ap (λ a. a.retired) (taker_beyond w y s p g)) (λ _. h.numbered.beyond x p g);
       };
       retired = take_retires w y s h m;
       waiting = record {
@@ -161,6 +166,7 @@ take_keeps w y s h m =
             others_stay t (λ is. d (sym (sym (sh.ends t).receiver ∙ to) ∙ ap (λ j. (link_at w j).receiver) is ∙ c.receiver))
             (h.waiting.admission z t (old_phase z d e) (omega (arith, sh.many)) (sym (sh.ends t).receiver ∙ to) (sym (sh.ends t).opened ∙ v ∙ sh.version z));
       };
+      joining = waits_alike w w' (λ z e. set_alike w y z (taker w y s) c.is_member (ap is_waiting m.up) e) (λ t l. (sh.ends t).opened) h.current h.joining;
       current = shaped_current w w'.members w'.links sh (λ q. at_set (λ k a. a.current ≡ (member_at w k).current) w.members y q (taker w y s) no_member c.is_member refl (λ _. refl)) h.current;
       walks = λ p some l.
           never_rises_still (walk w p) (walk w' p)

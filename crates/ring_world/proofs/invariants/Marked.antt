@@ -7,11 +7,10 @@ use Rattle.ring_world.specs.View.{ids, is_live}
 use Rattle.ring_world.specs.Machine.{World, member_at, link_at, view_in, newest, ring}
 use Rattle.group_view.specs.Ring.{is_in}
 use Rattle.ring_world.specs.Step.{with_view}
-use Rattle.group_view.specs.Change.{marked}
 use Rattle.group_view.proofs.Truth.{other_true}
 use Rattle.ring_world.proofs.invariants.Good.{IsRing, IsLinked}
 use Rattle.ring_world.proofs.invariants.Period.{IsHistory}
-use Rattle.ring_world.proofs.walks.Views.{view_old, view_new, left_old, right_old, kept_old, ids-marked, live-marked}
+use Rattle.ring_world.proofs.walks.Views.{view_old, view_new, left_old, right_old, kept_old, IsMarked}
 
 -- ---- links
 
@@ -68,8 +67,8 @@ history_more w v' hr hl hh g =
       known = λ s l. subst (λ a. is_in (link_at w s).receiver (ids a) ≡ true) (sym (view_old w v' (link_at w s).opened (omega (arith, hl.opened s l)))) (hh.known s l);
     }
 
-pub mark_ages : (w : World) (d : ℕ) → Ages w (marked (view_in w (newest w)) d)
-mark_ages w d = record {
-  grows = λ z i. ap (is_in z) (ids-marked (view_in w (newest w)) d) ∙ i;
-  dies = λ z i l. other_true (nat_eq z d) (is_live (view_in w (newest w)) z) (sym (live-marked (view_in w (newest w)) d z) ∙ l);
+pub mark_ages : (w : World) (d : ℕ) (v' : Group) → IsMarked w d v' → Ages w v'
+mark_ages w d v' k = record {
+  grows = λ z i. ap (is_in z) k.same_ids ∙ i;
+  dies = λ z i l. other_true (nat_eq z d) (is_live (view_in w (newest w)) z) (sym (k.lives z) ∙ l);
 }

@@ -18,7 +18,7 @@ use Rattle.ring_world.specs.View.{ids, is_live, left_of, right_of}
 use Rattle.ring_world.specs.Machine.{Phase, Waiting, Packet, Member, Link, World, no_member, no_link, member_at, link_at, view_in, row_at, numbers_at, ring, left, right, runs, runs_phase, is_kept, is_waiting}
 use Rattle.ring_world.specs.OpenLinks.{FallsFrom, NeverRises, own_number, number}
 use Rattle.ring_world.proofs.walks.CountedWalk.{is_early, only, no_but, counted, when, past_first, newest_first, numbers, block, round, round_of, retired_by, walk, running_from, stopped_from}
-use Rattle.ring_world.specs.Step.{opening, opening_member}
+use Rattle.ring_world.specs.Step.{opening, opening_member, size}
 use Rattle.ring_world.proofs.events.First.{first_at, first_each, first_link, first_links, first_link_is}
 use Rattle.ring_world.proofs.invariants.Good.{IsRing, IsLinked, kept_true}
 use Rattle.ring_world.proofs.invariants.Period.{IsHistory}
@@ -134,6 +134,10 @@ module _ (credit : CreditSpec) (names : List (List ℕ)) where
 
   opening_live : (q : ℕ) → IsId q → is_live first_view q ≡ true
   opening_live q i = opening_lives 1 names q (in_range 1 (length names) q i.0 (omega (arith, i.1)))
+
+  -- each member lives in the first view
+  pub opening_live_at : (q : ℕ) → 1 ≤ q → q < size first_world → is_live first_view q ≡ true
+  opening_live_at q some lt = opening_live q (some, omega (arith, lt, length-map-range_with_len (opening_member names) 1 (length names)))
 
   opening_inside : (q : ℕ) → is_in q (ids first_view) ≡ true → IsId q
   opening_inside q i = let r = range_in 1 (length names) q (sym (ap (is_in q) (opening_ids 1 names)) ∙ i) in (r.0, omega (arith, r.1))
@@ -329,12 +333,17 @@ module _ (credit : CreditSpec) (names : List (List ℕ)) where
     history = opening_history;
     ordered = opening_ordered;
     packed = record { packets = λ s l. subst (AllPackets (IsPacket first_world (link_at first_world s))) (sym (opening_empty s)) tt };
-    numbered = record { zero = λ x p e. (ap (λ a. a.got) (opening_row x p), ap (λ a. a.forgot) (opening_row x p)) };
+    numbered = record { zero = λ x p e. (ap (λ a. a.got) (opening_row x p), ap (λ a. a.forgot) (opening_row x p)); beyond = λ x p ge. ap (λ a. a.retired) (opening_row x p) };
     retired = record { none = λ p x y us r e i. ap (λ a. a.retired) (opening_row y p) };
     waiting = record {
       first = λ y s e c. absurd (not_waiting (member_at first_world y).phase (opening_phase y) e);
       mine = λ y s e c. absurd (not_waiting (member_at first_world y).phase (opening_phase y) e);
       admission = λ y s e l t v. absurd (not_waiting (member_at first_world y).phase (opening_phase y) e);
+    };
+    joining = record {
+      some = λ y e. absurd (not_waiting (member_at first_world y).phase (opening_phase y) e);
+      opened = λ y s e c. absurd (not_waiting (member_at first_world y).phase (opening_phase y) e);
+      rows = λ y p e. absurd (not_waiting (member_at first_world y).phase (opening_phase y) e);
     };
     current = opening_current;
     origins = λ p some l. opening_knows p (some, omega (arith, l, length-map-range_with_len (opening_member names) 1 (length names)));

@@ -8,11 +8,10 @@ use Rattle.ring_world.specs.View.{ids}
 use Rattle.group_view.specs.View.{Group}
 use Rattle.ring_world.specs.Machine.{World, view_in, newest, ring, left}
 use Rattle.ring_world.specs.Step.{with_view}
-use Rattle.group_view.specs.Change.{marked}
 use Rattle.group_view.proofs.Rings.{in_before, in_head, in_tail, others_inside}
 use Rattle.group_view.proofs.Neighbours.{filtered_in}
 use Rattle.ring_world.proofs.invariants.Good.{IsRing}
-use Rattle.ring_world.proofs.walks.Views.{view_old, view_new, left_old, ids-marked}
+use Rattle.ring_world.proofs.walks.Views.{view_old, view_new, left_old, IsMarked}
 use Rattle.ring_world.proofs.invariants.Standing.{knows, IsOrdered, OldLast, AllTrue}
 
 -- ---- lists
@@ -68,9 +67,9 @@ ordered_more w v' hr h =
           (cases_lt v (length w.views)));
     }
 
-pub mark_order : (w : World) (d : ℕ) → IsOrdered w → KeepsOrder w (marked (view_in w (newest w)) d)
-mark_order w d h =
-    let e : ids (marked (view_in w (newest w)) d) ≡ ring w = ids-marked (view_in w (newest w)) d in
+pub mark_order : (w : World) (d : ℕ) (v' : Group) → IsMarked w d v' → IsOrdered w → KeepsOrder w v'
+mark_order w d v' marks h =
+    let e : ids v' ≡ ring w = marks.same_ids in
     record {
       part = λ v l. subst (λ us. ids (view_in w v) ≡ filter (knows w v) us) (sym e) (h.part v l);
       order = λ v x l k. subst (λ us. OldLast (knows w v) (before x (others (left w v x) us))) (sym e) (h.order v x l k);

@@ -5,7 +5,7 @@ use Rattle.std.proofs.lemmas.Bool.{false≢true}
 use Rattle.ring_world.specs.declared.numbers.Numbers.{Numbers}
 use Rattle.ring_world.specs.Rows.{Row, no_numbers}
 use Rattle.ring_world.specs.Refusal.{is_empty}
-use Rattle.ring_world.specs.Machine.{Packet, Member, Sending, Link, World, no_packet, row_at, numbers_at, member_at, link_at, view_in, runs, is_kept}
+use Rattle.ring_world.specs.Machine.{Up, Packet, Member, Sending, Link, World, no_packet, row_at, numbers_at, member_at, link_at, view_in, runs, is_kept}
 use Rattle.ring_world.specs.Step.{size, next_lines, next_packet, is_owned}
 
 -- ---- the packets of a link, one after another
@@ -110,8 +110,8 @@ pub record LinesRight (w : World) : Type 0 where
   pub chain : (s : ℕ) → s < length w.links → IsChain (link_at w s).packets (link_at w s).sending.sent
   -- nothing was taken from a kept link that isn't current and wasn't
   pub untouched : (y s : ℕ) → s < length w.links → runs w y ≡ true → (link_at w s).receiver ≡ y → (link_at w s).over ≡ false → is_kept w (link_at w s) (member_at w y).version ≡ true → (member_at w y).current ≢ Some s → HasFirst (link_at w s).packets
-  -- nothing is missing at the front of the current link
-  pub current : (y s p : ℕ) → runs w y ≡ true → (member_at w y).current ≡ Some s → 1 ≤ p → p < size w → is_owned (view_in w (member_at w y).version) y (link_at w s).sender p ≡ false → BeginsBy (link_at w s).packets (link_at w s).sending p (row_at (member_at w y) p).got
+  -- nothing is missing at the front of the current link of one that is up
+  pub current : (y s p : ℕ) → (member_at w y).phase ≡ Up → (member_at w y).current ≡ Some s → 1 ≤ p → p < size w → is_owned (view_in w (member_at w y).version) y (link_at w s).sender p ≡ false → BeginsBy (link_at w s).packets (link_at w s).sending p (row_at (member_at w y) p).got
 
 -- ---- steps that leave the packets where they are
 
@@ -130,10 +130,11 @@ pub record Still (w w' : World) : Type 0 where
   pub same_size : size w' ≡ size w
   pub lines : (s : ℕ) → SameLine (link_at w s) (link_at w' s)
   pub runs_less : (y : ℕ) → runs w' y ≡ true → runs w y ≡ true
+  pub ups : (y : ℕ) → (member_at w' y).phase ≡ Up → (member_at w y).phase ≡ Up
   pub keeps : (y s : ℕ) → runs w' y ≡ true → is_kept w' (link_at w' s) (member_at w' y).version ≡ true → is_kept w (link_at w s) (member_at w y).version ≡ true
   pub current : (y s : ℕ) → (member_at w' y).current ≡ Some s → (member_at w y).current ≡ Some s
   pub stays : (y s : ℕ) → s < length w.links → (link_at w' s).over ≡ false → is_kept w' (link_at w' s) (member_at w' y).version ≡ true → (member_at w y).current ≡ Some s → (member_at w' y).current ≡ Some s
-  pub owned : (y z p : ℕ) → runs w' y ≡ true → is_owned (view_in w' (member_at w' y).version) y z p ≡ is_owned (view_in w (member_at w y).version) y z p
+  pub owned : (y s p : ℕ) → (member_at w' y).phase ≡ Up → (member_at w' y).current ≡ Some s → is_owned (view_in w' (member_at w' y).version) y (link_at w' s).sender p ≡ is_owned (view_in w (member_at w y).version) y (link_at w s).sender p
   pub got : (y p : ℕ) → (row_at (member_at w y) p).got ≤ (row_at (member_at w' y) p).got
 
 -- such a step keeps it
@@ -151,6 +152,6 @@ lines_still w w' k h = record {
       subst (λ a. BeginsBy (link_at w' s).packets a p (row_at (member_at w' y) p).got) (sym (k.lines s).sending)
       (subst (λ a. BeginsBy a (link_at w s).sending p (row_at (member_at w' y) p).got) (sym (k.lines s).packets)
       (begins_more (link_at w s).packets (link_at w s).sending p (row_at (member_at w y) p).got (row_at (member_at w' y) p).got (k.got y p)
-      (h.current y s p (k.runs_less y r) (k.current y s e) some (omega (arith, k.same_size))
-      (sym (k.owned y (link_at w s).sender p r) ∙ ap (λ z. is_owned (view_in w' (member_at w' y).version) y z p) (sym (k.lines s).sender) ∙ own))));
+      (h.current y s p (k.ups y r) (k.current y s e) some (omega (arith, k.same_size))
+      (sym (k.owned y s p r e) ∙ own))));
 }

@@ -11,13 +11,13 @@ use Rattle.ring_world.specs.Refusal.{is_empty}
 use Rattle.ring_world.specs.Rows.{full_flow, regained}
 use Rattle.group_view.specs.Change.{AreOpeningNames}
 use Rattle.ring_world.specs.Machine.{Packet, Link, World, no_link, no_sending, member_at, link_at}
-use Rattle.ring_world.specs.Step.{next_packet, pushed, popped, take_from, fresh_link, opened_link, open_to, with_link, opening, opening_link}
+use Rattle.ring_world.specs.Step.{next_packet, pushed, popped, take_from, begin_from, fresh_link, opened_link, open_to, with_link, opening, opening_link}
 use Rattle.ring_world.specs.Event.{Event, IsRun, last}
 use Rattle.ring_world.specs.Lawful.{CreditIsKept, KeepsCredit}
 use Rattle.ring_world.proofs.rings.Lists.{at_set, at_push}
 use Rattle.ring_world.proofs.invariants.Happens.{IsGood, opening_good}
 use Rattle.ring_world.proofs.events.First.{first_link_at}
-use Rattle.ring_world.proofs.events.Parts.{IsStill, Part, cast_part, put_part, take_part, gain_part, stop_part, open_part, still_part, run_keeps}
+use Rattle.ring_world.proofs.events.Parts.{IsStill, Part, cast_part, put_part, take_part, begin_part, come_part, gain_part, stop_part, open_part, still_part, run_keeps}
 
 -- the link as credit_flow has it: its packets are the loads
 abbrev pub credit_of : Link → CreditLink
@@ -126,6 +126,9 @@ module _ (initial more : ℕ) (positive : 1 ≤ more) (covered : more ≤ initia
       (set_credited w o (pushed (link_at w o) (next_packet (member_at w x) (link_at w o).sending)) lt (pushed_is_kept (link_at w o) (next_packet (member_at w x) (link_at w o).sending) free (h.links o lt)) h)
   part_credited G w w' (take_part y s some t lt g e) h = subst (IsCredited initial more) (sym e)
       (member_credited (with_link w s (popped (link_at w s))) (take_from w y s) refl refl refl (set_credited w s (popped (link_at w s)) lt (popped_is_kept (link_at w s) t.has (h.links s lt)) h))
+  part_credited G w w' (begin_part y s some t lt none e) h = subst (IsCredited initial more) (sym e)
+      (member_credited (with_link w s (popped (link_at w s))) (begin_from w y s) refl refl refl (set_credited w s (popped (link_at w s)) lt (popped_is_kept (link_at w s) t.has (h.links s lt)) h))
+  part_credited G w w' (come_part m name e) h = subst (IsCredited initial more) (sym e) (member_credited w _ refl refl refl h)
   part_credited G w w' (gain_part o lt some e) h = subst (IsCredited initial more) (sym e) (set_credited w o _ lt (granted_is_kept (link_at w o) some (h.links o lt)) h)
   part_credited G w w' (stop_part x lt e) h = subst (IsCredited initial more) (sym e) (member_credited w _ refl refl refl h)
   part_credited G w w' (open_part x z e) h = subst (IsCredited initial more) (sym e) (open_credited w x z h)

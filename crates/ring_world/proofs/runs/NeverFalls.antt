@@ -1,7 +1,7 @@
 -- Numbers never fall, and logs only grow.
 use Rattle.std.proofs.Common.{◌≡◌, ◌≢◌, ℕ, zero, suc, ◌<◌, ◌≤◌, Bool, true, false, cond, nat_eq, List, [], ◌∷◌, ◌++◌, length, take, get_or, Some, refl, sym, ap, subst, ◌∙◌, ⊎_elim, arith}
 use Rattle.std.proofs.lemmas.Bool.{cases_eq}
-use Rattle.std.proofs.lemmas.List.{length-set, length-take, take-append-le, take-take, take_all}
+use Rattle.std.proofs.lemmas.List.{length-set, length_push, length-take, take-append-le, take-take, take_all}
 use Rattle.ring_names.specs.declared.message.Message.{Message}
 use Rattle.ring_names.specs.declared.numbers.CreditSpec.{CreditSpec}
 use Rattle.ring_world.specs.declared.numbers.Numbers.{Numbers}
@@ -11,11 +11,11 @@ use Rattle.group_view.specs.Change.{AreOpeningNames}
 use Rattle.ring_world.specs.Machine.{Up, Packet, World, no_member, row_at, numbers_at, member_at, link_at, view_in}
 use Rattle.ring_world.specs.OpenLinks.{NeverRises, number}
 use Rattle.ring_world.proofs.walks.CountedWalk.{numbers, counted, only, no_but, is_early, round_of, retired_by, stopped_from, running_from, walk_over}
-use Rattle.ring_world.specs.Step.{size, log_of, put_on, gain_on, published, publish_at, is_owned, taker, take_from, stopped, stop_at, opened_link, open_to, opening}
+use Rattle.ring_world.specs.Step.{size, log_of, put_on, gain_on, published, publish_at, is_owned, taker, take_from, stopped, stop_at, opened_link, open_to, opening, begun, begin_from, joiner, come_to}
 use Rattle.ring_world.proofs.events.WhatRefuses.{MayTake}
 use Rattle.ring_world.specs.Event.{Event, IsRun, last}
 use Rattle.ring_world.specs.Lawful.{row_of, RowIsWithin, NeverFalls}
-use Rattle.ring_world.proofs.events.Leaves.{with_opened}
+use Rattle.ring_world.proofs.events.Leaves.{with_opened, come_member}
 use Rattle.ring_world.proofs.rings.Lists.{at_set, get_or_beyond}
 use Rattle.group_view.proofs.Rings.{nat_eq-is, in_first, in_second, in_head}
 use Rattle.ring_world.proofs.walks.Put.{runs_phase-Up, number_up}
@@ -25,18 +25,19 @@ use Rattle.ring_world.proofs.invariants.KeptTake.{can_take, take_standing}
 use Rattle.ring_world.proofs.rings.Falling.{rises_first, rises_second, falls_across, owner_in_round, late_in_round, round_falls, early_falls}
 use Rattle.ring_world.proofs.runs.Confirmed.{runs_in_walk}
 use Rattle.ring_world.proofs.invariants.Happens.{IsGood, reached_good}
-use Rattle.ring_world.proofs.events.Parts.{IsSameRows, links_same, member_same, Part, cast_part, put_part, take_part, gain_part, stop_part, open_part, still_part, run_keeps}
-use Rattle.ring_world.proofs.runs.OwnLogs.{IsLogged, taker_row, take_log, cast_log, cast_log_other, published_at, part_logged, run_logged}
+use Rattle.ring_world.proofs.events.Parts.{IsSameRows, links_same, member_same, Part, cast_part, put_part, take_part, gain_part, stop_part, open_part, still_part, run_keeps, begin_part, come_part, KnowsNothing}
+use Rattle.ring_world.proofs.runs.OwnLogs.{IsLogged, taker_row, take_log, cast_log, cast_log_other, published_at, part_logged, run_logged, begin_log, begun_at, come_log}
 
 -- no number of a row is less than it was
 pub record RowRises (r r' : Row) : Type 0 where
   pub got : r.got ≤ r'.got
   pub forgot : r.forgot ≤ r'.forgot
   pub retired : r.retired ≤ r'.retired
+  pub base : 0 < r.got → r'.base ≡ r.base
 
 -- nor of one that stays
 pub row_stays : (r : Row) → RowRises r r
-row_stays r = record { got = omega arith; forgot = omega arith; retired = omega arith }
+row_stays r = record { got = omega arith; forgot = omega arith; retired = omega arith; base = λ _. refl }
 
 -- ---- the row of a taker
 
@@ -124,7 +125,7 @@ taker_rises w y s p h m some lt = by_standing (take_standing w y s p h m (h.orig
 
     -- of an origin that y doesn't answer for
     outside : is_owned (view_in w (member_at w y).version) y (link_at w s).sender p ≡ false → (row_of w y p).got ≤ k.got → (row_of w y p).forgot ≤ k.forgot → RowRises (row_of w y p) (taken_row (is_owned (view_in w (member_at w y).version) y (link_at w s).sender p) (log_of w p) (row_of w y p) k)
-    outside own a b = subst (λ o. RowRises (row_of w y p) (taken_row o (log_of w p) (row_of w y p) k)) (sym own) (record { got = a; forgot = b; retired = omega arith })
+    outside own a b = subst (λ o. RowRises (row_of w y p) (taken_row o (log_of w p) (row_of w y p) k)) (sym own) (record { got = a; forgot = b; retired = omega arith; base = λ _. refl })
 
     by_standing : Standing w y s p → RowRises (row_of w y p) (taken_row (is_owned (view_in w (member_at w y).version) y (link_at w s).sender p) (log_of w p) (row_of w y p) k)
     by_standing (elsewhere q qs e d own) =
@@ -146,11 +147,12 @@ taker_rises w y s p h m some lt = by_standing (take_standing w y s p h m (h.orig
           retired = falls_across k.forgot (row_of w y p).retired (second_round (y ∷ qs)) (retired_by w p (y ∷ qs)) (rest_falls (y ∷ qs) e)
               (taken_late (λ k. k.forgot) (λ r. r.forgot) w y s p qs c late)
               (in_head (row_of w y p).retired []);
+          base = λ _. refl;
         })
 
 -- a row within nothing can't fall
 pub none_rises : (r r' : Row) → RowIsWithin 0 r → RowRises r r'
-none_rises r r' h = record { got = omega (arith, h.got); forgot = omega (arith, h.forgot); retired = omega (arith, h.retired) }
+none_rises r r' h = record { got = omega (arith, h.got); forgot = omega (arith, h.forgot); retired = omega (arith, h.retired); base = λ some. absurd (omega (arith, h.got, some)) }
 
 -- at 0 stands nobody
 pub nobody_within : (w : World) (q : ℕ) → IsLogged w → RowIsWithin 0 (row_of w q 0)
@@ -176,29 +178,31 @@ prefix_of_prefix xs ys zs e f =
 -- one state after another
 pub falls_after : (w w' w'' : World) → NeverFalls w w' → NeverFalls w' w'' → NeverFalls w w''
 falls_after w w' w'' a b = record {
-  same_size = b.same_size ∙ a.same_size;
+  more = omega (arith, a.more, b.more);
   logs = λ p. prefix_of_prefix (log_of w p) (log_of w' p) (log_of w'' p) (a.logs p) (b.logs p);
   got = λ q p. omega (arith, a.got q p, b.got q p);
   forgot = λ q p. omega (arith, a.forgot q p, b.forgot q p);
   retired = λ q p. omega (arith, a.retired q p, b.retired q p);
+  base = λ q p some. b.base q p (omega (arith, a.got q p, some)) ∙ a.base q p some;
 }
 
 -- ---- parts of events
 
 -- by rows
-pub rows_rise : (w w' : World) → size w' ≡ size w → ((p : ℕ) → take (length (log_of w p)) (log_of w' p) ≡ log_of w p) → ((q p : ℕ) → RowRises (row_of w q p) (row_of w' q p)) → NeverFalls w w'
+pub rows_rise : (w w' : World) → size w ≤ size w' → ((p : ℕ) → take (length (log_of w p)) (log_of w' p) ≡ log_of w p) → ((q p : ℕ) → RowRises (row_of w q p) (row_of w' q p)) → NeverFalls w w'
 rows_rise w w' many logs rises = record {
-  same_size = many;
+  more = many;
   logs = logs;
   got = λ q p. (rises q p).got;
   forgot = λ q p. (rises q p).forgot;
   retired = λ q p. (rises q p).retired;
+  base = λ q p. (rises q p).base;
 }
 
 -- what leaves the rows and logs
 pub same_rises : (w w' : World) → IsSameRows w w' → NeverFalls w w'
 same_rises w w' k =
-    rows_rise w w' k.many (λ p. ap (take (length (log_of w p))) (k.log p) ∙ take_all (length (log_of w p)) (log_of w p) (omega arith))
+    rows_rise w w' (omega (arith, k.many)) (λ p. ap (take (length (log_of w p))) (k.log p) ∙ take_all (length (log_of w p)) (log_of w p) (omega arith))
     (λ q p. subst (λ rs. RowRises (row_of w q p) (get_or rs p no_row)) (sym (k.rows q)) (row_stays (row_of w q p)))
 
 -- a state itself
@@ -216,7 +220,7 @@ open_same w x z =
 pub cast_rises : (w : World) (x : ℕ) (m : Message) → 1 ≤ x → x < size w → IsLogged w → NeverFalls w (publish_at w x m)
 cast_rises w x m some lt l =
     let rows_lt : x < length (member_at w x).rows = omega (arith, l.sized x some lt) in
-    rows_rise w (publish_at w x m) (length-set w.members x (published x m (member_at w x)))
+    rows_rise w (publish_at w x m) (omega (arith, length-set w.members x (published x m (member_at w x))))
     (λ p. ⊎_elim
     (λ (is : p ≡ x). subst (λ k. take (length (log_of w k)) (log_of (publish_at w x m) k) ≡ log_of w k) (sym is)
     (ap (take (length (log_of w x))) (cast_log w x m lt) ∙ take-append-le (length (log_of w x)) (log_of w x) (m ∷ []) (omega arith) ∙ take_all (length (log_of w x)) (log_of w x) (omega arith)))
@@ -224,24 +228,47 @@ cast_rises w x m some lt l =
     (cases_eq p x))
     (λ q p. at_set (λ k z. RowRises (row_of w k p) (row_at z p)) w.members x q (published x m (member_at w x)) no_member lt
     (published_at (RowRises (row_of w x p)) w x p m rows_lt
-    (λ is. subst (λ k. RowRises (row_of w x k) (published_row (row_of w x x) m)) (sym is) (record { got = omega arith; forgot = omega arith; retired = omega arith }))
+    (λ is. subst (λ k. RowRises (row_of w x k) (published_row (row_of w x x) m)) (sym is) (record { got = omega arith; forgot = omega arith; retired = omega arith; base = λ _. refl }))
     (λ _. row_stays (row_of w x p)))
     (λ _. row_stays (row_of w q p)))
 
 -- a take
 pub take_rises : (w : World) (y s : ℕ) → MayTake w y s → Inv w → IsLogged w → NeverFalls w (take_from w y s)
 take_rises w y s m h l =
-    rows_rise w (take_from w y s) (length-set w.members y (taker w y s))
+    rows_rise w (take_from w y s) (omega (arith, length-set w.members y (taker w y s)))
     (λ p. ap (take (length (log_of w p))) (take_log w y s p m.is_member) ∙ take_all (length (log_of w p)) (log_of w p) (omega arith))
     (λ q p. at_set (λ k z. RowRises (row_of w k p) (row_at z p)) w.members y q (taker w y s) no_member m.is_member
     (taker_row (RowRises (row_of w y p)) w y s p (λ lt. taker_rises_all w y s p h l m lt) (λ ge. none_rises (row_of w y p) no_row (beyond_within w y p ge l)))
     (λ _. row_stays (row_of w q p)))
+
+-- a first take, by one who has got nothing yet
+pub begin_rises : (w : World) (y s : ℕ) → y < size w → KnowsNothing (member_at w y) → IsLogged w → NeverFalls w (begin_from w y s)
+begin_rises w y s lt none l =
+    rows_rise w (begin_from w y s) (omega (arith, length-set w.members y (begun (size w) (member_at w y) (taken_packet w s))))
+    (λ p. ap (take (length (log_of w p))) (begin_log w y s p lt) ∙ take_all (length (log_of w p)) (log_of w p) (omega arith))
+    (λ q p. at_set (λ k z. RowRises (row_of w k p) (row_at z p)) w.members y q (begun (size w) (member_at w y) (taken_packet w s)) no_member lt
+    (begun_at (RowRises (row_of w y p)) w y s p
+    (λ _. record { got = omega (arith, (none p).0); forgot = omega (arith, (none p).1); retired = omega arith; base = λ some. absurd (omega (arith, (none p).0, some)) })
+    (λ ge. none_rises (row_of w y p) no_row (beyond_within w y p ge l)))
+    (λ _. row_stays (row_of w q p)))
+
+-- one that comes has nothing yet
+pub come_rises : (w : World) (m : ℕ) (name : List ℕ) → NeverFalls w (come_to w m name)
+come_rises w m name =
+    rows_rise w (come_to w m name) (omega (arith, length_push w.members (joiner w name)))
+    (λ p. ap (take (length (log_of w p))) (come_log w m name p) ∙ take_all (length (log_of w p)) (log_of w p) (omega arith))
+    (λ q p. come_member w m name q (λ i a. i ≡ q → RowRises (row_of w q p) (row_at a p))
+    (λ is. subst (λ r. RowRises r (row_at (joiner w name) p)) (ap (λ a. row_at a p) (sym (get_or_beyond w.members q no_member (omega (arith, is)))))
+    (record { got = omega arith; forgot = omega arith; retired = omega arith; base = λ some. absurd (omega (arith, some)) }))
+    (λ _. row_stays (row_of w q p)) refl)
 
 -- any part of an event
 pub part_rises : (w w' : World) → Part IsGood w w' → IsLogged w → NeverFalls w w'
 part_rises w w' (cast_part x m some lt e) l = subst (NeverFalls w) (sym e) (cast_rises w x m some lt l)
 part_rises w w' (put_part x o lt free e) l = subst (NeverFalls w) (sym e) (same_rises w (put_on w x o) (links_same w (put_on w x o).links))
 part_rises w w' (take_part y s some m lt g e) l = subst (NeverFalls w) (sym e) (take_rises w y s m g.inv l)
+part_rises w w' (begin_part y s some m lt none e) l = subst (NeverFalls w) (sym e) (begin_rises w y s m.is_member none l)
+part_rises w w' (come_part m name e) l = subst (NeverFalls w) (sym e) (come_rises w m name)
 part_rises w w' (gain_part o lt some e) l = subst (NeverFalls w) (sym e) (same_rises w (gain_on w o) (links_same w (gain_on w o).links))
 part_rises w w' (stop_part x lt e) l = subst (NeverFalls w) (sym e) (same_rises w (stop_at w x) (member_same w x (stopped (member_at w x)) refl refl))
 part_rises w w' (open_part x z e) l = subst (NeverFalls w) (sym e) (same_rises w (open_to w x z) (open_same w x z))

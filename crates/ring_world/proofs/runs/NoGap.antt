@@ -2,18 +2,19 @@
 use Rattle.std.proofs.Common.{◌≡◌, ℕ, ◌+◌, ◌-◌, ◌<◌, ◌≤◌, true, false, List, [], ◌∷◌, length, get_or, Some, None, is_some, refl, sym, ap, subst, ◌∙◌, arith}
 use Rattle.std.proofs.lemmas.Bool.{false≢true}
 use Rattle.ring_names.specs.declared.numbers.CreditSpec.{CreditSpec}
-use Rattle.group_view.specs.Change.{AreOpeningNames, opening as opening_group}
+use Rattle.group_view.specs.Change.{AreOpeningNames, marked, opening as opening_group}
 use Rattle.ring_world.specs.View.{left_of}
-use Rattle.ring_world.specs.Machine.{Packet, World, no_packet, row_at, numbers_at, member_at, link_at, view_in, left, runs, runs_phase, oldest}
+use Rattle.ring_world.specs.Machine.{Packet, World, no_packet, row_at, numbers_at, member_at, link_at, view_in, left, runs, runs_phase, oldest, Up, newest}
 use Rattle.ring_world.specs.Step.{size, gain_on, publish_at, is_owned, leave_link, opening}
-use Rattle.ring_world.specs.Event.{Event, refusal, effect, IsRun, last}
+use Rattle.ring_world.specs.Event.{Event, refusal, effect, IsRun, last, erased_view}
 use Rattle.ring_world.specs.NoGap.{NoGapAtTake}
 use Rattle.ring_world.proofs.events.First.{first_each, first_link_is}
 use Rattle.ring_world.proofs.walks.Views.{left_is}
 use Rattle.ring_world.proofs.invariants.Kept.{Inv}
-use Rattle.ring_world.proofs.invariants.Happens.{IsGood, opening_good, run_events}
+use Rattle.ring_world.proofs.invariants.Happens.{IsGood, opening_good, can_join, mark_good, erase_good}
 use Rattle.ring_world.proofs.events.Cases.{each_event}
-use Rattle.ring_world.proofs.runs.LinesKept.{cast_still, gain_still, leave_still, stop_lines, put_lines, take_lines, pick_lines, refresh_lines, view_ids, version_some, own_ids, mark_lines}
+use Rattle.ring_world.proofs.runs.LinesKept.{cast_still, gain_still, leave_still, stop_lines, put_lines, take_lines, pick_lines, begin_lines, takes_within, admit_lines, refresh_lines, owned_stays, mark_lines}
+use Rattle.ring_world.proofs.runs.OwnLogs.{IsLogged, opening_logged, run_knowing}
 use Rattle.ring_world.proofs.runs.Lines.{IsChain, BeginsBy, LinesRight, lines_still}
 
 -- ---- the opening
@@ -39,43 +40,42 @@ module _ (credit : CreditSpec) (names : List (List ℕ)) where
         let place : left_of (opening_group names) y - 1 ≡ s = omega arith in
         absurd (c (first_current y r ∙ ap (λ j. Some j) place));
     current = λ y s p r e some l own.
-        let lt : s < length first_world.links = inv.current.lt y s r e in
+        let lt : s < length first_world.links = inv.current.lt y s (ap runs_phase r) e in
         subst (λ a. BeginsBy a.packets a.sending p (row_at (member_at first_world y) p).got) (sym (first_link_is credit names s lt)) (λ bad. absurd (false≢true (sym bad)));
   }
 
 -- ---- events
 
 -- one event more
-pub event_lines : (w : World) (e : Event) → IsGood w → refusal w e ≡ None → LinesRight w → LinesRight (effect w e)
-event_lines w e g r h = each_event LinesRight w e g.none_waits (record {
+pub event_lines : (w : World) (e : Event) → IsGood w → refusal w e ≡ None → IsLogged w → LinesRight w → LinesRight (effect w e)
+event_lines w e g r lg h = each_event LinesRight w e g (record {
   casts = λ x m u. lines_still w (publish_at w x m) (cast_still w x m u.lt) h;
-  puts = λ x o u out k. put_lines w x o u.up out g.inv g.none_waits h;
+  puts = λ x o u out k. put_lines w x o u.up out g.inv h;
   takes = λ y s u m. take_lines w y s m g.inv h;
+  begins = λ y s u m. begin_lines w y s m g.inv h;
   leaves = λ y s u current k. lines_still w (leave_link w y s) (leave_still w y s u.lt (g.inv.current.lt y s (ap runs_phase u.up) current) current) h;
   gains = λ x o u out k. lines_still w (gain_on w o) (gain_still w o (g.inv.linked.out_lt x o (ap runs_phase u.up) out)) h;
-  stops = λ x u. stop_lines w x u.lt (ap runs_phase u.up) g.inv h;
-  marks = λ x d u m. mark_lines w x d u.lt u.up (ap runs_phase m.rests) g h;
+  stops = λ x u. stop_lines w x u.lt u.runs_on g.inv h;
+  marks = λ x d u m. mark_lines w x (marked (view_in w (newest w)) d) u.lt u.up g (mark_good w d m.rests m.lives g) h;
+  erases = λ x p u m. mark_lines w x (erased_view w p) u.lt u.up g (erase_good w p m.dead g) h;
+  admits = λ x name u k. admit_lines w x name (can_join w x name u.lt u.up k g) g lg h;
   refreshes = λ x v u m.
-      let rx : runs w x ≡ true = ap runs_phase m.up in
-      let some : 1 ≤ v = omega (arith, version_some w x g.inv.is_ring g.views rx, m.later) in
-      refresh_lines w x v m.is_member m.up m.later (view_ids w v g.views some m.upto ∙ sym (own_ids w x g.inv.is_ring g.views rx)) g.inv h;
+      let rx : runs w x ≡ true = ap runs_phase u.up in
+      refresh_lines w x v u.lt m.later (owned_stays w x v g rx m.later m.upto) (takes_within w g.inv) (λ o e2. g.inv.linked.out_lt x o rx e2) h;
   picks = λ y s u none door upto. pick_lines w y s u.lt u.up (ap is_some none) door upto g h;
+  refuses = h;
 }) r
-
--- every state of every run
-pub run_lines : (w : World) (es : List Event) → IsGood w → IsRun w es → LinesRight w → LinesRight (last w es)
-run_lines = run_events LinesRight event_lines
 
 -- so in every state of every run of a ring with these names
 pub reached_lines : (credit : CreditSpec) (names : List (List ℕ)) (es : List Event) → AreOpeningNames names → IsRun (opening credit names) es → LinesRight (last (opening credit names) es)
 reached_lines credit names es are r =
     let good : IsGood (opening credit names) = opening_good credit names are in
-    run_lines (opening credit names) es good r (first_lines credit names good.inv)
+    run_knowing LinesRight event_lines (opening credit names) es good r (opening_logged credit names) (first_lines credit names good.inv)
 
 -- ---- no gap
 
 -- a current link's oldest packet, where there is one, leaves no gap
-pub no_gap : (w : World) (y s p : ℕ) → LinesRight w → runs w y ≡ true → (member_at w y).current ≡ Some s → 1 ≤ p → p < size w → is_owned (view_in w (member_at w y).version) y (link_at w s).sender p ≡ false → (numbers_at (oldest (link_at w s)) p).lo ≤ (row_at (member_at w y) p).got
+pub no_gap : (w : World) (y s p : ℕ) → LinesRight w → (member_at w y).phase ≡ Up → (member_at w y).current ≡ Some s → 1 ≤ p → p < size w → is_owned (view_in w (member_at w y).version) y (link_at w s).sender p ≡ false → (numbers_at (oldest (link_at w s)) p).lo ≤ (row_at (member_at w y) p).got
 no_gap w y s p h r c some l own = by_packets (link_at w s).packets (h.current y s p r c some l own)
   where
     by_packets : (ks : List Packet) → BeginsBy ks (link_at w s).sending p (row_at (member_at w y) p).got → (numbers_at (get_or ks 0 no_packet) p).lo ≤ (row_at (member_at w y) p).got
@@ -84,7 +84,7 @@ no_gap w y s p h r c some l own = by_packets (link_at w s).packets (h.current y 
 
 -- so no take leaves one
 pub lines_no_gap : (w : World) → LinesRight w → NoGapAtTake w
-lines_no_gap w h by y s p id up c may some l own = no_gap w y s p h (ap runs_phase up) c some l own
+lines_no_gap w h by y s p id up c may some l own = no_gap w y s p h up c some l own
 
 -- in every state of every run no take leaves a gap
 pub no_gap_in_runs : (credit : CreditSpec) (names : List (List ℕ)) (es : List Event) → AreOpeningNames names → IsRun (opening credit names) es → NoGapAtTake (last (opening credit names) es)

@@ -1,30 +1,30 @@
 -- A publisher has its whole own log, and no number goes beyond a log.
-use Rattle.std.proofs.Common.{◌≡◌, ◌≢◌, ℕ, zero, suc, ◌+◌, ◌<◌, ◌≤◌, Bool, true, false, List, [], ◌∷◌, ◌++◌, length, drop, get_or, Some, refl, sym, ap, subst, ◌∙◌, ⊎_elim, arith}
+use Rattle.std.proofs.Common.{◌≡◌, ◌≢◌, ℕ, zero, suc, ◌+◌, ◌<◌, ◌≤◌, Bool, true, false, List, [], ◌∷◌, ◌++◌, length, drop, get_or, Some, None, refl, sym, ap, subst, ◌∙◌, ⊎_elim, arith}
 use Rattle.std.proofs.lemmas.Bool.{cases_eq, cases_lt}
-use Rattle.std.proofs.lemmas.List.{length-set, length_push, get_or-set_same, get_or-set_other}
-use Rattle.std.proofs.lemmas.List.FromFn.{length-map-range_with_len}
+use Rattle.std.proofs.lemmas.List.{length-set, length_push, get_or-set_same, get_or-set_other, get_or_append_left, get_or_push}
+use Rattle.std.proofs.lemmas.List.FromFn.{length-map-range_with_len, get_or-map-range_with_len}
 use Rattle.ring_names.specs.declared.message.Message.{Message}
 use Rattle.ring_names.specs.declared.numbers.CreditSpec.{CreditSpec}
 use Rattle.ring_world.specs.declared.numbers.Numbers.{Numbers}
-use Rattle.ring_world.specs.Rows.{Row, no_row, no_numbers, published_row, next_numbers, taken_row}
+use Rattle.ring_world.specs.Rows.{Row, no_row, no_numbers, published_row, next_numbers, taken_row, born_row}
 use Rattle.group_view.specs.Change.{AreOpeningNames}
 use Rattle.ring_world.specs.Machine.{Packet, Member, Sending, Link, World, no_link, no_member, no_sending, no_packet, row_at, numbers_at, member_at, link_at, view_in}
-use Rattle.ring_world.specs.Step.{size, log_of, next_lines, next_packet, pushed, popped, put_on, gain_on, published, publish_at, is_owned, taker, take_from, stopped, stop_at, opened_link, open_to, opening}
-use Rattle.ring_world.specs.Event.{Event, IsRun, last}
+use Rattle.ring_world.specs.Step.{size, log_of, next_lines, next_packet, pushed, popped, put_on, gain_on, published, publish_at, is_owned, taker, take_from, stopped, stop_at, opened_link, open_to, opening, begun_row, begun, begin_from, joiner, come_to, with_link, with_member}
+use Rattle.ring_world.specs.Event.{Event, refusal, effect, IsRun, last}
 use Rattle.ring_world.specs.Lawful.{row_of, HasOwnLog, RowIsWithin, NumbersAreWithin, PacketsAreWithin, StaysWithinLogs}
-use Rattle.ring_world.proofs.invariants.Good.{HasRows}
-use Rattle.ring_world.proofs.events.Leaves.{with_opened}
+use Rattle.ring_world.proofs.events.Leaves.{with_opened, come_member}
 use Rattle.ring_world.proofs.rings.Lists.{at_set, at_push, get_or_beyond}
 use Rattle.group_view.proofs.Rings.{nat_eq-same}
 use Rattle.ring_world.proofs.walks.Take.{row_at-taker, taken_packet}
-use Rattle.ring_world.proofs.invariants.Happens.{IsGood, opening_good}
-use Rattle.ring_world.proofs.events.First.{first_member, first_link, first_size, first_row, first_log}
-use Rattle.ring_world.proofs.events.Parts.{IsSameRows, links_same, member_same, IsStill, Part, cast_part, put_part, take_part, gain_part, stop_part, open_part, still_part, member_still, run_keeps}
+use Rattle.ring_world.proofs.invariants.KeptBegin.{begin_row, begin_none}
+use Rattle.ring_world.proofs.invariants.Happens.{IsGood, opening_good, run_events}
+use Rattle.ring_world.proofs.events.First.{first_link, first_size, first_row, first_log, first_at}
+use Rattle.ring_world.proofs.events.Parts.{event_keeps, IsSameRows, links_same, member_same, IsStill, Part, cast_part, put_part, take_part, gain_part, stop_part, open_part, still_part, member_still, run_keeps, begin_part, come_part, KnowsNothing}
 
--- in every state: each member has a row for each id, and nobody has a log at 0
+-- in every state: each member has a row for itself, and nobody has a log at 0
 pub record IsLogged (w : World) : Type 0 where
   pub nobody : log_of w 0 ≡ []
-  pub sized : HasRows w
+  pub sized : (q : ℕ) → 1 ≤ q → q < size w → q < length (member_at w q).rows
   pub own : (p : ℕ) → (row_of w p p).got ≡ length (log_of w p)
   pub within : StaysWithinLogs w
 
@@ -98,7 +98,7 @@ LinksAreWithin w w' = (s p : ℕ) → PacketsAreWithin (length (log_of w p)) p (
 pub links_logged : (w w' : World) → IsSameRows w w' → LinksAreWithin w w' → IsLogged w → IsLogged w'
 links_logged w w' k a h = record {
   nobody = k.log 0 ∙ h.nobody;
-  sized = λ q some lt. ap length (k.rows q) ∙ h.sized q some (omega (arith, k.many)) ∙ sym k.many;
+  sized = λ q some lt. omega (arith, h.sized q some (omega (arith, k.many)), ap length (k.rows q));
   own = λ p. rw (k.rows p, k.log p) (h.own p);
   within = record {
     rows = λ q p. rw (k.rows q, k.log p) (h.within.rows q p);
@@ -173,44 +173,121 @@ taker_row P w y s p here beyond = ⊎_elim
 pub owns_itself : (w : World) (y s : ℕ) → is_owned (view_in w (member_at w y).version) y (link_at w s).sender y ≡ true
 owns_itself w y s = rw (nat_eq-same y) refl
 
--- a take leaves the members as many
-pub take_size : (w : World) (y s : ℕ) → size (take_from w y s) ≡ size w
-take_size w y s = length-set w.members y (taker w y s)
+-- where y becomes b and the oldest packet of link s is gone, the logs are as they were
+pub pop_log : (w : World) (y s : ℕ) (b : Member) (q : ℕ) → y < size w → b.log ≡ log_of w y → log_of (with_link (with_member w y b) s (popped (link_at w s))) q ≡ log_of w q
+pop_log w y s b q lt e = at_set (λ k z. z.log ≡ (member_at w k).log) w.members y q b no_member lt e (λ _. refl)
 
--- and the logs
 pub take_log : (w : World) (y s q : ℕ) → y < size w → log_of (take_from w y s) q ≡ log_of w q
-take_log w y s q lt = at_set (λ k z. z.log ≡ (member_at w k).log) w.members y q (taker w y s) no_member lt refl (λ _. refl)
+take_log w y s q lt = pop_log w y s (taker w y s) q lt refl
 
--- a take
-pub take_logged : (w : World) (y s : ℕ) → y < size w → s < length w.links → IsLogged w → IsLogged (take_from w y s)
-take_logged w y s lt there h = record {
-  nobody = take_log w y s 0 lt ∙ h.nobody;
+pub begin_log : (w : World) (y s q : ℕ) → y < size w → log_of (begin_from w y s) q ≡ log_of w q
+begin_log w y s q lt = pop_log w y s (begun (size w) (member_at w y) (taken_packet w s)) q lt refl
+
+-- what is asked of b
+record IsLoggedAs (w : World) (y : ℕ) (b : Member) : Type 0 where
+  pub log : b.log ≡ log_of w y
+  pub sized : y < length b.rows
+  pub own : (row_at b y).got ≡ length (log_of w y)
+  pub within : (p : ℕ) → RowIsWithin (length (log_of w p)) (row_at b p)
+
+pop_logged : (w : World) (y s : ℕ) (b : Member) → y < size w → s < length w.links → IsLoggedAs w y b → IsLogged w → IsLogged (with_link (with_member w y b) s (popped (link_at w s)))
+pop_logged w y s b lt there k h = record {
+  nobody = log 0 ∙ h.nobody;
   sized = λ q some l.
-      let l2 : q < size w = omega (arith, take_size w y s) in
-      at_set (λ k z. 1 ≤ k → k < size w → length z.rows ≡ size w) w.members y q (taker w y s) no_member lt
-      (λ _ _. length-map-range_with_len (λ p. taken_row (is_owned (view_in w (member_at w y).version) y (link_at w s).sender p) (log_of w p) (row_at (member_at w y) p) (numbers_at (taken_packet w s) p)) 0 (size w))
-      (λ _. h.sized q) some l2 ∙ sym (take_size w y s);
-  own = λ p.
-      at_set (λ k z. (row_at z k).got ≡ length (log_of w k)) w.members y p (taker w y s) no_member lt
-      (ap (λ r. r.got) (row_at-taker w y s y lt)
-      ∙ ap (λ b. (taken_row b (log_of w y) (row_at (member_at w y) y) (numbers_at (taken_packet w s) y)).got) (owns_itself w y s)
-      ∙ h.own y)
-      (λ _. h.own p) ∙ ap length (sym (take_log w y s p lt));
+      let l2 : q < size w = omega (arith, length-set w.members y b) in
+      at_set (λ i z. 1 ≤ i → i < size w → i < length z.rows) w.members y q b no_member lt (λ _ _. k.sized) (λ _. h.sized q) some l2;
+  own = λ p. at_set (λ i z. (row_at z i).got ≡ length (log_of w i)) w.members y p b no_member lt k.own (λ _. h.own p) ∙ ap length (sym (log p));
   within = record {
-    rows = λ q p. subst (λ n. RowIsWithin n (row_of (take_from w y s) q p)) (ap length (sym (take_log w y s p lt)))
-        (at_set (λ k z. RowIsWithin (length (log_of w p)) (row_at z p)) w.members y q (taker w y s) no_member lt
-        (taker_row (RowIsWithin (length (log_of w p))) w y s p
-        (λ _. taken_within (length (log_of w p)) (is_owned (view_in w (member_at w y).version) y (link_at w s).sender p) (log_of w p) (row_at (member_at w y) p) (numbers_at (taken_packet w s) p) (h.within.rows y p) (oldest_within (length (log_of w p)) p (link_at w s).packets (h.within.packets s p)))
-        (λ _. no_row_within (length (log_of w p))))
-        (λ _. h.within.rows q p));
-    packets = λ j p. subst (λ n. PacketsAreWithin n p (link_at (take_from w y s) j).packets) (ap length (sym (take_log w y s p lt)))
+    rows = λ q p. subst (λ n. RowIsWithin n (row_of w' q p)) (ap length (sym (log p)))
+        (at_set (λ i z. RowIsWithin (length (log_of w p)) (row_at z p)) w.members y q b no_member lt (k.within p) (λ _. h.within.rows q p));
+    packets = λ j p. subst (λ n. PacketsAreWithin n p (link_at w' j).packets) (ap length (sym (log p)))
         (at_set (λ i l. PacketsAreWithin (length (log_of w p)) p l.packets) w.links s j (popped (link_at w s)) no_link there
         (packets_drop (length (log_of w p)) p (link_at w s).packets (h.within.packets s p)) (λ _. h.within.packets j p));
-    sent = λ j p. subst (λ n. NumbersAreWithin n (numbers_at (link_at (take_from w y s) j).sending.sent p)) (ap length (sym (take_log w y s p lt)))
+    sent = λ j p. subst (λ n. NumbersAreWithin n (numbers_at (link_at w' j).sending.sent p)) (ap length (sym (log p)))
         (at_set (λ i l. NumbersAreWithin (length (log_of w p)) (numbers_at l.sending.sent p)) w.links s j (popped (link_at w s)) no_link there
         (h.within.sent s p) (λ _. h.within.sent j p));
   };
 }
+  where
+    w' : World
+    w' = with_link (with_member w y b) s (popped (link_at w s))
+
+    log : (p : ℕ) → log_of w' p ≡ log_of w p
+    log p = pop_log w y s b p lt k.log
+
+-- a take
+pub take_logged : (w : World) (y s : ℕ) → y < size w → s < length w.links → IsLogged w → IsLogged (take_from w y s)
+take_logged w y s lt there h = pop_logged w y s (taker w y s) lt there (record {
+  log = refl;
+  sized = omega (arith, lt, length-map-range_with_len (λ p. taken_row (is_owned (view_in w (member_at w y).version) y (link_at w s).sender p) (log_of w p) (row_at (member_at w y) p) (numbers_at (taken_packet w s) p)) 0 (size w));
+  own = ap (λ r. r.got) (row_at-taker w y s y lt)
+      ∙ ap (λ b. (taken_row b (log_of w y) (row_at (member_at w y) y) (numbers_at (taken_packet w s) y)).got) (owns_itself w y s)
+      ∙ h.own y;
+  within = λ p. taker_row (RowIsWithin (length (log_of w p))) w y s p
+      (λ _. taken_within (length (log_of w p)) (is_owned (view_in w (member_at w y).version) y (link_at w s).sender p) (log_of w p) (row_at (member_at w y) p) (numbers_at (taken_packet w s) p) (h.within.rows y p) (oldest_within (length (log_of w p)) p (link_at w s).packets (h.within.packets s p)))
+      (λ _. no_row_within (length (log_of w p)));
+}) h
+
+-- a row of one that begins
+pub begun_at : (P : Row → Type 0) (w : World) (y s p : ℕ) → (p < size w → P (begun_row (row_at (member_at w y) p) (numbers_at (taken_packet w s) p))) → (size w ≤ p → P no_row) → P (row_at (begun (size w) (member_at w y) (taken_packet w s)) p)
+begun_at P w y s p here beyond = ⊎_elim
+    (λ (lt : p < size w). subst P (sym (begin_row w y s p lt)) (here lt))
+    (λ (ge : size w ≤ p). subst P (sym (begin_none w y s p ge)) (beyond ge))
+    (cases_lt p (size w))
+
+-- a first take, of one who knows nothing yet
+pub begin_logged : (w : World) (y s : ℕ) → y < size w → s < length w.links → KnowsNothing (member_at w y) → IsLogged w → IsLogged (begin_from w y s)
+begin_logged w y s lt there none h = pop_logged w y s (begun (size w) (member_at w y) (taken_packet w s)) lt there (record {
+  log = refl;
+  sized = omega (arith, lt, length-map-range_with_len (λ p. begun_row (row_at (member_at w y) p) (numbers_at (taken_packet w s) p)) 0 (size w));
+  own =
+      let empty : length (log_of w y) ≡ 0 = sym (h.own y) ∙ (none y).0 in
+      let is : (numbers_at (taken_packet w s) y).got ≡ length (log_of w y) = omega (arith, (said y).got, empty) in
+      ap (λ r. r.got) (begin_row w y s y lt) ∙ is;
+  within = λ p. begun_at (RowIsWithin (length (log_of w p))) w y s p
+      (λ _. record { got = (said p).got; forgot = (said p).forgot; retired = (h.within.rows y p).retired })
+      (λ _. no_row_within (length (log_of w p)));
+}) h
+  where
+    said : (p : ℕ) → NumbersAreWithin (length (log_of w p)) (numbers_at (taken_packet w s) p)
+    said p = oldest_within (length (log_of w p)) p (link_at w s).packets (h.within.packets s p)
+
+-- ---- one that comes
+
+-- what it knows of each origin: only how many messages there were
+pub joiner_rows : (w : World) (name : List ℕ) (p : ℕ) (P : Row → Type 0) → P (born_row (log_of w p)) → (size w < p → P no_row) → P (row_at (joiner w name) p)
+joiner_rows w name p P here none = ⊎_elim
+    (λ (lt : p < size w + 1). subst P (sym (get_or-map-range_with_len (λ p. born_row (log_of w p)) 0 (size w + 1) p p no_row lt (omega arith))) here)
+    (λ (ge : size w + 1 ≤ p). subst P (sym (get_or_beyond (joiner w name).rows p no_row (omega (arith, length-map-range_with_len (λ p. born_row (log_of w p)) 0 (size w + 1))))) (none (omega arith)))
+    (cases_lt p (size w + 1))
+
+-- the logs are as they were
+pub come_log : (w : World) (m : ℕ) (name : List ℕ) (p : ℕ) → log_of (come_to w m name) p ≡ log_of w p
+come_log w m name p = come_member w m name p (λ i a. i ≡ p → a.log ≡ log_of w p) (λ is. sym (ap (λ a. a.log) (get_or_beyond w.members p no_member (omega (arith, is))))) (λ _. refl) refl
+
+pub come_logged : (w : World) (m : ℕ) (name : List ℕ) → IsLogged w → IsLogged (come_to w m name)
+come_logged w m name h = record {
+  nobody = come_log w m name 0 ∙ h.nobody;
+  sized = λ q some l. ⊎_elim
+      (λ (lt : q < size w). subst (λ a. q < length a.rows) (sym (get_or_append_left w.members (joiner w name ∷ []) no_member q lt)) (h.sized q some lt))
+      (λ (ge : size w ≤ q). subst (λ a. q < length a.rows) (sym (get_or_push w.members (joiner w name) no_member q (omega (arith, l, length_push w.members (joiner w name)))))
+      (omega (arith, l, length_push w.members (joiner w name), length-map-range_with_len (λ p. born_row (log_of w p)) 0 (size w + 1))))
+      (cases_lt q (size w));
+  own = λ p. come_member w m name p (λ i a. (row_at a i).got ≡ length (log_of w i))
+      (joiner_rows w name (size w) (λ r. r.got ≡ length (log_of w (size w))) none (λ _. none))
+      (h.own p) ∙ ap length (sym (come_log w m name p));
+  within = record {
+    rows = λ q p. subst (λ n. RowIsWithin n (row_of (come_to w m name) q p)) (ap length (sym (come_log w m name p)))
+        (come_member w m name q (λ i a. RowIsWithin (length (log_of w p)) (row_at a p))
+        (joiner_rows w name p (RowIsWithin (length (log_of w p))) (record { got = omega arith; forgot = omega arith; retired = omega arith }) (λ _. no_row_within (length (log_of w p))))
+        (h.within.rows q p));
+    packets = λ s p. subst (λ n. PacketsAreWithin n p (link_at w s).packets) (ap length (sym (come_log w m name p))) (h.within.packets s p);
+    sent = λ s p. subst (λ n. NumbersAreWithin n (numbers_at (link_at w s).sending.sent p)) (ap length (sym (come_log w m name p))) (h.within.sent s p);
+  };
+}
+  where
+    none : 0 ≡ length (log_of w (size w))
+    none = sym (ap (λ a. length a.log) (get_or_beyond w.members (size w) no_member (omega arith)))
 
 -- the log of who publishes is one longer, and the others as they were
 pub cast_log : (w : World) (x : ℕ) (m : Message) → x < size w → log_of (publish_at w x m) x ≡ log_of w x ++ m ∷ []
@@ -242,9 +319,9 @@ cast_logged w x m some lt h = record {
   nobody = cast_log_other w x 0 m (λ is. absurd (omega arith)) ∙ h.nobody;
   sized = λ q qs l.
       let l2 : q < size w = omega (arith, many) in
-      at_set (λ k z. 1 ≤ k → k < size w → length z.rows ≡ size w) w.members x q (published x m (member_at w x)) no_member lt
-      (λ _ _. length-set (member_at w x).rows x (published_row (row_of w x x) m) ∙ h.sized x some lt)
-      (λ _. h.sized q) qs l2 ∙ sym many;
+      at_set (λ k z. 1 ≤ k → k < size w → k < length z.rows) w.members x q (published x m (member_at w x)) no_member lt
+      (λ _ _. omega (arith, length-set (member_at w x).rows x (published_row (row_of w x x) m), h.sized x some lt))
+      (λ _. h.sized q) qs l2;
   own = λ p. ⊎_elim
       (λ (is : p ≡ x). subst (λ k. (row_of (publish_at w x m) k k).got ≡ length (log_of (publish_at w x m) k)) (sym is)
       (at_set (λ k z. k ≡ x → (row_at z x).got ≡ length (log_of (publish_at w x m) x)) w.members x x (published x m (member_at w x)) no_member lt
@@ -278,10 +355,25 @@ pub part_logged : (G : World → Type 0) (w w' : World) → Part G w w' → IsLo
 part_logged G w w' (cast_part x m some lt e) h = subst IsLogged (sym e) (cast_logged w x m some lt h)
 part_logged G w w' (put_part x o lt free e) h = subst IsLogged (sym e) (put_logged w x o lt h)
 part_logged G w w' (take_part y s some t lt g e) h = subst IsLogged (sym e) (take_logged w y s t.is_member lt h)
+part_logged G w w' (begin_part y s some t lt none e) h = subst IsLogged (sym e) (begin_logged w y s t.is_member lt none h)
+part_logged G w w' (come_part m name e) h = subst IsLogged (sym e) (come_logged w m name h)
 part_logged G w w' (gain_part o lt some e) h = subst IsLogged (sym e) (gain_logged w o lt h)
 part_logged G w w' (stop_part x lt e) h = subst IsLogged (sym e) (stop_logged w x lt h)
 part_logged G w w' (open_part x z e) h = subst IsLogged (sym e) (open_logged w x z h)
 part_logged G w w' (still_part k) h = still_logged w w' k h
+
+-- one event more
+pub event_logged : (w : World) (e : Event) → IsGood w → refusal w e ≡ None → IsLogged w → IsLogged (effect w e)
+event_logged w e g r h = event_keeps IsGood IsLogged (part_logged IsGood) w e g g r h
+
+-- what each event keeps where the logs are known, every run keeps
+record IsKnown (P : World → Type 0) (w : World) : Type 0 where
+  pub logged : IsLogged w
+  pub holds : P w
+
+pub run_knowing : (P : World → Type 0) → ((w : World) (e : Event) → IsGood w → refusal w e ≡ None → IsLogged w → P w → P (effect w e)) → (w : World) (es : List Event) → IsGood w → IsRun w es → IsLogged w → P w → P (last w es)
+run_knowing P keeps w es g r l h =
+    (run_events (IsKnown P) (λ v e gv q k. record { logged = event_logged v e gv q k.logged; holds = keeps v e gv q k.logged k.holds }) w es g r (record { logged = l; holds = h })).holds
 
 -- ---- the opening, and every state of every run
 
@@ -290,8 +382,9 @@ pub opening_logged : (credit : CreditSpec) (names : List (List ℕ)) → IsLogge
 opening_logged credit names = record {
   nobody = refl;
   sized = λ q some lt.
-      ap (λ y. length y.rows) (first_member credit names q some lt)
-      ∙ length-map-range_with_len (λ _. no_row) 0 (length names + 1) ∙ sym (first_size credit names);
+      let many : length (member_at (opening credit names) q).rows ≡ length names + 1 =
+      ap (λ y. length y.rows) (first_at credit names q some (omega (arith, first_size credit names))) ∙ length-map-range_with_len (λ _. no_row) 0 (length names + 1) in
+      omega (arith, many, lt, first_size credit names);
   own = λ p. ap (λ r. r.got) (first_row credit names p p) ∙ ap length (sym (first_log credit names p));
   within = record {
     rows = λ q p. subst (RowIsWithin (length (log_of (opening credit names) p))) (sym (first_row credit names q p)) (no_row_within (length (log_of (opening credit names) p)));

@@ -11,15 +11,16 @@ use Rattle.group_view.specs.View.{Group}
 use Rattle.group_view.specs.Change.{marked}
 use Rattle.ring_world.specs.View.{right_of}
 use Rattle.ring_world.specs.Machine.{Phase, Waiting, Up, Stopped, Packet, Member, Ending, Moved, Halted, Link, World, no_link, no_member, member_at, link_at, view_in, newest, runs, runs_phase, oldest}
-use Rattle.ring_world.specs.Step.{size, published, pushed, popped, next_packet, put_on, gain_on, taker, begun, current_is, with_current, leave_link, finished, ended, ended_so, stop_at, stopped, end_out, with_member, with_link, with_view, look_at, moved_to, kept_current, open_to, opened_link, opening_link, opening}
-use Rattle.ring_world.specs.Event.{Event, end_refusal, holds_nothing, at_door, send_to, refreshed, refusal, taken_by, effect, IsRun, last}
+use Rattle.ring_world.specs.Step.{size, published, pushed, popped, next_packet, put_on, gain_on, taker, begun, current_is, with_current, leave_link, finished, ended, ended_so, stop_at, stopped, end_out, with_member, with_link, with_view, look_at, moved_to, kept_current, open_to, opened_link, opening_link, opening, come_to}
+use Rattle.ring_world.specs.Event.{Event, end_refusal, holds_nothing, at_door, send_to, refreshed, refusal, taken_by, effect, IsRun, last, erased_view}
 use Rattle.ring_world.proofs.rings.Lists.{at_set, at_push, get_or_beyond}
 use Rattle.ring_world.proofs.invariants.Kept.{Inv}
 use Rattle.ring_world.proofs.invariants.Opening.{opening_inv}
 use Rattle.ring_world.proofs.events.Refusals.{none_of, refuse_none, open_after_end}
 use Rattle.ring_world.proofs.events.Cases.{each_event}
-use Rattle.ring_world.proofs.invariants.Happens.{IsGood, run_events}
+use Rattle.ring_world.proofs.invariants.Happens.{IsGood, run_events, can_join, admit_composed, joined_links}
 use Rattle.ring_world.proofs.invariants.FromLeft.{found_at_door}
+use Rattle.ring_world.proofs.invariants.KeptAdmit.{CanJoin, joined_state, join_member}
 
 -- ---- what holds in every state
 
@@ -264,6 +265,54 @@ ends_refresh w x v rx h = by_out (member_at w x).out refl
 ends_view : (w : World) (v : Group) → EndsRight w → EndsRight (with_view w v)
 ends_view w v h = record { ended = h.ended; nothing = h.nothing; sends = h.sends; takes = h.takes }
 
+-- ---- an admission
+
+-- the new link is what m sends on and what the new member takes from
+ends_join : (w : World) (m : ℕ) (name : List ℕ) → CanJoin w m → EndsRight w → EndsRight (joined_state w m name)
+ends_join w m name j h = record {
+  ended = h1.ended;
+  nothing = h1.nothing;
+  sends = λ x o. join_member w m name j x (λ i a. runs_phase a.phase ≡ true → a.out ≡ Some o → SendsOn w1.links i o)
+      (λ a out current _ e. let is : length w.links ≡ o = (let both : Some (length w.links) ≡ Some o = sym out ∙ e in cc) in subst (SendsOn w1.links m) is new)
+      (λ _ e. cc) (λ _ _ r e. h1.sends x o r e) (λ _ r. absurd (false≢true r));
+  takes = λ y s. join_member w m name j y (λ i a. runs_phase a.phase ≡ true → a.current ≡ Some s → TakesOn w1.links i s)
+      (λ a out current _ e. h1.takes m s (ap runs_phase j.up) (current s e))
+      (λ _ e. let is : length w.links ≡ s = cc in subst (TakesOn w1.links (size w)) is came) (λ _ _ r e. h1.takes y s r e) (λ _ r. absurd (false≢true r));
+}
+  where
+    wl : World
+    wl = look_at (come_to w m name) m (newest w + 1)
+
+    l : Link
+    l = opened_link wl m (size w)
+
+    w1 : World
+    w1 = record w { links = w.links ++ l ∷ [] }
+
+    h1 : EndsRight w1
+    h1 = ends_push w l refl h
+
+    here : get_or w1.links (length w.links) no_link ≡ l
+    here = get_or_push w.links l no_link (length w.links) refl
+
+    new : SendsOn w1.links m (length w.links)
+    new = record { lt = omega (arith, length_push w.links l); sender = ap (λ (a : Link). a.sender) here; goes_on = ap (λ (a : Link). a.ending) here }
+
+    came : TakesOn w1.links (size w) (length w.links)
+    came = record { lt = omega (arith, length_push w.links l); receiver = ap (λ (a : Link). a.receiver) here; goes_on = ap (λ (a : Link). a.over) here }
+
+-- a whole admission
+ends_admit : (w : World) (m : ℕ) (name : List ℕ) → CanJoin w m → EndsRight w → EndsRight (refreshed (come_to w m name) m (newest w + 1))
+ends_admit w m name j h = admit_composed EndsRight w m name j
+    (λ o e there old.
+    let k : SendsOn w.links m o = h.sends m o (ap runs_phase j.up) e in
+    ends_end (joined_state w m name) Moved o (link_at w o) (sym old) (omega (arith, there, joined_links w m name))
+    (λ q. join_member w m name j q (λ i a. runs_phase a.phase ≡ true → a.out ≢ Some o)
+    (λ a out current _ e2. let both : Some (length w.links) ≡ Some o = sym out ∙ e2 in let is : length w.links ≡ o = cc in omega (arith, is, there))
+    (λ _ e2. cc) (λ d _ r e2. d (sym (h.sends q o r e2).sender ∙ k.sender)) (λ _ r. absurd (false≢true r)))
+    (ends_join w m name j h))
+    (ends_join w m name j h)
+
 -- ---- a pick
 
 -- the link at y's door
@@ -297,16 +346,20 @@ end_none w s h =
 
 -- one event more
 pub ends_step : (w : World) (e : Event) → IsGood w → refusal w e ≡ None → EndsRight w → EndsRight (effect w e)
-ends_step w e g r h = each_event EndsRight w e g.none_waits (record {
+ends_step w e g r h = each_event EndsRight w e g (record {
   casts = λ x m u. ends_same w x (published x m (member_at w x)) (ap runs_phase u.up) refl refl h;
   puts = λ x o u out k. ends_put w x o (ap runs_phase u.up) out h;
   takes = λ y s u m. ends_take w y s (ap runs_phase u.up) m.current h Up u.up;
+  begins = λ y s u m. ends_take w y s u.runs_on m.current h Waiting m.waits;
   leaves = λ y s u current k. let n = end_none w s k in ends_leave w y s (ap runs_phase u.up) current n.0 n.1 h;
   gains = λ x o u out k. ends_gain w x o (ap runs_phase u.up) out h;
-  stops = λ x u. ends_stop w x (ap runs_phase u.up) h;
+  stops = λ x u. ends_stop w x u.runs_on h;
   marks = λ x d u m. let v : Group = marked (view_in w (newest w)) d in ends_refresh (with_view w v) x (newest w + 1) (ap runs_phase u.up) (ends_view w v h);
+  erases = λ x d u m. ends_refresh (with_view w (erased_view w d)) x (newest w + 1) (ap runs_phase u.up) (ends_view w (erased_view w d) h);
+  admits = λ x name u k. ends_admit w x name (can_join w x name u.lt u.up k g) h;
   refreshes = λ x v u m. ends_refresh w x v (ap runs_phase u.up) h;
   picks = λ y s u none e upto. ends_pick w y s (ap runs_phase u.up) e h;
+  refuses = h;
 }) r
 
 -- every state of every run

@@ -1,15 +1,16 @@
 -- A link that its receiver left is over or fails the test at the door, and stays so: no place has to be kept with it.
-use Rattle.std.proofs.Common.{◌≡◌, ℕ, ◌+◌, ◌<◌, ◌≤◌, Bool, true, false, length, Some, None, refl, sym, ap, ◌∙◌, arith}
+use Rattle.std.proofs.Common.{◌≡◌, ℕ, ◌+◌, ◌<◌, ◌≤◌, Bool, true, false, length, Some, None, refl, sym, ap, ◌∙◌, arith, List}
 use Rattle.std.proofs.lemmas.Bool.{false≢true}
 use Rattle.std.proofs.lemmas.List.{length-set, length_push}
 use Rattle.group_view.specs.View.{Group}
 use Rattle.group_view.specs.Change.{marked}
 use Rattle.ring_world.specs.View.{right_of}
-use Rattle.ring_world.specs.Machine.{Member, Ending, Moved, Halted, Link, World, member_at, link_at, view_in, newest, left, is_kept}
-use Rattle.ring_world.specs.Step.{published, pushed, popped, next_packet, taker, take_from, current_is, with_current, leave_link, finished, ended, stop_at, stopped, end_out, with_member, with_link, with_view, look_at, moved_to, open_to, opened_link}
-use Rattle.ring_world.specs.Event.{Event, refreshed, refusal, effect}
+use Rattle.ring_world.specs.Machine.{Member, Ending, Moved, Halted, Link, World, oldest, member_at, link_at, view_in, newest, left, is_kept, no_member}
+use Rattle.ring_world.specs.Step.{begun, begin_from, published, pushed, popped, next_packet, taker, take_from, current_is, with_current, leave_link, finished, ended, stop_at, stopped, end_out, with_member, with_link, with_view, look_at, moved_to, open_to, opened_link, size, admitted_view, come_to}
+use Rattle.ring_world.specs.Event.{Event, refreshed, refusal, effect, erased_view}
 use Rattle.ring_world.specs.OpenLinks.{version_of, passes}
-use Rattle.ring_world.proofs.events.Leaves.{member_leaves, link_leaves, with_opened, new_link_leaves}
+use Rattle.ring_world.proofs.events.Leaves.{come_member, member_leaves, link_leaves, with_opened, new_link_leaves}
+use Rattle.ring_world.proofs.rings.Lists.{get_or_beyond}
 use Rattle.ring_world.proofs.invariants.Good.{Kept, kept_true, true_kept}
 use Rattle.ring_world.proofs.invariants.Shape.{SameEnds}
 use Rattle.ring_world.proofs.walks.Views.{left_is, view_old}
@@ -92,6 +93,17 @@ later_view w v = record {
   version = λ y. omega arith;
 }
 
+-- one comes
+later_come : (w : World) (m : ℕ) (name : List ℕ) → IsLater w (come_to w m name)
+later_come w m name = record {
+  many = omega (arith, length_push w.views (admitted_view w m name));
+  views = λ u l. view_old w (admitted_view w m name) u l;
+  links = omega arith;
+  ends = λ s l. same_ends (link_at w s);
+  over = λ s l o. o;
+  version = λ y. come_member w m name y (λ i a. version_of w i ≤ a.version) (omega (arith, ap (λ (a : Member). a.version) (get_or_beyond w.members (size w) no_member (omega arith)))) (omega arith);
+}
+
 -- ---- events
 
 -- a link ends
@@ -111,22 +123,33 @@ later_refresh w x v le = refresh_composed (IsLater w) w x v
     (λ u _ h. let z : ℕ = right_of (view_in w v) x in later_then w u (open_to u x z) h (later_open u x z))
     (later_member w x (moved_to w x v) le)
 
+-- who adds a view looks at it
+later_newer : (w : World) (x : ℕ) (v : Group) → IsGood w → IsLater w (refreshed (with_view w v) x (newest w + 1))
+later_newer w x v h = later_then w (with_view w v) (refreshed (with_view w v) x (newest w + 1)) (later_view w v) (later_refresh (with_view w v) x (newest w + 1) (omega (arith, h.inv.is_ring.held x)))
+
 -- one event more
 pub event_later : (w : World) (e : Event) → IsGood w → refusal w e ≡ None → IsLater w (effect w e)
-event_later w e h = each_event (IsLater w) w e h.none_waits (record {
+event_later w e h = each_event (IsLater w) w e h (record {
   casts = λ x m u. later_member w x (published x m (member_at w x)) (omega arith);
   puts = λ x o u out k. later_link w o (pushed (link_at w o) (next_packet (member_at w x) (link_at w o).sending)) (record { sender = refl; receiver = refl; opened = refl }) (λ b. b);
   takes = λ y s u m.
       let z : Member = taker w y s in
       later_then w (with_member w y z) (take_from w y s) (later_member w y z (omega arith)) (later_link (with_member w y z) s (popped (link_at w s)) (record { sender = refl; receiver = refl; opened = refl }) (λ o. o));
+  begins = λ y s u m.
+      let z : Member = begun (size w) (member_at w y) (oldest (link_at w s)) in
+      later_then w (with_member w y z) (begin_from w y s) (later_member w y z (omega arith)) (later_link (with_member w y z) s (popped (link_at w s)) (record { sender = refl; receiver = refl; opened = refl }) (λ o. o));
   leaves = λ y s u current k. later_then w (current_is w y None) (leave_link w y s) (later_member w y (with_current None (member_at w y)) (omega arith))
       (later_link (current_is w y None) s (finished (link_at w s)) (record { sender = refl; receiver = refl; opened = refl }) (λ _. refl));
   gains = λ x o u out k. later_link w o _ (record { sender = refl; receiver = refl; opened = refl }) (λ b. b);
   stops = λ x u. later_then w (stop_at w x) (end_out Halted (stop_at w x) (member_at w x).out) (later_member w x (stopped (member_at w x)) (omega arith)) (end_composed (IsLater (stop_at w x)) Halted (stop_at w x) (member_at w x).out (λ k _ _. later_end (stop_at w x) Halted k) (later_same (stop_at w x)));
-  marks = λ x d u m. let w1 : World = with_view w (marked (view_in w (newest w)) d) in
-      later_then w w1 (refreshed w1 x (newest w + 1)) (later_view w (marked (view_in w (newest w)) d)) (later_refresh w1 x (newest w + 1) (omega (arith, h.inv.is_ring.held x)));
+  marks = λ x d u m. later_newer w x (marked (view_in w (newest w)) d) h;
+  erases = λ x d u m. later_newer w x (erased_view w d) h;
+  admits = λ x name u k.
+      later_then w (come_to w x name) (refreshed (come_to w x name) x (newest w + 1)) (later_come w x name)
+      (later_refresh (come_to w x name) x (newest w + 1) (come_member w x name x (λ i a. a.version ≤ newest w + 1) (omega (arith, h.inv.is_ring.some)) (omega (arith, h.inv.is_ring.held x))));
   refreshes = λ x v u m. later_refresh w x v m.later;
   picks = λ y s u none e upto. later_member w y (with_current (Some s) (member_at w y)) (omega arith);
+  refuses = later_same w;
 })
 
 -- ---- the test fails for good

@@ -1,9 +1,9 @@
 -- The walk by open links is the walk of the links that are kept.
-use Rattle.std.proofs.Common.{◌≡◌, ℕ, suc, ◌+◌, ◌<◌, ◌≤◌, Bool, true, false, cond, not, nat_eq, List, [], ◌∷◌, ◌++◌, length, get_or, map, Option, Some, None, refl, sym, ap, subst, ◌∙◌, arith, append_assoc, max}
+use Rattle.std.proofs.Common.{◌≡◌, ℕ, suc, ◌+◌, ◌<◌, ◌≤◌, Bool, true, false, cond, not, nat_eq, List, [], ◌∷◌, ◌++◌, length, get_or, map, Option, Some, None, refl, sym, ap, subst, ◌∙◌, arith, append_assoc, max, is_some, drop, ◌≢◌, ⊎_elim}
 use Rattle.std.specs.Prelude.{◌&&◌, ◌||◌, reverse}
 use Rattle.std.specs.List.{filter, flat_map, range_with_len}
 use Rattle.std.proofs.Math.Bool.{not-not}
-use Rattle.std.proofs.lemmas.Bool.{false≢true, and_from}
+use Rattle.std.proofs.lemmas.Bool.{false≢true, and_from, cases_eq}
 use Rattle.std.proofs.lemmas.List.{append-nil, reverse-append, map-append}
 use Rattle.std.proofs.lemmas.List.Elements.{filter-append}
 use Rattle.ring_names.specs.declared.numbers.CreditSpec.{CreditSpec}
@@ -15,15 +15,17 @@ use Rattle.group_view.proofs.Lists.{cond_empty}
 use Rattle.group_view.proofs.Rings.{sym_test, not_in_before, in_before, not_in_others, is_in-rotated, rotated_is, others-rotated, distinct_others, split_at, nat_eq-is, nat_eq-same, from_inside, in_head, in_tail}
 use Rattle.group_view.proofs.Arcs.{prefix_is, between_from}
 use Rattle.group_view.proofs.Neighbours.{FirstPass, first_pass, first_passes, passes_in}
-use Rattle.ring_world.specs.Machine.{Packet, Link, World, no_link, row_at, numbers_at, member_at, link_at, newest, ring, runs, is_kept}
-use Rattle.ring_world.proofs.walks.CountedWalk.{newest_first, numbers, only, no_but, when, counted, block, is_early, round_of, stopped_from, running_from, walk_over, walk}
+use Rattle.ring_world.specs.Machine.{Packet, Link, World, no_link, row_at, numbers_at, member_at, link_at, newest, ring, runs, is_kept, Phase, Waiting, Up, Stopped, is_waiting}
+use Rattle.ring_world.proofs.walks.CountedWalk.{newest_first, numbers, only, no_but, when, counted, block, is_early, round_of, stopped_from, running_from, walk_over, walk, past_first}
 use Rattle.ring_world.specs.Step.{size, opening}
 use Rattle.ring_world.specs.Event.{Event, IsRun, last}
-use Rattle.ring_world.specs.OpenLinks.{version_of, comes_from_left, passes, is_place, is_current, is_open, open_links, packets_of, packets_on, open_packets, is_late, late_packets, early_packets, stop_of, round_trip, walk_of, the_walk, number, NeverRises}
+use Rattle.ring_world.specs.OpenLinks.{number, NeverRises, version_of, comes_from_left, passes, is_place, is_current, is_open, open_links, packets_of, packets_on, open_packets, is_late, late_packets, early_packets, stop_of, round_trip, walk_of, the_walk}
 use Rattle.ring_world.proofs.walks.Gaps.{prefix_before}
 use Rattle.ring_world.proofs.invariants.FromLeft.{IsGood, opened_right, comes_is, sender_known}
 use Rattle.ring_world.proofs.invariants.Happens.{opening_good, reached_good}
+use Rattle.ring_world.proofs.invariants.KeptBegin.{one_version}
 use Rattle.ring_world.proofs.walks.Ended.{EndsRight, ends_run, opening_ends}
+use Rattle.std.specs.Cmp.{both_ways}
 
 -- ---- late and early
 
@@ -102,16 +104,60 @@ open_is w y s h ry there goes_on = rw goes_on (by_current (is_current w y s) ref
         sym (and_from (nat_eq l.receiver y) (is_kept w l (version_of w y)) (ap (λ q. nat_eq q y) (h.inv.current.receiver y s ry c) ∙ nat_eq-same y) (h.inv.current.kept_yet y s ry c))
     by_current false e = by_receiver (nat_eq l.receiver y) refl
 
+-- the first packet of a member that waits is that of its current link, the only one of that version
+waits_first : (w : World) (y s : ℕ) → IsGood w → runs w y ≡ true → s < length w.links → (link_at w s).receiver ≡ y → (is_waiting (member_at w y).phase && nat_eq (link_at w s).opened (member_at w y).version) ≡ (is_waiting (member_at w y).phase && is_current w y s)
+waits_first w y s h ry there to = by_phase (member_at w y).phase refl
+  where
+    by_current : (c : Option ℕ) → (member_at w y).current ≡ c → is_some c ≡ true → (member_at w y).phase ≡ Waiting → nat_eq (link_at w s).opened (member_at w y).version ≡ is_place c s
+    by_current None e some waits = absurd (false≢true some)
+    by_current (Some t) e some waits =
+        let opened : (link_at w t).opened ≡ (member_at w y).version = h.inv.joining.opened y t waits e in
+        both_ways (nat_eq (link_at w s).opened (member_at w y).version) (nat_eq t s)
+        (λ k. ⊎_elim
+        (λ (is : t ≡ s). ap (λ j. nat_eq j s) is ∙ nat_eq-same s)
+        (λ (d : t ≢ s). absurd (one_version w t s h.inv.linked (h.inv.current.lt y t ry e) there d (h.inv.current.receiver y t ry e ∙ sym to) (opened ∙ sym (nat_eq-is (link_at w s).opened (member_at w y).version k))))
+        (cases_eq t s))
+        (λ k. ap (λ j. nat_eq (link_at w j).opened (member_at w y).version) (sym (nat_eq-is t s k)) ∙ ap (λ v. nat_eq v (member_at w y).version) opened ∙ nat_eq-same (member_at w y).version)
+
+    by_phase : (f : Phase) → (member_at w y).phase ≡ f → (is_waiting f && nat_eq (link_at w s).opened (member_at w y).version) ≡ (is_waiting f && is_current w y s)
+    by_phase Waiting e = by_current (member_at w y).current refl (h.inv.joining.some y e) e
+    by_phase Up e = refl
+    by_phase Stopped e = refl
+
 -- what counts of a link is what it brings where it is open
 pub counts : (w : World) (y s : ℕ) → IsGood w → EndsRight w → runs w y ≡ true → s < length w.links → counted w y (link_at w s) ≡ cond (is_open w y s) (packets_of w y s) []
-counts w y s h k ry there = rw (h.none_waits y) (by_over (link_at w s).over refl)
+counts w y s h k ry there = by_over (link_at w s).over refl
   where
     kept : Bool
     kept = nat_eq (link_at w s).receiver y && is_kept w (link_at w s) (version_of w y)
 
-    by_over : (b : Bool) → (link_at w s).over ≡ b → when kept (link_at w s).packets ≡ cond (is_open w y s) (link_at w s).packets []
-    by_over true e = nothing_counts kept (is_open w y s) (link_at w s).packets (k.nothing s e)
-    by_over false e = when_is kept (link_at w s).packets ∙ ap (λ b. cond b (link_at w s).packets []) (sym (open_is w y s h ry there e))
+    firsts : (b : Bool) (ks : List Packet) → past_first b ks ≡ cond b (drop 1 ks) ks
+    firsts true ks = refl
+    firsts false ks = refl
+
+    past_nothing : (a b : Bool) (ks : List Packet) → ks ≡ [] → when a (past_first b ks) ≡ []
+    past_nothing true true ks e = ap (drop 1) e
+    past_nothing true false ks e = e
+    past_nothing false b ks e = refl
+
+    open_nothing : (a b : Bool) (ks : List Packet) → ks ≡ [] → cond a (cond b (drop 1 ks) ks) [] ≡ []
+    open_nothing true true ks e = ap (drop 1) e
+    open_nothing true false ks e = e
+    open_nothing false b ks e = refl
+
+    by_receiver : (b : Bool) → nat_eq (link_at w s).receiver y ≡ b → when (b && is_kept w (link_at w s) (version_of w y)) (past_first (is_waiting (member_at w y).phase && nat_eq (link_at w s).opened (version_of w y)) (link_at w s).packets) ≡ cond (b && is_kept w (link_at w s) (version_of w y)) (packets_of w y s) []
+    by_receiver true e =
+        when_is (is_kept w (link_at w s) (version_of w y)) _
+        ∙ ap (λ ks. cond (is_kept w (link_at w s) (version_of w y)) ks [])
+        (firsts (is_waiting (member_at w y).phase && nat_eq (link_at w s).opened (version_of w y)) (link_at w s).packets
+        ∙ ap (λ b. cond b (drop 1 (link_at w s).packets) (link_at w s).packets) (waits_first w y s h ry there (nat_eq-is (link_at w s).receiver y e)))
+    by_receiver false e = refl
+
+    by_over : (b : Bool) → (link_at w s).over ≡ b → counted w y (link_at w s) ≡ cond (is_open w y s) (packets_of w y s) []
+    by_over true e =
+        past_nothing kept (is_waiting (member_at w y).phase && nat_eq (link_at w s).opened (version_of w y)) (link_at w s).packets (k.nothing s e)
+        ∙ sym (open_nothing (is_open w y s) (is_waiting (member_at w y).phase && is_current w y s) (link_at w s).packets (k.nothing s e))
+    by_over false e = by_receiver (nat_eq (link_at w s).receiver y) refl ∙ ap (λ b. cond b (packets_of w y s) []) (sym (open_is w y s h ry there e))
 
 -- ---- lists
 

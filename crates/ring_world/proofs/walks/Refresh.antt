@@ -29,6 +29,9 @@ blind w x p y l hp hv hr hn = record {
 }
 
 -- pick and takeend
+pub current_closes : (w : World) (x p : ℕ) (c : Option ℕ) → x < size w → (member_at w x).phase ≡ Up → Closes w (with_member w x (with_current c (member_at w x))) p
+current_closes w x p c l up = blind w x p (with_current c (member_at w x)) l refl refl refl (λ g r. rw up refl)
+
 pub current_walk : (w : World) (x p : ℕ) (c : Option ℕ) → x < size w → (member_at w x).phase ≡ Up → Weakens (walk w p) (walk (with_member w x (with_current c (member_at w x))) p)
 current_walk w x p c l up =
     closes_walk w (with_member w x (with_current c (member_at w x))) p
@@ -47,9 +50,9 @@ look_counts w x v j up le =
     by_case true false c h = gone refl
     by_case false b c h = kept refl
 
-pub look_walk : (w : World) (x v p : ℕ) → x < size w → (member_at w x).phase ≡ Up → (member_at w x).version ≤ v → Weakens (walk w p) (walk (look_at w x v) p)
-look_walk w x v p l up le =
-    closes_walk w (look_at w x v) p (record {
+pub look_closes : (w : World) (x v p : ℕ) → x < size w → (member_at w x).phase ≡ Up → (member_at w x).version ≤ v → Closes w (look_at w x v) p
+look_closes w x v p l up le =
+    record {
       many = refl;
       senders = λ j. refl;
       is_ring = refl;
@@ -59,4 +62,7 @@ look_walk w x v p l up le =
       own_got = λ q. at_set (λ k z. own_number (λ k. k.got) (λ r. r.got) w p z.phase z ≡ number (λ k. k.got) (λ r. r.got) w p k) w.members x q (moved_to w x v) no_member l (rw up refl) (λ _. refl);
       own_forgot = λ q. at_set (λ k z. own_number (λ k. k.forgot) (λ r. r.forgot) w p z.phase z ≡ number (λ k. k.forgot) (λ r. r.forgot) w p k) w.members x q (moved_to w x v) no_member l (rw up refl) (λ _. refl);
       retires = λ q. at_set (λ k z. (row_at z p).retired ≡ (row_at (member_at w k) p).retired) w.members x q (moved_to w x v) no_member l refl (λ _. refl);
-    })
+    }
+
+pub look_walk : (w : World) (x v p : ℕ) → x < size w → (member_at w x).phase ≡ Up → (member_at w x).version ≤ v → Weakens (walk w p) (walk (look_at w x v) p)
+look_walk w x v p l up le = closes_walk w (look_at w x v) p (look_closes w x v p l up le)

@@ -1,18 +1,20 @@
 -- Members and views, event by event.
-use Rattle.std.proofs.Common.{◌≡◌, ℕ, ◌<◌, ◌≤◌, ◌+◌, ◌-◌, true, false, cond, [], ◌∷◌, ◌++◌, length, get_or, refl, sym, ap, subst, ◌∙◌, arith, nat_eq, ⊎_elim}
+use Rattle.std.proofs.Common.{Bool, ◌≡◌, ℕ, ◌<◌, ◌≤◌, ◌+◌, ◌-◌, true, false, cond, [], ◌∷◌, ◌++◌, length, get_or, refl, sym, ap, subst, ◌∙◌, arith, nat_eq, ⊎_elim}
 use Rattle.std.proofs.lemmas.Bool.{cases_lt, false≢true}
 use Rattle.std.proofs.lemmas.List.{get_or_append_left, get_or_push, length_push}
 use Rattle.std.specs.Prelude.{◌&&◌, Option, Some, None}
-use Rattle.group_view.specs.View.{Group}
+use Rattle.group_view.specs.View.{Group, entry_in, is_dead, is_live_mark, is_dead_mark, ids as ids_of_entries, is_live as is_live_entry_of}
 use Rattle.group_view.specs.Since.{no_group}
 use Rattle.ring_world.specs.View.{ids, is_live, left_of, right_of, left_by, right_by}
 use Rattle.group_view.specs.Ring.{left_in, right_in, is_in, AreDistinct}
 use Rattle.ring_world.specs.Machine.{World, member_at, view_in, newest, ring, left, right, runs, Phase, Waiting, Up, Stopped, Link, is_kept, is_kept_of, is_waiting, link_at, numbers_at}
 use Rattle.ring_world.specs.Step.{with_view}
-use Rattle.group_view.specs.Change.{marked}
+use Rattle.group_view.specs.Change.{marked, remarked}
 use Rattle.group_view.proofs.Lists.{all_range_agree}
 use Rattle.group_view.proofs.Rings.{nat_eq-not}
 use Rattle.group_view.proofs.Passing.{are_mutual}
+use Rattle.ring_world.specs.Event.{erased_view}
+use Rattle.group_view.proofs.Neighbours.{left_marked}
 use Rattle.ring_world.proofs.invariants.Good.{IsRing}
 use Rattle.ring_world.specs.Rows.{Row}
 use Rattle.ring_world.specs.declared.numbers.Numbers.{Numbers}
@@ -20,11 +22,13 @@ use Rattle.ring_world.proofs.walks.CountedWalk.{walk, when, past_first}
 use Rattle.ring_world.specs.OpenLinks.{own_number, first_packet}
 use Rattle.ring_world.proofs.rings.Weakens.{Weakens}
 use Rattle.ring_world.proofs.walks.Links.{kept}
-use Rattle.ring_world.proofs.walks.Back.{closes_walk}
-use Rattle.group_view.specs.declared.entry.Mark.TheVariants.{Dead}
-use Rattle.group_view.proofs.Groups.{ids-marked_group}
-use Rattle.group_view.proofs.History.{live_marked_group, left_stays}
-use Rattle.group_view.proofs.Marks.{left_is as left_of_entry, right_is as right_of_entry, live-marked as live-marked_entries}
+use Rattle.ring_world.proofs.walks.Back.{closes_walk, Closes}
+use Rattle.group_view.specs.declared.entry.Mark.TheVariants.{Dead, Live, Erased}
+use Rattle.group_view.proofs.Groups.{ids-remarked_group}
+use Rattle.group_view.proofs.History.{live_marked_group}
+use Rattle.group_view.proofs.Truth.{other_true}
+use Rattle.group_view.proofs.Marks.{left_absent, left_is as left_of_entry, right_is as right_of_entry, live-marked as live-marked_entries}
+use Rattle.group_view.specs.declared.entry.Mark.{Mark}
 
 -- ---- fewer run, or they look at later views
 
@@ -45,6 +49,10 @@ view_old w v' u l = get_or_append_left w.views (v' ∷ []) no_group u l
 
 pub view_new : (w : World) (v' : Group) (u : ℕ) → length w.views ≡ u → view_in (with_view w v') u ≡ v'
 view_new w v' u e = get_or_push w.views v' no_group u e
+
+-- it is the newest then
+pub newest_view : (w : World) (v' : Group) → IsRing w → view_in (with_view w v') (newest (with_view w v')) ≡ v'
+newest_view w v' h = view_new w v' (newest (with_view w v')) (let more : length (w.views ++ v' ∷ []) ≡ length w.views + 1 = length_push w.views v' in let some : 0 < length w.views = h.some in omega arith)
 
 pub left_is : (w : World) (u y : ℕ) (v : Group) → view_in w u ≡ v → left w u y ≡ left_of v y
 unfolding left_by
@@ -106,24 +114,56 @@ ring_more w v' g h =
 
 -- ---- a mark
 
-pub ids-marked : (v : Group) (d : ℕ) → ids (marked v d) ≡ ids v
-ids-marked v d = ids-marked_group v d
+-- the newest view with d not live, and all else as it was
+pub record IsMarked (w : World) (d : ℕ) (v' : Group) : Type 0 where
+  pub same_ids : ids v' ≡ ring w
+  pub lives : (q : ℕ) → is_live v' q ≡ cond (nat_eq q d) false (is_live (view_in w (newest w)) q)
 
-pub live-marked : (v : Group) (d q : ℕ) → is_live (marked v d) q ≡ cond (nat_eq q d) false (is_live v q)
-live-marked v d q = live_marked_group v d q ∙ live-marked_entries Dead d q v.entries refl
+-- by a mark that isn't Live, whoever is the master then
+pub remark_marks : (m : Mark) (w : World) (d : ℕ) (v' : Group) → is_live_mark m ≡ false → v'.entries ≡ (remarked m (view_in w (newest w)) d).entries → IsMarked w d v'
+remark_marks m w d v' hm e = record {
+  same_ids = ap ids_of_entries e ∙ ids-remarked_group m (view_in w (newest w)) d;
+  lives = λ q. ap (λ es. is_live_entry_of es q) e ∙ live_marked_group m (view_in w (newest w)) d q ∙ live-marked_entries m d q (view_in w (newest w)).entries hm;
+}
+
+pub marked_marks : (w : World) (d : ℕ) → IsMarked w d (marked (view_in w (newest w)) d)
+marked_marks w d = remark_marks Dead w d (marked (view_in w (newest w)) d) refl refl
+
+pub erased_marks : (w : World) (d : ℕ) → IsMarked w d (erased_view w d)
+erased_marks w d = remark_marks Erased w d (erased_view w d) refl refl
+
+-- who is dead in the newest view doesn't run
+pub dead_rests : (w : World) (d : ℕ) → IsRing w → is_dead (view_in w (newest w)).entries d ≡ true → runs w d ≡ false
+dead_rests w d h e = by_runs (runs w d) refl
+  where
+    apart : (m : Mark) → is_dead_mark m ≡ true → is_live_mark m ≡ true → ⊥
+    apart Live a b = false≢true a
+    apart Dead a b = false≢true b
+    apart Erased a b = false≢true a
+
+    by_runs : (b : Bool) → runs w d ≡ b → b ≡ false
+    by_runs false r = refl
+    by_runs true r = absurd (apart (entry_in (view_in w (newest w)).entries d).mark e (h.lives d (newest w) r (h.held d) (omega arith)))
 
 -- d doesn't run, and is marked dead
-pub mark_follows : (w : World) (d : ℕ) → runs w d ≡ false → IsRing w → MayFollow w (marked (view_in w (newest w)) d)
-mark_follows w d rd h =
+pub mark_follows : (w : World) (d : ℕ) (v' : Group) → IsMarked w d v' → runs w d ≡ false → IsRing w → MayFollow w v'
+mark_follows w d v' k rd h =
     let v : Group = view_in w (newest w) in
-    let still : (x : ℕ) → runs w x ≡ true → is_live (marked v d) x ≡ true = λ x rx.
-    live-marked v d x ∙ ap (λ b. cond b false (is_live v x)) (nat_eq-not x d (λ e. false≢true (sym rd ∙ ap (runs w) (sym e) ∙ rx))) ∙ h.lives x (newest w) rx (h.held x) (omega arith) in
+    let still : (x : ℕ) → runs w x ≡ true → is_live v' x ≡ true = λ x rx.
+    k.lives x ∙ ap (λ b. cond b false (is_live v x)) (nat_eq-not x d (λ e. false≢true (sym rd ∙ ap (runs w) (sym e) ∙ rx))) ∙ h.lives x (newest w) rx (h.held x) (omega arith) in
     record {
-      distinct = subst AreDistinct (sym (ids-marked v d)) (h.distinct (newest w) (omega arith));
-      stands = λ x rx. ap (is_in x) (ids-marked v d) ∙ h.stands x (newest w) rx (h.held x) (omega arith);
+      distinct = subst AreDistinct (sym k.same_ids) (h.distinct (newest w) (omega arith));
+      stands = λ x rx. ap (is_in x) k.same_ids ∙ h.stands x (newest w) rx (h.held x) (omega arith);
       lives = still;
-      front = λ x z rx e. left_stays v d x z (h.distinct (newest w) (omega arith)) (still x rx) (sym (left_is w (newest w) z v refl) ∙ e);
+      front = λ x z rx e. by_place x z (still x rx) (sym (left_is w (newest w) z v refl) ∙ e) (is_in z (ids v)) refl;
     }
+  where
+    by_place : (x z : ℕ) → is_live v' x ≡ true → left_of (view_in w (newest w)) z ≡ x → (b : Bool) → is_in z (ring w) ≡ b → left_of v' z ≡ x
+    by_place x z l e true i =
+        left_of_entry v'.entries z (ap (is_in z) k.same_ids ∙ i) ∙ ap (left_in (is_live v') z) k.same_ids
+        ∙ left_marked (is_live (view_in w (newest w))) (is_live v') z x (ring w) (λ q t. other_true (nat_eq q d) (is_live (view_in w (newest w)) q) (sym (k.lives q) ∙ t)) l
+        (sym (left_of_entry (view_in w (newest w)).entries z i) ∙ e)
+    by_place x z l e false i = left_absent v'.entries z (ap (is_in z) k.same_ids ∙ i) ∙ sym (left_absent (view_in w (newest w)).entries z i) ∙ e
 
 -- ---- the walk of one more view
 
@@ -134,21 +174,20 @@ kept_old w v' l v lt =
     (λ u a b. ap (λ q. nat_eq q l.sender) (left_old w v' u l.receiver (omega arith)))
 
 -- a view in which the ring has its old order
-pub view_walk : (w : World) (v' : Group) (p : ℕ) → ids v' ≡ ring w → IsRing w → Weakens (walk w p) (walk (with_view w v') p)
-view_walk w v' p e h =
+pub view_closes : (w : World) (v' : Group) (p : ℕ) → ids v' ≡ ring w → IsRing w → Closes w (with_view w v') p
+view_closes w v' p e h =
     let some : 0 < length w.views = h.some in
-    let more : length (w.views ++ v' ∷ []) ≡ length w.views + 1 = length_push w.views v' in
-    closes_walk w (with_view w v') p (record {
+    record {
       many = refl;
       senders = λ j. refl;
-      is_ring = ap ids (view_new w v' (newest (with_view w v')) (omega arith)) ∙ e;
+      is_ring = ap ids (newest_view w v' h) ∙ e;
       runs_same = λ q. refl;
       counts = λ q j. kept (ap (λ b. when (nat_eq (link_at w j).receiver q && b) (past_first (is_waiting (member_at w q).phase && nat_eq (link_at w j).opened (member_at w q).version) (link_at w j).packets))
           (kept_old w v' (link_at w j) (member_at w q).version (omega (arith, h.held q))));
       own_got = λ q. by_phase (λ k. k.got) (λ r. r.got) q (member_at w q).phase;
       own_forgot = λ q. by_phase (λ k. k.forgot) (λ r. r.forgot) q (member_at w q).phase;
       retires = λ q. refl;
-    })
+    }
   where
     by_current : (c : Option ℕ) → first_packet (with_view w v') c ≡ first_packet w c
     by_current None = refl
@@ -159,6 +198,9 @@ view_walk w v' p e h =
     by_phase g r q Up = refl
     by_phase g r q Stopped = refl
 
+pub view_walk : (w : World) (v' : Group) (p : ℕ) → ids v' ≡ ring w → IsRing w → Weakens (walk w p) (walk (with_view w v') p)
+view_walk w v' p e h = closes_walk w (with_view w v') p (view_closes w v' p e h)
+
 -- a mark
-pub mark_walk : (w : World) (d p : ℕ) → IsRing w → Weakens (walk w p) (walk (with_view w (marked (view_in w (newest w)) d)) p)
-mark_walk w d p h = view_walk w (marked (view_in w (newest w)) d) p (ids-marked (view_in w (newest w)) d) h
+pub mark_walk : (w : World) (d p : ℕ) (v' : Group) → IsMarked w d v' → IsRing w → Weakens (walk w p) (walk (with_view w v') p)
+mark_walk w d p v' k h = view_walk w v' p k.same_ids h

@@ -1,12 +1,16 @@
 //! Clusters of which some members stop, also where an allocation fails: tables of what is asked of them, with what is
 //! wanted to be seen then. What changes a ring is tried once more where it wants memory, but for a plain round.
+ghost use Rattle.std.specs.Prelude.{◌≡◌};
+ghost use Rattle.ring_world.specs.Event.{is_plain};
+
 use ring_cluster::Cluster;
-use ring_io::ShutGate;
+use ring_io::Gate;
 use ring_names::{Body, MemberId, Message, Name, OutOfMemory};
 use ring_script::{Command, ScriptFault, Steps, read_steps};
 use ring_world::{Event, Refused, are_opening_names};
 use std::alloc::Global;
 use std::process::Abort;
+use std::sync::atomic::{AtomicU64, Ordering};
 use std::test::Fail;
 use std::thread::Threads;
 
@@ -34,6 +38,64 @@ enum Line {
     Events(usize),
     /// So many rounds were given a number.
     Rounds(u32),
+    /// The member of that id, one of the first three, has passed the gate as often before its turns as after them,
+    /// at least so often and at most so often.
+    Passes(u32, u64, u64),
+}
+
+/// A gate that counts how often each of the first three members passes it before its turns, and after them. Each
+/// count has 16 bits.
+#[derive(Drop)]
+struct CountingGate {
+    before: AtomicU64,
+    after: AtomicU64,
+}
+
+impl CountingGate {
+    fn new() -> CountingGate {
+        CountingGate {
+            before: AtomicU64::new(0),
+            after: AtomicU64::new(0),
+        }
+    }
+
+    /// Whether a member has passed it as often before its turns as after them, within these bounds.
+    fn is_passed_by(&self, who: u32, least: u64, most: u64) -> bool {
+        let before = count_of(self.before.load(Ordering::SeqCst), who);
+        let after = count_of(self.after.load(Ordering::SeqCst), who);
+        before == after && least <= before && before <= most
+    }
+}
+
+impl Gate for CountingGate {
+    fn pass(&self, who: MemberId, kind: u8) {
+        let one = one_of(who.0);
+        match kind {
+            1 => self.before.fetch_add(one, Ordering::SeqCst),
+            _ => self.after.fetch_add(one, Ordering::SeqCst),
+        };
+    }
+}
+
+/// What one pass of a member adds to the counts.
+fn one_of(who: u32) -> u64 {
+    match who {
+        1 => 1,
+        2 => 0x1_0000,
+        3 => 0x1_0000_0000,
+        _ => 0x1_0000_0000_0000,
+    }
+}
+
+/// The count of a member.
+fn count_of(counts: u64, who: u32) -> u64 {
+    let above = match who {
+        1 => counts,
+        2 => counts >> 16,
+        3 => counts >> 32,
+        _ => counts >> 48,
+    };
+    above & 0xffff
 }
 
 /// The steps of a text.
@@ -52,8 +114,21 @@ fn happened(cluster: &Cluster) -> Result<usize, OutOfMemory> {
     }
 }
 
+/// Whether it is an event that members do.
+fn is_played(event: &Event) -> bool
+    ensures { result ≡ is_plain event.now }
+{
+    !matches!(
+        event,
+        Event::Admit { .. } | Event::Erase { .. } | Event::Refuse { .. }
+    )
+}
+
 /// An event happens where the ring lets it.
 fn step(cluster: &mut Cluster, event: &Event) -> Result<(), OutOfMemory> {
+    if !is_played(event) {
+        return Ok(());
+    }
     match cluster.step(event) {
         Err(Refused::OutOfMemory) => Err(OutOfMemory),
         _ => Ok(()),
@@ -113,26 +188,36 @@ fn ask(
 }
 
 /// One round.
-fn go<R: Threads + Abort>(rt: &R, cluster: &mut Cluster, turns: u32) -> Result<(), OutOfMemory> {
+fn go<R: Threads + Abort>(
+    rt: &R,
+    cluster: &mut Cluster,
+    turns: u32,
+    gate: &CountingGate,
+) -> Result<(), OutOfMemory> {
     assert!(rt; (1..=1000).contains(&turns));
-    cluster.go(rt, turns, &ShutGate)
+    cluster.go(rt, turns, gate)
 }
 
 fn go_again<R: Threads + Abort>(
     rt: &R,
     cluster: &mut Cluster,
     turns: u32,
+    gate: &CountingGate,
 ) -> Result<(), OutOfMemory> {
-    match go(rt, cluster, turns) {
+    match go(rt, cluster, turns, gate) {
         Ok(()) => Ok(()),
-        Err(OutOfMemory) => go(rt, cluster, turns),
+        Err(OutOfMemory) => go(rt, cluster, turns, gate),
     }
 }
 
-fn settle<R: Threads>(rt: &R, cluster: &mut Cluster) -> Result<(), OutOfMemory> {
-    match cluster.settle(rt, &ShutGate) {
+fn settle<R: Threads>(
+    rt: &R,
+    cluster: &mut Cluster,
+    gate: &CountingGate,
+) -> Result<(), OutOfMemory> {
+    match cluster.settle(rt, gate) {
         Ok(()) => Ok(()),
-        Err(OutOfMemory) => cluster.settle(rt, &ShutGate),
+        Err(OutOfMemory) => cluster.settle(rt, gate),
     }
 }
 
@@ -165,14 +250,15 @@ fn confirmed(cluster: &Cluster, by: u32) -> Option<u64> {
 fn is_so<R: Threads + Abort + AllocGlobal>(
     rt: &R,
     cluster: &mut Cluster,
+    gate: &CountingGate,
     line: Line,
 ) -> Result<bool, Fail> {
     match line {
         Line::Ask(by, text) => ask(rt, cluster, by, text)?,
         Line::Steps(text, times) => attempt(rt.alloc(), cluster, text, times)?,
-        Line::Go(turns) => go(rt, cluster, turns)?,
-        Line::GoAgain(turns) => go_again(rt, cluster, turns)?,
-        Line::Settle => settle(rt, cluster)?,
+        Line::Go(turns) => go(rt, cluster, turns, gate)?,
+        Line::GoAgain(turns) => go_again(rt, cluster, turns, gate)?,
+        Line::Settle => settle(rt, cluster, gate)?,
         Line::Has(name, has) => {
             return Ok(cluster.has_member(&Name::read(name.as_bytes())?) == has);
         }
@@ -181,6 +267,7 @@ fn is_so<R: Threads + Abort + AllocGlobal>(
         Line::View(version) => return Ok(cluster.view().version == version),
         Line::Events(count) => return Ok(happened(cluster)? == count),
         Line::Rounds(count) => return Ok(cluster.rounds() == count),
+        Line::Passes(who, least, most) => return Ok(gate.is_passed_by(who, least, most)),
     }
     Ok(true)
 }
@@ -188,8 +275,9 @@ fn is_so<R: Threads + Abort + AllocGlobal>(
 /// The ring that opens so does each line, or is seen so.
 fn play<R: Threads + Abort + AllocGlobal>(rt: &R, text: &str, lines: &[Line]) -> Result<(), Fail> {
     let mut cluster = ring(rt, text)?;
+    let gate = CountingGate::new();
     for line in lines {
-        assert!(rt; is_so(rt, &mut cluster, *line)?, "{line:?}");
+        assert!(rt; is_so(rt, &mut cluster, &gate, *line)?, "{line:?}");
     }
     Ok(())
 }
@@ -247,6 +335,40 @@ const AGENDA_OF_WHO_STOPPED: [Line; 19] = [
 #[test]
 fn who_has_stopped_keeps_its_agenda(rt: HostRuntime) -> Result<(), Fail> {
     play(&rt, "members a b c", &AGENDA_OF_WHO_STOPPED)
+}
+
+/// The second of three members stops between a round of one turn and one of three.
+const AROUND_TURNS: [Line; 10] = [
+    Line::Ask("a", "a1"),
+    Line::Ask("b", "b1"),
+    Line::Go(1),
+    Line::Passes(1, 1, 1),
+    Line::Passes(2, 1, 1),
+    Line::Passes(3, 1, 1),
+    Line::Steps("members b\nstop b", 1),
+    Line::Go(3),
+    Line::Passes(2, 1, 1),
+    Line::Passes(1, 2, 4),
+];
+
+/// The same, where a round that wants memory is followed by another.
+const AROUND_FAILED_TURNS: [Line; 9] = [
+    Line::Ask("a", "a1"),
+    Line::Ask("b", "b1"),
+    Line::GoAgain(1),
+    Line::Passes(1, 1, 2),
+    Line::Passes(2, 1, 2),
+    Line::Passes(3, 1, 2),
+    Line::Steps("members b\nstop b", 1),
+    Line::GoAgain(3),
+    Line::Passes(1, 2, 8),
+];
+
+/// The gate is passed before and after each turn, also of one that wants memory, and not by who has stopped.
+#[test]
+fn each_turn_is_between_two_passes(rt: HostRuntime) -> Result<(), Fail> {
+    play(&rt, "members a b c", &AROUND_TURNS)?;
+    play(&rt, "members a b c", &AROUND_FAILED_TURNS)
 }
 
 const LEFT_ALONE: [Line; 8] = [

@@ -1,11 +1,16 @@
 //! The plain machine of the ring, played from texts, in which each line is an event as step files have it, or a
-//! question: `view`, `quiet`, `member a`, `state a`, `counts a`, `walk a`, `heard BY OF`. Behind its arrow stands the
+//! question: `view`, `quiet`, `member a`, `state a`, `counts a`, `walk a`, `heard BY OF`, `refusals`. Behind its arrow stands the
 //! answer that the rules of the ring want. An event that has no arrow happens.
 mod answers;
+mod rows;
 
 use answers::answer;
 use ring_script::read_steps;
 use ring_world::{World, are_opening_names};
+use rows::{
+    ADMITTER_STOPS, NEIGHBOUR_COMES_BACK, NEWCOMER, PUBLISHER_STOPS, STOPS_BEFORE_ITS_PUT, TOLD,
+    TWO_STOP,
+};
 use std::process::Abort;
 use std::test::Fail;
 
@@ -188,6 +193,22 @@ fn the_machine_answers_where_members_stop(rt: HostRuntime) -> Result<(), Fail> {
     }
     for text in [UNQUIET, WALK] {
         play(&rt, "members a b c\ncredit 8 4", text)?;
+    }
+    Ok(())
+}
+
+#[test]
+fn the_machine_erases_the_dead(rt: HostRuntime) -> Result<(), Fail> {
+    for text in [PUBLISHER_STOPS, STOPS_BEFORE_ITS_PUT] {
+        play(&rt, "members a b c\ncredit 8 4", text)?;
+    }
+    play(&rt, "members a b c d\ncredit 8 4", TWO_STOP)
+}
+
+#[test]
+fn the_machine_admits_newcomers(rt: HostRuntime) -> Result<(), Fail> {
+    for text in [NEWCOMER, ADMITTER_STOPS, NEIGHBOUR_COMES_BACK, TOLD] {
+        play(&rt, "members a b\ncredit 8 4", text)?;
     }
     Ok(())
 }

@@ -1,4 +1,4 @@
-use Rattle.group_view.proofs.History.{views_are_history}
+use Rattle.group_view.proofs.AllViews.{views_are_history}
 use Rattle.group_view.proofs.laws.every_view_keeps_since.Goals as goal
 
 pub returns : goal.returns

@@ -9,5 +9,5 @@ pub loop-place-preserved : goal.loop-place-preserved
 loop-place-preserved c = record {
   count = c.loop-place.invariant.count;
   passed = subst (λ b. PassedBelow c.args.cluster.now c.work_turn.new.cluster b (c.loop-place.place + 1)) (sym c.either-moved.ensures)
-      (passed_more c.args.cluster.now c.loop-place.cluster c.work_turn.new.cluster c.loop-place.moved c.in_ok-did.did c.loop-place.place c.loop-place.invariant.passed c.in_ok-did.ensures.works c.in_ok-did.ensures.falls c.in_ok-did.ensures.stays);
+      (passed_more c.args.cluster.now c.loop-place.cluster c.work_turn.new.cluster c.loop-place.moved c.in_ok-did.did c.loop-place.place c.loop-place.invariant.passed c.in_ok-did.ensures.does.works c.in_ok-did.ensures.does.falls c.in_ok-did.ensures.does.stays);
 }

@@ -11,7 +11,7 @@ happens-requires-clause-less c = refresh_less c.args.cluster.now c.args.id.0 c.n
 
 pub unreachable-requires : goal.unreachable-requires
 unreachable-requires c =
-    (c.in_ok-did.ensures.stays c.if-not-did.true).1
+    (c.in_ok-did.ensures.does.stays c.if-not-did.true).1
     (ap (λ n. refusal (state_of c.args.cluster.now) (Refresh n c.newest-version.result)) c.name_of-by.ensures
     ∙ ap (λ v. refusal (state_of c.args.cluster.now) (Refresh (member_at (state_of c.args.cluster.now) c.args.id.0).name v)) c.newest-version.ensures
     ∙ refresh_enabled (state_of c.args.cluster.now) c.args.id.0 (going_fit c.args.cluster.now c.is_going.ensures) c.requires.within.0 (omega (arith, c.requires.within.1, going_many c.args.cluster.now c.is_going.ensures)) c.requires.runs)

@@ -3,8 +3,8 @@ use Rattle.ring_cluster.proofs.post.Owed.{but_refl}
 use Rattle.ring_cluster.proofs.rounds.Turning.{works_refl}
 use Rattle.ring_cluster.proofs.driver.work_turn.Goals as goal
 
-pub returns-then-not-runs : goal.returns-then-not-runs
-returns-then-not-runs c = record {
+pub returns-then-not-runs-clause-does : goal.returns-then-not-runs-clause-does
+returns-then-not-runs-clause-does c = record {
   works = works_refl c.args.cluster.now;
   falls = λ x. cc;
   stays = λ _. (but_refl c.args.cluster.now, λ runs. let no = sym c.runs.ensures ∙ c.if-not-runs.true in cc);

@@ -1,12 +1,11 @@
-use Rattle.ring_cluster.proofs.work.Rest.{run_idle_is_quiet, run_idle_rests}
-use Rattle.ring_cluster.proofs.work.Marks.{run_marked_is_quiet}
+use Rattle.ring_cluster.proofs.work.Rest.{run_alive_is_quiet, run_settled_rests, run_marked_is_quiet}
 use Rattle.ring_cluster.proofs.laws.an_idle_ring_is_at_rest.Goals as goal
 
 pub returns-clause-alive : goal.returns-clause-alive
-returns-clause-alive c = run_idle_is_quiet
+returns-clause-alive c credit names events are _ r = run_alive_is_quiet credit names events are r
 
 pub returns-clause-settled : goal.returns-clause-settled
-returns-clause-settled c = run_idle_rests
+returns-clause-settled c credit names events are _ r = run_settled_rests credit names events are r
 
 pub returns-clause-marked : goal.returns-clause-marked
-returns-clause-marked c = run_marked_is_quiet
+returns-clause-marked c credit names events are _ r = run_marked_is_quiet credit names events are r

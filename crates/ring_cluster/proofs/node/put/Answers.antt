@@ -1,20 +1,15 @@
 use Rattle.std.proofs.Common.{rules}
 use Rattle.ring_cluster.proofs.standing.Shown.{puts_shown, put_fault}
+use Rattle.ring_cluster.proofs.standing.Takes.{not_done}
 use Rattle.ring_cluster.proofs.node.put.Goals as goal
 
-pub returns-in-Ok : goal.returns-in-Ok
-returns-in-Ok c = record {
+pub returns : goal.returns
+returns c = record {
   judged = search rules;
-  ok = puts_shown c.args.node.now c.put.new.self c.in-Ok.ensures.puts.packet c.in-Ok.ensures.puts.ok;
+  ok = puts_shown c.args.node.now c.put.new.self c.in_ok-put.ensures.puts.packet c.in_ok-put.ensures.puts.ok;
   err = search rules;
 }
 
-pub returns-in-Err : goal.returns-in-Err
-returns-in-Err c = record {
-  judged = record {
-    enabled = search rules;
-    reason = λ r x. put_fault c.args.node.now c.put.new.self c.in-Err.fault r (c.refused.ensures.only r x) c.requires c.in-Err.ensures.puts.looks c.in-Err.ensures.puts.fault;
-  };
-  ok = search rules;
-  err = search rules;
-}
+pub returns-in_err-put : goal.returns-in_err-put
+returns-in_err-put c = not_done _ _ _ _ c.in_err-put.field-0.0 c.from_residual.result c.from_residual.ensures.1
+    (λ r x. put_fault c.args.node.now c.put.new.self c.in_err-put.field-0.0 r x c.requires c.in_err-put.ensures.puts.looks c.in_err-put.ensures.puts.fault) (search rules)

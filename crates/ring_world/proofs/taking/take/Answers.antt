@@ -1,11 +1,11 @@
 use Rattle.std.proofs.Common.{◌≡◌, suc, ◌≤◌, ◌∷◌, length, map, get_or, set, ap, sym, subst, ◌∙◌, arith}
-use Rattle.std.proofs.lemmas.List.{length-map, with_items_is}
+use Rattle.std.proofs.lemmas.List.{with_items_is}
 use Rattle.ring_world.specs.Machine.{no_member, oldest}
 use Rattle.group_view.specs.Since.{no_group}
 use Rattle.ring_world.specs.Shows.{world_of, member_of, member_in, link_of}
 use Rattle.ring_world.specs.Step.{taken, is_owned}
 use Rattle.ring_world.proofs.code.Found.{version_some, version_within}
-use Rattle.ring_world.proofs.code.Taken.{take_ring, same_ring, logs_of, OnErr_of}
+use Rattle.ring_world.proofs.code.Taken.{take_ring, same_ring, few_rows, logs_of, OnErr_of}
 use Rattle.ring_world.proofs.taking.take.Goals as goal
 
 pub view_of-view-requires-clause-some : goal.view_of-view-requires-clause-some
@@ -17,9 +17,7 @@ view_of-view-requires-clause-within c =
 
 pub take_packet-requires-clause-rows : goal.take_packet-requires-clause-rows
 take_packet-requires-clause-rows c =
-    let many = length-map c.args.ring.now.seats.items member_of in
-    subst (λ ss. length (member_in ss c.args.place).rows ≡ suc (length ss)) (sym c.deref_mut.ensures.value)
-    (c.requires.up.placed.rows (suc c.args.place) (omega arith) (omega (arith, many)) ∙ ap suc many)
+    subst (λ ss. length (member_in ss c.args.place).rows ≤ suc (length ss)) (sym c.deref_mut.ensures.value) (few_rows c.args.ring.now c.args.place c.requires.up.placed c.requires.up.place)
 
 pub returns-clause-ok : goal.returns-clause-ok
 returns-clause-ok c =

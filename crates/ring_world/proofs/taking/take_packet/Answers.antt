@@ -12,8 +12,9 @@ take-requires c =
     let seats = c.args.seats.now in
     let en : map news_of c.deref_mut.result.now ≡ map (news_at c.args.view.now (all_of seats) (suc c.args.place) c.reserve_grant.new.self.sender (packet_of c.oldest-packet.result.now)) (range_with_len 0 (length seats + 1)) = rw c.deref_mut.ensures.value c.in_ok-news.ensures in
     let count = news_count seats c.args.view.now (suc c.args.place) c.reserve_grant.new.self.sender (packet_of c.oldest-packet.result.now) (length seats + 1) c.deref_mut.result.now en in
-    let rows = sym (length-map _ row_of) ∙ ap (λ y. length y.rows) (sym (get_or-map member_of seats c.args.place c.index-seats-place.result no_member c.requires.within)) ∙ c.requires.rows in
-    rows ∙ (let more : suc (length seats) ≡ length seats + 1 = omega arith in more) ∙ sym count
+    let old = get_or seats c.args.place c.index-seats-place.result in
+    let rows : length old.rows.items ≡ length (member_in seats c.args.place).rows = sym (length-map old.rows.items row_of) ∙ ap (λ y. length y.rows) (sym (get_or-map member_of seats c.args.place c.index-seats-place.result no_member c.requires.within)) in
+    omega (arith, rows, c.requires.rows, count)
 
 pub returns-clause-seats : goal.returns-clause-seats
 returns-clause-seats c =

@@ -2,9 +2,9 @@
 ghost use Rattle.std.specs.Prelude.{IsSome, IfOk};
 ghost use Rattle.ring_world.specs.Event.{id_of};
 
-use ring_names::{Message, Name};
-use ring_script::read_steps;
-use ring_world::{Event, Refused, World};
+use ring_names::{Body, Message, Name};
+use ring_script::{number, read_steps};
+use ring_world::{Client, Event, Refused, World};
 use std::alloc::Global;
 use std::process::Abort;
 use std::test::Fail;
@@ -30,17 +30,103 @@ pub(crate) fn answer(
         "state" => state(alloc, world, of),
         "counts" => counts(alloc, world, of),
         "heard" => heard(alloc, world, of),
+        "refusals" => refusals(alloc, world.refusals()),
         _ => step(rt, world, line),
     }
 }
 
 /// What the machine answers to the event of a line.
 fn step(rt: &(impl Abort + AllocGlobal), world: &mut World, line: &str) -> Result<String, Fail> {
-    let text = format!(in rt.alloc(); "members a\n{line}")?;
-    let steps = read_steps(rt.alloc(), text.as_bytes())?;
+    let event = event(rt.alloc(), line)?;
+    happen(rt, world, &event)
+}
+
+/// The event of a line: one that a step file has, or an admission, an erasure or a refusal.
+fn event(alloc: Global, line: &str) -> Result<Event, Fail> {
+    let (word, rest) = first_word(line);
+    let (first, second) = first_word(rest);
+    match word {
+        "admit" => Ok(Event::Admit {
+            by: name(first)?,
+            name: name(second)?,
+        }),
+        "erase" => Ok(Event::Erase {
+            by: name(first)?,
+            origin: name(second)?,
+        }),
+        "refuse" => Ok(Event::Refuse {
+            code: code(first)?,
+            inner: client(alloc, second)?,
+        }),
+        _ => step_event(alloc, line),
+    }
+}
+
+/// The number of a refusal.
+fn code(text: &str) -> Result<u32, Fail> {
+    match number(text.as_bytes(), 99) {
+        Some(code) => Ok(code as u32),
+        None => Err(Fail::new("no number")),
+    }
+}
+
+/// The event of a line of a step file.
+fn step_event(alloc: Global, line: &str) -> Result<Event, Fail> {
+    let text = format!(in alloc; "members a\n{line}")?;
+    let steps = read_steps(alloc, text.as_bytes())?;
     match steps.lines.as_slice() {
-        [(_, event)] => happen(rt, world, event),
+        [(_, event)] => Ok(event.copy()?),
         _ => Err(Fail::new("no event")),
+    }
+}
+
+/// What a client asks by the words of a cast, a stop or an admission.
+fn client(alloc: Global, line: &str) -> Result<Client, Fail> {
+    let (word, rest) = first_word(line);
+    let (by, rest) = first_word(rest);
+    let by = name(by)?;
+    match word {
+        "cast" => Ok(Client::Cast {
+            by,
+            body: Body::read(alloc, rest.as_bytes())?,
+        }),
+        "stop" => Ok(Client::Stop { by }),
+        "admit" => Ok(Client::Admit {
+            by,
+            name: name(rest)?,
+        }),
+        _ => Err(Fail::new("nothing asked")),
+    }
+}
+
+/// What was refused, each with its number.
+fn refusals(alloc: Global, events: &[Event]) -> Result<String, Fail> {
+    let mut told = String::new(alloc);
+    for event in events {
+        if let Event::Refuse { code, inner } = event {
+            if !told.is_empty() {
+                told.push_str(", ")?;
+            }
+            let asked = asked(alloc, inner)?;
+            told.push_str(format!(in alloc; "{code} {asked}")?.as_str())?;
+        }
+    }
+    Ok(told)
+}
+
+/// The words of what a client asks.
+fn asked(alloc: Global, client: &Client) -> Result<String, Fail> {
+    let by = str::from_utf8(client.by().bytes())?;
+    match client {
+        Client::Cast { by: _, body } => {
+            let body = str::from_utf8(body.bytes())?;
+            Ok(format!(in alloc; "cast {by} {body}")?)
+        }
+        Client::Stop { by: _ } => Ok(format!(in alloc; "stop {by}")?),
+        Client::Admit { by: _, name } => {
+            let name = str::from_utf8(name.bytes())?;
+            Ok(format!(in alloc; "admit {by} {name}")?)
+        }
     }
 }
 
@@ -68,7 +154,7 @@ fn name(text: &str) -> Result<Name, Fail> {
 
 /// The name of a member that the ring has.
 fn member(world: &World, text: &str) -> Result<Name, Fail>
-    ensures { IfOk result (λ name. IsSome (id_of world.now name)) }
+    ensures { IfOk result (λ name. IsSome (id_of (world.now).ring name)) }
 {
     let name = name(text)?;
     match world.member(&name) {

@@ -1,4 +1,4 @@
-use Rattle.std.proofs.Common.{◌≡◌, map, option_map, None, refl, inr, ap, sym, subst, ◌∙◌, rules}
+use Rattle.std.proofs.Common.{◌≡◌, map, option_map, None, refl, inr, ap, sym, subst, ◌∙◌, arith, rules}
 use Rattle.std.proofs.lemmas.Result.{on_ok_weaker, on_err_weaker, IfErr-weaker}
 use Rattle.gm_member.specs.View.{row_of, out_of}
 use Rattle.gm_member.specs.Held.{out_refused, parcel_on}
@@ -33,4 +33,5 @@ returns-clause-puts g c = record {
   err = search rules;
   looks = on_err_weaker c.put.result (λ p. ((refl, refl, refl, refl), inr (c.in-Some-out.link, c.put.new.self, c.in-Some-out.is, refl, p, c.put.ensures.kept))) c.put.ensures.looks;
   ready = search rules;
+  kept = on_err_weaker c.put.result (λ _. ((refl, refl, refl, omega arith, omega arith), λ k r. r)) c.put.ensures.looks;
 }

@@ -1,23 +1,34 @@
-use Rattle.std.proofs.Common.{map, refl, sym, ap, subst, ◌∙◌}
-use Rattle.gm_member.specs.View.{row_of}
+use Rattle.std.proofs.Common.{map, refl, sym, ap, subst, ◌∙◌, Option, Some}
+use Rattle.gm_member.specs.View.{row_of, out_of}
+use Rattle.gm_member.specs.Held.{Held, Outgoing}
 use Rattle.gm_member.specs.Spares.{IsSpareFor, OpensOn}
+use Rattle.gm_member.specs.Shown.{IsReadyToMove, held_of}
+use Rattle.gm_member.proofs.Moving.{sends_out}
+use Rattle.gm_member.proofs.Ready.{ready_there}
 use Rattle.gm_member.proofs.member.Member.send_to.Goals as goal
 
 pub returns-clause-sends : goal.returns-clause-sends
-returns-clause-sends g c =
+returns-clause-sends g c r =
     let rows = map row_of c.args.self.now.known.items in
     let same = c.move_on.ensures.same in
-    let spare : IsSpareFor g.O.LinkPair.are_fresh g.O.LinkOut.free g.O.LinkOut.ended c.move_on.new.self.credit.initial rows c.args.spare =
-    subst (λ k. IsSpareFor g.O.LinkPair.are_fresh g.O.LinkOut.free g.O.LinkOut.ended k.initial rows c.args.spare) (sym same.2) c.requires.ready.spare in
+    let ready : IsReadyToMove g.O.LinkPair.are_fresh g.O.LinkOut.free g.O.LinkOut.ended c.args.self.now c.in-Some.spare =
+    ready_there g.O.LinkPair.are_fresh g.O.LinkOut.free g.O.LinkOut.ended c.args.self.now c.in-Some.spare (sym c.take.ensures.value ∙ c.in-Some.is) r in
+    let spare : IsSpareFor g.O.LinkPair.are_fresh g.O.LinkOut.free g.O.LinkOut.ended c.move_on.new.self.credit.initial rows c.in-Some.spare =
+    subst (λ k. IsSpareFor g.O.LinkPair.are_fresh g.O.LinkOut.free g.O.LinkOut.ended k.initial rows c.in-Some.spare) (sym same.2) ready.spare in
     record {
-      spare = c.args.spare;
-      ready = c.requires.ready.spare;
+      spare = c.in-Some.spare;
+      ready = ready.spare;
       link = c.open-link.result.0;
       out = refl;
       opens =
-          subst (λ k. OpensOn g.O.LinkOut.puts k rows c.args.self.now.id c.args.to c.args.self.now.view.version c.args.spare c.open-link.result.0 c.open-link.result.1.items) same.2
-          (subst (λ i. OpensOn g.O.LinkOut.puts c.move_on.new.self.credit rows i c.args.to c.args.self.now.view.version c.args.spare c.open-link.result.0 c.open-link.result.1.items) same.0
-          (subst (λ v. OpensOn g.O.LinkOut.puts c.move_on.new.self.credit rows c.move_on.new.self.id c.args.to v c.args.spare c.open-link.result.0 c.open-link.result.1.items) (c.version.ensures ∙ ap (λ v. v.version) same.1)
+          subst (λ k. OpensOn g.O.LinkOut.puts k rows c.args.self.now.id c.args.to c.args.self.now.view.version c.in-Some.spare c.open-link.result.0 c.open-link.result.1.items) same.2
+          (subst (λ i. OpensOn g.O.LinkOut.puts c.move_on.new.self.credit rows i c.args.to c.args.self.now.view.version c.in-Some.spare c.open-link.result.0 c.open-link.result.1.items) same.0
+          (subst (λ v. OpensOn g.O.LinkOut.puts c.move_on.new.self.credit rows c.move_on.new.self.id c.args.to v c.in-Some.spare c.open-link.result.0 c.open-link.result.1.items) (c.version.ensures ∙ ap (λ v. v.version) same.1)
           (c.open-link.ensures.opens rows spare)));
       old_outs = c.move_on.ensures.old_outs;
     }
+
+pub returns-clause-held : goal.returns-clause-held
+returns-clause-held g c r =
+    ap (λ (h : Held). record h { out = Some (out_of c.open-link.result.0) }) c.move_on.ensures.held
+    ∙ ap (λ (o : Option Outgoing). record (held_of c.args.self.now) { out = o }) (sends_out g.O.LinkPair.are_fresh g.O.LinkOut.free g.O.LinkOut.ended g.O.LinkOut.puts c.args.to c.args.self.now _ c.open-link.result.1.items (returns-clause-sends g c r))

@@ -30,4 +30,5 @@ returns-clause-takes g c =
       fault = tt;
       err = tt;
       looks = tt;
+      kept = tt;
     }

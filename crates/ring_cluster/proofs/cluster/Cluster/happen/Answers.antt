@@ -1,17 +1,45 @@
-use Rattle.std.proofs.Common.{ap, ◌∙◌}
+use Rattle.std.proofs.Common.{◌≡◌, ap, sym, subst, ◌∙◌}
+use Rattle.std.specs.Prelude.{OnErr}
 use Rattle.std.proofs.lemmas.Result.{on_ok_weaker}
 use Rattle.ring_world.specs.Event.{refusal}
 use Rattle.ring_cluster.specs.Kept.{seen_of}
-use Rattle.ring_cluster.specs.Seen.{state, state_of, owing, with_event}
+use Rattle.ring_cluster.specs.Parties.{PartiesSeen}
+use Rattle.ring_cluster.specs.Seen.{state, state_of, showing, with_event}
+use Rattle.ring_cluster.proofs.post.Owed.{on_err_both}
 use Rattle.ring_cluster.proofs.cluster.Cluster.happen.Goals as goal
 
 pub returns-clause-refused : goal.returns-clause-refused
-returns-clause-refused c = λ r e. c.step.ensures.refused r
-    (ap (λ ns. refusal (state c.self.inside.credit ns c.self.inside.journal.items) c.args.event.now) c.deref.ensures.value ∙ ap (λ x. refusal (state_of x) c.args.event.now) c.self.view_is ∙ e)
+returns-clause-refused c = λ r e.
+    let told = c.step.ensures.refused r
+    (ap (λ ns. refusal (state c.self.inside.credit ns c.self.inside.journal.items) c.args.event.now) c.deref.ensures.value ∙ ap (λ x. refusal (state_of x) c.args.event.now) c.self.view_is ∙ e) in
+    let journal = subst (λ x. OnErr x (c.step.new.journal.items ≡ c.self.inside.journal.items)) told.0 c.step.ensures.err in (
+      told.0,
+      ap (λ (p : PartiesSeen). record (seen_of c.self.inside) { events = c.step.new.journal.items; agendas = p.agendas; owes = p.owes; shows = p.all }) told.1
+          ∙ ap (λ es. record (seen_of c.self.inside) { events = es }) journal
+          ∙ c.self.view_is,
+    )
 
 pub returns-clause-ok : goal.returns-clause-ok
 returns-clause-ok c =
-    let owes = (c.step.new.self).owes in
+    let q = c.step.new.self in
     on_ok_weaker c.step.result
-    (λ is. (owes, ap (λ ts. owing owes (record (seen_of c.self.inside) { events = c.step.new.journal.items; agendas = ts })) c.step.ensures.agendas ∙ ap (λ es. owing owes (record (seen_of c.self.inside) { events = es })) is ∙ ap (λ x. owing owes (with_event x c.args.event.now)) c.self.view_is))
+    (λ is. (
+      (q.owes, q.all),
+      ap (λ ts. showing (q.owes, q.all) (record (seen_of c.self.inside) { events = c.step.new.journal.items; agendas = ts })) c.step.ensures.agendas
+          ∙ ap (λ es. showing (q.owes, q.all) (record (seen_of c.self.inside) { events = es })) is
+          ∙ ap (λ x. showing (q.owes, q.all) (with_event x c.args.event.now)) c.self.view_is,
+    ))
     c.step.ensures.ok
+
+pub returns-clause-err : goal.returns-clause-err
+returns-clause-err c =
+    let q = c.step.new.self in
+    on_err_both c.step.result
+    (λ is mono. (
+      (q.owes, q.all),
+      ap (λ ts. showing (q.owes, q.all) (record (seen_of c.self.inside) { events = c.step.new.journal.items; agendas = ts })) c.step.ensures.agendas
+          ∙ ap (λ es. showing (q.owes, q.all) (record (seen_of c.self.inside) { events = es })) is
+          ∙ ap (showing (q.owes, q.all)) c.self.view_is,
+      λ e. sym (ap (λ x. x.owes) c.self.view_is) ∙ mono e,
+    ))
+    c.step.ensures.err c.step.ensures.owes

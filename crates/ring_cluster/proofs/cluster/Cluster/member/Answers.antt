@@ -36,3 +36,6 @@ returns-clause-holds c =
     (node_holds c.self.inside.credit c.self.inside.names.items c.self.inside.journal.items q c.args.id.0 c.self.invariant.standing
     (c.member.ensures.there.0 some).0 (omega (arith, (c.member.ensures.there.0 some).1, count))))
     c.member.ensures.shown)
+
+pub returns-clause-shown : goal.returns-clause-shown
+returns-clause-shown c = subst (λ x. IfSome c.member.result (λ m. shown_of m.now ≡ node_at x.shows (c.args.id.0 - 1))) c.self.view_is c.member.ensures.shown

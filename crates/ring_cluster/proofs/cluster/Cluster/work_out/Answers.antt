@@ -1,12 +1,25 @@
-use Rattle.std.proofs.Common.{sym, subst}
-use Rattle.ring_cluster.specs.Idle.{IsIdle}
+use Rattle.std.proofs.Common.{arith, sym, ap, subst, ◌∙◌}
+use Rattle.ring_world.specs.Idle.{NobodySteps}
 use Rattle.ring_cluster.specs.Plays.{AgendasAreDone}
 use Rattle.ring_cluster.specs.Seen.{state_of}
-use Rattle.ring_cluster.proofs.rounds.Settling.{idle_is_quiet, done_is_empty}
+use Rattle.ring_cluster.proofs.rounds.Numbers.{gives_within, gives_more, on_err}
+use Rattle.ring_cluster.proofs.rounds.Settling.{alive_is_quiet, done_is_empty}
 use Rattle.ring_cluster.proofs.cluster.Cluster.work_out.Goals as goal
 
 pub returns-clause-quiet : goal.returns-clause-quiet
-returns-clause-quiet g c = λ alive. idle_is_quiet c.deliver.new.self c.is_going.ensures alive (subst (λ x. IsIdle (state_of x)) (sym c.in_ok-deliver.ensures.ok) c.in_ok-drain.ensures.idle)
+returns-clause-quiet g c = λ alive. alive_is_quiet c.deliver.new.self c.is_going.ensures alive (subst (λ x. NobodySteps (state_of x)) (sym c.in_ok-deliver.ensures.ok) c.in_ok-drain.ensures.idle)
 
 pub returns-clause-empty : goal.returns-clause-empty
 returns-clause-empty g c = λ alive. done_is_empty c.deliver.new.self c.is_going.ensures alive (subst AgendasAreDone (sym c.in_ok-deliver.ensures.ok) c.in_ok-drain.ensures.done)
+
+pub returns-clause-rounds : goal.returns-clause-rounds
+returns-clause-rounds g c = gives_more 1 64 c.args.self.now c.work_rounds.new.self c.number_round.new.self c.deliver.new.self c.work_rounds.ensures.rounds c.number_round.ensures (ap (λ x. x.rounds) c.in_ok-deliver.ensures.ok ∙ c.drain.ensures.round.given.1)
+
+pub returns-in_err-work_rounds-clause-rounds_begun : goal.returns-in_err-work_rounds-clause-rounds_begun
+returns-in_err-work_rounds-clause-rounds_begun g c = on_err c.from_residual.result _ (gives_within 1 64 1 65 c.args.self.now c.work_rounds.new.self (omega arith) (omega arith) c.work_rounds.ensures.rounds)
+
+pub returns-in_err-drain-clause-rounds_begun : goal.returns-in_err-drain-clause-rounds_begun
+returns-in_err-drain-clause-rounds_begun g c = on_err c.from_residual-in_err-drain.result _ (gives_within 2 65 1 65 c.args.self.now c.drain.new.cluster (omega arith) (omega arith) (gives_more 1 64 c.args.self.now c.work_rounds.new.self c.number_round.new.self c.drain.new.cluster c.work_rounds.ensures.rounds c.number_round.ensures c.drain.ensures.round.given.1))
+
+pub returns-in_err-deliver-clause-rounds_begun : goal.returns-in_err-deliver-clause-rounds_begun
+returns-in_err-deliver-clause-rounds_begun g c = on_err c.from_residual-in_err-deliver.result _ (gives_within 2 65 1 65 c.args.self.now c.deliver.new.self (omega arith) (omega arith) (gives_more 1 64 c.args.self.now c.work_rounds.new.self c.number_round.new.self c.deliver.new.self c.work_rounds.ensures.rounds c.number_round.ensures (ap (λ x. x.rounds) c.in_err-deliver.ensures.err.0 ∙ c.drain.ensures.round.given.1)))

@@ -7,7 +7,7 @@ use Rattle.ring_cluster.proofs.post.Delivered.{tasks_kept, inside, unchanged, no
 use Rattle.ring_cluster.proofs.parties.Parties.act_alone.Goals as goal
 
 pub do_alone-requires-clause-ready : goal.do_alone-requires-clause-ready
-do_alone-requires-clause-ready c = is_ready c.self.inside c.args.self.now c.self.view_is c.requires.delivered c.requires.standing c.args.i c.requires.within c.index_mut.result.now c.index_mut.ensures.value
+do_alone-requires-clause-ready c = is_ready c.self.inside c.args.self.now c.self.view_is c.requires.standing c.args.i c.requires.within c.index_mut.result.now c.index_mut.ensures.value
 
 pub returns-in_err-do_alone-clause-err : goal.returns-in_err-do_alone-clause-err
 returns-in_err-do_alone-clause-err c = OnErr_of c.from_residual.result (unchanged c.self.inside c.args.self.now c.self.view_is c.args.i c.requires.within c.index_mut.result.now c.do_alone.new.node c.index_mut.ensures.value c.in_err-do_alone.ensures.err)

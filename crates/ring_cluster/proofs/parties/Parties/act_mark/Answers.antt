@@ -14,19 +14,19 @@ use Rattle.ring_cluster.proofs.post.Delivered.{tasks_kept, seen_as, inside, unch
 use Rattle.ring_cluster.proofs.parties.Parties.act_mark.Goals as goal
 
 pub unknown-requires : goal.unknown-requires
-unknown-requires c = asks_nothing c.self.inside c.args.self.now c.self.view_is c.requires.delivered c.requires.standing c.args.i c.requires.within c.index.result.now c.index.ensures
+unknown-requires c = asks_nothing c.self.inside c.args.self.now c.self.view_is c.requires.standing c.args.i c.requires.within c.index.result.now c.index.ensures
 
 pub overflow_cast-id : goal.overflow_cast-id
-overflow_cast-id c = omega (arith, few c.self.inside c.args.self.now c.self.view_is c.requires.delivered c.requires.standing, inside c.self.inside c.args.self.now c.self.view_is c.in-Some.place c.in-Some.ensures.within)
+overflow_cast-id c = omega (arith, few c.self.inside c.args.self.now c.self.view_is c.requires.standing, inside c.self.inside c.args.self.now c.self.view_is c.in-Some.place c.in-Some.ensures.within)
 
 pub overflow_add-id : goal.overflow_add-id
-overflow_add-id c = omega (arith, few c.self.inside c.args.self.now c.self.view_is c.requires.delivered c.requires.standing, inside c.self.inside c.args.self.now c.self.view_is c.in-Some.place c.in-Some.ensures.within)
+overflow_add-id c = omega (arith, few c.self.inside c.args.self.now c.self.view_is c.requires.standing, inside c.self.inside c.args.self.now c.self.view_is c.in-Some.place c.in-Some.ensures.within)
 
 pub mark-requires-clause-ready : goal.mark-requires-clause-ready
-mark-requires-clause-ready c = is_ready c.self.inside c.args.self.now c.self.view_is c.requires.delivered c.requires.standing c.args.i c.requires.within c.index_mut.result.now c.index_mut.ensures.value
+mark-requires-clause-ready c = is_ready c.self.inside c.args.self.now c.self.view_is c.requires.standing c.args.i c.requires.within c.index_mut.result.now c.index_mut.ensures.value
 
 pub mark-requires-clause-here : goal.mark-requires-clause-here
-mark-requires-clause-here c = here c.self.inside c.args.self.now c.self.view_is c.requires.delivered c.requires.standing
+mark-requires-clause-here c = here c.self.inside c.args.self.now c.self.view_is c.requires.standing
 
 pub returns-in-Err-clause-judged : goal.returns-in-Err-clause-judged
 returns-in-Err-clause-judged c =

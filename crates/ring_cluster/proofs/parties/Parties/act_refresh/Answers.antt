@@ -16,7 +16,7 @@ use Rattle.ring_cluster.proofs.post.Delivered.{tasks_kept, inside, shown_is, unc
 use Rattle.ring_cluster.proofs.parties.Parties.act_refresh.Goals as goal
 
 pub look_refusal-requires : goal.look_refusal-requires
-look_refusal-requires c = asks_nothing c.self.inside c.args.self.now c.self.view_is c.requires.delivered c.requires.standing c.args.i c.requires.within c.index.result.now c.index.ensures
+look_refusal-requires c = asks_nothing c.self.inside c.args.self.now c.self.view_is c.requires.standing c.args.i c.requires.within c.index.result.now c.index.ensures
 
 pub unreachable-requires : goal.unreachable-requires
 unreachable-requires c =
@@ -36,7 +36,7 @@ look-requires c =
     let may = may_look c.self.inside c.args.self.now c.self.view_is c.requires.delivered c.requires.standing c.args.i c.requires.within c.index_mut.result.now c.index_mut.ensures.value c.args.version none in
     let view = c.in-Ok.ensures ∙ c.in-Some-published.ensures.view in
     record {
-      ready = is_ready c.self.inside c.args.self.now c.self.view_is c.requires.delivered c.requires.standing c.args.i c.requires.within c.index_mut.result.now c.index_mut.ensures.value;
+      ready = is_ready c.self.inside c.args.self.now c.self.view_is c.requires.standing c.args.i c.requires.within c.index_mut.result.now c.index_mut.ensures.value;
       stands = ap (λ v. is_in (shown_in c.index_mut.result.now).held.id (ids v)) view ∙ may.1.0;
       allowed = ap (λ v. refresh_refused (shown_in c.index_mut.result.now).held v.version) view ∙ may.1.1;
     }

@@ -5,23 +5,23 @@ use Rattle.ring_cluster.proofs.events.Acted.{stop_acts}
 use Rattle.ring_cluster.proofs.post.Delivered.{tasks_kept, inside, none_behind, bare, here, few, asks_nothing, is_ready, unheard}
 use Rattle.ring_cluster.proofs.parties.Parties.act_stop.Goals as goal
 
-pub stop_refusal_of-requires : goal.stop_refusal_of-requires
-stop_refusal_of-requires c = asks_nothing c.self.inside c.args.self.now c.self.view_is c.requires.delivered c.requires.standing c.args.i c.requires.within c.index.result.now c.index.ensures
+pub stop_refusal-requires : goal.stop_refusal-requires
+stop_refusal-requires c = asks_nothing c.self.inside c.args.self.now c.self.view_is c.requires.standing c.args.i c.requires.within c.index.result.now c.index.ensures
 
 pub overflow_cast-i : goal.overflow_cast-i
-overflow_cast-i c = omega (arith, few c.self.inside c.args.self.now c.self.view_is c.requires.delivered c.requires.standing, inside c.self.inside c.args.self.now c.self.view_is c.args.i c.requires.within)
+overflow_cast-i c = omega (arith, few c.self.inside c.args.self.now c.self.view_is c.requires.standing, inside c.self.inside c.args.self.now c.self.view_is c.args.i c.requires.within)
 
 pub overflow_add-i : goal.overflow_add-i
-overflow_add-i c = omega (arith, few c.self.inside c.args.self.now c.self.view_is c.requires.delivered c.requires.standing, inside c.self.inside c.args.self.now c.self.view_is c.args.i c.requires.within)
+overflow_add-i c = omega (arith, few c.self.inside c.args.self.now c.self.view_is c.requires.standing, inside c.self.inside c.args.self.now c.self.view_is c.args.i c.requires.within)
 
 pub notify-requires-clause-here : goal.notify-requires-clause-here
-notify-requires-clause-here c = here c.self.inside c.args.self.now c.self.view_is c.requires.delivered c.requires.standing
+notify-requires-clause-here c = here c.self.inside c.args.self.now c.self.view_is c.requires.standing
 
 pub notify-requires-clause-allowed : goal.notify-requires-clause-allowed
-notify-requires-clause-allowed c = unheard c.self.inside c.args.self.now c.self.view_is c.requires.delivered c.requires.standing c.args.i c.requires.within c.index.result.now c.index.ensures (sym c.stop_refusal_of.ensures ∙ c.in_default.is)
+notify-requires-clause-allowed c = unheard c.self.inside c.args.self.now c.self.view_is c.requires.delivered c.requires.standing c.args.i c.requires.within c.index.result.now c.index.ensures (sym c.stop_refusal.ensures ∙ c.in_default.is)
 
 pub stop-requires : goal.stop-requires
-stop-requires c = is_ready c.self.inside c.args.self.now c.self.view_is c.requires.delivered c.requires.standing c.args.i c.requires.within c.index_mut.result.now c.index_mut.ensures.value
+stop-requires c = is_ready c.self.inside c.args.self.now c.self.view_is c.requires.standing c.args.i c.requires.within c.index_mut.result.now c.index_mut.ensures.value
 
 pub returns-clause-ok : goal.returns-clause-ok
 returns-clause-ok c = λ by d.

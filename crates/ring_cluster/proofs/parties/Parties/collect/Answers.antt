@@ -12,13 +12,13 @@ use Rattle.ring_cluster.proofs.post.Delivered.{tasks_kept, seen_as, inside, unch
 use Rattle.ring_cluster.proofs.parties.Parties.collect.Goals as goal
 
 pub collect-requires-clause-free : goal.collect-requires-clause-free
-collect-requires-clause-free c = asks_nothing c.self.inside c.args.self.now c.self.view_is c.requires.delivered c.requires.standing c.args.i c.requires.within c.index_mut.result.now c.index_mut.ensures.value
+collect-requires-clause-free c = asks_nothing c.self.inside c.args.self.now c.self.view_is c.requires.standing c.args.i c.requires.within c.index_mut.result.now c.index_mut.ensures.value
 
 pub collect-requires-clause-ready : goal.collect-requires-clause-ready
-collect-requires-clause-ready c = is_ready c.self.inside c.args.self.now c.self.view_is c.requires.delivered c.requires.standing c.args.i c.requires.within c.index_mut.result.now c.index_mut.ensures.value
+collect-requires-clause-ready c = is_ready c.self.inside c.args.self.now c.self.view_is c.requires.standing c.args.i c.requires.within c.index_mut.result.now c.index_mut.ensures.value
 
 pub collect-requires-clause-here : goal.collect-requires-clause-here
-collect-requires-clause-here c = here c.self.inside c.args.self.now c.self.view_is c.requires.delivered c.requires.standing
+collect-requires-clause-here c = here c.self.inside c.args.self.now c.self.view_is c.requires.standing
 
 pub collect-requires-clause-ring : goal.collect-requires-clause-ring
 collect-requires-clause-ring c = of_ring c.self.inside c.args.self.now c.self.view_is c.requires.delivered c.requires.standing

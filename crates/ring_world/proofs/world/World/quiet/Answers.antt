@@ -7,4 +7,4 @@ pub is_quiet-requires : goal.is_quiet-requires
 is_quiet-requires c = running_placed c.self.inside c.self.invariant
 
 pub returns : goal.returns
-returns c = subst (λ w. IsTrue c.is_quiet.result ↔ IsQuiet w) c.self.view_is c.is_quiet.ensures
+returns c = subst (λ seen. IsTrue c.is_quiet.result ↔ IsQuiet seen.ring) c.self.view_is c.is_quiet.ensures

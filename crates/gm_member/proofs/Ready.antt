@@ -1,0 +1,56 @@
+-- What a member has ready for an answer stays so from call to call.
+use Rattle.std.proofs.Common.{◌≡◌, ℕ, Bool, Option, Some, None, map, sym, ap, subst, arith}
+use Rattle.std.specs.Prelude.{MatchOption, ⊤, vec_len, vec_capacity}
+use Rattle.ordered_link.specs.declared.ends.LinkOut.{Ghosts}
+use Rattle.gm_member.specs.declared.packet.Load.{Load}
+use Rattle.gm_member.specs.declared.member.Member.{Member}
+use Rattle.gm_member.specs.declared.spare.Spare.{Spare}
+use Rattle.gm_member.specs.View.{row_of}
+use Rattle.gm_member.specs.Spares.{IsSpareFor}
+use Rattle.gm_member.specs.Calls.{SameSelf, KeepsOuts}
+use Rattle.gm_member.specs.Shown.{IsReadyToMove, SpareIsReady, SpareIsSound, KeepsSpare, StaysReady}
+
+-- what holds of that which is there
+if_there : {A : Type 0} (N : Type 0) (P Q : A → Type 0) (o : Option A) → ((a : A) → P a → Q a) → MatchOption o N P → MatchOption o N Q
+if_there N P Q None f p = p
+if_there N P Q (Some a) f p = f a p
+
+-- what holds of that which is there holds where something is
+there_is : {A : Type 0} (P : A → Type 0) (o : Option A) → MatchOption o ⊥ P → MatchOption o ⊤ P
+there_is P None p = tt
+there_is P (Some a) p = p
+
+module _ {O I : Type 0} {g : Ghosts O Load} where
+  -- a member that is the same, and sends as it did, keeps what makes its link ready
+  pub keeps_same : (m n : Member O I g) → SameSelf m n → KeepsOuts m n → n.spare ≡ m.spare → KeepsSpare m n
+  keeps_same m n same outs spare = (spare, same.1, ap (λ ks. map row_of ks.items) same.2, omega (arith, ap vec_len outs.1), omega (arith, ap vec_capacity outs.1))
+
+  -- the link that is there is ready
+  pub ready_there : (are_fresh : ℕ → O → I → Type 0) (free : O → ℕ) (ended : O → Bool) (m : Member O I g) (s : Spare O I g) → m.spare ≡ Some s → SpareIsReady are_fresh free ended m → IsReadyToMove are_fresh free ended m s
+  ready_there are_fresh free ended m s e = subst (λ o. MatchOption o ⊥ (IsReadyToMove are_fresh free ended m)) e
+
+  -- whoever has one ready has it sound
+  pub ready_sound : (are_fresh : ℕ → O → I → Type 0) (free : O → ℕ) (ended : O → Bool) (m : Member O I g) → SpareIsReady are_fresh free ended m → SpareIsSound are_fresh free ended m
+  ready_sound are_fresh free ended m = there_is _ m.spare
+
+  -- a link that was ready is ready
+  still_moves : (are_fresh : ℕ → O → I → Type 0) (free : O → ℕ) (ended : O → Bool) (m n : Member O I g) (s : Spare O I g) → KeepsSpare m n → IsReadyToMove are_fresh free ended m s → IsReadyToMove are_fresh free ended n s
+  still_moves are_fresh free ended m n s k r = record {
+    spare =
+        subst (λ c. IsSpareFor are_fresh free ended c.initial (map row_of n.known.items) s) (sym k.1)
+        (subst (λ rows. IsSpareFor are_fresh free ended m.credit.initial rows s) (sym k.2) r.spare);
+    room = omega (arith, k.3, k.4, r.room);
+  }
+
+  -- the member has the link that it had, or none
+  pub stays_sound : (are_fresh : ℕ → O → I → Type 0) (free : O → ℕ) (ended : O → Bool) (m n : Member O I g) → StaysReady m n → SpareIsSound are_fresh free ended m → SpareIsSound are_fresh free ended n
+  stays_sound are_fresh free ended m n k p =
+      subst (λ o. MatchOption o ⊤ (IsReadyToMove are_fresh free ended n)) (sym k.0.0) (if_there ⊤ _ _ m.spare (λ s. still_moves are_fresh free ended m n s k.0) p)
+
+  -- it still has one
+  pub keeps_ready : (are_fresh : ℕ → O → I → Type 0) (free : O → ℕ) (ended : O → Bool) (m n : Member O I g) → KeepsSpare m n → SpareIsReady are_fresh free ended m → SpareIsReady are_fresh free ended n
+  keeps_ready are_fresh free ended m n k p =
+      subst (λ o. MatchOption o ⊥ (IsReadyToMove are_fresh free ended n)) (sym k.0) (if_there ⊥ _ _ m.spare (λ s. still_moves are_fresh free ended m n s k) p)
+
+  pub stays_ready : (are_fresh : ℕ → O → I → Type 0) (free : O → ℕ) (ended : O → Bool) (m n : Member O I g) → StaysReady m n → SpareIsReady are_fresh free ended m → SpareIsReady are_fresh free ended n
+  stays_ready are_fresh free ended m n k = keeps_ready are_fresh free ended m n k.0

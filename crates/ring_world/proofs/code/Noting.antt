@@ -1,0 +1,33 @@
+-- What a World notes of an event.
+use Rattle.std.proofs.Common.{◌≡◌, true, false, List, [], ◌∷◌, ◌++◌, Option, Some, None, ℕ, refl, sym}
+use Rattle.std.proofs.lemmas.Bool.{false≢true}
+use Rattle.std.proofs.lemmas.List.{append-nil}
+use Rattle.ring_world.specs.Machine.{World}
+use Rattle.ring_world.specs.Event.{Event, Cast, Put, Take, TakeEnd, Gain, Stop, Mark, Refresh, Admit, Pick, Erase, Refuse, is_refusal, refusals_of, effect, at_found, id_of, by_of}
+
+stays : (w : World) (o : Option ℕ) → at_found o w (λ x. w) ≡ w
+stays w None = refl
+stays w (Some x) = refl
+
+-- a refusal leaves the ring as it is
+pub refusal_stays : (w : World) (e : Event) → is_refusal e ≡ true → w ≡ effect w e
+refusal_stays w (Cast by body) h = absurd (false≢true h)
+refusal_stays w (Put by) h = absurd (false≢true h)
+refusal_stays w (Take by) h = absurd (false≢true h)
+refusal_stays w (TakeEnd by) h = absurd (false≢true h)
+refusal_stays w (Gain by) h = absurd (false≢true h)
+refusal_stays w (Stop by) h = absurd (false≢true h)
+refusal_stays w (Mark by dead) h = absurd (false≢true h)
+refusal_stays w (Refresh by version) h = absurd (false≢true h)
+refusal_stays w (Admit by name) h = absurd (false≢true h)
+refusal_stays w (Pick by) h = absurd (false≢true h)
+refusal_stays w (Erase by origin) h = absurd (false≢true h)
+refusal_stays w (Refuse code inner) h = sym (stays w (id_of w (by_of (Refuse code inner))))
+
+-- and is noted
+pub refusal_noted : (es : List Event) (e : Event) → is_refusal e ≡ true → es ++ e ∷ [] ≡ es ++ refusals_of (e ∷ [])
+refusal_noted es e h = rw h refl
+
+-- no other event is
+pub not_noted : (es : List Event) (e : Event) → is_refusal e ≡ false → es ≡ es ++ refusals_of (e ∷ [])
+not_noted es e h = rw h (sym (append-nil es))

@@ -1,0 +1,53 @@
+-- What holds of every state that a ring reaches, as far as the measure needs it.
+use Rattle.std.proofs.Common.{◌≡◌, ◌≢◌, ℕ, ◌<◌, ◌≤◌, List, [], ◌∷◌, None, Some, sym, ap, ◌∙◌, arith}
+use Rattle.ring_names.specs.declared.numbers.CreditSpec.{CreditSpec}
+use Rattle.group_view.specs.Change.{AreOpeningNames}
+use Rattle.ring_world.specs.declared.event.Event.{Event}
+use Rattle.ring_world.specs.Machine.{World, member_at, link_at}
+use Rattle.ring_world.specs.Step.{size, opening}
+use Rattle.ring_world.specs.Event.{id_of, refusal, effect, IsRun, last}
+use Rattle.ring_world.specs.Lawful.{StaysWithinLogs}
+use Rattle.ring_world.specs.Laws.{GoesOn}
+use Rattle.ring_world.proofs.invariants.Happens.{IsGood, reached_good, newest_is}
+use Rattle.ring_world.proofs.walks.Ended.{EndsRight}
+use Rattle.ring_world.proofs.walks.OpenWalk.{reached_ends}
+use Rattle.ring_world.proofs.invariants.Named.{reached_named, named_found}
+use Rattle.ring_world.proofs.events.Parts.{run_keeps}
+use Rattle.ring_world.proofs.runs.OwnLogs.{IsLogged, run_logged, part_logged}
+use Rattle.ring_world.proofs.runs.AllRuns.{every_run_goes_on}
+use Rattle.ring_world.proofs.work.Nobody.{NobodyAtZero, reached_nobody}
+use Rattle.ring_world.proofs.work.OwnEnds.{OwnEnds, reached_owns}
+
+pub record IsFit (w : World) : Type 0 where
+  pub good : IsGood w
+  pub ends : EndsRight w
+  -- each member is the one that its name finds
+  pub named : (x : ℕ) → 1 ≤ x → x < size w → id_of w (member_at w x).name ≡ Some x
+  -- an enabled event lowers no number
+  pub goes : (e : Event) → refusal w e ≡ None → GoesOn w (effect w e)
+  -- and no number of a row is then above the length of the log
+  pub within : (e : Event) → refusal w e ≡ None → StaysWithinLogs (effect w e)
+  -- the links of a member have it at their ends, also where it has stopped
+  pub own_ends : OwnEnds w
+  -- nobody stands at id 0
+  pub nobody : NobodyAtZero w
+
+-- members are few: there are as many as entries, and nobody at 0
+pub few_members : (w : World) → IsGood w → size w ≤ 65
+few_members w g = omega (arith, g.next_id, (newest_is w g.views).numbered, (newest_is w g.views).few)
+
+-- it holds in every state of every run
+pub reached_fit : (credit : CreditSpec) (names : List (List ℕ)) (events : List Event) → AreOpeningNames names → IsRun (opening credit names) events → IsFit (last (opening credit names) events)
+reached_fit credit names events are r = record {
+  good = reached_good credit names events are r;
+  ends = reached_ends credit names events are r;
+  named = λ x some lt. named_found (last (opening credit names) events) x (reached_named credit names events are r) some lt;
+  goes = λ e k. every_run_goes_on credit names events (e ∷ []) are r (k, tt);
+  within = λ e k. (run_keeps IsLogged (part_logged IsGood) (last (opening credit names) events) (e ∷ []) (reached_good credit names events are r) (k, tt) (run_logged credit names events are r)).within;
+  own_ends = reached_owns credit names events are r;
+  nobody = reached_nobody credit names events are r;
+}
+
+-- nobody else sends on the link on which x sends
+pub other_out : (w : World) (x y o j : ℕ) → IsFit w → (member_at w x).out ≡ Some o → (member_at w y).out ≡ Some j → y ≢ x → j ≢ o
+other_out w x y o j f ex ey ne same = ne (sym (f.own_ends.out y j ey).1 ∙ ap (λ k. (link_at w k).sender) same ∙ (f.own_ends.out x o ex).1)

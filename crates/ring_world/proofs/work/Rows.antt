@@ -1,0 +1,23 @@
+-- Lists of grants and packets, and a row beside what was sent of it.
+use Rattle.std.proofs.Common.{◌≡◌, ℕ, ◌<◌, ◌≤◌, true, false, arith, ◌+◌, Option, Some, None, List, length, drop, sym, [], ◌∷◌}
+use Rattle.std.proofs.lemmas.Bool.Decides.{nat_tests}
+use Rattle.std.proofs.lemmas.List.{length_push}
+use Rattle.credit_flow.specs.Link.{with_grant}
+use Rattle.std.proofs.lemmas.Bool.{false≢true}
+use Rattle.ring_world.specs.declared.numbers.Numbers.{Numbers}
+use Rattle.ring_world.specs.Refusal.{is_empty}
+use Rattle.ring_world.specs.Rows.{Row, is_sent}
+
+-- at most one grant comes
+pub with_grant-most : (grants : List ℕ) (grant : Option ℕ) → length (with_grant grants grant) ≤ length grants + 1
+with_grant-most grants None = omega arith
+with_grant-most grants (Some grant) = omega (arith, length_push grants grant)
+
+-- a row whose numbers had been sent and are not any more has risen
+pub risen : (r r' : Row) (last : Numbers) → is_sent r last ≡ true → is_sent r' last ≡ false → r.got ≤ r'.got → r.forgot ≤ r'.forgot → r.got + r.forgot < r'.got + r'.forgot
+risen r r' last before after got forgot = grind (arith, nat_tests)
+
+-- on a list with an element, one fewer is left when the first goes
+pub length-rest : {A : Type 0} (xs : List A) → is_empty xs ≡ false → length (drop 1 xs) + 1 ≡ length xs
+length-rest [] e = absurd (false≢true (sym e))
+length-rest (x ∷ xs) e = omega arith

@@ -1,0 +1,59 @@
+//! A member has the group change, and reads the view that follows.
+ghost use Rattle.std.specs.Prelude.{◌≡◌, ◌<◌, ◌+◌, suc, ◌-◌, take, length, vec_len, vec_capacity, OnOk, OnErr};
+ghost use Rattle.ring_world.specs.declared.phase.Phase.TheVariants as phase;
+ghost use Rattle.ring_world.specs.Machine.{member_at, newest as the_newest};
+ghost use Rattle.ring_world.specs.Step.{with_view};
+ghost use Rattle.ring_world.specs.Event.{refreshed};
+ghost use Rattle.ring_world.specs.Placed.{IsPlaced};
+ghost use Rattle.ring_world.specs.Shows.{world_of};
+
+use crate::neighbours::newest;
+use crate::refreshing::refresh;
+use crate::state::Ring;
+use group_view::View;
+use ring_names::OutOfMemory;
+use std::alloc::Global;
+
+/// A view follows the others.
+fn push_view(ring: &mut Ring, view: View) -> Result<(), OutOfMemory>
+    ensures ok { OnOk result (world_of ring.new ≡ with_view (world_of ring.old) view) }
+    ensures seats { ring.new.seats ≡ ring.old.seats }
+    ensures err { OnErr result (world_of ring.new ≡ world_of ring.old) }
+{
+    ring.views.push(view)?;
+    Ok(())
+}
+
+/// The last view is gone.
+fn pop_view(views: &mut Vec<View>)
+    ensures { views.new.items ≡ take (length views.old.items - 1) views.old.items }
+{
+    views.pop();
+}
+
+/// The member at a place has this view follow the others, and reads it.
+#[tactic(auto, using(crate::proofs::code::Viewed::viewed_placed))]
+pub(crate) fn change(
+    alloc: Global,
+    ring: &mut Ring,
+    place: usize,
+    view: View,
+) -> Result<(), OutOfMemory>
+    requires placed { IsPlaced (world_of ring.old) }
+    requires more { the_newest (world_of ring.old) < 256 }
+    requires place { place < length ring.old.seats.items }
+    requires up { (member_at (world_of ring.old) (suc place)).phase ≡ phase.Up }
+    ensures ok { OnOk result (world_of ring.new
+        ≡ refreshed (with_view (world_of ring.old) view) (suc place) (the_newest (world_of ring.old) + 1)) }
+    ensures err { OnErr result (world_of ring.new ≡ world_of ring.old) }
+    ensures seats { vec_len ring.new.seats ≡ vec_len ring.old.seats }
+    ensures seats_room { vec_capacity ring.new.seats ≡ vec_capacity ring.old.seats }
+{
+    let version = newest(ring) + 1;
+    push_view(ring, view)?;
+    if refresh(alloc, ring, place, version).is_err() {
+        pop_view(&mut ring.views);
+        return Err(OutOfMemory);
+    }
+    Ok(())
+}

@@ -1,0 +1,57 @@
+//! A member refuses what a client asked of it.
+ghost use Rattle.std.specs.Prelude.{◌≡◌, ◌<◌, suc, not, length, Option};
+ghost use Rattle.ring_names.specs.declared.reason.Reason.{Reason};
+ghost use Rattle.ring_names.specs.declared.reason.Reason.TheVariants as reason;
+ghost use Rattle.ring_world.specs.Refusal.{answer_of, refuse_if};
+ghost use Rattle.ring_world.specs.Event.{event_of, doing_refusal, is_passing as passes, is_told as told};
+ghost use Rattle.ring_world.specs.Placed.{IsPlaced};
+ghost use Rattle.ring_world.specs.Shows.{world_of};
+
+use crate::event::Client;
+use crate::state::Ring;
+use crate::{conditions, membership};
+use ring_names::Reason;
+
+/// Whether a client isn't told a refusal, as its command stays.
+fn is_passing(reason: &Reason) -> bool
+    ensures { result ≡ passes reason.now }
+{
+    matches!(reason, Reason::Waiting | Reason::NotStarted)
+}
+
+/// Whether a client is refused with this number.
+fn is_told(code: u32, answer: Result<(), Reason>) -> bool
+    ensures { (refusal : Option Reason) → answer ≡ answer_of refusal → result ≡ told code refusal }
+{
+    match answer {
+        Ok(()) => false,
+        Err(reason) => reason.code() == code && !is_passing(&reason),
+    }
+}
+
+/// Whether the member at a place may do what a client asks of it.
+fn may_do(ring: &Ring, place: usize, asked: &Client) -> Result<(), Reason>
+    requires placed { IsPlaced (world_of ring.now) }
+    requires place { place < length ring.now.seats.items }
+    ensures { result ≡ answer_of (doing_refusal (world_of ring.now) (event_of asked.now) (suc place)) }
+{
+    match asked {
+        Client::Cast { .. } => conditions::may_cast(ring, place),
+        Client::Stop { .. } => conditions::may_stop(ring, place),
+        Client::Admit { name, .. } => membership::may_admit(ring, place, name),
+    }
+}
+
+/// Whether it may refuse that with this number.
+pub(crate) fn may_refuse(ring: &Ring, place: usize, code: u32, asked: &Client) -> Result<(), Reason>
+    requires placed { IsPlaced (world_of ring.now) }
+    requires place { place < length ring.now.seats.items }
+    ensures { result ≡ answer_of (refuse_if
+        (not (told code (doing_refusal (world_of ring.now) (event_of asked.now) (suc place))))
+        reason.NotRefused) }
+{
+    if !is_told(code, may_do(ring, place, asked)) {
+        return Err(Reason::NotRefused);
+    }
+    Ok(())
+}
