@@ -529,6 +529,7 @@ fn last_event(lines: &[(u32, Event)]) -> [u8; 4] {
         Event::Mark { by, dead } => [b'm', letter(by), letter(dead), line],
         Event::Refresh { by, view } => [b'r', letter(by), digit(u64::from(*view)), line],
         Event::Pick { by } => [b'k', letter(by), b'-', line],
+        Event::Admit { .. } | Event::Erase { .. } | Event::Refuse { .. } => *b"none",
     }
 }
 
