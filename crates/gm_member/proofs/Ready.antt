@@ -1,14 +1,19 @@
 -- What a member has ready for an answer stays so from call to call.
-use Rattle.std.proofs.Common.{◌≡◌, ℕ, Bool, Option, Some, None, map, sym, ap, subst, arith}
-use Rattle.std.specs.Prelude.{MatchOption, ⊤, vec_len, vec_capacity}
+use Rattle.std.proofs.Common.{◌≡◌, ℕ, Bool, true, false, Option, Some, None, map, refl, sym, ap, subst, arith}
+use Rattle.std.proofs.lemmas.Bool.{false≢true}
+use Rattle.std.specs.Prelude.{IsSome, MatchOption, ⊤, vec_len, vec_capacity}
+use Rattle.ring_world.specs.Machine.{runs_phase}
 use Rattle.ordered_link.specs.declared.ends.LinkOut.{Ghosts}
 use Rattle.gm_member.specs.declared.packet.Load.{Load}
 use Rattle.gm_member.specs.declared.member.Member.{Member}
 use Rattle.gm_member.specs.declared.spare.Spare.{Spare}
-use Rattle.gm_member.specs.View.{row_of}
+use Rattle.gm_member.specs.declared.links.OutLink.{OutLink}
+use Rattle.gm_member.specs.Held.{at_some}
+use Rattle.gm_member.specs.View.{row_of, has_ended}
+use Rattle.gm_member.specs.Ends.{EndIsOpen}
 use Rattle.gm_member.specs.Spares.{IsSpareFor}
 use Rattle.gm_member.specs.Calls.{SameSelf, KeepsOuts}
-use Rattle.gm_member.specs.Shown.{IsReadyToMove, SpareIsReady, SpareIsSound, KeepsSpare, StaysReady}
+use Rattle.gm_member.specs.Shown.{When, OutIsOpen, OutIsReady, OutIsBack, IsReadyToMove, SpareIsReady, SpareIsSound, KeepsSpare, StaysReady}
 
 -- what holds of that which is there
 if_there : {A : Type 0} (N : Type 0) (P Q : A → Type 0) (o : Option A) → ((a : A) → P a → Q a) → MatchOption o N P → MatchOption o N Q
@@ -19,6 +24,22 @@ if_there N P Q (Some a) f p = f a p
 there_is : {A : Type 0} (P : A → Type 0) (o : Option A) → MatchOption o ⊥ P → MatchOption o ⊤ P
 there_is P None p = tt
 there_is P (Some a) p = p
+
+module _ {O : Type 0} where
+  -- an end that is there and is none that has ended is open
+  end_open : (ended : O → Bool) (end : Option O) → at_some end false ended ≡ false → IsSome end → EndIsOpen ended end
+  end_open ended None e p = absurd (false≢true p)
+  end_open ended (Some o) e p = e
+
+  -- so is the end of the link on which a member sends
+  out_open : (ended : O → Bool) (out : Option (OutLink O)) → has_ended ended out ≡ false → MatchOption out ⊤ (λ l. IsSome l.end) → MatchOption out ⊤ (λ l. EndIsOpen ended l.end)
+  out_open ended None e p = tt
+  out_open ended (Some l) e p = end_open ended l.end e p
+
+-- what follows where a test passes
+when_both : (b : Bool) {P Q R : Type 0} → (P → Q → R) → (b ≡ true → P) → When b Q → When b R
+when_both true f p q = f (p refl) q
+when_both false f p q = tt
 
 module _ {O I : Type 0} {g : Ghosts O Load} where
   -- a member that is the same, and sends as it did, keeps what makes its link ready
@@ -54,3 +75,7 @@ module _ {O I : Type 0} {g : Ghosts O Load} where
 
   pub stays_ready : (are_fresh : ℕ → O → I → Type 0) (free : O → ℕ) (ended : O → Bool) (m n : Member O I g) → StaysReady m n → SpareIsReady are_fresh free ended m → SpareIsReady are_fresh free ended n
   stays_ready are_fresh free ended m n k = keeps_ready are_fresh free ended m n k.0
+
+  -- the end on which a running member sends hasn't ended, where it isn't lent
+  pub is_ready : (m : Member O I g) → OutIsBack m → OutIsReady g.ended m
+  is_ready m = when_both (runs_phase m.phase) (out_open g.ended m.out) m.unended

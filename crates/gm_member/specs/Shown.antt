@@ -97,6 +97,10 @@ module _ {O I : Type 0} {g : Ghosts O Load} where
   abbrev pub OutIsReady : (O → Bool) → Member O I g → Type 0
   OutIsReady ended m = When (runs_phase m.phase) (OutIsOpen ended m)
 
+  -- the end of the link on which a running member sends, where it sends on one, isn't lent
+  abbrev pub OutIsBack : Member O I g → Type 0
+  OutIsBack m = When (runs_phase m.phase) (MatchOption m.out ⊤ (λ l. IsSome l.end))
+
   -- the end of the link from which it takes is there
   abbrev pub InIsReady : Member O I g → Type 0
   InIsReady m = MatchOption m.current ⊤ (λ l. IsSome l.end)

@@ -36,6 +36,11 @@ module _ {I : Type 0} where
   abbrev pub end_of : InLink I → Option I
   end_of l = l.end
 
+module _ {O : Type 0} where
+  -- whether the end of the link on which a member sends is there and has ended
+  abbrev pub has_ended : (O → Bool) → Option (OutLink O) → Bool
+  has_ended ended out = at_some out false (λ l. at_some l.end false ended)
+
 -- how many stand there: one or none
 abbrev pub count_of : {A : Type 0} → Option A → ℕ
 count_of there = at_some there 0 (λ _. 1)

@@ -1,9 +1,10 @@
 //! A member of the ring.
-ghost use Rattle.std.specs.Prelude.{◌≡◌, ◌+◌, ◌≤◌, ◌<◌, ◌∷◌, ◌++◌, [], true};
+ghost use Rattle.std.specs.Prelude.{◌≡◌, ◌+◌, ◌≤◌, ◌<◌, ◌∷◌, ◌++◌, [], true, false};
 ghost use Rattle.std.specs.Vec.{vec_len, vec_capacity};
 ghost use Rattle.group_view.specs.Ring.{is_in};
 ghost use Rattle.ring_world.specs.View.{ids};
-ghost use Rattle.gm_member.specs.View.{count_of, is_up_where};
+ghost use Rattle.ring_world.specs.Machine.{runs_phase};
+ghost use Rattle.gm_member.specs.View.{count_of, has_ended, is_up_where};
 
 use crate::door::{first_for, is_for, prune};
 use crate::fault::MemberFault;
@@ -26,7 +27,8 @@ const MOST_MEMBERS: usize = 64;
 
 /// A member of the ring, as a process of `gm`. It has a view of the group, and the messages of every origin that it
 /// has heard of, its own among them. It sends on one link and takes from one, and further links may stand at its
-/// door. While its question for a view is open it has a link ready, with which the answer wants no memory.
+/// door. While its question for a view is open it has a link ready, with which the answer wants no memory. Until it
+/// stops, the link on which it sends hasn't ended.
 #[derive(Drop)]
 pub struct Member<O: LinkOut<Load>, I> {
     pub(crate) alloc: Global,
@@ -47,6 +49,7 @@ pub struct Member<O: LinkOut<Load>, I> {
     ghost own: { (1 ≤ id.0) × (id.0 ≤ 64) },
     ghost stands: { is_in id.0 (ids view) ≡ true },
     ghost up: { is_up_where asked phase ≡ true },
+    ghost unended: { runs_phase phase ≡ true → has_ended O.ended out ≡ false },
     ghost room_in: { vec_len old_ins + vec_len door + count_of current ≤ vec_capacity old_ins },
     ghost room_out: { vec_len old_outs + count_of out + count_of spare ≤ vec_capacity old_outs },
 }
@@ -58,7 +61,7 @@ impl<O: LinkPair<Load, In = I>, I: LinkIn<Load> + Drop> Member<O, I> {
     ghost use Rattle.ring_names.specs.declared.reason.Reason.{Reason};
     ghost use Rattle.ring_world.specs.Rows.{most_members};
     ghost use Rattle.ring_world.specs.declared.event.Event.TheVariants.{Put, Take, TakeEnd, Gain, Stop, Pick, Refresh};
-    ghost use Rattle.ring_world.specs.Machine.{member_at, view_in, newest};
+    ghost use Rattle.ring_world.specs.Machine.{member_at, runs_phase, view_in, newest};
     ghost use Rattle.ring_world.specs.Step.{log_of};
     ghost use Rattle.ring_world.specs.Event.{refusal, take_refusal as the_take_refusal};
     ghost use Rattle.ring_world.specs.Event.{end_refusal as the_end_refusal, gain_refusal as the_gain_refusal};
@@ -79,15 +82,15 @@ impl<O: LinkPair<Load, In = I>, I: LinkIn<Load> + Drop> Member<O, I> {
     ghost use Rattle.gm_member.specs.Shown.{Ends, held_of, ends_of, out_name_of, OutIsReady, InIsReady, PutsOn};
     ghost use Rattle.gm_member.specs.Shown.{LooksOut, LooksIn, TookOn, LeavesOn, EndsOn, KeepsGrant, NoGrantBack};
     ghost use Rattle.gm_member.specs.Shown.{GrantIsBack, LooksBy, SpareIsReady, SendsOn, MovesTo, PicksOn};
-    ghost use Rattle.gm_member.specs.Shown.{KeepsSpare, StaysReady, OutIsOpen};
+    ghost use Rattle.gm_member.specs.Shown.{KeepsSpare, StaysReady, OutIsOpen, OutIsBack};
     ghost use Rattle.gm_member.specs.Calls.{Heeds, HandsBack, Publishes, Puts, Takes, TakesEnd, Stops, Gains, PicksUp};
     ghost use Rattle.gm_member.specs.Calls.{Reads, IsEvent, RefusesAs, RefusesWhere, SameSelf, SameLinks, KeepsIns};
     ghost use Rattle.gm_member.specs.Calls.{KeepsOuts, Gives, Lends};
 
     /// A member of the ring's opening, which has published and heard nothing. The caller gives its id in the ring,
-    /// the view in which the ring opens, the credit of the ring's links, the end of the link to its right neighbour
-    /// and the end of the link from its left neighbour. Without memory the ends are dropped. As `gm:start_link` of
-    /// those with whom a group opens.
+    /// the view in which the ring opens, the credit of the ring's links, the end of the link to its right neighbour,
+    /// which hasn't ended, and the end of the link from its left neighbour. Without memory the ends are dropped. As
+    /// `gm:start_link` of those with whom a group opens.
     pub fn founding(
         alloc: Global,
         name: Name,
@@ -100,6 +103,7 @@ impl<O: LinkPair<Load, In = I>, I: LinkIn<Load> + Drop> Member<O, I> {
         requires from_one { 1 ≤ id.0 }
         requires few { id.0 ≤ most_members }
         requires stands { is_in id.0 (ids view) ≡ true }
+        requires unended { O.ended out ≡ false }
         ensures held { IfOk result (λ m. held_of m ≡ founded credit name id.0 view) }
         ensures ends { IfOk result (λ m. ends_of m
             ≡ record { out = Some out; kept = None; link = Some link; door = []; old_outs = []; old_ins = [] }) }
@@ -250,9 +254,11 @@ impl<O: LinkPair<Load, In = I>, I: LinkIn<Load> + Drop> Member<O, I> {
     }
 
     /// Lends the end of the link on which the member sends: none where it isn't there. The caller gives it back before
-    /// any other call.
+    /// any other call. That of a member which hasn't stopped hasn't ended.
     pub fn lend_out(&mut self) -> Option<O>
-        ensures { Lends (ends_of self.old).out (record (ends_of self.old) { out = None }) self.old self.new result }
+        ensures lends { Lends (ends_of self.old).out (record (ends_of self.old) { out = None })
+            self.old self.new result }
+        ensures unended { runs_phase (held_of self.old).phase ≡ true → IfSome result (λ o. O.ended o ≡ false) }
     {
         match &mut self.out {
             Some(link) => link.end.take(),
@@ -260,10 +266,11 @@ impl<O: LinkPair<Load, In = I>, I: LinkIn<Load> + Drop> Member<O, I> {
         }
     }
 
-    /// Gives back the end of the link on which the member sends.
+    /// Gives back the end of the link on which the member sends. It hasn't ended, where the member hasn't stopped.
     pub fn give_out(&mut self, out: O)
         requires lent { (ends_of self.old).out ≡ None }
         requires sends { IsSome (held_of self.old).out }
+        requires unended { runs_phase (held_of self.old).phase ≡ true → O.ended out ≡ false }
         ensures { Gives (record (ends_of self.old) { out = Some out }) self.old self.new }
     {
         match &mut self.out {
@@ -298,7 +305,7 @@ impl<O: LinkPair<Load, In = I>, I: LinkIn<Load> + Drop> Member<O, I> {
     /// A packet with all that is known of each origin goes on the link on which the member sends, as `gm` broadcasts
     /// its activity. Refused as `put_refusal` says, and then with `LinkFull` where the link handed the packet back.
     pub fn put(&mut self) -> Result<(), MemberFault>
-        requires { OutIsReady O.ended self.old }
+        requires { OutIsBack self.old }
         ensures heeds { Heeds (put_refused (held_of self.old)) result }
         ensures puts { Puts O.free O.ended O.puts O.looked self.old self.new result }
 
@@ -447,7 +454,7 @@ impl<O: LinkPair<Load, In = I>, I: LinkIn<Load> + Drop> Member<O, I> {
     /// The member stops, and the link on which it sends ends. Refused with `Stopped`, and with `AwaitingAnswer` while a
     /// question of the member's own is open. It wants no memory. As a process of `gm` that goes down.
     pub fn stop(&mut self) -> Result<(), MemberFault>
-        requires { OutIsReady O.ended self.old }
+        requires { OutIsBack self.old }
         ensures heeds { Heeds (active_refused (held_of self.old) None) result }
         ensures acts { Stops O.puts self.old self.new result }
 
@@ -467,14 +474,15 @@ impl<O: LinkPair<Load, In = I>, I: LinkIn<Load> + Drop> Member<O, I> {
         if let Some(reason) = self.activity() {
             return Err(MemberFault::Refused(reason));
         }
-        self.end_out(EndReason::Stopped);
         self.phase = Phase::Stopped;
+        self.end_out(EndReason::Stopped);
         Ok(())
     }
 
-    /// The link on which the member sends ends.
+    /// The link on which a stopped member sends ends.
     fn end_out(&mut self, reason: EndReason)
-        requires { OutIsOpen O.ended self.old }
+        requires stopped { self.old.phase ≡ Phase.Stopped }
+        requires open { OutIsOpen O.ended self.old }
         ensures held { held_of self.new ≡ held_of self.old }
         ensures ends { EndsOn O.puts reason self.old self.new }
     {
@@ -487,7 +495,7 @@ impl<O: LinkPair<Load, In = I>, I: LinkIn<Load> + Drop> Member<O, I> {
     /// Why the member may gain no credit: `Stopped`, `Waiting`, `AwaitingAnswer`; `NoOutLink` where it sends on no
     /// link; `NoGrant` where none has come back that the end of its link knows. It wants no memory.
     pub fn gain_refusal(&mut self) -> Option<Reason>
-        requires { OutIsReady O.ended self.old }
+        requires { OutIsBack self.old }
         ensures held { held_of self.new ≡ held_of self.old }
         ensures looks { LooksOut O.looked self.old self.new }
         ensures kept { StaysReady self.old self.new }
@@ -516,7 +524,7 @@ impl<O: LinkPair<Load, In = I>, I: LinkIn<Load> + Drop> Member<O, I> {
     /// memory.
     pub fn granted(&mut self) -> Option<u32>
         requires runs { self.old.phase ≡ Phase.Up }
-        requires ready { OutIsReady O.ended self.old }
+        requires out { OutIsBack self.old }
         ensures held { held_of self.new ≡ held_of self.old }
         ensures some { IfSome result (λ amount. KeepsGrant O.gains amount self.old self.new) }
         ensures none { IfNone result (LooksOut O.looked self.old self.new × NoGrantBack O.grants self.new) }
@@ -712,7 +720,7 @@ impl<O: LinkPair<Load, In = I>, I: LinkIn<Load> + Drop> Member<O, I> {
     /// the receiving end of a link that has opened.
     pub fn refresh(&mut self, view: View) -> Result<Vec<Request<I>>, (View, MemberFault)>
         requires stands { is_in self.old.id.0 (ids view) ≡ true }
-        requires ready { OutIsReady O.ended self.old }
+        requires out { OutIsBack self.old }
         ensures back { HandsBack (refresh_refused (held_of self.old) view.version) view result }
         ensures reads { Reads O.are_fresh O.free O.ended O.puts (refreshed_held (held_of self.old) view) view
             self.old self.new result }

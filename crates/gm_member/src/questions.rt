@@ -35,7 +35,7 @@ impl<O: LinkPair<Load, In = I>, I: LinkIn<Load> + Drop> Member<O, I> {
     ghost use Rattle.ring_world.specs.Event.{refusal, effect};
     ghost use Rattle.gm_member.specs.Stands.{WhereItStands, Stands, StepsTo, IsMarkedView, with_own_link};
     ghost use Rattle.gm_member.specs.Shown.{When, held_of, ends_of, OutIsReady, LooksBy, MovesTo};
-    ghost use Rattle.gm_member.specs.Shown.{SpareIsReady, SpareIsSound, KeepsSpare, HasRoom, StaysReady};
+    ghost use Rattle.gm_member.specs.Shown.{SpareIsReady, SpareIsSound, KeepsSpare, HasRoom, StaysReady, OutIsBack};
     ghost use Rattle.gm_member.specs.Arrivals.{incoming_of, with_arrived};
     ghost use Rattle.gm_member.specs.Calls.{Heeds, IsFault, Reads, SameSelf, SameLinks, KeepsIns, KeepsOuts};
     ghost use Rattle.gm_member.specs.Questions.{may_bring_view, has_link as has_a_link, asked_for, OfView, OfLinks};
@@ -139,11 +139,12 @@ impl<O: LinkPair<Load, In = I>, I: LinkIn<Load> + Drop> Member<O, I> {
     /// The registrar's answer closes the member's question. A view is read as by `refresh`; links come to the door in
     /// their order where they may yet be taken from, and the ends of the others join those that the member has left;
     /// else nothing more is done. The answer is what is to be asked of the registrar then. Want of memory leaves all
-    /// as it stood, and comes only of a view where no link is ready, and of links for which there is no room.
+    /// as it stood, and comes only of a view where no link is ready, and of links for which there is no room. A view
+    /// in which the member has no entry, with which no registrar answers its member, is handed back likewise. A view
+    /// asks that the end on which the member sends isn't lent.
     pub fn answer(&mut self, answer: Answer<I>) -> Result<Vec<Request<I>>, (Answer<I>, OutOfMemory)>
         requires open { (held_of self.old).asks ≡ true }
-        requires stands { OfView answer (λ v. is_in self.old.id.0 (ids v) ≡ true) }
-        requires ready { OfView answer (λ _. OutIsReady O.ended self.old) }
+        requires out { OfView answer (λ _. OutIsBack self.old) }
         ensures ok { OfView answer (λ _. SpareIsSound O.are_fresh O.free O.ended self.old)
             → OnOk result (held_of self.new ≡ answered_by (held_of self.old) answer) }
         ensures links { OnOk result (OfView answer (λ v. LooksBy v self.old self.new)) }
@@ -158,9 +159,11 @@ impl<O: LinkPair<Load, In = I>, I: LinkIn<Load> + Drop> Member<O, I> {
         ensures err { OnErr result (held_of self.new ≡ held_of self.old) }
         ensures err_ends { OnErr result (ends_of self.new ≡ ends_of self.old) }
         ensures kept { OnErr result (StaysReady self.old self.new) }
-        ensures out { OutIsReady O.ended self.old → OutIsReady O.ended self.new }
+        ensures out { OutIsBack self.old → OutIsReady O.ended self.new }
         ensures back { IfErr result (λ e. e.0 ≡ answer) }
-        ensures spared { OfView answer (λ _. IsSome self.old.spare → IsOk result) }
+        ensures stands { OnOk result (OfView answer (λ v. is_in self.old.id.0 (ids v) ≡ true)) }
+        ensures spared { OfView answer
+            (λ v. is_in self.old.id.0 (ids v) ≡ true → IsSome self.old.spare → IsOk result) }
         ensures roomy { OfLinks answer (λ links. HasRoom (length links) self.old → IsOk result) }
         ensures told_ok { OfWord answer (IsOk result) }
 
@@ -226,10 +229,9 @@ impl<O: LinkPair<Load, In = I>, I: LinkIn<Load> + Drop> Member<O, I> {
         self.prepare()
     }
 
-    /// A view closes the question, and is read.
+    /// A view closes the question, and is read, where the member has an entry in it.
     fn read_answer(&mut self, view: View) -> Result<Vec<Request<I>>, (View, OutOfMemory)>
         requires open { (held_of self.old).asks ≡ true }
-        requires stands { is_in self.old.id.0 (ids view) ≡ true }
         requires ready { OutIsReady O.ended self.old }
         ensures reads { SpareIsSound O.are_fresh O.free O.ended self.old
             → Reads O.are_fresh O.free O.ended O.puts (refreshed_held (answered_held (held_of self.old)) view)
@@ -241,8 +243,12 @@ impl<O: LinkPair<Load, In = I>, I: LinkIn<Load> + Drop> Member<O, I> {
         ensures kept { OnErr result (StaysReady self.old self.new) }
         ensures dropped { OnOk result (self.new.spare ≡ None) }
         ensures back { IfErr result (λ e. e.0 ≡ view) }
-        ensures memory { IsSome self.old.spare → IsOk result }
+        ensures stands { OnOk result (is_in self.old.id.0 (ids view) ≡ true) }
+        ensures memory { is_in self.old.id.0 (ids view) ≡ true → IsSome self.old.spare → IsOk result }
     {
+        if !view.has_entry(self.id) {
+            return Err((view, OutOfMemory));
+        }
         let to = right(&view, self.id);
         if self.sends_to(to) {
             self.close();

@@ -2,6 +2,7 @@
 ghost use Rattle.std.specs.Prelude.{◌≡◌, ◌+◌, ◌-◌, ◌≤◌, ◌<◌, ℕ, true, false, map, length, IfSome, IfNone, IsSome};
 ghost use Rattle.std.specs.Prelude.{List, None, Some, option_map, slice_index_or, slice_set};
 ghost use Rattle.group_view.specs.declared.link.LinkName.{LinkName};
+ghost use Rattle.ring_world.specs.Machine.{runs_phase};
 ghost use Rattle.registrar.specs.Registry.{name_in, end_in};
 ghost use Rattle.gm_member.specs.Shown.{in_name_of, out_name_of, in_end};
 ghost use Rattle.ring_cluster.specs.Ends.{Fits, Meets, InSeen};
@@ -213,13 +214,15 @@ fn meet_member(members: &mut [Party], out: &mut PlainOut<Load>, name: &LinkName)
     meet_node(&mut members[receiver].node, out, name)
 }
 
-/// The out end of a member, where it has one, with the name of its link.
+/// The out end of a member, where it has one, with the name of its link. Of one that runs it hasn't ended.
 fn lend_out(node: &mut Node) -> Option<(LinkName, PlainOut<Load>)>
     ensures none { IfNone result ((shown_of node.old).ends.out ≡ None) }
     ensures still { IfNone result (shown_of node.new ≡ shown_of node.old) }
     ensures named { IfSome result (λ lent. out_name_of (shown_of node.old).held ≡ Some lent.0) }
     ensures there { IfSome result (λ lent. (shown_of node.old).ends.out ≡ Some (out_seen lent.1)) }
     ensures lent { IfSome result (λ _. shown_of node.new ≡ lent_out (shown_of node.old)) }
+    ensures unended { IfSome result (λ lent. runs_phase (shown_of node.old).held.phase ≡ true
+        → (out_seen lent.1).ended ≡ false) }
 {
     let name = node.out_name()?;
     let out = node.lend_out()?;
@@ -230,6 +233,7 @@ fn lend_out(node: &mut Node) -> Option<(LinkName, PlainOut<Load>)>
 fn give_out(node: &mut Node, out: PlainOut<Load>)
     requires lent { (shown_of node.old).ends.out ≡ None }
     requires sends { IsSome (shown_of node.old).held.out }
+    requires unended { runs_phase (shown_of node.old).held.phase ≡ true → (out_seen out).ended ≡ false }
     ensures { shown_of node.new ≡ with_out (shown_of node.old) (out_seen out) }
 {
     node.give_out(out);

@@ -262,6 +262,16 @@ out_away ns ms i x y z r r' back back' name o o' h m =
       ap (λ (a : Shown). a.ends.out) (sym (shown_at ms i z lm)) ∙ k.1 ∙ ap (λ (a : Shown). a.ends.out) is,
     )
 
+-- an end that has met has ended where it had
+pub met_ended : (q q' : Parties) (name : LinkName) (o o' : OutSeen) → MeetsIn q name o q q' o' → o'.ended ≡ o.ended
+met_ended q q' name o o' m = ⊎_elim
+    (λ (a : MeetsAt q name o q q' o'). a.meets.meets.2.ended)
+    (λ (b : MeetsPosted q name o q q' o' ⊎ MeetsNone q name o q q' o'). ⊎_elim
+    (λ (p : MeetsPosted q name o q q' o'). p.meets.meets.2.ended)
+    (λ (n : MeetsNone q name o q q' o'). ap (λ e. e.ended) n.out)
+    b)
+    m
+
 some_out : (h : Held) (o : Option Outgoing) (name : LinkName) → option_map (λ (l : Outgoing). ring_link h.id l.to l.opened) o ≡ Some name → IsSome o
 some_out h None name e = absurd (cc)
 some_out h (Some l) name e = search rules

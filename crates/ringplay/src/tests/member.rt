@@ -6,9 +6,7 @@
 ghost use Rattle.std.specs.Prelude.{◌≡◌, true, IfOk};
 ghost use Rattle.group_view.specs.Ring.{is_in};
 ghost use Rattle.ring_world.specs.View.{ids};
-ghost use Rattle.ordered_link.specs.declared.plain.PlainOut.{PlainOut as Out};
-ghost use Rattle.gm_member.specs.declared.packet.Load.{Load as Loaded};
-ghost use Rattle.gm_member.specs.Shown.{held_of, OutIsReady};
+ghost use Rattle.gm_member.specs.Shown.{held_of, OutIsBack};
 ghost use Rattle.gm_member.specs.Questions.{OfView};
 
 use gm_member::{Ask, Load, Member, MemberFault};
@@ -206,7 +204,7 @@ fn view_of(rt: &impl Abort, alloc: Global, line: &str) -> Result<View, Fail> {
 
 /// A member of that id with this view, over the ends of a pair of its own.
 fn founding(rt: &impl Abort, alloc: Global, id: MemberId, view: View) -> Result<Node, Fail>
-    ensures { IfOk result (λ m. OutIsReady (λ (o : Out Loaded). o.ended) m) }
+    ensures { IfOk result (λ m. OutIsBack m) }
 {
     assert!(rt; id.0 >= 1 && id.0 <= 64 && view.has_entry(id));
     let me = name("me")?;
@@ -216,7 +214,7 @@ fn founding(rt: &impl Abort, alloc: Global, id: MemberId, view: View) -> Result<
 
 /// The member that a line writes. It has the name and the id with which it was founded.
 fn founded(rt: &impl Abort, alloc: Global, line: &str) -> Result<Node, Fail>
-    ensures { IfOk result (λ m. OutIsReady (λ (o : Out Loaded). o.ended) m) }
+    ensures { IfOk result (λ m. OutIsBack m) }
 {
     let (id, members) = line.split_once(" of ").ok_or("no member")?;
     let id = id_of(id)?;
@@ -237,7 +235,7 @@ fn next_view(rt: &impl Abort, node: &Node, dead: &str) -> Result<View, Fail>
 
 /// The member reads the next view.
 fn refresh(rt: &impl Abort, alloc: Global, node: &mut Node, dead: &str) -> Result<String, Fail>
-    requires { OutIsReady (λ (o : Out Loaded). o.ended) node.old }
+    requires { OutIsBack node.old }
 {
     let view = next_view(rt, node, dead)?;
     match node.refresh(view) {
@@ -253,8 +251,7 @@ fn settle(
     what: Ask,
     answer: Answer<PlainIn<Load>>,
 ) -> Result<String, Fail>
-    requires stands { OfView answer (λ v. is_in (held_of node.old).id (ids v) ≡ true) }
-    requires ready { OfView answer (λ _. OutIsReady (λ (o : Out Loaded). o.ended) node.old) }
+    requires { OfView answer (λ _. OutIsBack node.old) }
 {
     node.ask(what)?;
     match node.answer(answer) {
@@ -265,7 +262,7 @@ fn settle(
 
 /// The member asks, and is answered the next view.
 fn be_answered(rt: &impl Abort, alloc: Global, node: &mut Node, line: &str) -> Result<String, Fail>
-    requires { OutIsReady (λ (o : Out Loaded). o.ended) node.old }
+    requires { OutIsBack node.old }
 {
     let (dead, what) = first_word(line);
     let view = next_view(rt, node, dead)?;
@@ -274,7 +271,7 @@ fn be_answered(rt: &impl Abort, alloc: Global, node: &mut Node, line: &str) -> R
 
 /// What is seen of the first line of a member.
 fn begin(rt: &impl Abort, alloc: Global, node: &mut Node, line: &str) -> Result<String, Fail>
-    requires { OutIsReady (λ (o : Out Loaded). o.ended) node.old }
+    requires { OutIsBack node.old }
 {
     match first_word(line) {
         ("gain_refusal", _) => refusal(alloc, node.gain_refusal()),

@@ -1,6 +1,12 @@
-use Rattle.gm_member.specs.Shown.{held_of}
+use Rattle.std.proofs.Common.{subst}
+use Rattle.gm_member.specs.Shown.{held_of, OutIsBack}
+use Rattle.gm_member.specs.Questions.{OfView}
 use Rattle.gm_member.proofs.AnswerLifts.{asks_up, answer_lifts, mark_lifts, of_view}
+use Rattle.gm_member.proofs.Ready.{is_ready}
 use Rattle.gm_member.proofs.member.Member.answer.Goals as goal
+
+pub read_answer-requires-clause-ready : goal.read_answer-requires-clause-ready
+read_answer-requires-clause-ready g c = is_ready c.args.self.now (subst (λ a. OfView a (λ _. OutIsBack c.args.self.now)) c.in-Viewed.is c.requires.out)
 
 pub returns-in-Ok-clause-steps : goal.returns-in-Ok-clause-steps
 returns-in-Ok-clause-steps g c sound =

@@ -9,7 +9,11 @@ use Rattle.gm_member.specs.Shown.{held_of}
 use Rattle.gm_member.proofs.Calls.{up_later, on_ok_both}
 use Rattle.gm_member.proofs.Lifts.{put_steps, steps_lift, refuses_too, put_packet_lifts}
 use Rattle.gm_member.proofs.Refusals.{put_refusal_is}
+use Rattle.gm_member.proofs.Ready.{is_ready}
 use Rattle.gm_member.proofs.member.Member.put.Goals as goal
+
+pub put_next-requires : goal.put_next-requires
+put_next-requires g c = is_ready c.args.self.now c.requires
 
 -- who may put sends on a link, and the packet is the ring's
 put_out_lifts : (h : Held) → put_refused h ≡ None → (o : Outgoing) × (h.out ≡ Some o) × WhereItStands h (λ w x. IsPutPacket w x (parcel_on h.view.version h.rows o))

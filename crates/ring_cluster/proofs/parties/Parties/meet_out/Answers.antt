@@ -1,9 +1,10 @@
-use Rattle.std.proofs.Common.{◌≡◌, None, get_or, set, refl, sym, ap, subst, ◌∙◌}
+use Rattle.std.proofs.Common.{◌≡◌, true, None, get_or, set, refl, sym, ap, subst, ◌∙◌}
+use Rattle.ring_world.specs.Machine.{runs_phase}
 use Rattle.ring_world.proofs.rings.Maps.{mapped_rewrite}
 use Rattle.ring_cluster.specs.Behind.{behind}
 use Rattle.ring_cluster.specs.Parties.{PartiesSeen, tasks_of, out_seen, parties, shown_in, with_out}
 use Rattle.ring_cluster.specs.Meeting.{MayMeetOut, MeetsIn, MeetsOut}
-use Rattle.ring_cluster.proofs.meetings.MeetsOut.{has_lent, out_may, out_away, out_sends, out_met, out_none, still_inside}
+use Rattle.ring_cluster.proofs.meetings.MeetsOut.{has_lent, out_may, out_away, out_sends, met_ended, out_met, out_none, still_inside}
 use Rattle.ring_cluster.proofs.post.Delivered.{inside, tasks_kept}
 use Rattle.ring_cluster.proofs.parties.Parties.meet_out.Goals as goal
 
@@ -29,9 +30,12 @@ give_out-requires c =
     let here = parties (set c.self.inside.members.items c.args.i (record c.index_mut.result.now { node = c.lend_out.new.node })) c.self.inside.registrar (behind c.self.inside.late) in
     let met = subst (λ q. MeetsIn here c.in-Some.name (out_seen c.in-Some.out) here q.all (out_seen c.meet_in.new.out)) (sym c.self-2.view_is) c.meet_in.ensures.meets in
     let away = out_away c.self.inside.members.items c.self-2.inside.members.items c.args.i c.index_mut.result.now (record c.index_mut.result.now { node = c.lend_out.new.node }) c.index_mut-2.result.now c.self.inside.registrar c.self-2.inside.registrar (behind c.self.inside.late) (behind c.self-2.inside.late) c.in-Some.name (out_seen c.in-Some.out) (out_seen c.meet_in.new.out) h met in
+    let same = ap (λ z. (shown_in z).held) c.index_mut-2.ensures.value ∙ away.0 in
     record {
       lent = subst (λ z. (shown_in z).ends.out ≡ None) (sym c.index_mut-2.ensures.value) away.1;
-      sends = out_sends (shown_in (get_or c.self.inside.members.items c.args.i c.index_mut.result.now)).held (shown_in c.index_mut-2.result.now).held c.in-Some.name (ap (λ z. (shown_in z).held) c.index_mut-2.ensures.value ∙ away.0) h.named;
+      sends = out_sends (shown_in (get_or c.self.inside.members.items c.args.i c.index_mut.result.now)).held (shown_in c.index_mut-2.result.now).held c.in-Some.name same h.named;
+      unended = λ runs. met_ended here _ c.in-Some.name (out_seen c.in-Some.out) (out_seen c.meet_in.new.out) met
+          ∙ c.in-Some.ensures.unended (subst (λ k. runs_phase k.phase ≡ true) (same ∙ ap (λ z. (shown_in z).held) (sym c.index_mut.ensures.value)) runs);
     }
 
 pub returns-clause-meets : goal.returns-clause-meets
