@@ -13,6 +13,7 @@ mod known;
 mod links;
 mod member;
 mod news;
+mod numbers;
 mod packet;
 mod questions;
 mod rows;

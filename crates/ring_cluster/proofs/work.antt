@@ -4,4 +4,5 @@ pub mod Given
 pub mod Heard
 pub mod Lawful
 pub mod Phases
+pub mod Publishing
 pub mod Rest

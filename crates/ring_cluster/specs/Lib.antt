@@ -14,6 +14,7 @@ pub mod Meeting
 pub mod Opened
 pub mod Parties
 pub mod Plays
+pub mod Published
 pub mod Refused
 pub mod Rounds
 pub mod Seen

@@ -9,9 +9,10 @@ use crate::node::Node;
 use crate::numbering::Rounds;
 use crate::opening::copied;
 use crate::parties::Parties;
+use crate::published::casts_of;
 use group_view::View;
 use ring_io::Gate;
-use ring_names::{CreditSpec, MemberId, Name, OutOfMemory, Reason};
+use ring_names::{Body, CreditSpec, MemberId, Name, OutOfMemory, Reason};
 use ring_script::Command;
 use ring_world::{Event, Refused};
 use std::alloc::Global;
@@ -59,7 +60,7 @@ impl Cluster {
     ghost use Rattle.ring_script.specs.declared.command.Command.TheVariants as command;
     ghost use Rattle.group_view.specs.Change.{AreOpeningNames};
     ghost use Rattle.ring_world.specs.declared.event.Event.{Event};
-    ghost use Rattle.ring_world.specs.Machine.{view_in, newest, runs};
+    ghost use Rattle.ring_world.specs.Machine.{member_at, row_at, view_in, newest, runs};
     ghost use Rattle.ring_world.specs.Quiet.{IsQuiet};
     ghost use Rattle.ring_world.specs.Event.{refusal, is_plain};
     ghost use Rattle.gm_member.specs.Stands.{held_in};
@@ -68,6 +69,7 @@ impl Cluster {
     ghost use Rattle.ring_cluster.specs.Idle.{NobodyStopped};
     ghost use Rattle.ring_cluster.specs.Holds.{HoldsOf};
     ghost use Rattle.ring_cluster.specs.Parties.{shown_of, node_at};
+    ghost use Rattle.ring_cluster.specs.Published.{logs_in, logs_of};
     ghost use Rattle.ring_cluster.specs.Seen.{Seen, IsGoing, IsEventAt, SameButOwed, MayHandOver, state_of};
     ghost use Rattle.ring_cluster.specs.Seen.{IsStepped, opening_seen, with_event, owing};
     ghost use Rattle.ring_cluster.specs.declared.agenda.Task.{Task};
@@ -457,6 +459,49 @@ impl Cluster {
         self.parties.view()
     }
 
+    /// Up to which number the member of the first id has received the messages of the second; of itself how many it
+    /// has published.
+    pub fn got(&self, id: MemberId, of: MemberId) -> u64
+        requires within { (1 ≤ id.0) × (id.0 ≤ length (self.now).names) }
+        requires origin { (1 ≤ of.0) × (of.0 ≤ length (self.now).names) }
+        ensures { result ≡ (row_at (member_at (state_of self.now) id.0) of.0).got }
+    {
+        self.is_going();
+        let Some(member) = self.member(id) else {
+            unreachable!()
+        };
+        member.got(of)
+    }
+
+    /// Up to which number the messages of a member have come round to it, so that every member has them.
+    pub fn confirmed(&self, id: MemberId) -> u64
+        requires { (1 ≤ id.0) × (id.0 ≤ length (self.now).names) }
+        ensures { result ≡ (row_at (member_at (state_of self.now) id.0) id.0).forgot }
+    {
+        self.is_going();
+        let Some(member) = self.member(id) else {
+            unreachable!()
+        };
+        member.confirmed()
+    }
+
+    /// All that has happened, in order.
+    pub fn events(&self) -> &[Event]
+        ensures { result.now ≡ (self.now).events }
+    {
+        &self.journal
+    }
+
+    /// Of each member, by places, the bodies of its messages in order. They are lent from the journal, which is read
+    /// once.
+    pub fn published(&self) -> Result<Vec<Vec<&Body>>, OutOfMemory>
+        ensures { IfOk result (λ all. logs_in all.items ≡ logs_of (state_of self.now)) }
+    {
+        self.is_going();
+        let all = casts_of(self.alloc, &self.names, self.events())?;
+        Ok(all)
+    }
+
     /// A copy of the journal: all that has happened, in order.
     pub fn journal(&self) -> Result<Vec<Event>, OutOfMemory>
         ensures { IfOk result (λ events. events.items ≡ (self.now).events) }
@@ -503,7 +548,7 @@ fn task_of(names: &[Name], command: &Command) -> Result<(usize, Task), OutOfMemo
 }
 
 /// The place of a name.
-fn the_place_among(names: &[Name], name: &Name) -> Option<usize>
+pub(crate) fn the_place_among(names: &[Name], name: &Name) -> Option<usize>
     ensures place { result ≡ the_place names.now name.now }
     ensures within { IfSome result (λ place. place < length names.now) }
 {

@@ -17,6 +17,7 @@ mod numbering;
 mod opening;
 mod parties;
 mod party;
+mod published;
 mod refusing;
 mod stepping;
 mod undelivered;

@@ -18,3 +18,4 @@ pub mod NeverFalls
 pub mod NoGap
 pub mod OpenExamples
 pub mod OwnLogs
+pub mod Published

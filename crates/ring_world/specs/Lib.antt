@@ -7,6 +7,7 @@ pub mod Machine
 pub mod NoGap
 pub mod OpenLinks
 pub mod Placed
+pub mod Published
 pub mod Quiet
 pub mod Reached
 pub mod Refusal

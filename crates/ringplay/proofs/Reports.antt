@@ -1,17 +1,24 @@
--- What members that stand in a state show of it.
-use Rattle.std.proofs.lemmas.List.{flat_map_more, take_all, map-id}
-use Rattle.std.proofs.lemmas.List.FromFn.{map-range_with_len_more}
+-- What members that stand in a state, and what they have published, show of it.
+use Rattle.std.proofs.lemmas.List.{flat_map_more, map-id, take-map, length-map, length-take-le}
+use Rattle.std.proofs.lemmas.List.FromFn.{map-range_with_len_more, length-map-range_with_len, get_or-map-range_with_len}
 use Rattle.std.specs.List.{flat_map, range_with_len}
-use Rattle.std.proofs.Common.{◌≡◌, ℕ, ◌+◌, ◌-◌, ◌<◌, ◌≤◌, List, [], ◌∷◌, ◌++◌, length, ap, sym, ◌∙◌, arith, append_assoc}
-use Rattle.ring_world.specs.Shown.{counts_in}
+use Rattle.std.proofs.Common.{◌≡◌, ℕ, ◌+◌, ◌-◌, ◌<◌, ◌≤◌, List, [], ◌∷◌, ◌++◌, length, take, get_or, refl, ap, sym, ◌∙◌, arith, append_assoc, Bor}
+use Rattle.std.specs.Prelude.{count_by, cond}
+use Rattle.std.specs.declared.vec.Vec.{Vec}
+use Rattle.std.specs.declared.alloc.Global.{Global}
+use Rattle.std.proofs.lemmas.List.Recursion.{is_count_by}
+use Rattle.ring_names.specs.declared.message.Message.{Message}
+use Rattle.ring_names.specs.declared.message.Message.TheVariants.{Cast}
+use Rattle.ring_world.specs.declared.shown.Counts.{Counts}
+use Rattle.ring_world.specs.Shown.{is_cast, is_publish, counts_in}
 use Rattle.group_view.specs.View.{Group, entry_in}
 use Rattle.ring_world.specs.Machine.{World, row_at, member_at}
 use Rattle.ring_world.specs.Step.{size, log_of}
 use Rattle.ring_world.specs.Asked.{counts_of}
-use Rattle.gm_member.specs.Held.{Held, known_at}
+use Rattle.gm_member.specs.Held.{Held}
 use Rattle.gm_member.proofs.Fit.{IsFit}
-use Rattle.gm_member.proofs.Facts.{held_row}
-use Rattle.ring_cluster.proofs.rounds.Holding.{IsHeld}
+use Rattle.ring_cluster.specs.Holds.{HoldsOf}
+use Rattle.ring_cluster.specs.Published.{casts_with, logs_in, logs_of}
 use Rattle.ringplay.specs.Report.{name_of, newest_view, member_line, counts_lines, heard_line, heard_from, heard_lines, while_up, lines_of_member}
 
 -- the numbers from a on, and the next one
@@ -26,43 +33,67 @@ ids_more f before n = flat_map_more f before (range_with_len 1 n) (n + 1) ∙ ap
 pub joined : {A : Type 0} (old a b c first second third : List A) → first ≡ old ++ a → second ≡ first ++ b → third ≡ second ++ c → third ≡ old ++ (a ++ b ++ c)
 joined old a b c first second third e f g = simp append_assoc (g ∙ ap (λ xs. xs ++ c) f ∙ ap (λ xs. (xs ++ b) ++ c) e ∙ simp append_assoc)
 
--- what is held of an origin
-row_stands : (w : World) (x p : ℕ) (h : Held) → size w ≤ 65 → 1 ≤ p → p < size w → IsHeld w x h → known_at h.rows (p - 1) ≡ row_at (member_at w x) p
-row_stands w x p h few some lt e =
-    let back : p - 1 + 1 ≡ p = omega arith in
-    ap (λ k. known_at k.rows (p - 1)) e ∙ held_row w x (p - 1) (omega arith) ∙ ap (row_at (member_at w x)) back
+-- ---- what was published
 
--- the counts of a member that stands at the id x are those that the ring has of it: it has all its own messages
-counts_stand : (w : World) (x : ℕ) (h : Held) → IsFit w → 1 ≤ x → x < size w → IsHeld w x h
-    → counts_in (known_at h.rows (h.id - 1)).forgot (known_at h.rows (h.id - 1)).heard ≡ counts_of x (member_at w x)
-counts_stand w x h f some lt e =
-    let row : known_at h.rows (h.id - 1) ≡ row_at (member_at w x) x = ap (λ g. known_at h.rows (g.id - 1)) e ∙ row_stands w x x h f.few some lt e in
-    let whole : length (log_of w x) ≤ (row_at (member_at w x) x).got = omega (arith, f.own x) in
-    ap (λ r. counts_in r.forgot r.heard) row
-    ∙ ap (counts_in (row_at (member_at w x) x).forgot) (f.heard x x ∙ take_all (row_at (member_at w x) x).got (log_of w x) whole)
+-- the log of the member at a place
+pub log_at_place : (w : World) (logs : List (List Message)) (i : ℕ) → logs ≡ logs_of w → i + 1 < size w → get_or logs i [] ≡ log_of w (i + 1)
+log_at_place w logs i e lt =
+    ap (λ ls. get_or ls i []) e ∙ get_or-map-range_with_len (log_of w) 1 (size w - 1) i (i + 1) [] (omega arith) (omega arith)
+
+-- as many as there are members
+pub logs_many : (w : World) (all : List (Vec (Bor (List ℕ)) Global)) → logs_in all ≡ logs_of w → length all ≡ size w - 1
+logs_many w all e = sym (length-map all (λ (v : Vec (Bor (List ℕ)) Global). casts_with v.items)) ∙ ap length e ∙ length-map-range_with_len (log_of w) 1 (size w - 1)
+
+-- each message is a cast
+cast_each : (m : Message) (ms : List Message) → length (m ∷ ms) ≡ cond (is_cast m) (1 + length ms) (length ms)
+cast_each (Cast body) ms = omega arith
+
+all_casts : (ms : List Message) → count_by is_cast ms ≡ length ms
+all_casts ms = sym (is_count_by length is_cast refl cast_each ms)
+
+publish_each : (m : Message) (ms : List Message) → 0 ≡ cond (is_publish m) (1 + 0) 0
+publish_each (Cast body) ms = refl
+
+no_publishes : (ms : List Message) → count_by is_publish ms ≡ 0
+no_publishes ms = sym (is_count_by (λ _. 0) is_publish refl publish_each ms)
+
+-- of n messages published, as many are confirmed as have come round
+pub counts_tell : (w : World) (x n forgot : ℕ) (bodies : List (Bor (List ℕ))) → IsFit w → casts_with bodies ≡ log_of w x → n ≡ length bodies → forgot ≡ (row_at (member_at w x) x).forgot
+    → record { casts = n; casts_confirmed = forgot; publishes = 0; publishes_confirmed = 0 } ≡ counts_of x (member_at w x)
+counts_tell w x n forgot bodies f log many come =
+    let own = log_of w x in
+    let front = take forgot own in
+    let length_is : length own ≡ n = ap length (sym log) ∙ length-map bodies (λ (b : Bor (List ℕ)). Cast b.now) ∙ sym many in
+    let within : forgot ≤ length own = omega (arith, (f.lawful.within.rows x x).forgot) in
+    ap (λ k. record { casts = k; casts_confirmed = forgot; publishes = 0; publishes_confirmed = 0 }) (sym (all_casts own ∙ length_is))
+    ∙ ap (λ k. record { casts = count_by is_cast own; casts_confirmed = k; publishes = 0; publishes_confirmed = 0 }) (sym (all_casts front ∙ length-take-le forgot own within))
+    ∙ ap (λ k. record { casts = count_by is_cast own; casts_confirmed = count_by is_cast front; publishes = k; publishes_confirmed = 0 }) (sym (no_publishes own))
+    ∙ ap (λ k. record { casts = count_by is_cast own; casts_confirmed = count_by is_cast front; publishes = count_by is_publish own; publishes_confirmed = k }) (sym (no_publishes front))
+    ∙ ap (λ k. counts_in k own) come
+
+-- what was received of the origin p is the front of its log
+pub heard_tells : (w : World) (x p got : ℕ) (name : List ℕ) (bodies : List (Bor (List ℕ))) → IsFit w → name ≡ name_of w p → casts_with bodies ≡ log_of w p → got ≡ (row_at (member_at w x) p).got
+    → flat_map (heard_line name) (casts_with (take got bodies)) ≡ heard_from w x p
+heard_tells w x p got name bodies f named log all =
+    ap (λ n. flat_map (heard_line n) (casts_with (take got bodies))) named
+    ∙ ap (flat_map (heard_line (name_of w p)))
+    (sym (take-map (λ (b : Bor (List ℕ)). Cast b.now) got bodies) ∙ ap (take got) log ∙ ap (λ k. take k (log_of w p)) all ∙ sym (f.heard x p))
+
+-- ---- one member
 
 -- what is pushed for a member that stands at the id x is what the report says of it
-pub lines_stand : (w : World) (x : ℕ) (h : Held) (g : Group) (old named counted heard : List ℕ) → IsFit w → 1 ≤ x → x < size w → IsHeld w x h → g ≡ newest_view w
+pub lines_stand : (w : World) (x : ℕ) (h : Held) (g : Group) (counts : Counts) (old named counted heard : List ℕ) → HoldsOf w x h → g ≡ newest_view w
     → named ≡ old ++ member_line h.name h.phase (entry_in g.entries h.id)
-    → counted ≡ named ++ counts_lines (counts_in (known_at h.rows (h.id - 1)).forgot (known_at h.rows (h.id - 1)).heard)
+    → counts ≡ counts_of x (member_at w x)
+    → counted ≡ named ++ counts_lines counts
     → heard ≡ counted ++ while_up h.phase (heard_lines w h.id)
     → heard ≡ old ++ lines_of_member w x
-lines_stand w x h g old named counted heard f some lt e v a b c =
+lines_stand w x h g counts old named counted heard holds v a n b c =
     let line = member_line (name_of w x) (member_at w x).phase (entry_in (newest_view w).entries x) in
     let a' : named ≡ old ++ line =
-    a ∙ ap (λ k. old ++ member_line k.name k.phase (entry_in g.entries k.id)) e ∙ ap (λ u. old ++ member_line (name_of w x) (member_at w x).phase (entry_in u.entries x)) v in
-    let b' : counted ≡ named ++ counts_lines (counts_of x (member_at w x)) = b ∙ ap (λ k. named ++ counts_lines k) (counts_stand w x h f some lt e) in
-    joined old line (counts_lines (counts_of x (member_at w x))) (while_up (member_at w x).phase (heard_lines w x)) named counted heard a' b'
-    (c ∙ ap (λ k. counted ++ while_up k.phase (heard_lines w k.id)) e)
-
--- what is pushed for members h and o that stand at the ids x and p is what the report says that x has heard of p
-heard_stands : (w : World) (x p : ℕ) (h o : Held) → size w ≤ 65 → 1 ≤ p → p < size w → IsHeld w x h → IsHeld w p o
-    → flat_map (heard_line o.name) (known_at h.rows (o.id - 1)).heard ≡ heard_from w x p
-heard_stands w x p h o few some lt e f =
-    ap (λ g. flat_map (heard_line g.name) (known_at h.rows (g.id - 1)).heard) f ∙ ap (λ r. flat_map (heard_line (name_of w p)) r.heard) (row_stands w x p h few some lt e)
-
-pub heard_more : (w : World) (x p : ℕ) (h o : Held) (old before after : List ℕ) → size w ≤ 65 → p + 1 < size w → IsHeld w x h → IsHeld w (p + 1) o
-    → before ≡ old ++ flat_map (heard_from w x) (range_with_len 1 p) → after ≡ before ++ flat_map (heard_line o.name) (known_at h.rows (o.id - 1)).heard
-    → after ≡ old ++ flat_map (heard_from w x) (range_with_len 1 (p + 1))
-heard_more w x p h o old before after few lt e f b a =
-    a ∙ ap (λ xs. before ++ xs) (heard_stands w x (p + 1) h o few (omega arith) lt e f) ∙ ap (λ xs. xs ++ heard_from w x (p + 1)) b ∙ ids_more (heard_from w x) old p
+    a ∙ ap (λ m. old ++ member_line m h.phase (entry_in g.entries h.id)) holds.name ∙ ap (λ f. old ++ member_line (name_of w x) f (entry_in g.entries h.id)) holds.phase
+    ∙ ap (λ i. old ++ member_line (name_of w x) (member_at w x).phase (entry_in g.entries i)) holds.id
+    ∙ ap (λ u. old ++ member_line (name_of w x) (member_at w x).phase (entry_in u.entries x)) v in
+    joined old line (counts_lines (counts_of x (member_at w x))) (while_up (member_at w x).phase (heard_lines w x)) named counted heard a'
+    (b ∙ ap (λ k. named ++ counts_lines k) n)
+    (c ∙ ap (λ f. counted ++ while_up f (heard_lines w h.id)) holds.phase ∙ ap (λ i. counted ++ while_up (member_at w x).phase (heard_lines w i)) holds.id)

@@ -1,23 +1,24 @@
 //! The report: the ring, and of each member what it has published and what it has received.
-ghost use Rattle.std.specs.Prelude.{◌≡◌, ℕ, ◌+◌, ◌-◌, ◌<◌, ◌≤◌, ◌++◌, IfOk, OnOk, MatchOption, codes, count_by};
-ghost use Rattle.std.specs.Prelude.{length, nat_eq, take};
+ghost use Rattle.std.specs.Prelude.{◌≡◌, ℕ, ◌+◌, ◌<◌, ◌≤◌, ◌++◌, [], IfOk, OnOk, MatchOption, codes};
+ghost use Rattle.std.specs.Prelude.{length, nat_eq, take, slice_index_or};
 ghost use Rattle.std.specs.Fmt.{decimal};
 ghost use Rattle.std.specs.List.{flat_map};
+ghost use Rattle.ring_names.specs.declared.message.Message.TheVariants as message;
 ghost use Rattle.group_view.specs.View.{entry_in, no_entry};
 ghost use Rattle.ring_world.specs.Rows.{most_members};
-ghost use Rattle.ring_world.specs.Shown.{is_cast as is_cast_message, is_publish as is_publish_message, counts_in};
-ghost use Rattle.ring_world.specs.Step.{size};
-ghost use Rattle.gm_member.specs.Held.{known_at};
+ghost use Rattle.ring_world.specs.Machine.{member_at as at_id};
+ghost use Rattle.ring_world.specs.Asked.{counts_of};
 ghost use Rattle.gm_member.specs.Shown.{held_of};
-ghost use Rattle.gm_member.specs.Stands.{held_in};
 ghost use Rattle.ring_cluster.specs.Seen.{state_of};
+ghost use Rattle.ring_cluster.specs.Holds.{HoldsOf};
+ghost use Rattle.ring_cluster.specs.Published.{casts_with, logs_in, logs_of};
 ghost use Rattle.ringplay.specs.Report.{report_of, newline, ring_line, master_name, state_text as the_state_text};
 ghost use Rattle.ringplay.specs.Report.{up_text as the_up_text, stopped_text as the_stopped_text, member_line};
-ghost use Rattle.ringplay.specs.Report.{counts_lines, heard_line, heard_lines, while_up, lines_of_member};
+ghost use Rattle.ringplay.specs.Report.{counts_lines, heard_line, heard_from, heard_lines, while_up, lines_of_member};
 
 use group_view::{Entry, Mark, View};
 use ring_cluster::{Cluster, Node};
-use ring_names::{MemberId, Message, Name, OutOfMemory};
+use ring_names::{Body, MemberId, Name, OutOfMemory};
 use ring_world::{Counts, Phase};
 use std::alloc::Global;
 
@@ -56,9 +57,10 @@ pub(crate) fn push_report(
 {
     cluster.is_going();
     let count = names.len();
+    let published = cluster.published()?;
     push_ring(alloc, out, cluster.view())?;
     for place in 0..count {
-        push_member(alloc, out, cluster, count, place)?;
+        push_member(alloc, out, cluster, &published, place)?;
     }
     Ok(())
 }
@@ -66,15 +68,23 @@ pub(crate) fn push_report(
 /// The member at a place, whose id is one more. The last state of the journal has as many as the ring opened with.
 fn member_at(cluster: &Cluster, place: usize) -> &Node
     requires { place < length (cluster.now).names }
-    ensures stands { held_of result.now
-        ≡ record (held_in (state_of cluster.now) (place + 1)) { door = (held_of result.now).door } }
+    ensures holds { HoldsOf (state_of cluster.now) (place + 1) (held_of result.now) }
     ensures few { length (cluster.now).names ≤ most_members }
 {
     cluster.is_going();
-    let Some(member) = cluster.member(MemberId(place as u32 + 1)) else {
+    let Some(member) = cluster.member(id_at(cluster, place)) else {
         unreachable!()
     };
     member
+}
+
+/// The id of the member at a place.
+fn id_at(cluster: &Cluster, place: usize) -> MemberId
+    requires { place < length (cluster.now).names }
+    ensures { result.0 ≡ place + 1 }
+{
+    cluster.is_going();
+    MemberId(place as u32 + 1)
 }
 
 fn has_id(entry: &Entry, id: MemberId) -> bool
@@ -145,23 +155,23 @@ fn push_ring(alloc: Global, out: &mut Vec<u8>, view: &View) -> Result<(), OutOfM
     Ok(())
 }
 
-/// What the report says of the member at a place of a ring of so many.
+/// What the report says of the member at a place, where these are the bodies that each has published.
 fn push_member(
     alloc: Global,
     out: &mut Vec<u8>,
     cluster: &Cluster,
-    count: usize,
+    published: &[Vec<&Body>],
     place: usize,
 ) -> Result<(), OutOfMemory>
-    requires count { count ≡ length (cluster.now).names }
-    requires within { place < count }
+    requires within { place < length (cluster.now).names }
+    requires logs { logs_in published.now ≡ logs_of (state_of cluster.now) }
     ensures { OnOk result (out.new.items ≡ out.old.items ++ lines_of_member (state_of cluster.now) (place + 1)) }
 {
     cluster.is_going();
     let member = member_at(cluster, place);
     push_state(out, member, cluster.view())?;
-    push_counts(alloc, out, &counts(member))?;
-    push_heard(out, cluster, count, member)?;
+    push_counts(alloc, out, &counts(cluster, published, place))?;
+    push_heard(out, cluster, published, member)?;
     Ok(())
 }
 
@@ -208,61 +218,29 @@ fn stopped_text(mark: Mark) -> &'static [u8]
     }
 }
 
-fn is_cast(message: &Message) -> bool
-    ensures { result ≡ is_cast_message message.now }
+/// What the member at a place has published. Those of its messages that have come round to it are confirmed.
+fn counts(cluster: &Cluster, published: &[Vec<&Body>], place: usize) -> Counts
+    requires within { place < length (cluster.now).names }
+    requires logs { logs_in published.now ≡ logs_of (state_of cluster.now) }
+    ensures { result ≡ counts_of (place + 1) (at_id (state_of cluster.now) (place + 1)) }
 {
-    match message {
-        Message::Cast(_) => true,
-    }
-}
-
-fn is_publish(message: &Message) -> bool
-    ensures { result ≡ is_publish_message message.now }
-{
-    match message {
-        Message::Cast(_) => false,
-    }
-}
-
-fn casts(messages: &[Message]) -> u64
-    ensures { result ≡ count_by is_cast_message messages.now }
-{
-    messages.iter().filter(|message| is_cast(message)).count() as u64
-}
-
-fn publishes(messages: &[Message]) -> u64
-    ensures { result ≡ count_by is_publish_message messages.now }
-{
-    messages
-        .iter()
-        .filter(|message| is_publish(message))
-        .count() as u64
-}
-
-/// The first messages, or all where there are fewer.
-fn first_of(messages: &[Message], many: u64) -> &[Message]
-    ensures { result.now ≡ take many messages.now }
-{
-    match messages.get(..many as usize) {
-        Some(first) => first,
-        None => messages,
-    }
-}
-
-/// What a member has published. Those of its messages that have come round to it are confirmed.
-fn counts(member: &Node) -> Counts
-    requires { 1 ≤ (held_of member.now).id }
-    ensures { result ≡ counts_in (known_at (held_of member.now).rows ((held_of member.now).id - 1)).forgot
-        (known_at (held_of member.now).rows ((held_of member.now).id - 1)).heard }
-{
-    let own = member.heard(member.id());
-    let confirmed = first_of(own, member.confirmed());
+    cluster.is_going();
+    let id = id_at(cluster, place);
+    let casts = bodies_at(published, place).len() as u64;
     Counts {
-        casts: casts(own),
-        casts_confirmed: casts(confirmed),
-        publishes: publishes(own),
-        publishes_confirmed: publishes(confirmed),
+        casts,
+        casts_confirmed: cluster.confirmed(id),
+        publishes: 0,
+        publishes_confirmed: 0,
     }
+}
+
+/// The bodies that the member at a place has published.
+fn bodies_at<'a, 'b>(published: &'a [Vec<&'b Body>], place: usize) -> &'a [&'b Body]
+    requires { place < length published.now }
+    ensures { casts_with result.now ≡ slice_index_or (logs_in published.now) place [] }
+{
+    &published[place]
 }
 
 fn push_counts(alloc: Global, out: &mut Vec<u8>, counts: &Counts) -> Result<(), OutOfMemory>
@@ -298,12 +276,11 @@ fn push_count(
 fn push_heard(
     out: &mut Vec<u8>,
     cluster: &Cluster,
-    count: usize,
+    published: &[Vec<&Body>],
     member: &Node,
 ) -> Result<(), OutOfMemory>
-    requires count { count ≡ length (cluster.now).names }
-    requires stands { held_of member.now
-        ≡ record (held_in (state_of cluster.now) (held_of member.now).id) { door = (held_of member.now).door } }
+    requires member { (1 ≤ (held_of member.now).id) × ((held_of member.now).id ≤ length (cluster.now).names) }
+    requires logs { logs_in published.now ≡ logs_of (state_of cluster.now) }
     ensures { OnOk result (out.new.items ≡ out.old.items
         ++ while_up (held_of member.now).phase (heard_lines (state_of cluster.now) (held_of member.now).id)) }
 {
@@ -312,41 +289,62 @@ fn push_heard(
         Phase::Up => {}
         Phase::Waiting | Phase::Stopped => return Ok(()),
     }
-    for origin in 0..count {
-        push_heard_of(out, member, member_at(cluster, origin))?;
+    for origin in 0..published.len() {
+        push_heard_of(out, cluster, published, member.id(), origin)?;
     }
     Ok(())
 }
 
-fn push_heard_of(out: &mut Vec<u8>, member: &Node, origin: &Node) -> Result<(), OutOfMemory>
-    requires { 1 ≤ (held_of origin.now).id }
+/// What the member of an id has received of the one at a place.
+fn push_heard_of(
+    out: &mut Vec<u8>,
+    cluster: &Cluster,
+    published: &[Vec<&Body>],
+    id: MemberId,
+    place: usize,
+) -> Result<(), OutOfMemory>
+    requires member { (1 ≤ id.0) × (id.0 ≤ length (cluster.now).names) }
+    requires origin { place < length (cluster.now).names }
+    requires logs { logs_in published.now ≡ logs_of (state_of cluster.now) }
     ensures { OnOk result (out.new.items ≡ out.old.items
-        ++ flat_map (heard_line (held_of origin.now).name)
-        (known_at (held_of member.now).rows ((held_of origin.now).id - 1)).heard) }
+        ++ heard_from (state_of cluster.now) id.0 (place + 1)) }
 {
-    push_messages(out, origin.name().bytes(), member.heard(origin.id()))
+    cluster.is_going();
+    let origin = member_at(cluster, place);
+    let got = cluster.got(id, origin.id());
+    let bodies = first_of(bodies_at(published, place), got);
+    push_casts(out, origin.name().bytes(), bodies)?;
+    Ok(())
 }
 
-fn push_messages(out: &mut Vec<u8>, origin: &[u8], messages: &[Message]) -> Result<(), OutOfMemory>
-    ensures { OnOk result (out.new.items ≡ out.old.items ++ flat_map (heard_line origin.now) messages.now) }
+/// The first bodies, or all where there are fewer.
+fn first_of<'a, 'b>(bodies: &'a [&'b Body], many: u64) -> &'a [&'b Body]
+    ensures { result.now ≡ take many bodies.now }
 {
-    for message in messages {
-        push_message(out, origin, message)?;
+    let many = many as usize;
+    if bodies.len() <= many {
+        return bodies;
+    }
+    &bodies[..many]
+}
+
+fn push_casts(out: &mut Vec<u8>, origin: &[u8], bodies: &[&Body]) -> Result<(), OutOfMemory>
+    ensures { OnOk result (out.new.items ≡ out.old.items
+        ++ flat_map (heard_line origin.now) (casts_with bodies.now)) }
+{
+    for body in bodies {
+        push_cast(out, origin, body)?;
     }
     Ok(())
 }
 
-fn push_message(out: &mut Vec<u8>, origin: &[u8], message: &Message) -> Result<(), OutOfMemory>
-    ensures { OnOk result (out.new.items ≡ out.old.items ++ heard_line origin.now message.now) }
+fn push_cast(out: &mut Vec<u8>, origin: &[u8], body: &Body) -> Result<(), OutOfMemory>
+    ensures { OnOk result (out.new.items ≡ out.old.items ++ heard_line origin.now (message.Cast body.now)) }
 {
-    match message {
-        Message::Cast(body) => {
-            out.extend_from_slice(b"heard ")?;
-            out.extend_from_slice(origin)?;
-            out.extend_from_slice(b" ")?;
-            out.extend_from_slice(body.bytes())?;
-            out.extend_from_slice(b"\n")?;
-            Ok(())
-        }
-    }
+    out.extend_from_slice(b"heard ")?;
+    out.extend_from_slice(origin)?;
+    out.extend_from_slice(b" ")?;
+    out.extend_from_slice(body.bytes())?;
+    out.extend_from_slice(b"\n")?;
+    Ok(())
 }

@@ -1,0 +1,19 @@
+use Rattle.std.proofs.Common.{◌∷◌, ◌++◌, [], length, map, take, sym, ap, ◌∙◌}
+use Rattle.std.proofs.lemmas.List.{take_more, length-map}
+use Rattle.ring_world.specs.Published.{published_in}
+use Rattle.ring_cluster.specs.Published.{casts_with}
+use Rattle.ring_cluster.proofs.published.casts_of.Goals as goal
+
+pub push_cast-requires-clause-many : goal.push_cast-requires-clause-many
+push_cast-requires-clause-many c =
+    sym (length-map c.loop-event.all.items (λ v. casts_with v.items))
+    ∙ ap length c.loop-event.invariant
+    ∙ length-map c.args.names.now (λ name. published_in name (take c.loop-event.event-index c.args.events.now))
+
+pub loop-event-preserved : goal.loop-event-preserved
+loop-event-preserved c =
+    let k = c.loop-event.event-index in
+    let events = c.args.events.now in
+    c.in_ok-push_cast.ensures (take k events) c.loop-event.invariant
+    ∙ ap (λ es. map (λ name. published_in name es) c.args.names.now)
+    (ap (λ e. take k events ++ e ∷ []) c.event-item.is ∙ sym (take_more events k c.event-item.result c.loop-event-test.true))

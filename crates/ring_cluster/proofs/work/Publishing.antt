@@ -1,0 +1,128 @@
+-- What the events of a journal publish of each name, and that this is what the logs are.
+use Rattle.std.proofs.Common.{◌≡◌, ◌≢◌, ℕ, zero, suc, ◌+◌, ◌<◌, ◌≤◌, Bool, true, false, cond, not, nat_lt, List, [], ◌∷◌, ◌++◌, length, map, set, get_or, bytes_eq, Some, None, if◌then◌else◌, refl, sym, ap, ◌∙◌, ◌-◌, arith}
+use Rattle.std.specs.List.{position, prefix_len}
+use Rattle.std.proofs.lemmas.Bool.Decides.{nat_tests}
+use Rattle.std.proofs.lemmas.List.{append-nil, flat_map_more, same_lists, length-map, get_or-map}
+use Rattle.std.proofs.lemmas.List.FromFn.{length-map-range_with_len, get_or-map-range_with_len}
+use Rattle.std.proofs.lemmas.List.Quantifiers.{position-Some}
+use Rattle.ring_names.specs.declared.message.Message.{Message}
+use Rattle.ring_names.specs.declared.message.Message.TheVariants as message
+use Rattle.group_view.specs.Change.{AreDifferent}
+use Rattle.ring_world.specs.declared.event.Event.{Event}
+use Rattle.ring_world.specs.declared.event.Event.TheVariants.{Cast}
+use Rattle.ring_world.specs.Published.{published_by, published_in}
+use Rattle.ring_world.specs.Machine.{World}
+use Rattle.ring_world.specs.Step.{size, log_of, opening}
+use Rattle.ring_world.proofs.events.Names.{same_bytes, own_bytes}
+use Rattle.ring_world.proofs.runs.Published.{run_publishes}
+use Rattle.gm_member.proofs.Names.{NamesAre, reached_names}
+use Rattle.ring_cluster.specs.Seen.{Seen, IsGoing, state_of}
+use Rattle.ring_cluster.specs.Published.{logs_of}
+use Rattle.ring_cluster.proofs.rounds.Named.{names_many, name_in, going_many}
+
+-- ---- lists alone
+
+-- what is the same of each
+same_each : {X Y : Type 0} (f g : X → Y) (xs : List X) (d : X) → ((j : ℕ) → j < length xs → g (get_or xs j d) ≡ f (get_or xs j d)) → map f xs ≡ map g xs
+same_each f g [] d h = refl
+same_each f g (x ∷ xs) d h =
+    ap (λ y. y ∷ map f xs) (sym (h zero (omega arith))) ∙ ap (λ ys. g x ∷ ys) (same_each f g xs d (λ j l. h (suc j) (omega arith)))
+
+-- and what is more of one
+more_at : {X A : Type 0} (f g : X → List A) (more : List A) (xs : List X) (i : ℕ) (d : X) → i < length xs → g (get_or xs i d) ≡ f (get_or xs i d) ++ more
+    → ((j : ℕ) → j < length xs → j ≢ i → g (get_or xs j d) ≡ f (get_or xs j d)) → set (map f xs) i (get_or (map f xs) i [] ++ more) ≡ map g xs
+more_at f g more [] i d lt here others = absurd (omega arith)
+more_at f g more (x ∷ xs) zero d lt here others =
+    ap (λ y. y ∷ map f xs) (sym here) ∙ ap (λ ys. g x ∷ ys) (same_each f g xs d (λ j l. others (suc j) (omega arith) (λ e. absurd (omega arith))))
+more_at f g more (x ∷ xs) (suc i) d lt here others =
+    ap (λ y. y ∷ set (map f xs) i (get_or (map f xs) i [] ++ more)) (sym (others zero (omega arith) (λ e. absurd (omega arith))))
+    ∙ ap (λ ys. g x ∷ ys) (more_at f g more xs i d (omega arith) here (λ j l ne. others (suc j) (omega arith) (λ e. ne (omega arith))))
+
+-- who isn't found stands nowhere
+prefix_at_most : {X : Type 0} (p : X → Bool) (xs : List X) (k : ℕ) (d : X) → k < length xs → p (get_or xs k d) ≡ false → prefix_len p xs ≤ k
+prefix_at_most p [] k d l e = absurd (omega arith)
+prefix_at_most p (x ∷ xs) zero d l e = rw e (omega arith)
+prefix_at_most p (x ∷ xs) (suc k) d l e =
+    (elim (p x) as (λ b. cond b (1 + prefix_len p xs) 0 ≤ suc k) [ true ↦ omega (arith, prefix_at_most p xs k d (omega arith) e) | false ↦ omega arith ])
+
+none_below : (a n : ℕ) (b : Bool) → nat_lt a n ≡ b → a < n → cond b (Some a) None ≡ None → ⊥
+none_below a n true e l h = cc
+none_below a n false e l h = absurd (grind (arith, nat_tests))
+
+stands_nowhere : {X : Type 0} (p : X → Bool) (xs : List X) (k : ℕ) (d : X) → position p xs ≡ None → k < length xs → p (get_or xs k d) ≡ true → ⊥
+stands_nowhere p xs k d none l e =
+    let most : prefix_len (λ x. not (p x)) xs ≤ k = prefix_at_most (λ x. not (p x)) xs k d l (ap not e) in
+    none_below (prefix_len (λ x. not (p x)) xs) (length xs) _ refl (omega arith) none
+
+-- ---- one event more
+
+module _ (names : List (List ℕ)) (before : List Event) (e : Event) where
+  -- what is published of a name
+  abbrev then_published : List ℕ → List Message
+  then_published name = published_in name (before ++ e ∷ [])
+
+  grows : (name : List ℕ) (ms : List Message) → published_by name e ≡ ms → then_published name ≡ published_in name before ++ ms
+  grows name ms is = sym (flat_map_more (published_by name) [] before e) ∙ ap (λ ks. published_in name before ++ ks) is
+
+  stays : (name : List ℕ) → published_by name e ≡ [] → then_published name ≡ published_in name before
+  stays name is = grows name [] is ∙ append-nil (published_in name before)
+
+  -- an event that publishes of nobody
+  pub nothing_more : ((name : List ℕ) → published_by name e ≡ []) → map (λ name. published_in name before) names ≡ map then_published names
+  nothing_more none = same_each (λ name. published_in name before) then_published names [] (λ j l. stays (get_or names j []) (none (get_or names j [])))
+
+by_test : (by body name : List ℕ) (b : Bool) → bytes_eq by name ≡ b → published_by name (Cast by body) ≡ (if b then message.Cast body ∷ [] else [])
+by_test by body name b e = ap (λ t. if t then message.Cast body ∷ [] else []) e
+
+of_other : (by body name : List ℕ) (b : Bool) → bytes_eq by name ≡ b → (by ≡ name → ⊥) → published_by name (Cast by body) ≡ []
+of_other by body name true e differ = absurd (differ (same_bytes by name e))
+of_other by body name false e differ = by_test by body name false e
+
+-- a cast of a name that isn't among them
+pub cast_of_none : (names : List (List ℕ)) (before : List Event) (by body : List ℕ) → position (λ n. bytes_eq n by) names ≡ None
+    → map (λ name. published_in name before) names ≡ map (λ name. published_in name (before ++ Cast by body ∷ [])) names
+cast_of_none names before by body none =
+    same_each (λ name. published_in name before) (λ name. published_in name (before ++ Cast by body ∷ [])) names []
+    (λ j l. stays names before (Cast by body) (get_or names j [])
+    (of_other by body (get_or names j []) _ refl (λ is. stands_nowhere (λ n. bytes_eq n by) names j [] none l (ap (λ n. bytes_eq n by) (sym is) ∙ own_bytes by))))
+
+-- and of one that is
+pub cast_of_one : (names : List (List ℕ)) (before : List Event) (by body : List ℕ) (i : ℕ) → AreDifferent names → position (λ n. bytes_eq n by) names ≡ Some i
+    → set (map (λ name. published_in name before) names) i (get_or (map (λ name. published_in name before) names) i [] ++ message.Cast body ∷ [])
+    ≡ map (λ name. published_in name (before ++ Cast by body ∷ [])) names
+cast_of_one names before by body i differ found =
+    let there = position-Some (λ n. bytes_eq n by) names i [] found in
+    let is : get_or names i [] ≡ by = same_bytes (get_or names i []) by there.1 in
+    more_at (λ name. published_in name before) (λ name. published_in name (before ++ Cast by body ∷ [])) (message.Cast body ∷ []) names i [] there.0
+    (grows names before (Cast by body) (get_or names i []) (message.Cast body ∷ []) (by_test by body (get_or names i []) true (ap (bytes_eq by) is ∙ own_bytes by)))
+    (λ j l ne. stays names before (Cast by body) (get_or names j [])
+    (of_other by body (get_or names j []) _ refl (λ same. ne (differ j i l there.0 (sym same ∙ sym is)))))
+
+-- ---- a cluster
+
+-- the logs in the last state of a journal are what its events published of each name
+pub going_logs : (c : Seen) → IsGoing c → map (λ name. published_in name c.events) c.names ≡ logs_of (state_of c)
+going_logs c g = same_lists _ _ many each
+  where
+    w : World
+    w = state_of c
+
+    w0 : World
+    w0 = opening c.credit c.names
+
+    named : NamesAre c.names w0
+    named = reached_names c.credit c.names [] g.are refl tt
+
+    n : ℕ
+    n = size w - 1
+
+    many : length (map (λ name. published_in name c.events) c.names) ≡ length (logs_of w)
+    many = omega (arith, length-map c.names (λ name. published_in name c.events), length-map-range_with_len (log_of w) 1 n, going_many c g)
+
+    each : (k : ℕ) (d : List Message) → k < length (map (λ name. published_in name c.events) c.names) → get_or (map (λ name. published_in name c.events) c.names) k d ≡ get_or (logs_of w) k d
+    each k d l =
+        let lt : k < length c.names = omega (arith, length-map c.names (λ name. published_in name c.events)) in
+        get_or-map (λ name. published_in name c.events) c.names k [] d lt
+        ∙ ap (λ name. published_in name c.events) (sym (name_in c.names w0 k named lt))
+        ∙ sym (run_publishes c.credit c.names c.events (k + 1) g.are g.run (omega arith) (omega (arith, names_many c.names w0 named)))
+        ∙ sym (get_or-map-range_with_len (log_of w) 1 n k (k + 1) d (omega (arith, going_many c g)) (omega arith))

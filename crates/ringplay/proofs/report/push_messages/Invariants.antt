@@ -1,7 +1,0 @@
-use Rattle.std.proofs.Common.{◌≡◌, ◌++◌, take}
-use Rattle.std.specs.List.{flat_map}
-use Rattle.ringplay.specs.Report.{heard_line}
-use Rattle.ringplay.proofs.report.push_messages.Given as goal
-
-abbrev pub invariant-loop-message : goal.invariant-loop-message
-invariant-loop-message l = l.out.items ≡ l.initial.out.items ++ flat_map (heard_line l.origin) (take l.message-index l.messages)
