@@ -1,0 +1,31 @@
+-- What the structs show.
+use Rattle.std.specs.Prelude.{List, map}
+use Rattle.ring_names.specs.declared.numbers.MemberId.{MemberId}
+use Rattle.activity.specs.declared.table.Table.{Table}
+use Rattle.activity.specs.declared.sent.SentRow.{SentRow}
+use Rattle.activity.specs.Kept.{Kept, KeptRow}
+use Rattle.activity.specs.Told.{Told, ToldRow}
+
+-- what a table keeps
+abbrev pub kept_in : Table → Kept
+kept_in t = record { forgot = t.store.forgot; messages = t.store.messages; retired = t.retired }
+
+-- the row of an entry
+abbrev pub kept_row : MemberId × Table → KeptRow
+kept_row e = record { origin = e.0; kept = kept_in e.1; room = e.1.store.spare }
+
+-- the rows of entries
+abbrev pub kept_rows : List (MemberId × Table) → List KeptRow
+kept_rows entries = map kept_row entries
+
+-- the numbers of a row
+abbrev pub told_of : SentRow → Told
+told_of s = record { got = s.got; forgot = s.forgot }
+
+-- the row of an entry
+abbrev pub told_row : MemberId × SentRow → ToldRow
+told_row e = record { origin = e.0; told = told_of e.1 }
+
+-- the rows of entries
+abbrev pub told_rows : List (MemberId × SentRow) → List ToldRow
+told_rows entries = map told_row entries
