@@ -1,12 +1,12 @@
 -- What holds in every state of every run of plain events, as the tie of a member to the ring needs it.
-use Rattle.std.proofs.Common.{◌≡◌, ℕ, ◌<◌, ◌≤◌, List, [], length, take, Some, None, sym, subst}
+use Rattle.std.proofs.Common.{◌≡◌, ℕ, ◌≤◌, List, [], take, sym, subst}
 use Rattle.ring_names.specs.declared.numbers.CreditSpec.{CreditSpec}
 use Rattle.group_view.specs.Change.{AreOpeningNames}
 use Rattle.ring_world.specs.declared.event.Event.{Event}
-use Rattle.ring_world.specs.Machine.{World, member_at}
+use Rattle.ring_world.specs.Machine.{World}
 use Rattle.ring_world.specs.Step.{size, log_of, opening}
-use Rattle.ring_world.specs.Event.{id_of, refusal, effect, ArePlain, IsRun, last}
-use Rattle.ring_world.specs.Laws.{IsLawful, GoesOn}
+use Rattle.ring_world.specs.Event.{ArePlain, IsRun, last}
+use Rattle.ring_world.specs.Laws.{IsLawful}
 use Rattle.ring_world.specs.Lawful.{row_of}
 use Rattle.ring_world.proofs.invariants.Good.{HasRows}
 use Rattle.ring_world.proofs.invariants.Happens.{IsGood, opening_good}
@@ -14,7 +14,7 @@ use Rattle.ring_world.proofs.events.Plain.{NoneWaits, plain_events, plain_reache
 use Rattle.ring_world.proofs.walks.Ended.{EndsRight}
 use Rattle.ring_world.proofs.runs.AllRuns.{every_state_lawful}
 use Rattle.ring_world.proofs.runs.LinkCredit.{run_credited}
-use Rattle.ring_world.proofs.runs.OwnLogs.{IsLogged, run_logged}
+use Rattle.ring_world.proofs.runs.OwnLogs.{IsLogged, run_logged, HasOwnLogs}
 use Rattle.ring_world.proofs.work.OwnEnds.{OwnEnds}
 use Rattle.ring_world.proofs.work.Fit as ring
 use Rattle.gm_member.proofs.Whole.{AreWhole, opening_whole, plain_whole, heard_front}
@@ -26,15 +26,15 @@ pub record IsFit (w : World) : Type 0 where
   -- nobody waits
   pub none_waits : NoneWaits w
   -- each member is the one that its name finds
-  pub named : (x : ℕ) → 1 ≤ x → x < size w → id_of w (member_at w x).name ≡ Some x
+  pub named : ring.NamesFind w
   -- an enabled event lowers no number
-  pub goes : (e : Event) → refusal w e ≡ None → GoesOn w (effect w e)
+  pub goes : ring.EachGoesOn w
   -- members are few, and each has a row for each
   pub few : size w ≤ 65
   pub rows : HasRows w
   -- of each it has heard the front of the log, and a publisher all of its own
   pub heard : (q p : ℕ) → (row_of w q p).heard ≡ take (row_of w q p).got (log_of w p)
-  pub own : (p : ℕ) → (row_of w p p).got ≡ length (log_of w p)
+  pub own : HasOwnLogs w
   -- the links of a member have it at their ends, also where it has stopped
   pub own_ends : OwnEnds w
   -- nobody stands at id 0

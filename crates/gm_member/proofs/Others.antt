@@ -1,4 +1,5 @@
 -- Where one member steps, each other holds what it held, whether it runs or has stopped.
+use Rattle.ring_world.proofs.work.OwnEnds.{other_out}
 use Rattle.std.proofs.Common.{◌≡◌, ◌≢◌, ℕ, ◌<◌, length, map, Some, None, refl, sym, ap, ◌∙◌}
 use Rattle.std.specs.Prelude.{option_map}
 use Rattle.std.specs.List.{filter, range_with_len}
@@ -16,11 +17,7 @@ use Rattle.gm_member.proofs.GainStands.{regained_on}
 
 -- ---- whose a link is
 
--- nobody else sends on the link on which x sends
-pub other_out : (w : World) (x y o j : ℕ) → IsFit w → (member_at w x).out ≡ Some o → (member_at w y).out ≡ Some j → y ≢ x → j ≢ o
-other_out w x y o j f ex ey ne same = ne (sym (f.own_ends.out y j ey).1 ∙ ap (λ k. (link_at w k).sender) same ∙ (f.own_ends.out x o ex).1)
-
--- nor takes from the one from which x takes
+-- nobody else takes from the link from which x takes
 pub other_current : (w : World) (x y s j : ℕ) → IsFit w → (member_at w x).current ≡ Some s → (member_at w y).current ≡ Some j → y ≢ x → j ≢ s
 other_current w x y s j f ex ey ne same = ne (sym (f.own_ends.current y j ey).1 ∙ ap (λ k. (link_at w k).receiver) same ∙ (f.own_ends.current x s ex).1)
 
@@ -40,7 +37,7 @@ publish_others w x y m ne = sym (member_others w x y (published x m (member_at w
 
 -- the link on which x sends is written, and shows its receiver the same
 out_others : (w : World) (x o y : ℕ) (l : Link) → IsFit w → (member_at w x).out ≡ Some o → y ≢ x → seen l ≡ seen (link_at w o) → held_in w y ≡ held_in (with_link w o l) y
-out_others w x o y l f is ne shows = link_held w o y l (f.own_ends.out x o is).0 shows (λ j e. ap outgoing_of (get_or-set_other w.links o j l no_link (other_out w x y o j f is e ne)))
+out_others w x o y l f is ne shows = link_held w o y l (f.own_ends.out x o is).0 shows (λ j e. ap outgoing_of (get_or-set_other w.links o j l no_link (other_out w x y o j f.own_ends is e ne)))
 
 pub put_others : (w : World) (x o y : ℕ) → IsFit w → (member_at w x).out ≡ Some o → y ≢ x → held_in w y ≡ held_in (put_in w x o) y
 put_others w x o y f is ne = out_others w x o y (pushed (link_at w o) (leaving w x o)) f is ne refl

@@ -1,10 +1,10 @@
 -- A member that takes the oldest packet of its link stands where the ring's take leaves it.
-use Rattle.std.proofs.Common.{◌≡◌, ◌≢◌, ℕ, zero, suc, ◌+◌, ◌<◌, ◌≤◌, Bool, true, false, not, nat_lt, List, [], ◌++◌, length, take, Option, Some, None, is_some, refl, sym, ap, subst, ◌∙◌, ⊎_elim, arith}
+use Rattle.ring_world.proofs.invariants.KeptTake.{taker_beyond}
+use Rattle.ring_world.proofs.rests.Asked.{no_version}
+use Rattle.std.proofs.Common.{◌≡◌, ◌≢◌, ℕ, zero, suc, ◌+◌, ◌<◌, ◌≤◌, Bool, true, false, not, List, [], ◌++◌, length, take, Option, Some, None, is_some, refl, sym, ap, subst, ◌∙◌, ⊎_elim, arith}
 use Rattle.std.specs.Prelude.{◌&&◌, option_map}
 use Rattle.std.proofs.lemmas.Bool.{cases_lt}
-use Rattle.std.proofs.lemmas.Bool.Decides.{nat_tests}
-use Rattle.std.proofs.lemmas.List.{length-set, get_or_past, get_or-set_same, get_or-set_other}
-use Rattle.std.proofs.lemmas.List.FromFn.{length-map-range_with_len}
+use Rattle.std.proofs.lemmas.List.{length-set, get_or-set_same, get_or-set_other}
 use Rattle.ring_names.specs.declared.message.Message.{Message}
 use Rattle.ring_names.specs.declared.reason.Reason.{Reason}
 use Rattle.ring_names.specs.declared.reason.Reason.TheVariants as reason
@@ -78,13 +78,9 @@ pub packet_by_version : (w : World) (y s : ℕ) → is_empty (link_at w s).packe
 packet_by_version w y s e =
     ap (λ b. or_else (refuse_if (b && not (is_some (link_at w s).ending)) reason.NothingToTake) (or_else (refuse_if b reason.EndNext) (version_refusal (oldest (link_at w s)).version (member_at w y).version))) e
 
--- whether a member has a version
-pub version_may : (need have : ℕ) → need ≤ have → version_refusal need have ≡ None
-version_may need have l = let t : nat_lt have need ≡ false = grind (arith, nat_tests) in ap (λ b. refuse_if b (reason.ViewTooOld need have)) t
-
 -- it may be taken
 pub packet_may : (w : World) (y s : ℕ) → is_empty (link_at w s).packets ≡ false → (oldest (link_at w s)).version ≤ (member_at w y).version → take_refusal w y s ≡ None
-packet_may w y s e l = packet_by_version w y s e ∙ version_may (oldest (link_at w s)).version (member_at w y).version l
+packet_may w y s e l = packet_by_version w y s e ∙ no_version (oldest (link_at w s)).version (member_at w y).version l
 
 -- ---- the event
 
@@ -141,10 +137,6 @@ nothing_accepted : (b : Bool) (p : ℕ) (log : List Message) → accepted_row b 
 nothing_accepted true p log = refl
 nothing_accepted false p log = refl
 
-taker_past : (w : World) (x s p : ℕ) → size w ≤ p → row_at (taker w x s) p ≡ no_row
-taker_past w x s p ge = get_or_past (taker w x s).rows p no_row
-    (omega (arith, length-map-range_with_len (λ q. taken_row (owned w x s q) (log_of w q) (row_of w x q) (numbers_at (oldest (link_at w s)) q)) 0 (size w)))
-
 pub accepted_at : (w : World) (x s q p : ℕ) → IsFit w → TakesFrom w x s → 1 ≤ p → accepted_row (owned w x s p) (row_of w x p) (carried_in (log_of w p) q (numbers_at (oldest (link_at w s)) p)) ≡ row_at (taker w x s) p
 accepted_at w x s q p f t some =
     ⊎_elim
@@ -156,7 +148,7 @@ accepted_at w x s q p f t some =
     ap (λ r. accepted_row (owned w x s p) r (carried_in (log_of w p) q (numbers_at (oldest (link_at w s)) p))) (row_past w x p f t.some t.is_member ge)
     ∙ ap (λ k. accepted_row (owned w x s p) no_row (carried_in (log_of w p) q k)) (oldest_nothing w s p f t.has (log_past w p ge))
     ∙ nothing_accepted (owned w x s p) q (log_of w p)
-    ∙ sym (taker_past w x s p ge))
+    ∙ sym (taker_beyond w x s p ge))
     (cases_lt p (size w))
 
 -- ---- the member

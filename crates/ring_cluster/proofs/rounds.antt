@@ -1,5 +1,6 @@
 -- Turns, rounds, the drain, and what is played.
 pub mod Alive
+pub mod Asking
 pub mod Counting
 pub mod Doing
 pub mod Holding

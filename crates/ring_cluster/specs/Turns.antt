@@ -3,12 +3,14 @@ use Rattle.std.specs.Prelude.{◌≡◌, ◌≢◌, ℕ, ◌+◌, ◌<◌, ◌�
 use Rattle.std.specs.List.{All, filter}
 use Rattle.ring_names.specs.declared.memory.OutOfMemory.{OutOfMemory}
 use Rattle.ring_world.specs.declared.event.Event.{Event}
-use Rattle.ring_world.specs.declared.event.Event.TheVariants.{Put, Take, TakeEnd, Gain, Mark, Pick}
+use Rattle.ring_world.specs.declared.event.Event.TheVariants.{Put, Take, TakeEnd, Gain, Mark, Refresh, Pick}
 use Rattle.ring_world.specs.Machine.{World, member_at, newest, right, runs}
 use Rattle.ring_world.specs.Step.{size}
 use Rattle.ring_world.specs.Event.{by_of, refusal}
 use Rattle.ring_cluster.specs.declared.driver.OwnStep.{OwnStep}
 use Rattle.ring_cluster.specs.declared.driver.OwnStep.TheVariants as step
+use Rattle.ring_cluster.specs.declared.driver.OwnTurn.{OwnTurn}
+use Rattle.ring_cluster.specs.declared.driver.OwnTurn.TheVariants as turn
 use Rattle.ring_cluster.specs.Seen.{Seen, state_of, IsEventAt, SameButOwed}
 use Rattle.ring_world.specs.Work.{is_stale, total}
 use Rattle.ring_cluster.specs.Plays.{agenda_at, HasGoneOn, SameGiven, SameElsewhere}
@@ -81,3 +83,15 @@ MarksNoneAt w y = refusal w (Mark (member_at w y).name (member_at w (right w (ne
 -- where it runs, it isn't stale, may do no step, and has nobody to have marked
 abbrev pub RestsAt : World → ℕ → Type 0
 RestsAt w y = runs w y ≡ true → (is_stale (newest w) (member_at w y) ≡ false) × MayStepNowhere w y × MarksNoneAt w y
+
+-- the event of what member y has to do by itself
+abbrev pub turn_event : World → ℕ → OwnTurn → Event
+turn_event w y turn.Refresh = Refresh (member_at w y).name (newest w)
+turn_event w y turn.Mark = Mark (member_at w y).name (member_at w (right w (newest w) y)).name
+turn_event w y (turn.Step s) = step_event s (member_at w y).name
+
+-- it has that to do: it is stale, or may have its right neighbour marked, or may do that step
+abbrev pub HasTurn : World → ℕ → OwnTurn → Type 0
+HasTurn w y turn.Refresh = is_stale (newest w) (member_at w y) ≡ true
+HasTurn w y turn.Mark = refusal w (turn_event w y turn.Mark) ≡ None
+HasTurn w y (turn.Step s) = MayStep w y s

@@ -4,7 +4,7 @@ ghost use Rattle.std.specs.Prelude.{bytes_eq, length, vec_len, vec_capacity};
 ghost use Rattle.ring_cluster.specs.Plays.{IsCommandTo, IsTaskOf, place_among as the_place};
 
 use crate::agenda::Task;
-use crate::driver::{drain, round};
+use crate::driver::{OwnStep, drain, round};
 use crate::node::Node;
 use crate::numbering::Rounds;
 use crate::opening::copied;
@@ -60,6 +60,7 @@ impl Cluster {
     ghost use Rattle.ring_script.specs.declared.command.Command.TheVariants as command;
     ghost use Rattle.group_view.specs.Change.{AreOpeningNames};
     ghost use Rattle.ring_world.specs.declared.event.Event.{Event};
+    ghost use Rattle.ring_world.specs.declared.event.Event.TheVariants as event;
     ghost use Rattle.ring_world.specs.Machine.{member_at, row_at, view_in, newest, runs};
     ghost use Rattle.ring_world.specs.Quiet.{IsQuiet};
     ghost use Rattle.ring_world.specs.Event.{refusal, is_plain};
@@ -76,7 +77,7 @@ impl Cluster {
     ghost use Rattle.ring_cluster.specs.Plays.{PlaysSoFar, Plays, task_event, place_among, IsCommandTo, commanded};
     ghost use Rattle.ring_cluster.specs.Plays.{performed, agenda_at, GoesOn, HasGoneOn, HasBegun, HeadsAre};
     ghost use Rattle.ring_cluster.specs.Plays.{AgendasAreDone, AgendasAreEmpty};
-    ghost use Rattle.ring_cluster.specs.Turns.{SamePhases, TakesRound, EachDoesAtMost};
+    ghost use Rattle.ring_cluster.specs.Turns.{MayStep, SamePhases, TakesRound, EachDoesAtMost};
     ghost use Rattle.ring_cluster.specs.Rounds.{more_rounds, GivesNumbers};
 
     /// The cluster of a ring that has just opened with these members, in ring order: nobody has anything
@@ -210,6 +211,30 @@ impl Cluster {
     {
         self.parties
             .step(self.credit, &self.names, &mut self.journal, place, event)
+    }
+
+    /// Whether the member at a place may do a step on its links.
+    pub(crate) fn may_step(&self, place: usize, step: OwnStep) -> bool
+        requires { place < length (self.now).names }
+        ensures may { result ≡ true → MayStep (state_of self.now) (place + 1) step }
+        ensures may_not { result ≡ false → MayStep (state_of self.now) (place + 1) step → ⊥ }
+    {
+        self.is_going();
+        let refusal = self.parties.step_refusal(place, step);
+        refusal.is_none()
+    }
+
+    /// Whether the member at a place may have the one of a name marked dead.
+    pub(crate) fn may_mark(&self, place: usize, dead: &Name) -> bool
+        requires { place < length (self.now).names }
+        ensures may { result ≡ true
+            → refusal (state_of self.now) (event.Mark (member_at (state_of self.now) (place + 1)).name dead.now) ≡ None }
+        ensures may_not { result ≡ false
+            → refusal (state_of self.now) (event.Mark (member_at (state_of self.now) (place + 1)).name dead.now) ≢ None }
+    {
+        self.is_going();
+        let refusal = self.parties.mark_refusal(place, dead);
+        refusal.is_none()
     }
 
     /// Hands over what is owed to the registrar.

@@ -1,6 +1,6 @@
 //! The turns of the members: rounds, and the drain that ends when nothing is left to do.
 ghost use Rattle.std.specs.Prelude.{◌≡◌, ◌≢◌, ℕ, ◌+◌, ◌-◌, ◌<◌, ◌≤◌, ◌∷◌, ◌++◌, ◌||◌, [], true, false, length, IfOk};
-ghost use Rattle.std.specs.Prelude.{OnOk, OnErr, None};
+ghost use Rattle.std.specs.Prelude.{OnOk, OnErr, MatchOption, None};
 ghost use Rattle.ring_world.specs.Machine.{member_at, newest as the_newest, right as the_right, runs as runs_at};
 ghost use Rattle.ring_world.specs.Event.{by_of, refusal, is_asked, is_plain};
 ghost use Rattle.ring_world.specs.Idle.{NobodySteps, MarksNobody};
@@ -9,6 +9,7 @@ ghost use Rattle.ring_cluster.specs.Seen.{Seen, state_of, IsGoing, SameButOwed};
 ghost use Rattle.ring_cluster.specs.Plays.{agenda_at, HasBegun, AgendasAreDone};
 ghost use Rattle.ring_cluster.specs.Turns.{step_event, Works, DoesOrRests, TakesTurns, TakesRound, IsDoneAt};
 ghost use Rattle.ring_cluster.specs.Turns.{MayStep, MayStepNowhere, MarksNoneAt, RestsAt, DoesAtMost, EachDoesAtMost};
+ghost use Rattle.ring_cluster.specs.Turns.{HasTurn, turn_event};
 
 use crate::cluster::Cluster;
 use ring_io::Gate;
@@ -43,6 +44,17 @@ impl OwnStep {
             OwnStep::Put => Event::Put { by },
         }
     }
+}
+
+/// What a member has to do by itself.
+#[derive(Clone, Copy, PartialEq, Eq, Debug)]
+pub(crate) enum OwnTurn {
+    /// It reads the newest view.
+    Refresh,
+    /// It has its right neighbour in that view marked dead.
+    Mark,
+    /// It does a step on its links.
+    Step(OwnStep),
 }
 
 /// An event of the member of an id, of its own, that leaves less to do, where it is enabled: whether it was.
@@ -118,94 +130,128 @@ fn right_of(cluster: &Cluster, id: MemberId) -> MemberId
     cluster.view().right_of(id)
 }
 
-/// A step of a member on its links, where it is enabled: whether it was.
-fn attempt(cluster: &mut Cluster, id: MemberId, step: OwnStep) -> Result<bool, OutOfMemory>
-    requires { (1 ≤ id.0) × (id.0 ≤ length (cluster.old).names) }
-    ensures does { DoesOrRests cluster.old cluster.new (MayStep (state_of cluster.old) id.0 step → ⊥) result }
-    ensures once { DoesAtMost 1 (id.0 - 1) cluster.old cluster.new }
+/// Whether the member of an id has stopped.
+fn has_stopped(cluster: &Cluster, id: MemberId) -> bool
+    requires { (1 ≤ id.0) × (id.0 ≤ length (cluster.now).names) }
+    ensures { result ≡ false → (member_at (state_of cluster.now) id.0).phase ≢ Phase.Stopped }
+{
+    let Some(member) = cluster.member(id) else {
+        unreachable!()
+    };
+    match member.phase() {
+        Phase::Stopped => true,
+        Phase::Waiting | Phase::Up => false,
+    }
+}
+
+/// Whether a member that runs may have its right neighbour in the newest view marked dead: not where that hasn't
+/// stopped.
+fn may_mark(cluster: &Cluster, id: MemberId) -> bool
+    requires within { (1 ≤ id.0) × (id.0 ≤ length (cluster.now).names) }
+    requires runs { runs_at (state_of cluster.now) id.0 ≡ true }
+    ensures may { result ≡ true → HasTurn (state_of cluster.now) id.0 OwnTurn.Mark }
+    ensures may_not { result ≡ false → MarksNoneAt (state_of cluster.now) id.0 }
 {
     cluster.is_going();
-    let by = name_of(cluster, id);
-    let event = step.event(by);
-    let did = happens(cluster, id, &event)?;
-    Ok(did)
+    let right = right_of(cluster, id);
+    if !has_stopped(cluster, right) {
+        return false;
+    }
+    let dead = name_of(cluster, right);
+    cluster.may_mark(id.0 as usize - 1, &dead)
 }
 
-/// The first step of a member on its links that it may do: whether it did any.
-#[tactic(auto, using(crate::proofs::rounds::Turning::works_trans))]
-fn step_on_links(cluster: &mut Cluster, id: MemberId) -> Result<bool, OutOfMemory>
-    requires { (1 ≤ id.0) × (id.0 ≤ length (cluster.old).names) }
-    ensures does { DoesOrRests cluster.old cluster.new (MayStepNowhere (state_of cluster.old) id.0) result }
-    ensures once { DoesAtMost 1 (id.0 - 1) cluster.old cluster.new }
+/// The first step on its links that a member may do.
+fn next_step(cluster: &Cluster, id: MemberId) -> Option<OwnStep>
+    requires { (1 ≤ id.0) × (id.0 ≤ length (cluster.now).names) }
+    ensures { MatchOption result (MayStepNowhere (state_of cluster.now) id.0) (MayStep (state_of cluster.now) id.0) }
 {
-    if attempt(cluster, id, OwnStep::Pick)? {
-        return Ok(true);
+    let place = id.0 as usize - 1;
+    if cluster.may_step(place, OwnStep::Pick) {
+        return Some(OwnStep::Pick);
     }
-    if attempt(cluster, id, OwnStep::Take)? {
-        return Ok(true);
+    if cluster.may_step(place, OwnStep::Take) {
+        return Some(OwnStep::Take);
     }
-    if attempt(cluster, id, OwnStep::TakeEnd)? {
-        return Ok(true);
+    if cluster.may_step(place, OwnStep::TakeEnd) {
+        return Some(OwnStep::TakeEnd);
     }
-    if attempt(cluster, id, OwnStep::Gain)? {
-        return Ok(true);
+    if cluster.may_step(place, OwnStep::Gain) {
+        return Some(OwnStep::Gain);
     }
-    let put = attempt(cluster, id, OwnStep::Put)?;
-    Ok(put)
+    if cluster.may_step(place, OwnStep::Put) {
+        return Some(OwnStep::Put);
+    }
+    None
 }
 
-/// A member that runs and is stale reads the newest view.
-fn refresh(cluster: &mut Cluster, id: MemberId) -> Result<(), OutOfMemory>
+/// What a member that runs has to do: where it is stale, it reads the newest view. Else it has its right neighbour
+/// marked dead, or does a step on its links, the first of these that it may. This only reads.
+fn next_turn(cluster: &Cluster, id: MemberId) -> Option<OwnTurn>
+    requires within { (1 ≤ id.0) × (id.0 ≤ length (cluster.now).names) }
+    requires runs { runs_at (state_of cluster.now) id.0 ≡ true }
+    ensures { MatchOption result (RestsAt (state_of cluster.now) id.0) (HasTurn (state_of cluster.now) id.0) }
+{
+    if is_stale(cluster, id) {
+        return Some(OwnTurn::Refresh);
+    }
+    if may_mark(cluster, id) {
+        return Some(OwnTurn::Mark);
+    }
+    let step = next_step(cluster, id)?;
+    Some(OwnTurn::Step(step))
+}
+
+/// The event by which a member that runs does it.
+fn event_of(cluster: &Cluster, id: MemberId, turn: OwnTurn) -> Event
+    requires within { (1 ≤ id.0) × (id.0 ≤ length (cluster.now).names) }
+    requires runs { runs_at (state_of cluster.now) id.0 ≡ true }
+    ensures { result ≡ turn_event (state_of cluster.now) id.0 turn }
+{
+    let by = name_of(cluster, id);
+    match turn {
+        OwnTurn::Refresh => Event::Refresh {
+            by,
+            view: newest(cluster),
+        },
+        OwnTurn::Mark => Event::Mark {
+            by,
+            dead: name_of(cluster, right_of(cluster, id)),
+        },
+        OwnTurn::Step(step) => step.event(by),
+    }
+}
+
+/// A member that runs does what it has to do.
+fn take_turn(cluster: &mut Cluster, id: MemberId, turn: OwnTurn) -> Result<(), OutOfMemory>
     requires within { (1 ≤ id.0) × (id.0 ≤ length (cluster.old).names) }
     requires runs { runs_at (state_of cluster.old) id.0 ≡ true }
-    requires stale { the_staleness (the_newest (state_of cluster.old)) (member_at (state_of cluster.old) id.0) ≡ true }
+    requires turn { HasTurn (state_of cluster.old) id.0 turn }
     ensures works { Works cluster.old cluster.new }
     ensures falls { OnOk result (total (state_of cluster.new) < total (state_of cluster.old)) }
     ensures once { DoesAtMost 1 (id.0 - 1) cluster.old cluster.new }
 {
     cluster.is_going();
-    let by = name_of(cluster, id);
-    let version = newest(cluster);
-    let did = happens(cluster, id, &Event::Refresh { by, view: version })?;
+    let event = event_of(cluster, id, turn);
+    let did = happens(cluster, id, &event)?;
     if !did {
         unreachable!();
     }
     Ok(())
 }
 
-/// A member that runs has its right neighbour in the newest view marked dead, where it may: whether it did.
-fn mark(cluster: &mut Cluster, id: MemberId) -> Result<bool, OutOfMemory>
-    requires within { (1 ≤ id.0) × (id.0 ≤ length (cluster.old).names) }
-    requires runs { runs_at (state_of cluster.old) id.0 ≡ true }
-    ensures does { DoesOrRests cluster.old cluster.new (MarksNoneAt (state_of cluster.old) id.0) result }
-    ensures once { DoesAtMost 1 (id.0 - 1) cluster.old cluster.new }
-{
-    cluster.is_going();
-    let by = name_of(cluster, id);
-    let right = right_of(cluster, id);
-    let dead = name_of(cluster, right);
-    let did = happens(cluster, id, &Event::Mark { by, dead })?;
-    Ok(did)
-}
-
-/// A member that runs reads the newest view, where it is stale. Else it has its right neighbour marked dead, or does
-/// a step on its links, the first of these that it may. Whether it did any.
-#[tactic(auto, using(crate::proofs::rounds::Turning::works_trans))]
+/// A member that runs does what it has to do by itself: whether it had anything.
 fn own_turn(cluster: &mut Cluster, id: MemberId) -> Result<bool, OutOfMemory>
     requires within { (1 ≤ id.0) × (id.0 ≤ length (cluster.old).names) }
     requires runs { runs_at (state_of cluster.old) id.0 ≡ true }
     ensures does { DoesOrRests cluster.old cluster.new (RestsAt (state_of cluster.old) id.0) result }
     ensures once { DoesAtMost 1 (id.0 - 1) cluster.old cluster.new }
 {
-    if is_stale(cluster, id) {
-        refresh(cluster, id)?;
-        return Ok(true);
-    }
-    if mark(cluster, id)? {
-        return Ok(true);
-    }
-    let did = step_on_links(cluster, id)?;
-    Ok(did)
+    let Some(turn) = next_turn(cluster, id) else {
+        return Ok(false);
+    };
+    take_turn(cluster, id, turn)?;
+    Ok(true)
 }
 
 /// The member at a place does a step of its own, where it runs and has any to do: whether it did.

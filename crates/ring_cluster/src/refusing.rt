@@ -10,6 +10,7 @@ ghost use Rattle.ring_cluster.specs.Acting.{stop_refused, look_refused, packet_r
 ghost use Rattle.ring_cluster.specs.Acting.{grant_refused, alone_refused, back_of, first_item as the_first};
 ghost use Rattle.ring_cluster.specs.Refused.{first_for};
 
+use crate::driver::OwnStep;
 use crate::node::Node;
 use crate::parties::Parties;
 use crate::undelivered::Undelivered;
@@ -217,6 +218,7 @@ impl Parties {
     ghost use Rattle.ring_cluster.specs.Parties.{shown_of, node_at};
     ghost use Rattle.ring_cluster.specs.Standing.{StandSomewhere};
     ghost use Rattle.ring_cluster.specs.Refused.{first_for, with_post, IsRefusalAt};
+    ghost use Rattle.ring_cluster.specs.Turns.{step_event};
 
     /// Why the event of the member at a place is refused, where it is: the first condition that fails. Links that wait
     /// for the member count as if they had come to its door.
@@ -242,6 +244,22 @@ impl Parties {
             Event::Admit { by: _, name: _ }
             | Event::Erase { by: _, origin: _ }
             | Event::Refuse { code: _, inner: _ } => unreachable!(),
+        }
+    }
+
+    /// Why the member at a place doesn't do a step on its links, likewise.
+    pub(crate) fn step_refusal(&self, i: usize, step: OwnStep) -> Option<Reason>
+        requires within { i < length (self.now).all.nodes }
+        requires standing { StandSomewhere (self.now).all }
+        ensures { (by : List ℕ) → IsRefusalAt i (step_event step by) (self.now).all result }
+    {
+        let node = &self.members[i].node;
+        match step {
+            OwnStep::Pick => self.pick_refusal(i),
+            OwnStep::Take => packet_refusal(node),
+            OwnStep::TakeEnd => link_end_refusal(node),
+            OwnStep::Gain => grant_refusal(node),
+            OwnStep::Put => node.put_refusal(),
         }
     }
 
@@ -293,7 +311,7 @@ impl Parties {
     }
 
     /// Why the member at a place may not have the one of a name marked dead.
-    fn mark_refusal(&self, i: usize, dead: &Name) -> Option<Reason>
+    pub(crate) fn mark_refusal(&self, i: usize, dead: &Name) -> Option<Reason>
         requires within { i < length (self.now).all.nodes }
         requires standing { StandSomewhere (self.now).all }
         ensures { (by : List ℕ) → IsRefusalAt i (Mark by dead.now) (self.now).all result }

@@ -1,4 +1,5 @@
 pub mod code
+pub mod compact
 pub mod events
 pub mod invariants
 pub mod rests

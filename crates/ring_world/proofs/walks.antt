@@ -1,6 +1,7 @@
 -- The walk round the ring: packets on links, and the walk under each step.
 pub mod Admit
 pub mod Agreed
+pub mod Aliases
 pub mod Back
 pub mod Begin
 pub mod Cast
@@ -17,7 +18,6 @@ pub mod MoveEdits
 pub mod Open
 pub mod OpenWalk
 pub mod OwnerStops
-pub mod OwnsAlone
 pub mod Packets
 pub mod Put
 pub mod Refresh

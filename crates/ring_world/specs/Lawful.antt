@@ -37,11 +37,12 @@ PacketsAreWithin n p [] = ⊤
 PacketsAreWithin n p (k ∷ ks) = NumbersAreWithin n (numbers_at k p) × PacketsAreWithin n p ks
 
 -- no number for an origin is greater than the length of its log: of the members, of the packets on the links, and of what
--- was last sent
+-- was last sent and last taken
 pub record StaysWithinLogs (w : World) : Type 0 where
   pub rows : (q p : ℕ) → RowIsWithin (length (log_of w p)) (row_of w q p)
   pub packets : (s p : ℕ) → PacketsAreWithin (length (log_of w p)) p (link_at w s).packets
   pub sent : (s p : ℕ) → NumbersAreWithin (length (log_of w p)) (numbers_at (link_at w s).sending.sent p)
+  pub had : (s p : ℕ) → NumbersAreWithin (length (log_of w p)) (numbers_at (link_at w s).had.sent p)
 
 -- ---- credit
 

@@ -6,6 +6,7 @@ use Rattle.ring_world.specs.Step.{size}
 use Rattle.ring_world.specs.Idle.{IsIdle}
 use Rattle.ring_world.specs.Quiet.{IsQuiet}
 use Rattle.ring_world.specs.NoGap.{NoGapAtTake}
+use Rattle.ring_world.specs.Compact.{IsCompact}
 use Rattle.ring_world.specs.Lawful.{HasOwnLog, StaysWithinLogs, KeepsCredit, ConfirmedEverywhere, ErasedAgrees, StaysErased, LeadsOn, KeepsBorn, JoinsInTime, HearsInOrder, HearsAllSince, NeverFalls, HearsWhatFollows}
 
 -- The laws of a state, in a ring whose links open with this credit: the walk of each origin never rises; no take leaves a
@@ -13,7 +14,8 @@ use Rattle.ring_world.specs.Lawful.{HasOwnLog, StaysWithinLogs, KeepsCredit, Con
 -- its log from its base up to the number that it got, so all that was published since its admission; no number is above the length of the log, and a running publisher has its own log
 -- whole; what has come round to a publisher is at every member that is up, and before the first packet of every one that
 -- waits; each link keeps its credit; all that is said of an erased origin is one number; and who joined receives every message
--- that is published after its admission.
+-- that is published after its admission; and packets may be compact: each goes on where the one before it ended, and the
+-- lines that say something new do all that it does.
 pub record IsLawful (initial : ℕ) (w : World) : Type 0 where
   pub walks : (origin : ℕ) → 1 ≤ origin → origin < size w → NeverRises (the_walk w origin)
   pub no_gap : NoGapAtTake w
@@ -25,6 +27,7 @@ pub record IsLawful (initial : ℕ) (w : World) : Type 0 where
   pub credit : KeepsCredit initial w
   pub erased : ErasedAgrees w
   pub joins : JoinsInTime w
+  pub compact : IsCompact w
 
 -- From a state to a later one: logs only grow and no number falls; what a member hears meanwhile is what follows in the
 -- publisher's log; what is erased stays so, with its number; and a master leads until it is erased.

@@ -28,13 +28,14 @@ pub record Member : Type 0 where
   pub out : Option ℕ
   pub current : Option ℕ
 
--- What the sending side of a link knows: whether no packet was put yet, and the packet last put.
+-- What one side of a link knows: whether no packet passed it yet, and the last one that did. At the sending side a packet
+-- passes when it is put, at the receiving side when it is taken.
 pub record Sending : Type 0 where
   pub fresh : Bool
   pub sent : Packet
 
 -- A link: who sends on it to whom, the version at which it was opened, its packets on the way, the oldest first, how it
--- ends behind them and whether its receiver has taken that end, its sending side, and its credit.
+-- ends behind them and whether its receiver has taken that end, its sending side, its receiving side, and its credit.
 pub record Link : Type 0 where
   pub sender : ℕ
   pub receiver : ℕ
@@ -43,6 +44,7 @@ pub record Link : Type 0 where
   pub ending : Option Ending
   pub over : Bool
   pub sending : Sending
+  pub had : Sending
   pub flow : Flow
 
 -- The members by id, and an origin's row and numbers likewise; the links in order of opening; the views by version. Ids and
@@ -62,13 +64,13 @@ no_packet = record { version = 0; numbers = [] }
 abbrev pub no_member : Member
 no_member = record { name = []; phase = Stopped; version = 0; log = []; rows = []; out = None; current = None }
 
--- the sending side of a link on which nothing was put
+-- a side of a link that nothing passed
 abbrev pub no_sending : Sending
 no_sending = record { fresh = true; sent = no_packet }
 
 -- what stands beyond the links
 abbrev pub no_link : Link
-no_link = record { sender = 0; receiver = 0; opened = 0; packets = []; ending = None; over = false; sending = no_sending; flow = full_flow 0 0 }
+no_link = record { sender = 0; receiver = 0; opened = 0; packets = []; ending = None; over = false; sending = no_sending; had = no_sending; flow = full_flow 0 0 }
 
 -- what a member knows of an origin, and what a packet says of it: 0 in all numbers where nothing is said
 abbrev pub row_at : Member → ℕ → Row

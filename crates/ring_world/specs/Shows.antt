@@ -40,6 +40,7 @@ link_of l = record {
   ending = l.ending;
   over = l.over;
   sending = record { fresh = l.fresh; sent = packet_of l.sent };
+  had = record { fresh = l.untaken; sent = packet_of l.had };
   flow = flow_of l;
 }
 
@@ -124,7 +125,7 @@ packet_in v y s = record { version = v; numbers = next_lines s.fresh y.rows s.se
 -- a link opens in version v, with its whole credit and nothing on it
 abbrev pub link_new : CreditSpec → ℕ → ℕ → ℕ → Link
 link_new credit x z v =
-    record { sender = x; receiver = z; opened = v; packets = []; ending = None; over = false; sending = no_sending; flow = full_flow credit.initial credit.more }
+    record { sender = x; receiver = z; opened = v; packets = []; ending = None; over = false; sending = no_sending; had = no_sending; flow = full_flow credit.initial credit.more }
 
 -- and with its first packet of these rows
 abbrev pub link_opened : CreditSpec → ℕ → ℕ → ℕ → List Row → Link

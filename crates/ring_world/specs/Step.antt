@@ -44,9 +44,9 @@ next_packet y s = record { version = y.version; numbers = next_lines s.fresh y.r
 abbrev pub pushed : Link → Packet → Link
 pushed l k = record l { packets = l.packets ++ k ∷ []; sending = record { fresh = false; sent = k }; flow = spent l.flow }
 
--- the oldest packet is gone, and the receiver has counted it
+-- the oldest packet is gone, the receiver has counted it, and it is the one taken last
 abbrev pub popped : Link → Link
-popped l = record l { packets = drop 1 l.packets; flow = counted_flow l.flow }
+popped l = record l { packets = drop 1 l.packets; had = record { fresh = false; sent = oldest l }; flow = counted_flow l.flow }
 
 -- x puts a packet on its out link o
 abbrev pub put_on : World → ℕ → ℕ → World
@@ -184,7 +184,7 @@ look_at w x v = with_member w x (moved_to w x v)
 -- a link with this credit on which nothing was put
 abbrev pub fresh_link : World → ℕ → ℕ → ℕ → Link
 fresh_link w x z version =
-    record { sender = x; receiver = z; opened = version; packets = []; ending = None; over = false; sending = no_sending; flow = full_flow w.initial w.more }
+    record { sender = x; receiver = z; opened = version; packets = []; ending = None; over = false; sending = no_sending; had = no_sending; flow = full_flow w.initial w.more }
 
 -- a link opens at the door of z, with the first packet of x
 abbrev pub opened_link : World → ℕ → ℕ → Link
@@ -207,6 +207,7 @@ opening_link credit names i = record {
   ending = None;
   over = false;
   sending = no_sending;
+  had = no_sending;
   flow = full_flow credit.initial credit.more;
 }
 

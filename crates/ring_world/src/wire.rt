@@ -23,7 +23,8 @@ pub struct Packet {
     pub(crate) numbers: Vec<Numbers>,
 }
 
-/// A link from one member to another, with the grants under way back to the sender.
+/// A link from one member to another, with the grants under way back to the sender. It keeps the packet taken last, which the
+/// laws speak of and no call reads.
 #[derive(Drop)]
 pub struct Wire {
     pub(crate) sender: u32,
@@ -34,6 +35,8 @@ pub struct Wire {
     pub(crate) over: bool,
     pub(crate) fresh: bool,
     pub(crate) sent: Packet,
+    pub(crate) untaken: bool,
+    pub(crate) had: Packet,
     pub(crate) outgoing: CreditOut,
     pub(crate) incoming: CreditIn,
     pub(crate) grants: Vec<u32>,
@@ -59,6 +62,11 @@ impl Wire {
             over: false,
             fresh: true,
             sent: Packet {
+                version: 0,
+                numbers: Vec::new(alloc),
+            },
+            untaken: true,
+            had: Packet {
                 version: 0,
                 numbers: Vec::new(alloc),
             },
@@ -170,7 +178,8 @@ impl Wire {
         requires room { vec_len self.old.grants < vec_capacity self.old.grants }
         ensures { link_of self.new ≡ popped (link_of self.old) }
     {
-        self.packets.remove(0);
+        self.had = self.packets.remove(0);
+        self.untaken = false;
         if let Some(grant) = self.incoming.took() {
             self.grants.push_reserved(grant);
         }

@@ -1,9 +1,8 @@
 -- What the journal of a played script has.
-use Rattle.std.proofs.Common.{◌≡◌, ℕ, zero, suc, ◌+◌, ◌<◌, ◌≤◌, ◌^◌, Bool, true, false, cond, nat_lt, not, List, [], ◌∷◌, ◌++◌, length, take, drop, get_or, Some, None, IsSome, bytes_eq, refl, sym, ap, subst, ◌∙◌, arith}
+use Rattle.std.proofs.Common.{◌≡◌, ℕ, zero, suc, ◌<◌, ◌≤◌, ◌^◌, List, [], ◌∷◌, ◌++◌, length, take, drop, Some, IsSome, bytes_eq, refl, sym, ap, subst, ◌∙◌}
 use Rattle.std.specs.Prelude.{Contains}
-use Rattle.std.specs.List.{list_all, position, prefix_len}
+use Rattle.std.specs.List.{list_all}
 use Rattle.std.proofs.lemmas.Bool.{and_parts}
-use Rattle.std.proofs.lemmas.Bool.Decides.{nat_tests}
 use Rattle.std.proofs.lemmas.List.{take-take, take-append-drop}
 use Rattle.ring_names.specs.declared.numbers.CreditSpec.{CreditSpec}
 use Rattle.ring_script.specs.declared.command.Command.{Command}
@@ -23,6 +22,7 @@ use Rattle.ring_cluster.specs.Seen.{Seen, IsGoing, state_of, opening_seen}
 use Rattle.ring_cluster.specs.Idle.{NobodyStopped}
 use Rattle.ring_cluster.specs.Plays.{Plays, HasGoneOn, AgendasAreEmpty, place_among}
 use Rattle.ring_cluster.specs.Plays as cluster
+use Rattle.ring_cluster.proofs.lists.Places.{position_there}
 use Rattle.ring_cluster.proofs.rounds.Alive.{nobody_stopped_before}
 use Rattle.ring_cluster.proofs.work.Heard.{run_quiet_has_heard}
 use Rattle.ring_script.specs.declared.text.Text.{Text}
@@ -31,21 +31,6 @@ use Rattle.ringplay.specs.Report.{report_of}
 use Rattle.ringplay.specs.Call.{state_after, HearsFronts, IsLawfulRun, SameRing, commands_on, given_of, IsPlayedBy}
 
 -- ---- a name that the ring has, has a place
-
-prefix_at_most : {X : Type 0} (p : X → Bool) (xs : List X) (k : ℕ) (d : X) → k < length xs → p (get_or xs k d) ≡ false → prefix_len p xs ≤ k
-prefix_at_most p [] k d l e = absurd (omega arith)
-prefix_at_most p (x ∷ xs) zero d l e = rw e (omega arith)
-prefix_at_most p (x ∷ xs) (suc k) d l e =
-    (elim (p x) as (λ b. cond b (1 + prefix_len p xs) 0 ≤ suc k) [ true ↦ omega (arith, prefix_at_most p xs k d (omega arith) e) | false ↦ omega arith ])
-
-some_below : (a n : ℕ) (b : Bool) → nat_lt a n ≡ b → a < n → IsSome (cond b (Some a) None)
-some_below a n true e l = refl
-some_below a n false e l = absurd (grind (arith, nat_tests))
-
-position_there : {X : Type 0} (p : X → Bool) (xs : List X) (k : ℕ) (d : X) → k < length xs → p (get_or xs k d) ≡ true → IsSome (position p xs)
-position_there p xs k d l e =
-    let most : prefix_len (λ x. not (p x)) xs ≤ k = prefix_at_most (λ x. not (p x)) xs k d l (ap not e) in
-    some_below (prefix_len (λ x. not (p x)) xs) (length xs) _ refl (omega arith)
 
 pub known_place : (names : List (List ℕ)) (by : List ℕ) → Contains names by → IsSome (place_among names by)
 known_place names by (k, l, e) = position_there (λ n. bytes_eq n by) names k by l (ap (λ n. bytes_eq n by) e ∙ own_bytes by)

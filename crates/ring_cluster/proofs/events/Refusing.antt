@@ -19,7 +19,7 @@ use Rattle.ring_world.specs.Step.{size}
 use Rattle.ring_world.specs.Event.{id_of, of_member, is_stopped, up_refusal, refresh_refusal, at_door, refusal}
 use Rattle.ring_world.specs.Event as event
 use Rattle.ring_world.proofs.invariants.Happens.{IsGood}
-use Rattle.ring_world.proofs.events.Refusals.{id_within}
+use Rattle.ring_world.proofs.events.Refusals.{id_within, cond_or}
 use Rattle.registrar.specs.declared.standing.Standing.{Standing}
 use Rattle.registrar.specs.Registry.{Registry, is_known, newest as newest_view}
 use Rattle.registrar.specs.Asked.{mark_refusal, is_ring_from, waits_from, since_in, is_left, is_beside}
@@ -55,12 +55,8 @@ look_refuses credit w q x v name g named st =
     ap (λ (k : Held). up_refused k (refuse_if (cond (nat_lt v k.view.version) true (nat_lt n v)) (reason.ViewOutOfRange v k.view.version n))) h.held
     ∙ ap (λ m. up_refusal w x (refuse_if (cond (nat_lt v m) true (nat_lt n v)) (reason.ViewOutOfRange v m n))) (view_version w u g.fit.good (g.fit.good.inv.is_ring.held x))
     ∙ ap (λ m. up_refusal w x (refuse_if (cond (nat_lt v u) true (nat_lt m v)) (reason.ViewOutOfRange v u m))) (newest_version credit.initial w q g.fit.good st)
-    ∙ ap (λ b. up_refusal w x (refuse_if b (reason.ViewOutOfRange v u (newest w)))) (or_is (nat_lt v u) (nat_lt (newest w) v))
+    ∙ ap (λ b. up_refusal w x (refuse_if b (reason.ViewOutOfRange v u (newest w)))) (cond_or (nat_lt v u) (nat_lt (newest w) v))
     ∙ sym (ap (λ o. of_member o (λ y. up_refusal w y (refresh_refusal w y v))) named)
-  where
-    or_is : (a b : Bool) → cond a true b ≡ (a || b)
-    or_is true b = refl
-    or_is false b = refl
 
 -- ---- a mark
 

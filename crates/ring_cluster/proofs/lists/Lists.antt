@@ -1,18 +1,12 @@
 -- Lists: what stands at their places, and what is made of each element.
-use Rattle.std.proofs.Common.{◌≡◌, ℕ, ◌+◌, ◌<◌, false, List, [], ◌∷◌, drop, length, sym, ◌∙◌, arith, refl, zero, suc, ◌++◌, slice_get, Some, ap, map, get_or, set}
-use Rattle.std.proofs.lemmas.Bool.{false≢true}
-use Rattle.ring_world.specs.Refusal.{is_empty}
+use Rattle.std.proofs.Common.{◌≡◌, ℕ, ◌+◌, ◌<◌, List, [], ◌∷◌, length, sym, ◌∙◌, arith, refl, zero, suc, ◌++◌, slice_get, Some, ap, map, get_or, set}
 use Rattle.std.specs.Prelude.{IsSome, IfSome, Option, None, Some}
 use Rattle.std.specs.List.{range_with_len}
 use Rattle.std.proofs.lemmas.List.FromFn.{map-range_with_len_more}
 use Rattle.std.proofs.lemmas.List.{length-map, get_or-map, map-set, get_or-set_same, map-append}
 pub use Rattle.std.proofs.lemmas.Grind.{flat_map-append}
 pub use Rattle.std.proofs.lemmas.Option.{slice_get_within}
-
--- on a list with an element, one fewer is left when the first goes
-pub length-rest : {A : Type 0} (xs : List A) → is_empty xs ≡ false → length (drop 1 xs) + 1 ≡ length xs
-length-rest [] e = absurd (false≢true (sym e))
-length-rest (x ∷ xs) e = omega arith
+pub use Rattle.ring_world.proofs.work.Rows.{length-rest}
 
 -- what holds of a value that is there
 pub if_some_from : {A : Type 0} (P Q : A → Type 0) (o : Option A) → (IsSome o → (x : A) → P x → Q x) → IfSome o P → IfSome o Q

@@ -2,7 +2,7 @@
 use Rattle.std.proofs.Common.{◌≡◌, ℕ, zero, suc, ◌+◌, Bool, true, false, cond, not, nat_eq, nat_lt, nat_le, List, [], ◌∷◌, ◌++◌, drop, length, map, Option, Some, None, is_some, refl, sym, ap, ◌∙◌, arith}
 use Rattle.std.specs.Prelude.{◌&&◌, ◌||◌, position, option_map, slice_get}
 use Rattle.std.specs.List.{filter, position_or_len}
-use Rattle.std.proofs.lemmas.Bool.{false≢true, lt-ltb}
+use Rattle.std.proofs.lemmas.Bool.{false≢true, lt-ltb, or_right}
 use Rattle.ring_names.specs.declared.reason.Reason.{Reason}
 use Rattle.ring_names.specs.declared.reason.Reason.TheVariants as reason
 use Rattle.ordered_link.specs.declared.plain.PlainIn.{PlainIn}
@@ -93,10 +93,6 @@ picked_kept v x l ds false h = by_case (is_for v x l) refl
     by_case true e = absurd (false≢true (h e))
     by_case false e = refl
 
-for_stays : (b c : Bool) → c ≡ true → (b || c) ≡ true
-for_stays true c e = refl
-for_stays false c e = e
-
 picked_arriving : (h : Held) (ps : List Posted) → picked_of h.view h.id (arriving h ps) ≡ on_some (first_for h ps) reason.NoLinkAtDoor (λ opened. version_refusal opened h.view.version)
 picked_arriving h [] = refl
 picked_arriving h (d ∷ ps) = by_waits (waits_at h.id d) (picked_arriving h ps)
@@ -115,7 +111,7 @@ picked_arriving h (d ∷ ps) = by_waits (waits_at h.id d) (picked_arriving h ps)
         → picked_of h.view h.id (filter (stays h.view h.id) (map (received h) (cond b (d ∷ filter (waits_at h.id) ps) (filter (waits_at h.id) ps))))
         ≡ later (cond (b && is_for h.view h.id l) (Some d.name.view) (first_for h ps))
     by_waits true ih =
-        picked_kept h.view h.id l (arriving h ps) (stays h.view h.id l) (for_stays (nat_lt h.view.version l.opened) (is_for h.view h.id l))
+        picked_kept h.view h.id l (arriving h ps) (stays h.view h.id l) (or_right (nat_lt h.view.version l.opened) (is_for h.view h.id l))
         ∙ ap (cond (is_for h.view h.id l) (version_refusal d.name.view h.view.version)) ih
         ∙ by_for (is_for h.view h.id l) (first_for h ps)
     by_waits false ih = ih

@@ -22,8 +22,7 @@ use Rattle.ring_world.proofs.work.Settling.{no_step, no_mark, someone}
 use Rattle.ring_cluster.specs.Idle.{NobodyStopped}
 use Rattle.ring_cluster.specs.Seen.{Seen, state_of, IsGoing, SameButOwed}
 use Rattle.ring_cluster.specs.Plays.{AgendasAreDone, AgendasAreEmpty}
-use Rattle.ring_cluster.specs.Turns.{SamePhases, MayStep, MayStepNowhere, MarksNoneAt, RestsAt}
-use Rattle.ring_cluster.proofs.post.Owed.{but_trans}
+use Rattle.ring_cluster.specs.Turns.{SamePhases, MayStepNowhere, RestsAt}
 use Rattle.ring_cluster.proofs.work.Rest.{run_alive_is_quiet}
 use Rattle.ring_cluster.proofs.rounds.Named.{going_fit, going_ring, going_many}
 
@@ -51,31 +50,6 @@ no_step_there w x f r fresh none = no_step w f x r (record {
   pick = none step.Pick;
   refresh = λ stale. absurd (false≢true (sym fresh ∙ stale));
 })
-
--- one step after another was refused
-pub all_refused : (c c1 c2 c3 c4 c5 : Seen) (x : ℕ) → SameButOwed c c1 × (MayStep (state_of c) x step.Pick → ⊥) → SameButOwed c1 c2 × (MayStep (state_of c1) x step.Take → ⊥) → SameButOwed c2 c3 × (MayStep (state_of c2) x step.TakeEnd → ⊥) → SameButOwed c3 c4 × (MayStep (state_of c3) x step.Gain → ⊥) → SameButOwed c4 c5 × (MayStep (state_of c4) x step.Put → ⊥) → SameButOwed c c5 × MayStepNowhere (state_of c) x
-all_refused c c1 c2 c3 c4 c5 x pick take end gain put = (but_trans c c4 c5 four put.0, by_step)
-  where
-    two : SameButOwed c c2
-    two = but_trans c c1 c2 pick.0 take.0
-
-    three : SameButOwed c c3
-    three = but_trans c c2 c3 two end.0
-
-    four : SameButOwed c c4
-    four = but_trans c c3 c4 three gain.0
-
-    by_step : MayStepNowhere (state_of c) x
-    by_step step.Pick k = pick.1 k
-    by_step step.Take k = take.1 (subst (λ d. MayStep (state_of d) x step.Take) (sym pick.0.1) k)
-    by_step step.TakeEnd k = end.1 (subst (λ d. MayStep (state_of d) x step.TakeEnd) (sym two.1) k)
-    by_step step.Gain k = gain.1 (subst (λ d. MayStep (state_of d) x step.Gain) (sym three.1) k)
-    by_step step.Put k = put.1 (subst (λ d. MayStep (state_of d) x step.Put) (sym four.1) k)
-
--- it wasn't stale, and nothing was marked or done
-pub rests_after : (c c1 c2 : Seen) (x : ℕ) → is_stale (newest (state_of c)) (member_at (state_of c) x) ≡ false → SameButOwed c c1 × MarksNoneAt (state_of c) x → SameButOwed c1 c2 × MayStepNowhere (state_of c1) x → SameButOwed c c2 × RestsAt (state_of c) x
-rests_after c c1 c2 x fresh marks none =
-    (but_trans c c1 c2 marks.0 none.0, λ r. (fresh, subst (λ d. MayStepNowhere (state_of d) x) marks.0.1 none.1, marks.1))
 
 -- ---- all of them
 

@@ -26,7 +26,7 @@ use Rattle.gm_member.specs.Held.{Held, Incoming, at_some, on_some, take_refused,
 use Rattle.gm_member.specs.View.{in_of, end_of}
 use Rattle.gm_member.specs.Ends.{EndLooks, NothingIsNext, EndIsNext, PacketIsNext, IsTakeRefusal, IsEndRefusal, IsTakeFault}
 use Rattle.gm_member.specs.Shown.{held_of, ends_of, LooksIn, TookOn, SameOut}
-use Rattle.gm_member.proofs.TakeStands.{version_may}
+use Rattle.ring_world.proofs.rests.Asked.{no_version}
 use Rattle.ring_cluster.specs.Ends.{Sent, InSeen}
 use Rattle.ring_cluster.specs.Parties.{ANode, Shown, content, out_seen, in_seen, named_out, named_in, ends_seen, shown_of}
 use Rattle.ring_cluster.specs.Acting.{IsReady, TakesIn, TakesPacket, sent_of, due_of, items_refused, end_refused, first_item, packet_refused, link_end_refused}
@@ -225,7 +225,7 @@ take_enabled m n k (l, l', ml, nl, (i, j, a, b, li, looked, takes, waits, grants
     later_take (held_of m) _ enabled
     ∙ ap (λ s. items_refused (held_of m).view.version (first_item s)) (in_is m l i ml li)
     ∙ ap (λ xs. items_refused (held_of m).view.version (map content xs)) all
-    ∙ version_may k.view (held_of m).view.version older
+    ∙ no_version k.view (held_of m).view.version older
 
 -- ---- the end of a link
 

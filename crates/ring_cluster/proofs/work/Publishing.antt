@@ -1,7 +1,7 @@
 -- What the events of a journal publish of each name, and that this is what the logs are.
-use Rattle.std.proofs.Common.{◌≡◌, ◌≢◌, ℕ, zero, suc, ◌+◌, ◌<◌, ◌≤◌, Bool, true, false, cond, not, nat_lt, List, [], ◌∷◌, ◌++◌, length, map, set, get_or, bytes_eq, Some, None, if◌then◌else◌, refl, sym, ap, ◌∙◌, ◌-◌, arith}
-use Rattle.std.specs.List.{position, prefix_len}
-use Rattle.std.proofs.lemmas.Bool.Decides.{nat_tests}
+use Rattle.std.proofs.Common.{◌≡◌, ◌≢◌, ℕ, zero, suc, ◌+◌, ◌<◌, Bool, true, false, List, [], ◌∷◌, ◌++◌, length, map, set, get_or, bytes_eq, Some, None, if◌then◌else◌, refl, sym, ap, ◌∙◌, ◌-◌, IsSome, subst, arith}
+use Rattle.std.specs.List.{position}
+use Rattle.std.proofs.lemmas.Bool.{false≢true}
 use Rattle.std.proofs.lemmas.List.{append-nil, flat_map_more, same_lists, length-map, get_or-map}
 use Rattle.std.proofs.lemmas.List.FromFn.{length-map-range_with_len, get_or-map-range_with_len}
 use Rattle.std.proofs.lemmas.List.Quantifiers.{position-Some}
@@ -18,6 +18,7 @@ use Rattle.ring_world.proofs.runs.Published.{run_publishes}
 use Rattle.gm_member.proofs.Names.{NamesAre, reached_names}
 use Rattle.ring_cluster.specs.Seen.{Seen, IsGoing, state_of}
 use Rattle.ring_cluster.specs.Published.{logs_of}
+use Rattle.ring_cluster.proofs.lists.Places.{position_there}
 use Rattle.ring_cluster.proofs.rounds.Named.{names_many, name_in, going_many}
 
 -- ---- lists alone
@@ -39,20 +40,8 @@ more_at f g more (x ∷ xs) (suc i) d lt here others =
     ∙ ap (λ ys. g x ∷ ys) (more_at f g more xs i d (omega arith) here (λ j l ne. others (suc j) (omega arith) (λ e. ne (omega arith))))
 
 -- who isn't found stands nowhere
-prefix_at_most : {X : Type 0} (p : X → Bool) (xs : List X) (k : ℕ) (d : X) → k < length xs → p (get_or xs k d) ≡ false → prefix_len p xs ≤ k
-prefix_at_most p [] k d l e = absurd (omega arith)
-prefix_at_most p (x ∷ xs) zero d l e = rw e (omega arith)
-prefix_at_most p (x ∷ xs) (suc k) d l e =
-    (elim (p x) as (λ b. cond b (1 + prefix_len p xs) 0 ≤ suc k) [ true ↦ omega (arith, prefix_at_most p xs k d (omega arith) e) | false ↦ omega arith ])
-
-none_below : (a n : ℕ) (b : Bool) → nat_lt a n ≡ b → a < n → cond b (Some a) None ≡ None → ⊥
-none_below a n true e l h = cc
-none_below a n false e l h = absurd (grind (arith, nat_tests))
-
 stands_nowhere : {X : Type 0} (p : X → Bool) (xs : List X) (k : ℕ) (d : X) → position p xs ≡ None → k < length xs → p (get_or xs k d) ≡ true → ⊥
-stands_nowhere p xs k d none l e =
-    let most : prefix_len (λ x. not (p x)) xs ≤ k = prefix_at_most (λ x. not (p x)) xs k d l (ap not e) in
-    none_below (prefix_len (λ x. not (p x)) xs) (length xs) _ refl (omega arith) none
+stands_nowhere p xs k d none l e = false≢true (subst IsSome none (position_there p xs k d l e))
 
 -- ---- one event more
 

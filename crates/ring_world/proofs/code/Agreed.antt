@@ -1,14 +1,14 @@
 -- The number on which all agree of an erased origin can be read at any running member.
-use Rattle.std.proofs.Common.{◌≡◌, ℕ, zero, suc, ◌<◌, ◌≤◌, Bool, true, false, cond, Option, Some, None, refl, sym, ap, subst, ◌∙◌, ⊎_elim, arith}
+use Rattle.ring_world.proofs.walks.Ended.{runs_lt}
+use Rattle.std.proofs.Common.{◌≡◌, ℕ, zero, suc, ◌<◌, ◌≤◌, Bool, true, false, cond, Option, Some, None, refl, sym, subst, ◌∙◌, ⊎_elim, arith}
 use Rattle.std.proofs.Math.Nat.{ℕ_set}
 use Rattle.std.proofs.Math.Logic.{∥∥₁_elim}
 use Rattle.std.proofs.lemmas.Bool.{false≢true, cases_lt}
-use Rattle.ring_world.specs.Machine.{World, no_member, runs, runs_phase}
+use Rattle.ring_world.specs.Machine.{World, runs}
 use Rattle.ring_world.specs.OpenLinks.{number}
 use Rattle.ring_world.specs.Step.{size}
 use Rattle.ring_world.specs.Lawful.{AgreesOn, IsAgreed}
 use Rattle.ring_world.specs.Reached.{WorldSeen, IsReachedIn}
-use Rattle.ring_world.proofs.rings.Lists.{get_or_beyond}
 
 -- a running member with an id below n
 abbrev someone : World → ℕ → Option ℕ
@@ -34,12 +34,6 @@ nobody_runs w (suc n) q e lt = by_runs (runs w n) refl e (λ f less. nobody_runs
         (λ (ge : n ≤ q). let same : n ≡ q = omega arith in subst (λ j. runs w j ≡ false) same k)
         (cases_lt q n)
 
-runs_within : (w : World) (q : ℕ) → runs w q ≡ true → q < size w
-runs_within w q r = ⊎_elim
-    (λ (lt : q < size w). lt)
-    (λ (ge : size w ≤ q). absurd (false≢true (ap (λ a. runs_phase a.phase) (sym (get_or_beyond w.members q no_member ge)) ∙ r)))
-    (cases_lt q (size w))
-
 -- what it got of the origin
 abbrev told_of : World → ℕ → Option ℕ → ℕ
 told_of w p None = 0
@@ -52,7 +46,7 @@ all_told : (w : World) (p : ℕ) → IsAgreed w p → AgreesOn w p (told w p)
 all_told w p a = by_someone (someone w (size w)) refl
   where
     nobody : (q : ℕ) → someone w (size w) ≡ None → runs w q ≡ true → ⊥
-    nobody q e r = false≢true (sym (nobody_runs w (size w) q e (runs_within w q r)) ∙ r)
+    nobody q e r = false≢true (sym (nobody_runs w (size w) q e (runs_lt w q r)) ∙ r)
 
     by_someone : (o : Option ℕ) → someone w (size w) ≡ o → AgreesOn w p (told_of w p o)
     by_someone None e = record { got = λ q r. absurd (nobody q e r); forgot = λ q r. absurd (nobody q e r); packets = λ q s i r. absurd (nobody q e r) }

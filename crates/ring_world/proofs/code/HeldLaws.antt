@@ -2,11 +2,12 @@
 use Rattle.std.proofs.Common.{◌≡◌, ℕ, ◌<◌, ◌≤◌, List, [], ◌∷◌, ◌++◌, length, ◌+◌, Option, Some, None, refl, sym, subst}
 use Rattle.std.specs.Coded.{le_prop}
 use Rattle.std.proofs.Math.Logic.{∥∥₁_elim}
-use Rattle.ring_world.specs.Machine.{Packet, World, member_at, link_at, row_at}
+use Rattle.ring_world.specs.Machine.{Packet, Sending, World, member_at, link_at, row_at}
 use Rattle.ring_world.specs.Step.{size, log_of, opening}
 use Rattle.ring_world.specs.Rows.{messages_between}
 use Rattle.ring_world.specs.Lawful.{PacketsAreWithin}
 use Rattle.ring_world.specs.Laws.{IsLawful}
+use Rattle.ring_world.specs.Compact.{passed, IsInTurn}
 use Rattle.ring_world.specs.OpenLinks.{the_walk, walk_named, FallsFrom, NeverRises}
 use Rattle.ring_world.specs.Event.{Event, id_of, refusal, effect, last, refusals_of}
 use Rattle.ring_world.specs.Reached.{WorldSeen, IsReachedIn, IsRunning, state_of, seen_of}
@@ -52,6 +53,12 @@ lists_set xs ys = hlevel props
 messages_set : (m k : Message) → IsProp (m ≡ k)
 messages_set m k = hlevel props
 
+sides_set : (a b : Sending) → IsProp (a ≡ b)
+sides_set a b = hlevel props
+
+states_set : (v w : World) → IsProp (v ≡ w)
+states_set v w = hlevel props
+
 reached_hears : (seen : WorldSeen) (n q p : ℕ) → IsReachedIn seen n → (row_at (member_at seen.ring q) p).heard ≡ messages_between (row_at (member_at seen.ring q) p).base (row_at (member_at seen.ring q) p).got (log_of seen.ring p)
 reached_hears seen n q p r =
     subst (λ v. (row_at (member_at v q) p).heard ≡ messages_between (row_at (member_at v q) p).base (row_at (member_at v q) p).got (log_of v p)) (sym r.is) ((every_state_lawful r.credit r.names r.events r.are r.run).in_order q p)
@@ -73,6 +80,11 @@ packets_from seen n r m p [] f = tt
 packets_from seen n r m p (k ∷ ks) f =
     (record { lo = ∥∥₁_elim r le_prop (λ h. (f h).0.lo); got = ∥∥₁_elim r le_prop (λ h. (f h).0.got); forgot = ∥∥₁_elim r le_prop (λ h. (f h).0.forgot) }, packets_from seen n r m p ks (λ h. (f h).1))
 
+-- the packets of a link go in turn
+in_turn_from : (seen : WorldSeen) (n : ℕ) → ∥ IsReachedIn seen n ∥₁ → (before : Sending) (ks : List Packet) (end : Sending) → (IsReachedIn seen n → IsInTurn before ks end) → IsInTurn before ks end
+in_turn_from seen n r before [] end f = ∥∥₁_elim r (sides_set _ _) f
+in_turn_from seen n r before (k ∷ ks) end f = (λ p. ∥∥₁_elim r (ℕ_set _ _) (λ h. (f h).0 p), in_turn_from seen n r (passed k) ks end (λ h. (f h).1))
+
 -- what is known of some run is known
 lawful_from : (seen : WorldSeen) (n i : ℕ) (v : World) → ∥ IsReachedIn seen n ∥₁ → (IsReachedIn seen n → IsLawful i v) → IsLawful i v
 lawful_from seen n i v r f = record {
@@ -87,6 +99,7 @@ lawful_from seen n i v r f = record {
     rows = λ q p. record { got = ∥∥₁_elim r le_prop (λ h. ((f h).within.rows q p).got); forgot = ∥∥₁_elim r le_prop (λ h. ((f h).within.rows q p).forgot); retired = ∥∥₁_elim r le_prop (λ h. ((f h).within.rows q p).retired) };
     packets = λ s p. packets_from seen n r (length (log_of v p)) p (link_at v s).packets (λ h. (f h).within.packets s p);
     sent = λ s p. record { lo = ∥∥₁_elim r le_prop (λ h. ((f h).within.sent s p).lo); got = ∥∥₁_elim r le_prop (λ h. ((f h).within.sent s p).got); forgot = ∥∥₁_elim r le_prop (λ h. ((f h).within.sent s p).forgot) };
+    had = λ s p. record { lo = ∥∥₁_elim r le_prop (λ h. ((f h).within.had s p).lo); got = ∥∥₁_elim r le_prop (λ h. ((f h).within.had s p).got); forgot = ∥∥₁_elim r le_prop (λ h. ((f h).within.had s p).forgot) };
   };
   own = λ p a. ∥∥₁_elim r (ℕ_set _ _) (λ h. (f h).own p a);
   confirmed = record {
@@ -103,6 +116,19 @@ lawful_from seen n i v r f = record {
     base = λ q p. ∥∥₁_elim r le_prop (λ h. (f h).joins.base q p);
     born = λ q p. ∥∥₁_elim r le_prop (λ h. (f h).joins.born q p);
     first = λ q p s a b. ∥∥₁_elim r le_prop (λ h. (f h).joins.first q p s a b);
+  };
+  compact = record {
+    turn = λ s. in_turn_from seen n r (link_at v s).had (link_at v s).packets (link_at v s).sending (λ h. (f h).compact.turn s);
+    before = λ s. ∥∥₁_elim r (sides_set _ _) (λ h. (f h).compact.before s);
+    next = λ x o a b p. ∥∥₁_elim r (ℕ_set _ _) (λ h. (f h).compact.next x o a b p);
+    sent = λ x o p a b c d e. ∥∥₁_elim r le_prop (λ h. (f h).compact.sent x o p a b c d e);
+    holds = λ x o p a b c d. ∥∥₁_elim r le_prop (λ h. (f h).compact.holds x o p a b c d);
+    taken = λ y s p a b c d. record {
+      got = ∥∥₁_elim r (ℕ_set _ _) (λ h. ((f h).compact.taken y s p a b c d).got);
+      forgot = ∥∥₁_elim r (ℕ_set _ _) (λ h. ((f h).compact.taken y s p a b c d).forgot);
+    };
+    lines = λ y s a b c d e. ∥∥₁_elim r (states_set _ _) (λ h. (f h).compact.lines y s a b c d e);
+    first = λ y s a b. ∥∥₁_elim r (states_set _ _) (λ h. (f h).compact.first y s a b);
   };
 }
 

@@ -31,32 +31,48 @@ pub record IsRunning (w : World) (x : ℕ) : Type 0 where
 pub up_runs : (w : World) (x : ℕ) → IsUp w x → IsRunning w x
 up_runs w x u = record { some = u.some; lt = u.lt; runs_on = ap runs_phase u.up }
 
+-- P holds after each put that may happen
+abbrev pub EachPut : (World → Type 0) → World → Type 0
+EachPut P w = (x o : ℕ) → IsUp w x → (member_at w x).out ≡ Some o → put_refusal w x o ≡ None → P (put_on w x o)
+
+-- after each take of an end
+abbrev pub EachLeave : (World → Type 0) → World → Type 0
+EachLeave P w = (y s : ℕ) → IsUp w y → (member_at w y).current ≡ Some s → end_refusal w s ≡ None → P (leave_link w y s)
+
+-- after each gain
+abbrev pub EachGain : (World → Type 0) → World → Type 0
+EachGain P w = (x o : ℕ) → IsUp w x → (member_at w x).out ≡ Some o → gain_refusal w o ≡ None → P (gain_on w o)
+
+-- after each pick
+abbrev pub EachPick : (World → Type 0) → World → Type 0
+EachPick P w = (y s : ℕ) → IsUp w y → (member_at w y).current ≡ None → at_door w y ≡ Some s → (link_at w s).opened ≤ (member_at w y).version → P (current_is w y (Some s))
+
 -- the events that are no admission, no erasure and no refusal, each by itself, where all members that act are up
 pub record PlainCases (P : World → Type 0) (w : World) : Type 0 where
   pub casts : (x : ℕ) (m : Message) → IsUp w x → P (publish_at w x m)
-  pub puts : (x o : ℕ) → IsUp w x → (member_at w x).out ≡ Some o → put_refusal w x o ≡ None → P (put_on w x o)
+  pub puts : EachPut P w
   pub takes : (y s : ℕ) → IsUp w y → MayTake w y s → P (take_from w y s)
-  pub leaves : (y s : ℕ) → IsUp w y → (member_at w y).current ≡ Some s → end_refusal w s ≡ None → P (leave_link w y s)
-  pub gains : (x o : ℕ) → IsUp w x → (member_at w x).out ≡ Some o → gain_refusal w o ≡ None → P (gain_on w o)
+  pub leaves : EachLeave P w
+  pub gains : EachGain P w
   pub stops : (x : ℕ) → IsUp w x → P (end_out Halted (stop_at w x) (member_at w x).out)
   pub marks : (x d : ℕ) → IsUp w x → MayMark w x d → P (refreshed (with_view w (marked (view_in w (newest w)) d)) x (newest w + 1))
   pub refreshes : (x v : ℕ) → IsUp w x → MayLook w x v → P (refreshed w x v)
-  pub picks : (y s : ℕ) → IsUp w y → (member_at w y).current ≡ None → at_door w y ≡ Some s → (link_at w s).opened ≤ (member_at w y).version → P (current_is w y (Some s))
+  pub picks : EachPick P w
 
 -- each event by itself, under its conditions; who waits takes its first packet, or stops
 pub record Cases (P : World → Type 0) (w : World) : Type 0 where
   pub casts : (x : ℕ) (m : Message) → IsUp w x → P (publish_at w x m)
-  pub puts : (x o : ℕ) → IsUp w x → (member_at w x).out ≡ Some o → put_refusal w x o ≡ None → P (put_on w x o)
+  pub puts : EachPut P w
   pub takes : (y s : ℕ) → IsUp w y → MayTake w y s → P (take_from w y s)
   pub begins : (y s : ℕ) → IsRunning w y → MayBegin w y s → P (begin_from w y s)
-  pub leaves : (y s : ℕ) → IsUp w y → (member_at w y).current ≡ Some s → end_refusal w s ≡ None → P (leave_link w y s)
-  pub gains : (x o : ℕ) → IsUp w x → (member_at w x).out ≡ Some o → gain_refusal w o ≡ None → P (gain_on w o)
+  pub leaves : EachLeave P w
+  pub gains : EachGain P w
   pub stops : (x : ℕ) → IsRunning w x → P (end_out Halted (stop_at w x) (member_at w x).out)
   pub marks : (x d : ℕ) → IsUp w x → MayMark w x d → P (refreshed (with_view w (marked (view_in w (newest w)) d)) x (newest w + 1))
   pub erases : (x d : ℕ) → IsUp w x → MayErase w x d → P (refreshed (with_view w (erased_view w d)) x (newest w + 1))
   pub admits : (x : ℕ) (name : List ℕ) → IsUp w x → admit_refusal w name ≡ None → P (refreshed (come_to w x name) x (newest w + 1))
   pub refreshes : (x v : ℕ) → IsUp w x → MayLook w x v → P (refreshed w x v)
-  pub picks : (y s : ℕ) → IsUp w y → (member_at w y).current ≡ None → at_door w y ≡ Some s → (link_at w s).opened ≤ (member_at w y).version → P (current_is w y (Some s))
+  pub picks : EachPick P w
   pub refuses : P w
 
 pub plain_of : (P : World → Type 0) (w : World) → Cases P w → PlainCases P w

@@ -23,7 +23,7 @@ pub record IsSameRows (w w' : World) : Type 0 where
   pub rows : (q : ℕ) → (member_at w' q).rows ≡ (member_at w q).rows
   pub log : (q : ℕ) → (member_at w' q).log ≡ (member_at w q).log
 
--- and so are their phases, and packets, sending sides and credit of the links
+-- and so are their phases, and packets, both sides and credit of the links
 pub record IsStill (w w' : World) : Type 0 where
   pub same : IsSameRows w w'
   pub links_many : length w'.links ≡ length w.links
@@ -32,6 +32,7 @@ pub record IsStill (w w' : World) : Type 0 where
   pub phase : (q : ℕ) → (member_at w' q).phase ≡ (member_at w q).phase
   pub packets : (s : ℕ) → (link_at w' s).packets ≡ (link_at w s).packets
   pub sending : (s : ℕ) → (link_at w' s).sending ≡ (link_at w s).sending
+  pub had : (s : ℕ) → (link_at w' s).had ≡ (link_at w s).had
   pub flow : (s : ℕ) → (link_at w' s).flow ≡ (link_at w s).flow
 
 -- a member has received nothing yet
@@ -74,12 +75,13 @@ member_still w x y r l f = record {
   phase = λ q. member_leaves (λ _ a b. b.phase ≡ a.phase) w x y f (λ _. refl) q;
   packets = λ s. refl;
   sending = λ s. refl;
+  had = λ s. refl;
   flow = λ s. refl;
 }
 
--- a link written with the same packets, sending side and credit
-pub link_still : (w : World) (o : ℕ) (k : Link) → k.packets ≡ (link_at w o).packets → k.sending ≡ (link_at w o).sending → k.flow ≡ (link_at w o).flow → IsStill w (with_link w o k)
-link_still w o k p s f = record {
+-- a link written with the same packets, both sides and credit
+pub link_still : (w : World) (o : ℕ) (k : Link) → k.packets ≡ (link_at w o).packets → k.sending ≡ (link_at w o).sending → k.had ≡ (link_at w o).had → k.flow ≡ (link_at w o).flow → IsStill w (with_link w o k)
+link_still w o k p s d f = record {
   same = links_same w (set w.links o k);
   links_many = length-set w.links o k;
   initial = refl;
@@ -87,6 +89,7 @@ link_still w o k p s f = record {
   phase = λ q. refl;
   packets = λ j. link_leaves (λ _ a b. b.packets ≡ a.packets) w o k p (λ _. refl) j;
   sending = λ j. link_leaves (λ _ a b. b.sending ≡ a.sending) w o k s (λ _. refl) j;
+  had = λ j. link_leaves (λ _ a b. b.had ≡ a.had) w o k d (λ _. refl) j;
   flow = λ j. link_leaves (λ _ a b. b.flow ≡ a.flow) w o k f (λ _. refl) j;
 }
 
@@ -100,6 +103,7 @@ view_still w v = record {
   phase = λ q. refl;
   packets = λ s. refl;
   sending = λ s. refl;
+  had = λ s. refl;
   flow = λ s. refl;
 }
 
@@ -112,7 +116,7 @@ module _ (G P : World → Type 0) (keeps : (w w' : World) → Part G w w' → P 
 
   -- a link ends
   ends_keeps : (why : Ending) (w : World) (o : ℕ) → P w → P (with_link w o (ended why (link_at w o)))
-  ends_keeps why w o h = still_keeps w (with_link w o (ended why (link_at w o))) (link_still w o (ended why (link_at w o)) refl refl refl) h
+  ends_keeps why w o h = still_keeps w (with_link w o (ended why (link_at w o))) (link_still w o (ended why (link_at w o)) refl refl refl refl) h
 
   -- a refresh
   refreshed_keeps : (w : World) (x v : ℕ) → P w → P (refreshed w x v)
@@ -133,7 +137,7 @@ module _ (G P : World → Type 0) (keeps : (w w' : World) → Part G w w' → P 
     takes = λ y s u m. keeps w _ (take_part y s u.some m (g.inv.current.lt y s (ap runs_phase u.up) m.current) gw refl) h;
     begins = λ y s u m. keeps w _ (begin_part y s u.some m (g.inv.current.lt y s (ap runs_phase m.waits) m.current) (λ p. g.inv.joining.rows y p m.waits) refl) h;
     leaves = λ y s u current k.
-        still_keeps (current_is w y None) (leave_link w y s) (link_still (current_is w y None) s (finished (link_at w s)) refl refl refl)
+        still_keeps (current_is w y None) (leave_link w y s) (link_still (current_is w y None) s (finished (link_at w s)) refl refl refl refl)
         (still_keeps w (current_is w y None) (member_still w y (with_current None (member_at w y)) refl refl refl) h);
     gains = λ x o u out k. keeps w _ (gain_part o (g.inv.linked.out_lt x o (ap runs_phase u.up) out) (gain_some w o k) refl) h;
     stops = λ x u. end_composed P Halted (stop_at w x) (member_at w x).out (λ o _. ends_keeps Halted (stop_at w x) o) (keeps w _ (stop_part x u.lt refl) h);

@@ -1,16 +1,17 @@
 -- A member that waits stands directly right of its admitter, in its view.
+use Rattle.ring_world.proofs.invariants.KeptLook.{look_up}
 use Rattle.std.proofs.Common.{◌≡◌, ℕ, ◌<◌, ◌≤◌, false, List, [], ◌∷◌, length, Some, refl, sym, ap, subst, ◌∙◌, arith}
 use Rattle.std.proofs.lemmas.List.{length-set, get_or_append_left}
 use Rattle.ring_names.specs.declared.numbers.CreditSpec.{CreditSpec}
 use Rattle.group_view.specs.View.{Group}
 use Rattle.group_view.specs.Change.{marked}
 use Rattle.ring_world.specs.View.{between}
-use Rattle.ring_world.specs.Machine.{Waiting, Up, World, Member, Link, no_member, no_link, member_at, link_at, view_in, newest, right, runs_phase, is_waiting, oldest}
+use Rattle.ring_world.specs.Machine.{Waiting, World, Member, Link, no_link, member_at, link_at, view_in, newest, right, runs_phase, is_waiting, oldest}
 use Rattle.ring_world.specs.Step.{size, pushed, popped, next_packet, published, taker, begun, with_current, stopped, moved_to, with_member, with_link, with_view, look_at, opened_link, open_to, opening}
 use Rattle.ring_world.specs.Event.{erased_view}
 use Rattle.ring_world.proofs.rings.Lists.{at_set}
 use Rattle.ring_world.proofs.walks.Views.{view_old}
-use Rattle.ring_world.proofs.invariants.Kept.{Inv, set_alike}
+use Rattle.ring_world.proofs.invariants.Kept.{Inv, set_alike, WaitersStay}
 use Rattle.ring_world.proofs.invariants.KeptOpen.{out_member}
 use Rattle.ring_world.proofs.invariants.KeptAdmit.{join_beside}
 use Rattle.ring_world.proofs.events.First.{first_none_waits}
@@ -23,7 +24,7 @@ IsBeside w = (q s : ℕ) → (member_at w q).phase ≡ Waiting → (member_at w 
 
 -- who waits is as before, and so is who sends to it
 record SameWaits (w w' : World) : Type 0 where
-  pub waits : (q : ℕ) → (member_at w' q).phase ≡ Waiting → member_at w' q ≡ member_at w q
+  pub waits : WaitersStay w w'
   pub senders : (s : ℕ) → s < length w.links → (link_at w' s).sender ≡ (link_at w s).sender
   pub views : (v : ℕ) → v ≤ newest w → view_in w' v ≡ view_in w v
 
@@ -62,7 +63,7 @@ move_beside w w' g (way_move s l lt k e) h = subst IsBeside (sym e) (same_beside
 move_beside w w' g (look_move x v m e) h = subst IsBeside (sym e) (same_beside w _ (set_waits w x (moved_to w x v) m.is_member (ap is_waiting m.up)) g.inv h)
 move_beside w w' g (open_move x v m moves e) h = subst IsBeside (sym e) (same_beside w (open_to (look_at w x v) x (right w v x)) (record {
   waits = λ q k.
-      let again : member_at (open_to w1 x z) q ≡ member_at w1 q = set_alike w1 x q (out_member w1 x) lt1 (ap is_waiting up1) k in
+      let again : member_at (open_to w1 x z) q ≡ member_at w1 q = set_alike w1 x q (out_member w1 x) lt1 (ap is_waiting (look_up w x v m.is_member m.up)) k in
       again ∙ set_alike w x q (moved_to w x v) m.is_member (ap is_waiting m.up) (sym (ap (λ a. a.phase) again) ∙ k);
   senders = λ s sl. ap (λ (a : Link). a.sender) (get_or_append_left w.links (opened_link w1 x z ∷ []) no_link s sl);
   views = λ u _. refl;
@@ -76,9 +77,6 @@ move_beside w w' g (open_move x v m moves e) h = subst IsBeside (sym e) (same_be
 
     lt1 : x < size w1
     lt1 = omega (arith, m.is_member, length-set w.members x (moved_to w x v))
-
-    up1 : (member_at w1 x).phase ≡ Up
-    up1 = at_set (λ i a. i ≡ x → a.phase ≡ Up) w.members x x (moved_to w x v) no_member m.is_member (λ _. m.up) (λ d k. absurd (d k)) refl
 move_beside w w' g (mark_move d rest live e) h = subst IsBeside (sym e) (same_beside w _ (view_waits w (marked (view_in w (newest w)) d) g.inv) g.inv h)
 move_beside w w' g (erase_move x d m e) h = subst IsBeside (sym e) (same_beside w _ (view_waits w (erased_view w d) g.inv) g.inv h)
 move_beside w w' g (join_move m name j here e) h = subst IsBeside (sym e) (join_beside w m name j h)

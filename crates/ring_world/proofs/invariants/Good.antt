@@ -1,25 +1,15 @@
 -- What holds in every state of every run.
-use Rattle.std.proofs.Common.{◌≡◌, ◌≢◌, ℕ, ◌<◌, ◌≤◌, ⊎_elim, Bool, true, false, [], ◌+◌, ◌-◌, List, ◌∷◌, length, sym, ap, subst, ◌∙◌, arith, nat_eq, Some, is_some}
-use Rattle.ring_world.specs.Rows.{Row}
+use Rattle.std.proofs.Common.{◌≡◌, ◌≢◌, ℕ, ◌<◌, ◌≤◌, ⊎_elim, true, false, [], ◌+◌, ◌-◌, List, ◌∷◌, length, sym, ap, subst, ◌∙◌, arith, nat_eq, Some, is_some}
 use Rattle.std.proofs.lemmas.Bool.{cases_lt, false≢true}
 use Rattle.ring_world.specs.Refusal.{is_empty}
 use Rattle.group_view.proofs.Lists.{all_range, at_range}
 use Rattle.group_view.proofs.Rings.{nat_eq-is, nat_eq-same}
 use Rattle.ring_world.specs.View.{ids, is_live}
 use Rattle.group_view.specs.Ring.{first_or, is_in, AreDistinct}
-use Rattle.ring_world.specs.Machine.{is_kept_of, Waiting, Link, World, member_at, link_at, view_in, newest, left, right, runs, is_kept, row_at}
+use Rattle.ring_world.specs.Machine.{ring, is_kept_of, Waiting, Link, World, member_at, link_at, view_in, newest, left, right, runs, is_kept, row_at}
 use Rattle.ring_world.specs.OpenLinks.{FallsFrom, NeverRises}
 use Rattle.ring_world.specs.Step.{size}
 use Rattle.ring_world.proofs.rings.Weakens.{FallsTo, Weakens, FallsFrom-FallsTo, FallsTo-FallsFrom}
-
--- the number that the packets on the link to a member lead to: at the origin itself the one that comes round
-abbrev pub low : Bool → Row → ℕ
-low true r = r.forgot
-low false r = r.got
-
-abbrev pub low_forgot : Bool → Row → ℕ
-low_forgot true r = r.retired
-low_forgot false r = r.forgot
 
 -- ---- the numbers fall round the ring
 
@@ -40,6 +30,13 @@ pub record IsRing (w : World) : Type 0 where
   pub front : (x v u : ℕ) → runs w x ≡ true → (member_at w x).version ≤ v → v ≤ u → u ≤ newest w → left w u (right w v x) ≡ x
 
 -- ---- of links
+
+-- who runs stands in the newest ring, and lives there
+pub stands_now : (w : World) → IsRing w → (y : ℕ) → runs w y ≡ true → is_in y (ring w) ≡ true
+stands_now w h y r = h.stands y (newest w) r (h.held y) (omega arith)
+
+pub lives_now : (w : World) → IsRing w → (y : ℕ) → runs w y ≡ true → is_live (view_in w (newest w)) y ≡ true
+lives_now w h y r = h.lives y (newest w) r (h.held y) (omega arith)
 
 pub record IsLinked (w : World) : Type 0 where
   pub opened : (s : ℕ) → s < length w.links → (link_at w s).opened ≤ newest w

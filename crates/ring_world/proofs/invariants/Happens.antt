@@ -1,4 +1,5 @@
 -- Each event that may happen keeps the whole invariant.
+use Rattle.group_view.specs.Ring.{is_in}
 use Rattle.std.proofs.Common.{◌≡◌, ◌≢◌, ℕ, ◌+◌, ◌<◌, ◌≤◌, Bool, true, false, nat_eq, List, [], ◌∷◌, ◌++◌, length, set, Option, Some, None, refl, sym, ap, subst, ◌∙◌, if◌then◌else◌, arith, map, nat_lt, nat_le, is_some}
 use Rattle.std.specs.Prelude.{◌&&◌}
 use Rattle.std.proofs.lemmas.Bool.{false≢true}
@@ -12,7 +13,7 @@ use Rattle.group_view.specs.Change.{AreOpeningNames, marked, opening as opening_
 use Rattle.group_view.proofs.History.{Ends, opening_begins, Follows, goes_on, last_is, mark_follows}
 use Rattle.group_view.proofs.Passing.{live_in, dead_in}
 use Rattle.ring_world.specs.View.{is_live, right_of, right_by, ids}
-use Rattle.ring_world.specs.Machine.{Waiting, Up, Stopped, Member, Ending, Moved, Halted, Link, World, no_link, no_member, member_at, link_at, view_in, newest, right, runs, runs_phase, is_kept, is_waiting, oldest}
+use Rattle.ring_world.specs.Machine.{ring, Waiting, Up, Stopped, Member, Ending, Moved, Halted, Link, World, no_link, no_member, member_at, link_at, view_in, newest, right, runs, runs_phase, is_kept, is_waiting, oldest}
 use Rattle.ring_world.specs.Step.{size, publish_at, put_on, take_from, current_is, with_current, finished, ended, stop_at, stopped, end_out, with_link, with_view, look_at, moved_to, open_to, opened_link, taker, published, opening, begun, begin_from, joiner, admitted_view, come_to, opening_member}
 use Rattle.ring_world.proofs.events.WhatRefuses.{IsSameWay, MayTake, IsPickable, MayLook, MayBegin}
 use Rattle.ring_world.specs.Event.{Event, at_door, send_to, refreshed, refusal, effect, IsRun, last, erased_view, admit_refusal}
@@ -250,11 +251,16 @@ may_admit w m name up r h = record {
   lives = h.inv.is_ring.lives m (newest w) (ap runs_phase up) (h.inv.is_ring.held m) (omega arith);
   room =
       let a = none_of (is_taken (view_in w (newest w)).entries name) reason.NameTaken _ r in
-      fewer (length (view_in w (newest w)).entries) (refuse_none (nat_le 64 (length (view_in w (newest w)).entries)) reason.TooManyMembers a.1);
+      let few : nat_le 64 (length (view_in w (newest w)).entries) ≡ false = refuse_none _ reason.TooManyMembers a.1 in
+      grind (arith, nat_tests);
 }
-  where
-    fewer : (n : ℕ) → nat_le 64 n ≡ false → n < 64
-    fewer n e = grind (arith, nat_tests)
+
+-- who stands in the newest view has an id of the members
+pub ring_below : (w : World) → IsGood w → (q : ℕ) → is_in q (ring w) ≡ true → q < size w
+ring_below w h q i =
+    let v : Group = view_in w (newest w) in
+    let t : nat_lt q v.next_id ≡ true = below_at v.next_id q (ids v) (newest_is w h.views).fresh i in
+    grind (arith, nat_tests, h.next_id)
 
 pub can_join : (w : World) (m : ℕ) (name : List ℕ) → m < size w → (member_at w m).phase ≡ Up → admit_refusal w name ≡ None → IsGood w → CanJoin w m
 can_join w m name lt up r h =
@@ -266,11 +272,8 @@ can_join w m name lt up r h =
       inv = h.inv;
       may = may;
       new_id = h.next_id;
-      below = λ q i. subst (λ k. q < k) h.next_id (less q g.next_id (below_at g.next_id q (ids g) may.is_group.fresh i));
+      below = ring_below w h;
     }
-  where
-    less : (a b : ℕ) → nat_lt a b ≡ true → a < b
-    less a b e = grind (arith, nat_tests)
 
 -- the views with the one that comes
 pub come_views : (w : World) (m : ℕ) (name : List ℕ) → CanJoin w m → HasViews w → HasViews (with_view w (admitted_view w m name))

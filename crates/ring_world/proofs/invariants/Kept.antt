@@ -121,8 +121,12 @@ shaped_keeps w ms ls sh r h = record {
 pub set_alike : (w : World) (y z : ℕ) (m : Member) → y < size w → is_waiting m.phase ≡ false → (member_at (with_member w y m) z).phase ≡ Waiting → member_at (with_member w y m) z ≡ member_at w z
 set_alike w y z m lt e = at_set (λ i a. a.phase ≡ Waiting → a ≡ member_at w i) w.members y z m no_member lt (λ k. absurd (false≢true (sym e ∙ ap is_waiting k))) (λ _ _. refl)
 
--- they stay as they are, and their links too
-pub waits_alike : (w w' : World) → ((z : ℕ) → (member_at w' z).phase ≡ Waiting → member_at w' z ≡ member_at w z) → ((s : ℕ) → s < length w.links → (link_at w' s).opened ≡ (link_at w s).opened) → IsCurrent w → IsJoining w → IsJoining w'
+-- they stay as they are
+abbrev pub WaitersStay : World → World → Type 0
+WaitersStay w w' = (q : ℕ) → (member_at w' q).phase ≡ Waiting → member_at w' q ≡ member_at w q
+
+-- and their links too
+pub waits_alike : (w w' : World) → WaitersStay w w' → ((s : ℕ) → s < length w.links → (link_at w' s).opened ≡ (link_at w s).opened) → IsCurrent w → IsJoining w → IsJoining w'
 waits_alike w w' same links c h = record {
   some = λ y e. let k = same y e in ap (λ a. is_some a.current) k ∙ h.some y (sym (ap (λ a. a.phase) k) ∙ e);
   opened = λ y s e f.

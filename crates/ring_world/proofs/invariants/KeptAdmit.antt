@@ -16,7 +16,7 @@ use Rattle.ring_world.specs.Machine.{Phase, Waiting, Up, Stopped, Packet, Member
 use Rattle.ring_world.specs.Step.{size, log_of, with_member, with_view, look_at, moved_to, kept_current, next_packet, opened_link, open_to, joiner, admitted_view, come_to}
 use Rattle.ring_world.proofs.rings.Lists.{at_set, at_push, get_or_beyond}
 use Rattle.ring_world.proofs.rings.Weakens.{Weakens, then}
-use Rattle.ring_world.proofs.walks.Links.{IsOr, kept, gone, AllZero}
+use Rattle.ring_world.proofs.walks.Links.{IsOr, kept, AllZero}
 use Rattle.ring_world.proofs.rings.Rounds.{nat_eq-same, nat_eq-not}
 use Rattle.ring_world.proofs.invariants.Good.{Kept, IsRing, IsLinked, kept_true, never_rises_still}
 use Rattle.ring_world.proofs.walks.Back.{Closes, closes_walk}
@@ -29,31 +29,23 @@ use Rattle.ring_world.proofs.invariants.Standing.{knows, IsOrdered}
 use Rattle.ring_world.proofs.invariants.Ordered.{ordered_more}
 use Rattle.ring_world.proofs.invariants.Marked.{Ages, history_more}
 use Rattle.ring_world.proofs.walks.OwnerStops.{AllPackets, IsPacket, IsPacked, IsRetiredRight, AllZero-past, AllZero-when, AllPackets-AllZero}
-use Rattle.ring_world.proofs.walks.Refresh.{blind, kept_less}
+use Rattle.ring_world.proofs.walks.Refresh.{blind, later_counts}
 use Rattle.ring_world.proofs.walks.Open.{with_opened, within_links}
 use Rattle.ring_world.proofs.walks.Put.{runs_phase-Up}
 use Rattle.ring_world.proofs.walks.Packets.{Reads, reads_got, reads_forgot, line_of_packet}
 use Rattle.ring_world.proofs.invariants.Kept.{Inv, AllPackets-map, AllPackets-first}
 use Rattle.ring_world.proofs.invariants.KeptLook.{kept_current-Some}
-use Rattle.ring_world.proofs.invariants.KeptOpen.{out_member}
+use Rattle.ring_world.proofs.invariants.KeptOpen.{out_member, out_number}
 use Rattle.ring_world.proofs.walks.Comes.{AllBelow, in_one_after, filter-with_after, rotated-with_after, below_rotated}
 use Rattle.ring_world.proofs.walks.Admit.{come_with, CanAdmit, come_walk, come_edits}
 use Rattle.ring_world.proofs.walks.Joined.{ring_joined, order_after}
 use Rattle.ring_world.proofs.walks.ZeroWalk.{IsUnsaid, unsaid_walk}
 use Rattle.ring_world.specs.OpenLinks.{NeverRises, own_number, number, first_packet}
-use Rattle.ring_world.proofs.walks.CountedWalk.{when, counted_by, walk, running_from, counted}
+use Rattle.ring_world.proofs.walks.CountedWalk.{counted_by, walk, running_from, counted}
 use Rattle.group_view.proofs.Rings.{distinct_others}
+use Rattle.group_view.proofs.Truth.{later_true}
 
 -- a member that has a later version, and the same rows
-pub later_counts : (w : World) (x j : ℕ) (y : Member) → (member_at w x).phase ≡ Up → y.phase ≡ Up → (member_at w x).version ≤ y.version → IsOr (counted_by (is_kept w) x y (link_at w j)) (counted w x (link_at w j))
-later_counts w x j y up yup le =
-    rw (up, yup) (by_case (nat_eq (link_at w j).receiver x) (is_kept w (link_at w j) y.version) (is_kept w (link_at w j) (member_at w x).version) (λ e. kept_less w (link_at w j) (member_at w x).version y.version le e))
-  where
-    by_case : (a b c : Bool) → (b ≡ true → c ≡ true) → IsOr (when (a && b) (link_at w j).packets) (when (a && c) (link_at w j).packets)
-    by_case true true c h = kept (rw (h refl) refl)
-    by_case true false c h = gone refl
-    by_case false b c h = kept refl
-
 pub later_own : (g : Numbers → ℕ) (r : Row → ℕ) (w : World) (x p : ℕ) (y : Member) → (member_at w x).phase ≡ Up → y.phase ≡ Up → y.rows ≡ (member_at w x).rows → own_number g r w p y.phase y ≡ number g r w p x
 later_own g r w x p y up yup same =
     ap (λ f. own_number g r w p f y) yup ∙ ap (λ rs. r (get_or rs p no_row)) same ∙ sym (ap (λ f. own_number g r w p f (member_at w x)) up)
@@ -86,11 +78,7 @@ pub record CanJoin (w : World) (m : ℕ) : Type 0 where
 
 all_below : (n : ℕ) (xs : List ℕ) → ((q : ℕ) → is_in q xs ≡ true → q < n) → AllBelow n xs
 all_below n [] h = tt
-all_below n (x ∷ xs) h = (h x (rw (nat_eq-same x) refl), all_below n xs (λ q i. h q (put (nat_eq q x) i)))
-  where
-    put : {c : Bool} (b : Bool) → c ≡ true → cond b true c ≡ true
-    put true e = refl
-    put false e = e
+all_below n (x ∷ xs) h = (h x (rw (nat_eq-same x) refl), all_below n xs (λ q i. h q (later_true (nat_eq q x) i)))
 
 -- the state after m has admitted one of this name, before the earlier out link of m ends
 abbrev pub joined_state : World → ℕ → List ℕ → World
@@ -462,17 +450,18 @@ module _ (w : World) (m : ℕ) (name : List ℕ) (h : CanJoin w m) where
         }) (h.inv.packed.packets s old));
   }
 
-  rows_old : (q p : ℕ) → q ≢ n → row_at (member_at joined q) p ≡ row_at (member_at w q) p
-  rows_old q p d = mem q (λ i a. i ≢ n → row_at a p ≡ row_at (member_at w i) p) (λ _. ap (λ rs. get_or rs p no_row) rows_b) (λ d2. absurd (d2 refl)) (λ _ _ _. refl)
+  -- the others have the rows that they had, and it those with which it joined
+  pub join_old : (q p : ℕ) → q ≢ n → row_at (member_at joined q) p ≡ row_at (member_at w q) p
+  join_old q p d = mem q (λ i a. i ≢ n → row_at a p ≡ row_at (member_at w i) p) (λ _. ap (λ rs. get_or rs p no_row) rows_b) (λ d2. absurd (d2 refl)) (λ _ _ _. refl)
       (λ lt _. ap (λ a. row_at a p) (sym (get_or_beyond w.members q no_member (omega arith)))) d
 
-  row_new : (p : ℕ) → row_at (member_at joined n) p ≡ row_at (joiner w name) p
-  row_new p = mem n (λ i a. i ≡ n → row_at a p ≡ row_at (joiner w name) p) (λ e. absurd (apart e)) (λ _. refl) (λ _ lt _. absurd (omega arith)) (λ lt _. absurd (omega arith)) refl
+  pub join_row : (p : ℕ) → row_at (member_at joined n) p ≡ row_at (joiner w name) p
+  join_row p = mem n (λ i a. i ≡ n → row_at a p ≡ row_at (joiner w name) p) (λ e. absurd (apart e)) (λ _. refl) (λ _ lt _. absurd (omega arith)) (λ lt _. absurd (omega arith)) refl
 
   beyond_now : (q p : ℕ) → n ≤ p → (row_at (member_at joined q) p).retired ≡ 0
   beyond_now q p ge = ⊎_elim
-      (λ (is : q ≡ n). ap (λ i. (row_at (member_at joined i) p).retired) is ∙ ap (λ a. a.retired) (row_new p) ∙ (joiner_row p).1.1)
-      (λ (d : q ≢ n). ap (λ a. a.retired) (rows_old q p d) ∙ h.inv.numbered.beyond q p ge)
+      (λ (is : q ≡ n). ap (λ i. (row_at (member_at joined i) p).retired) is ∙ ap (λ a. a.retired) (join_row p) ∙ (joiner_row p).1.1)
+      (λ (d : q ≢ n). ap (λ a. a.retired) (join_old q p d) ∙ h.inv.numbered.beyond q p ge)
       (cases_eq q n)
 
   running_now : (p : ℕ) → p < n → running_from joined p ≡ with_after m n (running_from w p)
@@ -506,8 +495,8 @@ module _ (w : World) (m : ℕ) (name : List ℕ) (h : CanJoin w m) where
       by_origin : (p a c : ℕ) (us : List ℕ) → is_in p (ring joined) ≡ true → running_from joined p ≡ a ∷ us → is_in c us ≡ true → (p < n) ⊎ (n ≤ p) → (row_at (member_at joined c) p).retired ≡ 0
       by_origin p a c us r e i t = ⊎_elim
           (λ (lt : p < n). ⊎_elim
-          (λ (is : c ≡ n). ap (λ q. (row_at (member_at joined q) p).retired) is ∙ ap (λ q. q.retired) (row_new p) ∙ (joiner_row p).1.1)
-          (λ (d : c ≢ n). ap (λ q. q.retired) (rows_old c p d) ∙ by_list p a c us (running_from w p) lt r refl (sym (running_now p lt) ∙ e) i d)
+          (λ (is : c ≡ n). ap (λ q. (row_at (member_at joined q) p).retired) is ∙ ap (λ q. q.retired) (join_row p) ∙ (joiner_row p).1.1)
+          (λ (d : c ≢ n). ap (λ q. q.retired) (join_old c p d) ∙ by_list p a c us (running_from w p) lt r refl (sym (running_now p lt) ∙ e) i d)
           (cases_eq c n))
           (λ (ge : n ≤ p). beyond_now c p ge)
           t
@@ -520,12 +509,6 @@ module _ (w : World) (m : ℕ) (name : List ℕ) (h : CanJoin w m) where
   -- its views have one more
   pub join_view : view_in joined (newest joined) ≡ g
   join_view = ap (view_in joined) newest_now ∙ view_now
-
-  pub join_old : (q p : ℕ) → q ≢ n → row_at (member_at joined q) p ≡ row_at (member_at w q) p
-  join_old q p d = rows_old q p d
-
-  pub join_row : (p : ℕ) → row_at (member_at joined n) p ≡ row_at (joiner w name) p
-  join_row p = row_new p
 
   pub join_log : (p : ℕ) → log_of joined p ≡ log_of w p
   unfolding b
@@ -601,15 +584,7 @@ module _ (w : World) (m : ℕ) (name : List ℕ) (h : CanJoin w m) where
       then (walk w p) (walk (come_with name l w m) p) (walk joined p) (come_walk name l w m p can lt)
       (then (walk (come_with name l w m) p) (walk (with_opened wl l) p) (walk joined p)
       (later_walk (come_with name l w m) m p (moved_to wc m v) in_wc (ap (λ a. a.phase) was_m ∙ h.up) (ap (λ a. a.phase) was_m ∙ h.up) (omega (arith, ap (λ a. a.version) was_m, h.inv.is_ring.held m)) refl)
-      (closes_walk (with_opened wl l) joined p (blind (with_opened wl l) m p (out_member wl m) in_wl refl refl refl (λ f r. by_up f r))))
-    where
-      by_up : (f : Numbers → ℕ) (r : Row → ℕ) → own_number f r (with_opened wl l) p (out_member wl m).phase (out_member wl m) ≡ number f r (with_opened wl l) p m
-      by_up f r = by_phase (member_at wl m).phase
-        where
-          by_phase : (c : Phase) → own_number f r (with_opened wl l) p c (out_member wl m) ≡ own_number f r (with_opened wl l) p c (member_at wl m)
-          by_phase Waiting = refl
-          by_phase Up = refl
-          by_phase Stopped = refl
+      (closes_walk (with_opened wl l) joined p (blind (with_opened wl l) m p (out_member wl m) in_wl refl refl refl (λ f r. out_number f r (with_opened wl l) wl m p))))
 
   -- the same of the two rounds alone
   pub join_edits : (p : ℕ) → p < n → Edits w joined p
@@ -617,15 +592,7 @@ module _ (w : World) (m : ℕ) (name : List ℕ) (h : CanJoin w m) where
       edits_then w (come_with name l w m) joined p (come_edits name l w m p can lt)
       (edits_then (come_with name l w m) (with_opened wl l) joined p
       (closes_edits (come_with name l w m) (with_opened wl l) p (later_closes (come_with name l w m) m p (moved_to wc m v) in_wc (ap (λ a. a.phase) was_m ∙ h.up) (ap (λ a. a.phase) was_m ∙ h.up) (omega (arith, ap (λ a. a.version) was_m, h.inv.is_ring.held m)) refl))
-      (closes_edits (with_opened wl l) joined p (blind (with_opened wl l) m p (out_member wl m) in_wl refl refl refl (λ f r. by_up f r))))
-    where
-      by_up : (f : Numbers → ℕ) (r : Row → ℕ) → own_number f r (with_opened wl l) p (out_member wl m).phase (out_member wl m) ≡ number f r (with_opened wl l) p m
-      by_up f r = by_phase (member_at wl m).phase
-        where
-          by_phase : (c : Phase) → own_number f r (with_opened wl l) p c (out_member wl m) ≡ own_number f r (with_opened wl l) p c (member_at wl m)
-          by_phase Waiting = refl
-          by_phase Up = refl
-          by_phase Stopped = refl
+      (closes_edits (with_opened wl l) joined p (blind (with_opened wl l) m p (out_member wl m) in_wl refl refl refl (λ f r. out_number f r (with_opened wl l) wl m p))))
 
   -- nothing is said of the one that comes
   zero_packets : (f : Packet → ℕ) → ((s : ℕ) (a : Link) → (j : Packet) → IsPacket w a j → f j ≡ 0) → f k ≡ 0 → (s : ℕ) → s < length joined.links → AllZero f (link_at joined s).packets

@@ -99,6 +99,12 @@ begin_retired w y s p q c e =
     (λ e2. ⊎_elim (λ (lt : p < size w). ap (λ a. a.retired) (begin_row w y s p lt) ∙ e2) (λ (ge : size w ≤ p). ap (λ a. a.retired) (begin_none w y s p ge)) (cases_lt p (size w)))
     (λ _ e2. e2) e
 
+-- who waits after it is another
+pub begins_other : (w : World) (y s : ℕ) → y < size w → (z : ℕ) → (member_at (begin_from w y s) z).phase ≡ Waiting → z ≢ y
+begins_other w y s lt z e is =
+    let up : (member_at (begin_from w y s) z).phase ≡ Up = at_set (λ k a. k ≡ y → a.phase ≡ Up) w.members y z (begun (size w) (member_at w y) (oldest (link_at w s))) no_member lt (λ _. refl) (λ d k. absurd (d k)) is in
+    let bad : Up ≡ Waiting = sym up ∙ e in cc
+
 pub begin_keeps : (w : World) (y s : ℕ) → Inv w → MayBegin w y s → Inv (begin_from w y s)
 begin_keeps w y s h m =
     let c : CanBegin w y s = begin_can w y s h m in
@@ -121,9 +127,9 @@ begin_keeps w y s h m =
       };
       retired = record { none = λ p a b us r e i. begin_retired w y s p b c (h.retired.none p a b us r (sym (filter_agree (runs w') (runs w) (λ q. begin_runs w y s q c) (rotated p (ring w))) ∙ e) i) };
       waiting = record {
-        first = λ z t e k. let d : z ≢ y = up_now z e in others_stay t (λ is. d (sym (h.waiting.mine z t (old_phase z d e) (old_current z d k)) ∙ ap (λ j. (link_at w j).receiver) is ∙ c.receiver)) (h.waiting.first z t (old_phase z d e) (old_current z d k));
-        mine = λ z t e k. let d : z ≢ y = up_now z e in (sh.ends t).receiver ∙ h.waiting.mine z t (old_phase z d e) (old_current z d k);
-        admission = λ z t e l to v. let d : z ≢ y = up_now z e in
+        first = λ z t e k. let d : z ≢ y = begins_other w y s m.is_member z e in others_stay t (λ is. d (sym (h.waiting.mine z t (old_phase z d e) (old_current z d k)) ∙ ap (λ j. (link_at w j).receiver) is ∙ c.receiver)) (h.waiting.first z t (old_phase z d e) (old_current z d k));
+        mine = λ z t e k. let d : z ≢ y = begins_other w y s m.is_member z e in (sh.ends t).receiver ∙ h.waiting.mine z t (old_phase z d e) (old_current z d k);
+        admission = λ z t e l to v. let d : z ≢ y = begins_other w y s m.is_member z e in
             others_stay t (λ is. d (sym (sym (sh.ends t).receiver ∙ to) ∙ ap (λ j. (link_at w j).receiver) is ∙ c.receiver))
             (h.waiting.admission z t (old_phase z d e) (omega (arith, sh.many)) (sym (sh.ends t).receiver ∙ to) (sym (sh.ends t).opened ∙ v ∙ sh.version z));
       };
@@ -135,11 +141,6 @@ begin_keeps w y s h m =
   where
     b : Member
     b = begun (size w) (member_at w y) (oldest (link_at w s))
-
-    up_now : (z : ℕ) → (member_at (begin_from w y s) z).phase ≡ Waiting → z ≢ y
-    up_now z e is =
-        let up : (member_at (begin_from w y s) z).phase ≡ Up = at_set (λ k a. k ≡ y → a.phase ≡ Up) w.members y z b no_member m.is_member (λ _. refl) (λ d k. absurd (d k)) is in
-        let bad : Up ≡ Waiting = sym up ∙ e in cc
 
     old_phase : (z : ℕ) → z ≢ y → (member_at (begin_from w y s) z).phase ≡ Waiting → (member_at w z).phase ≡ Waiting
     old_phase z d e = sym (at_set (λ k a. k ≢ y → a.phase ≡ (member_at w k).phase) w.members y z b no_member m.is_member (λ k. absurd (k refl)) (λ _ _. refl) d) ∙ e

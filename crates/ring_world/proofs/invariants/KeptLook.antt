@@ -24,6 +24,10 @@ look_member w x v q P lt here other = at_set P w.members x q (moved_to w x v) no
 pub look_runs : (w : World) (x v q : ℕ) → x < size w → runs (look_at w x v) q ≡ runs w q
 look_runs w x v q lt = look_member w x v q (λ k z. runs_phase z.phase ≡ runs w k) lt refl (λ _. refl)
 
+-- who looks stays up
+pub look_up : (w : World) (x v : ℕ) → x < size w → (member_at w x).phase ≡ Up → (member_at (look_at w x v) x).phase ≡ Up
+look_up w x v lt up = look_member w x v x (λ k a. k ≡ x → a.phase ≡ Up) lt (λ _. up) (λ d e. absurd (d e)) refl
+
 pub look_has_later : (w : World) (x v : ℕ) → MayLook w x v → HasLaterView w (look_at w x v).members x v
 look_has_later w x v m = record {
   later = m.later;

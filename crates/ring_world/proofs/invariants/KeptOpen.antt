@@ -10,7 +10,7 @@ use Rattle.group_view.specs.Ring.{rotated, others, is_in}
 use Rattle.ring_world.specs.Machine.{Phase, Waiting, Up, Stopped, World, Member, Link, no_member, no_link, member_at, link_at, view_in, row_at, newest, ring, left, right, runs, runs_phase, is_kept, is_waiting, no_sending}
 use Rattle.ring_world.specs.Rows.{Row}
 use Rattle.ring_world.specs.declared.numbers.Numbers.{Numbers}
-use Rattle.ring_world.specs.OpenLinks.{own_number, number}
+use Rattle.ring_world.specs.OpenLinks.{own_number}
 use Rattle.ring_world.proofs.walks.CountedWalk.{walk}
 use Rattle.ring_world.specs.Step.{size, look_at, moved_to, next_packet, opened_link, open_to}
 use Rattle.group_view.proofs.Rings.{others_inside}
@@ -41,6 +41,15 @@ pub record MayOpen (w : World) (x z : ℕ) : Type 0 where
 
 abbrev pub out_member : World → ℕ → Member
 out_member w x = record (member_at w x) { out = Some (length w.links) }
+
+-- its numbers are those of the member, whatever its out link
+pub out_number : (g : Numbers → ℕ) (r : Row → ℕ) (u w : World) (x p : ℕ) → own_number g r u p (out_member w x).phase (out_member w x) ≡ own_number g r u p (member_at w x).phase (member_at w x)
+out_number g r u w x p = by_phase (member_at w x).phase
+  where
+    by_phase : (f : Phase) → own_number g r u p f (out_member w x) ≡ own_number g r u p f (member_at w x)
+    by_phase Waiting = refl
+    by_phase Up = refl
+    by_phase Stopped = refl
 
 pub open_rest : (w : World) (x z : ℕ) → MayOpen w x z → Rest w → Rest (open_to w x z)
 open_rest w x z m r =
@@ -94,18 +103,10 @@ open_rest w x z m r =
           never_rises_still (walk w p) (walk w' p)
           (then (walk w p) (walk (with_opened w l) p) (walk w' p)
           (open_walk w x z p r.is_ring r.waiting m.up m.newest_left m.fresh)
-          (closes_walk (with_opened w l) w' p (blind (with_opened w l) x p y m.is_member refl refl refl (λ g k. by_up g k p))))
+          (closes_walk (with_opened w l) w' p (blind (with_opened w l) x p y m.is_member refl refl refl (λ g k. out_number g k (with_opened w l) w x p))))
           (r.walks p some l2);
     }
   where
-    by_up : (g : Numbers → ℕ) (k : Row → ℕ) (p : ℕ) → own_number g k (with_opened w (opened_link w x z)) p (out_member w x).phase (out_member w x) ≡ number g k (with_opened w (opened_link w x z)) p x
-    by_up g k p = by_phase (member_at w x).phase
-      where
-        by_phase : (f : Phase) → own_number g k (with_opened w (opened_link w x z)) p f (out_member w x) ≡ own_number g k (with_opened w (opened_link w x z)) p f (member_at w x)
-        by_phase Waiting = refl
-        by_phase Up = refl
-        by_phase Stopped = refl
-
     new_packet : IsPacket (open_to w x z) (opened_link w x z) (next_packet (member_at w x) no_sending)
     new_packet = record {
       from = omega arith;

@@ -168,10 +168,7 @@ opening_name n (a ∷ names) zero lt = first (nat_eq n (n + zero)) refl
   where
     first : (b : Bool) → nat_eq n (n + zero) ≡ b → (cond b (record { id = record { 0 = n }; name = a; mark = Live; synced = true; joined = 1; since = 1 }) (entry_in (opening_entries (n + 1) names) (n + zero))).name ≡ a
     first true e = refl
-    first false e = absurd (let is : n ≡ n + zero = omega arith in false≢true (sym e ∙ ap (nat_eq n) (sym is) ∙ own n))
-      where
-        own : (n : ℕ) → nat_eq n n ≡ true
-        own n = nat_eq-same n
+    first false e = absurd (let is : n ≡ n + zero = omega arith in false≢true (sym e ∙ ap (nat_eq n) (sym is) ∙ nat_eq-same n))
 opening_name n (a ∷ names) (suc k) lt = later (nat_eq n (n + suc k)) refl (ap (λ q. (entry_in (opening_entries (n + 1) names) q).name) (omega arith) ∙ opening_name (n + 1) names k (omega arith))
   where
     later : (b : Bool) → nat_eq n (n + suc k) ≡ b → (entry_in (opening_entries (n + 1) names) (n + suc k)).name ≡ get_or names k []

@@ -1,4 +1,5 @@
 -- The opening has the whole invariant.
+use Rattle.ring_world.proofs.walks.Links.{past_nothing}
 use Rattle.std.proofs.Common.{◌≡◌, ◌≢◌, ℕ, zero, suc, ◌<◌, ◌≤◌, ◌+◌, ◌-◌, Bool, true, false, cond, List, [], ◌∷◌, ◌++◌, length, map, get_or, refl, sym, ap, subst, ◌∙◌, arith, nat_eq, ⊎_elim, Some}
 use Rattle.std.specs.Prelude.{⊤, ◌&&◌}
 use Rattle.std.specs.List.{filter, flat_map, range_with_len}
@@ -17,7 +18,7 @@ use Rattle.group_view.proofs.Rings.{in_before, nat_eq-is, nat_eq-same, nat_eq-no
 use Rattle.ring_world.specs.View.{ids, is_live, left_of, right_of}
 use Rattle.ring_world.specs.Machine.{Phase, Waiting, Packet, Member, Link, World, no_member, no_link, member_at, link_at, view_in, row_at, numbers_at, ring, left, right, runs, runs_phase, is_kept, is_waiting}
 use Rattle.ring_world.specs.OpenLinks.{FallsFrom, NeverRises, own_number, number}
-use Rattle.ring_world.proofs.walks.CountedWalk.{is_early, only, no_but, counted, when, past_first, newest_first, numbers, block, round, round_of, retired_by, walk, running_from, stopped_from}
+use Rattle.ring_world.proofs.walks.CountedWalk.{is_early, only, no_but, counted, newest_first, numbers, block, round, round_of, retired_by, walk, running_from, stopped_from}
 use Rattle.ring_world.specs.Step.{opening, opening_member, size}
 use Rattle.ring_world.proofs.events.First.{first_at, first_each, first_link, first_links, first_link_is}
 use Rattle.ring_world.proofs.invariants.Good.{IsRing, IsLinked, kept_true}
@@ -257,12 +258,7 @@ module _ (credit : CreditSpec) (names : List (List ℕ)) where
   opening_row q p = opening_each q (λ k z. row_at z p ≡ no_row) (λ _. no_rows (range_with_len 0 (length names + 1)) p) refl
 
   opening_counted : (q j : ℕ) → counted first_world q (link_at first_world j) ≡ []
-  opening_counted q j = none (nat_eq (link_at first_world j).receiver q && is_kept first_world (link_at first_world j) (member_at first_world q).version) (is_waiting (member_at first_world q).phase && nat_eq (link_at first_world j).opened (member_at first_world q).version) (link_at first_world j).packets (opening_empty j)
-    where
-      none : (a b : Bool) (ks : List Packet) → ks ≡ [] → when a (past_first b ks) ≡ []
-      none true true ks e = rw e refl
-      none true false ks e = e
-      none false b ks e = refl
+  opening_counted q j = past_nothing (nat_eq (link_at first_world j).receiver q && is_kept first_world (link_at first_world j) (member_at first_world q).version) (is_waiting (member_at first_world q).phase && nat_eq (link_at first_world j).opened (member_at first_world q).version) (link_at first_world j).packets (opening_empty j)
 
   opening_number : (g : Numbers → ℕ) (r : Row → ℕ) (p q : ℕ) → r no_row ≡ 0 → number g r first_world p q ≡ 0
   opening_number g r p q e = opening_each q (λ k z. own_number g r first_world p z.phase z ≡ 0) (λ _. ap r (no_rows (range_with_len 0 (length names + 1)) p) ∙ e) e

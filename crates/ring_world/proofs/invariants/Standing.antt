@@ -127,6 +127,93 @@ owned_facts w y v s p hr hh ho vn yv el hp = record {
     pre : before y (rotated p (ring w)) ≡ from p b
     pre = prefix_is p s y (ring w) (hr.distinct (newest w) (omega arith)) sn yn hpb
 
+-- ---- what it means to answer for an origin: from it up to its owner nobody runs, and nothing on the way to the owner is early
+
+-- no packet on its way to y counts early
+abbrev pub NoneEarly : World → ℕ → ℕ → Type 0
+NoneEarly w y p = (j : ℕ) → only (is_early (stopped_from w p)) (counted w y) (link_at w j) ≡ []
+
+pub record OwnsAlone (w : World) (y p : ℕ) : Type 0 where
+  pub running : running_from w p ≡ y ∷ filter (runs w) (after y (rotated p (ring w)))
+  pub prefix : stopped_from w p ≡ before y (rotated p (ring w))
+  -- no left neighbour of y from its view on stands among those that are dead there
+  pub not_left : (u q : ℕ) → (member_at w y).version ≤ u → u ≤ newest w → left w u y ≡ q → is_in q (before y (rotated p (ring w))) ≡ false
+  pub none : NoneEarly w y p
+
+pub owns_alone : (w : World) (y p : ℕ) → IsRing w → IsLinked w → IsHistory w → runs w y ≡ true → OwnedFacts w y (member_at w y).version p → OwnsAlone w y p
+owns_alone w y p hr hl hh ry o = record { running = running; prefix = prefix; not_left = not_left; none = no_early }
+  where
+    v : ℕ
+    v = (member_at w y).version
+
+    c : List ℕ
+    c = rotated p (ring w)
+
+    vn : v ≤ newest w
+    vn = hr.held y
+
+    yc : is_in y c ≡ true
+    yc = is_in-rotated y p (ring w) ∙ hr.stands y (newest w) ry vn (omega arith)
+
+    left_at_view : (u : ℕ) (q : ℕ) → v ≤ u → u ≤ newest w → left w u y ≡ q → IsLeft (is_live (view_in w u)) q y (ids (view_in w u))
+    left_at_view u q a b e =
+        let yu : knows w u y ≡ true = hr.stands y u ry a b in
+        left_is_left (is_live (view_in w u)) q y (ids (view_in w u)) (distinct_others y (ids (view_in w u)) (hr.distinct u b) yu) yu (sym (left_in_view w u y yu) ∙ e)
+
+    not_left : (u q : ℕ) → v ≤ u → u ≤ newest w → left w u y ≡ q → is_in q (before y c) ≡ false
+    not_left u q a b e = by_test (is_in q (before y c)) refl (left_at_view u q a b e)
+      where
+        by_test : (t : Bool) → is_in q (before y c) ≡ t → IsLeft (is_live (view_in w u)) q y (ids (view_in w u)) → t ≡ false
+        by_test false i k = refl
+        by_test true i (itself e2) = absurd (false≢true (sym (not_in_before y c) ∙ ap (λ x. is_in x (before y c)) (sym e2) ∙ i))
+        by_test true i (other l i2) = absurd (false≢true (sym (o.dead q i) ∙ hh.dies q v u (o.old q i) a b l))
+
+    idle : filter (runs w) (before y c) ≡ []
+    idle = filter_none (runs w) (before y c) (λ q i. by_run q i (runs w q) refl)
+      where
+        by_run : (q : ℕ) → is_in q (before y c) ≡ true → (b : Bool) → runs w q ≡ b → b ≡ false
+        by_run q i false e = refl
+        by_run q i true e = absurd (by_view (cases_lt v (member_at w q).version))
+          where
+            here : (member_at w q).version ≤ v → ⊥
+            here a = false≢true (sym (o.dead q i) ∙ hr.lives q v e a vn)
+
+            later : v < (member_at w q).version → ⊥
+            later a = false≢true (sym (o.dead q i) ∙ hh.dies q v (member_at w q).version (o.old q i) (omega arith) (hr.held q) (hr.lives q (member_at w q).version e (omega arith) (hr.held q)))
+
+            by_view : (v < (member_at w q).version) ⊎ ((member_at w q).version ≤ v) → ⊥
+            by_view k = ⊎_elim later here k
+
+    running : running_from w p ≡ y ∷ filter (runs w) (after y c)
+    running = filter-split (runs w) y c yc ry ∙ ap (λ us. us ++ y ∷ filter (runs w) (after y c)) idle
+
+    prefix : stopped_from w p ≡ before y c
+    prefix = prefix_before (runs w) y c idle yc ry
+
+    no_early : NoneEarly w y p
+    no_early j = by_kept (nat_eq (link_at w j).receiver y) refl (is_kept w (link_at w j) v) refl (is_early (stopped_from w p) (link_at w j)) refl
+      where
+        late_sender : (link_at w j).receiver ≡ y → Kept w (link_at w j) v → is_in (link_at w j).sender (before y c) ≡ false
+        late_sender to k = ⊎_elim
+            (λ (a : v < (link_at w j).opened). by_link (cases_lt j (length w.links)) a)
+            (λ (a : (link_at w j).opened ≤ v). not_left v (link_at w j).sender (omega arith) vn (ap (left w v) (sym to) ∙ k v a (omega arith)))
+            (cases_lt v (link_at w j).opened)
+          where
+            by_link : (j < length w.links) ⊎ (length w.links ≤ j) → v < (link_at w j).opened → is_in (link_at w j).sender (before y c) ≡ false
+            by_link k2 a = ⊎_elim
+                (λ (lt : j < length w.links). not_left (link_at w j).opened (link_at w j).sender (omega arith) (hl.opened j lt) (ap (left w (link_at w j).opened) (sym to) ∙ hl.from_left j lt))
+                (λ (ge : length w.links ≤ j). absurd (beyond ge a)) k2
+              where
+                beyond : length w.links ≤ j → v < (link_at w j).opened → ⊥
+                beyond ge a2 = let none : (link_at w j).opened ≡ 0 = ap (λ k. k.opened) (get_or_beyond w.links j no_link ge) in omega arith
+
+        by_kept : (a : Bool) → nat_eq (link_at w j).receiver y ≡ a → (b : Bool) → is_kept w (link_at w j) v ≡ b → (e : Bool) → is_early (stopped_from w p) (link_at w j) ≡ e → cond e (counted w y (link_at w j)) [] ≡ []
+        by_kept a ea b eb false ee = refl
+        by_kept false ea b eb true ee = rw ea refl
+        by_kept true ea false eb true ee = rw (ea, eb) refl
+        by_kept true ea true eb true ee =
+            absurd (false≢true (sym (late_sender (nat_eq-is (link_at w j).receiver y ea) (true_kept w (link_at w j) v eb)) ∙ ap (is_in (link_at w j).sender) (sym prefix) ∙ ee))
+
 -- ---- a taker
 
 pub record IsTaker (w : World) (y s : ℕ) : Type 0 where
@@ -173,75 +260,17 @@ standing w y s p hr hl hh ho hm hk ht pn = by_owned (nat_eq p y) refl (is_in p (
     el : left w v y ≡ z
     el = ap (left w v) (sym ht.can.receiver) ∙ true_kept w (link_at w s) v ht.can.is_kept_so_far v ht.opened (omega arith)
 
-    left_at_view : (u : ℕ) (q : ℕ) → v ≤ u → u ≤ newest w → left w u y ≡ q → IsLeft (is_live (view_in w u)) q y (ids (view_in w u))
-    left_at_view u q a b e =
-        let yu : knows w u y ≡ true = hr.stands y u ry a b in
-        left_is_left (is_live (view_in w u)) q y (ids (view_in w u)) (distinct_others y (ids (view_in w u)) (hr.distinct u b) yu) yu (sym (left_in_view w u y yu) ∙ e)
-
     zv : knows w v z ≡ true
     zv = left_known w v y z hr vn yv el
 
     zn : is_in z (ring w) ≡ true
     zn = hh.grows z v (newest w) zv vn (omega arith)
 
-    -- no left neighbour of y from its view on stands among those that are dead there
-    not_left : (o : OwnedFacts w y v p) (u q : ℕ) → v ≤ u → u ≤ newest w → left w u y ≡ q → is_in q (before y c) ≡ false
-    not_left o u q a b e = by_test (is_in q (before y c)) refl (left_at_view u q a b e)
-      where
-        by_test : (t : Bool) → is_in q (before y c) ≡ t → IsLeft (is_live (view_in w u)) q y (ids (view_in w u)) → t ≡ false
-        by_test false i k = refl
-        by_test true i (itself e2) = absurd (false≢true (sym (not_in_before y c) ∙ ap (λ x. is_in x (before y c)) (sym e2) ∙ i))
-        by_test true i (other l i2) = absurd (false≢true (sym (o.dead q i) ∙ hh.dies q v u (o.old q i) a b l))
-
     -- the packet has come round
     rounds : is_owned (view_in w v) y z p ≡ true → OwnedFacts w y v p → Standing w y s p
-    rounds own o = come_round (filter (runs w) (after y c)) running own no_early (ap (is_in z) prefix ∙ not_left o v z (omega arith) vn el)
-      where
-        idle : filter (runs w) (before y c) ≡ []
-        idle = filter_none (runs w) (before y c) (λ q i. by_run q i (runs w q) refl)
-          where
-            by_run : (q : ℕ) → is_in q (before y c) ≡ true → (b : Bool) → runs w q ≡ b → b ≡ false
-            by_run q i false e = refl
-            by_run q i true e = absurd (by_view (cases_lt v (member_at w q).version))
-              where
-                here : (member_at w q).version ≤ v → ⊥
-                here a = false≢true (sym (o.dead q i) ∙ hr.lives q v e a vn)
-
-                later : v < (member_at w q).version → ⊥
-                later a = false≢true (sym (o.dead q i) ∙ hh.dies q v (member_at w q).version (o.old q i) (omega arith) (hr.held q) (hr.lives q (member_at w q).version e (omega arith) (hr.held q)))
-
-                by_view : (v < (member_at w q).version) ⊎ ((member_at w q).version ≤ v) → ⊥
-                by_view k = ⊎_elim later here k
-
-        running : running_from w p ≡ y ∷ filter (runs w) (after y c)
-        running = filter-split (runs w) y c yc ry ∙ ap (λ us. us ++ y ∷ filter (runs w) (after y c)) idle
-
-        prefix : stopped_from w p ≡ before y c
-        prefix = prefix_before (runs w) y c idle yc ry
-
-        no_early : (j : ℕ) → only (is_early (stopped_from w p)) (counted w y) (link_at w j) ≡ []
-        no_early j = by_kept (nat_eq (link_at w j).receiver y) refl (is_kept w (link_at w j) v) refl (is_early (stopped_from w p) (link_at w j)) refl
-          where
-            late_sender : (link_at w j).receiver ≡ y → Kept w (link_at w j) v → is_in (link_at w j).sender (before y c) ≡ false
-            late_sender to k = ⊎_elim
-                (λ (a : v < (link_at w j).opened). by_link (cases_lt j (length w.links)) a)
-                (λ (a : (link_at w j).opened ≤ v). not_left o v (link_at w j).sender (omega arith) vn (ap (left w v) (sym to) ∙ k v a (omega arith)))
-                (cases_lt v (link_at w j).opened)
-              where
-                by_link : (j < length w.links) ⊎ (length w.links ≤ j) → v < (link_at w j).opened → is_in (link_at w j).sender (before y c) ≡ false
-                by_link k2 a = ⊎_elim
-                    (λ (lt : j < length w.links). not_left o (link_at w j).opened (link_at w j).sender (omega arith) (hl.opened j lt) (ap (left w (link_at w j).opened) (sym to) ∙ hl.from_left j lt))
-                    (λ (ge : length w.links ≤ j). absurd (beyond ge a)) k2
-                  where
-                    beyond : length w.links ≤ j → v < (link_at w j).opened → ⊥
-                    beyond ge a2 = let none : (link_at w j).opened ≡ 0 = ap (λ k. k.opened) (get_or_beyond w.links j no_link ge) in omega arith
-
-            by_kept : (a : Bool) → nat_eq (link_at w j).receiver y ≡ a → (b : Bool) → is_kept w (link_at w j) v ≡ b → (e : Bool) → is_early (stopped_from w p) (link_at w j) ≡ e → cond e (counted w y (link_at w j)) [] ≡ []
-            by_kept a ea b eb false ee = refl
-            by_kept false ea b eb true ee = rw ea refl
-            by_kept true ea false eb true ee = rw (ea, eb) refl
-            by_kept true ea true eb true ee =
-                absurd (false≢true (sym (late_sender (nat_eq-is (link_at w j).receiver y ea) (true_kept w (link_at w j) v eb)) ∙ ap (is_in (link_at w j).sender) (sym prefix) ∙ ee))
+    rounds own o =
+        let alone : OwnsAlone w y p = owns_alone w y p hr hl hh ry o in
+        come_round (filter (runs w) (after y c)) alone.running own alone.none (ap (is_in z) alone.prefix ∙ alone.not_left v z (omega arith) vn el)
 
     -- what y's view doesn't own, of an origin whose owner is y
     unseen : is_in p (between (view_in w v) z y) ≡ false → nat_eq p y ≡ false → (qs : List ℕ) → running_from w p ≡ y ∷ qs → is_early (stopped_from w p) (link_at w s) ≡ false → knows w v p ≡ false

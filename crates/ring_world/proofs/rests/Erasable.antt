@@ -1,4 +1,6 @@
 -- A dead origin whose numbers agree from neighbour to neighbour may be erased by its owner.
+use Rattle.ring_world.proofs.events.Refusals.{cond_or}
+use Rattle.ring_world.proofs.invariants.Good.{stands_now, lives_now}
 use Rattle.std.proofs.Common.{◌≡◌, ◌≢◌, ℕ, ◌<◌, Bool, true, false, cond, nat_eq, List, [], ◌∷◌, Some, None, refl, sym, ap, subst, ◌∙◌, arith}
 use Rattle.std.specs.Prelude.{◌||◌, ◌&&◌}
 use Rattle.std.specs.List.{filter}
@@ -14,7 +16,7 @@ use Rattle.ring_world.specs.Machine.{Up, World, member_at, view_in, newest, ring
 use Rattle.ring_world.specs.Step.{size, is_owned}
 use Rattle.ring_world.specs.Event.{Erase, id_of, erase_refusal, refusal}
 use Rattle.ring_world.specs.Lawful.{row_of}
-use Rattle.ring_world.proofs.invariants.Good.{low, low_forgot}
+use Rattle.ring_world.specs.Compact.{low, low_forgot}
 use Rattle.ring_world.proofs.rings.Rounds.{nat_eq-is, nat_eq-same, nat_eq-not}
 use Rattle.ring_world.proofs.walks.Views.{left_is, left_in_view}
 use Rattle.ring_world.proofs.invariants.Kept.{Inv}
@@ -25,12 +27,20 @@ pub record IsEven (w : World) (y p : ℕ) : Type 0 where
   pub got : low (is_owned (view_in w (newest w)) y (left w (newest w) y) p) (row_of w y p) ≡ (row_of w (left w (newest w) y) p).got
   pub forgot : low_forgot (is_owned (view_in w (newest w)) y (left w (newest w) y) p) (row_of w y p) ≡ (row_of w (left w (newest w) y) p).forgot
 
+-- who runs is up
+abbrev pub RunnersAreUp : World → Type 0
+RunnersAreUp w = (y : ℕ) → runs w y ≡ true → (member_at w y).phase ≡ Up
+
+-- each running member is even with its left neighbour, where that one runs
+abbrev pub NeighboursAreEven : World → Type 0
+NeighboursAreEven w = (y p : ℕ) → runs w y ≡ true → runs w (left w (newest w) y) ≡ true → p < size w → IsEven w y p
+
 -- every live entry runs; who runs is up, has the newest view, and is even with its left neighbour
 pub record HasCalmed (w : World) : Type 0 where
   pub lives : (y : ℕ) → is_live (view_in w (newest w)) y ≡ true → runs w y ≡ true
-  pub up : (y : ℕ) → runs w y ≡ true → (member_at w y).phase ≡ Up
+  pub up : RunnersAreUp w
   pub has : (y : ℕ) → runs w y ≡ true → (member_at w y).version ≡ newest w
-  pub even : (y p : ℕ) → runs w y ≡ true → runs w (left w (newest w) y) ≡ true → p < size w → IsEven w y p
+  pub even : NeighboursAreEven w
 
 -- ---- the first live one of a list
 
@@ -62,21 +72,15 @@ module _ (w : World) (h : Inv w) (calm : HasCalmed w) where
   distinct : AreDistinct (ring w)
   distinct = h.is_ring.distinct (newest w) (omega arith)
 
-  stands : (y : ℕ) → runs w y ≡ true → is_in y (ring w) ≡ true
-  stands y r = h.is_ring.stands y (newest w) r (h.is_ring.held y) (omega arith)
-
-  live_there : (y : ℕ) → runs w y ≡ true → is_live (view_in w (newest w)) y ≡ true
-  live_there y r = h.is_ring.lives y (newest w) r (h.is_ring.held y) (omega arith)
-
   left_in_is : (y : ℕ) → runs w y ≡ true → left w (newest w) y ≡ left_in (is_live (view_in w (newest w))) y (ring w)
-  left_in_is y ry = left_in_view w (newest w) y (stands y ry)
+  left_in_is y ry = left_in_view w (newest w) y (stands_now w h.is_ring y ry)
 
   -- the left neighbour of a running member is live, and runs
   left_lives : (y : ℕ) → runs w y ≡ true → (is_in (left w (newest w) y) (ring w) ≡ true) × (is_live (view_in w (newest w)) (left w (newest w) y) ≡ true)
-  left_lives y ry = by_left (left_is_left (is_live (view_in w (newest w))) (left w (newest w) y) y (ring w) (distinct_others y (ring w) distinct (stands y ry)) (stands y ry) (sym (left_in_is y ry)))
+  left_lives y ry = by_left (left_is_left (is_live (view_in w (newest w))) (left w (newest w) y) y (ring w) (distinct_others y (ring w) distinct (stands_now w h.is_ring y ry)) (stands_now w h.is_ring y ry) (sym (left_in_is y ry)))
     where
       by_left : IsLeft (is_live (view_in w (newest w))) (left w (newest w) y) y (ring w) → (is_in (left w (newest w) y) (ring w) ≡ true) × (is_live (view_in w (newest w)) (left w (newest w) y) ≡ true)
-      by_left (itself e) = (ap (λ q. is_in q (ring w)) e ∙ stands y ry, ap (is_live (view_in w (newest w))) e ∙ live_there y ry)
+      by_left (itself e) = (ap (λ q. is_in q (ring w)) e ∙ stands_now w h.is_ring y ry, ap (is_live (view_in w (newest w))) e ∙ lives_now w h.is_ring y ry)
       by_left (other l i) = (i, l)
 
   left_runs : (y : ℕ) → runs w y ≡ true → runs w (left w (newest w) y) ≡ true
@@ -86,13 +90,9 @@ module _ (w : World) (h : Inv w) (calm : HasCalmed w) where
   owned_is : (y p : ℕ) → runs w y ≡ true → is_in p (ring w) ≡ true → is_owned (view_in w (newest w)) y (left w (newest w) y) p ≡ found_is (owner_of (view_in w (newest w)).entries p) y
   owned_is y p ry ip =
       let es = (view_in w (newest w)).entries in
-      as_or (nat_eq p y) (is_in p (between (view_in w (newest w)) (left w (newest w) y) y))
+      cond_or (nat_eq p y) (is_in p (between (view_in w (newest w)) (left w (newest w) y) y))
       ∙ ap (λ s. nat_eq p y || is_in p (between (view_in w (newest w)) s y)) (left_is w (newest w) y (view_in w (newest w)) refl)
-      ∙ sym (owner_is es y p distinct (live_there y ry) ip)
-    where
-      as_or : (a b : Bool) → cond a true b ≡ (a || b)
-      as_or true b = refl
-      as_or false b = refl
+      ∙ sym (owner_is es y p distinct (lives_now w h.is_ring y ry) ip)
 
   -- the owner of an origin, where anybody runs
   pub record HasOwner (p : ℕ) : Type 0 where
@@ -102,7 +102,7 @@ module _ (w : World) (h : Inv w) (calm : HasCalmed w) where
 
   pub owner_there : (y p : ℕ) → runs w y ≡ true → HasOwner p
   owner_there y p ry =
-      let k : IsFirst (is_live (view_in w (newest w))) (rotated p (ring w)) = first_live (is_live (view_in w (newest w))) y (rotated p (ring w)) (is_in-rotated y p (ring w) ∙ stands y ry) (live_there y ry) in
+      let k : IsFirst (is_live (view_in w (newest w))) (rotated p (ring w)) = first_live (is_live (view_in w (newest w))) y (rotated p (ring w)) (is_in-rotated y p (ring w) ∙ stands_now w h.is_ring y ry) (lives_now w h.is_ring y ry) in
       record { one = k.one; is = k.is; runs_on = calm.lives k.one k.lives }
 
   module _ (p : ℕ) (pl : p < size w) (ip : is_in p (ring w) ≡ true) (o : HasOwner p) where
@@ -129,8 +129,8 @@ module _ (w : World) (h : Inv w) (calm : HasCalmed w) where
         let rx : runs w x ≡ true = o.runs_on in
         let z : ℕ = left w (newest w) x in
         let there = left_lives x rx in
-        let got : (row_of w z p).got ≡ (row_of w x p).got = round_same (is_live v) x (ring w) (λ k. (row_of w k p).got) distinct (stands x rx) (live_there x rx) same_got z there.0 there.1 in
-        let forgot : (row_of w z p).forgot ≡ (row_of w x p).forgot = round_same (is_live v) x (ring w) (λ k. (row_of w k p).forgot) distinct (stands x rx) (live_there x rx) same_forgot z there.0 there.1 in
+        let got : (row_of w z p).got ≡ (row_of w x p).got = round_same (is_live v) x (ring w) (λ k. (row_of w k p).got) distinct (stands_now w h.is_ring x rx) (lives_now w h.is_ring x rx) same_got z there.0 there.1 in
+        let forgot : (row_of w z p).forgot ≡ (row_of w x p).forgot = round_same (is_live v) x (ring w) (λ k. (row_of w k p).forgot) distinct (stands_now w h.is_ring x rx) (lives_now w h.is_ring x rx) same_forgot z there.0 there.1 in
         let even : IsEven w x p = calm.even x p rx (left_runs x rx) pl in
         let own : is_owned v x z p ≡ true = owns_is x rx ∙ nat_eq-same x in
         let once : (row_of w x p).forgot ≡ (row_of w z p).got = subst (λ b. low b (row_of w x p) ≡ (row_of w z p).got) own even.got in

@@ -8,18 +8,17 @@ use Rattle.std.proofs.lemmas.Bool.Decides.{nat_tests}
 use Rattle.ring_names.specs.declared.numbers.CreditSpec.{CreditSpec}
 use Rattle.ring_names.specs.declared.reason.Reason.TheVariants as reason
 use Rattle.credit_flow.specs.Credit.{is_blocked}
-use Rattle.group_view.specs.Ring.{is_in}
 use Rattle.group_view.proofs.Passing.{are_mutual}
-use Rattle.ring_world.specs.Rows.{Row, is_sent}
+use Rattle.ring_world.specs.Rows.{is_sent}
 use Rattle.ring_world.specs.Refusal.{is_empty}
-use Rattle.ring_world.specs.Machine.{oldest, Phase, Waiting, Up, Stopped, World, Link, runs_phase, numbers_at, member_at, link_at, view_in, newest, ring, left, right, runs, is_kept}
+use Rattle.ring_world.specs.Machine.{oldest, Phase, Waiting, Up, Stopped, World, Link, runs_phase, numbers_at, member_at, link_at, view_in, newest, left, right, runs, is_kept}
 use Rattle.ring_world.specs.declared.numbers.Numbers.{Numbers}
 use Rattle.ring_world.specs.View.{is_live, right_of}
 use Rattle.ring_world.specs.Step.{size, is_owned}
 use Rattle.ring_world.specs.OpenLinks.{version_of, comes_from_left, passes, is_current, is_open}
 use Rattle.ring_world.specs.Lawful.{row_of}
 use Rattle.ring_world.specs.Event.{version_refusal, has_nothing_new, holds_nothing, left_neighbour, since, is_at_door, at_door}
-use Rattle.ring_world.proofs.invariants.Good.{Kept, kept_true, true_kept, out_stays}
+use Rattle.ring_world.proofs.invariants.Good.{Kept, kept_true, true_kept, out_stays, lives_now}
 use Rattle.ring_world.proofs.rings.Rounds.{nat_eq-is, nat_eq-same}
 use Rattle.ring_world.proofs.walks.Views.{left_is, right_is}
 use Rattle.ring_world.proofs.invariants.Happens.{IsGood}
@@ -27,10 +26,12 @@ use Rattle.ring_world.proofs.walks.Ended.{SendsOn, EndsRight}
 use Rattle.ring_world.proofs.runs.LinkCredit.{LinkIsKept, IsCredited}
 use Rattle.ring_world.proofs.walks.OpenWalk.{passes_is, place_is}
 use Rattle.ring_world.specs.Idle.{HasSentAll, NobodySteps}
-use Rattle.ring_world.proofs.runs.HasSent.{Has, HasSent}
+use Rattle.ring_world.specs.Compact.{Has}
+use Rattle.ring_world.proofs.work.Rows.{sent_got, sent_forgot}
+use Rattle.ring_world.proofs.runs.HasSent.{HasSent}
 use Rattle.ring_world.proofs.rests.Going.{GoOn}
 use Rattle.ring_world.proofs.invariants.FirstVersion.{IsFirstOld}
-use Rattle.ring_world.proofs.rests.Erasable.{IsEven}
+use Rattle.ring_world.proofs.rests.Erasable.{RunnersAreUp, NeighboursAreEven}
 use Rattle.ring_world.proofs.rests.Asked.{is_refused, later_refused, takes_nothing, none_left, nothing_held, not_ended, no_version, door_is_empty, none_passes}
 
 -- ---- small steps
@@ -54,13 +55,6 @@ pub kept_is_free : (credit : CreditSpec) (l : Link) → LinkIsKept credit.initia
 kept_is_free credit l h packets grants =
     let some : 0 < l.flow.sender.credit = omega (arith, h.kept.kept, h.kept.below, h.kept.none h.prompt, credit.covered, ap length packets, ap sum grants) in
     grind (arith, nat_tests)
-
--- what was last sent
-sent_got : (r : Row) (last : Numbers) → is_sent r last ≡ true → r.got ≡ last.got
-sent_got r last e = nat_eq-is r.got last.got (and_parts (nat_eq r.got last.got) (nat_eq r.forgot last.forgot) e).0
-
-sent_forgot : (r : Row) (last : Numbers) → is_sent r last ≡ true → r.forgot ≡ last.forgot
-sent_forgot r last e = nat_eq-is r.forgot last.forgot (and_parts (nat_eq r.got last.got) (nat_eq r.forgot last.forgot) e).1
 
 -- what holds in every state of every run
 pub record IsReached (w : World) : Type 0 where
@@ -93,7 +87,7 @@ module _ (w : World) (h : IsReached w) (idle : NobodySteps w) where
   good = h.good
 
   -- nobody waits: who waited could take its first packet
-  pub up_there : (y : ℕ) → runs w y ≡ true → (member_at w y).phase ≡ Up
+  pub up_there : RunnersAreUp w
   up_there y r = by_phase (member_at w y).phase refl
     where
       by_current : (member_at w y).phase ≡ Waiting → (c : Option ℕ) → (member_at w y).current ≡ c → ⊥
@@ -111,14 +105,6 @@ module _ (w : World) (h : IsReached w) (idle : NobodySteps w) where
   -- so all have sent all
   pub done : (y : ℕ) → runs w y ≡ true → HasSentAll w y
   done y r = (idle y r).up (up_there y r)
-
-  -- who runs stands in the newest ring
-  pub stands_there : (y : ℕ) → runs w y ≡ true → is_in y (ring w) ≡ true
-  stands_there y r = good.inv.is_ring.stands y (newest w) r (good.inv.is_ring.held y) (omega arith)
-
-  -- and is live there
-  pub lives_there : (y : ℕ) → runs w y ≡ true → is_live (view_in w (newest w)) y ≡ true
-  lives_there y r = good.inv.is_ring.lives y (newest w) r (good.inv.is_ring.held y) (omega arith)
 
   -- a current link holds nothing
   pub current_holds_nothing : (y s : ℕ) → runs w y ≡ true → (member_at w y).current ≡ Some s → holds_nothing (link_at w s) ≡ true
@@ -154,7 +140,7 @@ module _ (w : World) (h : IsReached w) (idle : NobodySteps w) where
       let new : (member_at w l.sender).version ≡ newest w = (done l.sender rs).newest in
       let out : (member_at w l.sender).out ≡ Some s =
       good.inv.linked.is_out s sl rs (subst (Kept w l) (sym new) (true_kept w l (newest w) kept))
-      (subst (λ u. is_live (view_in w u) l.receiver ≡ true) (sym new) (subst (λ q. is_live (view_in w (newest w)) q ≡ true) (sym to) (lives_there y ry))) in
+      (subst (λ u. is_live (view_in w u) l.receiver ≡ true) (sym new) (subst (λ q. is_live (view_in w (newest w)) q ≡ true) (sym to) (lives_now w good.inv.is_ring y ry))) in
       subst (λ q. (member_at w q).out ≡ Some s) (sym from) out
 
   -- the current link is kept up to the newest view
@@ -189,7 +175,7 @@ module _ (w : World) (h : IsReached w) (idle : NobodySteps w) where
       to : (link_at w o).receiver ≡ y
       to =
           good.inv.linked.out_to x o rx e ∙ ap (λ u. right w u x) (done x rx).newest ∙ right_is w v x (view_in w v) refl
-          ∙ ap (right_of (view_in w v)) (left_is w v y (view_in w v) refl) ∙ (are_mutual (view_in w v).entries y (good.inv.is_ring.distinct v (omega arith)) (lives_there y ry)).right_of_left
+          ∙ ap (right_of (view_in w v)) (left_is w v y (view_in w v) refl) ∙ (are_mutual (view_in w v).entries y (good.inv.is_ring.distinct v (omega arith)) (lives_now w good.inv.is_ring y ry)).right_of_left
 
       kept : is_kept w (link_at w o) v ≡ true
       kept = kept_true w (link_at w o) v (out_stays w x o good.inv.is_ring good.inv.linked rx e)
@@ -279,7 +265,7 @@ module _ (w : World) (h : IsReached w) (idle : NobodySteps w) where
       at_range (λ k. is_sent (row_of w x k) (numbers_at (link_at w o).sending.sent k)) 0 (size w) p old (omega arith) (omega arith)
 
   -- neighbours agree
-  pub neighbours_agree : (y p : ℕ) → runs w y ≡ true → runs w (left w (newest w) y) ≡ true → p < size w → IsEven w y p
+  pub neighbours_agree : NeighboursAreEven w
   neighbours_agree y p ry rx pl =
       let tie = current_is_out y ry rx in
       let o : ℕ = tie.0 in

@@ -1,5 +1,6 @@
 -- A ring whose members have nothing to do is quiet, whoever stopped and joined before.
-use Rattle.std.proofs.Common.{◌≡◌, ◌⊎◌, inl, inr, ℕ, zero, suc, ◌<◌, ◌≤◌, Bool, true, false, cond, nat_eq, List, [], ◌∷◌, length, get_or, is_some, refl, sym, ap, subst, ◌∙◌, ⊎_elim, arith}
+use Rattle.ring_world.proofs.invariants.Good.{stands_now, lives_now}
+use Rattle.std.proofs.Common.{◌≡◌, ◌⊎◌, inl, inr, ℕ, zero, suc, ◌<◌, ◌≤◌, Bool, true, false, nat_eq, List, [], ◌∷◌, length, get_or, is_some, refl, sym, ap, subst, ◌∙◌, ⊎_elim, arith}
 use Rattle.std.specs.Prelude.{◌||◌, ◌&&◌}
 use Rattle.std.proofs.lemmas.Bool.{false≢true, cases_lt}
 use Rattle.ring_names.specs.declared.numbers.CreditSpec.{CreditSpec}
@@ -24,16 +25,18 @@ use Rattle.ring_world.proofs.walks.Views.{left_is, right_is}
 use Rattle.ring_world.proofs.invariants.Period.{right_lives}
 use Rattle.ring_world.proofs.walks.Ended.{runs_lt}
 use Rattle.ring_world.proofs.invariants.Happens.{reached_good}
-use Rattle.ring_world.proofs.work.Nobody.{below}
+use Rattle.ring_world.proofs.invariants.Happens.{ring_below}
+use Rattle.group_view.proofs.Truth.{later_true}
+use Rattle.std.proofs.lemmas.Bool.{or_right}
 use Rattle.ring_world.proofs.walks.OpenWalk.{reached_ends}
 use Rattle.ring_world.proofs.runs.LinkCredit.{run_credited}
 use Rattle.ring_world.proofs.runs.OwnLogs.{IsLogged, run_logged}
-use Rattle.ring_world.proofs.runs.HasSent.{reached_has}
+use Rattle.ring_world.proofs.runs.HasSent.{put_last, reached_has}
 use Rattle.ring_world.proofs.rests.Going.{reached_goes}
 use Rattle.ring_world.proofs.invariants.FirstVersion.{reached_old}
 use Rattle.ring_world.proofs.rests.Round.{round}
 use Rattle.ring_world.proofs.rests.Erasable.{HasCalmed, HasOwner, owner_there, has_come_round, may_erase}
-use Rattle.ring_world.proofs.rests.IdleLinks.{IsReached, up_there, done, stands_there, lives_there, no_current, no_door, neighbours_agree, open_holds_nothing}
+use Rattle.ring_world.proofs.rests.IdleLinks.{IsReached, up_there, done, no_current, no_door, neighbours_agree, open_holds_nothing}
 
 -- ---- entries
 
@@ -41,11 +44,7 @@ use Rattle.ring_world.proofs.rests.IdleLinks.{IsReached, up_there, done, stands_
 pub id_in : (es : List Entry) (k : ℕ) (d : Entry) → k < length es → is_in (get_or es k d).id.0 (ids_of es) ≡ true
 id_in [] k d l = absurd (omega arith)
 id_in (e ∷ es) zero d l = rw (nat_eq-same e.id.0) refl
-id_in (e ∷ es) (suc k) d l = later (nat_eq (get_or es k d).id.0 e.id.0) (id_in es k d (omega arith))
-  where
-    later : {c : Bool} (b : Bool) → c ≡ true → cond b true c ≡ true
-    later true j = refl
-    later false j = j
+id_in (e ∷ es) (suc k) d l = later_true (nat_eq (get_or es k d).id.0 e.id.0) (id_in es k d (omega arith))
 
 -- and the entry of that id
 pub entry_at : (es : List Entry) (k : ℕ) (d : Entry) → AreDistinct (ids_of es) → k < length es → entry_in es (get_or es k d).id.0 ≡ get_or es k d
@@ -61,10 +60,6 @@ stopped_is : (f : Phase) → runs_phase f ≡ false → is_stopped f ≡ true
 stopped_is Waiting e = absurd (false≢true (sym e))
 stopped_is Up e = absurd (false≢true (sym e))
 stopped_is Stopped e = refl
-
-second : (a b : Bool) → b ≡ true → (a || b) ≡ true
-second true b e = refl
-second false b e = e
 
 module _ (w : World) (h : IsReached w) (lg : IsLogged w) (idle : NobodySteps w) (marks : MarksNobody w) (y0 : ℕ) (r0 : runs w y0 ≡ true) where
   abbrev v : Group
@@ -87,7 +82,7 @@ module _ (w : World) (h : IsReached w) (lg : IsLogged w) (idle : NobodySteps w) 
       there = ap (λ u. right_of (view_in w u) x) (done w h idle x rx).newest ∙ right_now
 
       neighbour : is_neighbour w x y ≡ true
-      neighbour = second (nat_eq y (left_neighbour w x)) _ (ap (nat_eq y) there ∙ nat_eq-same y)
+      neighbour = or_right (nat_eq y (left_neighbour w x)) _ (ap (nat_eq y) there ∙ nat_eq-same y)
 
       still : runs w y ≡ false → (b : Bool) → nat_eq y (left_neighbour w x) ≡ b → (b && (is_some (member_at w x).current || is_some (at_door w x))) ≡ false
       still rests false e = refl
@@ -104,7 +99,7 @@ module _ (w : World) (h : IsReached w) (lg : IsLogged w) (idle : NobodySteps w) 
 
   -- so every live entry runs
   pub all_run : (y : ℕ) → is_live v y ≡ true → runs w y ≡ true
-  all_run y ly = round (is_live v) y0 (ring w) distinct (stands_there w h idle y0 r0) (lives_there w h idle y0 r0) (λ k. runs w k ≡ true) r0 (λ k ik lk ne e. goes_right k ik lk e) y (live_in v.entries y ly) ly
+  all_run y ly = round (is_live v) y0 (ring w) distinct (stands_now w h.good.inv.is_ring y0 r0) (lives_now w h.good.inv.is_ring y0 r0) (λ k. runs w k ≡ true) r0 (λ k ik lk ne e. goes_right k ik lk e) y (live_in v.entries y ly) ly
 
   calm : HasCalmed w
   calm = record {
@@ -117,9 +112,9 @@ module _ (w : World) (h : IsReached w) (lg : IsLogged w) (idle : NobodySteps w) 
   -- all that a member published has come round to it, and the acknowledgement too
   pub all_come_round : (p : ℕ) → runs w p ≡ true → (row_of w p p).retired ≡ length (log_of w p)
   all_come_round p rp =
-      let ip : is_in p (ring w) ≡ true = stands_there w h idle p rp in
+      let ip : is_in p (ring w) ≡ true = stands_now w h.good.inv.is_ring p rp in
       let o : HasOwner w h.good.inv calm p = owner_there w h.good.inv calm y0 p r0 in
-      let owns : found_is (owner_of v.entries p) p ≡ true = owner_is v.entries p p distinct (lives_there w h idle p rp) ip ∙ rw (nat_eq-same p) refl in
+      let owns : found_is (owner_of v.entries p) p ≡ true = owner_is v.entries p p distinct (lives_now w h.good.inv.is_ring p rp) ip ∙ rw (nat_eq-same p) refl in
       let is : o.one ≡ p = nat_eq-is o.one p (sym (ap (λ a. found_is a p) o.is) ∙ owns) in
       subst (λ k. (row_of w k p).retired ≡ (row_of w k p).got) is (sym (has_come_round w h.good.inv calm p (runs_lt w p rp) ip o)) ∙ lg.own p
 
@@ -151,7 +146,7 @@ module _ (w : World) (h : IsReached w) (lg : IsLogged w) (idle : IsIdle w) (y0 :
   others y ry = (idle y ry).up (up_there w h steps y ry)
 
   marks : MarksNobody w
-  marks x rx = (others x rx).mark (right w (newest w) x) (below w h.good (right w (newest w) x) (live_in (view_in w (newest w)).entries (right w (newest w) x) (right_lives w (newest w) x (lives_there w h steps x rx))))
+  marks x rx = (others x rx).mark (right w (newest w) x) (ring_below w h.good (right w (newest w) x) (live_in (view_in w (newest w)).entries (right w (newest w) x) (right_lives w (newest w) x (lives_now w h.good.inv.is_ring x rx))))
 
   -- no entry is dead: its owner could have it erased
   none_dead : (p : ℕ) → is_in p (ring w) ≡ true → is_dead (view_in w (newest w)).entries p ≡ false
@@ -165,7 +160,7 @@ module _ (w : World) (h : IsReached w) (lg : IsLogged w) (idle : IsIdle w) (y0 :
 
       by_dead : (b : Bool) → is_dead (view_in w (newest w)).entries p ≡ b → is_dead (view_in w (newest w)).entries p ≡ false
       by_dead false e = e
-      by_dead true e = absurd ((others o.one o.runs_on).erase p (below w h.good p ip) (may_erase w h.good.inv still p (below w h.good p ip) ip o e))
+      by_dead true e = absurd ((others o.one o.runs_on).erase p (ring_below w h.good p ip) (may_erase w h.good.inv still p (ring_below w h.good p ip) ip o e))
 
   pub idle_rests : IsAtRest w
   idle_rests = calm_rests w h lg steps marks y0 r0 none_dead
@@ -195,7 +190,7 @@ pub reached : (credit : CreditSpec) (names : List (List ℕ)) (events : List Eve
 reached credit names events are r = record {
   good = reached_good credit names events are r;
   ends = reached_ends credit names events are r;
-  sent = reached_has credit names events are r;
+  sent = reached_has put_last credit names events are r;
   credit = credit;
   credited = run_credited credit names events are r;
   goes = reached_goes credit names events are r;

@@ -16,6 +16,7 @@ use Rattle.ring_world.proofs.runs.BornStays.{run_keeps_born}
 use Rattle.ring_world.proofs.runs.Leads.{run_leads_on}
 use Rattle.ring_world.proofs.runs.Guarantee.{hears_all_since}
 use Rattle.ring_world.proofs.runs.NeverFalls.{run_never_falls}
+use Rattle.ring_world.proofs.compact.AllCompact.{reached_compact}
 use Rattle.ring_world.proofs.runs.InOrder.{HasNoGap, run_hears_in_order, run_hears_what_follows}
 
 runs_have_no_gap : (credit : CreditSpec) (names : List (List ℕ)) → AreOpeningNames names → (es : List Event) → IsRun (opening credit names) es → HasNoGap (last (opening credit names) es)
@@ -37,6 +38,7 @@ every_state_lawful credit names events are run = record {
   credit = run_keeps_credit credit names events are run;
   erased = run_erased_agrees credit names events are run;
   joins = run_joins_in_time credit names events are run;
+  compact = reached_compact credit names events are run;
 }
 
 pub every_run_goes_on : (credit : CreditSpec) (names : List (List ℕ)) (earlier later : List Event) → AreOpeningNames names → IsRun (opening credit names) earlier → IsRun (last (opening credit names) earlier) later

@@ -1,5 +1,5 @@
 -- What a running member has forgotten, and what a packet that counts says was forgotten, no running member has still to receive.
-use Rattle.std.proofs.Common.{◌≡◌, ℕ, zero, suc, ◌<◌, ◌≤◌, Bool, true, false, cond, List, [], ◌∷◌, ◌++◌, length, get_or, refl, sym, ap, subst, ◌∙◌, arith, nat_eq, ◌⊎◌, inl, inr}
+use Rattle.std.proofs.Common.{◌≡◌, ℕ, zero, suc, ◌<◌, ◌≤◌, Bool, true, false, cond, List, [], ◌∷◌, ◌++◌, length, get_or, refl, sym, ap, subst, ◌∙◌, arith, nat_eq, ◌⊎◌, inl, inr, Some}
 use Rattle.std.specs.List.{flat_map}
 use Rattle.std.proofs.lemmas.Bool.{false≢true}
 use Rattle.group_view.specs.Ring.{is_in, rotated}
@@ -7,8 +7,8 @@ use Rattle.group_view.proofs.Rings.{is_in-rotated, nat_eq-is, nat_eq-same, in_fi
 use Rattle.group_view.proofs.Neighbours.{in-filter}
 use Rattle.ring_world.specs.declared.numbers.Numbers.{Numbers}
 use Rattle.ring_world.specs.Rows.{Row}
-use Rattle.ring_world.specs.Machine.{Up, World, Packet, Link, no_link, member_at, link_at, row_at, numbers_at, newest, ring, runs, is_kept, is_waiting}
-use Rattle.ring_world.specs.OpenLinks.{NeverRises, number}
+use Rattle.ring_world.specs.Machine.{Waiting, Up, runs_phase, oldest, World, Packet, Link, no_link, member_at, link_at, row_at, numbers_at, newest, ring, runs, is_kept, is_waiting}
+use Rattle.ring_world.specs.OpenLinks.{NeverRises, first_packet, own_number, number}
 use Rattle.ring_world.proofs.walks.CountedWalk.{newest_first, numbers, only, no_but, counted, is_early, block, round, round_of, retired_by, stopped_from, running_from, walk}
 use Rattle.ring_world.proofs.invariants.Good.{IsRing}
 use Rattle.ring_world.proofs.walks.Put.{number_up, runs_phase-Up}
@@ -68,23 +68,47 @@ pub forgot_below : (w : World) (x y p : ℕ) → IsRing w → NeverRises (walk w
 forgot_below w x y p h falls ux uy =
     apart w p (row_at (member_at w y) p).got (row_at (member_at w x) p).forgot falls (own_in (λ k. k.got) (λ r. r.got) w p y h uy) (own_in (λ k. k.forgot) (λ r. r.forgot) w p x h ux)
 
--- what the oldest packet of a kept link says was forgotten its receiver has received
-pub first_below : (w : World) (y s p : ℕ) (k : Packet) (ks : List Packet) → IsRing w → NeverRises (walk w p) → (member_at w y).phase ≡ Up → s < length w.links → (link_at w s).receiver ≡ y → is_kept w (link_at w s) (member_at w y).version ≡ true → (link_at w s).packets ≡ k ∷ ks → (numbers_at k p).forgot ≤ (row_at (member_at w y) p).got
-first_below w y s p k ks h falls up lt to kept e =
-    apart w p (row_at (member_at w y) p).got (numbers_at k p).forgot falls (own_in (λ k. k.got) (λ r. r.got) w p y h up)
-    (packet_in_round _ (λ q. numbers f (counted w q) w.links) _ (number (λ k. k.forgot) (λ r. r.forgot) w p) y (f k) (running_from w p) (runner w p y h up)
+-- a number of the oldest packet of a kept link stands in its round
+oldest_in : (g : Numbers → ℕ) (r : Row → ℕ) (w : World) (y s p : ℕ) (k : Packet) (ks : List Packet) → IsRing w → (member_at w y).phase ≡ Up → s < length w.links → (link_at w s).receiver ≡ y → is_kept w (link_at w s) (member_at w y).version ≡ true → (link_at w s).packets ≡ k ∷ ks
+    → is_in (g (numbers_at k p)) (round_of g r w p (stopped_from w p) (running_from w p)) ≡ true
+oldest_in g r w y s p k ks h up lt to kept e =
+    packet_in_round _ (λ q. numbers f (counted w q) w.links) _ (number g r w p) y (f k) (running_from w p) (runner w p y h up)
     (in_numbers f (counted w y) w.links s k ks lt all)
-    (by_early (is_early (stopped_from w p) (link_at w s)) refl))
+    (by_early (is_early (stopped_from w p) (link_at w s)) refl)
   where
     f : Packet → ℕ
-    f j = (numbers_at j p).forgot
-
-    st : List ℕ
-    st = stopped_from w p
+    f j = g (numbers_at j p)
 
     all : counted w y (link_at w s) ≡ k ∷ ks
     all = counted_all w y (link_at w s) to kept (ap is_waiting up) ∙ e
 
-    by_early : (b : Bool) → is_early st (link_at w s) ≡ b → (is_in (f k) (numbers f (only (is_early st) (counted w y)) w.links) ≡ true) ⊎ (is_in (f k) (numbers f (no_but (is_early st) (counted w y)) w.links) ≡ true)
-    by_early true b = inl (in_numbers f (only (is_early st) (counted w y)) w.links s k ks lt (ap (λ t. cond t (counted w y (link_at w s)) []) b ∙ all))
-    by_early false b = inr (in_numbers f (no_but (is_early st) (counted w y)) w.links s k ks lt (ap (λ t. cond t [] (counted w y (link_at w s))) b ∙ all))
+    by_early : (b : Bool) → is_early (stopped_from w p) (link_at w s) ≡ b → (is_in (f k) (numbers f (only (is_early (stopped_from w p)) (counted w y)) w.links) ≡ true) ⊎ (is_in (f k) (numbers f (no_but (is_early (stopped_from w p)) (counted w y)) w.links) ≡ true)
+    by_early true b = inl (in_numbers f (only (is_early (stopped_from w p)) (counted w y)) w.links s k ks lt (ap (λ t. cond t (counted w y (link_at w s)) []) b ∙ all))
+    by_early false b = inr (in_numbers f (no_but (is_early (stopped_from w p)) (counted w y)) w.links s k ks lt (ap (λ t. cond t [] (counted w y (link_at w s))) b ∙ all))
+
+-- what the oldest packet of a kept link says was forgotten its receiver has received
+pub first_below : (w : World) (y s p : ℕ) (k : Packet) (ks : List Packet) → IsRing w → NeverRises (walk w p) → (member_at w y).phase ≡ Up → s < length w.links → (link_at w s).receiver ≡ y → is_kept w (link_at w s) (member_at w y).version ≡ true → (link_at w s).packets ≡ k ∷ ks → (numbers_at k p).forgot ≤ (row_at (member_at w y) p).got
+first_below w y s p k ks h falls up lt to kept e =
+    apart w p (row_at (member_at w y) p).got (numbers_at k p).forgot falls (own_in (λ j. j.got) (λ a. a.got) w p y h up) (oldest_in (λ j. j.forgot) (λ a. a.forgot) w y s p k ks h up lt to kept e)
+
+-- and that packet says was received
+pub oldest_below : (w : World) (y s p : ℕ) (k : Packet) (ks : List Packet) → IsRing w → NeverRises (walk w p) → (member_at w y).phase ≡ Up → s < length w.links → (link_at w s).receiver ≡ y → is_kept w (link_at w s) (member_at w y).version ≡ true → (link_at w s).packets ≡ k ∷ ks → (numbers_at k p).forgot ≤ (numbers_at k p).got
+oldest_below w y s p k ks h falls up lt to kept e =
+    apart w p (numbers_at k p).got (numbers_at k p).forgot falls (oldest_in (λ j. j.got) (λ a. a.got) w y s p k ks h up lt to kept e) (oldest_in (λ j. j.forgot) (λ a. a.forgot) w y s p k ks h up lt to kept e)
+
+-- what the first packet of a waiting member says was forgotten it says was received
+pub first_packet_below : (w : World) (y s p : ℕ) → IsRing w → NeverRises (walk w p) → (member_at w y).phase ≡ Waiting → (member_at w y).current ≡ Some s → (numbers_at (oldest (link_at w s)) p).forgot ≤ (numbers_at (oldest (link_at w s)) p).got
+first_packet_below w y s p h falls waits current =
+    apart w p (numbers_at (oldest (link_at w s)) p).got (numbers_at (oldest (link_at w s)) p).forgot falls (stands (λ k. k.got) (λ r. r.got)) (stands (λ k. k.forgot) (λ r. r.forgot))
+  where
+    ry : runs w y ≡ true
+    ry = ap runs_phase waits
+
+    there : is_in y (running_from w p) ≡ true
+    there = in-filter (runs w) y (rotated p (ring w)) (is_in-rotated y p (ring w) ∙ h.stands y (newest w) ry (h.held y) (omega arith)) ry
+
+    stands : (g : Numbers → ℕ) (r : Row → ℕ) → is_in (g (numbers_at (oldest (link_at w s)) p)) (round_of g r w p (stopped_from w p) (running_from w p)) ≡ true
+    stands g r =
+        subst (λ a. is_in a (round_of g r w p (stopped_from w p) (running_from w p)) ≡ true)
+        (ap (λ f. own_number g r w p f (member_at w y)) waits ∙ ap (λ c. g (numbers_at (first_packet w c) p)) current)
+        (each_in_round _ _ _ (number g r w p) y (running_from w p) there)

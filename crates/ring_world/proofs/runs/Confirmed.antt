@@ -75,17 +75,21 @@ all_confirms w p g h some lt = by_runs (runs w p) refl
 
 -- ---- steps
 
+-- as much of it has come round as before
+abbrev pub KeepsForgot : World → World → ℕ → Type 0
+KeepsForgot w w' p = (row_of w' p p).forgot ≡ (row_of w p p).forgot
+
 -- what a step does, seen from one that doesn't run after it
 pub record MovedOn (w w' : World) (p : ℕ) : Type 0 where
   pub pl : p < size w
   pub edits : Edits w w' p
-  pub forgot : (row_of w' p p).forgot ≡ (row_of w p p).forgot
+  pub forgot : KeepsForgot w w' p
 
 -- where nobody stops, who doesn't run after it didn't before
 record Rested (w w' : World) (p : ℕ) : Type 0 where
   pl : p < size w
   rests : runs w p ≡ false
-  forgot : (row_of w' p p).forgot ≡ (row_of w p p).forgot
+  forgot : KeepsForgot w w' p
 
 -- a member that runs is written, whatever happens to links
 written_rests : (w w' : World) (x p : ℕ) (m : Member) → w'.members ≡ set w.members x m → x < size w → runs_phase m.phase ≡ true → p < size w' → runs w' p ≡ false → Rested w w' p

@@ -34,7 +34,8 @@ use Rattle.ring_world.proofs.invariants.Happens.{IsGood, opening_good, reached_g
 use Rattle.ring_world.proofs.events.WhatRefuses.{MayErase}
 use Rattle.ring_world.proofs.walks.Ended.{EndsRight, ends_run}
 use Rattle.ring_world.proofs.walks.OpenWalk.{counts, reached_ends}
-use Rattle.ring_world.proofs.walks.OwnsAlone.{OwnsAlone, owns_alone, alias_facts}
+use Rattle.ring_world.proofs.invariants.Standing.{OwnsAlone, owns_alone}
+use Rattle.ring_world.proofs.walks.Aliases.{alias_facts}
 use Rattle.ring_world.proofs.walks.Twice.{gots, forgots, Edits}
 use Rattle.ring_world.proofs.walks.Agreed.{AllAre, all_are_kept, all_are_at, squeezed}
 use Rattle.ring_world.proofs.runs.Confirmed.{runs_in_walk, number_in_gots, number_in_forgots}

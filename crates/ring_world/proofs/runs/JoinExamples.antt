@@ -21,19 +21,19 @@ abbrev x : List ℕ
 x = 120 ∷ []
 
 -- why some of the events are refused; a refused event does nothing
-abbrev step_on : World → Event → Option Reason → World
+abbrev pub step_on : World → Event → Option Reason → World
 step_on w e None = effect w e
 step_on w e (Some r) = w
 
-abbrev noted : Option Reason → List Reason → List Reason
+abbrev pub noted : Option Reason → List Reason → List Reason
 noted None rs = rs
 noted (Some r) rs = r ∷ rs
 
-abbrev reasons : World → List Event → List Reason
+abbrev pub reasons : World → List Event → List Reason
 reasons w [] = []
 reasons w (e ∷ es) = noted (refusal w e) (reasons (step_on w e (refusal w e)) es)
 
-abbrev ends_in : World → List Event → World
+abbrev pub ends_in : World → List Event → World
 ends_in w [] = w
 ends_in w (e ∷ es) = ends_in (step_on w e (refusal w e)) es
 

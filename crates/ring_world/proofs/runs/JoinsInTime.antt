@@ -1,18 +1,21 @@
 -- Who joins receives every message that is published after its admission.
-use Rattle.std.proofs.Common.{◌≡◌, ◌≢◌, ℕ, ◌<◌, ◌≤◌, Bool, true, false, List, [], ◌∷◌, ◌++◌, length, get_or, Some, refl, sym, ap, subst, ◌∙◌, ⊎_elim, arith}
-use Rattle.std.proofs.lemmas.Bool.{false≢true, cases_eq, cases_lt}
+use Rattle.ring_world.proofs.invariants.KeptLook.{look_up}
+use Rattle.ring_world.proofs.invariants.KeptBegin.{begins_other}
+use Rattle.ring_world.proofs.walks.Put.{oldest_pushed}
+use Rattle.std.proofs.Common.{◌≡◌, ◌≢◌, ℕ, ◌<◌, ◌≤◌, Bool, true, false, List, [], ◌∷◌, length, get_or, Some, refl, sym, ap, subst, ◌∙◌, ⊎_elim, arith}
+use Rattle.std.proofs.lemmas.Bool.{cases_eq, cases_lt}
 use Rattle.std.proofs.lemmas.List.{length-set, length_push, get_or_append_left}
 use Rattle.ring_names.specs.declared.numbers.CreditSpec.{CreditSpec}
 use Rattle.group_view.specs.Change.{AreOpeningNames}
 use Rattle.ring_world.specs.Refusal.{is_empty}
 use Rattle.ring_world.specs.Rows.{Row, no_row, taken_row}
-use Rattle.ring_world.specs.Machine.{Waiting, Up, World, Packet, Member, Link, no_member, no_link, no_packet, row_at, numbers_at, member_at, link_at, right, runs_phase, is_waiting, oldest}
+use Rattle.ring_world.specs.Machine.{Waiting, Up, World, Member, Link, no_member, no_link, no_packet, row_at, numbers_at, member_at, link_at, right, runs_phase, is_waiting, oldest}
 use Rattle.ring_world.specs.Step.{size, log_of, pushed, popped, next_packet, published, taker, begun, begin_from, with_current, stopped, moved_to, with_member, with_link, look_at, opened_link, joiner, opening}
 use Rattle.ring_world.specs.Event.{Event, IsRun, last}
 use Rattle.ring_world.specs.Lawful.{row_of, JoinsInTime}
 use Rattle.ring_world.proofs.events.WhatRefuses.{MayBegin}
 use Rattle.ring_world.proofs.rings.Lists.{at_set, get_or_beyond}
-use Rattle.ring_world.proofs.invariants.Kept.{Inv, set_alike}
+use Rattle.ring_world.proofs.invariants.Kept.{Inv, set_alike, WaitersStay}
 use Rattle.ring_world.proofs.invariants.KeptTake.{taker_beyond}
 use Rattle.ring_world.proofs.invariants.KeptCast.{gained_rows}
 use Rattle.ring_world.proofs.invariants.KeptOpen.{out_member}
@@ -33,7 +36,7 @@ pub data RowKept (r r' : Row) : Type 0 where
 pub record Alike (w w' : World) : Type 0 where
   pub rows : (q p : ℕ) → RowKept (row_of w q p) (row_of w' q p)
   pub logs : (p : ℕ) → length (log_of w p) ≤ length (log_of w' p)
-  pub waits : (q : ℕ) → (member_at w' q).phase ≡ Waiting → member_at w' q ≡ member_at w q
+  pub waits : WaitersStay w w'
   pub links : (q s : ℕ) → (member_at w q).phase ≡ Waiting → (member_at w q).current ≡ Some s → oldest (link_at w' s) ≡ oldest (link_at w s)
 
 alike_joins : (w w' : World) → Alike w w' → JoinsInTime w → JoinsInTime w'
@@ -83,13 +86,6 @@ pub record IsHere (w : World) : Type 0 where
   pub good : IsGood w
   pub logged : IsLogged w
 
-oldest_pushed : (l : Link) (k : Packet) → is_empty l.packets ≡ false → oldest (pushed l k) ≡ oldest l
-oldest_pushed l k e = by_list l.packets e
-  where
-    by_list : (ks : List Packet) → is_empty ks ≡ false → get_or (ks ++ k ∷ []) 0 no_packet ≡ get_or ks 0 no_packet
-    by_list [] e = absurd (false≢true (sym e))
-    by_list (j ∷ js) e = refl
-
 -- a first take
 begin_joins : (w : World) (y s : ℕ) → (member_at w y).phase ≡ Waiting → (member_at w y).current ≡ Some s → y < size w → s < length w.links → (link_at w s).receiver ≡ y → Inv w → JoinsInTime w → JoinsInTime (begin_from w y s)
 begin_joins w y s waits current lt there to inv h = record {
@@ -101,7 +97,7 @@ begin_joins w y s waits current lt there to inv h = record {
       let takes : (member_at w q).current ≡ Some t = sym (ap (λ a. a.current) same) ∙ current2 in
       let old : oldest (link_at (begin_from w y s) t) ≡ oldest (link_at w t) =
       at_set (λ i l. i ≢ s → oldest l ≡ oldest (link_at w i)) w.links s t (popped (link_at w s)) no_link there (λ d. absurd (d refl)) (λ _ _. refl)
-      (λ is. not_y q waits2 (sym (inv.waiting.mine q t was takes) ∙ ap (λ j. (link_at w j).receiver) is ∙ to)) in
+      (λ is. begins_other w y s lt q waits2 (sym (inv.waiting.mine q t was takes) ∙ ap (λ j. (link_at w j).receiver) is ∙ to)) in
       omega (arith, ap (λ j. (numbers_at j p).got) old, ap (λ a. (row_at a p).born) same, h.first q p t was takes);
 }
   where
@@ -116,11 +112,6 @@ begin_joins w y s waits current lt there to inv h = record {
 
     begun_born : (p : ℕ) → (row_at b p).born ≤ length (log_of w p)
     begun_born p = begun_at (λ (r : Row). r.born ≤ length (log_of w p)) w y s p (λ _. h.born y p) (λ _. omega arith)
-
-    not_y : (q : ℕ) → (member_at (begin_from w y s) q).phase ≡ Waiting → q ≢ y
-    not_y q e is =
-        let up : (member_at (begin_from w y s) q).phase ≡ Up = at_set (λ k a. k ≡ y → a.phase ≡ Up) w.members y q b no_member lt (λ _. refl) (λ d k. absurd (d k)) is in
-        let bad : Up ≡ Waiting = sym up ∙ e in cc
 
 -- an admission
 join_joins : (w : World) (m : ℕ) (name : List ℕ) → CanJoin w m → IsLogged w → JoinsInTime w → JoinsInTime (joined_state w m name)
@@ -207,11 +198,8 @@ move_stays w w' g (open_move x v m moves e) = twice w1 looked (subst (Alike w1) 
     lt1 : x < size w1
     lt1 = omega (arith, m.is_member, length-set w.members x (moved_to w x v))
 
-    up1 : (member_at w1 x).phase ≡ Up
-    up1 = at_set (λ i a. i ≡ x → a.phase ≡ Up) w.members x x (moved_to w x v) no_member m.is_member (λ _. m.up) (λ d k. absurd (d k)) refl
-
     opened : Alike w1 (with_member w1 x (out_member w1 x))
-    opened = set_same w1 x (out_member w1 x) lt1 (ap is_waiting up1) (λ p. stays_kept (row_of w1 x p)) (omega arith)
+    opened = set_same w1 x (out_member w1 x) lt1 (ap is_waiting (look_up w x v m.is_member m.up)) (λ p. stays_kept (row_of w1 x p)) (omega arith)
 
     waiting_link : (q s : ℕ) → (member_at w1 q).phase ≡ Waiting → (member_at w1 q).current ≡ Some s → s < length w.links
     waiting_link q s waits current =

@@ -1,6 +1,6 @@
 -- A master leads until it is erased, and then the term rises where another is elected.
-use Rattle.std.proofs.Common.{◌≡◌, ◌⊎◌, inl, inr, ℕ, ◌≤◌, Bool, true, false, not, cond, List, Option, Some, None, refl, sym, ap, subst, ◌∙◌, ⊎_elim, arith}
-use Rattle.std.proofs.lemmas.Bool.{false≢true}
+use Rattle.ring_world.proofs.events.Refusals.{not_false}
+use Rattle.std.proofs.Common.{◌≡◌, ◌⊎◌, inl, inr, ℕ, ◌≤◌, Bool, true, false, cond, List, Option, Some, None, refl, sym, ap, subst, ◌∙◌, ⊎_elim, arith}
 use Rattle.ring_names.specs.declared.numbers.CreditSpec.{CreditSpec}
 use Rattle.ring_names.specs.declared.numbers.MemberId.{MemberId}
 use Rattle.group_view.specs.View.{Group, as_id, is_erased, stands_in}
@@ -36,16 +36,12 @@ install_step g = by_stands (stands_in g.entries g.master) refl
     nobody None n e = refl
     nobody (Some id) n e = absurd (omega (arith, e))
 
-    falls : (b : Bool) → not b ≡ false → b ≡ true
-    falls true e = refl
-    falls false e = absurd (false≢true (sym e))
-
     by_stands : (b : Bool) → stands_in g.entries g.master ≡ b → LeadStep g (record g { master = cond b g.master (elected g.entries); term = cond b g.term (term_after (elected g.entries) g.term) })
     by_stands true e = same_step g _ refl refl
     by_stands false e = record {
       rises = later (elected g.entries) g.term;
       stays = λ t. inr (nobody (elected g.entries) g.term t);
-      gone = λ m is. inr (falls (is_erased g.entries m) (ap (stands_in g.entries) (sym is) ∙ e));
+      gone = λ m is. inr (not_false (is_erased g.entries m) (ap (stands_in g.entries) (sym is) ∙ e));
     }
 
 -- each step

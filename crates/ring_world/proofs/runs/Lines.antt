@@ -5,7 +5,7 @@ use Rattle.std.proofs.lemmas.Bool.{false≢true}
 use Rattle.ring_world.specs.declared.numbers.Numbers.{Numbers}
 use Rattle.ring_world.specs.Rows.{Row, no_numbers}
 use Rattle.ring_world.specs.Refusal.{is_empty}
-use Rattle.ring_world.specs.Machine.{Up, Packet, Member, Sending, Link, World, no_packet, row_at, numbers_at, member_at, link_at, view_in, runs, is_kept}
+use Rattle.ring_world.specs.Machine.{Waiting, Up, Packet, Member, Sending, Link, World, no_packet, row_at, numbers_at, member_at, link_at, view_in, runs, is_kept}
 use Rattle.ring_world.specs.Step.{size, next_lines, next_packet, is_owned}
 
 -- ---- the packets of a link, one after another
@@ -21,9 +21,9 @@ IsChain [] sent = ⊤
 IsChain (k ∷ ks) sent = ChainsOn k ks sent
 
 -- a link from which nothing was taken has its first packet, which begins where its sender had forgotten
-abbrev pub HasFirst : List Packet → Type 0
-HasFirst [] = ⊥
-HasFirst (k ∷ ks) = (p : ℕ) → (numbers_at k p).lo ≤ (numbers_at k p).forgot
+abbrev pub HasFirst : Sending → List Packet → Type 0
+HasFirst had [] = ⊥
+HasFirst had (k ∷ ks) = (had.fresh ≡ true) × ((p : ℕ) → (numbers_at k p).lo ≤ (numbers_at k p).forgot)
 
 -- the oldest packet begins, or where there is none the next one will begin, no later than got
 abbrev pub BeginsBy : List Packet → Sending → ℕ → ℕ → Type 0
@@ -51,9 +51,9 @@ chain_drop (k ∷ []) sent h = tt
 chain_drop (k ∷ (j ∷ js)) sent h = h.1
 
 -- the first packet stays it
-pub first_push : (ks : List Packet) (j : Packet) → HasFirst ks → HasFirst (ks ++ j ∷ [])
-first_push [] j h = absurd h
-first_push (k ∷ ks) j h = h
+pub first_push : (had : Sending) (ks : List Packet) (j : Packet) → HasFirst had ks → HasFirst had (ks ++ j ∷ [])
+first_push had [] j h = absurd h
+first_push had (k ∷ ks) j h = h
 
 -- the receiver has more
 pub begins_more : (ks : List Packet) (s : Sending) (p a b : ℕ) → a ≤ b → BeginsBy ks s p a → BeginsBy ks s p b
@@ -109,7 +109,9 @@ pub record LinesRight (w : World) : Type 0 where
   pub begun : (s : ℕ) → s < length w.links → (link_at w s).sending.fresh ≡ true → (link_at w s).packets ≡ []
   pub chain : (s : ℕ) → s < length w.links → IsChain (link_at w s).packets (link_at w s).sending.sent
   -- nothing was taken from a kept link that isn't current and wasn't
-  pub untouched : (y s : ℕ) → s < length w.links → runs w y ≡ true → (link_at w s).receiver ≡ y → (link_at w s).over ≡ false → is_kept w (link_at w s) (member_at w y).version ≡ true → (member_at w y).current ≢ Some s → HasFirst (link_at w s).packets
+  pub untouched : (y s : ℕ) → s < length w.links → runs w y ≡ true → (link_at w s).receiver ≡ y → (link_at w s).over ≡ false → is_kept w (link_at w s) (member_at w y).version ≡ true → (member_at w y).current ≢ Some s → HasFirst (link_at w s).had (link_at w s).packets
+  -- nor from the current link of one that waits
+  pub waits : (y s : ℕ) → (member_at w y).phase ≡ Waiting → (member_at w y).current ≡ Some s → (link_at w s).had.fresh ≡ true
   -- nothing is missing at the front of the current link of one that is up
   pub current : (y s p : ℕ) → (member_at w y).phase ≡ Up → (member_at w y).current ≡ Some s → 1 ≤ p → p < size w → is_owned (view_in w (member_at w y).version) y (link_at w s).sender p ≡ false → BeginsBy (link_at w s).packets (link_at w s).sending p (row_at (member_at w y) p).got
 
@@ -122,6 +124,7 @@ pub record SameLine (l l' : Link) : Type 0 where
   pub opened : l'.opened ≡ l.opened
   pub packets : l'.packets ≡ l.packets
   pub sending : l'.sending ≡ l.sending
+  pub had : l'.had ≡ l.had
   pub over : l'.over ≡ false → l.over ≡ false
 
 -- fewer run, got may rise, and current links may only be lost
@@ -131,6 +134,7 @@ pub record Still (w w' : World) : Type 0 where
   pub lines : (s : ℕ) → SameLine (link_at w s) (link_at w' s)
   pub runs_less : (y : ℕ) → runs w' y ≡ true → runs w y ≡ true
   pub ups : (y : ℕ) → (member_at w' y).phase ≡ Up → (member_at w y).phase ≡ Up
+  pub waits : (y : ℕ) → (member_at w' y).phase ≡ Waiting → (member_at w y).phase ≡ Waiting
   pub keeps : (y s : ℕ) → runs w' y ≡ true → is_kept w' (link_at w' s) (member_at w' y).version ≡ true → is_kept w (link_at w s) (member_at w y).version ≡ true
   pub current : (y s : ℕ) → (member_at w' y).current ≡ Some s → (member_at w y).current ≡ Some s
   pub stays : (y s : ℕ) → s < length w.links → (link_at w' s).over ≡ false → is_kept w' (link_at w' s) (member_at w' y).version ≡ true → (member_at w y).current ≡ Some s → (member_at w' y).current ≡ Some s
@@ -146,8 +150,10 @@ lines_still w w' k h = record {
       (subst (λ a. IsChain a (link_at w s).sending.sent) (sym (k.lines s).packets) (h.chain s (omega (arith, k.many))));
   untouched = λ y s l r to o kept c.
       let l2 : s < length w.links = omega (arith, k.many) in
-      subst HasFirst (sym (k.lines s).packets)
-      (h.untouched y s l2 (k.runs_less y r) (sym (k.lines s).receiver ∙ to) ((k.lines s).over o) (k.keeps y s r kept) (λ e. c (k.stays y s l2 o kept e)));
+      subst (λ a. HasFirst a (link_at w' s).packets) (sym (k.lines s).had)
+      (subst (HasFirst (link_at w s).had) (sym (k.lines s).packets)
+      (h.untouched y s l2 (k.runs_less y r) (sym (k.lines s).receiver ∙ to) ((k.lines s).over o) (k.keeps y s r kept) (λ e. c (k.stays y s l2 o kept e))));
+  waits = λ y s e c. ap (λ a. a.fresh) (k.lines s).had ∙ h.waits y s (k.waits y e) (k.current y s c);
   current = λ y s p r e some l own.
       subst (λ a. BeginsBy (link_at w' s).packets a p (row_at (member_at w' y) p).got) (sym (k.lines s).sending)
       (subst (λ a. BeginsBy a (link_at w s).sending p (row_at (member_at w' y) p).got) (sym (k.lines s).packets)

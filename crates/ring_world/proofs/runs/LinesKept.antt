@@ -8,7 +8,7 @@ use Rattle.group_view.specs.View.{Group, between as group_between}
 use Rattle.group_view.specs.Since.{no_group, KeepsLeft}
 use Rattle.ring_world.proofs.events.Composed.{end_composed}
 use Rattle.ring_world.specs.View.{ids, right_of, between, left_by, left_of}
-use Rattle.ring_world.specs.Machine.{Up, Packet, Member, Ending, Moved, Halted, Link, World, no_link, no_member, no_sending, row_at, numbers_at, member_at, link_at, view_in, newest, runs, runs_phase, is_kept, oldest, Sending, left}
+use Rattle.ring_world.specs.Machine.{Waiting, Up, Packet, Member, Ending, Moved, Halted, Link, World, no_link, no_member, no_sending, row_at, numbers_at, member_at, link_at, view_in, newest, runs, runs_phase, is_kept, oldest, Sending, left}
 use Rattle.ring_world.specs.Step.{size, log_of, next_packet, pushed, popped, put_on, gain_on, publish_at, published, take_from, taker, is_owned, current_is, with_current, leave_link, finished, ended, stop_at, stopped, end_out, with_member, with_link, with_view, look_at, moved_to, kept_current, open_to, opened_link, begun, begin_from, joiner, admitted_view, come_to}
 use Rattle.ring_world.specs.Rows.{taken_row, Row}
 use Rattle.ring_world.proofs.events.WhatRefuses.{MayTake, MayBegin}
@@ -39,7 +39,7 @@ use Rattle.ring_world.proofs.events.Leaves.{come_each}
 
 -- a link as it was
 same_line : (l : Link) → SameLine l l
-same_line l = record { sender = refl; receiver = refl; opened = refl; packets = refl; sending = refl; over = λ o. o }
+same_line l = record { sender = refl; receiver = refl; opened = refl; packets = refl; sending = refl; had = refl; over = λ o. o }
 
 -- it is kept as long
 same_kept : (w : World) (l l' : Link) (v : ℕ) → SameLine l l' → is_kept w l' v ≡ is_kept w l v
@@ -55,6 +55,7 @@ link_still w s l lt k =
       lines = lines;
       runs_less = λ y r. r;
       ups = λ y e. e;
+      waits = λ y e. e;
       keeps = λ y j r e. sym (same_kept w (link_at w j) (link_at (with_link w s l) j) (member_at w y).version (lines j)) ∙ e;
       current = λ y j e. e;
       stays = λ y j l o e c. c;
@@ -66,6 +67,7 @@ link_still w s l lt k =
 pub record Eases (w : World) (x : ℕ) (m : Member) : Type 0 where
   pub runs_less : runs_phase m.phase ≡ true → runs w x ≡ true
   pub ups : m.phase ≡ Up → (member_at w x).phase ≡ Up
+  pub waits : m.phase ≡ Waiting → (member_at w x).phase ≡ Waiting
   pub keeps : (s : ℕ) → is_kept w (link_at w s) m.version ≡ true → is_kept w (link_at w s) (member_at w x).version ≡ true
   pub current : (s : ℕ) → m.current ≡ Some s → (member_at w x).current ≡ Some s
   pub stays : (s : ℕ) → is_kept w (link_at w s) m.version ≡ true → (member_at w x).current ≡ Some s → m.current ≡ Some s
@@ -80,6 +82,7 @@ member_still w x m lt k = record {
   lines = λ s. same_line (link_at w s);
   runs_less = λ y. at_set (λ i a. runs_phase a.phase ≡ true → runs w i ≡ true) w.members x y m no_member lt k.runs_less (λ _ r. r);
   ups = λ y. at_set (λ i a. a.phase ≡ Up → (member_at w i).phase ≡ Up) w.members x y m no_member lt k.ups (λ _ e. e);
+  waits = λ y. at_set (λ i a. a.phase ≡ Waiting → (member_at w i).phase ≡ Waiting) w.members x y m no_member lt k.waits (λ _ e. e);
   keeps = λ y s _. at_set (λ i a. is_kept w (link_at w s) a.version ≡ true → is_kept w (link_at w s) (member_at w i).version ≡ true) w.members x y m no_member lt (k.keeps s) (λ _ e. e);
   current = λ y s. at_set (λ i a. a.current ≡ Some s → (member_at w i).current ≡ Some s) w.members x y m no_member lt (k.current s) (λ _ e. e);
   stays = λ y s _ _. at_set (λ i a. is_kept w (link_at w s) a.version ≡ true → (member_at w i).current ≡ Some s → a.current ≡ Some s) w.members x y m no_member lt (k.stays s) (λ _ _ e. e);
@@ -94,6 +97,7 @@ pub cast_still : (w : World) (x : ℕ) (m : Message) → x < size w → Still w 
 cast_still w x m lt = member_still w x (published x m (member_at w x)) lt (record {
   runs_less = λ r. r;
   ups = λ e. e;
+  waits = λ e. e;
   keeps = λ s e. e;
   current = λ s e. e;
   stays = λ s _ e. e;
@@ -103,17 +107,18 @@ cast_still w x m lt = member_still w x (published x m (member_at w x)) lt (recor
 
 -- a gain of credit
 pub gain_still : (w : World) (o : ℕ) → o < length w.links → Still w (gain_on w o)
-gain_still w o lt = link_still w o _ lt (record { sender = refl; receiver = refl; opened = refl; packets = refl; sending = refl; over = λ e. e })
+gain_still w o lt = link_still w o _ lt (record { sender = refl; receiver = refl; opened = refl; packets = refl; sending = refl; had = refl; over = λ e. e })
 
 -- the end of a link
 pub end_still : (w : World) (o : ℕ) (why : Ending) → o < length w.links → Still w (with_link w o (ended why (link_at w o)))
-end_still w o why lt = link_still w o (ended why (link_at w o)) lt (record { sender = refl; receiver = refl; opened = refl; packets = refl; sending = refl; over = λ e. e })
+end_still w o why lt = link_still w o (ended why (link_at w o)) lt (record { sender = refl; receiver = refl; opened = refl; packets = refl; sending = refl; had = refl; over = λ e. e })
 
 -- a stop, before the out link ends
 pub stop_still : (w : World) (x : ℕ) → x < size w → Still w (stop_at w x)
 stop_still w x lt = member_still w x (stopped (member_at w x)) lt (record {
   runs_less = λ r. absurd (false≢true r);
   ups = λ e. cc;
+  waits = λ e. cc;
   keeps = λ s e. e;
   current = λ s e. e;
   stays = λ s _ e. e;
@@ -134,7 +139,7 @@ leave_still w y s yl lt c =
     let m : Member = with_current None (member_at w y) in
     let l : Link = finished (link_at w s) in
     let lines : (j : ℕ) → SameLine (link_at w j) (link_at w' j) = λ j. at_set (λ i a. SameLine (link_at w i) a) w.links s j l no_link lt
-    (record { sender = refl; receiver = refl; opened = refl; packets = refl; sending = refl; over = λ e. absurd (false≢true (sym e)) }) (λ _. same_line (link_at w j)) in
+    (record { sender = refl; receiver = refl; opened = refl; packets = refl; sending = refl; had = refl; over = λ e. absurd (false≢true (sym e)) }) (λ _. same_line (link_at w j)) in
     let version : (q : ℕ) → (member_at w' q).version ≡ (member_at w q).version = λ q. at_set (λ i a. a.version ≡ (member_at w i).version) w.members y q m no_member yl refl (λ _. refl) in
     let done : (j : ℕ) → s ≡ j → (link_at w' j).over ≡ true = λ j e. at_set (λ i a. i ≡ s → a.over ≡ true) w.links s j l no_link lt (λ _. refl) (λ d is. absurd (d is)) (sym e) in
     record {
@@ -143,6 +148,7 @@ leave_still w y s yl lt c =
       lines = lines;
       runs_less = λ q. at_set (λ i a. runs_phase a.phase ≡ true → runs w i ≡ true) w.members y q m no_member yl (λ r. r) (λ _ r. r);
       ups = λ q. at_set (λ i a. a.phase ≡ Up → (member_at w i).phase ≡ Up) w.members y q m no_member yl (λ e. e) (λ _ e. e);
+      waits = λ q. at_set (λ i a. a.phase ≡ Waiting → (member_at w i).phase ≡ Waiting) w.members y q m no_member yl (λ e. e) (λ _ e. e);
       keeps = λ q j _ e. sym (same_kept w (link_at w j) (link_at w' j) (member_at w q).version (lines j)) ∙ ap (is_kept w (link_at w' j)) (sym (version q)) ∙ e;
       current = λ q j. at_set (λ i a. a.current ≡ Some j → (member_at w i).current ≡ Some j) w.members y q m no_member yl (λ e. cc) (λ _ e. e);
       stays = λ q j _ o _. at_set (λ i a. (member_at w i).current ≡ Some j → a.current ≡ Some j) w.members y q m no_member yl
@@ -159,8 +165,9 @@ put_lines w x o up out inv h = record {
   begun = λ s l. at_set (λ i a. i < length w.links → a.sending.fresh ≡ true → a.packets ≡ []) w.links o s new no_link lt (λ _ e. absurd (false≢true e)) (λ _ l2. h.begun s l2) (within s l);
   chain = λ s l. at_set (λ i a. i < length w.links → IsChain a.packets a.sending.sent) w.links o s new no_link lt
       (λ _. chain_push old.packets old.sending k (h.begun o lt) (h.chain o lt) (λ e p. next_later (member_at w x) old.sending p e)) (λ _ l2. h.chain s l2) (within s l);
-  untouched = λ y s l r. at_set (λ i a. i < length w.links → a.receiver ≡ y → a.over ≡ false → is_kept w a (member_at w y).version ≡ true → (member_at w y).current ≢ Some i → HasFirst a.packets) w.links o s new no_link lt
-      (λ _ to over kept c. first_push old.packets k (h.untouched y o lt r to over kept c)) (λ _ l2. h.untouched y s l2 r) (within s l);
+  untouched = λ y s l r. at_set (λ i a. i < length w.links → a.receiver ≡ y → a.over ≡ false → is_kept w a (member_at w y).version ≡ true → (member_at w y).current ≢ Some i → HasFirst a.had a.packets) w.links o s new no_link lt
+      (λ _ to over kept c. first_push old.had old.packets k (h.untouched y o lt r to over kept c)) (λ _ l2. h.untouched y s l2 r) (within s l);
+  waits = λ y s e. at_set (λ i a. (member_at w y).current ≡ Some i → a.had.fresh ≡ true) w.links o s new no_link lt (h.waits y o e) (λ _. h.waits y s e);
   current = λ y s p r e some l. at_set (λ i a. (member_at w y).current ≡ Some i → is_owned (view_in w (member_at w y).version) y a.sender p ≡ false → BeginsBy a.packets a.sending p (row_at (member_at w y) p).got) w.links o s new no_link lt
       (λ c own. begins_push old.packets old.sending new.sending k p (row_at (member_at w y) p).got (h.current y o p r c some l own)
       (λ fresh.
@@ -240,18 +247,22 @@ module _ (w : World) (y s : ℕ) (b : Member) (yl : y < size w) (ry : runs w y �
           (λ c2. absurd (d (sym (inv.current.receiver z s (ap runs_phase uz) c2) ∙ receiver))) (λ _ c2. h z t p uz c2 pl) c
 
   -- so where the next packet begins no later than the member stands then
-  pub pop_lines : ((p : ℕ) → p < size w → is_owned (view_in w (member_at w y).version) y (link_at w s).sender p ≡ false → BeginsBy (drop 1 (link_at w s).packets) (link_at w s).sending p (row_at b p).got)
+  pub pop_lines : b.phase ≡ Up → ((p : ℕ) → p < size w → is_owned (view_in w (member_at w y).version) y (link_at w s).sender p ≡ false → BeginsBy (drop 1 (link_at w s).packets) (link_at w s).sending p (row_at b p).got)
       → LinesRight w → LinesRight (popped_at w y s b)
-  pop_lines begins h = record {
+  pop_lines up begins h = record {
     begun = λ t l. at_set (λ i a. i < length w.links → a.sending.fresh ≡ true → a.packets ≡ []) w.links s t new no_link is_there (λ l2 e. ap (drop 1) (h.begun s l2 e)) (λ _ l2. h.begun t l2) (within t l);
     chain = λ t l. at_set (λ i a. i < length w.links → IsChain a.packets a.sending.sent) w.links s t new no_link is_there
         (λ l2. chain_drop (link_at w s).packets (link_at w s).sending.sent (h.chain s l2)) (λ _ l2. h.chain t l2) (within t l);
     untouched = λ z t l r to over kept c.
         let c2 : (member_at w z).current ≢ Some t = λ e. c ((stands_still z).current ∙ e) in
         let kept2 : is_kept w (link_at w' t) (member_at w z).version ≡ true = ap (is_kept w (link_at w' t)) (sym ((stands_still z).version)) ∙ kept in
-        at_set (λ i a. i < length w.links → a.receiver ≡ z → a.over ≡ false → is_kept w a (member_at w z).version ≡ true → (member_at w z).current ≢ Some i → HasFirst a.packets) w.links s t new no_link is_there
+        at_set (λ i a. i < length w.links → a.receiver ≡ z → a.over ≡ false → is_kept w a (member_at w z).version ≡ true → (member_at w z).current ≢ Some i → HasFirst a.had a.packets) w.links s t new no_link is_there
         (λ _ to2 _ _ none. absurd (none (ap (λ q. (member_at w q).current) (sym to2 ∙ receiver) ∙ takes)))
         (λ _ l2. h.untouched z t l2 (sym ((stands_still z).runs) ∙ r)) (within t l) to over kept2 c2;
+    waits = λ z t e c.
+        let waited : (z ≢ y) × ((member_at w z).phase ≡ Waiting) = at_set (λ i a. a.phase ≡ Waiting → (i ≢ y) × ((member_at w i).phase ≡ Waiting)) w.members y z b no_member yl (λ e2. let bad : Up ≡ Waiting = sym up ∙ e2 in absurd (cc)) (λ ne k. (ne, k)) e in
+        at_set (λ i a. (member_at w z).current ≡ Some i → a.had.fresh ≡ true) w.links s t new no_link is_there
+        (λ c2. absurd (waited.0 (sym (inv.current.receiver z s (ap runs_phase waited.1) c2) ∙ receiver))) (λ _ c2. h.waits z t waited.1 c2) (sym ((stands_still z).current) ∙ c);
     current = λ z t p up e some l own.
         pop_takes (λ v i r q a. 1 ≤ q → is_owned (view_in w v) i a.sender q ≡ false → BeginsBy a.packets a.sending q r.got) (λ q ql _. begins q ql) (λ q u o uq c ol k. h.current q u o uq c k ol) z t p up e (omega (arith, l)) some own;
   }
@@ -264,7 +275,7 @@ pub take_lines : (w : World) (y s : ℕ) → MayTake w y s → Inv w → LinesRi
 take_lines w y s m inv h =
     let old : Link = link_at w s in
     let ry : runs w y ≡ true = ap runs_phase m.up in
-    pop_lines w y s (taker w y s) m.is_member ry m.current (record { current = refl; version = refl; runs = refl }) inv
+    pop_lines w y s (taker w y s) m.is_member ry m.current (record { current = refl; version = refl; runs = refl }) inv m.up
     (λ p pl own.
     let row : (row_at (taker w y s) p).got ≡ (numbers_at (oldest old) p).got =
     ap (λ a. a.got) (row_at-taker w y s p pl) ∙ ap (λ b. (taken_row b (log_of w p) (row_at (member_at w y) p) (numbers_at (oldest old) p)).got) own in
@@ -275,7 +286,7 @@ pub begin_lines : (w : World) (y s : ℕ) → MayBegin w y s → Inv w → Lines
 begin_lines w y s m inv h =
     let old : Link = link_at w s in
     let ry : runs w y ≡ true = ap runs_phase m.waits in
-    pop_lines w y s (begun (size w) (member_at w y) (oldest old)) m.is_member ry m.current (record { current = refl; version = refl; runs = sym ry }) inv
+    pop_lines w y s (begun (size w) (member_at w y) (oldest old)) m.is_member ry m.current (record { current = refl; version = refl; runs = sym ry }) inv refl
     (λ p pl _. subst (BeginsBy (drop 1 old.packets) old.sending p) (sym (ap (λ a. a.got) (begin_row w y s p pl))) (begins_drop old.packets old.sending p m.has (h.chain s (inv.current.lt y s ry m.current)))) h
 
 -- ---- a pick
@@ -285,8 +296,10 @@ pub pick_lines : (w : World) (y s : ℕ) → y < size w → (member_at w y).phas
 pick_lines w y s yl up none door upto good h = record {
   begun = h.begun;
   chain = h.chain;
-  untouched = λ z t l. at_set (λ i a. runs_phase a.phase ≡ true → (link_at w t).receiver ≡ i → (link_at w t).over ≡ false → is_kept w (link_at w t) a.version ≡ true → a.current ≢ Some t → HasFirst (link_at w t).packets) w.members y z m no_member yl
+  untouched = λ z t l. at_set (λ i a. runs_phase a.phase ≡ true → (link_at w t).receiver ≡ i → (link_at w t).over ≡ false → is_kept w (link_at w t) a.version ≡ true → a.current ≢ Some t → HasFirst (link_at w t).had (link_at w t).packets) w.members y z m no_member yl
       (λ r to over kept _. h.untouched y t l r to over kept (no_current t)) (λ _. h.untouched z t l);
+  waits = λ z t. at_set (λ i a. a.phase ≡ Waiting → a.current ≡ Some t → (link_at w t).had.fresh ≡ true) w.members y z m no_member yl
+      (λ e2 _. let bad : Up ≡ Waiting = sym up ∙ e2 in absurd (cc)) (λ _. h.waits z t);
   current = λ z t p r e some l.
       let pl : p < size w = omega (arith, length-set w.members y m) in
       at_set (λ i a. a.phase ≡ Up → a.current ≡ Some t → is_owned (view_in w a.version) i (link_at w t).sender p ≡ false → BeginsBy (link_at w t).packets (link_at w t).sending p (row_at a p).got) w.members y z m no_member yl
@@ -309,9 +322,9 @@ pick_lines w y s yl up none door upto good h = record {
     begins : (p : ℕ) → 1 ≤ p → p < size w → BeginsBy (link_at w s).packets (link_at w s).sending p (row_at (member_at w y) p).got
     begins p some l = by_packets (link_at w s).packets refl (h.untouched y s d.there ry d.receiver d.goes_on (door_kept w y s good d upto) (no_current s))
       where
-        by_packets : (ks : List Packet) → (link_at w s).packets ≡ ks → HasFirst ks → BeginsBy ks (link_at w s).sending p (row_at (member_at w y) p).got
+        by_packets : (ks : List Packet) → (link_at w s).packets ≡ ks → HasFirst (link_at w s).had ks → BeginsBy ks (link_at w s).sending p (row_at (member_at w y) p).got
         by_packets [] e f = absurd f
-        by_packets (k ∷ ks) e f = omega (arith, f p, first_below w y s p k ks good.inv.is_ring (good.inv.walks p some l) up d.there d.receiver (door_kept w y s good d upto) e)
+        by_packets (k ∷ ks) e f = omega (arith, f.1 p, first_below w y s p k ks good.inv.is_ring (good.inv.walks p some l) up d.there d.receiver (door_kept w y s good d upto) e)
 
 -- the current links of those that are up are there
 abbrev pub TakesWithin : World → Type 0
@@ -324,8 +337,12 @@ opened_lines : (w : World) (x z : ℕ) → TakesWithin w → LinesRight w → Li
 opened_lines w x z within h = record {
   begun = λ s l. at_push (λ i a. a.sending.fresh ≡ true → a.packets ≡ []) w.links s new no_link (upto s l) (λ e. absurd (false≢true e)) (h.begun s);
   chain = λ s l. at_push (λ i a. IsChain a.packets a.sending.sent) w.links s new no_link (upto s l) refl (h.chain s);
-  untouched = λ y s l r. at_push (λ i a. a.receiver ≡ y → a.over ≡ false → is_kept w a (member_at w y).version ≡ true → (member_at w y).current ≢ Some i → HasFirst a.packets) w.links s new no_link (upto s l)
-      (λ _ _ _ _ p. next_first (member_at w x) no_sending p refl) (λ l2. h.untouched y s l2 r);
+  untouched = λ y s l r. at_push (λ i a. a.receiver ≡ y → a.over ≡ false → is_kept w a (member_at w y).version ≡ true → (member_at w y).current ≢ Some i → HasFirst a.had a.packets) w.links s new no_link (upto s l)
+      (λ _ _ _ _. (refl, λ p. next_first (member_at w x) no_sending p refl)) (λ l2. h.untouched y s l2 r);
+  waits = λ y s e c. ⊎_elim
+      (λ (l : s < length w.links + 1). at_push (λ i a. (member_at w y).current ≡ Some i → a.had.fresh ≡ true) w.links s new no_link l (λ _. refl) (λ _. h.waits y s e) c)
+      (λ (ge : length w.links + 1 ≤ s). ap (λ (a : Link). a.had.fresh) (get_or_beyond (w.links ++ new ∷ []) s no_link (omega (arith, length_push w.links new))))
+      (cases_lt s (length w.links + 1));
   current = λ y s p r e some l.
       at_push (λ i a. i < length w.links → is_owned (view_in w (member_at w y).version) y a.sender p ≡ false → BeginsBy a.packets a.sending p (row_at (member_at w y) p).got) w.links s new no_link (omega (arith, within y s r e))
       (λ bad _. absurd (omega arith)) (λ _ _. h.current y s p r e some l) (within y s r e);
@@ -342,6 +359,7 @@ pub out_still : (w : World) (x z : ℕ) → x < size w → Still (with_opened w 
 out_still w x z lt = member_still (with_opened w (opened_link w x z)) x (record (member_at w x) { out = Some (length w.links) }) lt (record {
   runs_less = λ r. r;
   ups = λ e. e;
+  waits = λ e. e;
   keeps = λ s e. e;
   current = λ s e. e;
   stays = λ s _ e. e;
@@ -364,6 +382,7 @@ pub look_still : (w : World) (x v : ℕ) → x < size w → (member_at w x).vers
 look_still w x v lt later same = member_still w x (moved_to w x v) lt (record {
   runs_less = λ r. r;
   ups = λ e. e;
+  waits = λ e. e;
   keeps = λ s e. kept_less w (link_at w s) (member_at w x).version v later e;
   current = λ s e. (kept_current-Some (λ j. is_kept w (link_at w j) v) (member_at w x).current s e).0;
   stays = λ s k e. ap (kept_current (λ j. is_kept w (link_at w j) v)) e ∙ ap (λ b. cond b (Some s) None) k;
@@ -439,20 +458,24 @@ owned_stays w x v good rx later upto s p c kept =
 
 -- ---- a mark
 
+-- each view that a member has is there
+pub held_lt : (w : World) → IsRing w → (y : ℕ) → (member_at w y).version < length w.views
+held_lt w h y = omega (arith, h.held y, h.some)
+
 -- a view more
 pub mark_still : (w : World) (g : Group) → IsRing w → Still w (with_view w g)
 mark_still w g hr =
-    let old : (y : ℕ) → (member_at w y).version < length w.views = λ y. omega (arith, hr.held y, hr.some) in
     record {
       many = refl;
       same_size = refl;
       lines = λ s. same_line (link_at w s);
       runs_less = λ y r. r;
       ups = λ y e. e;
-      keeps = λ y s r e. sym (kept_old w g (link_at w s) (member_at w y).version (old y)) ∙ e;
+      waits = λ y e. e;
+      keeps = λ y s r e. sym (kept_old w g (link_at w s) (member_at w y).version (held_lt w hr y)) ∙ e;
       current = λ y s e. e;
       stays = λ y s l o k e. e;
-      owned = λ y s p r e. ap (λ a. is_owned a y (link_at w s).sender p) (view_old w g (member_at w y).version (old y));
+      owned = λ y s p r e. ap (λ a. is_owned a y (link_at w s).sender p) (view_old w g (member_at w y).version (held_lt w hr y));
       got = λ y p. omega arith;
     }
 
@@ -473,14 +496,17 @@ come_lines : (w : World) (m : ℕ) (name : List ℕ) → CanJoin w m → IsLogge
 come_lines w m name j l h = record {
   begun = h.begun;
   chain = h.chain;
-  untouched = λ y s lt r to over. come_each w m name y (λ i a. i ≡ y → runs_phase a.phase ≡ true → is_kept w1 (link_at w s) a.version ≡ true → a.current ≢ Some s → HasFirst (link_at w s).packets)
+  untouched = λ y s lt r to over. come_each w m name y (λ i a. i ≡ y → runs_phase a.phase ≡ true → is_kept w1 (link_at w s) a.version ≡ true → a.current ≢ Some s → HasFirst (link_at w s).had (link_at w s).packets)
       (λ is _ _ _. absurd (let less : (link_at w s).receiver < size w = receivers w m name j s lt in omega (arith, less, to, is)))
-      (λ yl _ r2 kept c. h.untouched y s lt r2 to over (sym (kept_old w g (link_at w s) (member_at w y).version (old y)) ∙ kept) c)
+      (λ yl _ r2 kept c. h.untouched y s lt r2 to over (sym (kept_old w g (link_at w s) (member_at w y).version (held_lt w j.inv.is_ring y)) ∙ kept) c)
       (λ _ _ r2. absurd (false≢true r2)) refl r;
+  waits = λ y s e c. come_each w m name y (λ i a. a.phase ≡ Waiting → a.current ≡ Some s → (link_at w s).had.fresh ≡ true)
+      (λ _ c2. let is : length w.links ≡ s = cc in ap (λ (a : Link). a.had.fresh) (get_or_beyond w.links s no_link (omega (arith, is))))
+      (λ _. h.waits y s) (λ _ bad. cc) e c;
   current = λ y s p up c some lt. come_each w m name y (λ i a. i ≡ y → a.phase ≡ Up → a.current ≡ Some s → is_owned (view_in w1 a.version) i (link_at w s).sender p ≡ false → BeginsBy (link_at w s).packets (link_at w s).sending p (row_at a p).got)
       (λ _ bad. cc)
       (λ yl _ up2 c2 own. ⊎_elim
-      (λ (pl : p < size w). h.current y s p up2 c2 some pl (ap (λ a. is_owned a y (link_at w s).sender p) (sym (view_old w g (member_at w y).version (old y))) ∙ own))
+      (λ (pl : p < size w). h.current y s p up2 c2 some pl (ap (λ a. is_owned a y (link_at w s).sender p) (sym (view_old w g (member_at w y).version (held_lt w j.inv.is_ring y))) ∙ own))
       (λ (ge : size w ≤ p). nothing (length (log_of w p)) (link_at w s).packets (link_at w s).sending p (row_at (member_at w y) p).got (ap (λ a. length a.log) (get_or_beyond w.members p no_member ge)) (l.within.packets s p) (l.within.sent s p))
       (cases_lt p (size w)))
       (λ _ _ bad. cc) refl up c;
@@ -491,9 +517,6 @@ come_lines w m name j l h = record {
 
     w1 : World
     w1 = come_to w m name
-
-    old : (y : ℕ) → (member_at w y).version < length w.views
-    old y = omega (arith, j.inv.is_ring.held y, j.inv.is_ring.some)
 
     nothing : (n : ℕ) (ks : List Packet) (s : Sending) (p got : ℕ) → n ≡ 0 → PacketsAreWithin n p ks → NumbersAreWithin n (numbers_at s.sent p) → BeginsBy ks s p got
     nothing n [] s p got z a b = λ _. omega (arith, b.got, z)

@@ -4,7 +4,7 @@ use Rattle.std.proofs.lemmas.Bool.{false≢true}
 use Rattle.ring_names.specs.declared.numbers.CreditSpec.{CreditSpec}
 use Rattle.group_view.specs.Change.{AreOpeningNames, marked, opening as opening_group}
 use Rattle.ring_world.specs.View.{left_of}
-use Rattle.ring_world.specs.Machine.{Packet, World, no_packet, row_at, numbers_at, member_at, link_at, view_in, left, runs, runs_phase, oldest, Up, newest}
+use Rattle.ring_world.specs.Machine.{Packet, World, no_packet, row_at, numbers_at, member_at, link_at, view_in, left, runs, runs_phase, oldest, Waiting, Up, newest}
 use Rattle.ring_world.specs.Step.{size, gain_on, publish_at, is_owned, leave_link, opening}
 use Rattle.ring_world.specs.Event.{Event, refusal, effect, IsRun, last, erased_view}
 use Rattle.ring_world.specs.NoGap.{NoGapAtTake}
@@ -39,6 +39,7 @@ module _ (credit : CreditSpec) (names : List (List ℕ)) where
         sym (left_is first_world 1 y (opening_group names) refl) ∙ ap (left first_world 1) (sym to) ∙ ap (λ v. left first_world v (link_at first_world s).receiver) (sym opened) ∙ inv.linked.from_left s l ∙ sender in
         let place : left_of (opening_group names) y - 1 ≡ s = omega arith in
         absurd (c (first_current y r ∙ ap (λ j. Some j) place));
+    waits = λ y s e c. absurd (first_each credit names y (λ a. a.phase ≡ Waiting → ⊥) (λ _ _ k. cc) (λ k. cc) e);
     current = λ y s p r e some l own.
         let lt : s < length first_world.links = inv.current.lt y s (ap runs_phase r) e in
         subst (λ a. BeginsBy a.packets a.sending p (row_at (member_at first_world y) p).got) (sym (first_link_is credit names s lt)) (λ bad. absurd (false≢true (sym bad)));

@@ -21,11 +21,15 @@ use Rattle.ring_world.proofs.invariants.Happens.{IsGood, opening_good, run_event
 use Rattle.ring_world.proofs.events.First.{first_link, first_size, first_row, first_log, first_at}
 use Rattle.ring_world.proofs.events.Parts.{event_keeps, IsSameRows, links_same, member_same, IsStill, Part, cast_part, put_part, take_part, gain_part, stop_part, open_part, still_part, member_still, run_keeps, begin_part, come_part, KnowsNothing}
 
+-- each member has received its whole own log, whether it runs or not
+abbrev pub HasOwnLogs : World → Type 0
+HasOwnLogs w = (p : ℕ) → (row_of w p p).got ≡ length (log_of w p)
+
 -- in every state: each member has a row for itself, and nobody has a log at 0
 pub record IsLogged (w : World) : Type 0 where
   pub nobody : log_of w 0 ≡ []
   pub sized : (q : ℕ) → 1 ≤ q → q < size w → q < length (member_at w q).rows
-  pub own : (p : ℕ) → (row_of w p p).got ≡ length (log_of w p)
+  pub own : HasOwnLogs w
   pub within : StaysWithinLogs w
 
 -- ---- numbers within a length
@@ -92,7 +96,7 @@ taken_within n false log r k h a = record { got = a.got; forgot = a.forgot; reti
 
 -- the links of a later state are within the logs of an earlier one
 abbrev pub LinksAreWithin : World → World → Type 0
-LinksAreWithin w w' = (s p : ℕ) → PacketsAreWithin (length (log_of w p)) p (link_at w' s).packets × NumbersAreWithin (length (log_of w p)) (numbers_at (link_at w' s).sending.sent p)
+LinksAreWithin w w' = (s p : ℕ) → PacketsAreWithin (length (log_of w p)) p (link_at w' s).packets × (NumbersAreWithin (length (log_of w p)) (numbers_at (link_at w' s).sending.sent p) × NumbersAreWithin (length (log_of w p)) (numbers_at (link_at w' s).had.sent p))
 
 -- what changes links alone
 pub links_logged : (w w' : World) → IsSameRows w w' → LinksAreWithin w w' → IsLogged w → IsLogged w'
@@ -103,7 +107,8 @@ links_logged w w' k a h = record {
   within = record {
     rows = λ q p. rw (k.rows q, k.log p) (h.within.rows q p);
     packets = λ s p. rw (k.log p) (a s p).0;
-    sent = λ s p. rw (k.log p) (a s p).1;
+    sent = λ s p. rw (k.log p) (a s p).1.0;
+    had = λ s p. rw (k.log p) (a s p).1.1;
   };
 }
 
@@ -111,7 +116,7 @@ links_logged w w' k a h = record {
 pub still_logged : (w w' : World) → IsStill w w' → IsLogged w → IsLogged w'
 still_logged w w' k h =
     links_logged w w' k.same
-    (λ s p. (rw (k.packets s) (h.within.packets s p), rw (k.sending s) (h.within.sent s p))) h
+    (λ s p. (rw (k.packets s) (h.within.packets s p), (rw (k.sending s) (h.within.sent s p), rw (k.had s) (h.within.had s p)))) h
 
 -- a put
 pub put_logged : (w : World) (x o : ℕ) → o < length w.links → IsLogged w → IsLogged (put_on w x o)
@@ -121,9 +126,9 @@ put_logged w x o lt h =
     let n : ℕ = length (log_of w p) in
     let k : Packet = next_packet (member_at w x) (link_at w o).sending in
     let new : NumbersAreWithin n (numbers_at k p) = packet_within n (member_at w x) (link_at w o).sending p (h.within.rows x p) (h.within.sent o p) in
-    at_set (λ j l. PacketsAreWithin n p l.packets × NumbersAreWithin n (numbers_at l.sending.sent p)) w.links o s (pushed (link_at w o) k) no_link lt
-    (packets_push n p (link_at w o).packets k new (h.within.packets o p), new)
-    (λ _. (h.within.packets s p, h.within.sent s p)))
+    at_set (λ j l. PacketsAreWithin n p l.packets × (NumbersAreWithin n (numbers_at l.sending.sent p) × NumbersAreWithin n (numbers_at l.had.sent p))) w.links o s (pushed (link_at w o) k) no_link lt
+    (packets_push n p (link_at w o).packets k new (h.within.packets o p), (new, h.within.had o p))
+    (λ _. (h.within.packets s p, (h.within.sent s p, h.within.had s p))))
     h
 
 -- a gain
@@ -132,16 +137,16 @@ gain_logged w o lt h =
     links_logged w (gain_on w o) (links_same w (gain_on w o).links)
     (λ s p.
     let n : ℕ = length (log_of w p) in
-    at_set (λ j l. PacketsAreWithin n p l.packets × NumbersAreWithin n (numbers_at l.sending.sent p)) w.links o s _ no_link lt
-    (h.within.packets o p, h.within.sent o p)
-    (λ _. (h.within.packets s p, h.within.sent s p)))
+    at_set (λ j l. PacketsAreWithin n p l.packets × (NumbersAreWithin n (numbers_at l.sending.sent p) × NumbersAreWithin n (numbers_at l.had.sent p))) w.links o s _ no_link lt
+    (h.within.packets o p, (h.within.sent o p, h.within.had o p))
+    (λ _. (h.within.packets s p, (h.within.sent s p, h.within.had s p))))
     h
 
 -- a stop
 pub stop_logged : (w : World) (x : ℕ) → x < size w → IsLogged w → IsLogged (stop_at w x)
 stop_logged w x lt h =
     links_logged w (stop_at w x) (member_same w x (stopped (member_at w x)) refl refl)
-    (λ s p. (h.within.packets s p, h.within.sent s p)) h
+    (λ s p. (h.within.packets s p, (h.within.sent s p, h.within.had s p))) h
 
 -- a link that opens, with its first packet
 pub open_logged : (w : World) (x z : ℕ) → IsLogged w → IsLogged (open_to w x z)
@@ -154,11 +159,11 @@ open_logged w x z h =
     let n : ℕ = length (log_of w p) in
     let new : NumbersAreWithin n (numbers_at (next_packet (member_at w x) no_sending) p) = packet_within n (member_at w x) no_sending p (h.within.rows x p) (no_numbers_within n) in
     ⊎_elim
-    (λ (lt : s < length w.links + 1). at_push (λ j a. PacketsAreWithin n p a.packets × NumbersAreWithin n (numbers_at a.sending.sent p)) w.links s l no_link lt
-    ((new, tt), new) (λ _. (h.within.packets s p, h.within.sent s p)))
+    (λ (lt : s < length w.links + 1). at_push (λ j a. PacketsAreWithin n p a.packets × (NumbersAreWithin n (numbers_at a.sending.sent p) × NumbersAreWithin n (numbers_at a.had.sent p))) w.links s l no_link lt
+    ((new, tt), (new, no_numbers_within n)) (λ _. (h.within.packets s p, (h.within.sent s p, h.within.had s p))))
     (λ (ge : length w.links + 1 ≤ s).
-    subst (λ a. PacketsAreWithin n p a.packets × NumbersAreWithin n (numbers_at a.sending.sent p))
-    (sym (get_or_beyond (w.links ++ l ∷ []) s no_link (omega (arith, length_push w.links l)))) (tt, no_numbers_within n))
+    subst (λ a. PacketsAreWithin n p a.packets × (NumbersAreWithin n (numbers_at a.sending.sent p) × NumbersAreWithin n (numbers_at a.had.sent p)))
+    (sym (get_or_beyond (w.links ++ l ∷ []) s no_link (omega (arith, length_push w.links l)))) (tt, (no_numbers_within n, no_numbers_within n)))
     (cases_lt s (length w.links + 1)))
     h)
 
@@ -206,6 +211,9 @@ pop_logged w y s b lt there k h = record {
     sent = λ j p. subst (λ n. NumbersAreWithin n (numbers_at (link_at w' j).sending.sent p)) (ap length (sym (log p)))
         (at_set (λ i l. NumbersAreWithin (length (log_of w p)) (numbers_at l.sending.sent p)) w.links s j (popped (link_at w s)) no_link there
         (h.within.sent s p) (λ _. h.within.sent j p));
+    had = λ j p. subst (λ n. NumbersAreWithin n (numbers_at (link_at w' j).had.sent p)) (ap length (sym (log p)))
+        (at_set (λ i l. NumbersAreWithin (length (log_of w p)) (numbers_at l.had.sent p)) w.links s j (popped (link_at w s)) no_link there
+        (oldest_within (length (log_of w p)) p (link_at w s).packets (h.within.packets s p)) (λ _. h.within.had j p));
   };
 }
   where
@@ -283,6 +291,7 @@ come_logged w m name h = record {
         (h.within.rows q p));
     packets = λ s p. subst (λ n. PacketsAreWithin n p (link_at w s).packets) (ap length (sym (come_log w m name p))) (h.within.packets s p);
     sent = λ s p. subst (λ n. NumbersAreWithin n (numbers_at (link_at w s).sending.sent p)) (ap length (sym (come_log w m name p))) (h.within.sent s p);
+    had = λ s p. subst (λ n. NumbersAreWithin n (numbers_at (link_at w s).had.sent p)) (ap length (sym (come_log w m name p))) (h.within.had s p);
   };
 }
   where
@@ -341,6 +350,7 @@ cast_logged w x m some lt h = record {
         (λ _. row_more n n' (row_of w q p) (cast_log_more w x p m lt) (h.within.rows q p));
     packets = λ s p. packets_more _ _ p (link_at w s).packets (cast_log_more w x p m lt) (h.within.packets s p);
     sent = λ s p. numbers_more _ _ (numbers_at (link_at w s).sending.sent p) (cast_log_more w x p m lt) (h.within.sent s p);
+    had = λ s p. numbers_more _ _ (numbers_at (link_at w s).had.sent p) (cast_log_more w x p m lt) (h.within.had s p);
   };
 }
   where
@@ -390,6 +400,7 @@ opening_logged credit names = record {
     rows = λ q p. subst (RowIsWithin (length (log_of (opening credit names) p))) (sym (first_row credit names q p)) (no_row_within (length (log_of (opening credit names) p)));
     packets = λ s p. first_link credit names s (λ l. PacketsAreWithin (length (log_of (opening credit names) p)) p l.packets) (λ _. tt) tt;
     sent = λ s p. first_link credit names s (λ l. NumbersAreWithin (length (log_of (opening credit names) p)) (numbers_at l.sending.sent p)) (λ _. no_numbers_within _) (no_numbers_within _);
+    had = λ s p. first_link credit names s (λ l. NumbersAreWithin (length (log_of (opening credit names) p)) (numbers_at l.had.sent p)) (λ _. no_numbers_within _) (no_numbers_within _);
   };
 }
 

@@ -141,28 +141,26 @@ module _ (name : List ℕ) (l : Link) where
       (come_late f (is_early st) w m y h.is_ring h.receiver al.0)
       al.0 al.1
 
+  -- the ring from an origin on, those of it that run, and those that have stopped before them
+  come_turn : (w : World) (m p : ℕ) → CanAdmit w m → p < size w → rotated p (ring (come_with name l w m)) ≡ with_after m (size w) (rotated p (ring w))
+  come_turn w m p h pl = ap (rotated p) (come_ring w m h) ∙ rotated-with_after p m (size w) (ring w) (nat_eq-not (size w) p (λ e. omega arith))
+
+  come_running : (w : World) (m p : ℕ) → CanAdmit w m → p < size w → running_from (come_with name l w m) p ≡ with_after m (size w) (running_from w p)
+  come_running w m p h pl = ap (filter (runs (come_with name l w m))) (come_turn w m p h pl)
+      ∙ filter-with_after (runs w) (runs (come_with name l w m)) m (size w) (rotated p (ring w)) (below_rotated (size w) p (ring w) h.below) (λ q lt. come_runs w m q lt) (ap (λ y. runs_phase y.phase) (come_joiner w m)) (runs_phase-Up w m h.up)
+
+  come_prefix : (w : World) (m p : ℕ) → CanAdmit w m → p < size w → stopped_from (come_with name l w m) p ≡ stopped_from w p
+  come_prefix w m p h pl = ap (stopped_prefix (runs (come_with name l w m))) (come_turn w m p h pl)
+      ∙ prefix-with_after (runs w) (runs (come_with name l w m)) m (size w) (rotated p (ring w)) (below_rotated (size w) p (ring w) h.below) (λ q lt. come_runs w m q lt) (runs_phase-Up w m h.up)
+
   pub come_walk : (w : World) (m p : ℕ) → CanAdmit w m → p < size w → Weakens (walk w p) (walk (come_with name l w m) p)
   come_walk w m p h pl =
-      subst (λ st. Weakens (walk w p) (walk_over (come_with name l w m) p st (running_from (come_with name l w m) p))) (sym prefix)
-      (subst (λ us. Weakens (walk w p) (walk_over (come_with name l w m) p (stopped_from w p) us)) (sym running)
+      subst (λ st. Weakens (walk w p) (walk_over (come_with name l w m) p st (running_from (come_with name l w m) p))) (sym (come_prefix w m p h pl))
+      (subst (λ us. Weakens (walk w p) (walk_over (come_with name l w m) p (stopped_from w p) us)) (sym (come_running w m p h pl))
       (by_running (running_from w p) (AllBelow-filter (runs w) (size w) (rotated p (ring w)) below)))
     where
       below : AllBelow (size w) (rotated p (ring w))
       below = below_rotated (size w) p (ring w) h.below
-
-      rm : runs w m ≡ true
-      rm = runs_phase-Up w m h.up
-
-      turn : rotated p (ring (come_with name l w m)) ≡ with_after m (size w) (rotated p (ring w))
-      turn = ap (rotated p) (come_ring w m h) ∙ rotated-with_after p m (size w) (ring w) (nat_eq-not (size w) p (λ e. omega arith))
-
-      running : running_from (come_with name l w m) p ≡ with_after m (size w) (running_from w p)
-      running = ap (filter (runs (come_with name l w m))) turn
-          ∙ filter-with_after (runs w) (runs (come_with name l w m)) m (size w) (rotated p (ring w)) below (λ q lt. come_runs w m q lt) (ap (λ y. runs_phase y.phase) (come_joiner w m)) rm
-
-      prefix : stopped_from (come_with name l w m) p ≡ stopped_from w p
-      prefix = ap (stopped_prefix (runs (come_with name l w m))) turn
-          ∙ prefix-with_after (runs w) (runs (come_with name l w m)) m (size w) (rotated p (ring w)) below (λ q lt. come_runs w m q lt) rm
 
       by_running : (us : List ℕ) → AllBelow (size w) us → Weakens (walk_over w p (stopped_from w p) us) (walk_over (come_with name l w m) p (stopped_from w p) (with_after m (size w) us))
       by_running [] al = same []
@@ -180,26 +178,12 @@ module _ (name : List ℕ) (l : Link) where
       below : AllBelow (size w) (rotated p (ring w))
       below = below_rotated (size w) p (ring w) h.below
 
-      rm : runs w m ≡ true
-      rm = runs_phase-Up w m h.up
-
-      turn : rotated p (ring (come_with name l w m)) ≡ with_after m (size w) (rotated p (ring w))
-      turn = ap (rotated p) (come_ring w m h) ∙ rotated-with_after p m (size w) (ring w) (nat_eq-not (size w) p (λ e. omega arith))
-
-      running : running_from (come_with name l w m) p ≡ with_after m (size w) (running_from w p)
-      running = ap (filter (runs (come_with name l w m))) turn
-          ∙ filter-with_after (runs w) (runs (come_with name l w m)) m (size w) (rotated p (ring w)) below (λ q lt. come_runs w m q lt) (ap (λ y. runs_phase y.phase) (come_joiner w m)) rm
-
-      prefix : stopped_from (come_with name l w m) p ≡ stopped_from w p
-      prefix = ap (stopped_prefix (runs (come_with name l w m))) turn
-          ∙ prefix-with_after (runs w) (runs (come_with name l w m)) m (size w) (rotated p (ring w)) below (λ q lt. come_runs w m q lt) rm
-
       by_running : (g : Numbers → ℕ) (r : Row → ℕ) → Reads g r → (us : List ℕ) → AllBelow (size w) us → Weakens (round_of g r w p (stopped_from w p) us) (round_of g r (come_with name l w m) p (stopped_from w p) (with_after m (size w) us))
       by_running g r gr [] al = same []
       by_running g r gr (y ∷ ys) al = come_round g r w m p y (stopped_from w p) ys gr h al
 
       one : (g : Numbers → ℕ) (r : Row → ℕ) → Reads g r → Weakens (one_round g r w p) (one_round g r (come_with name l w m) p)
       one g r gr =
-          subst (λ st. Weakens (one_round g r w p) (round_of g r (come_with name l w m) p st (running_from (come_with name l w m) p))) (sym prefix)
-          (subst (λ us. Weakens (one_round g r w p) (round_of g r (come_with name l w m) p (stopped_from w p) us)) (sym running)
+          subst (λ st. Weakens (one_round g r w p) (round_of g r (come_with name l w m) p st (running_from (come_with name l w m) p))) (sym (come_prefix w m p h pl))
+          (subst (λ us. Weakens (one_round g r w p) (round_of g r (come_with name l w m) p (stopped_from w p) us)) (sym (come_running w m p h pl))
           (by_running g r gr (running_from w p) (AllBelow-filter (runs w) (size w) (rotated p (ring w)) below)))

@@ -1,13 +1,19 @@
 -- The numbers of the packets on the links to one member.
-use Rattle.std.proofs.Common.{◌≡◌, ℕ, zero, suc, ◌<◌, Bool, true, false, cond, List, [], ◌∷◌, ◌++◌, length, get_or, set, refl, sym, ap, subst, ◌∙◌, append_assoc, arith}
+use Rattle.std.proofs.Common.{◌≡◌, ℕ, zero, suc, ◌<◌, Bool, true, false, cond, List, [], ◌∷◌, ◌++◌, length, drop, get_or, set, refl, sym, ap, subst, ◌∙◌, append_assoc, arith}
 use Rattle.std.proofs.lemmas.List.{append-nil}
 use Rattle.ring_world.specs.Machine.{Packet, Link, no_link}
-use Rattle.ring_world.proofs.walks.CountedWalk.{newest_first, numbers, only, no_but}
-use Rattle.ring_world.proofs.rings.Weakens.{Weakens, same, equal, then, joined, joined_right, lose, zero_moves_in}
+use Rattle.ring_world.proofs.walks.CountedWalk.{when, past_first, newest_first, numbers, only, no_but}
+use Rattle.ring_world.proofs.rings.Weakens.{Weakens, same, equal, then, joined, joined_right, lose, lose_second, zero_moves_in}
 
 pub newest_push : (f : Packet → ℕ) (ks : List Packet) (k : Packet) → newest_first f (ks ++ k ∷ []) ≡ f k ∷ newest_first f ks
 newest_push f [] k = refl
 newest_push f (j ∷ js) k = ap (λ xs. xs ++ f j ∷ []) (newest_push f js k)
+
+-- of no packets none count
+pub past_nothing : (a b : Bool) (ks : List Packet) → ks ≡ [] → when a (past_first b ks) ≡ []
+past_nothing true true ks e = ap (drop 1) e
+past_nothing true false ks e = e
+past_nothing false b ks e = refl
 
 -- where nothing counts
 pub numbers_none : (f : Packet → ℕ) (c : Link → List Packet) (ls : List Link) → ((j : ℕ) → j < length ls → c (get_or ls j no_link) ≡ []) → numbers f c ls ≡ []
@@ -49,14 +55,21 @@ pub numbers_open : (f : Packet → ℕ) (c : Link → List Packet) (ls : List Li
 numbers_open f c [] l = sym (append-nil (newest_first f (c l)))
 numbers_open f c (j ∷ js) l = ap (λ xs. xs ++ newest_first f (c j)) (numbers_open f c js l) ∙ append_assoc (newest_first f (c l)) (numbers f c js) (newest_first f (c j))
 
--- links stop counting
+-- links stop counting, or their oldest packet does
 pub data IsOr (c' c : List Packet) : Type 0 where
   kept : c' ≡ c → IsOr c' c
   gone : c' ≡ [] → IsOr c' c
+  less : c' ≡ drop 1 c → IsOr c' c
+
+-- without its oldest packet
+oldest_gone : (f : Packet → ℕ) (c : List Packet) → Weakens (newest_first f c) (newest_first f (drop 1 c))
+oldest_gone f [] = same []
+oldest_gone f (k ∷ ks) = lose_second (newest_first f ks) (f k ∷ [])
 
 pub part_closed : (f : Packet → ℕ) (c' c : List Packet) → IsOr c' c → Weakens (newest_first f c) (newest_first f c')
 part_closed f c' c (kept e) = equal (newest_first f c) (newest_first f c') (ap (newest_first f) (sym e))
 part_closed f c' c (gone e) = subst (λ ks. Weakens (newest_first f c) (newest_first f ks)) (sym e) (lose (newest_first f c))
+part_closed f c' c (less e) = subst (λ ks. Weakens (newest_first f c) (newest_first f ks)) (sym e) (oldest_gone f c)
 
 pub numbers_closed : (f : Packet → ℕ) (c c' : Link → List Packet) (ls ls' : List Link) → length ls' ≡ length ls → ((j : ℕ) → j < length ls → IsOr (c' (get_or ls' j no_link)) (c (get_or ls j no_link))) → Weakens (numbers f c ls) (numbers f c' ls')
 numbers_closed f c c' [] [] e h = same []

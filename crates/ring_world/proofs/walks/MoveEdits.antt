@@ -3,9 +3,7 @@ use Rattle.std.proofs.Common.{◌≡◌, ◌≢◌, ℕ, ◌<◌, ◌≤◌, fal
 use Rattle.std.proofs.lemmas.Bool.{false≢true}
 use Rattle.std.proofs.lemmas.List.{length-set}
 use Rattle.group_view.specs.Change.{marked}
-use Rattle.ring_world.specs.declared.numbers.Numbers.{Numbers}
-use Rattle.ring_world.specs.Rows.{Row}
-use Rattle.ring_world.specs.Machine.{Phase, Waiting, Up, Stopped, World, member_at, link_at, view_in, newest, right, runs, runs_phase}
+use Rattle.ring_world.specs.Machine.{World, member_at, link_at, view_in, newest, right, runs, runs_phase}
 use Rattle.ring_world.specs.Step.{size, publish_at, look_at, moved_to, opened_link, open_to}
 use Rattle.ring_world.specs.Event.{erased_view}
 use Rattle.ring_world.proofs.events.WhatRefuses.{MayLook}
@@ -18,23 +16,22 @@ use Rattle.ring_world.proofs.walks.Begin.{begin_closes}
 use Rattle.ring_world.proofs.invariants.KeptBegin.{begin_can}
 use Rattle.ring_world.proofs.invariants.KeptTake.{can_take, take_standing}
 use Rattle.ring_world.proofs.invariants.KeptMore.{way_closes}
-use Rattle.ring_world.proofs.invariants.KeptLook.{Rest, look_rest, look_member}
-use Rattle.ring_world.proofs.invariants.KeptOpen.{out_member}
+use Rattle.ring_world.proofs.invariants.KeptLook.{Rest, look_rest, look_up}
+use Rattle.ring_world.proofs.invariants.KeptOpen.{out_number, out_member}
 use Rattle.ring_world.proofs.invariants.KeptAdmit.{join_edits}
 use Rattle.ring_world.proofs.invariants.Kept.{Inv}
 use Rattle.ring_world.proofs.invariants.Happens.{IsGood, fresh_open}
 use Rattle.ring_world.proofs.walks.Twice.{Edits, edits_then, closes_edits}
 use Rattle.ring_world.proofs.invariants.TwiceKept.{put_edits, open_edits, take_edits, stop_edits}
 use Rattle.ring_world.proofs.invariants.Moves.{Move, cast_move, put_move, take_move, begin_move, current_move, stop_move, way_move, look_move, open_move, mark_move, erase_move, join_move}
-use Rattle.ring_world.specs.OpenLinks.{own_number, number}
 
 -- a refresh that opens a link
 refresh_edits : (w : World) (x v p : ℕ) → MayLook w x v → ((o : ℕ) → (member_at w x).out ≡ Some o → (link_at w o).receiver ≢ right w v x) → Inv w → Edits w (open_to (look_at w x v) x (right w v x)) p
 refresh_edits w x v p m moves h =
     edits_then w w1 (open_to w1 x z) p (closes_edits w w1 p (look_closes w x v p m.is_member m.up m.later))
     (edits_then w1 (with_opened w1 (opened_link w1 x z)) (open_to w1 x z) p
-    (open_edits w1 x z p r.is_ring r.waiting up (h.is_ring.front x v (newest w) (runs_phase-Up w x m.up) m.later m.upto (omega arith)) (fresh_open w x v m h moves))
-    (closes_edits (with_opened w1 (opened_link w1 x z)) (open_to w1 x z) p (blind (with_opened w1 (opened_link w1 x z)) x p (out_member w1 x) lt refl refl refl (λ g k. by_up g k))))
+    (open_edits w1 x z p r.is_ring r.waiting (look_up w x v m.is_member m.up) (h.is_ring.front x v (newest w) (runs_phase-Up w x m.up) m.later m.upto (omega arith)) (fresh_open w x v m h moves))
+    (closes_edits (with_opened w1 (opened_link w1 x z)) (open_to w1 x z) p (blind (with_opened w1 (opened_link w1 x z)) x p (out_member w1 x) lt refl refl refl (λ g k. out_number g k (with_opened w1 (opened_link w1 x z)) w1 x p))))
   where
     w1 : World
     w1 = look_at w x v
@@ -47,17 +44,6 @@ refresh_edits w x v p m moves h =
 
     lt : x < size w1
     lt = omega (arith, m.is_member, length-set w.members x (moved_to w x v))
-
-    up : (member_at w1 x).phase ≡ Up
-    up = look_member w x v x (λ k a. k ≡ x → a.phase ≡ Up) m.is_member (λ _. m.up) (λ d e. absurd (d e)) refl
-
-    by_up : (g : Numbers → ℕ) (k : Row → ℕ) → own_number g k (with_opened w1 (opened_link w1 x z)) p (out_member w1 x).phase (out_member w1 x) ≡ number g k (with_opened w1 (opened_link w1 x z)) p x
-    by_up g k = by_phase (member_at w1 x).phase
-      where
-        by_phase : (f : Phase) → own_number g k (with_opened w1 (opened_link w1 x z)) p f (out_member w1 x) ≡ own_number g k (with_opened w1 (opened_link w1 x z)) p f (member_at w1 x)
-        by_phase Waiting = refl
-        by_phase Up = refl
-        by_phase Stopped = refl
 
 -- each step
 pub move_edits : (G : World → Type 0) (w w' : World) (p : ℕ) → IsGood w → Move G w w' → 1 ≤ p → p < size w → runs w p ≡ false → Edits w w' p

@@ -1,4 +1,5 @@
 -- The walk by open links is the walk of the links that are kept.
+use Rattle.ring_world.proofs.walks.Links.{past_nothing}
 use Rattle.std.proofs.Common.{◌≡◌, ℕ, suc, ◌+◌, ◌<◌, ◌≤◌, Bool, true, false, cond, not, nat_eq, List, [], ◌∷◌, ◌++◌, length, get_or, map, Option, Some, None, refl, sym, ap, subst, ◌∙◌, arith, append_assoc, max, is_some, drop, ◌≢◌, ⊎_elim}
 use Rattle.std.specs.Prelude.{◌&&◌, ◌||◌, reverse}
 use Rattle.std.specs.List.{filter, flat_map, range_with_len}
@@ -134,11 +135,6 @@ counts w y s h k ry there = by_over (link_at w s).over refl
     firsts : (b : Bool) (ks : List Packet) → past_first b ks ≡ cond b (drop 1 ks) ks
     firsts true ks = refl
     firsts false ks = refl
-
-    past_nothing : (a b : Bool) (ks : List Packet) → ks ≡ [] → when a (past_first b ks) ≡ []
-    past_nothing true true ks e = ap (drop 1) e
-    past_nothing true false ks e = e
-    past_nothing false b ks e = refl
 
     open_nothing : (a b : Bool) (ks : List Packet) → ks ≡ [] → cond a (cond b (drop 1 ks) ks) [] ≡ []
     open_nothing true true ks e = ap (drop 1) e

@@ -41,14 +41,17 @@ pub kept_less : (w : World) (l : Link) (u v : ℕ) → u ≤ v → is_kept w l v
 kept_less w l u v le h = kept_true w l u (λ k a b. true_kept w l v h k a (omega arith))
 
 -- a later view keeps fewer links
-pub look_counts : (w : World) (x v j : ℕ) → (member_at w x).phase ≡ Up → (member_at w x).version ≤ v → IsOr (counted_by (is_kept w) x (moved_to w x v) (link_at w j)) (counted w x (link_at w j))
-look_counts w x v j up le =
-    rw up (by_case (nat_eq (link_at w j).receiver x) (is_kept w (link_at w j) v) (is_kept w (link_at w j) (member_at w x).version) (λ e. kept_less w (link_at w j) (member_at w x).version v le e))
+pub later_counts : (w : World) (x j : ℕ) (y : Member) → (member_at w x).phase ≡ Up → y.phase ≡ Up → (member_at w x).version ≤ y.version → IsOr (counted_by (is_kept w) x y (link_at w j)) (counted w x (link_at w j))
+later_counts w x j y up yup le =
+    rw (up, yup) (by_case (nat_eq (link_at w j).receiver x) (is_kept w (link_at w j) y.version) (is_kept w (link_at w j) (member_at w x).version) (λ e. kept_less w (link_at w j) (member_at w x).version y.version le e))
   where
     by_case : (a b c : Bool) → (b ≡ true → c ≡ true) → IsOr (when (a && b) (link_at w j).packets) (when (a && c) (link_at w j).packets)
     by_case true true c h = kept (rw (h refl) refl)
     by_case true false c h = gone refl
     by_case false b c h = kept refl
+
+pub look_counts : (w : World) (x v j : ℕ) → (member_at w x).phase ≡ Up → (member_at w x).version ≤ v → IsOr (counted_by (is_kept w) x (moved_to w x v) (link_at w j)) (counted w x (link_at w j))
+look_counts w x v j up le = later_counts w x j (moved_to w x v) up up le
 
 pub look_closes : (w : World) (x v p : ℕ) → x < size w → (member_at w x).phase ≡ Up → (member_at w x).version ≤ v → Closes w (look_at w x v) p
 look_closes w x v p l up le =

@@ -132,18 +132,19 @@ marked_marks w d = remark_marks Dead w d (marked (view_in w (newest w)) d) refl 
 pub erased_marks : (w : World) (d : ℕ) → IsMarked w d (erased_view w d)
 erased_marks w d = remark_marks Erased w d (erased_view w d) refl refl
 
+-- no mark is both
+pub not_both : (m : Mark) → is_dead_mark m ≡ true → is_live_mark m ≡ true → ⊥
+not_both Live a b = false≢true a
+not_both Dead a b = false≢true b
+not_both Erased a b = false≢true a
+
 -- who is dead in the newest view doesn't run
 pub dead_rests : (w : World) (d : ℕ) → IsRing w → is_dead (view_in w (newest w)).entries d ≡ true → runs w d ≡ false
 dead_rests w d h e = by_runs (runs w d) refl
   where
-    apart : (m : Mark) → is_dead_mark m ≡ true → is_live_mark m ≡ true → ⊥
-    apart Live a b = false≢true a
-    apart Dead a b = false≢true b
-    apart Erased a b = false≢true a
-
     by_runs : (b : Bool) → runs w d ≡ b → b ≡ false
     by_runs false r = refl
-    by_runs true r = absurd (apart (entry_in (view_in w (newest w)).entries d).mark e (h.lives d (newest w) r (h.held d) (omega arith)))
+    by_runs true r = absurd (not_both (entry_in (view_in w (newest w)).entries d).mark e (h.lives d (newest w) r (h.held d) (omega arith)))
 
 -- d doesn't run, and is marked dead
 pub mark_follows : (w : World) (d : ℕ) (v' : Group) → IsMarked w d v' → runs w d ≡ false → IsRing w → MayFollow w v'

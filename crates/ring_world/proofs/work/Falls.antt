@@ -1,4 +1,5 @@
 -- A gain and a put leave less to do.
+use Rattle.ring_world.proofs.work.OwnEnds.{other_out}
 use Rattle.std.proofs.Common.{◌≡◌, ℕ, ◌+◌, ◌*◌, ◌<◌, ◌≤◌, true, false, nat_eq, drop, List, length, not, Option, Some, None, is_some, if◌then◌else◌, refl, ap, ◌∙◌, arith, inl, inr}
 use Rattle.std.specs.Prelude.{◌&&◌}
 use Rattle.std.proofs.lemmas.List.{length_push, get_or-set_same, get_or-set_other}
@@ -16,7 +17,7 @@ use Rattle.ring_world.proofs.walks.Packets.{reads_got, reads_forgot, line_of_pac
 use Rattle.ring_world.proofs.events.Refusals.{refuse_none}
 use Rattle.ring_world.proofs.events.Enabled.{gain_some, first_none}
 use Rattle.group_view.proofs.Lists.{all_range}
-use Rattle.ring_world.proofs.work.Fit.{IsFit, other_out}
+use Rattle.ring_world.proofs.work.Fit.{IsFit}
 use Rattle.ring_world.specs.Work.{items, dirty_on, dirty_at, place_at, on_links}
 use Rattle.ring_world.proofs.work.Rows.{length-rest}
 use Rattle.ring_world.proofs.work.Parts.{nothing, stale_written, dirty_same, link_set, Lowers, LowersThen, step_lowers}
@@ -90,7 +91,7 @@ put_falls w x o f u e r k =
     (record {
       member = unwritten w x w'.links;
       log = refl;
-      sent = λ q j ne c. ap (λ (a : Link). a.sending) (get_or-set_other w.links o j new no_link (other_out w x q o j f e c ne));
+      sent = λ q j ne c. ap (λ (a : Link). a.sending) (get_or-set_other w.links o j new no_link (other_out w x q o j f.own_ends e c ne));
       marks = omega arith;
       stale = omega arith;
       dirty = omega (arith, before, after);

@@ -1,9 +1,9 @@
 -- What holds of every state that a ring reaches, as far as the measure needs it.
-use Rattle.std.proofs.Common.{◌≡◌, ◌≢◌, ℕ, ◌<◌, ◌≤◌, List, [], ◌∷◌, None, Some, sym, ap, ◌∙◌, arith}
+use Rattle.std.proofs.Common.{◌≡◌, ℕ, ◌<◌, ◌≤◌, List, [], ◌∷◌, None, Some, arith}
 use Rattle.ring_names.specs.declared.numbers.CreditSpec.{CreditSpec}
 use Rattle.group_view.specs.Change.{AreOpeningNames}
 use Rattle.ring_world.specs.declared.event.Event.{Event}
-use Rattle.ring_world.specs.Machine.{World, member_at, link_at}
+use Rattle.ring_world.specs.Machine.{World, member_at}
 use Rattle.ring_world.specs.Step.{size, opening}
 use Rattle.ring_world.specs.Event.{id_of, refusal, effect, IsRun, last}
 use Rattle.ring_world.specs.Lawful.{StaysWithinLogs}
@@ -18,13 +18,21 @@ use Rattle.ring_world.proofs.runs.AllRuns.{every_run_goes_on}
 use Rattle.ring_world.proofs.work.Nobody.{NobodyAtZero, reached_nobody}
 use Rattle.ring_world.proofs.work.OwnEnds.{OwnEnds, reached_owns}
 
+-- the name of each member finds it
+abbrev pub NamesFind : World → Type 0
+NamesFind w = (x : ℕ) → 1 ≤ x → x < size w → id_of w (member_at w x).name ≡ Some x
+
+-- each enabled event goes on
+abbrev pub EachGoesOn : World → Type 0
+EachGoesOn w = (e : Event) → refusal w e ≡ None → GoesOn w (effect w e)
+
 pub record IsFit (w : World) : Type 0 where
   pub good : IsGood w
   pub ends : EndsRight w
   -- each member is the one that its name finds
-  pub named : (x : ℕ) → 1 ≤ x → x < size w → id_of w (member_at w x).name ≡ Some x
+  pub named : NamesFind w
   -- an enabled event lowers no number
-  pub goes : (e : Event) → refusal w e ≡ None → GoesOn w (effect w e)
+  pub goes : EachGoesOn w
   -- and no number of a row is then above the length of the log
   pub within : (e : Event) → refusal w e ≡ None → StaysWithinLogs (effect w e)
   -- the links of a member have it at their ends, also where it has stopped
@@ -47,7 +55,3 @@ reached_fit credit names events are r = record {
   own_ends = reached_owns credit names events are r;
   nobody = reached_nobody credit names events are r;
 }
-
--- nobody else sends on the link on which x sends
-pub other_out : (w : World) (x y o j : ℕ) → IsFit w → (member_at w x).out ≡ Some o → (member_at w y).out ≡ Some j → y ≢ x → j ≢ o
-other_out w x y o j f ex ey ne same = ne (sym (f.own_ends.out y j ey).1 ∙ ap (λ k. (link_at w k).sender) same ∙ (f.own_ends.out x o ex).1)

@@ -1,5 +1,5 @@
 -- The link on which a member sends has it as its sender, and the one from which it takes has it as its receiver, also where it has stopped.
-use Rattle.std.proofs.Common.{◌≡◌, ℕ, ◌+◌, ◌<◌, true, nat_eq, List, [], ◌∷◌, ◌++◌, length, Some, None, refl, sym, ap, subst, ◌∙◌, arith}
+use Rattle.std.proofs.Common.{◌≢◌, ◌≡◌, ℕ, ◌+◌, ◌<◌, true, nat_eq, List, [], ◌∷◌, ◌++◌, length, Some, None, refl, sym, ap, subst, ◌∙◌, arith}
 use Rattle.std.proofs.lemmas.Bool.{and_parts}
 use Rattle.std.proofs.lemmas.List.{length-set, length_push, get_or_append_left, get_or_push}
 use Rattle.std.proofs.lemmas.List.Quantifiers.{position-Some}
@@ -25,6 +25,10 @@ use Rattle.ring_world.proofs.events.Leaves.{with_opened}
 pub record OwnEnds (w : World) : Type 0 where
   pub out : (x o : ℕ) → (member_at w x).out ≡ Some o → (o < length w.links) × ((link_at w o).sender ≡ x)
   pub current : (x s : ℕ) → (member_at w x).current ≡ Some s → (s < length w.links) × ((link_at w s).receiver ≡ x)
+
+-- nobody else sends on the link on which x sends
+pub other_out : (w : World) (x y o j : ℕ) → OwnEnds w → (member_at w x).out ≡ Some o → (member_at w y).out ≡ Some j → y ≢ x → j ≢ o
+other_out w x y o j h ex ey ne same = ne (sym (h.out y j ey).1 ∙ ap (λ k. (link_at w k).sender) same ∙ (h.out x o ex).1)
 
 -- one member's part
 pub record Owns (w : World) (x : ℕ) (y : Member) : Type 0 where
