@@ -5,4 +5,5 @@ pub mod Begin
 pub mod Fits
 pub mod Next
 pub mod Marks
+pub mod Told
 pub mod Above

@@ -1,5 +1,5 @@
 -- Which packet a member sends.
-use Rattle.std.specs.Prelude.{ℕ, ◌-◌, ◌≤◌, Bool, true, false, cond, not, ◌&&◌, nat_eq, List, drop, map, max, Option, Some, None}
+use Rattle.std.specs.Prelude.{◌≡◌, ℕ, ◌-◌, ◌≤◌, Bool, true, false, cond, not, ◌&&◌, nat_eq, nat_le, List, drop, map, max, Option, Some, None}
 use Rattle.std.specs.List.{filter}
 use Rattle.ring_names.specs.declared.numbers.MemberId.{MemberId}
 use Rattle.group_view.specs.View.{as_id}
@@ -7,10 +7,14 @@ use Rattle.activity.specs.Kept.{Kept, KeptRow, got_of, kept_of}
 use Rattle.activity.specs.Told.{Told, ToldRow, sent_of}
 use Rattle.activity.specs.Parcels.{Carried}
 
+-- whether the numbers of an origin are those last sent
+abbrev pub is_told : Kept → Told → Bool
+is_told k t = nat_eq (got_of k) t.got && nat_eq k.forgot t.forgot
+
 -- a first packet has a line of each origin with a message, any other of those whose numbers aren't the last sent
 abbrev pub has_line : Bool → Kept → Told → Bool
 has_line true k t = not (nat_eq (got_of k) 0)
-has_line false k t = not (nat_eq (got_of k) t.got && nat_eq k.forgot t.forgot)
+has_line false k t = not (is_told k t)
 
 -- A first packet carries all that isn't forgotten, any other what came since the last one. Where the sender has forgotten
 -- messages that it hasn't sent, the line begins behind them.
@@ -42,3 +46,7 @@ lines_of first sent rows = map (row_line first sent) (filter (row_has_line first
 pub record IsNotAbove (sent : List ToldRow) (rows : List KeptRow) : Type 0 where
   pub got : (p : ℕ) → (sent_of sent p).got ≤ got_of (kept_of rows p)
   pub forgot : (p : ℕ) → (sent_of sent p).forgot ≤ (kept_of rows p).forgot
+
+-- whether an id is one of the first, and its numbers aren't those last sent
+abbrev pub tells_new : List ToldRow → List KeptRow → ℕ → ℕ → Bool
+tells_new sent rows ids p = nat_le 1 p && nat_le p ids && not (is_told (kept_of rows p) (sent_of sent p))

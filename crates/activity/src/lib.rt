@@ -6,6 +6,7 @@
 mod change;
 mod laws;
 mod packet;
+mod saying;
 mod sending;
 mod sent;
 mod table;
@@ -17,8 +18,9 @@ mod tests;
 pub use change::Change;
 pub use laws::{a_packet_and_its_plan_give_the_numbers, no_more_is_sent_than_is_kept};
 pub use packet::{Line, Load, Packet};
+pub use saying::says_all;
 pub use sending::diff;
 pub use sent::{Sent, SentRow};
 pub use table::Table;
 pub use tables::{KeptNumbers, Tables};
-pub use taking::plan;
+pub use taking::{line_change, plan};

@@ -19,8 +19,9 @@ fn owns(view: &View, me: MemberId, sender: MemberId, origin: MemberId) -> bool
     origin.0 == me.0 || view.is_between(sender, origin, me)
 }
 
-/// What a line changes, if it is used.
-fn change_of(own: bool, tables: &Tables, line: &Line) -> Option<Change>
+/// What a line changes at a member with these tables, which answers for the line's origin or doesn't: none where the line isn't
+/// used. It takes no memory.
+pub fn line_change(own: bool, tables: &Tables, line: &Line) -> Option<Change>
     ensures { result ≡ change_by own (kept_of tables.now (line.now).origin.0) line.now }
 {
     let kept = tables.numbers(line.origin);
@@ -77,7 +78,7 @@ pub fn plan(
     let mut changes = Vec::new(alloc);
     for line in packet.lines() {
         let own = owns(view, me, sender, line.origin);
-        push_change(&mut changes, change_of(own, tables, line))?;
+        push_change(&mut changes, line_change(own, tables, line))?;
     }
     Ok(changes)
 }

@@ -20,6 +20,7 @@ use Rattle.gm_member.specs.Held.{Held, answered_held, refresh_refused, refreshed
 use Rattle.gm_member.specs.Stands.{held_in, WhereItStands, Stands, StepsTo, IsMarkedView, with_own_link}
 use Rattle.gm_member.specs.Questions.{OfView}
 use Rattle.gm_member.proofs.Doors.{view_version}
+use Rattle.gm_member.proofs.Facts.{right_row}
 use Rattle.gm_member.proofs.Fit.{IsFit, reached_fit}
 use Rattle.gm_member.proofs.Lifts.{refreshed_alone, refresh_alone, lifts, refresh_lifts}
 use Rattle.gm_member.proofs.MarkStands.{mark_view, mark_world, mark_newest, mark_may, mark_is, view_held}
@@ -62,7 +63,7 @@ mark_stands w x v dead f some lt (d, there, is) r =
     let look : MayLook u x n = newer_look w x (mark_view w d) m.is_member m.up f.good.inv.is_ring in
     let new : v ≡ view_in u n = is ∙ sym (mark_newest w d f.good) in
     ap (refreshed_alone v) (view_held w (mark_view w d) x f.good)
-    ∙ refresh_alone u x n v look good new (ap (λ (g : Group). g.version) new ∙ view_version u n good look.upto)
+    ∙ refresh_alone u x n v look good (λ p. right_row w x p f) new (ap (λ (g : Group). g.version) new ∙ view_version u n good look.upto)
     ∙ ap (λ t. held_in t x) (sym (mark_is w x d (member_at w x).name dead named there))
 
 pub mark_lifts : (h h' : Held) (v : Group) → h' ≡ refreshed_held (answered_held h) v

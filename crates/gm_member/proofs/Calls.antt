@@ -1,11 +1,11 @@
 -- What the calls of a member need of what it holds.
 use Rattle.std.proofs.Common.{◌≡◌, ◌<◌, Bool, true, false, List, Option, Some, None, sym, subst, arith}
 use Rattle.std.proofs.lemmas.Bool.Decides.{nat_tests}
-use Rattle.std.specs.Prelude.{Result, Ok, Err, OnOk, IfOk, IfNone, MatchOption}
+use Rattle.std.specs.Prelude.{Result, Ok, Err, OnOk, OnErr, IfOk, IfErr, IfNone, MatchOption}
 use Rattle.ring_names.specs.declared.reason.Reason.{Reason}
 use Rattle.ring_names.specs.declared.reason.Reason.TheVariants.{Stopped, Waiting, AwaitingAnswer, NoOutLink, NoCredit, NothingNew}
 use Rattle.credit_flow.specs.Credit.{is_blocked}
-use Rattle.ring_world.specs.Rows.{Row}
+use Rattle.activity.specs.Kept.{Kept}
 use Rattle.ring_world.specs.Refusal.{or_else, refuse_if}
 use Rattle.ring_world.specs.Machine.{is_waiting}
 use Rattle.ring_world.specs.Event.{is_stopped}
@@ -14,9 +14,9 @@ use Rattle.gm_member.specs.Held.{Held, Outgoing, up_refused, on_some, put_refuse
 use Rattle.gm_member.proofs.DoorParts.{up_refused_none}
 
 -- something may be put only where there is credit
-pub may_send : (rows : List Row) (o : Outgoing) → out_refused rows o ≡ None → 0 < o.credit.credit
-may_send rows o e =
-    let open_credit : is_blocked o.credit ≡ false = (none_of (is_blocked o.credit) NoCredit (refuse_if (has_nothing_new rows o) NothingNew) e).0 in
+pub may_send : (known : List Kept) (o : Outgoing) → out_refused known o ≡ None → 0 < o.credit.credit
+may_send known o e =
+    let open_credit : is_blocked o.credit ≡ false = (none_of (is_blocked o.credit) NoCredit (refuse_if (has_nothing_new known o) NothingNew) e).0 in
     grind (arith, nat_tests)
 
 -- ---- what a call comes to
@@ -25,6 +25,15 @@ may_send rows o e =
 pub on_ok_both : {A E P Q R : Type 0} (r : Result A E) → (P → Q → R) → OnOk r P → OnOk r Q → OnOk r R
 on_ok_both (Ok a) f p q = f p q
 on_ok_both (Err e) f p q = tt
+
+-- what holds in any case holds where it failed
+pub on_err : {A E P : Type 0} (r : Result A E) → P → OnErr r P
+on_err (Ok a) p = tt
+on_err (Err e) p = p
+
+-- what holds of its fault
+pub on_fault : {A E : Type 0} (Q : E → Type 0) (r : Result A E) (x y : E) → r ≡ Err x → x ≡ y → Q y → IfErr r Q
+on_fault Q r x y e s q = subst (λ z. IfErr z Q) (sym e) (subst Q (sym s) q)
 
 -- where the second is one of its value
 pub if_ok_both : {A E P : Type 0} {Q R : A → Type 0} (r : Result A E) → ((a : A) → P → Q a → R a) → OnOk r P → IfOk r Q → IfOk r R
@@ -41,8 +50,8 @@ pub some_later : {A : Type 0} (o : Option A) (missing : Reason) (later : A → O
 some_later o missing later a is e = subst (λ p. on_some p missing later ≡ None) is e
 
 -- what may be put may be put on the link
-pub put_out_enabled : (h : Held) (o : Outgoing) → h.out ≡ Some o → put_refused h ≡ None → out_refused h.rows o ≡ None
-put_out_enabled h o is e = some_later h.out NoOutLink (out_refused h.rows) o is (up_later h _ e)
+pub put_out_enabled : (h : Held) (o : Outgoing) → h.out ≡ Some o → put_refused h ≡ None → out_refused h.known o ≡ None
+put_out_enabled h o is e = some_later h.out NoOutLink (out_refused h.known) o is (up_later h _ e)
 
 -- what the first conditions refuse is refused
 first_of : (b : Bool) (q : Reason) (later later' : Option Reason) (r r' : Reason) → ((later ≡ Some r) → later' ≡ Some r' → r ≡ r') → or_else (refuse_if b q) later ≡ Some r → or_else (refuse_if b q) later' ≡ Some r' → r ≡ r'

@@ -11,7 +11,7 @@ use Rattle.ring_world.proofs.rings.Rounds.{nat_eq-not}
 use Rattle.gm_member.specs.Held.{Held, ended_held}
 use Rattle.gm_member.specs.Stands.{held_in, outgoing_in}
 use Rattle.gm_member.proofs.Fit.{IsFit}
-use Rattle.gm_member.proofs.Parts.{held_is, seen, Seen, waits_seen, incoming_seen, outgoing_same, there_same, door_but, current_waits_not, over_waits_not}
+use Rattle.gm_member.proofs.Parts.{held_is, known_same, log_written, seen, Seen, waits_seen, incoming_seen, outgoing_same, there_same, door_but, current_waits_not, over_waits_not}
 
 -- the end leaves each other link as it was
 pub end_other : (w : World) (x s j : ℕ) → j ≢ s → link_at (leave_link w x s) j ≡ link_at w j
@@ -30,7 +30,8 @@ end_stands w x s f lt is =
     let y : Member = member_at w x in
     let sl : s < length w.links = (f.own_ends.current x s is).0 in
     let now : member_at w' x ≡ with_current None y = get_or-set_same w.members x (with_current None y) no_member lt in
-    sym (held_is w' x (with_current None y) h.out None h.door now
+    sym (held_is w' x (with_current None y) h.known h.out None h.door now
+    (known_same w w' (with_current None y) (log_written w x (with_current None y) refl))
     (there_same (outgoing_in w') (outgoing_in w) y.out (λ j _. outgoing_same (current_is w x None) s j (finished (link_at w s)) sl refl))
     refl
     (door_but w w' x s (length-set w.links s (finished (link_at w s))) (current_waits_not w x s is)

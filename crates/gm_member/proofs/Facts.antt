@@ -1,6 +1,6 @@
 -- What follows for single members, rows and packets.
-use Rattle.std.proofs.Common.{◌≡◌, ℕ, zero, suc, ◌+◌, ◌-◌, ◌<◌, ◌≤◌, List, [], ◌∷◌, length, get_or, false, Bool, Some, refl, sym, ap, subst, ◌∙◌, arith}
-use Rattle.std.proofs.lemmas.Bool.{false≢true}
+use Rattle.std.proofs.Common.{◌≡◌, ◌≢◌, ⊎_elim, ℕ, zero, suc, ◌+◌, ◌-◌, ◌<◌, ◌≤◌, List, [], ◌∷◌, length, get_or, false, Bool, Some, refl, sym, ap, subst, ◌∙◌, arith}
+use Rattle.std.proofs.lemmas.Bool.{false≢true, cases_lt, cases_eq}
 use Rattle.std.proofs.lemmas.List.{get_or_past}
 use Rattle.group_view.specs.Since.{no_group}
 use Rattle.ring_world.specs.declared.event.Event.{Event}
@@ -13,8 +13,11 @@ use Rattle.ring_world.specs.Event.{id_of, by_of, of_member, at_found, refused_at
 use Rattle.ring_world.specs.Lawful.{row_of, NumbersAreWithin, PacketsAreWithin}
 use Rattle.ring_world.proofs.invariants.Happens.{HasViews}
 use Rattle.ring_world.proofs.code.Sent.{next_line_at}
-use Rattle.gm_member.specs.Held.{known_at, numbers_of}
-use Rattle.gm_member.specs.Stands.{held_in, outgoing_in}
+use Rattle.activity.specs.Kept.{no_kept, got_of}
+use Rattle.activity.specs.Told.{none_told}
+use Rattle.gm_member.specs.Parcels.{places, known_at, told_at}
+use Rattle.gm_member.specs.Stands.{kept_by, told_in, held_in, outgoing_in}
+use Rattle.gm_member.proofs.Knowing.{IsRight, got_kept}
 use Rattle.gm_member.proofs.Places.{tabled_at}
 use Rattle.gm_member.proofs.Fit.{IsFit}
 
@@ -41,7 +44,7 @@ got_zero w q p f e = omega (arith, (f.lawful.within.rows q p).got, ap length e)
 pub forgot_zero : (w : World) (q p : ℕ) → IsFit w → log_of w p ≡ [] → (row_of w q p).forgot ≡ 0
 forgot_zero w q p f e = omega (arith, (f.lawful.within.rows q p).forgot, ap length e)
 
-no_numbers_within : (k : Numbers) → NumbersAreWithin 0 k → k ≡ no_numbers
+pub no_numbers_within : (k : Numbers) → NumbersAreWithin 0 k → k ≡ no_numbers
 no_numbers_within k h =
     let a : k.lo ≡ 0 = omega (arith, h.lo) in
     let b : k.got ≡ 0 = omega (arith, h.got) in
@@ -67,17 +70,32 @@ oldest_nothing w s p f some e = no_numbers_within (numbers_at (oldest (link_at w
 pub place_few : (w : World) (x : ℕ) → IsFit w → 1 ≤ x → x < size w → x - 1 < 64
 place_few w x f some lt = omega (arith, f.few)
 
-pub held_row : (w : World) (x p : ℕ) → p < 64 → known_at (held_in w x).rows p ≡ row_of w x (p + 1)
-held_row w x p l = tabled_at (λ q. row_at (member_at w x) (q + 1)) 64 p no_row l
+pub held_known : (w : World) (x p : ℕ) → p < 64 → known_at (held_in w x).known p ≡ kept_by (log_of w (p + 1)) (row_of w x (p + 1))
+unfolding places
+held_known w x p l = tabled_at (λ q. kept_by (log_of w (q + 1)) (row_at (member_at w x) (q + 1))) 64 p no_kept l
 
-pub held_sent : (w : World) (o p : ℕ) → p < 64 → numbers_of (outgoing_in w o).sent p ≡ numbers_at (link_at w o).sending.sent (p + 1)
-held_sent w o p l = tabled_at (λ q. numbers_at (link_at w o).sending.sent (q + 1)) 64 p no_numbers l
+pub held_told : (w : World) (o p : ℕ) → p < 64 → told_at (outgoing_in w o).told p ≡ told_in (numbers_at (link_at w o).sending.sent (p + 1))
+unfolding places
+held_told w o p l = tabled_at (λ q. told_in (numbers_at (link_at w o).sending.sent (q + 1))) 64 p none_told l
+
+-- each row is right, of an origin that the ring has or hasn't
+pub right_row : (w : World) (q p : ℕ) → IsFit w → IsRight (log_of w p) (row_of w q p)
+right_row w q p f = record { forgot = below; got = (f.lawful.within.rows q p).got }
+  where
+    silent : log_of w p ≡ [] → (row_of w q p).forgot ≤ (row_of w q p).got
+    silent e = let none : (row_of w q p).forgot ≡ 0 = forgot_zero w q p f e in omega arith
+
+    below : (row_of w q p).forgot ≤ (row_of w q p).got
+    below = ⊎_elim
+        (λ (is : p ≡ 0). silent (ap (log_of w) is ∙ f.nobody))
+        (λ (ne : p ≢ 0). ⊎_elim (λ (lt : p < size w). f.ordered q p (omega arith) lt) (λ (ge : size w ≤ p). silent (log_past w p ge)) (cases_lt p (size w)))
+        (cases_eq p 0)
 
 -- its own row tells how many messages a member has published
-pub own_row : (w : World) (x : ℕ) → IsFit w → 1 ≤ x → x < size w → (known_at (held_in w x).rows (x - 1)).got ≡ length (log_of w x)
+pub own_row : (w : World) (x : ℕ) → IsFit w → 1 ≤ x → x < size w → got_of (known_at (held_in w x).known (x - 1)) ≡ length (log_of w x)
 own_row w x f some lt =
     let back : x - 1 + 1 ≡ x = omega arith in
-    ap (λ (r : Row). r.got) (held_row w x (x - 1) (place_few w x f some lt)) ∙ ap (λ p. (row_of w x p).got) back ∙ f.own x
+    ap got_of (held_known w x (x - 1) (place_few w x f some lt)) ∙ ap (λ p. got_of (kept_by (log_of w p) (row_of w x p))) back ∙ got_kept (log_of w x) (row_of w x x) (right_row w x x f) ∙ f.own x
 
 -- ---- views
 

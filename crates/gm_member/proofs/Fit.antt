@@ -17,6 +17,7 @@ use Rattle.ring_world.proofs.runs.LinkCredit.{run_credited}
 use Rattle.ring_world.proofs.runs.OwnLogs.{IsLogged, run_logged, HasOwnLogs}
 use Rattle.ring_world.proofs.work.OwnEnds.{OwnEnds}
 use Rattle.ring_world.proofs.work.Fit as ring
+use Rattle.gm_member.proofs.Ordered.{AreOrdered, reached_ordered}
 use Rattle.gm_member.proofs.Whole.{AreWhole, opening_whole, plain_whole, heard_front}
 
 pub record IsFit (w : World) : Type 0 where
@@ -32,9 +33,13 @@ pub record IsFit (w : World) : Type 0 where
   -- members are few, and each has a row for each
   pub few : size w ≤ 65
   pub rows : HasRows w
+  -- none has forgotten what it didn't receive
+  pub ordered : AreOrdered w
   -- of each it has heard the front of the log, and a publisher all of its own
   pub heard : (q p : ℕ) → (row_of w q p).heard ≡ take (row_of w q p).got (log_of w p)
   pub own : HasOwnLogs w
+  -- no number is above the length of its log
+  pub logged : IsLogged w
   -- the links of a member have it at their ends, also where it has stopped
   pub own_ends : OwnEnds w
   -- nobody stands at id 0
@@ -57,8 +62,10 @@ reached_fit credit names events are plain r =
       goes = fit.goes;
       few = ring.few_members w fit.good;
       rows = whole.0;
+      ordered = reached_ordered credit names events are plain r;
       heard = λ q p. heard_front w q p whole lawful.in_order;
       own = logged.own;
+      logged = logged;
       own_ends = fit.own_ends;
       nobody = logged.nobody;
     }

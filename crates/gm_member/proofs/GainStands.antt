@@ -32,7 +32,7 @@ gain_stands w x o f is =
     let ol : o < length w.links = (f.own_ends.out x o is).0 in
     ap (λ k. record h { out = option_map (gained_on (oldest_grant (link_at w o).flow.grants)) (option_map (outgoing_in w) k) }) is
     ∙ ap (λ l. record h { out = Some (outgoing_of l) }) (sym (get_or-set_same w.links o (regained_on w o) no_link ol))
-    ∙ sym (held_is w' x (member_at w x) (Some (outgoing_in w' o)) h.current h.door refl
+    ∙ sym (held_is w' x (member_at w x) h.known (Some (outgoing_in w' o)) h.current h.door refl refl
     (ap (option_map (outgoing_in w')) is)
     (current_same w w' (member_at w x).current (λ j. gain_seen w o j ol))
     (door_still w w' x (length-set w.links o (regained_on w o)) refl refl refl (λ j. gain_seen w o j ol)))

@@ -1,3 +1,4 @@
+pub mod Accepting
 pub mod AnswerLifts
 pub mod Arriving
 pub mod Calls
@@ -9,11 +10,14 @@ pub mod Facts
 pub mod Fit
 pub mod Fresh
 pub mod GainStands
+pub mod Knowing
 pub mod Lifts
 pub mod MarkStands
 pub mod Moving
 pub mod Names
+pub mod Noting
 pub mod OpenDoors
+pub mod Ordered
 pub mod Others
 pub mod OthersStand
 pub mod Parcels
@@ -23,12 +27,14 @@ pub mod Places
 pub mod Pruned
 pub mod PublishStands
 pub mod PutStands
+pub mod Putting
 pub mod Ready
 pub mod RefreshStands
 pub mod Refusals
-pub mod RowViews
 pub mod Same
 pub mod StopStands
 pub mod TakeStands
+pub mod TakenWithin
 pub mod Whole
+pub mod Within
 pub mod WithinLinks

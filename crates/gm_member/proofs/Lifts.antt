@@ -16,12 +16,13 @@ use Rattle.ring_world.specs.Step.{size, log_of, put_on as put_in, gain_on, leave
 use Rattle.ring_world.specs.Event.{is_stopped, on_link, running_refusal, up_refusal, put_refusal, end_refusal, gain_refusal, refusal, at_found, last, id_of, by_of, refresh_refusal, refused_at, done_at, refreshed}
 use Rattle.ring_world.proofs.events.Enabled.{up_later, up_none, running_none}
 use Rattle.gm_member.specs.declared.taken.Taken.{Taken}
-use Rattle.gm_member.specs.Parcels.{Parcel}
-use Rattle.gm_member.specs.Held.{Held, Outgoing, known_at, active_refused, up_refused, published_held, put_refused, put_held, parcel_on, take_refused, took_held, gain_refused, gained_held, ended_held, stopped_held, pick_refused, picked_held, refresh_refused, refreshed_held}
+use Rattle.activity.specs.Kept.{got_of}
+use Rattle.gm_member.specs.Parcels.{ByOrigin, known_at}
+use Rattle.gm_member.specs.Held.{Held, Outgoing, active_refused, up_refused, published_held, put_refused, put_held, parcel_on, take_refused, took_held, gain_refused, gained_held, ended_held, stopped_held, pick_refused, picked_held, refresh_refused, refreshed_held}
 use Rattle.gm_member.specs.News.{news_of}
 use Rattle.gm_member.specs.Stands.{held_in, outgoing_in, WhereItStands, StepsTo, publishing, StandsFor, IsPutPacket, IsNextPacket, IsNextGrant, IsNextEnd, taken_in, with_own_link}
 use Rattle.gm_member.proofs.Fit.{IsFit, reached_fit}
-use Rattle.gm_member.proofs.Facts.{version_is, refused_there, done_there}
+use Rattle.gm_member.proofs.Facts.{right_row, version_is, refused_there, done_there}
 use Rattle.gm_member.proofs.PublishStands.{publish_stands, publish_number}
 use Rattle.gm_member.proofs.PutStands.{put_refuses, put_stands, put_packet, leaving}
 use Rattle.gm_member.proofs.TakeStands.{TakesFrom, take_refuses, take_enabled, take_does, take_stands, news_are, end_may}
@@ -37,7 +38,7 @@ use Rattle.ring_world.proofs.invariants.Happens.{IsGood}
 use Rattle.gm_member.proofs.Doors.{view_version}
 use Rattle.gm_member.proofs.DoorParts.{up_refused_none}
 use Rattle.gm_member.proofs.PickStands.{PicksAt, picks_some, pick_stands, MayPick, may_pick}
-use Rattle.gm_member.proofs.RefreshStands.{refresh_refuses_too, refresh_stands}
+use Rattle.gm_member.proofs.RefreshStands.{RowsAreRight, refresh_refuses_too, refresh_stands}
 use Rattle.gm_member.proofs.Refusals.{pick_refusal_is}
 
 -- ---- in one state
@@ -65,14 +66,14 @@ put_steps w x f some lt e =
     by_out (Some o) is k = put_stands w x o f some lt is
 
 -- the packet is that of the ring
-pub put_is : (w : World) (x : ℕ) (out : Outgoing) → IsFit w → 1 ≤ x → x < size w → (held_in w x).out ≡ Some out → IsPutPacket w x (parcel_on (held_in w x).view.version (held_in w x).rows out)
-put_is w x out f some lt e o is =
+pub put_is : (w : World) (x : ℕ) (out : Outgoing) → IsFit w → 1 ≤ x → x < size w → put_refused (held_in w x) ≡ None → (held_in w x).out ≡ Some out → IsPutPacket w x (parcel_on (held_in w x).view.version (held_in w x).known out)
+put_is w x out f some lt en e o is =
     let both : Some (outgoing_in w o) ≡ Some out = sym (ap (option_map (outgoing_in w)) is) ∙ e in
     let same : outgoing_in w o ≡ out = cc in
-    subst (λ a. StandsFor w (parcel_on (held_in w x).view.version (held_in w x).rows a) (leaving w x o)) same (put_packet w x o f some lt)
+    subst (λ a. StandsFor w (link_at w o).sending (parcel_on (held_in w x).view.version (held_in w x).known a) (leaving w x o)) same (put_packet w x o f some lt (up_refused_none (held_in w x) _ en).0 is)
 
 -- a member that may take has a link, on which the packet is
-takes_of : (w : World) (x : ℕ) (k : Parcel) (s : ℕ) → IsFit w → 1 ≤ x → x < size w → (member_at w x).phase ≡ Up → (member_at w x).current ≡ Some s → k.view ≤ (held_in w x).view.version → (is_empty (link_at w s).packets ≡ false) × StandsFor w k (oldest (link_at w s)) → TakesFrom w x s
+takes_of : (w : World) (x : ℕ) (k : ByOrigin) (s : ℕ) → IsFit w → 1 ≤ x → x < size w → (member_at w x).phase ≡ Up → (member_at w x).current ≡ Some s → k.view ≤ (held_in w x).view.version → (is_empty (link_at w s).packets ≡ false) × StandsFor w (link_at w s).had k (oldest (link_at w s)) → TakesFrom w x s
 takes_of w x k s f some lt up is l n = record {
   some = some;
   is_member = lt;
@@ -87,10 +88,10 @@ has_link : (w : World) (x : ℕ) → IsFit w → take_refused (held_in w x) None
 has_link w x f e = running_none w x (on_link (member_at w x).current reason.NoCurrentLink (λ _. None)) (f.none_waits x) (sym (take_refuses w x None) ∙ e)
 
 -- what a member needs in order to take this packet
-abbrev pub MayTakeIt : Parcel → Held → Type 0
+abbrev pub MayTakeIt : ByOrigin → Held → Type 0
 MayTakeIt k h = (take_refused h None ≡ None) × (k.view ≤ h.view.version)
 
-pub take_steps : (w : World) (x : ℕ) (k : Parcel) → IsFit w → 1 ≤ x → x < size w → MayTakeIt k (held_in w x) → IsNextPacket w x k → StepsTo w x (event.Take (member_at w x).name) (took_held (held_in w x) k)
+pub take_steps : (w : World) (x : ℕ) (k : ByOrigin) → IsFit w → 1 ≤ x → x < size w → MayTakeIt k (held_in w x) → IsNextPacket w x k → StepsTo w x (event.Take (member_at w x).name) (took_held (held_in w x) k)
 take_steps w x k f some lt e n = by_current (member_at w x).current refl may.1
   where
     may : ((member_at w x).phase ≡ Up) × (on_link (member_at w x).current reason.NoCurrentLink (λ _. None) ≡ None)
@@ -165,11 +166,11 @@ abbrev pub refreshed_alone : Group → Held → Held
 refreshed_alone v h = with_own_link h v (refreshed_held h v)
 
 -- it stands where the ring's leaves it
-pub refresh_alone : (w : World) (x n : ℕ) (v : Group) → MayLook w x n → IsGood w → v ≡ view_in w n → v.version ≡ n → refreshed_alone v (held_in w x) ≡ held_in (refreshed w x n) x
-refresh_alone w x n v m h is numbered =
+pub refresh_alone : (w : World) (x n : ℕ) (v : Group) → MayLook w x n → IsGood w → RowsAreRight w x → v ≡ view_in w n → v.version ≡ n → refreshed_alone v (held_in w x) ≡ held_in (refreshed w x n) x
+refresh_alone w x n v m h right is numbered =
     ap (λ (g : Group). with_own_link (held_in w x) (record g { version = v.version }) (refreshed_held (held_in w x) g)) is
     ∙ ap (λ i. with_own_link (held_in w x) (record (view_in w n) { version = i }) (refreshed_held (held_in w x) (view_in w n))) numbered
-    ∙ refresh_stands w x n m h
+    ∙ refresh_stands w x n m h right
 
 -- a view that is one of the ring's
 abbrev pub IsThere : World → Group → Type 0
@@ -179,7 +180,7 @@ pub refresh_steps : (w : World) (x : ℕ) (v : Group) → IsFit w → 1 ≤ x �
 refresh_steps w x v f some lt e there =
     steps_there w x (event.Refresh (member_at w x).name v.version) (refreshed_alone v (held_in w x)) (f.named x some lt)
     (none_some (refresh_refused (held_in w x) v.version) (up_refusal w x (refresh_refusal w x v.version)) e (refresh_refuses_too w x v.version f.good there.0))
-    (refresh_alone w x v.version v (may_look w x v.version lt f.good there.0 e) f.good there.1 refl)
+    (refresh_alone w x v.version v (may_look w x v.version lt f.good there.0 e) f.good (λ p. right_row w x p f) there.1 refl)
 
 -- ---- in every state of every run
 
@@ -218,17 +219,27 @@ pub refuses_too : {A : Type 0} (failing : Held → Option Reason) (event : List 
 refuses_too failing event a answer each h refused credit names events x are plain r some lt s =
     refuses_where failing (λ _ _. Unit {0}) event a answer (λ w y f b l _. each w y f b l) h refused credit names events x are plain r some lt s tt
 
-pub number_lifts : (h : Held) (n : ℕ) → n ≡ (known_at h.rows (h.id - 1)).got + 1 → WhereItStands h (λ w x. n ≡ length (log_of w x) + 1)
+pub number_lifts : (h : Held) (n : ℕ) → n ≡ got_of (known_at h.known (h.id - 1)) + 1 → WhereItStands h (λ w x. n ≡ length (log_of w x) + 1)
 number_lifts h n e credit names events x are plain r some lt s =
-    e ∙ lifts h (λ w y k. (known_at k.rows (k.id - 1)).got + 1 ≡ length (log_of w y) + 1) publish_number credit names events x are plain r some lt s
+    e ∙ lifts h (λ w y k. got_of (known_at k.known (k.id - 1)) + 1 ≡ length (log_of w y) + 1) publish_number credit names events x are plain r some lt s
 
-pub put_packet_lifts : (h : Held) (o : Outgoing) → h.out ≡ Some o → WhereItStands h (λ w x. IsPutPacket w x (parcel_on h.view.version h.rows o))
-put_packet_lifts h o e credit names events x are plain r some lt s =
-    lifts h (λ w y k. k.out ≡ Some o → IsPutPacket w y (parcel_on k.view.version k.rows o)) (λ w y f a b. put_is w y o f a b) credit names events x are plain r some lt s e
+pub put_packet_lifts : (h : Held) (o : Outgoing) → put_refused h ≡ None → h.out ≡ Some o → WhereItStands h (λ w x. IsPutPacket w x (parcel_on h.view.version h.known o))
+put_packet_lifts h o en e credit names events x are plain r some lt s =
+    lifts h (λ w y k. put_refused k ≡ None → k.out ≡ Some o → IsPutPacket w y (parcel_on k.view.version k.known o)) (λ w y f a b. put_is w y o f a b) credit names events x are plain r some lt s en e
 
-pub news_lift : (h : Held) (k : Parcel) (t : List Taken) → t ≡ news_of h k → WhereItStands h (λ w x. IsNextPacket w x k → t ≡ taken_in w (member_at w x).current x)
-news_lift h k t e credit names events x are plain r some lt s n =
-    e ∙ lifts h (λ w y g. IsNextPacket w y k → news_of g k ≡ taken_in w (member_at w y).current y) (λ w y f a b. news_are w y k f) credit names events x are plain r some lt s n
+news_there : (w : World) (x : ℕ) (k : ByOrigin) → IsFit w → 1 ≤ x → x < size w → MayTakeIt k (held_in w x) → IsNextPacket w x k → news_of (held_in w x) k ≡ taken_in w (member_at w x).current x
+news_there w x k f some lt e n = by_current (member_at w x).current refl may.1
+  where
+    may : ((member_at w x).phase ≡ Up) × (on_link (member_at w x).current reason.NoCurrentLink (λ _. None) ≡ None)
+    may = has_link w x f e.0
+
+    by_current : (c : Option ℕ) → (member_at w x).current ≡ c → on_link c reason.NoCurrentLink (λ _. None) ≡ None → news_of (held_in w x) k ≡ taken_in w (member_at w x).current x
+    by_current None is m = cc
+    by_current (Some s) is m = news_are w x s k f (takes_of w x k s f some lt may.0 is e.1 (n s is)) (n s is).1
+
+pub news_lift : (h : Held) (k : ByOrigin) (t : List Taken) → MayTakeIt k h → t ≡ news_of h k → WhereItStands h (λ w x. IsNextPacket w x k → t ≡ taken_in w (member_at w x).current x)
+news_lift h k t may e credit names events x are plain r some lt s n =
+    e ∙ lifts h (λ w y g. MayTakeIt k g → IsNextPacket w y k → news_of g k ≡ taken_in w (member_at w y).current y) (λ w y f a b. news_there w y k f a b) credit names events x are plain r some lt s may n
 
 -- a refresh to one of the ring's views, with the link that a member that is alone opens to itself
 pub refresh_lifts : (h h' : Held) (v : Group) → refresh_refused h v.version ≡ None → h' ≡ refreshed_held h v

@@ -14,7 +14,7 @@ use Rattle.ring_world.proofs.events.Cases.{may_mark}
 use Rattle.ring_world.proofs.events.WhatRefuses.{MayMark}
 use Rattle.ring_world.proofs.walks.Views.{view_old, view_new, left_old}
 use Rattle.ring_world.proofs.invariants.Happens.{IsGood}
-use Rattle.gm_member.specs.Stands.{incoming_in, waits_for, door_in, held_in}
+use Rattle.gm_member.specs.Stands.{known_in, incoming_in, waits_for, door_in, held_in}
 use Rattle.gm_member.proofs.DoorLists.{filter_agree}
 use Rattle.gm_member.proofs.Parts.{held_same}
 
@@ -31,7 +31,8 @@ pub view_held : (w : World) (g : Group) (x : ℕ) → IsGood w → held_in w x �
 view_held w g x h =
     let some = h.inv.is_ring.some in
     let upto = h.inv.is_ring.held x in
-    held_same x (member_at w x) (view_in w (version_of w x)) (view_in (with_view w g) (version_of w x)) _ _ _ _ (door_in w x) (door_in (with_view w g) x) w.initial w.more
+    held_same x (member_at w x) (known_in w x) (known_in w x) (view_in w (version_of w x)) (view_in (with_view w g) (version_of w x)) _ _ _ _ (door_in w x) (door_in (with_view w g) x) w.initial w.more
+    refl
     (sym (view_old w g (version_of w x) (omega arith)))
     refl
     refl

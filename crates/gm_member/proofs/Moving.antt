@@ -9,9 +9,9 @@ use Rattle.group_view.specs.declared.request.Request.{Request}
 use Rattle.ordered_link.specs.declared.ends.LinkOut.{Ghosts}
 use Rattle.ordered_link.specs.declared.item.Item.{Item}
 use Rattle.ring_world.specs.View.{right_of}
-use Rattle.gm_member.specs.declared.packet.Load.{Load}
+use Rattle.activity.specs.declared.packet.Load.{Load}
 use Rattle.gm_member.specs.declared.member.Member.{Member}
-use Rattle.gm_member.specs.View.{row_of, in_of, out_of}
+use Rattle.gm_member.specs.View.{all_kept, in_of, out_of}
 use Rattle.gm_member.specs.declared.links.InLink.{InLink}
 use Rattle.gm_member.specs.Held.{Held, no_incoming, door_at, without, looked_held, first_out, sends_to, refreshed_held}
 use Rattle.gm_member.specs.Spares.{IsSpareFor, OpensOn}
@@ -27,19 +27,19 @@ refreshed_moves h v to b e =
 module _ {O I : Type 0} {g : Ghosts O Load} where
   -- what a member had before it looked, or made room, it had all the same
   pub sends_from : (are_fresh : ℕ → O → I → Type 0) (free : O → ℕ) (ended : O → Bool) (puts : O → Item Load → O → Type 0) (version : ℕ) (to : MemberId) (m l n : Member O I g) (requests : List (Request I))
-      → l.id ≡ m.id → l.credit ≡ m.credit → l.known ≡ m.known → l.out ≡ m.out → l.old_outs.items ≡ m.old_outs.items
+      → l.id ≡ m.id → l.credit ≡ m.credit → l.tables ≡ m.tables → l.out ≡ m.out → l.old_outs.items ≡ m.old_outs.items
       → SendsOn are_fresh free ended puts version to l n requests → SendsOn are_fresh free ended puts version to m n requests
   sends_from are_fresh free ended puts version to m l n requests ei ec ek eo es s = record {
     spare = s.spare;
     ready =
-        subst (λ c. IsSpareFor are_fresh free ended c.initial (map row_of m.known.items) s.spare) ec
-        (subst (λ ks. IsSpareFor are_fresh free ended l.credit.initial (map row_of ks.items) s.spare) ek s.ready);
+        subst (λ c. IsSpareFor are_fresh free ended c.initial (all_kept m.tables) s.spare) ec
+        (subst (λ ks. IsSpareFor are_fresh free ended l.credit.initial (all_kept ks) s.spare) ek s.ready);
     link = s.link;
     out = s.out;
     opens =
-        subst (λ c. OpensOn puts c (map row_of m.known.items) m.id to version s.spare s.link requests) ec
-        (subst (λ i. OpensOn puts l.credit (map row_of m.known.items) i to version s.spare s.link requests) ei
-        (subst (λ ks. OpensOn puts l.credit (map row_of ks.items) l.id to version s.spare s.link requests) ek s.opens));
+        subst (λ c. OpensOn puts c (all_kept m.tables) m.id to version s.spare s.link requests) ec
+        (subst (λ i. OpensOn puts l.credit (all_kept m.tables) i to version s.spare s.link requests) ei
+        (subst (λ ks. OpensOn puts l.credit (all_kept ks) l.id to version s.spare s.link requests) ek s.opens));
     old_outs =
         subst (λ i. Replaces puts i.0 m.out m.old_outs.items n.old_outs.items) ei
         (subst (λ xs. Replaces puts l.id.0 m.out xs n.old_outs.items) es

@@ -10,8 +10,8 @@ use Rattle.ring_world.specs.Event.{refreshed}
 use Rattle.ring_world.proofs.events.WhatRefuses.{MayLook}
 use Rattle.ring_world.proofs.invariants.Happens.{IsGood}
 use Rattle.gm_member.specs.Held.{fresh_in}
-use Rattle.gm_member.specs.Stands.{incoming_in, outgoing_in, waits_for, door_in, held_in}
-use Rattle.gm_member.proofs.Parts.{held_by, held_same}
+use Rattle.gm_member.specs.Stands.{known_in, incoming_in, outgoing_in, waits_for, door_in, held_in}
+use Rattle.gm_member.proofs.Parts.{known_by, known_same, log_written, held_by, held_same}
 use Rattle.gm_member.proofs.DoorParts.{waits_by, member_other}
 use Rattle.gm_member.proofs.Others.{member_others}
 use Rattle.gm_member.proofs.OpenDoors.{sends_right, arriving, sending_member, opened_world, old_links, refresh_looks, refresh_opens, incoming_old, outgoing_old, door_after}
@@ -23,9 +23,10 @@ opens_others : (w : World) (x v y : ℕ) → MayLook w x v → IsGood w → IsWi
 opens_others w x v y m h i ne =
     let w' : World = opened_world w x v (old_links w x) in
     let k : Member = member_at w y in
-    ap (λ k. held_by y k (view_in w k.version) (option_map (outgoing_in w') k.out) (option_map (incoming_in w') k.current) (map (incoming_in w') (filter (waits_by w' y k.current k.version) (range_with_len 0 (length w'.links)))) w.initial w.more) (member_other w x y (sending_member w x v (length w.links)) ne)
-    ∙ held_same y k (view_in w k.version) (view_in w k.version) (option_map (outgoing_in w') k.out) (option_map (outgoing_in w) k.out) (option_map (incoming_in w') k.current) (option_map (incoming_in w) k.current)
+    ap (λ k. held_by y k (known_by w' k) (view_in w k.version) (option_map (outgoing_in w') k.out) (option_map (incoming_in w') k.current) (map (incoming_in w') (filter (waits_by w' y k.current k.version) (range_with_len 0 (length w'.links)))) w.initial w.more) (member_other w x y (sending_member w x v (length w.links)) ne)
+    ∙ held_same y k (known_by w' k) (known_in w y) (view_in w k.version) (view_in w k.version) (option_map (outgoing_in w') k.out) (option_map (outgoing_in w) k.out) (option_map (incoming_in w') k.current) (option_map (incoming_in w) k.current)
     (map (incoming_in w') (filter (waits_by w' y k.current k.version) (range_with_len 0 (length w'.links)))) (door_in w y ++ cond (nat_eq (right_of (view_in w v) x) y) (fresh_in w.initial w.more x v ∷ []) []) w.initial w.more
+    (known_same w w' k (log_written w x (sending_member w x v (length w.links)) refl))
     refl
     (same_out k.out (λ o e. i.out o e))
     (same_current k.current (λ s e. i.current s e))
@@ -46,7 +47,7 @@ refresh_others w x v y m h i ne = by_out (sends_right w x v) refl
     by_out : (b : Bool) → sends_right w x v ≡ b → held_in (refreshed w x v) y ≡ record (held_in w y) { door = door_in w y ++ arriving w x v y }
     by_out true e =
         ap (λ u. held_in u y) (refresh_looks w x v e)
-        ∙ member_others w x y (moved_to w x v) ne
+        ∙ member_others w x y (moved_to w x v) refl ne
         ∙ ap (λ ls. record (held_in w y) { door = ls }) (sym (append-nil (door_in w y)))
         ∙ ap (λ ls. record (held_in w y) { door = door_in w y ++ ls }) (sym (nothing_opens w x v y e))
     by_out false e =

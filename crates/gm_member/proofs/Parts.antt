@@ -9,29 +9,41 @@ use Rattle.group_view.specs.Since.{no_group}
 use Rattle.group_view.specs.View.{Group, entry_in}
 use Rattle.ring_world.specs.declared.phase.Ending.{Ending}
 use Rattle.ring_world.specs.declared.phase.Phase.{Phase}
-use Rattle.ring_world.specs.Rows.{Row}
+use Rattle.activity.specs.Kept.{Kept}
 use Rattle.ring_world.specs.View.{left_by}
 use Rattle.ring_world.specs.Machine.{World, Member, Link, no_link, no_member, row_at, numbers_at, member_at, link_at, view_in}
 use Rattle.ring_world.specs.OpenLinks.{is_place, is_current, passes}
-use Rattle.ring_world.specs.Step.{size, with_member, with_link, ended, end_out}
+use Rattle.ring_world.specs.Step.{size, log_of, with_member, with_link, ended, end_out}
+use Rattle.ring_world.proofs.events.Leaves.{member_leaves}
+use Rattle.ring_world.proofs.rings.Maps.{map-range_same}
 use Rattle.ring_world.proofs.rings.Lists.{at_set}
 use Rattle.ring_world.proofs.rings.Rounds.{nat_eq-is, nat_eq-same}
 use Rattle.gm_member.specs.Parcels.{places}
 use Rattle.gm_member.specs.Held.{Held, Outgoing, Incoming}
-use Rattle.gm_member.specs.Stands.{held_in, outgoing_in, incoming_in, waits_for, door_in}
+use Rattle.gm_member.specs.Stands.{kept_by, told_in, held_in, outgoing_in, incoming_in, waits_for, door_in}
 
 -- ---- what a member holds
 
-abbrev pub rows_of : Member → List Row
-rows_of y = map (λ p. row_at y (p + 1)) places
+-- what is kept of each origin by one that is y
+abbrev pub known_by : World → Member → List Kept
+known_by w y = map (λ p. kept_by (log_of w (p + 1)) (row_at y (p + 1))) places
 
-abbrev pub held_from : ℕ → List ℕ → Phase → Group → List Row → Option Outgoing → Option Incoming → List Incoming → ℕ → ℕ → Held
-held_from x name phase view rows out current door initial more = record {
+-- the same, where the logs are the same
+pub known_same : (w w' : World) (y : Member) → ((p : ℕ) → log_of w' p ≡ log_of w p) → known_by w' y ≡ known_by w y
+unfolding places
+known_same w w' y e = map-range_same (λ p. kept_by (log_of w' (p + 1)) (row_at y (p + 1))) (λ p. kept_by (log_of w (p + 1)) (row_at y (p + 1))) 64 (λ p _. ap (λ ms. kept_by ms (row_at y (p + 1))) (e (p + 1)))
+
+-- a member is written that has the log that it had
+pub log_written : (w : World) (x : ℕ) (y : Member) → y.log ≡ (member_at w x).log → (p : ℕ) → log_of (with_member w x y) p ≡ log_of w p
+log_written w x y e p = member_leaves (λ _ a b. b.log ≡ a.log) w x y e (λ _. refl) p
+
+abbrev pub held_from : ℕ → List ℕ → Phase → Group → List Kept → Option Outgoing → Option Incoming → List Incoming → ℕ → ℕ → Held
+held_from x name phase view known out current door initial more = record {
   id = x;
   name = name;
   phase = phase;
   view = view;
-  rows = rows;
+  known = known;
   out = out;
   current = current;
   door = door;
@@ -40,24 +52,25 @@ held_from x name phase view rows out current door initial more = record {
   more = more;
 }
 
--- of one that is y in the ring
-abbrev pub held_by : ℕ → Member → Group → Option Outgoing → Option Incoming → List Incoming → ℕ → ℕ → Held
-held_by x y v out current door initial more = held_from x y.name y.phase v (rows_of y) out current door initial more
+-- of one that is y in the ring, and keeps this
+abbrev pub held_by : ℕ → Member → List Kept → Group → Option Outgoing → Option Incoming → List Incoming → ℕ → ℕ → Held
+held_by x y known v out current door initial more = held_from x y.name y.phase v known out current door initial more
 
--- by its view, its links and its door
-pub held_same : (x : ℕ) (y : Member) (v v' : Group) (out out' : Option Outgoing) (current current' : Option Incoming) (door door' : List Incoming) (initial more : ℕ) → v ≡ v' → out ≡ out' → current ≡ current' → door ≡ door' → held_by x y v out current door initial more ≡ held_by x y v' out' current' door' initial more
-held_same x y v v' out out' current current' door door' initial more ev eo ec ed =
-    ap (λ k. held_by x y k out current door initial more) ev
-    ∙ ap (λ k. held_by x y v' k current door initial more) eo
-    ∙ ap (λ k. held_by x y v' out' k door initial more) ec
-    ∙ ap (λ k. held_by x y v' out' current' k initial more) ed
+-- by what it keeps, its view, its links and its door
+pub held_same : (x : ℕ) (y : Member) (known known' : List Kept) (v v' : Group) (out out' : Option Outgoing) (current current' : Option Incoming) (door door' : List Incoming) (initial more : ℕ) → known ≡ known' → v ≡ v' → out ≡ out' → current ≡ current' → door ≡ door' → held_by x y known v out current door initial more ≡ held_by x y known' v' out' current' door' initial more
+held_same x y known known' v v' out out' current current' door door' initial more ek ev eo ec ed =
+    ap (λ k. held_by x y k v out current door initial more) ek
+    ∙ ap (λ k. held_by x y known' k out current door initial more) ev
+    ∙ ap (λ k. held_by x y known' v' k current door initial more) eo
+    ∙ ap (λ k. held_by x y known' v' out' k door initial more) ec
+    ∙ ap (λ k. held_by x y known' v' out' current' k initial more) ed
 
 -- by what stands at its id, on its links and at its door
-pub held_is : (w : World) (x : ℕ) (y : Member) (out : Option Outgoing) (current : Option Incoming) (door : List Incoming) → member_at w x ≡ y → option_map (outgoing_in w) y.out ≡ out → option_map (incoming_in w) y.current ≡ current → door_in w x ≡ door
-    → held_in w x ≡ held_from x y.name y.phase (view_in w y.version) (rows_of y) out current door w.initial w.more
-held_is w x y out current door ey eo ec ed =
-    ap (λ (z : Member). held_by x z (view_in w z.version) (option_map (outgoing_in w) z.out) (option_map (incoming_in w) z.current) (door_in w x) w.initial w.more) ey
-    ∙ held_same x y (view_in w y.version) (view_in w y.version) (option_map (outgoing_in w) y.out) out (option_map (incoming_in w) y.current) current (door_in w x) door w.initial w.more refl eo ec ed
+pub held_is : (w : World) (x : ℕ) (y : Member) (known : List Kept) (out : Option Outgoing) (current : Option Incoming) (door : List Incoming) → member_at w x ≡ y → known_by w y ≡ known → option_map (outgoing_in w) y.out ≡ out → option_map (incoming_in w) y.current ≡ current → door_in w x ≡ door
+    → held_in w x ≡ held_from x y.name y.phase (view_in w y.version) known out current door w.initial w.more
+held_is w x y known out current door ey ek eo ec ed =
+    ap (λ (z : Member). held_by x z (known_by w z) (view_in w z.version) (option_map (outgoing_in w) z.out) (option_map (incoming_in w) z.current) (door_in w x) w.initial w.more) ey
+    ∙ held_same x y (known_by w y) known (view_in w y.version) (view_in w y.version) (option_map (outgoing_in w) y.out) out (option_map (incoming_in w) y.current) current (door_in w x) door w.initial w.more ek refl eo ec ed
 
 -- ---- what a link shows its receiver
 
@@ -171,7 +184,7 @@ outgoing_of l = record {
   to = l.receiver;
   opened = l.opened;
   fresh = l.sending.fresh;
-  sent = map (λ p. numbers_at l.sending.sent (p + 1)) places;
+  told = map (λ p. told_in (numbers_at l.sending.sent (p + 1))) places;
   credit = l.flow.sender;
 }
 
@@ -181,13 +194,13 @@ outgoing_same w s j l lt e = at_set (λ i a. outgoing_of a ≡ outgoing_of (link
 
 -- ---- writes
 
--- a member is written that takes from the same link, and has the same view
-pub written_held : (w : World) (x : ℕ) (y : Member) → x < size w → y.current ≡ (member_at w x).current → y.version ≡ (member_at w x).version
-    → held_in (with_member w x y) x ≡ held_by x y (view_in w y.version) (option_map (outgoing_in w) y.out) (option_map (incoming_in w) y.current) (door_in w x) w.initial w.more
-written_held w x y lt c v =
+-- a member is written that takes from the same link, and has the same view; it keeps this then
+pub written_held : (w : World) (x : ℕ) (y : Member) (known : List Kept) → x < size w → known_by (with_member w x y) y ≡ known → y.current ≡ (member_at w x).current → y.version ≡ (member_at w x).version
+    → held_in (with_member w x y) x ≡ held_by x y known (view_in w y.version) (option_map (outgoing_in w) y.out) (option_map (incoming_in w) y.current) (door_in w x) w.initial w.more
+written_held w x y known lt k c v =
     let w' : World = with_member w x y in
     let now : member_at w' x ≡ y = get_or-set_same w.members x y no_member lt in
-    held_is w' x y (option_map (outgoing_in w) y.out) (option_map (incoming_in w) y.current) (door_in w x) now refl refl
+    held_is w' x y known (option_map (outgoing_in w) y.out) (option_map (incoming_in w) y.current) (door_in w x) now k refl refl
     (door_still w w' x refl refl (ap (λ (z : Member). z.current) now ∙ c) (ap (λ (z : Member). z.version) now ∙ v) (λ j. refl))
 
 -- a link is written that shows its receiver the same, and also its sender, where that is y
@@ -197,7 +210,7 @@ link_held w o y l lt shows out =
     let w' : World = with_link w o l in
     let h = held_in w y in
     let same : (j : ℕ) → seen (link_at w' j) ≡ seen (link_at w j) = λ j. seen_same w o j l lt shows in
-    sym (held_is w' y (member_at w y) h.out h.current h.door refl
+    sym (held_is w' y (member_at w y) h.known h.out h.current h.door refl refl
     (there_same (outgoing_in w') (outgoing_in w) (member_at w y).out out)
     (current_same w w' (member_at w y).current same)
     (door_still w w' y (length-set w.links o l) refl refl refl same))

@@ -16,10 +16,10 @@ use Rattle.ring_world.proofs.rings.Maps.{position_map}
 use Rattle.ring_world.proofs.invariants.Happens.{IsGood}
 use Rattle.ring_world.proofs.events.Refusals.{none_of}
 use Rattle.gm_member.specs.Held.{Incoming, no_incoming, door_at, is_for, on_some, at_some, first_at_door, pick_refused, picked_held, picked_at, without}
-use Rattle.gm_member.specs.Stands.{incoming_in, outgoing_in, waits_for, door_links, door_in, held_in}
+use Rattle.gm_member.specs.Stands.{known_in, incoming_in, outgoing_in, waits_for, door_links, door_in, held_in}
 use Rattle.gm_member.proofs.DoorLists.{filter_agree, find_both, find_agree, find_position, position_finds, filter_without}
 use Rattle.gm_member.proofs.Doors.{view_version, door_test}
-use Rattle.gm_member.proofs.Parts.{held_by, held_same}
+use Rattle.gm_member.proofs.Parts.{known_by, known_same, log_written, held_by, held_same}
 use Rattle.gm_member.proofs.DoorParts.{waits_by, member_same, without_made, up_refused_none}
 
 -- ---- the link that is picked
@@ -101,11 +101,12 @@ pick_stands w x i l h none e =
     let p : PicksAt w x i = picks_some w x i h none e in
     let y = member_at w x in
     ap (λ o. at_some o (held_in w x) (picked_at (held_in w x))) e
-    ∙ held_same x y (view_in w y.version) (view_in w y.version) (option_map (outgoing_in w) y.out) (option_map (outgoing_in w) y.out) (Some (door_at (door_in w x) i)) (Some (incoming_in w s)) (without i (door_in w x)) (door_in w' x) w.initial w.more
+    ∙ held_same x y (known_in w x) (known_by w' (with_current (Some s) y)) (view_in w y.version) (view_in w y.version) (option_map (outgoing_in w) y.out) (option_map (outgoing_in w) y.out) (Some (door_at (door_in w x) i)) (Some (incoming_in w s)) (without i (door_in w x)) (door_in w' x) w.initial w.more
+    (sym (known_same w w' (with_current (Some s) y) (log_written w x (with_current (Some s) y) refl)))
     refl refl (ap Some p.is)
     (without_made (incoming_in w) i (door_links w x)
     ∙ ap (map (incoming_in w)) (sym (filter_without (waits_for w x) s 0 (length w.links) i p.there refl) ∙ sym (filter_agree (waits_for w' x) (λ k. waits_for w x k && not (nat_eq s k)) 0 (length w.links) (λ k _ _. picked_waits w x s l none k))))
-    ∙ sym (ap (λ m. held_by x m (view_in w m.version) (option_map (outgoing_in w) m.out) (option_map (incoming_in w) m.current) (door_in w' x) w.initial w.more) (member_same w x (with_current (Some s) (member_at w x)) l))
+    ∙ sym (ap (λ m. held_by x m (known_by w' m) (view_in w m.version) (option_map (outgoing_in w) m.out) (option_map (incoming_in w) m.current) (door_in w' x) w.initial w.more) (member_same w x (with_current (Some s) (member_at w x)) l))
 
 -- a pick that isn't refused: from no link, and the first at the door
 pub record MayPick (w : World) (x : ℕ) : Type 0 where

@@ -1,19 +1,22 @@
 -- What a member has ready for an answer stays so from call to call.
-use Rattle.std.proofs.Common.{◌≡◌, ℕ, Bool, true, false, Option, Some, None, map, refl, sym, ap, subst, arith}
+use Rattle.std.proofs.Common.{◌≡◌, ℕ, Bool, true, false, Option, Some, None, refl, sym, ap, subst, arith}
 use Rattle.std.proofs.lemmas.Bool.{false≢true}
 use Rattle.std.specs.Prelude.{IsSome, MatchOption, ⊤, vec_len, vec_capacity}
 use Rattle.ring_world.specs.Machine.{runs_phase}
 use Rattle.ordered_link.specs.declared.ends.LinkOut.{Ghosts}
-use Rattle.gm_member.specs.declared.packet.Load.{Load}
+use Rattle.activity.specs.declared.packet.Load.{Load}
 use Rattle.gm_member.specs.declared.member.Member.{Member}
 use Rattle.gm_member.specs.declared.spare.Spare.{Spare}
 use Rattle.gm_member.specs.declared.links.OutLink.{OutLink}
 use Rattle.gm_member.specs.Held.{at_some}
-use Rattle.gm_member.specs.View.{row_of, has_ended}
+use Rattle.gm_member.specs.View.{all_kept, has_ended, told_on}
+use Rattle.activity.specs.Diff.{IsNotAbove}
 use Rattle.gm_member.specs.Ends.{EndIsOpen}
 use Rattle.gm_member.specs.Spares.{IsSpareFor}
 use Rattle.gm_member.specs.Calls.{SameSelf, KeepsOuts}
-use Rattle.gm_member.specs.Shown.{When, OutIsOpen, OutIsReady, OutIsBack, IsReadyToMove, SpareIsReady, SpareIsSound, KeepsSpare, StaysReady}
+use Rattle.gm_member.specs.Within.{IsWithin}
+use Rattle.gm_member.specs.Shown.{When, OutIsReady, OutIsBack, IsReadyToMove, SpareIsReady, SpareIsSound, KeepsSpare, StaysReady}
+use Rattle.gm_member.proofs.Within.{within_above}
 
 -- what holds of that which is there
 if_there : {A : Type 0} (N : Type 0) (P Q : A → Type 0) (o : Option A) → ((a : A) → P a → Q a) → MatchOption o N P → MatchOption o N Q
@@ -44,7 +47,7 @@ when_both false f p q = tt
 module _ {O I : Type 0} {g : Ghosts O Load} where
   -- a member that is the same, and sends as it did, keeps what makes its link ready
   pub keeps_same : (m n : Member O I g) → SameSelf m n → KeepsOuts m n → n.spare ≡ m.spare → KeepsSpare m n
-  keeps_same m n same outs spare = (spare, same.1, ap (λ ks. map row_of ks.items) same.2, omega (arith, ap vec_len outs.1), omega (arith, ap vec_capacity outs.1))
+  keeps_same m n same outs spare = (spare, same.1, ap all_kept same.2, omega (arith, ap vec_len outs.1), omega (arith, ap vec_capacity outs.1))
 
   -- the link that is there is ready
   pub ready_there : (are_fresh : ℕ → O → I → Type 0) (free : O → ℕ) (ended : O → Bool) (m : Member O I g) (s : Spare O I g) → m.spare ≡ Some s → SpareIsReady are_fresh free ended m → IsReadyToMove are_fresh free ended m s
@@ -58,8 +61,8 @@ module _ {O I : Type 0} {g : Ghosts O Load} where
   still_moves : (are_fresh : ℕ → O → I → Type 0) (free : O → ℕ) (ended : O → Bool) (m n : Member O I g) (s : Spare O I g) → KeepsSpare m n → IsReadyToMove are_fresh free ended m s → IsReadyToMove are_fresh free ended n s
   still_moves are_fresh free ended m n s k r = record {
     spare =
-        subst (λ c. IsSpareFor are_fresh free ended c.initial (map row_of n.known.items) s) (sym k.1)
-        (subst (λ rows. IsSpareFor are_fresh free ended m.credit.initial rows s) (sym k.2) r.spare);
+        subst (λ c. IsSpareFor are_fresh free ended c.initial (all_kept n.tables) s) (sym k.1)
+        (subst (λ known. IsSpareFor are_fresh free ended m.credit.initial known s) (sym k.2) r.spare);
     room = omega (arith, k.3, k.4, r.room);
   }
 
@@ -79,3 +82,7 @@ module _ {O I : Type 0} {g : Ghosts O Load} where
   -- the end on which a running member sends hasn't ended, where it isn't lent
   pub is_ready : (m : Member O I g) → OutIsBack m → OutIsReady g.ended m
   is_ready m = when_both (runs_phase m.phase) (out_open g.ended m.out) m.unended
+
+  -- what a member has sent on a link is in its tables
+  pub sent_there : (m : Member O I g) (l : OutLink O) → m.out ≡ Some l → IsNotAbove l.sent m.tables
+  sent_there m l e = within_above l.sent m.tables (subst (λ o. IsWithin (told_on o) m.tables) e m.sent)

@@ -12,19 +12,21 @@ use Rattle.ring_world.specs.Refusal.{refuse_if, or_else}
 use Rattle.ring_world.specs.View.{right_of}
 use Rattle.ring_world.specs.Machine.{Member, World, no_sending, row_at, numbers_at, member_at, link_at, view_in, newest, runs, runs_phase, is_kept, is_waiting}
 use Rattle.ring_world.specs.OpenLinks.{version_of, comes_from_left, passes, is_place, is_current}
-use Rattle.ring_world.specs.Step.{next_lines, next_packet, moved_to, look_at, kept_current}
+use Rattle.ring_world.specs.Step.{log_of, next_lines, next_packet, moved_to, look_at, kept_current}
 use Rattle.ring_world.specs.Event.{refreshed, up_refusal, refresh_refusal, is_stopped}
 use Rattle.ring_world.proofs.rings.Maps.{map-range_same}
 use Rattle.ring_world.proofs.events.WhatRefuses.{MayLook}
 use Rattle.ring_world.proofs.rings.Rounds.{nat_eq-is, nat_eq-not}
 use Rattle.ring_world.proofs.invariants.Happens.{IsGood}
-use Rattle.gm_member.specs.Parcels.{places}
-use Rattle.gm_member.specs.Held.{known_at, numbers_of, nothing_sent, put_on, fresh_in, fresh_out, first_out, out_to, looked_held, refreshed_held, refresh_refused, up_refused, kept_in, kept_door, stays}
-use Rattle.gm_member.specs.Stands.{incoming_in, outgoing_in, waits_for, door_in, held_in}
+use Rattle.activity.specs.Kept.{no_kept}
+use Rattle.gm_member.specs.Parcels.{places, known_at, told_now}
+use Rattle.gm_member.specs.Held.{put_on, fresh_in, fresh_out, first_out, out_to, looked_held, refreshed_held, refresh_refused, up_refused, kept_in, kept_door, stays}
+use Rattle.gm_member.specs.Stands.{kept_by, told_in, known_in, incoming_in, outgoing_in, waits_for, door_in, held_in}
+use Rattle.gm_member.proofs.Knowing.{IsRight, told_kept}
 use Rattle.gm_member.proofs.Places.{tabled_at}
 use Rattle.gm_member.proofs.DoorLists.{filter_agree, filter_made}
 use Rattle.gm_member.proofs.Doors.{view_version, comes_stays, passes_stays, stays_kept, stays_less, stays_for}
-use Rattle.gm_member.proofs.Parts.{held_by, held_same}
+use Rattle.gm_member.proofs.Parts.{known_by, known_same, log_written, held_by, held_same}
 use Rattle.gm_member.proofs.DoorParts.{waits_by, member_same}
 use Rattle.gm_member.proofs.OpenDoors.{sends_right, arriving, new_link, sending_member, opened_world, old_links, refresh_looks, refresh_opens, link_new, incoming_old, door_after}
 
@@ -153,20 +155,22 @@ first_lines [] p = refl
 first_lines (r ∷ rows) zero = refl
 first_lines (r ∷ rows) (suc p) = first_lines rows p
 
+-- a member's rows are right
+abbrev pub RowsAreRight : World → ℕ → Type 0
+RowsAreRight w x = (p : ℕ) → IsRight (log_of w p) (row_at (member_at w x) p)
+
 -- with its first packet it is the ring's
-pub first_out_is : (w : World) (x v : ℕ) → MayLook w x v → IsGood w → first_out (looked_held (held_in w x) (view_in w v)) (right_of (view_in w v) x) ≡ outgoing_in (opened_world w x v (old_links w x)) (length w.links)
-first_out_is w x v m h =
-    ap (λ n. put_on rows (fresh_out w.initial w.more (right_of (view_in w v) x) n)) (view_version w v h m.upto)
-    ∙ ap (λ ns. record (outgoing_in one 0) { sent = ns })
-    (map-range_same (λ p. next_numbers true (known_at rows p) (numbers_of nothing_sent p)) (λ p. numbers_at (next_packet (moved_to w x v) no_sending) (p + 1)) 64
-    (λ p l. ap (λ r. next_numbers true r (numbers_of nothing_sent p)) (tabled_at (λ k. row_at (member_at w x) (k + 1)) 64 p no_row l)
-    ∙ ap (λ k. next_numbers true (row_at (member_at w x) (p + 1)) k) (tabled_at (λ (_ : ℕ). no_numbers) 64 p no_numbers l)
-    ∙ sym (first_lines (member_at w x).rows (p + 1))))
+pub first_out_is : (w : World) (x v : ℕ) → MayLook w x v → IsGood w → RowsAreRight w x → first_out (looked_held (held_in w x) (view_in w v)) (right_of (view_in w v) x) ≡ outgoing_in (opened_world w x v (old_links w x)) (length w.links)
+unfolding places
+first_out_is w x v m h right =
+    ap (λ n. put_on (known_in w x) (fresh_out w.initial w.more (right_of (view_in w v) x) n)) (view_version w v h m.upto)
+    ∙ ap (λ ns. record (outgoing_in one 0) { told = ns })
+    (map-range_same (λ p. told_now (known_at (known_in w x) p)) (λ p. told_in (numbers_at (next_packet (moved_to w x v) no_sending) (p + 1))) 64
+    (λ p l. ap told_now (tabled_at (λ k. kept_by (log_of w (k + 1)) (row_at (member_at w x) (k + 1))) 64 p no_kept l)
+    ∙ told_kept (log_of w (p + 1)) (row_at (member_at w x) (p + 1)) (right (p + 1))
+    ∙ sym (ap told_in (first_lines (member_at w x).rows (p + 1)))))
     ∙ ap (λ k. outgoing_in (record w { links = k ∷ [] }) 0) (sym (link_new w x v))
   where
-    rows : List Row
-    rows = map (λ p. row_at (member_at w x) (p + 1)) places
-
     one : World
     one = record w { links = new_link w x v ∷ [] }
 
@@ -179,7 +183,8 @@ looks_stands w x v m h e =
     let y : Member = member_at w x in
     let n : ℕ = length w.links in
     let kept : ℕ → Bool = λ s. is_kept w (link_at w s) v in
-    held_same x y (view_in w v) (view_in w v) (out_to (looked_held (held_in w x) (view_in w v)) (right_of (view_in w v) x)) (option_map (outgoing_in w) y.out) (kept_in (view_in w v) x (option_map (incoming_in w) y.current)) (option_map (incoming_in w) (kept_current kept y.current)) (kept_door (view_in w v) x (door_in w x) ++ arriving w x v x) (door_in w' x) w.initial w.more
+    held_same x y (known_in w x) (known_by w' (moved_to w x v)) (view_in w v) (view_in w v) (out_to (looked_held (held_in w x) (view_in w v)) (right_of (view_in w v) x)) (option_map (outgoing_in w) y.out) (kept_in (view_in w v) x (option_map (incoming_in w) y.current)) (option_map (incoming_in w) (kept_current kept y.current)) (kept_door (view_in w v) x (door_in w x) ++ arriving w x v x) (door_in w' x) w.initial w.more
+    (sym (known_same w w' (moved_to w x v) (log_written w x (moved_to w x v) refl)))
     refl
     (ap (λ b. cond b (option_map (outgoing_in w) y.out) (Some (first_out (looked_held (held_in w x) (view_in w v)) (right_of (view_in w v) x)))) e)
     (current_kept w x v m h)
@@ -188,11 +193,11 @@ looks_stands w x v m h e =
     ∙ filter_made (stays (view_in w v) x) (incoming_in w) (waits_for w x) (range_with_len 0 n)
     ∙ ap (map (incoming_in w)) (filter_agree (λ s. waits_for w x s && stays (view_in w v) x (incoming_in w s)) (waits_for w' x) 0 n
     (λ s a b. sym (door_stays w x v s m h (omega arith)) ∙ sym (ap (λ k. waits_by w x k.current k.version s) (member_same w x (moved_to w x v) m.is_member)))))
-    ∙ sym (ap (λ k. held_by x k (view_in w k.version) (option_map (outgoing_in w) k.out) (option_map (incoming_in w) k.current) (door_in w' x) w.initial w.more) (member_same w x (moved_to w x v) m.is_member))
+    ∙ sym (ap (λ k. held_by x k (known_by w' k) (view_in w k.version) (option_map (outgoing_in w) k.out) (option_map (incoming_in w) k.current) (door_in w' x) w.initial w.more) (member_same w x (moved_to w x v) m.is_member))
 
 -- where a link opens
-opens_stands : (w : World) (x v : ℕ) → MayLook w x v → IsGood w → sends_right w x v ≡ false → record (refreshed_held (held_in w x) (view_in w v)) { door = kept_door (view_in w v) x (door_in w x) ++ arriving w x v x } ≡ held_in (opened_world w x v (old_links w x)) x
-opens_stands w x v m h e =
+opens_stands : (w : World) (x v : ℕ) → MayLook w x v → IsGood w → RowsAreRight w x → sends_right w x v ≡ false → record (refreshed_held (held_in w x) (view_in w v)) { door = kept_door (view_in w v) x (door_in w x) ++ arriving w x v x } ≡ held_in (opened_world w x v (old_links w x)) x
+opens_stands w x v m h right e =
     let w' : World = opened_world w x v (old_links w x) in
     let y : Member = member_at w x in
     let n : ℕ = length w.links in
@@ -200,15 +205,16 @@ opens_stands w x v m h e =
     let y' : Member = sending_member w x v n in
     let here : member_at w' x ≡ y' = member_same w x y' m.is_member in
     let none : is_place y.current n ≡ false = current_lt w x n y.current (λ s k. h.inv.current.lt x s (ap runs_phase m.up) k) in
-    held_same x y (view_in w v) (view_in w v) (out_to (looked_held (held_in w x) (view_in w v)) (right_of (view_in w v) x)) (Some (outgoing_in w' n)) (kept_in (view_in w v) x (option_map (incoming_in w) y.current)) (option_map (incoming_in w') (kept_current kept y.current)) (kept_door (view_in w v) x (door_in w x) ++ arriving w x v x) (door_in w' x) w.initial w.more
+    held_same x y (known_in w x) (known_by w' y') (view_in w v) (view_in w v) (out_to (looked_held (held_in w x) (view_in w v)) (right_of (view_in w v) x)) (Some (outgoing_in w' n)) (kept_in (view_in w v) x (option_map (incoming_in w) y.current)) (option_map (incoming_in w') (kept_current kept y.current)) (kept_door (view_in w v) x (door_in w x) ++ arriving w x v x) (door_in w' x) w.initial w.more
+    (sym (known_same w w' y' (log_written w x y' refl)))
     refl
-    (ap (λ b. cond b (option_map (outgoing_in w) y.out) (Some (first_out (looked_held (held_in w x) (view_in w v)) (right_of (view_in w v) x)))) e ∙ ap Some (first_out_is w x v m h))
+    (ap (λ b. cond b (option_map (outgoing_in w) y.out) (Some (first_out (looked_held (held_in w x) (view_in w v)) (right_of (view_in w v) x)))) e ∙ ap Some (first_out_is w x v m h right))
     (current_kept w x v m h ∙ same_current w x v m h)
     (ap (λ b. kept_door (view_in w v) x (door_in w x) ++ cond b [] (cond (nat_eq (right_of (view_in w v) x) x) (fresh_in w.initial w.more x v ∷ []) [])) e
     ∙ ap (λ ls. ls ++ cond (nat_eq (right_of (view_in w v) x) x) (fresh_in w.initial w.more x v ∷ []) []) (filter_made (stays (view_in w v) x) (incoming_in w) (waits_for w x) (range_with_len 0 n))
     ∙ sym (door_after w x v x (λ s. waits_for w x s && stays (view_in w v) x (incoming_in w s)) (kept_current kept y.current) v m h m.upto (kept_lt n kept y.current none) (λ s l. door_stays w x v s m h l))
     ∙ sym (ap (λ k. map (incoming_in w') (filter (waits_by w' x k.current k.version) (range_with_len 0 (length w'.links)))) here))
-    ∙ sym (ap (λ k. held_by x k (view_in w k.version) (option_map (outgoing_in w') k.out) (option_map (incoming_in w') k.current) (door_in w' x) w.initial w.more) here)
+    ∙ sym (ap (λ k. held_by x k (known_by w' k) (view_in w k.version) (option_map (outgoing_in w') k.out) (option_map (incoming_in w') k.current) (door_in w' x) w.initial w.more) here)
   where
     same_current : (w : World) (x v : ℕ) → MayLook w x v → IsGood w → option_map (incoming_in w) (kept_current (λ s. is_kept w (link_at w s) v) (member_at w x).current) ≡ option_map (incoming_in (opened_world w x v (old_links w x))) (kept_current (λ s. is_kept w (link_at w s) v) (member_at w x).current)
     same_current w x v m h = by_current (member_at w x).current refl
@@ -222,12 +228,12 @@ opens_stands w x v m h e =
         by_current (Some s) k = by_test s (h.inv.current.lt x s (ap runs_phase m.up) k) (is_kept w (link_at w s) v)
 
 -- the member's refresh, with the link that it opens to itself, where it is alone, behind the others at its door
-pub refresh_stands : (w : World) (x v : ℕ) → MayLook w x v → IsGood w → record (refreshed_held (held_in w x) (view_in w v)) { door = kept_door (view_in w v) x (door_in w x) ++ arriving w x v x } ≡ held_in (refreshed w x v) x
-refresh_stands w x v m h = by_out (sends_right w x v) refl
+pub refresh_stands : (w : World) (x v : ℕ) → MayLook w x v → IsGood w → RowsAreRight w x → record (refreshed_held (held_in w x) (view_in w v)) { door = kept_door (view_in w v) x (door_in w x) ++ arriving w x v x } ≡ held_in (refreshed w x v) x
+refresh_stands w x v m h right = by_out (sends_right w x v) refl
   where
     by_out : (b : Bool) → sends_right w x v ≡ b → record (refreshed_held (held_in w x) (view_in w v)) { door = kept_door (view_in w v) x (door_in w x) ++ arriving w x v x } ≡ held_in (refreshed w x v) x
     by_out true e = looks_stands w x v m h e ∙ sym (ap (λ u. held_in u x) (refresh_looks w x v e))
-    by_out false e = opens_stands w x v m h e ∙ sym (ap (λ u. held_in u x) (refresh_opens w x v m.is_member e))
+    by_out false e = opens_stands w x v m h right e ∙ sym (ap (λ u. held_in u x) (refresh_opens w x v m.is_member e))
 
 pub nothing_opens : (w : World) (x v y : ℕ) → sends_right w x v ≡ true → arriving w x v y ≡ []
 nothing_opens w x v y e = ap (λ b. cond b [] (cond (nat_eq (right_of (view_in w v) x) y) (fresh_in w.initial w.more x v ∷ []) [])) e

@@ -1,34 +1,41 @@
 -- A member that takes the oldest packet of its link stands where the ring's take leaves it.
 use Rattle.ring_world.proofs.invariants.KeptTake.{taker_beyond}
 use Rattle.ring_world.proofs.rests.Asked.{no_version}
-use Rattle.std.proofs.Common.{◌≡◌, ◌≢◌, ℕ, zero, suc, ◌+◌, ◌<◌, ◌≤◌, Bool, true, false, not, List, [], ◌++◌, length, take, Option, Some, None, is_some, refl, sym, ap, subst, ◌∙◌, ⊎_elim, arith}
+use Rattle.std.proofs.Common.{◌≡◌, ◌≢◌, ℕ, zero, suc, ◌+◌, ◌<◌, ◌≤◌, Bool, true, false, not, List, [], ◌∷◌, ◌++◌, length, get_or, cond, Option, Some, None, is_some, refl, sym, ap, subst, ◌∙◌, ⊎_elim, arith}
 use Rattle.std.specs.Prelude.{◌&&◌, option_map}
-use Rattle.std.proofs.lemmas.Bool.{cases_lt}
+use Rattle.std.proofs.lemmas.Bool.{cases_lt, false≢true}
 use Rattle.std.proofs.lemmas.List.{length-set, get_or-set_same, get_or-set_other}
-use Rattle.ring_names.specs.declared.message.Message.{Message}
 use Rattle.ring_names.specs.declared.reason.Reason.{Reason}
 use Rattle.ring_names.specs.declared.reason.Reason.TheVariants as reason
 use Rattle.ring_world.specs.declared.event.Event.TheVariants as event
 use Rattle.ring_world.specs.declared.numbers.Numbers.{Numbers}
 use Rattle.ring_world.specs.declared.phase.Phase.{Phase}
 use Rattle.ring_world.specs.declared.phase.Phase.TheVariants.{Up}
-use Rattle.ring_world.specs.Rows.{Row, no_row, no_numbers, taken_row}
+use Rattle.ring_world.specs.Rows.{Row, no_numbers, lo_of, taken_row}
 use Rattle.ring_world.specs.Refusal.{refuse_if, or_else, is_empty}
-use Rattle.ring_world.specs.Machine.{World, Packet, Member, no_link, no_member, row_at, numbers_at, member_at, link_at, view_in, oldest}
+use Rattle.ring_world.specs.Machine.{World, Packet, Member, no_link, no_member, no_packet, row_at, numbers_at, member_at, link_at, view_in, oldest}
 use Rattle.ring_world.specs.Step.{size, with_member, log_of, is_owned, taker, popped, take_from}
 use Rattle.ring_world.specs.Event.{on_link, is_stopped, running_refusal, take_refusal, end_refusal, version_refusal, refusal, effect}
-use Rattle.ring_world.specs.Lawful.{row_of}
-use Rattle.ring_world.proofs.walks.Take.{row_at-taker, take_row}
+use Rattle.ring_world.specs.Lawful.{row_of, NumbersAreWithin}
+use Rattle.ring_world.proofs.walks.Take.{row_at-taker, take_row, take_phase}
 use Rattle.ring_world.proofs.events.Enabled.{take_effect}
-use Rattle.gm_member.specs.Parcels.{Carried, Parcel, no_carried, carried_at, accepted_row}
-use Rattle.gm_member.specs.News.{line_news, carried_in, news_below, news_of}
-use Rattle.gm_member.specs.Held.{Held, Incoming, known_at, at_some, take_refused, owns, accepted_rows, counted_in, took_from, took_held}
-use Rattle.gm_member.specs.Stands.{held_in, outgoing_in, incoming_in, lines_in, StandsFor, IsNextPacket, taken_below, taken_in}
+use Rattle.activity.specs.Parcels.{Carried}
+use Rattle.activity.specs.Plan.{accepted}
+use Rattle.ring_world.specs.Compact.{Has, low, line_in, IsInTurn}
+use Rattle.ring_world.proofs.compact.ByLines.{has_stays, oldest_says, without_line}
+use Rattle.ring_world.proofs.events.WhatRefuses.{MayTake}
+use Rattle.ring_world.proofs.invariants.Happens.{IsGood, event_good}
+use Rattle.ring_world.proofs.runs.NeverFalls.{RowRises, taker_rises_all}
+use Rattle.gm_member.specs.Parcels.{places, ByOrigin, known_at, line_at}
+use Rattle.gm_member.specs.News.{line_news, taken_of, news_below, news_of}
+use Rattle.gm_member.specs.Held.{Held, Incoming, at_some, take_refused, owns, all_accepted, counted_in, took_from, took_held}
+use Rattle.gm_member.specs.Stands.{kept_by, line_for, held_in, outgoing_in, incoming_in, lines_in, StandsFor, taken_below, taken_in}
+use Rattle.gm_member.proofs.Knowing.{ComesRound, Arrives, whole_line, accepted_round, accepted_arrival, news_arrive, no_round, no_news}
+use Rattle.gm_member.proofs.Ordered.{up_ordered}
 use Rattle.gm_member.proofs.Places.{map-range_same, tabled_at}
-use Rattle.gm_member.proofs.Parcels.{accepted_row-own, accepted_row-other, line_news_is}
 use Rattle.gm_member.proofs.Fit.{IsFit}
-use Rattle.gm_member.proofs.Facts.{log_past, row_past, oldest_within, oldest_nothing, held_row, refused_there, done_there}
-use Rattle.gm_member.proofs.Parts.{held_is, rows_of, seen, incoming_seen, outgoing_same, there_same, waits_same, door_but, current_waits_not}
+use Rattle.gm_member.proofs.Facts.{log_past, row_past, got_zero, no_numbers_within, oldest_within, oldest_nothing, held_known, right_row, refused_there, done_there}
+use Rattle.gm_member.proofs.Parts.{held_is, known_by, known_same, log_written, seen, incoming_seen, outgoing_same, there_same, waits_same, door_but, current_waits_not}
 use Rattle.gm_member.proofs.PutStands.{on_some_link}
 
 -- ---- the refusal
@@ -124,56 +131,163 @@ arriving_rises w x s p f t lt e =
     ∙ ap (λ b. (taken_row b (log_of w p) (row_of w x p) (numbers_at (oldest (link_at w s)) p)).got) e)
     ((f.goes (event.Take (member_at w x).name) (take_enabled w x s f t)).never_falls.got x p)
 
-pub line_at : (w : World) (k : Packet) (p : ℕ) → p < 64 → carried_at (lines_in w k) p ≡ carried_in (log_of w (p + 1)) p (numbers_at k (p + 1))
-line_at w k p l = tabled_at (λ q. carried_in (log_of w (q + 1)) q (numbers_at k (q + 1))) 64 p no_carried l
+-- ---- one origin
 
--- ---- one row
+-- what the packet says of an origin
+abbrev pub said : World → ℕ → ℕ → Numbers
+said w s p = numbers_at (oldest (link_at w s)) p
 
-accepted_is : (b : Bool) (p : ℕ) (log : List Message) (r : Row) (k : Numbers) → k.got ≤ length log → r.heard ≡ take r.got log → (b ≡ false → k.lo ≤ r.got) → (b ≡ false → r.got ≤ k.got) → accepted_row b r (carried_in log p k) ≡ taken_row b log r k
-accepted_is true p log r k l e lo rises = accepted_row-own p log r k l
-accepted_is false p log r k l e lo rises = accepted_row-other p log r k l e (lo refl) (rises refl)
+may_take_it : (w : World) (x s : ℕ) → TakesFrom w x s → MayTake w x s
+may_take_it w x s t = record { is_member = t.is_member; up = t.up; current = t.current; has = t.has; version = t.version }
 
-nothing_accepted : (b : Bool) (p : ℕ) (log : List Message) → accepted_row b no_row (carried_in log p no_numbers) ≡ no_row
-nothing_accepted true p log = refl
-nothing_accepted false p log = refl
+-- the state after the take
+after_good : (w : World) (x s : ℕ) → IsFit w → TakesFrom w x s → IsGood (take_from w x s)
+after_good w x s f t = subst IsGood (take_does w x s f t) (event_good w (event.Take (member_at w x).name) f.good (take_enabled w x s f t))
 
-pub accepted_at : (w : World) (x s q p : ℕ) → IsFit w → TakesFrom w x s → 1 ≤ p → accepted_row (owned w x s p) (row_of w x p) (carried_in (log_of w p) q (numbers_at (oldest (link_at w s)) p)) ≡ row_at (taker w x s) p
+-- no number of the row falls
+row_rises : (w : World) (x s p : ℕ) → IsFit w → TakesFrom w x s → p < size w → (b : Bool) → owned w x s p ≡ b → RowRises (row_of w x p) (taken_row b (log_of w p) (row_of w x p) (said w s p))
+row_rises w x s p f t pl b e = subst (λ c. RowRises (row_of w x p) (taken_row c (log_of w p) (row_of w x p) (said w s p))) e (taker_rises_all w x s p f.good.inv f.logged (may_take_it w x s t) pl)
+
+-- and the row has forgotten then nothing that it didn't receive
+row_ordered : (w : World) (x s p : ℕ) → IsFit w → TakesFrom w x s → 1 ≤ p → p < size w → (b : Bool) → owned w x s p ≡ b
+    → (taken_row b (log_of w p) (row_of w x p) (said w s p)).forgot ≤ (taken_row b (log_of w p) (row_of w x p) (said w s p)).got
+row_ordered w x s p f t some pl b e =
+    subst (λ r. r.forgot ≤ r.got) (take_row w x s p t.is_member pl ∙ ap (λ c. taken_row c (log_of w p) (row_of w x p) (said w s p)) e)
+    (up_ordered (take_from w x s) (after_good w x s f t) x (take_phase w x s t.is_member ∙ t.up) p some (omega (arith, pl, length-set w.members x (taker w x s))))
+
+-- the packet begins nowhere behind its last message
+begins_before : (w : World) (x s p : ℕ) → IsFit w → TakesFrom w x s → p < size w → (b : Bool) → owned w x s p ≡ b → (said w s p).lo ≤ (said w s p).got
+begins_before w x s p f t pl own is = by_packets (link_at w s).packets refl
+  where
+    k : Numbers
+    k = said w s p
+
+    rises : RowRises (row_of w x p) (taken_row own (log_of w p) (row_of w x p) k)
+    rises = row_rises w x s p f t pl own is
+
+    low_rises : (b : Bool) → RowRises (row_of w x p) (taken_row b (log_of w p) (row_of w x p) k) → low b (row_of w x p) ≤ k.got
+    low_rises true h = h.forgot
+    low_rises false h = h.got
+
+    by_fresh : (b : Bool) → (link_at w s).had.fresh ≡ b → k.lo ≡ lo_of b k.forgot (numbers_at (link_at w s).had.sent p) → k.lo ≤ k.got
+    by_fresh true e lo = let less = oldest_says w x s (may_take_it w x s t) f.good.inv f.logged f.lawful.compact.taken p pl in omega (arith, lo, less)
+    by_fresh false e lo =
+        let has = f.lawful.compact.taken x s p t.up t.current pl e in
+        let up : low own (row_of w x p) ≤ k.got = low_rises own rises in
+        let at : low own (row_of w x p) ≡ (numbers_at (link_at w s).had.sent p).got = ap (λ b. low b (row_of w x p)) (sym is) ∙ has.got in
+        omega (arith, lo, up, at)
+
+    by_packets : (ks : List Packet) → (link_at w s).packets ≡ ks → k.lo ≤ k.got
+    by_packets [] e = absurd (false≢true (sym t.has ∙ ap is_empty e))
+    by_packets (j ∷ ks) e =
+        let first : oldest (link_at w s) ≡ j = ap (λ js. get_or js 0 no_packet) e in
+        let turn = subst (λ js. IsInTurn (link_at w s).had js (link_at w s).sending) e (f.lawful.compact.turn s) in
+        by_fresh (link_at w s).had.fresh refl (subst (λ i. (numbers_at i p).lo ≡ lo_of (link_at w s).had.fresh (numbers_at i p).forgot (numbers_at (link_at w s).had.sent p)) (sym first) (turn.0 p))
+
+-- of what x answers for, all comes round
+comes_round : (w : World) (x s p : ℕ) → IsFit w → TakesFrom w x s → 1 ≤ p → p < size w → owned w x s p ≡ true → ComesRound (log_of w p) (row_of w x p) (said w s p)
+comes_round w x s p f t some pl e =
+    let rises = row_rises w x s p f t pl true e in
+    record {
+      lo = begins_before w x s p f t pl true e;
+      forgot = rises.forgot;
+      retired = rises.retired;
+      got = row_ordered w x s p f t some pl true e;
+      within = (oldest_within w s p f t.has).got;
+    }
+
+-- what it doesn't answer for arrives
+arrives : (w : World) (x s p : ℕ) → IsFit w → TakesFrom w x s → 1 ≤ p → p < size w → owned w x s p ≡ false → Arrives (log_of w p) (row_of w x p) (said w s p)
+arrives w x s p f t some pl e = record {
+  lo = arriving_lo w x s p f t some pl e;
+  got = arriving_rises w x s p f t pl e;
+  falls_not = (row_rises w x s p f t pl false e).forgot;
+  forgot = row_ordered w x s p f t some pl false e;
+  within = (oldest_within w s p f t.has).got;
+}
+
+-- ---- its line
+
+-- the line that stands for what the packet says
+abbrev pub line_of_packet : World → ℕ → ℕ → ℕ → Option Carried
+line_of_packet w s q p = line_for (link_at w s).had.fresh (log_of w p) q (said w s p) (numbers_at (link_at w s).had.sent p)
+
+-- of an origin that the ring doesn't have there is none
+silent_line : (w : World) (s q p : ℕ) → IsFit w → is_empty (link_at w s).packets ≡ false → log_of w p ≡ [] → line_of_packet w s q p ≡ None
+silent_line w s q p f has e =
+    let had : numbers_at (link_at w s).had.sent p ≡ no_numbers = no_numbers_within (numbers_at (link_at w s).had.sent p) (subst (λ n. NumbersAreWithin n (numbers_at (link_at w s).had.sent p)) (ap length e) (f.lawful.within.had s p)) in
+    ap (λ k. line_for (link_at w s).had.fresh (log_of w p) q k (numbers_at (link_at w s).had.sent p)) (oldest_nothing w s p f has e)
+    ∙ ap (line_for (link_at w s).had.fresh (log_of w p) q no_numbers) had
+    ∙ no_line (link_at w s).had.fresh
+  where
+    no_line : (b : Bool) → line_for b (log_of w p) q no_numbers no_numbers ≡ None
+    no_line true = refl
+    no_line false = refl
+
+-- the line of an origin of the ring does to what x keeps what the ring's take does to its row
+accepted_there : (w : World) (x s q p : ℕ) → IsFit w → TakesFrom w x s → 1 ≤ p → p < size w
+    → accepted (owned w x s p) (kept_by (log_of w p) (row_of w x p)) (line_of_packet w s q p) ≡ kept_by (log_of w p) (taken_row (owned w x s p) (log_of w p) (row_of w x p) (said w s p))
+accepted_there w x s q p f t some pl = by_line (line_in (link_at w s).had (oldest (link_at w s)) p) refl
+  where
+    r : Row
+    r = row_of w x p
+
+    k : Numbers
+    k = said w s p
+
+    by_own : (b : Bool) → owned w x s p ≡ b → accepted b (kept_by (log_of w p) r) (Some (whole_line (log_of w p) q k)) ≡ kept_by (log_of w p) (taken_row b (log_of w p) r k)
+    by_own true e = accepted_round (log_of w p) q r k (right_row w x p f) (comes_round w x s p f t some pl e)
+    by_own false e = accepted_arrival (log_of w p) q r k (right_row w x p f) (arrives w x s p f t some pl e)
+
+    by_line : (b : Bool) → line_in (link_at w s).had (oldest (link_at w s)) p ≡ b
+        → accepted (owned w x s p) (kept_by (log_of w p) r) (cond b (Some (whole_line (log_of w p) q k)) None) ≡ kept_by (log_of w p) (taken_row (owned w x s p) (log_of w p) r k)
+    by_line true e = by_own (owned w x s p) refl
+    by_line false e = sym (ap (kept_by (log_of w p)) (has_stays (owned w x s p) (log_of w p) r k (without_line w x s (may_take_it w x s t) f.good.inv f.logged f.lawful.compact.taken p pl e)))
+
+-- and so of each
+pub accepted_at : (w : World) (x s q p : ℕ) → IsFit w → TakesFrom w x s → 1 ≤ p → accepted (owned w x s p) (kept_by (log_of w p) (row_of w x p)) (line_of_packet w s q p) ≡ kept_by (log_of w p) (row_at (taker w x s) p)
 accepted_at w x s q p f t some =
     ⊎_elim
-    (λ (pl : p < size w).
-    accepted_is (owned w x s p) q (log_of w p) (row_of w x p) (numbers_at (oldest (link_at w s)) p) (oldest_within w s p f t.has).got (f.heard x p)
-    (arriving_lo w x s p f t some pl) (arriving_rises w x s p f t pl)
-    ∙ sym (row_at-taker w x s p pl))
+    (λ (pl : p < size w). accepted_there w x s q p f t some pl ∙ ap (kept_by (log_of w p)) (sym (row_at-taker w x s p pl)))
     (λ (ge : size w ≤ p).
-    ap (λ r. accepted_row (owned w x s p) r (carried_in (log_of w p) q (numbers_at (oldest (link_at w s)) p))) (row_past w x p f t.some t.is_member ge)
-    ∙ ap (λ k. accepted_row (owned w x s p) no_row (carried_in (log_of w p) q k)) (oldest_nothing w s p f t.has (log_past w p ge))
-    ∙ nothing_accepted (owned w x s p) q (log_of w p)
-    ∙ sym (taker_beyond w x s p ge))
+    ap (accepted (owned w x s p) (kept_by (log_of w p) (row_of w x p))) (silent_line w s q p f t.has (log_past w p ge))
+    ∙ ap (kept_by (log_of w p)) (row_past w x p f t.some t.is_member ge ∙ sym (taker_beyond w x s p ge)))
     (cases_lt p (size w))
 
 -- ---- the member
 
-pub accepted_rows_are : (w : World) (x s : ℕ) (lines : List Carried) → IsFit w → TakesFrom w x s → lines ≡ lines_in w (oldest (link_at w s)) → accepted_rows (owns (held_in w x) (link_at w s).sender) (held_in w x).rows lines ≡ rows_of (taker w x s)
-accepted_rows_are w x s lines f t e =
-    ap (accepted_rows (owns (held_in w x) (link_at w s).sender) (held_in w x).rows) e
-    ∙ map-range_same (λ p. accepted_row (owned w x s (p + 1)) (known_at (held_in w x).rows p) (carried_at (lines_in w (oldest (link_at w s))) p)) (λ p. row_at (taker w x s) (p + 1)) 64
-    (λ p pl. ap (λ r. accepted_row (owned w x s (p + 1)) r (carried_at (lines_in w (oldest (link_at w s))) p)) (held_row w x p pl)
-    ∙ ap (accepted_row (owned w x s (p + 1)) (row_of w x (p + 1))) (line_at w (oldest (link_at w s)) p pl)
+pub line_there : (w : World) (s p : ℕ) → p < 64 → line_at (lines_in w (link_at w s).had (oldest (link_at w s))) p ≡ line_of_packet w s p (p + 1)
+unfolding places
+line_there w s p l = tabled_at (λ q. line_of_packet w s q (q + 1)) 64 p None l
+
+-- a take changes no log
+take_logs : (w : World) (x s p : ℕ) → log_of (take_from w x s) p ≡ log_of w p
+take_logs w x s p = log_written w x (taker w x s) refl p
+
+pub all_accepted_are : (w : World) (x s : ℕ) (lines : List (Option Carried)) → IsFit w → TakesFrom w x s → lines ≡ lines_in w (link_at w s).had (oldest (link_at w s))
+    → all_accepted (owns (held_in w x) (link_at w s).sender) (held_in w x).known lines ≡ known_by (take_from w x s) (taker w x s)
+unfolding places
+all_accepted_are w x s lines f t e =
+    ap (all_accepted (owns (held_in w x) (link_at w s).sender) (held_in w x).known) e
+    ∙ map-range_same (λ p. accepted (owned w x s (p + 1)) (known_at (held_in w x).known p) (line_at (lines_in w (link_at w s).had (oldest (link_at w s))) p)) (λ p. kept_by (log_of w (p + 1)) (row_at (taker w x s) (p + 1))) 64
+    (λ p pl. ap (λ k. accepted (owned w x s (p + 1)) k (line_at (lines_in w (link_at w s).had (oldest (link_at w s))) p)) (held_known w x p pl)
+    ∙ ap (accepted (owned w x s (p + 1)) (kept_by (log_of w (p + 1)) (row_of w x (p + 1)))) (line_there w s p pl)
     ∙ accepted_at w x s p (p + 1) f t (omega arith))
+    ∙ sym (known_same w (take_from w x s) (taker w x s) (take_logs w x s))
 
 -- a take leaves each other link as it was
 pub take_other : (w : World) (x s j : ℕ) → j ≢ s → link_at (take_from w x s) j ≡ link_at w j
 take_other w x s j ne = get_or-set_other w.links s j (popped (link_at w s)) no_link ne
 
-pub take_stands : (w : World) (x s : ℕ) (k : Parcel) → IsFit w → TakesFrom w x s → k.lines ≡ lines_in w (oldest (link_at w s)) → took_held (held_in w x) k ≡ held_in (take_from w x s) x
+pub take_stands : (w : World) (x s : ℕ) (k : ByOrigin) → IsFit w → TakesFrom w x s → k.lines ≡ lines_in w (link_at w s).had (oldest (link_at w s)) → took_held (held_in w x) k ≡ held_in (take_from w x s) x
 take_stands w x s k f t e =
     let w' : World = take_from w x s in
     let h : Held = held_in w x in
     let sl : s < length w.links = (f.own_ends.current x s t.current).0 in
     let now : member_at w' x ≡ taker w x s = get_or-set_same w.members x (taker w x s) no_member t.is_member in
     ap (λ c. at_some (option_map (incoming_in w) c) h (took_from h k)) t.current
-    ∙ ap (λ rs. record h { rows = rs; current = Some (counted_in (incoming_in w s)) }) (accepted_rows_are w x s k.lines f t e)
-    ∙ sym (held_is w' x (taker w x s) h.out (Some (counted_in (incoming_in w s))) h.door now
+    ∙ ap (λ ks. record h { known = ks; current = Some (counted_in (incoming_in w s)) }) (all_accepted_are w x s k.lines f t e)
+    ∙ sym (held_is w' x (taker w x s) (known_by w' (taker w x s)) h.out (Some (counted_in (incoming_in w s))) h.door now refl
     (there_same (outgoing_in w') (outgoing_in w) (member_at w x).out (λ j _. outgoing_same (with_member w x (taker w x s)) s j (popped (link_at w s)) sl refl))
     (ap (option_map (incoming_in w')) t.current ∙ ap (λ l. Some (incoming_seen (seen l))) (get_or-set_same w.links s (popped (link_at w s)) no_link sl))
     (door_but w w' x s (length-set w.links s (popped (link_at w s))) (current_waits_not w x s t.current) (current_waits_not w' x s (ap (λ (y : Member). y.current) now ∙ t.current))
@@ -184,20 +298,57 @@ take_stands w x s k f t e =
 
 -- ---- what it brings
 
-pub news_below_are : (w : World) (x s n : ℕ) (lines : List Carried) → IsFit w → n ≤ 64 → is_empty (link_at w s).packets ≡ false → lines ≡ lines_in w (oldest (link_at w s)) → news_below n (owns (held_in w x) (link_at w s).sender) (held_in w x).rows lines ≡ taken_below n w x s
-news_below_are w x s zero lines f l some e = refl
-news_below_are w x s (suc p) lines f l some e =
+-- of one origin of the ring
+news_there : (w : World) (x s q p : ℕ) → IsFit w → TakesFrom w x s → 1 ≤ p → p < size w
+    → line_news (owned w x s p) q (kept_by (log_of w p) (row_of w x p)) (line_of_packet w s q p) ≡ taken_of (owned w x s p) q (log_of w p) (row_of w x p).got (said w s p)
+news_there w x s q p f t some pl = by_line (line_in (link_at w s).had (oldest (link_at w s)) p) refl
+  where
+    r : Row
+    r = row_of w x p
+
+    k : Numbers
+    k = said w s p
+
+    by_own : (b : Bool) → owned w x s p ≡ b → line_news b q (kept_by (log_of w p) r) (Some (whole_line (log_of w p) q k)) ≡ taken_of b q (log_of w p) r.got k
+    by_own true e = no_round (log_of w p) q r k (right_row w x p f) (comes_round w x s p f t some pl e)
+    by_own false e = news_arrive (log_of w p) q r k (right_row w x p f) (arrives w x s p f t some pl e)
+
+    same_got : (b : Bool) → owned w x s p ≡ b → Has (owned w x s p) r k → b ≡ false → r.got ≡ k.got
+    same_got b is h e = ap (λ c. low c r) (sym (is ∙ e)) ∙ h.got
+
+    by_line : (b : Bool) → line_in (link_at w s).had (oldest (link_at w s)) p ≡ b
+        → line_news (owned w x s p) q (kept_by (log_of w p) r) (cond b (Some (whole_line (log_of w p) q k)) None) ≡ taken_of (owned w x s p) q (log_of w p) r.got k
+    by_line true e = by_own (owned w x s p) refl
+    by_line false e = sym (no_news (owned w x s p) q (log_of w p) r.got k (same_got (owned w x s p) refl (without_line w x s (may_take_it w x s t) f.good.inv f.logged f.lawful.compact.taken p pl e)))
+
+-- and of one that the ring doesn't have
+news_past : (w : World) (x s q p : ℕ) → IsFit w → TakesFrom w x s → size w ≤ p
+    → line_news (owned w x s p) q (kept_by (log_of w p) (row_of w x p)) (line_of_packet w s q p) ≡ taken_of (owned w x s p) q (log_of w p) (row_of w x p).got (said w s p)
+news_past w x s q p f t ge =
+    let none : log_of w p ≡ [] = log_past w p ge in
+    ap (line_news (owned w x s p) q (kept_by (log_of w p) (row_of w x p))) (silent_line w s q p f t.has none)
+    ∙ sym (no_news (owned w x s p) q (log_of w p) (row_of w x p).got (said w s p) (λ _. got_zero w x p f none ∙ sym (ap (λ k. k.got) (oldest_nothing w s p f t.has none))))
+
+news_at : (w : World) (x s q : ℕ) → IsFit w → TakesFrom w x s
+    → line_news (owned w x s (q + 1)) q (kept_by (log_of w (q + 1)) (row_of w x (q + 1))) (line_of_packet w s q (q + 1)) ≡ taken_of (owned w x s (q + 1)) q (log_of w (q + 1)) (row_of w x (q + 1)).got (said w s (q + 1))
+news_at w x s q f t = ⊎_elim
+    (λ (pl : q + 1 < size w). news_there w x s q (q + 1) f t (omega arith) pl)
+    (λ (ge : size w ≤ q + 1). news_past w x s q (q + 1) f t ge)
+    (cases_lt (q + 1) (size w))
+
+pub news_below_are : (w : World) (x s n : ℕ) (lines : List (Option Carried)) → IsFit w → n ≤ 64 → TakesFrom w x s → lines ≡ lines_in w (link_at w s).had (oldest (link_at w s)) → news_below n (owns (held_in w x) (link_at w s).sender) (held_in w x).known lines ≡ taken_below n w x s
+news_below_are w x s zero lines f l t e = refl
+news_below_are w x s (suc p) lines f l t e =
     let pl : p < 64 = omega arith in
     let own : Bool = owned w x s (p + 1) in
-    ap (λ xs. xs ++ line_news own p (known_at (held_in w x).rows p) (carried_at lines p)) (news_below_are w x s p lines f (omega arith) some e)
-    ∙ ap (λ r. taken_below p w x s ++ line_news own p r (carried_at lines p)) (held_row w x p pl)
-    ∙ ap (λ ls. taken_below p w x s ++ line_news own p (row_of w x (p + 1)) (carried_at ls p)) e
-    ∙ ap (λ c. taken_below p w x s ++ line_news own p (row_of w x (p + 1)) c) (line_at w (oldest (link_at w s)) p pl)
-    ∙ ap (λ xs. taken_below p w x s ++ xs) (line_news_is own p (log_of w (p + 1)) (row_of w x (p + 1)) (numbers_at (oldest (link_at w s)) (p + 1)) (oldest_within w s (p + 1) f some).got)
+    ap (λ xs. xs ++ line_news own p (known_at (held_in w x).known p) (line_at lines p)) (news_below_are w x s p lines f (omega arith) t e)
+    ∙ ap (λ k. taken_below p w x s ++ line_news own p k (line_at lines p)) (held_known w x p pl)
+    ∙ ap (λ ls. taken_below p w x s ++ line_news own p (kept_by (log_of w (p + 1)) (row_of w x (p + 1))) (line_at ls p)) e
+    ∙ ap (λ c. taken_below p w x s ++ line_news own p (kept_by (log_of w (p + 1)) (row_of w x (p + 1))) c) (line_there w s p pl)
+    ∙ ap (λ xs. taken_below p w x s ++ xs) (news_at w x s p f t)
 
-pub news_are : (w : World) (x : ℕ) (k : Parcel) → IsFit w → IsNextPacket w x k → news_of (held_in w x) k ≡ taken_in w (member_at w x).current x
-news_are w x k f n = by_current (member_at w x).current (λ s e. n s e)
-  where
-    by_current : (c : Option ℕ) → ((s : ℕ) → c ≡ Some s → (is_empty (link_at w s).packets ≡ false) × StandsFor w k (oldest (link_at w s))) → at_some (option_map (incoming_in w) c) [] (λ (a : Incoming). news_below 64 (owns (held_in w x) a.from) (held_in w x).rows k.lines) ≡ taken_in w c x
-    by_current None h = refl
-    by_current (Some s) h = let m = h s refl in news_below_are w x s 64 k.lines f (omega arith) m.0 m.1.lines
+pub news_are : (w : World) (x s : ℕ) (k : ByOrigin) → IsFit w → TakesFrom w x s → StandsFor w (link_at w s).had k (oldest (link_at w s)) → news_of (held_in w x) k ≡ taken_in w (member_at w x).current x
+news_are w x s k f t n =
+    ap (λ c. at_some (option_map (incoming_in w) c) [] (λ (a : Incoming). news_below 64 (owns (held_in w x) a.from) (held_in w x).known k.lines)) t.current
+    ∙ news_below_are w x s 64 k.lines f (omega arith) t n.lines
+    ∙ sym (ap (λ c. taken_in w c x) t.current)

@@ -17,11 +17,13 @@ use Rattle.ordered_link.specs.declared.item.Item.{Item}
 use Rattle.gm_member.specs.declared.fault.MemberFault.{MemberFault}
 use Rattle.gm_member.specs.declared.fault.MemberFault.TheVariants as faults
 use Rattle.gm_member.specs.declared.member.Member.{Member}
-use Rattle.gm_member.specs.declared.packet.Load.{Load}
+use Rattle.activity.specs.declared.packet.Load.{Load}
 use Rattle.gm_member.specs.declared.taken.Taken.{Taken}
-use Rattle.gm_member.specs.Parcels.{Parcel}
+use Rattle.activity.specs.Kept.{got_of}
+use Rattle.activity.specs.Parcels.{Parcel}
+use Rattle.gm_member.specs.Parcels.{by_origin, known_at}
 use Rattle.gm_member.specs.News.{news_of}
-use Rattle.gm_member.specs.Held.{Held, known_at, active_refused, published_held, put_refused, put_held, take_refused, took_held, gain_refused, gained_held, ended_held, stopped_held, pick_refused, first_at_door, picked_held}
+use Rattle.gm_member.specs.Held.{Held, active_refused, published_held, put_refused, put_held, take_refused, took_held, gain_refused, gained_held, ended_held, stopped_held, pick_refused, first_at_door, picked_held}
 use Rattle.gm_member.specs.Stands.{WhereItStands, StepsTo}
 use Rattle.gm_member.specs.Ends.{IsPutFault, IsTakeFault, IsEndRefusal}
 use Rattle.gm_member.specs.Shown.{Ends, held_of, ends_of, in_name_of, in_end, with_in, has_in, StaysReady, OutIsReady, PutsOn, LooksOut, LooksIn, TookOn, LeavesOn, EndsOn, PicksOn, LooksBy, MovesTo}
@@ -50,9 +52,9 @@ pub record HandsBack {A X : Type 0} (failing : Option Reason) (given : X) (resul
 -- ---- the calls, from a member m to n
 
 module _ {O I : Type 0} {g : Ghosts O Load} where
-  -- it has the id, the credit and the rows that it had
+  -- it has the id and the credit that it had, and keeps of each origin what it kept
   abbrev pub SameSelf : Member O I g → Member O I g → Type 0
-  SameSelf m n = (n.id ≡ m.id) × (n.credit ≡ m.credit) × (n.known ≡ m.known)
+  SameSelf m n = (n.id ≡ m.id) × (n.credit ≡ m.credit) × (n.tables ≡ m.tables)
 
   -- the links to it, with the ends of those that it has left
   abbrev pub KeepsIns : Member O I g → Member O I g → Type 0
@@ -69,7 +71,7 @@ module _ {O I : Type 0} {g : Ghosts O Load} where
   -- A message joins the member's own log, and its number there is the answer.
   pub record Publishes (message : Message) (m n : Member O I g) (result : Result ℕ (Message × MemberFault)) : Type 0 where
     pub ok : OnOk result (held_of n ≡ published_held (held_of m) message)
-    pub number : IfOk result (λ k. k ≡ (known_at (held_of m).rows ((held_of m).id - 1)).got + 1)
+    pub number : IfOk result (λ k. k ≡ got_of (known_at (held_of m).known ((held_of m).id - 1)) + 1)
     pub err : OnErr result (held_of n ≡ held_of m)
     pub ends : ends_of n ≡ ends_of m
     pub kept : OnErr result (StaysReady m n)
@@ -86,8 +88,8 @@ module _ {O I : Type 0} {g : Ghosts O Load} where
 
   -- The oldest packet is taken from the link from which the member takes, and what it brings is the answer.
   pub record Takes (known : I → List (Item Load)) (waiting : I → Option ℕ) (takes : I → Item Load → I → Type 0) (looked : I → I → Type 0) (sends : I → ℕ → I → Type 0) (m n : Member O I g) (result : Result (Vec Taken Global) MemberFault) : Type 0 where
-    pub ok : IfOk result (λ taken. (k : Parcel) × (k.view ≤ (held_of m).view.version) × (held_of n ≡ took_held (held_of m) k)
-        × (taken.items ≡ news_of (held_of m) k) × TookOn waiting takes looked sends k m n)
+    pub ok : IfOk result (λ taken. (k : Parcel) × (k.view ≤ (held_of m).view.version) × (held_of n ≡ took_held (held_of m) (by_origin k))
+        × (taken.items ≡ news_of (held_of m) (by_origin k)) × TookOn waiting takes looked sends k m n)
     pub fault : IfErr result (λ fault. IsRefusal (take_refused (held_of m) None) fault
         ⊎ ((take_refused (held_of m) None ≡ None) × MatchOption n.current ⊥ (λ l. IsTakeFault known waiting (held_of m).view.version fault l.end)))
     pub err : OnErr result (held_of n ≡ held_of m)

@@ -6,10 +6,11 @@ use Rattle.ring_names.specs.declared.reason.Reason.TheVariants.{LinkFull, Nothin
 use Rattle.ordered_link.specs.declared.item.EndReason.{EndReason}
 use Rattle.ordered_link.specs.declared.item.Item.{Item}
 use Rattle.ordered_link.specs.declared.item.Item.TheVariants as item
-use Rattle.gm_member.specs.declared.packet.Load.{Load}
+use Rattle.activity.specs.declared.packet.Load.{Load}
 use Rattle.gm_member.specs.declared.fault.MemberFault.{MemberFault}
 use Rattle.gm_member.specs.declared.fault.MemberFault.TheVariants as faults
-use Rattle.gm_member.specs.Parcels.{Parcel}
+use Rattle.activity.specs.Parcels.{Parcel}
+use Rattle.gm_member.specs.Parcels.{ByOrigin, by_origin}
 use Rattle.gm_member.specs.Loads.{parcel_in, as_item, GrantsIf}
 use Rattle.gm_member.specs.declared.links.OutLink.{OutLink}
 use Rattle.gm_member.specs.View.{ring_link}
@@ -24,6 +25,10 @@ module _ {O : Type 0} where
   -- the item was put on the end
   abbrev pub EndPuts : (O → Item Load → O → Type 0) → Item Load → Option O → Option O → Type 0
   EndPuts puts x a b = (o : O) × (p : O) × (a ≡ Some o) × (b ≡ Some p) × puts o x p
+
+  -- a packet that says this, whatever the order of its lines, was put on the end
+  abbrev pub EndSends : (O → Item Load → O → Type 0) → ByOrigin → Option O → Option O → Type 0
+  EndSends puts said a b = (k : Parcel) × (by_origin k ≡ said) × EndPuts puts (as_item k) a b
 
   -- the end may know more
   abbrev pub EndLooks : (O → O → Type 0) → Option O → Option O → Type 0

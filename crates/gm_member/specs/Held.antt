@@ -7,8 +7,6 @@ use Rattle.ring_names.specs.declared.reason.Reason.{Reason}
 use Rattle.ring_names.specs.declared.reason.Reason.TheVariants as reason
 use Rattle.credit_flow.specs.Credit.{Credit, Counted, full_credit, none_taken, is_blocked, sent, gained, took}
 use Rattle.group_view.specs.View.{Group, entry_in}
-use Rattle.ring_world.specs.declared.numbers.Numbers.{Numbers}
-use Rattle.ring_world.specs.Rows.{Row, no_row, no_numbers, published_row, is_sent, next_numbers}
 use Rattle.ring_world.specs.Refusal.{refuse_if, or_else}
 use Rattle.ring_world.specs.View.{left_of, right_of}
 use Rattle.ring_world.specs.declared.phase.Phase.{Phase}
@@ -16,7 +14,12 @@ use Rattle.ring_world.specs.declared.phase.Phase.TheVariants.{Up, Stopped}
 use Rattle.ring_world.specs.Machine.{is_waiting}
 use Rattle.ring_world.specs.Step.{is_owned}
 use Rattle.ring_world.specs.Event.{is_stopped, version_refusal}
-use Rattle.gm_member.specs.Parcels.{Carried, Parcel, places, carried_now, carried_at, accepted_row}
+use Rattle.activity.specs.Kept.{Kept, no_kept, joined}
+use Rattle.activity.specs.Told.{Told, none_told}
+use Rattle.activity.specs.Parcels.{Carried}
+use Rattle.activity.specs.Diff.{next_line, is_told}
+use Rattle.activity.specs.Plan.{accepted}
+use Rattle.gm_member.specs.Parcels.{ByOrigin, places, known_at, told_at, line_at, told_now}
 
 -- The link on which a member sends: to whom it goes, the version at which it was opened, whether no packet was put on it yet,
 -- the numbers last sent of each origin that a ring may have, and its credit.
@@ -24,7 +27,7 @@ pub record Outgoing : Type 0 where
   pub to : ℕ
   pub opened : ℕ
   pub fresh : Bool
-  pub sent : List Numbers
+  pub told : List Told
   pub credit : Credit
 
 -- A link to a member: from whom it comes, the version at which it was opened, and the loads counted on it.
@@ -33,7 +36,7 @@ pub record Incoming : Type 0 where
   pub opened : ℕ
   pub counted : Counted
 
--- What a member holds: its id and name, where it stands, its view, a row for each origin that a ring may have, the link on which
+-- What a member holds: its id and name, where it stands, its view, what it keeps of each origin that a ring may have, the link on which
 -- it sends, the one from which it takes, those at its door, the oldest first, whether a question of its own is open, and the
 -- credit with which links open.
 pub record Held : Type 0 where
@@ -41,21 +44,13 @@ pub record Held : Type 0 where
   pub name : List ℕ
   pub phase : Phase
   pub view : Group
-  pub rows : List Row
+  pub known : List Kept
   pub out : Option Outgoing
   pub current : Option Incoming
   pub door : List Incoming
   pub asks : Bool
   pub initial : ℕ
   pub more : ℕ
-
--- the row of the origin at a place, whose id is one more
-abbrev pub known_at : List Row → ℕ → Row
-known_at rows p = slice_index_or rows p no_row
-
--- the numbers of the origin at a place
-abbrev pub numbers_of : List Numbers → ℕ → Numbers
-numbers_of sent p = slice_index_or sent p no_numbers
 
 -- a link beyond those at the door
 abbrev pub no_incoming : Incoming
@@ -73,12 +68,12 @@ at_some (Some a) d f = f a
 -- ---- founding
 
 -- nothing was sent
-abbrev pub nothing_sent : List Numbers
-nothing_sent = map (λ (_ : ℕ). no_numbers) places
+abbrev pub nothing_sent : List Told
+nothing_sent = map (λ (_ : ℕ). none_told) places
 
 -- a link of x to z opens in a version, on which nothing was put
 abbrev pub fresh_out : ℕ → ℕ → ℕ → ℕ → Outgoing
-fresh_out initial more z version = record { to = z; opened = version; fresh = true; sent = nothing_sent; credit = full_credit initial more }
+fresh_out initial more z version = record { to = z; opened = version; fresh = true; told = nothing_sent; credit = full_credit initial more }
 
 -- a link from s opens in a version, from which nothing was taken
 abbrev pub fresh_in : ℕ → ℕ → ℕ → ℕ → Incoming
@@ -91,7 +86,7 @@ founded credit name id view = record {
   name = name;
   phase = Up;
   view = view;
-  rows = map (λ (_ : ℕ). no_row) places;
+  known = map (λ (_ : ℕ). no_kept) places;
   out = Some (fresh_out credit.initial credit.more (right_of view id) view.version);
   current = Some (fresh_in credit.initial credit.more (left_of view id) view.version);
   door = [];
@@ -122,41 +117,41 @@ on_some (Some a) missing later = later a
 
 -- a message joins the member's own log (gm's `broadcast`)
 abbrev pub published_held : Held → Message → Held
-published_held h m = record h { rows = slice_set h.rows (h.id - 1) (published_row (known_at h.rows (h.id - 1)) m) }
+published_held h m = record h { known = slice_set h.known (h.id - 1) (joined m (known_at h.known (h.id - 1))) }
 
 -- ---- putting
 
 -- whether the numbers of each origin equal those last sent
-abbrev pub has_nothing_new : List Row → Outgoing → Bool
-has_nothing_new rows o = list_all (λ p. is_sent (known_at rows p) (numbers_of o.sent p)) places
+abbrev pub has_nothing_new : List Kept → Outgoing → Bool
+has_nothing_new known o = list_all (λ p. is_told (known_at known p) (told_at o.told p)) places
 
 -- something is put only on a link with credit, and only where some number differs from those last sent
-abbrev pub out_refused : List Row → Outgoing → Option Reason
-out_refused rows o = or_else (refuse_if (is_blocked o.credit) reason.NoCredit) (refuse_if (has_nothing_new rows o) reason.NothingNew)
+abbrev pub out_refused : List Kept → Outgoing → Option Reason
+out_refused known o = or_else (refuse_if (is_blocked o.credit) reason.NoCredit) (refuse_if (has_nothing_new known o) reason.NothingNew)
 
 -- a member puts on the link on which it sends
 abbrev pub put_refused : Held → Option Reason
-put_refused h = up_refused h (on_some h.out reason.NoOutLink (out_refused h.rows))
+put_refused h = up_refused h (on_some h.out reason.NoOutLink (out_refused h.known))
 
--- the numbers of each origin in the next packet
-abbrev pub next_sent : List Row → Outgoing → List Numbers
-next_sent rows o = map (λ p. next_numbers o.fresh (known_at rows p) (numbers_of o.sent p)) places
+-- the numbers of each origin
+abbrev pub all_told : List Kept → List Told
+all_told known = map (λ p. told_now (known_at known p)) places
 
--- they are the last sent once it is put, and one credit is spent
-abbrev pub put_on : List Row → Outgoing → Outgoing
-put_on rows o = record o { fresh = false; sent = next_sent rows o; credit = sent o.credit }
+-- they are the last sent once a packet is put, and one credit is spent
+abbrev pub put_on : List Kept → Outgoing → Outgoing
+put_on known o = record o { fresh = false; told = all_told known; credit = sent o.credit }
 
 -- the member after it has put a packet
 abbrev pub put_held : Held → Held
-put_held h = record h { out = option_map (put_on h.rows) h.out }
+put_held h = record h { out = option_map (put_on h.known) h.out }
 
 -- the lines of the next packet
-abbrev pub lines_on : List Row → Outgoing → List Carried
-lines_on rows o = map (λ p. carried_now o.fresh p (known_at rows p) (numbers_of o.sent p)) places
+abbrev pub lines_on : List Kept → Outgoing → List (Option Carried)
+lines_on known o = map (λ p. next_line o.fresh (p + 1) (known_at known p) (told_at o.told p)) places
 
 -- the next packet of a member whose view is of this version
-abbrev pub parcel_on : ℕ → List Row → Outgoing → Parcel
-parcel_on version rows o = record { view = version; first = o.fresh; lines = lines_on rows o }
+abbrev pub parcel_on : ℕ → List Kept → Outgoing → ByOrigin
+parcel_on version known o = record { view = version; first = o.fresh; lines = lines_on known o }
 
 -- ---- taking
 
@@ -168,20 +163,20 @@ take_refused h later = active_refused h (on_some h.current reason.NoCurrentLink 
 abbrev pub owns : Held → ℕ → ℕ → Bool
 owns h from p = is_owned h.view h.id from (p + 1)
 
--- what the lines of a packet from a sender do to the rows
-abbrev pub accepted_rows : (ℕ → Bool) → List Row → List Carried → List Row
-accepted_rows own rows lines = map (λ p. accepted_row (own p) (known_at rows p) (carried_at lines p)) places
+-- what is kept after the lines of a packet from a sender
+abbrev pub all_accepted : (ℕ → Bool) → List Kept → List (Option Carried) → List Kept
+all_accepted own known lines = map (λ p. accepted (own p) (known_at known p) (line_at lines p)) places
 
 -- a load is counted
 abbrev pub counted_in : Incoming → Incoming
 counted_in c = record c { counted = took c.counted }
 
 -- a packet is taken from a link
-abbrev pub took_from : Held → Parcel → Incoming → Held
-took_from h k c = record h { rows = accepted_rows (owns h c.from) h.rows k.lines; current = Some (counted_in c) }
+abbrev pub took_from : Held → ByOrigin → Incoming → Held
+took_from h k c = record h { known = all_accepted (owns h c.from) h.known k.lines; current = Some (counted_in c) }
 
 -- the member after it has taken a packet from the link that it takes from
-abbrev pub took_held : Held → Parcel → Held
+abbrev pub took_held : Held → ByOrigin → Held
 took_held h k = at_some h.current h (took_from h k)
 
 -- ---- gaining
@@ -240,7 +235,7 @@ sends_to out z = at_some out false (λ o. nat_eq o.to z)
 
 -- the link that it opens to z, with its first packet
 abbrev pub first_out : Held → ℕ → Outgoing
-first_out h z = put_on h.rows (fresh_out h.initial h.more z h.view.version)
+first_out h z = put_on h.known (fresh_out h.initial h.more z h.view.version)
 
 -- the link on which it sends, where it has to send to z
 abbrev pub out_to : Held → ℕ → Option Outgoing

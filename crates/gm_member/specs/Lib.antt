@@ -11,3 +11,4 @@ pub mod Shown
 pub mod Spares
 pub mod Stands
 pub mod View
+pub mod Within

@@ -2,9 +2,9 @@
 use Rattle.std.specs.Prelude.{◌≡◌, ℕ, Option, None, Some}
 use Rattle.ordered_link.specs.declared.item.Item.{Item}
 use Rattle.ordered_link.specs.declared.item.Item.TheVariants as item
-use Rattle.gm_member.specs.declared.packet.Load.{Load}
-use Rattle.gm_member.specs.declared.packet.Load.TheVariants as load
-use Rattle.gm_member.specs.Parcels.{Parcel}
+use Rattle.activity.specs.declared.packet.Load.{Load}
+use Rattle.activity.specs.declared.packet.Load.TheVariants as load
+use Rattle.activity.specs.Parcels.{Parcel}
 
 -- the packet that a load is
 abbrev pub parcel_in : Load → Parcel

@@ -1,52 +1,42 @@
--- What goes from a member to its right neighbour, and what it does to a row.
-use Rattle.std.specs.Prelude.{ℕ, Bool, true, false, List, [], length, slice_index_or}
+-- What a member keeps of each origin, and the packets that it puts and takes, by the places of the origins.
+use Rattle.std.specs.Prelude.{ℕ, ◌+◌, Bool, List, [], map, slice_index_or, Option, None}
 use Rattle.std.specs.List.{range_with_len}
-use Rattle.ring_names.specs.declared.message.Message.{Message}
-use Rattle.ring_names.specs.declared.numbers.MemberId.{MemberId}
-use Rattle.ring_world.specs.declared.numbers.Numbers.{Numbers}
-use Rattle.ring_world.specs.Rows.{Row, most_members, lo_of, taken_with}
-use Rattle.ring_world.specs.Shown.{id_of}
+use Rattle.activity.specs.Kept.{Kept, no_kept, got_of}
+use Rattle.activity.specs.Told.{Told, none_told}
+use Rattle.activity.specs.Parcels.{Carried, Parcel, line_of, got_in}
+use Rattle.ring_world.specs.Rows.{most_members}
 
--- A line of a packet: of one origin its whole list of messages, the number after which they are new to the
--- receiver, and the number up to which the sender has forgotten them (an entry of gm's `activity`).
-pub record Carried : Type 0 where
-  pub origin : MemberId
-  pub lo : ℕ
-  pub all : List Message
-  pub forgot : ℕ
-
--- A packet as it goes from one member to the next (gm's `activity` message).
-pub record Parcel : Type 0 where
-  pub view : ℕ
-  pub first : Bool
-  pub lines : List Carried
-
--- the places of all origins that a ring may have
-abbrev pub places : List ℕ
+-- the places of all origins that a ring may have, whose ids are one more
+unfoldable pub places : List ℕ
 places = range_with_len 0 most_members
 
--- ---- putting
+-- what is kept of the origin at a place
+abbrev pub known_at : List Kept → ℕ → Kept
+known_at known p = slice_index_or known p no_kept
 
--- the line of the origin at place p: all that was heard of it
-abbrev pub carried_now : Bool → ℕ → Row → Numbers → Carried
-carried_now fresh p r last = record { origin = id_of p; lo = lo_of fresh r.forgot last; all = r.heard; forgot = r.forgot }
+-- what was last sent of it
+abbrev pub told_at : List Told → ℕ → Told
+told_at told p = slice_index_or told p none_told
 
--- ---- taking
+-- its line
+abbrev pub line_at : List (Option Carried) → ℕ → Option Carried
+line_at lines p = slice_index_or lines p None
 
--- the numbers that a line carries
-abbrev pub numbers_in : Carried → Numbers
-numbers_in c = record { lo = c.lo; got = length c.all; forgot = c.forgot }
+-- what a packet says of an origin of which this is kept
+abbrev pub told_now : Kept → Told
+told_now k = record { got = got_of k; forgot = k.forgot }
 
--- what a packet without a line for an origin carries of it
-abbrev pub no_carried : Carried
-no_carried = record { origin = id_of 0; lo = 0; all = []; forgot = 0 }
+-- A packet as it goes from one member to the next (gm's `activity` message), whatever the order of its lines: at the place of each
+-- origin its line, where it has one.
+pub record ByOrigin : Type 0 where
+  pub view : ℕ
+  pub first : Bool
+  pub lines : List (Option Carried)
 
--- the line of the origin at a place
-abbrev pub carried_at : List Carried → ℕ → Carried
-carried_at lines p = slice_index_or lines p no_carried
+-- what a packet is, whatever the order of its lines
+abbrev pub by_origin : Parcel → ByOrigin
+by_origin k = record { view = k.view; first = k.first; lines = map (λ p. line_of k.lines (p + 1)) places }
 
--- what a line does to the row of its origin: of its own messages the publisher learns how far they and
--- their acknowledgement have come round; of another's the whole list replaces the one that was held
-abbrev pub accepted_row : Bool → Row → Carried → Row
-accepted_row true r c = taken_with true r (numbers_in c) []
-accepted_row false r c = record (taken_with false r (numbers_in c) []) { heard = c.all }
+-- a line with the same numbers that brings nothing
+abbrev pub emptied : Carried → Carried
+emptied c = record { origin = c.origin; lo = got_in c; messages = []; forgot = c.forgot }

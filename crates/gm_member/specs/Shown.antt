@@ -9,7 +9,7 @@ use Rattle.group_view.specs.declared.link.LinkName.{LinkName}
 use Rattle.ordered_link.specs.declared.item.Item.{Item}
 use Rattle.ring_world.specs.View.{right_of}
 use Rattle.ring_world.specs.Machine.{runs_phase}
-use Rattle.gm_member.specs.declared.packet.Load.{Load}
+use Rattle.activity.specs.declared.packet.Load.{Load}
 use Rattle.gm_member.specs.declared.links.OutLink.{OutLink}
 use Rattle.gm_member.specs.declared.links.InLink.{InLink}
 use Rattle.gm_member.specs.declared.spare.Spare.{Spare}
@@ -18,11 +18,10 @@ use Rattle.ring_names.specs.declared.numbers.MemberId.{MemberId}
 use Rattle.group_view.specs.declared.request.Request.{Request}
 use Rattle.ordered_link.specs.declared.item.Item.TheVariants as item
 use Rattle.gm_member.specs.Spares.{IsSpareFor, OpensOn}
-use Rattle.gm_member.specs.View.{row_of, out_of, in_of, end_of, count_of, ring_link, kept_link, kept_links, left_current, left_links}
-use Rattle.gm_member.specs.Parcels.{Parcel}
+use Rattle.gm_member.specs.View.{all_kept, out_of, in_of, end_of, count_of, ring_link, kept_link, kept_links, left_current, left_links}
+use Rattle.activity.specs.Parcels.{Parcel}
 use Rattle.gm_member.specs.Held.{Held, at_some, parcel_on, without, sends_to}
-use Rattle.gm_member.specs.Ends.{EndIsOpen, EndPuts, EndLooks, EndTook, EndEnds, Replaces}
-use Rattle.gm_member.specs.Loads.{as_item}
+use Rattle.gm_member.specs.Ends.{EndIsOpen, EndPuts, EndSends, EndLooks, EndTook, EndEnds, Replaces}
 
 -- The ends that a member has: of the link on which it sends, with the grant that it keeps of it; of the one from which it takes; of
 -- those at its door; and those that it has replaced or left, the oldest first. An end that is lent isn't there.
@@ -42,7 +41,7 @@ module _ {O I : Type 0} {g : Ghosts O Load} where
     name = m.name;
     phase = m.phase;
     view = m.view;
-    rows = map row_of m.known.items;
+    known = all_kept m.tables;
     out = option_map out_of m.out;
     current = option_map in_of m.current;
     door = map in_of m.door.items;
@@ -117,7 +116,7 @@ module _ {O I : Type 0} {g : Ghosts O Load} where
   abbrev pub PutsOn : (O → Item Load → O → Type 0) → Member O I g → Member O I g → Type 0
   PutsOn puts m n =
       (l : OutLink O) × (l' : OutLink O) × (m.out ≡ Some l) × (n.out ≡ Some l')
-      × EndPuts puts (as_item (parcel_on m.view.version (map row_of m.known.items) (out_of l))) l.end l'.end × (l'.kept ≡ l.kept) × SameIns m n
+      × EndSends puts (parcel_on m.view.version (all_kept m.tables) (out_of l)) l.end l'.end × (l'.kept ≡ l.kept) × SameIns m n
 
   -- the end of the link on which it sends may know more
   abbrev pub LooksOut : (O → O → Type 0) → Member O I g → Member O I g → Type 0
@@ -180,7 +179,7 @@ module _ {O I : Type 0} {g : Ghosts O Load} where
 
   -- The link that a member has ready, where it has one, with room for the end of the one that it replaces.
   pub record IsReadyToMove (are_fresh : ℕ → O → I → Type 0) (free : O → ℕ) (ended : O → Bool) (m : Member O I g) (s : Spare O I g) : Type 0 where
-    pub spare : IsSpareFor are_fresh free ended m.credit.initial (map row_of m.known.items) s
+    pub spare : IsSpareFor are_fresh free ended m.credit.initial (all_kept m.tables) s
     pub room : vec_len m.old_outs + 2 ≤ vec_capacity m.old_outs
 
   -- the member keeps a link that is ready
@@ -193,7 +192,7 @@ module _ {O I : Type 0} {g : Ghosts O Load} where
 
   -- what makes a spare link ready stays as it was
   abbrev pub KeepsSpare : Member O I g → Member O I g → Type 0
-  KeepsSpare m n = (n.spare ≡ m.spare) × (n.credit ≡ m.credit) × (map row_of n.known.items ≡ map row_of m.known.items) × (vec_len n.old_outs ≤ vec_len m.old_outs) × (vec_capacity m.old_outs ≤ vec_capacity n.old_outs)
+  KeepsSpare m n = (n.spare ≡ m.spare) × (n.credit ≡ m.credit) × (all_kept n.tables ≡ all_kept m.tables) × (vec_len n.old_outs ≤ vec_len m.old_outs) × (vec_capacity m.old_outs ≤ vec_capacity n.old_outs)
 
   -- there is room for so many further links at the door, and for their ends among those that are left, beside the ends of all links
   -- to the member that are there
@@ -207,10 +206,10 @@ module _ {O I : Type 0} {g : Ghosts O Load} where
   -- the member, whose view is of this version, sends on a new link to another, whose receiving end stands in the request
   pub record SendsOn (are_fresh : ℕ → O → I → Type 0) (free : O → ℕ) (ended : O → Bool) (puts : O → Item Load → O → Type 0) (version : ℕ) (to : MemberId) (m n : Member O I g) (requests : List (Request I)) : Type 0 where
     pub spare : Spare O I g
-    pub ready : IsSpareFor are_fresh free ended m.credit.initial (map row_of m.known.items) spare
+    pub ready : IsSpareFor are_fresh free ended m.credit.initial (all_kept m.tables) spare
     pub link : OutLink O
     pub out : n.out ≡ Some link
-    pub opens : OpensOn puts m.credit (map row_of m.known.items) m.id to version spare link requests
+    pub opens : OpensOn puts m.credit (all_kept m.tables) m.id to version spare link requests
     pub old_outs : Replaces puts m.id.0 m.out m.old_outs.items n.old_outs.items
 
   -- or on the one on which it did

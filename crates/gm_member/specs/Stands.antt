@@ -5,21 +5,38 @@ use Rattle.ring_names.specs.declared.message.Message.{Message}
 use Rattle.ring_names.specs.declared.message.Message.TheVariants.{Cast}
 use Rattle.ring_names.specs.declared.numbers.CreditSpec.{CreditSpec}
 use Rattle.credit_flow.specs.Link.{oldest as oldest_grant}
-use Rattle.group_view.specs.View.{Group}
+use Rattle.group_view.specs.View.{Group, as_id}
 use Rattle.group_view.specs.Change.{AreOpeningNames, marked}
 use Rattle.ring_world.specs.declared.event.Event.{Event}
 use Rattle.ring_world.specs.declared.event.Event.TheVariants as event
-use Rattle.ring_world.specs.Rows.{most_members}
+use Rattle.ring_world.specs.declared.numbers.Numbers.{Numbers}
+use Rattle.ring_world.specs.Rows.{Row, most_members, messages_between}
 use Rattle.ring_world.specs.Refusal.{is_empty}
 use Rattle.ring_world.specs.View.{right_of}
-use Rattle.ring_world.specs.Machine.{World, Packet, row_at, numbers_at, member_at, link_at, view_in, newest, oldest}
+use Rattle.ring_world.specs.Compact.{has_line}
+use Rattle.ring_world.specs.Machine.{World, Packet, Sending, row_at, numbers_at, member_at, link_at, view_in, newest, oldest}
 use Rattle.ring_world.specs.OpenLinks.{is_door_link, passes}
 use Rattle.ring_world.specs.Step.{size, log_of, is_owned, next_packet, opening}
 use Rattle.ring_world.specs.Event.{id_of, refusal, effect, ArePlain, IsRun, last}
 use Rattle.gm_member.specs.declared.taken.Taken.{Taken}
-use Rattle.gm_member.specs.Parcels.{Carried, Parcel, places}
-use Rattle.gm_member.specs.News.{carried_in, taken_of}
+use Rattle.activity.specs.Kept.{Kept}
+use Rattle.activity.specs.Told.{Told}
+use Rattle.activity.specs.Parcels.{Carried}
+use Rattle.gm_member.specs.Parcels.{ByOrigin, places}
+use Rattle.gm_member.specs.News.{taken_of}
 use Rattle.gm_member.specs.Held.{Held, Outgoing, Incoming, fresh_in, sends_to}
+
+-- what is kept of an origin with this log, by a row of the ring: the messages that were received and aren't forgotten
+abbrev pub kept_by : List Message → Row → Kept
+kept_by log r = record { forgot = r.forgot; messages = messages_between r.forgot r.got log; retired = r.retired }
+
+-- what numbers of the ring tell
+abbrev pub told_in : Numbers → Told
+told_in k = record { got = k.got; forgot = k.forgot }
+
+-- what the member of an id keeps of each origin
+abbrev pub known_in : World → ℕ → List Kept
+known_in w x = map (λ p. kept_by (log_of w (p + 1)) (row_at (member_at w x) (p + 1))) places
 
 -- the link at place o, as its sender has it
 abbrev pub outgoing_in : World → ℕ → Outgoing
@@ -27,7 +44,7 @@ outgoing_in w o = record {
   to = (link_at w o).receiver;
   opened = (link_at w o).opened;
   fresh = (link_at w o).sending.fresh;
-  sent = map (λ p. numbers_at (link_at w o).sending.sent (p + 1)) places;
+  told = map (λ p. told_in (numbers_at (link_at w o).sending.sent (p + 1))) places;
   credit = (link_at w o).flow.sender;
 }
 
@@ -54,7 +71,7 @@ held_in w x = record {
   name = (member_at w x).name;
   phase = (member_at w x).phase;
   view = view_in w (member_at w x).version;
-  rows = map (λ p. row_at (member_at w x) (p + 1)) places;
+  known = known_in w x;
   out = option_map (outgoing_in w) (member_at w x).out;
   current = option_map (incoming_in w) (member_at w x).current;
   door = door_in w x;
@@ -67,9 +84,14 @@ held_in w x = record {
 abbrev pub Stands : World → ℕ → Held → Type 0
 Stands w x h = h ≡ held_in w x
 
--- the lines that stand for a packet of the ring
-abbrev pub lines_in : World → Packet → List Carried
-lines_in w k = map (λ p. carried_in (log_of w (p + 1)) p (numbers_at k (p + 1))) places
+-- the line that stands for what a packet says of the origin at place p, behind a packet that said this, or as the first
+abbrev pub line_for : Bool → List Message → ℕ → Numbers → Numbers → Option Carried
+line_for fresh log p k before = cond (has_line fresh k before)
+    (Some (record { origin = as_id (p + 1); lo = k.lo; messages = messages_between k.lo k.got log; forgot = k.forgot })) None
+
+-- the lines that stand for a packet of the ring, behind what passed before it on its link
+abbrev pub lines_in : World → Sending → Packet → List (Option Carried)
+lines_in w before k = map (λ p. line_for before.fresh (log_of w (p + 1)) p (numbers_at k (p + 1)) (numbers_at before.sent (p + 1))) places
 
 -- P holds of every state of a run of the events that the parties do so far, and id there, at which a member that holds h stands
 abbrev pub WhereItStands : Held → (World → ℕ → Type 0) → Type 0
@@ -90,18 +112,18 @@ IsMarkedView w dead v = (d : ℕ) × (id_of w dead ≡ Some d) × (v ≡ marked 
 abbrev pub publishing : List ℕ → Message → Event
 publishing name (Cast body) = event.Cast name body
 
--- a packet stands for one of the ring: its version and its lines
-pub record StandsFor (w : World) (k : Parcel) (packet : Packet) : Type 0 where
+-- A packet stands for one of the ring, behind what passed before it on its link: its version and its lines.
+pub record StandsFor (w : World) (before : Sending) (k : ByOrigin) (packet : Packet) : Type 0 where
   pub view : k.view ≡ packet.version
-  pub lines : k.lines ≡ lines_in w packet
+  pub lines : k.lines ≡ lines_in w before packet
 
 -- a packet stands for the one that x puts next on its out link
-abbrev pub IsPutPacket : World → ℕ → Parcel → Type 0
-IsPutPacket w x k = (o : ℕ) → (member_at w x).out ≡ Some o → StandsFor w k (next_packet (member_at w x) (link_at w o).sending)
+abbrev pub IsPutPacket : World → ℕ → ByOrigin → Type 0
+IsPutPacket w x k = (o : ℕ) → (member_at w x).out ≡ Some o → StandsFor w (link_at w o).sending k (next_packet (member_at w x) (link_at w o).sending)
 
 -- a packet stands for the oldest on the link that x takes from
-abbrev pub IsNextPacket : World → ℕ → Parcel → Type 0
-IsNextPacket w x k = (s : ℕ) → (member_at w x).current ≡ Some s → (is_empty (link_at w s).packets ≡ false) × StandsFor w k (oldest (link_at w s))
+abbrev pub IsNextPacket : World → ℕ → ByOrigin → Type 0
+IsNextPacket w x k = (s : ℕ) → (member_at w x).current ≡ Some s → (is_empty (link_at w s).packets ≡ false) × StandsFor w (link_at w s).had k (oldest (link_at w s))
 
 -- a grant is the oldest under way on the link on which x sends
 abbrev pub IsNextGrant : World → ℕ → ℕ → Type 0

@@ -1,9 +1,8 @@
 -- What the structs of a member show.
-use Rattle.std.specs.Prelude.{ℕ, List, length, Bool, true, false, cond, [], ◌∷◌, Option, Some, None}
-use Rattle.ring_world.specs.Rows.{Row}
-use Rattle.gm_member.specs.declared.known.Known.{Known}
-use Rattle.gm_member.specs.declared.packet.Line.{Line}
-use Rattle.gm_member.specs.Parcels.{Carried}
+use Rattle.std.specs.Prelude.{ℕ, ◌+◌, List, map, Bool, true, false, cond, [], ◌∷◌, Option, Some, None}
+use Rattle.activity.specs.Kept.{Kept, KeptRow, kept_of}
+use Rattle.activity.specs.Told.{Told, ToldRow, none_told, sent_of}
+use Rattle.gm_member.specs.Parcels.{places}
 use Rattle.std.specs.List.{filter, flat_map}
 use Rattle.group_view.specs.declared.link.LinkName.{LinkName}
 use Rattle.group_view.specs.declared.link.LinkKind.TheVariants.{Ring}
@@ -14,18 +13,22 @@ use Rattle.gm_member.specs.declared.links.OutLink.{OutLink}
 use Rattle.gm_member.specs.declared.links.InLink.{InLink}
 use Rattle.gm_member.specs.Held.{Outgoing, Incoming, is_for, stays, at_some}
 
--- what a member of the opening knows of one origin: it receives from the first message on
-abbrev pub row_of : Known → Row
-row_of r = record { got = length r.all.items; forgot = r.forgot; retired = r.retired; heard = r.all.items; base = 0; born = 0 }
+-- what a member's tables keep of each origin, by places
+abbrev pub all_kept : List KeptRow → List Kept
+all_kept rows = map (λ p. kept_of rows (p + 1)) places
 
--- a line of a packet
-abbrev pub carried_of : Line → Carried
-carried_of l = record { origin = l.origin; lo = l.lo; all = l.all.items; forgot = l.forgot }
+-- what was last sent of each
+abbrev pub all_sent : List ToldRow → List Told
+all_sent rows = map (λ p. sent_of rows (p + 1)) places
 
 module _ {O : Type 0} where
+  -- what was last sent of an origin on the link on which a member sends, where it sends on one
+  abbrev pub told_on : Option (OutLink O) → ℕ → Told
+  told_on out p = at_some out none_told (λ l. sent_of l.sent p)
+
   -- the link on which a member sends
   abbrev pub out_of : OutLink O → Outgoing
-  out_of l = record { to = l.to.0; opened = l.opened; fresh = l.fresh; sent = l.sent.items; credit = l.credit }
+  out_of l = record { to = l.to.0; opened = l.opened; fresh = l.fresh; told = all_sent l.sent; credit = l.credit }
 
 module _ {I : Type 0} where
   -- a link to a member

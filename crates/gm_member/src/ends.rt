@@ -2,8 +2,8 @@
 ghost use Rattle.std.specs.Prelude.{◌≡◌};
 
 use crate::member::Member;
-use crate::packet::Load;
 use crate::views::{left, since};
+use activity::Load;
 use group_view::LinkName;
 use ordered_link::{LinkIn, LinkPair};
 

@@ -1,19 +1,23 @@
 //! The links of a member, each with the end that the member has of it.
-ghost use Rattle.std.specs.Prelude.{◌≡◌, ◌<◌};
-ghost use Rattle.std.specs.Vec.{vec_len};
+ghost use Rattle.std.specs.Prelude.{◌≡◌, ℕ, true};
+ghost use Rattle.std.specs.Prelude.{map, IfOk};
+ghost use Rattle.activity.specs.Told.{sent_of};
+ghost use Rattle.gm_member.specs.Parcels.{emptied};
 
 use crate::fault::MemberFault;
-use crate::known::{Known, has_nothing_new, next_lines, next_of_all};
-use crate::packet::{Load, Packet};
+use crate::news::{arrivals, view_refusal};
 use crate::taken::Taken;
+use activity::{Change, Line, Load, Packet, Sent, Tables, diff, says_all};
 use credit_flow::{CreditIn, CreditOut};
 use group_view::{LinkKind, LinkName, View};
 use ordered_link::{EndReason, Item, LinkIn, LinkOut};
-use ring_names::{MemberId, OutOfMemory, Reason};
-use ring_world::Numbers;
+use ring_names::{Items, MemberId, OutOfMemory, Reason};
 use std::alloc::Global;
 
-/// The link on which a member sends: to whom, from which version of its view on, what it has last sent on it, and
+/// How many origins a ring may have.
+const MOST_ORIGINS: u32 = 64;
+
+/// The link on which a member sends: to whom, from which version of its view on, the numbers last sent on it, and
 /// the credit that is left (the right neighbour in the state of `gm`, and its `credit_flow`). `kept` is a grant that
 /// came back and isn't credit yet.
 #[derive(Drop)]
@@ -21,11 +25,11 @@ pub struct OutLink<O> {
     pub(crate) to: MemberId,
     pub(crate) opened: u32,
     pub(crate) fresh: bool,
-    pub(crate) sent: Vec<Numbers>,
+    pub(crate) sent: Sent,
     pub(crate) credit: CreditOut,
     pub(crate) kept: Option<u32>,
     pub(crate) end: Option<O>,
-    ghost each_sent: { vec_len sent ≡ 64 },
+    ghost unsent: { (p : ℕ) → fresh ≡ true → ((sent_of sent p).got ≡ 0) × ((sent_of sent p).forgot ≡ 0) },
 }
 
 /// A link from which a member takes or may take: from whom, from which version of that one's view on, and the
@@ -39,10 +43,15 @@ pub struct InLink<I> {
 }
 
 impl<O> OutLink<O> {
-    ghost use Rattle.std.specs.Prelude.{◌≡◌, map, length, IfOk, Option};
+    ghost use Rattle.std.specs.Prelude.{◌≡◌, ℕ, ◌+◌, map, IfOk, Option};
     ghost use Rattle.ring_names.specs.declared.reason.Reason.{Reason};
-    ghost use Rattle.gm_member.specs.Held.{out_refused, parcel_on, next_sent};
-    ghost use Rattle.gm_member.specs.View.{out_of, row_of};
+    ghost use Rattle.activity.specs.Kept.{kept_of};
+    ghost use Rattle.activity.specs.Told.{sent_of};
+    ghost use Rattle.activity.specs.Parcels.{line_of};
+    ghost use Rattle.activity.specs.Diff.{IsNotAbove, next_line};
+    ghost use Rattle.gm_member.specs.Parcels.{by_origin};
+    ghost use Rattle.gm_member.specs.Held.{out_refused, parcel_on};
+    ghost use Rattle.gm_member.specs.View.{out_of, all_kept};
 
     /// What names the link, whose sender is given.
     pub(crate) fn name(&self, from: MemberId) -> LinkName
@@ -56,80 +65,68 @@ impl<O> OutLink<O> {
         }
     }
 
-    /// Why nothing can be put, of these rows: the link has no credit, or all numbers equal those last sent.
-    pub(crate) fn put_refusal(&self, known: &[Known]) -> Option<Reason>
-        requires { length known.now ≡ 64 }
-        ensures { result ≡ out_refused (map row_of known.now) (out_of self.now) }
+    /// Why nothing can be put, of these tables: the link has no credit, or all numbers equal those last sent.
+    pub(crate) fn put_refusal(&self, tables: &Tables) -> Option<Reason>
+        requires { IsNotAbove (self.now).sent tables.now }
+        ensures { result ≡ out_refused (all_kept tables.now) (out_of self.now) }
     {
         if self.credit.blocked() {
             return Some(Reason::NoCredit);
         }
-        if has_nothing_new(known, &self.sent) {
+        if says_all(&self.sent, tables, MOST_ORIGINS) {
             return Some(Reason::NothingNew);
         }
         None
     }
 
-    /// The next packet of these rows.
+    /// The next packet of these tables.
     pub(crate) fn packet(
         &self,
         alloc: Global,
         version: u32,
-        known: &[Known],
+        tables: &Tables,
     ) -> Result<Packet, OutOfMemory>
-        requires { length known.now ≡ 64 }
-        ensures { IfOk result (λ packet. packet ≡ parcel_on version (map row_of known.now) (out_of self.now)) }
+        requires { IsNotAbove (self.now).sent tables.now }
+        ensures said { IfOk result (λ packet. by_origin packet
+            ≡ parcel_on version (all_kept tables.now) (out_of self.now)) }
+        ensures lines { IfOk result (λ packet. (p : ℕ) → line_of packet.lines p
+            ≡ next_line (self.now).fresh p (kept_of tables.now p) (sent_of (self.now).sent p)) }
     {
-        let lines = next_lines(alloc, self.fresh, known, &self.sent)?;
-        Ok(Packet {
-            view: version,
-            first: self.fresh,
-            lines,
-        })
-    }
-
-    /// The numbers that it says.
-    pub(crate) fn numbers(
-        &self,
-        alloc: Global,
-        known: &[Known],
-    ) -> Result<Vec<Numbers>, OutOfMemory>
-        requires { length known.now ≡ 64 }
-        ensures { IfOk result (λ v. v.items ≡ next_sent (map row_of known.now) (out_of self.now)) }
-    {
-        next_of_all(alloc, self.fresh, known, &self.sent)
+        diff(alloc, &self.sent, tables, version, self.fresh)
     }
 }
 
 impl<O: LinkOut<Load>> OutLink<O> {
-    ghost use Rattle.std.specs.Prelude.{◌≡◌, false, map, length, OnOk, OnErr, IfErr, None, Some};
+    ghost use Rattle.std.specs.Prelude.{◌≡◌, false, map, OnOk, OnErr, IfErr, None, Some};
     ghost use Rattle.ring_names.specs.declared.reason.Reason.{Reason};
+    ghost use Rattle.activity.specs.Diff.{IsNotAbove};
     ghost use Rattle.gm_member.specs.Held.{out_refused, parcel_on, put_on};
-    ghost use Rattle.gm_member.specs.View.{out_of, row_of};
-    ghost use Rattle.gm_member.specs.Loads.{as_item};
-    ghost use Rattle.gm_member.specs.Ends.{EndIsOpen, EndPuts, EndLooks, IsPutFault};
+    ghost use Rattle.gm_member.specs.View.{out_of, all_kept};
+    ghost use Rattle.gm_member.specs.Ends.{EndIsOpen, EndSends, EndLooks, IsPutFault};
 
-    /// The next packet of these rows goes on the link, of a sender whose view is of this version.
+    /// The next packet of these tables goes on the link, of a sender whose view is of this version.
     pub(crate) fn put(
         &mut self,
         alloc: Global,
         version: u32,
-        known: &[Known],
+        tables: &Tables,
     ) -> Result<(), MemberFault>
-        requires known { length known.now ≡ 64 }
+        requires there { IsNotAbove self.old.sent tables.now }
         requires open { EndIsOpen O.ended self.old.end }
-        requires enabled { out_refused (map row_of known.now) (out_of self.old) ≡ None }
-        ensures ok { OnOk result (out_of self.new ≡ put_on (map row_of known.now) (out_of self.old)) }
-        ensures packet { OnOk result (EndPuts O.puts (as_item (parcel_on version (map row_of known.now)
-            (out_of self.old))) self.old.end self.new.end) }
+        requires enabled { out_refused (all_kept tables.now) (out_of self.old) ≡ None }
+        ensures ok { OnOk result (out_of self.new ≡ put_on (all_kept tables.now) (out_of self.old)) }
+        ensures packet { OnOk result (EndSends O.puts (parcel_on version (all_kept tables.now) (out_of self.old))
+            self.old.end self.new.end) }
         ensures kept { self.new.kept ≡ self.old.kept }
         ensures err { OnErr result (out_of self.new ≡ out_of self.old) }
         ensures looks { OnErr result (EndLooks O.looked self.old.end self.new.end) }
         ensures fault { IfErr result (λ fault. IsPutFault O.free fault self.new.end) }
         ensures open { EndIsOpen O.ended self.new.end }
+        ensures there { IsNotAbove self.new.sent tables.now }
     {
-        let packet = self.packet(alloc, version, known)?;
-        let sent = self.numbers(alloc, known)?;
+        let packet = self.packet(alloc, version, tables)?;
+        let numbers = numbers_of(alloc, &packet)?;
+        self.sent.make_room(&numbers)?;
         let Some(end) = &mut self.end else {
             unreachable!()
         };
@@ -137,7 +134,7 @@ impl<O: LinkOut<Load>> OutLink<O> {
             Ok(()) => {}
             Err(_load) => return Err(MemberFault::Refused(Reason::LinkFull)),
         }
-        self.sent = sent;
+        self.sent.note(&numbers);
         self.fresh = false;
         self.credit.send();
         Ok(())
@@ -154,6 +151,7 @@ impl<O: LinkOut<Load> + Drop> OutLink<O> {
     pub(crate) fn finish(&mut self, reason: EndReason)
         requires { EndIsOpen O.ended self.old.end }
         ensures same { out_of self.new ≡ out_of self.old }
+        ensures sent { self.new.sent ≡ self.old.sent }
         ensures ends { EndPuts O.puts (Item.End reason) self.old.end self.new.end }
         ensures kept { self.new.kept ≡ self.old.kept }
     {
@@ -180,6 +178,7 @@ impl<O: LinkOut<Load> + Drop> OutLink<O> {
     pub(crate) fn has_grant(&mut self) -> bool
         requires { EndIsOpen O.ended self.old.end }
         ensures same { out_of self.new ≡ out_of self.old }
+        ensures sent { self.new.sent ≡ self.old.sent }
         ensures kept { self.new.kept ≡ self.old.kept }
         ensures looks { EndLooks O.looked self.old.end self.new.end }
         ensures some { result ≡ true → IsSome self.new.kept
@@ -200,6 +199,7 @@ impl<O: LinkOut<Load> + Drop> OutLink<O> {
     pub(crate) fn granted(&mut self) -> Option<u32>
         requires { EndIsOpen O.ended self.old.end }
         ensures same { out_of self.new ≡ out_of self.old }
+        ensures sent { self.new.sent ≡ self.old.sent }
         ensures some { IfSome result (λ amount. (self.new.kept ≡ Some amount)
             × (((self.old.kept ≡ Some amount) × (self.new.end ≡ self.old.end))
             ⊎ (self.old.kept ≡ None) × (o : O) × (p : O) × (self.old.end ≡ Some o) × (self.new.end ≡ Some p)
@@ -240,28 +240,35 @@ impl<I: LinkIn<Load>> InLink<I> {
     ghost use Rattle.std.specs.Prelude.{MatchOption};
     ghost use Rattle.credit_flow.specs.Credit.{grant_due};
     ghost use Rattle.ring_world.specs.Step.{is_owned};
+    ghost use Rattle.activity.specs.Kept.{KeepsRows};
+    ghost use Rattle.activity.specs.Plan.{owns as owned, changes_of, AreReady};
+    ghost use Rattle.gm_member.specs.Parcels.{by_origin};
     ghost use Rattle.gm_member.specs.Held.{counted_in};
     ghost use Rattle.gm_member.specs.News.{news_below};
-    ghost use Rattle.gm_member.specs.View.{in_of, row_of};
+    ghost use Rattle.gm_member.specs.View.{in_of, all_kept};
     ghost use Rattle.gm_member.specs.Ends.{EndLooks, EndTakes, EndTook, EndEnds, IsEndRefusal, IsTakeFault};
     ghost use Rattle.gm_member.specs.Loads.{parcel_in, GrantsIf};
 
-    /// The oldest packet, and copies of the messages that it brings to a member with these rows and this view.
+    /// The oldest packet, copies of the messages that it brings to a member with these tables and this view, and what it
+    /// changes there, for which there is room then.
     fn take_load(
         &mut self,
         alloc: Global,
-        known: &[Known],
+        tables: &mut Tables,
         view: &View,
         id: MemberId,
-    ) -> Result<(Vec<Taken>, Load), MemberFault>
-        requires known { length known.now ≡ 64 }
+    ) -> Result<(Vec<Taken>, Vec<Change>, Load), MemberFault>
         requires there { IsSome self.old.end }
         ensures same { in_of self.new ≡ in_of self.old }
-        ensures ok { IfOk result (λ r. EndTakes I.waiting I.takes I.looked r.1 self.old.end self.new.end) }
-        ensures version { IfOk result (λ r. (parcel_in r.1).view ≤ view.now.version) }
+        ensures ok { IfOk result (λ r. EndTakes I.waiting I.takes I.looked r.2 self.old.end self.new.end) }
+        ensures version { IfOk result (λ r. (parcel_in r.2).view ≤ view.now.version) }
         ensures news { IfOk result (λ r. r.0.items
-            ≡ news_below 64 (λ p. is_owned view.now id.0 self.old.from.0 (p + 1)) (map row_of known.now)
-            (parcel_in r.1).lines) }
+            ≡ news_below 64 (λ p. is_owned view.now id.0 self.old.from.0 (p + 1)) (all_kept tables.old)
+            (by_origin (parcel_in r.2)).lines) }
+        ensures plan { IfOk result (λ r. r.1.items
+            ≡ changes_of (owned view.now id.0 self.old.from.0) tables.new (parcel_in r.2).lines) }
+        ensures room { IfOk result (λ r. AreReady tables.new r.1.items) }
+        ensures kept { KeepsRows tables.old tables.new }
         ensures fault { IfErr result (λ fault. IsTakeFault I.known I.waiting view.now.version fault self.new.end) }
         ensures looks { OnErr result (EndLooks I.looked self.old.end self.new.end) }
     {
@@ -269,19 +276,18 @@ impl<I: LinkIn<Load>> InLink<I> {
         let Some(end) = &mut self.end else {
             unreachable!()
         };
-        let news = match end.peek() {
-            Some(Item::Load(load)) => {
-                let packet = load.packet();
-                if let Some(reason) = packet.view_refusal(view.version) {
+        let (news, changes) = match end.peek() {
+            Some(Item::Load(Load::Packet(packet))) => {
+                if let Some(reason) = view_refusal(packet, view.version) {
                     return Err(MemberFault::Refused(reason));
                 }
-                packet.news_from(alloc, known, view, id, from)?
+                arrivals(alloc, packet, tables, view, id, from)?
             }
             Some(Item::End(_)) => return Err(MemberFault::Refused(Reason::EndNext)),
             None => return Err(MemberFault::Refused(Reason::NothingToTake)),
         };
         match end.take() {
-            Some(Item::Load(load)) => Ok((news, load)),
+            Some(Item::Load(load)) => Ok((news, changes, load)),
             _ => unreachable!(),
         }
     }
@@ -301,29 +307,35 @@ impl<I: LinkIn<Load>> InLink<I> {
         }
     }
 
-    /// The oldest packet, which is counted, and copies of the messages that it brings.
+    /// The oldest packet, which is counted, copies of the messages that it brings, and what it changes, for which there is
+    /// room then.
     pub(crate) fn take(
         &mut self,
         alloc: Global,
-        known: &[Known],
+        tables: &mut Tables,
         view: &View,
         id: MemberId,
-    ) -> Result<(Vec<Taken>, Packet), MemberFault>
-        requires known { length known.now ≡ 64 }
+    ) -> Result<(Vec<Taken>, Vec<Change>, Packet), MemberFault>
         requires there { IsSome self.old.end }
         ensures counted { OnOk result (in_of self.new ≡ counted_in (in_of self.old)) }
-        ensures took { IfOk result (λ r. EndTook I.waiting I.takes I.looked I.sends (grant_due self.old.counted) r.1
+        ensures took { IfOk result (λ r. EndTook I.waiting I.takes I.looked I.sends (grant_due self.old.counted) r.2
             self.old.end self.new.end) }
-        ensures version { IfOk result (λ r. r.1.view ≤ view.now.version) }
+        ensures version { IfOk result (λ r. r.2.view ≤ view.now.version) }
         ensures news { IfOk result (λ r. r.0.items
-            ≡ news_below 64 (λ p. is_owned view.now id.0 self.old.from.0 (p + 1)) (map row_of known.now) r.1.lines) }
+            ≡ news_below 64 (λ p. is_owned view.now id.0 self.old.from.0 (p + 1)) (all_kept tables.old)
+            (by_origin r.2).lines) }
+        ensures plan { IfOk result (λ r. r.1.items
+            ≡ changes_of (owned view.now id.0 self.old.from.0) tables.new r.2.lines) }
+        ensures room { IfOk result (λ r. AreReady tables.new r.1.items) }
+        ensures kept { KeepsRows tables.old tables.new }
         ensures fault { IfErr result (λ fault. IsTakeFault I.known I.waiting view.now.version fault self.new.end) }
         ensures err { OnErr result (in_of self.new ≡ in_of self.old) }
         ensures looks { OnErr result (EndLooks I.looked self.old.end self.new.end) }
     {
-        let (news, load) = self.take_load(alloc, known, view, id)?;
+        let (news, changes, load) = self.take_load(alloc, tables, view, id)?;
         self.count();
-        Ok((news, load.into_packet()))
+        let Load::Packet(packet) = load;
+        Ok((news, changes, packet))
     }
 
     /// The end of the link.
@@ -346,5 +358,40 @@ impl<I: LinkIn<Load>> InLink<I> {
             Some(Item::End(reason)) => Ok(reason),
             _ => unreachable!(),
         }
+    }
+}
+
+/// The numbers that a packet says, without its messages.
+fn numbers_of(alloc: Global, packet: &Packet) -> Result<Packet, OutOfMemory>
+    ensures { IfOk result (λ numbers. numbers.lines ≡ map emptied (packet.now).lines) }
+{
+    let lines = bare_lines(alloc, packet.lines())?;
+    Ok(Packet {
+        stamp: packet.stamp,
+        view: packet.view,
+        first: packet.first,
+        lines: Items::from_vec(lines),
+    })
+}
+
+/// Lines with the same numbers, without messages.
+fn bare_lines(alloc: Global, lines: &[Line]) -> Result<Vec<Line>, OutOfMemory>
+    ensures { IfOk result (λ bare. bare.items ≡ map emptied lines.now) }
+{
+    let mut bare = Vec::with_capacity(alloc, lines.len())?;
+    for line in lines {
+        bare.push(bare_line(alloc, line))?;
+    }
+    Ok(bare)
+}
+
+fn bare_line(alloc: Global, line: &Line) -> Line
+    ensures { result ≡ emptied line.now }
+{
+    Line {
+        origin: line.origin,
+        lo: line.got(),
+        messages: Items::from_vec(Vec::new(alloc)),
+        forgot: line.forgot,
     }
 }

@@ -4,17 +4,17 @@ ghost use Rattle.std.specs.Vec.{vec_len, vec_capacity};
 ghost use Rattle.group_view.specs.Ring.{is_in};
 ghost use Rattle.ring_world.specs.View.{ids};
 ghost use Rattle.ring_world.specs.Machine.{runs_phase};
-ghost use Rattle.gm_member.specs.View.{count_of, has_ended, is_up_where};
+ghost use Rattle.gm_member.specs.View.{count_of, has_ended, is_up_where, told_on};
+ghost use Rattle.gm_member.specs.Spares.{told_by_spare};
+ghost use Rattle.gm_member.specs.Within.{IsWithin, one_within};
 
 use crate::door::{first_for, is_for, prune};
 use crate::fault::MemberFault;
-use crate::known::{Known, nothing_known, nothing_sent, push_at};
 use crate::links::{InLink, OutLink};
-use crate::packet::{Load, Packet};
-use crate::rows::accept;
 use crate::spare::Spare;
 use crate::taken::Taken;
 use crate::views::{left, right, version};
+use activity::{Load, Sent, Tables};
 use credit_flow::{CreditIn, CreditOut};
 use group_view::{LinkName, Request, View};
 use ordered_link::{EndReason, LinkIn, LinkOut, LinkPair};
@@ -22,13 +22,13 @@ use ring_names::{CreditSpec, MemberId, Message, Name, OutOfMemory, Reason};
 use ring_world::Phase;
 use std::alloc::Global;
 
-/// How many members a ring ever admits.
-const MOST_MEMBERS: usize = 64;
+/// The greatest number of a message.
+const MOST_MESSAGES: u64 = 1 << 63;
 
-/// A member of the ring, as a process of `gm`. It has a view of the group, and the messages of every origin that it
-/// has heard of, its own among them. It sends on one link and takes from one, and further links may stand at its
-/// door. While its question for a view is open it has a link ready, with which the answer wants no memory. Until it
-/// stops, the link on which it sends hasn't ended.
+/// A member of the ring, as a process of `gm`. It has a view of the group, and of every origin that it has heard of, itself
+/// among them, the messages that it has received and not forgotten. It sends on one link and takes from one, and further
+/// links may stand at its door. While its question for a view is open it has a link ready, with which the answer wants no
+/// memory. Until it stops, the link on which it sends hasn't ended.
 #[derive(Drop)]
 pub struct Member<O: LinkOut<Load>, I> {
     pub(crate) alloc: Global,
@@ -36,7 +36,7 @@ pub struct Member<O: LinkOut<Load>, I> {
     pub(crate) id: MemberId,
     pub(crate) phase: Phase,
     pub(crate) view: View,
-    pub(crate) known: Vec<Known>,
+    pub(crate) tables: Tables,
     pub(crate) credit: CreditSpec,
     pub(crate) out: Option<OutLink<O>>,
     pub(crate) current: Option<InLink<I>>,
@@ -45,10 +45,11 @@ pub struct Member<O: LinkOut<Load>, I> {
     pub(crate) spare: Option<Spare<O, I>>,
     pub(crate) old_outs: Vec<(LinkName, O)>,
     pub(crate) old_ins: Vec<(LinkName, I)>,
-    ghost each_origin: { vec_len known ≡ 64 },
     ghost own: { (1 ≤ id.0) × (id.0 ≤ 64) },
     ghost stands: { is_in id.0 (ids view) ≡ true },
     ghost up: { is_up_where asked phase ≡ true },
+    ghost sent: { IsWithin (told_on out) tables } by { one_within (told_on out) tables },
+    ghost spared: { IsWithin (told_by_spare spare) tables } by { one_within (told_by_spare spare) tables },
     ghost unended: { runs_phase phase ≡ true → has_ended O.ended out ≡ false },
     ghost room_in: { vec_len old_ins + vec_len door + count_of current ≤ vec_capacity old_ins },
     ghost room_out: { vec_len old_outs + count_of out + count_of spare ≤ vec_capacity old_outs },
@@ -67,10 +68,11 @@ impl<O: LinkPair<Load, In = I>, I: LinkIn<Load> + Drop> Member<O, I> {
     ghost use Rattle.ring_world.specs.Event.{end_refusal as the_end_refusal, gain_refusal as the_gain_refusal};
     ghost use Rattle.ring_world.specs.View.{ids};
     ghost use Rattle.group_view.specs.Ring.{is_in};
-    ghost use Rattle.gm_member.specs.Parcels.{Parcel};
-    ghost use Rattle.gm_member.specs.View.{ring_link, left_end, kept_link, left_current};
+    ghost use Rattle.activity.specs.Parcels.{Parcel};
+    ghost use Rattle.gm_member.specs.Parcels.{by_origin, known_at};
+    ghost use Rattle.gm_member.specs.View.{all_kept, ring_link, left_end, kept_link, left_current};
     ghost use Rattle.gm_member.specs.Ends.{IsPutFault, IsTakeFault, IsEndRefusal, Replaces};
-    ghost use Rattle.gm_member.specs.Held.{founded, known_at, active_refused, up_refused, published_held};
+    ghost use Rattle.gm_member.specs.Held.{founded, active_refused, up_refused, published_held};
     ghost use Rattle.gm_member.specs.Held.{put_refused, put_held, take_refused, took_held, ended_held, stopped_held};
     ghost use Rattle.gm_member.specs.Held.{gain_refused, gained_held, kept_in, looked_held, sends_to as sends_to_it};
     ghost use Rattle.gm_member.specs.Held.{first_out, refresh_refused, refreshed_held};
@@ -108,8 +110,6 @@ impl<O: LinkPair<Load, In = I>, I: LinkIn<Load> + Drop> Member<O, I> {
         ensures ends { IfOk result (λ m. ends_of m
             ≡ record { out = Some out; kept = None; link = Some link; door = []; old_outs = []; old_ins = [] }) }
     {
-        let known = nothing_known(alloc, MOST_MEMBERS)?;
-        let sent = nothing_sent(alloc, MOST_MEMBERS)?;
         let old_outs = Vec::with_capacity(alloc, 1)?;
         let old_ins = Vec::with_capacity(alloc, 1)?;
         let to = right(&view, id);
@@ -121,13 +121,13 @@ impl<O: LinkPair<Load, In = I>, I: LinkIn<Load> + Drop> Member<O, I> {
             id,
             phase: Phase::Up,
             view,
-            known,
+            tables: Tables::new(alloc),
             credit,
             out: Some(OutLink {
                 to,
                 opened,
                 fresh: true,
-                sent,
+                sent: Sent::new(alloc),
                 credit: CreditOut::new(credit),
                 kept: None,
                 end: Some(out),
@@ -174,23 +174,18 @@ impl<O: LinkPair<Load, In = I>, I: LinkIn<Load> + Drop> Member<O, I> {
         &self.view
     }
 
-    /// The messages of an origin that the member has received, in order; of itself all that it has
-    /// published. None of an id that no member has.
-    pub fn heard(&self, of: MemberId) -> &[Message]
-        requires { 1 ≤ of.0 }
-        ensures { result.now ≡ (known_at (held_of self.now).rows (of.0 - 1)).heard }
+    /// What the member keeps of each origin that it has heard of, itself among them.
+    pub fn tables(&self) -> &Tables
+        ensures { (held_of self.now).known ≡ all_kept result.now }
     {
-        match self.known.get(of.0 as usize - 1) {
-            Some(row) => &row.all,
-            None => &[],
-        }
+        &self.tables
     }
 
     /// Up to which number its own messages have come round, so that every member has them.
     pub fn confirmed(&self) -> u64
-        ensures { result ≡ (known_at (held_of self.now).rows ((held_of self.now).id - 1)).forgot }
+        ensures { result ≡ (known_at (held_of self.now).known ((held_of self.now).id - 1)).forgot }
     {
-        self.known[self.id.0 as usize - 1].forgot
+        self.tables.numbers(self.id).forgot
     }
 
     /// Why the member may not act: it has stopped, or its question to the registrar is open.
@@ -246,11 +241,14 @@ impl<O: LinkPair<Load, In = I>, I: LinkIn<Load> + Drop> Member<O, I> {
         if let Some(reason) = self.up_refusal() {
             return Err((message, MemberFault::Refused(reason)));
         }
-        let place = self.id.0 as usize - 1;
-        match push_at(&mut self.known, place, message) {
-            Ok(number) => Ok(number),
-            Err(message) => Err((message, MemberFault::OutOfMemory)),
+        if self.tables.numbers(self.id).got >= MOST_MESSAGES {
+            return Err((message, MemberFault::OutOfMemory));
         }
+        if self.tables.make_room_for(self.id).is_err() {
+            return Err((message, MemberFault::OutOfMemory));
+        }
+        self.tables.push(self.id, message);
+        Ok(self.tables.numbers(self.id).got)
     }
 
     /// Lends the end of the link on which the member sends: none where it isn't there. The caller gives it back before
@@ -298,12 +296,12 @@ impl<O: LinkPair<Load, In = I>, I: LinkIn<Load> + Drop> Member<O, I> {
         }
         match &self.out {
             None => Some(Reason::NoOutLink),
-            Some(link) => link.put_refusal(&self.known),
+            Some(link) => link.put_refusal(&self.tables),
         }
     }
 
-    /// A packet with all that is known of each origin goes on the link on which the member sends, as `gm` broadcasts
-    /// its activity. Refused as `put_refusal` says, and then with `LinkFull` where the link handed the packet back.
+    /// A packet with what is new of each origin goes on the link on which the member sends, as `gm` broadcasts its
+    /// activity. Refused as `put_refusal` says, and then with `LinkFull` where the link handed the packet back.
     pub fn put(&mut self) -> Result<(), MemberFault>
         requires { OutIsBack self.old }
         ensures heeds { Heeds (put_refused (held_of self.old)) result }
@@ -314,7 +312,7 @@ impl<O: LinkPair<Load, In = I>, I: LinkIn<Load> + Drop> Member<O, I> {
         ensures steps { OnOk result (IsEvent (Put (held_of self.old).name) self.old self.new) }
         ensures put { OnOk result ((o : Outgoing) × ((held_of self.old).out ≡ Some o)
             × WhereItStands (held_of self.old) (λ w x. IsPutPacket w x
-            (parcel_on (held_of self.old).view.version (held_of self.old).rows o))) }
+            (parcel_on (held_of self.old).view.version (held_of self.old).known o))) }
         ensures not_enabled { RefusesAs (Put (held_of self.old).name) self.old result }
     {
         self.put_next()
@@ -333,7 +331,7 @@ impl<O: LinkPair<Load, In = I>, I: LinkIn<Load> + Drop> Member<O, I> {
         let Some(link) = &mut self.out else {
             unreachable!()
         };
-        link.put(self.alloc, version, &self.known)
+        link.put(self.alloc, version, &self.tables)
     }
 
     /// Why the member may take nothing, before its link is looked at: `Stopped`, `AwaitingAnswer`; `NoCurrentLink`
@@ -364,7 +362,7 @@ impl<O: LinkPair<Load, In = I>, I: LinkIn<Load> + Drop> Member<O, I> {
         // event, and the messages are those of the logs.
         ensures steps { IfOk result (λ taken. (k : Parcel)
             × TookOn I.waiting I.takes I.looked I.sends k self.old self.new
-            × WhereItStands (held_of self.old) (λ w x. IsNextPacket w x k
+            × WhereItStands (held_of self.old) (λ w x. IsNextPacket w x (by_origin k)
             → StepsTo w x (Take (held_of self.old).name) (held_of self.new)
             × (taken.items ≡ taken_in w (member_at w x).current x))) }
         ensures not_enabled { RefusesWhere
@@ -386,9 +384,8 @@ impl<O: LinkPair<Load, In = I>, I: LinkIn<Load> + Drop> Member<O, I> {
         let Some(link) = &mut self.current else {
             unreachable!()
         };
-        let from = link.from;
-        let (news, packet) = link.take(self.alloc, &self.known, &self.view, self.id)?;
-        accept(&mut self.known, &self.view, self.id, from, packet);
+        let (news, changes, packet) = link.take(self.alloc, &mut self.tables, &self.view, self.id)?;
+        self.tables.apply(packet, &changes);
         Ok(news)
     }
 
@@ -619,6 +616,7 @@ impl<O: LinkPair<Load, In = I>, I: LinkIn<Load> + Drop> Member<O, I> {
             (self.new.old_outs).items }
         ensures same { (self.new.id ≡ self.old.id) × (self.new.view ≡ self.old.view)
             × (self.new.credit ≡ self.old.credit) }
+        ensures tables { self.new.tables ≡ self.old.tables }
         ensures others { KeepsIns self.old self.new }
         ensures room { vec_capacity self.old.old_outs ≤ vec_capacity self.new.old_outs }
         ensures len { vec_len self.new.old_outs ≤ vec_len self.old.old_outs + count_of self.old.out }
@@ -651,7 +649,7 @@ impl<O: LinkPair<Load, In = I>, I: LinkIn<Load> + Drop> Member<O, I> {
         ensures ready { OnOk result (SpareIsReady O.are_fresh O.free O.ended self.new) }
     {
         self.old_outs.reserve(2)?;
-        let spare = Spare::make(self.alloc, self.credit, &self.known)?;
+        let spare = Spare::make(self.alloc, self.credit, &self.tables)?;
         self.spare = Some(spare);
         Ok(())
     }

@@ -1,24 +1,28 @@
 //! The numbers that a member keeps of an origin.
 
 use crate::member::Member;
-use crate::packet::Load;
+use activity::Load;
 use ordered_link::{LinkIn, LinkPair};
 use ring_names::MemberId;
 
+/// The greatest id that a ring may have.
+const MOST_MEMBERS: u32 = 64;
+
 impl<O: LinkPair<Load, In = I>, I: LinkIn<Load> + Drop> Member<O, I> {
     ghost use Rattle.std.specs.Prelude.{◌≡◌, ◌-◌, ◌≤◌};
-    ghost use Rattle.gm_member.specs.Held.{known_at};
+    ghost use Rattle.activity.specs.Kept.{got_of};
+    ghost use Rattle.gm_member.specs.Parcels.{known_at};
     ghost use Rattle.gm_member.specs.Shown.{held_of};
 
     /// Up to which number the member has received the messages of an origin; of itself how many it has published. 0
     /// of an id that no member has.
     pub fn got(&self, of: MemberId) -> u64
         requires { 1 ≤ of.0 }
-        ensures { result ≡ (known_at (held_of self.now).rows (of.0 - 1)).got }
+        ensures { result ≡ got_of (known_at (held_of self.now).known (of.0 - 1)) }
     {
-        match self.known.get(of.0 as usize - 1) {
-            Some(row) => row.all.len() as u64,
-            None => 0,
+        if of.0 > MOST_MEMBERS {
+            return 0;
         }
+        self.tables.numbers(of).got
     }
 }

@@ -1,15 +1,18 @@
 //! A link that a member has ready before it asks for a view, with its first packet.
 ghost use Rattle.std.specs.Prelude.{◌<◌, ◌≡◌, false};
 ghost use Rattle.std.specs.Vec.{vec_len, vec_capacity};
+ghost use Rattle.std.specs.Prelude.{IfOk, true};
+ghost use Rattle.activity.specs.Diff.{IsNotAbove};
+ghost use Rattle.gm_member.specs.Parcels.{by_origin};
+ghost use Rattle.gm_member.specs.View.{all_kept, all_sent};
+ghost use Rattle.gm_member.specs.Held.{fresh_out, lines_on, all_told};
 
-use crate::known::{Known, nothing_sent};
 use crate::links::OutLink;
-use crate::packet::{Load, Packet};
+use activity::{Load, Packet, Sent, Tables, diff};
 use credit_flow::CreditOut;
 use group_view::{LinkKind, Request};
 use ordered_link::{LinkOut, LinkPair};
 use ring_names::{CreditSpec, MemberId, OutOfMemory};
-use ring_world::Numbers;
 use std::alloc::Global;
 
 /// The ends of a link on which nothing was put, the packet that will be its first, for which it has room, the numbers
@@ -19,9 +22,8 @@ pub(crate) struct Spare<O: LinkOut<Load>, I> {
     pub(crate) out: O,
     pub(crate) link: I,
     pub(crate) packet: Packet,
-    pub(crate) sent: Vec<Numbers>,
+    pub(crate) sent: Sent,
     pub(crate) requests: Vec<Request<I>>,
-    ghost each_sent: { vec_len sent ≡ 64 },
     ghost room: { vec_len requests < vec_capacity requests },
     ghost unended: { O.ended out ≡ false },
     ghost slots: { 1 < O.free out },
@@ -29,32 +31,23 @@ pub(crate) struct Spare<O: LinkOut<Load>, I> {
 
 impl<O: LinkPair<Load, In = I>, I: Drop> Spare<O, I> {
     ghost use Rattle.std.specs.Prelude.{◌≡◌, ◌<◌, List, false, length, map, IfOk, MatchOption};
-    ghost use Rattle.gm_member.specs.View.{row_of};
+    ghost use Rattle.activity.specs.Kept.{Kept};
+    ghost use Rattle.activity.specs.Diff.{IsNotAbove};
+    ghost use Rattle.gm_member.specs.View.{all_kept};
     ghost use Rattle.gm_member.specs.Spares.{IsSpareFor, OpensOn};
-    ghost use Rattle.ring_world.specs.Rows.{Row};
 
-    /// A spare link with this credit, and the first packet of these rows.
+    /// A spare link with this credit, and the first packet of these tables.
     pub(crate) fn make(
         alloc: Global,
         credit: CreditSpec,
-        known: &[Known],
+        tables: &Tables,
     ) -> Result<Spare<O, I>, OutOfMemory>
-        requires { length known.now ≡ 64 }
-        ensures { IfOk result (λ spare. IsSpareFor O.are_fresh O.free O.ended credit.initial (map row_of known.now)
+        ensures spare { IfOk result (λ spare. IsSpareFor O.are_fresh O.free O.ended credit.initial (all_kept tables.now)
             spare) }
+        ensures there { IfOk result (λ spare. IsNotAbove spare.sent tables.now) }
     {
         let (out, link) = O::pair(alloc, credit)?;
-        let fresh: OutLink<O> = OutLink {
-            to: MemberId(0),
-            opened: 0,
-            fresh: true,
-            sent: nothing_sent(alloc, 64)?,
-            credit: CreditOut::new(credit),
-            kept: None,
-            end: None,
-        };
-        let packet = fresh.packet(alloc, 0, known)?;
-        let sent = fresh.numbers(alloc, known)?;
+        let (packet, sent) = first_packet(alloc, tables)?;
         let requests = Vec::with_capacity(alloc, 1)?;
         Ok(Spare {
             out,
@@ -73,8 +66,9 @@ impl<O: LinkPair<Load, In = I>, I: Drop> Spare<O, I> {
         version: u32,
         credit: CreditSpec,
     ) -> (OutLink<O>, Vec<Request<I>>)
-        ensures opens { (rows : List Row) → IsSpareFor O.are_fresh O.free O.ended credit.initial rows self
-            → OpensOn O.puts credit rows by to version self result.0 result.1.items }
+        ensures opens { (known : List Kept) → IsSpareFor O.are_fresh O.free O.ended credit.initial known self
+            → OpensOn O.puts credit known by to version self result.0 result.1.items }
+        ensures sent { result.0.sent ≡ self.sent }
         ensures unended { MatchOption result.0.end ⊥ (λ o. O.ended o ≡ false) }
     {
         let Spare {
@@ -84,7 +78,10 @@ impl<O: LinkPair<Load, In = I>, I: Drop> Spare<O, I> {
             sent,
             mut requests,
         } = self;
-        match out.put(Load::Packet(packet.with_view(version))) {
+        match out.put(Load::Packet(Packet {
+            view: version,
+            ..packet
+        })) {
             Ok(()) => {}
             Err(_back) => unreachable!(),
         }
@@ -112,4 +109,18 @@ impl<O: LinkPair<Load, In = I>, I: Drop> Spare<O, I> {
         };
         (opened, requests)
     }
+}
+
+/// The first packet of these tables, and the numbers that are the last sent then.
+fn first_packet(alloc: Global, tables: &Tables) -> Result<(Packet, Sent), OutOfMemory>
+    ensures first { IfOk result (λ r. r.0.first ≡ true) }
+    ensures lines { IfOk result (λ r. (by_origin r.0).lines ≡ lines_on (all_kept tables.now) (fresh_out 0 0 0 0)) }
+    ensures told { IfOk result (λ r. all_sent r.1 ≡ all_told (all_kept tables.now)) }
+    ensures there { IfOk result (λ r. IsNotAbove r.1 tables.now) }
+{
+    let mut sent = Sent::new(alloc);
+    let packet = diff(alloc, &sent, tables, 0, true)?;
+    sent.make_room(&packet)?;
+    sent.note(&packet);
+    Ok((packet, sent))
 }

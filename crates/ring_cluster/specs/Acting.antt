@@ -17,7 +17,7 @@ use Rattle.ring_world.specs.Refusal.{refuse_if, is_empty}
 use Rattle.ring_world.specs.View.{right_of}
 use Rattle.ring_world.specs.Machine.{runs_phase}
 use Rattle.ring_world.specs.Event.{version_refusal, is_registered}
-use Rattle.gm_member.specs.Parcels.{Parcel}
+use Rattle.gm_member.specs.Parcels.{ByOrigin}
 use Rattle.gm_member.specs.Held.{Held, Outgoing, Incoming, at_some, active_refused, up_refused, on_some, published_held, put_held, parcel_on, put_refused, pick_refused, take_refused, took_held, gained_held, ended_held, stopped_held, is_for, stays, sends_to, fresh_out as unsent_on, fresh_in as arriving_in, refreshed_held, first_at_door, picked_held, without, collected_held}
 use Rattle.gm_member.specs.View.{ring_link}
 use Rattle.gm_member.specs.Shown.{When}
@@ -27,7 +27,7 @@ use Rattle.ring_cluster.specs.Parties.{EndsSeen, Shown, Posted, Parties, node_at
 -- ---- one end
 
 -- a packet, as it stands on a link
-abbrev pub sent_of : Parcel → Sent
+abbrev pub sent_of : ByOrigin → Sent
 sent_of k = record { view = k.view; lines = k.lines }
 
 -- Items join those that wait in the out end, grants leave those that have come back to it, and it has ended or not.
@@ -112,7 +112,7 @@ Casts m a b = b ≡ record a { held = published_held a.held m }
 abbrev pub PutsPacket : Shown → Shown → Type 0
 PutsPacket a b =
     (h : Outgoing) × (o : OutSeen) × (o' : OutSeen) × (a.held.out ≡ Some h) × (a.ends.out ≡ Some o)
-    × ActsOut (Some (sent_of (parcel_on a.held.view.version a.held.rows h)) ∷ []) [] false o o'
+    × ActsOut (Some (sent_of (parcel_on a.held.view.version a.held.known h)) ∷ []) [] false o o'
     × (b ≡ record { held = put_held a.held; ends = record a.ends { out = Some o' } })
 
 -- the grant that is due with the next load from the link that it takes from
@@ -122,7 +122,7 @@ due_of h = at_some h.current None (λ l. grant_due l.counted)
 -- it has taken one
 abbrev pub TakesPacket : Shown → Shown → Type 0
 TakesPacket a b =
-    (k : Parcel) × (n : InSeen) × (n' : InSeen) × (a.ends.link ≡ Some n) × TakesIn (due_of a.held) n (sent_of k) n'
+    (k : ByOrigin) × (n : InSeen) × (n' : InSeen) × (a.ends.link ≡ Some n) × TakesIn (due_of a.held) n (sent_of k) n'
     × (b ≡ record { held = took_held a.held k; ends = record a.ends { link = Some n' } })
 
 -- it has taken the end of its link, and given up its own end of it
@@ -206,7 +206,7 @@ Loosens x (Some h) (Some o) loose = (o' : OutSeen) × ActsOut (None ∷ []) [] t
 
 -- the first packet of the link that it opens
 abbrev pub first_sent : Shown → Group → Sent
-first_sent a v = sent_of (parcel_on v.version a.held.rows (unsent_on a.held.initial a.held.more (right_of v a.held.id) v.version))
+first_sent a v = sent_of (parcel_on v.version a.held.known (unsent_on a.held.initial a.held.more (right_of v a.held.id) v.version))
 
 -- It has a view, and sends to its right neighbour in it: as it did, or on a new link, whose in end is to wait for its receiver.
 abbrev pub Looks : Group → Shown → Shown → Option Posted → Option (LinkName × OutSeen) → Type 0

@@ -5,7 +5,7 @@ use Rattle.ordered_link.specs.declared.plain.PlainIn.{PlainIn}
 use Rattle.group_view.specs.declared.link.LinkKind.TheVariants.{Ring}
 use Rattle.group_view.specs.declared.request.Deposited.{Deposited}
 use Rattle.registrar.specs.declared.standing.Standing.{Standing}
-use Rattle.gm_member.specs.declared.packet.Load.{Load}
+use Rattle.activity.specs.declared.packet.Load.{Load}
 use Rattle.gm_member.specs.Held.{answered_held, collected_held}
 use Rattle.gm_member.specs.Arrivals.{incoming_of, with_arrived}
 use Rattle.gm_member.specs.Shown.{held_of, ends_of}

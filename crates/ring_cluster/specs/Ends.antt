@@ -1,14 +1,15 @@
 -- What the ends of a link show, and what they hold of the ring's link between them.
-use Rattle.std.specs.Prelude.{◌≡◌, ℕ, ◌+◌, ◌≤◌, Bool, false, List, [], ◌∷◌, ◌++◌, length, map, Option, Some, None, is_some}
-use Rattle.gm_member.specs.Parcels.{Carried}
+use Rattle.std.specs.Prelude.{◌≡◌, ℕ, ◌+◌, ◌≤◌, Bool, false, List, [], ◌∷◌, ◌++◌, length, Option, Some, None, is_some}
+use Rattle.activity.specs.Parcels.{Carried}
 use Rattle.gm_member.specs.Stands.{lines_in}
 use Rattle.ring_world.specs.declared.phase.Ending.{Ending}
-use Rattle.ring_world.specs.Machine.{World, Packet, Link}
+use Rattle.ring_world.specs.Machine.{World, Packet, Sending, Link}
+use Rattle.ring_world.specs.Compact.{passed}
 
--- A packet as it stands on a link: the version of its sender's view, and its lines.
+-- A packet as it stands on a link: the version of its sender's view, and its lines by the places of their origins.
 pub record Sent : Type 0 where
   pub view : ℕ
-  pub lines : List Carried
+  pub lines : List (Option Carried)
 
 -- What the out end of a link shows: the items that wait in it, an item without a packet being the end of the link; the grants that have
 -- come back; the credit of its link; the slots that it knows to be free; and whether it has ended.
@@ -28,18 +29,23 @@ pub record InSeen : Type 0 where
   pub initial : ℕ
   pub free : ℕ
 
--- a packet of the ring, as an item of a link
-abbrev pub packet_in : World → Packet → Option Sent
-packet_in w k = Some (record { view = k.version; lines = lines_in w k })
+-- a packet of the ring, as an item of a link, behind what passed there before it
+abbrev pub packet_in : World → Sending → Packet → Option Sent
+packet_in w before k = Some (record { view = k.version; lines = lines_in w before k })
+
+-- packets one after another
+abbrev pub packets_in : World → Sending → List Packet → List (Option Sent)
+packets_in w before [] = []
+packets_in w before (k ∷ ks) = packet_in w before k ∷ packets_in w (passed k) ks
 
 -- the end of a link, as its last item
 abbrev pub end_items : Option Ending → List (Option Sent)
 end_items None = []
 end_items (Some why) = None ∷ []
 
--- the items of a link of the ring: its packets, and its end behind them
+-- the items of a link of the ring: its packets, from what was taken last on, and its end behind them
 abbrev pub items_in : World → Link → List (Option Sent)
-items_in w l = map (packet_in w) l.packets ++ end_items l.ending
+items_in w l = packets_in w l.had l.packets ++ end_items l.ending
 
 -- The ends may meet: they are of one credit, and each knows no more free slots than there are.
 pub record Fits (o : OutSeen) (n : InSeen) : Type 0 where

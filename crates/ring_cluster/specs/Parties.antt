@@ -12,8 +12,9 @@ use Rattle.group_view.specs.Since.{no_group}
 use Rattle.ring_world.specs.declared.phase.Phase.TheVariants as phase
 use Rattle.registrar.specs.Registry.{Registry}
 use Rattle.registrar.specs.declared.standing.Standing.{Standing}
-use Rattle.gm_member.specs.declared.packet.Load.{Load}
+use Rattle.activity.specs.declared.packet.Load.{Load}
 use Rattle.gm_member.specs.declared.member.Member.{Member}
+use Rattle.gm_member.specs.Parcels.{by_origin}
 use Rattle.gm_member.specs.Loads.{parcel_in}
 use Rattle.gm_member.specs.Held.{Held}
 use Rattle.gm_member.specs.Shown.{Ends, held_of, ends_of, with_in as with_end}
@@ -33,7 +34,7 @@ ANode = Member (PlainOut Load) (PlainIn Load) plain_out
 
 -- an item of a link
 abbrev pub content : Item Load → Option Sent
-content (item.Load x) = Some (record { view = (parcel_in x).view; lines = (parcel_in x).lines })
+content (item.Load x) = Some (record { view = (parcel_in x).view; lines = (by_origin (parcel_in x)).lines })
 content (item.End reason) = None
 
 -- an out end
@@ -89,7 +90,7 @@ tasks_of p = p.agenda
 -- what a member shows that isn't there, for places beyond the last
 abbrev pub no_shown : Shown
 no_shown = record {
-  held = record { id = 0; name = []; phase = phase.Stopped; view = no_group; rows = []; out = None; current = None; door = []; asks = false; initial = 0; more = 0 };
+  held = record { id = 0; name = []; phase = phase.Stopped; view = no_group; known = []; out = None; current = None; door = []; asks = false; initial = 0; more = 0 };
   ends = record { out = None; kept = None; link = None; door = []; old_outs = []; old_ins = [] };
 }
 

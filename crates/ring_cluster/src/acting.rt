@@ -14,7 +14,7 @@ use crate::node::{Node, cast, gain, pick, put, stop, take, take_end};
 use crate::parties::Parties;
 use crate::party::Party;
 use crate::refusing::{look_refusal, stop_refusal, unknown};
-use gm_member::Load;
+use activity::Load;
 use group_view::Request;
 use ordered_link::PlainIn;
 use registrar::Registrar;

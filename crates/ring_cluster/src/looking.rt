@@ -3,7 +3,7 @@ ghost use Rattle.std.specs.Prelude.{◌≡◌, ◌≤◌, [], drop, true, length
 ghost use Rattle.ring_names.specs.declared.reason.Reason.{Reason};
 ghost use Rattle.ordered_link.specs.declared.plain.PlainOut.{PlainOut as Out};
 ghost use Rattle.ordered_link.specs.Steps.{IsFreshPair};
-ghost use Rattle.gm_member.specs.declared.packet.Load.{Load as Loaded};
+ghost use Rattle.activity.specs.declared.packet.Load.{Load as Loaded};
 ghost use Rattle.gm_member.specs.Shown.{SpareIsReady};
 ghost use Rattle.group_view.specs.Change.{marked};
 ghost use Rattle.registrar.specs.Registry.{AreHere, newest};
@@ -23,7 +23,8 @@ ghost use Rattle.ring_cluster.specs.Looking.{HasLooked};
 
 use crate::node::{Node, drop_old_ins};
 use crate::undelivered::Undelivered;
-use gm_member::{Ask, Load};
+use activity::Load;
+use gm_member::Ask;
 use group_view::{Answer, LinkName, Request, View};
 use ordered_link::{PlainIn, PlainOut};
 use registrar::Registrar;

@@ -16,7 +16,7 @@ use crate::node::Node;
 use crate::parties::Parties;
 use crate::party::Party;
 use crate::undelivered::Undelivered;
-use gm_member::Load;
+use activity::Load;
 use group_view::LinkName;
 use ordered_link::{PlainIn, PlainOut, meet};
 use registrar::Registrar;

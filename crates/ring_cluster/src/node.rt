@@ -8,7 +8,8 @@ ghost use Rattle.ring_cluster.specs.Acting.{stop_refused, Casts, PutsPacket, Tak
 ghost use Rattle.ring_cluster.specs.Acting.{Picks};
 ghost use Rattle.ring_cluster.specs.Tried.{IsJudged, Tries};
 
-use gm_member::{Load, Member};
+use activity::Load;
+use gm_member::Member;
 use ordered_link::{PlainIn, PlainOut};
 use ring_names::{Body, Message};
 use ring_world::Refused;

@@ -10,7 +10,7 @@ use crate::agenda::Task;
 use crate::node::Node;
 use crate::party::Party;
 use crate::undelivered::Undelivered;
-use gm_member::Load;
+use activity::Load;
 use group_view::View;
 use ordered_link::PlainIn;
 use registrar::Registrar;

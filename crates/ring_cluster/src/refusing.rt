@@ -14,7 +14,8 @@ use crate::driver::OwnStep;
 use crate::node::Node;
 use crate::parties::Parties;
 use crate::undelivered::Undelivered;
-use gm_member::Load;
+use activity::Load;
+use gm_member::view_refusal;
 use group_view::Request;
 use ordered_link::{Item, PlainIn};
 use registrar::Registrar;
@@ -105,7 +106,7 @@ fn packet_refusal(node: &Node) -> Option<Reason>
         return Some(reason);
     }
     match first_item(node) {
-        Some(Item::Load(Load::Packet(packet))) => packet.view_refusal(node.view().version),
+        Some(Item::Load(Load::Packet(packet))) => view_refusal(packet, node.view().version),
         Some(Item::End(_)) => Some(Reason::EndNext),
         None => Some(Reason::NothingToTake),
     }

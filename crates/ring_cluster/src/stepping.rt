@@ -7,7 +7,7 @@ ghost use Rattle.registrar.specs.Handled.{with_link};
 use crate::looking::Loose;
 use crate::parties::Parties;
 use crate::undelivered::Undelivered;
-use gm_member::Load;
+use activity::Load;
 use group_view::{LinkName, Request};
 use ordered_link::PlainIn;
 use registrar::Registrar;

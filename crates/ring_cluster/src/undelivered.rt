@@ -1,6 +1,6 @@
 //! A link that has opened and hasn't reached the registrar yet.
 
-use gm_member::Load;
+use activity::Load;
 use group_view::LinkName;
 use ordered_link::PlainIn;
 

@@ -6,7 +6,7 @@ use Rattle.ordered_link.specs.declared.plain.PlainIn.{PlainIn}
 use Rattle.ring_world.specs.declared.event.Event.{Event}
 use Rattle.ring_world.specs.Step.{size}
 use Rattle.registrar.specs.Registry.{Registry, AreHere}
-use Rattle.gm_member.specs.declared.packet.Load.{Load}
+use Rattle.activity.specs.declared.packet.Load.{Load}
 use Rattle.gm_member.specs.Held.{Held}
 use Rattle.ring_cluster.specs.Seen.{state}
 use Rattle.ring_cluster.specs.declared.party.Party.{Party}

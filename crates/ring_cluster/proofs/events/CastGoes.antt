@@ -1,27 +1,29 @@
 -- Where a member has published, the parties stand in the state after the ring's cast.
-use Rattle.std.proofs.Common.{◌≡◌, ℕ, ◌+◌, ◌<◌, ◌≤◌, List, [], ◌∷◌, length, map, Option, Some, refl, sym, ap, ◌∙◌, arith}
+use Rattle.gm_member.specs.Parcels.{places}
+use Rattle.std.proofs.Common.{◌≡◌, ℕ, ◌+◌, ◌<◌, ◌≤◌, Bool, List, [], ◌∷◌, length, Option, Some, refl, ap, ◌∙◌, arith}
 use Rattle.ring_names.specs.declared.message.Message.{Message}
 use Rattle.ring_names.specs.declared.message.Message.TheVariants as message
 use Rattle.ring_names.specs.declared.numbers.CreditSpec.{CreditSpec}
 use Rattle.group_view.specs.declared.link.LinkName.{LinkName}
 use Rattle.ring_world.specs.declared.event.Event.TheVariants.{Cast}
-use Rattle.ring_world.specs.Machine.{World, Packet, no_member, numbers_at, member_at, link_at}
+use Rattle.ring_world.specs.Machine.{World, Packet, Sending, no_member, numbers_at, member_at, link_at}
 use Rattle.ring_world.specs.Step.{size, log_of, published, publish_at}
 use Rattle.ring_world.specs.Event.{id_of, effect}
+use Rattle.ring_world.specs.Compact.{passed}
 use Rattle.ring_world.specs.Lawful.{PacketsAreWithin}
+use Rattle.ring_world.specs.declared.numbers.Numbers.{Numbers}
 use Rattle.ring_world.proofs.rings.Lists.{at_set}
 use Rattle.ring_world.proofs.events.Refusals.{id_within}
-use Rattle.gm_member.specs.News.{carried_in}
 use Rattle.gm_member.specs.Held.{Held, published_held}
-use Rattle.gm_member.specs.Stands.{lines_in}
+use Rattle.gm_member.specs.Stands.{line_for, lines_in}
+use Rattle.gm_member.proofs.Knowing.{line_grown}
 use Rattle.gm_member.proofs.Places.{map-range_same}
 use Rattle.gm_member.proofs.PublishStands.{publish_stands}
 use Rattle.gm_member.proofs.Others.{publish_others}
-use Rattle.ring_cluster.specs.Ends.{OutSeen, packet_in}
+use Rattle.ring_cluster.specs.Ends.{OutSeen, packet_in, packets_in}
 use Rattle.ring_cluster.specs.Parties.{Parties, node_at, with_node}
 use Rattle.ring_cluster.specs.Standing.{Places, MemberStands, Stand}
 use Rattle.ring_cluster.specs.Acting.{Acts}
-use Rattle.ring_cluster.proofs.lists.Rows.{carried_grown}
 use Rattle.ring_cluster.proofs.work.Lawful.{IsLawfulAt}
 use Rattle.ring_cluster.proofs.standing.Frames.{SameWays, member_ways, carries_still, Does, StandMoved}
 use Rattle.ring_cluster.proofs.events.OneEvent.{found_does, stands_at}
@@ -30,19 +32,21 @@ use Rattle.ring_cluster.proofs.events.Steps.{goes_so, ways_leave, same_phases, s
 -- ---- packets
 
 -- one line, where the packet says no more than the log has
-cast_line : (w : World) (x : ℕ) (m : Message) (p a : ℕ) (k : Packet) → x < size w → (numbers_at k p).got ≤ length (log_of w p) → carried_in (log_of (publish_at w x m) p) a (numbers_at k p) ≡ carried_in (log_of w p) a (numbers_at k p)
-cast_line w x m p a k lt l =
-    at_set (λ j y. (numbers_at k j).got ≤ length (log_of w j) → carried_in y.log a (numbers_at k j) ≡ carried_in (log_of w j) a (numbers_at k j)) w.members x p (published x m (member_at w x)) no_member lt
-    (λ h. sym (carried_grown (log_of w x) m a (numbers_at k x) h)) (λ _ _. refl) l
+cast_line : (w : World) (x : ℕ) (m : Message) (fresh : Bool) (p a : ℕ) (k : Packet) (last : Numbers) → x < size w → (numbers_at k p).got ≤ length (log_of w p) → line_for fresh (log_of (publish_at w x m) p) a (numbers_at k p) last ≡ line_for fresh (log_of w p) a (numbers_at k p) last
+cast_line w x m fresh p a k last lt l =
+    at_set (λ j y. (numbers_at k j).got ≤ length (log_of w j) → line_for fresh y.log a (numbers_at k j) last ≡ line_for fresh (log_of w j) a (numbers_at k j) last) w.members x p (published x m (member_at w x)) no_member lt
+    (λ h. line_grown fresh (log_of w x) (m ∷ []) a (numbers_at k x) last h) (λ _ _. refl) l
 
-cast_lines : (w : World) (x : ℕ) (m : Message) (k : Packet) → x < size w → ((p : ℕ) → (numbers_at k p).got ≤ length (log_of w p)) → lines_in (publish_at w x m) k ≡ lines_in w k
-cast_lines w x m k lt h = map-range_same (λ p. carried_in (log_of (publish_at w x m) (p + 1)) p (numbers_at k (p + 1))) (λ p. carried_in (log_of w (p + 1)) p (numbers_at k (p + 1))) 64 (λ p _. cast_line w x m (p + 1) p k lt (h (p + 1)))
+cast_lines : (w : World) (x : ℕ) (m : Message) (before : Sending) (k : Packet) → x < size w → ((p : ℕ) → (numbers_at k p).got ≤ length (log_of w p)) → lines_in (publish_at w x m) before k ≡ lines_in w before k
+unfolding places
+cast_lines w x m before k lt h = map-range_same (λ p. line_for before.fresh (log_of (publish_at w x m) (p + 1)) p (numbers_at k (p + 1)) (numbers_at before.sent (p + 1))) (λ p. line_for before.fresh (log_of w (p + 1)) p (numbers_at k (p + 1)) (numbers_at before.sent (p + 1))) 64
+    (λ p _. cast_line w x m before.fresh (p + 1) p k (numbers_at before.sent (p + 1)) lt (h (p + 1)))
 
-pub cast_packets : (w : World) (x : ℕ) (m : Message) (ks : List Packet) → x < size w → ((p : ℕ) → PacketsAreWithin (length (log_of w p)) p ks) → map (packet_in (publish_at w x m)) ks ≡ map (packet_in w) ks
-cast_packets w x m [] lt h = refl
-cast_packets w x m (k ∷ ks) lt h =
-    ap (λ ls. Some (record { view = k.version; lines = ls }) ∷ map (packet_in (publish_at w x m)) ks) (cast_lines w x m k lt (λ p. (h p).0.got))
-    ∙ ap (λ xs. packet_in w k ∷ xs) (cast_packets w x m ks lt (λ p. (h p).1))
+pub cast_packets : (w : World) (x : ℕ) (m : Message) (before : Sending) (ks : List Packet) → x < size w → ((p : ℕ) → PacketsAreWithin (length (log_of w p)) p ks) → packets_in (publish_at w x m) before ks ≡ packets_in w before ks
+cast_packets w x m before [] lt h = refl
+cast_packets w x m before (k ∷ ks) lt h =
+    ap (λ ls. Some (record { view = k.version; lines = ls }) ∷ packets_in (publish_at w x m) (passed k) ks) (cast_lines w x m before k lt (λ p. (h p).0.got))
+    ∙ ap (λ xs. packet_in w before k ∷ xs) (cast_packets w x m (passed k) ks lt (λ p. (h p).1))
 
 -- ---- the parties
 
@@ -66,11 +70,11 @@ cast_goes credit w by body i d q q' loose h found st (b, casts, is, none) =
       leaves = ways_leave w w' x ways;
       post = refl;
       it = ways_stand w w' p p x (node_at q i) b (node_at q i).ends.out (node_at q i).ends.link ways refl (λ s _. refl) its a.out a.link a;
-      held = λ y ne. publish_others w x y m ne;
+      held = λ y ne. publish_others w x y m h.fit lt ne;
       told = same_phases w x (published x m (member_at w x)) q.stopped lt refl;
       outs = λ s _. refl;
       ins = λ s _. refl;
-      carry = λ s _ c. carries_still credit.initial w w' (link_at w s) (link_at w s) (p.outs s) (p.ins s) (cast_packets w x m (link_at w s).packets lt (λ r. h.fit.lawful.within.packets s r)) refl refl c;
+      carry = λ s _ c. carries_still credit.initial w w' (link_at w s) (link_at w s) (p.outs s) (p.ins s) (cast_packets w x m (link_at w s).had (link_at w s).packets lt (λ r. h.fit.lawful.within.packets s r)) refl refl c;
       rests = λ s o r. r;
       knows = λ s _. (refl, refl);
     }))

@@ -32,7 +32,7 @@ use Rattle.registrar.specs.Registry.{Registry, is_known, newest}
 use Rattle.registrar.specs.Asked.{mark_refusal, stop_refusal}
 use Rattle.registrar.specs.Stands.{StandsIn}
 use Rattle.registrar.proofs.Judged.{view_same, many_views, knows}
-use Rattle.gm_member.specs.declared.packet.Load.{Load}
+use Rattle.activity.specs.declared.packet.Load.{Load}
 use Rattle.gm_member.specs.Held.{Held, at_some, up_refused, pick_refused, refresh_refused, first_at_door}
 use Rattle.gm_member.proofs.Doors.{view_version}
 use Rattle.ring_cluster.specs.Ends.{OutSeen}

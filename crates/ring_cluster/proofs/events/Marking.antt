@@ -12,7 +12,7 @@ use Rattle.group_view.specs.Since as since
 use Rattle.ring_world.specs.Rows.{no_numbers}
 use Rattle.ring_world.specs.declared.event.Event.TheVariants.{Mark, Refresh}
 use Rattle.ring_world.specs.View.{right_of}
-use Rattle.ring_world.specs.Machine.{World, Link, numbers_at, member_at, link_at, view_in, newest, left, row_at}
+use Rattle.ring_world.specs.Machine.{World, Link, no_sending, numbers_at, member_at, link_at, view_in, newest, left, row_at}
 use Rattle.ring_world.specs.OpenLinks.{version_of, since_in, comes_from_left, is_door_link}
 use Rattle.ring_world.specs.Step.{size, log_of, next_lines, with_view}
 use Rattle.ring_world.specs.Event.{id_of, of_member, at_found, refresh_refusal, refused_at, refreshed, refusal, done_at, effect}
@@ -22,16 +22,17 @@ use Rattle.ring_world.proofs.events.Enabled.{up_none}
 use Rattle.ring_world.proofs.events.Cases.{may_look}
 use Rattle.ring_world.proofs.walks.Views.{view_old, left_old}
 use Rattle.ring_world.proofs.invariants.Happens.{IsGood, mark_good, newer_look}
-use Rattle.gm_member.specs.Parcels.{carried_now}
-use Rattle.gm_member.specs.News.{carried_in}
-use Rattle.gm_member.specs.Held.{Held, known_at, numbers_of, nothing_sent, lines_on, sends_to, refreshed_held, fresh_out as unsent_on}
+use Rattle.activity.specs.Told.{none_told}
+use Rattle.activity.specs.Diff.{next_line}
+use Rattle.gm_member.specs.Parcels.{places, known_at, told_at}
+use Rattle.gm_member.specs.Held.{Held, nothing_sent, lines_on, sends_to, refreshed_held, fresh_out as unsent_on}
 use Rattle.gm_member.specs.View.{ring_link}
 use Rattle.gm_member.specs.Shown.{When}
-use Rattle.gm_member.specs.Stands.{waits_for, held_in, lines_in}
+use Rattle.gm_member.specs.Stands.{kept_by, line_for, waits_for, held_in, lines_in}
 use Rattle.gm_member.proofs.Places.{map-range_same, tabled_at}
-use Rattle.gm_member.proofs.Parcels.{carried_same}
+use Rattle.gm_member.proofs.Knowing.{line_same}
 use Rattle.gm_member.proofs.DoorLists.{filter_agree}
-use Rattle.gm_member.proofs.Facts.{held_row}
+use Rattle.gm_member.proofs.Facts.{held_known, right_row}
 use Rattle.gm_member.proofs.Fit.{IsFit}
 use Rattle.gm_member.proofs.MarkStands.{mark_view, mark_world, mark_newest, mark_may, mark_is, view_held}
 use Rattle.gm_member.proofs.OpenDoors.{sends_right}
@@ -51,12 +52,14 @@ use Rattle.ring_cluster.proofs.events.Opens.{opens_on}
 -- ---- the first packet of a link
 
 -- its lines are the ring's
-pub first_packet : (w : World) (x i m z n k : ℕ) → IsFit w → lines_on (held_in w x).rows (unsent_on i m z n) ≡ lines_in w (record { version = k; numbers = next_lines true (member_at w x).rows [] })
+pub first_packet : (w : World) (x i m z n k : ℕ) → IsFit w → lines_on (held_in w x).known (unsent_on i m z n) ≡ lines_in w no_sending (record { version = k; numbers = next_lines true (member_at w x).rows [] })
+unfolding places
 first_packet w x i m z n k f =
-    map-range_same (λ p. carried_now true p (known_at (held_in w x).rows p) (numbers_of nothing_sent p)) (λ p. carried_in (log_of w (p + 1)) p (numbers_at (record { version = k; numbers = next_lines true (member_at w x).rows [] }) (p + 1))) 64
-    (λ p l. ap (λ r. carried_now true p r (numbers_of nothing_sent p)) (held_row w x p l)
-    ∙ ap (carried_now true p (row_at (member_at w x) (p + 1))) (tabled_at (λ (_ : ℕ). no_numbers) 64 p no_numbers l)
-    ∙ carried_same true p (log_of w (p + 1)) (row_at (member_at w x) (p + 1)) no_numbers (numbers_at (record { version = k; numbers = next_lines true (member_at w x).rows [] }) (p + 1)) (first_lines (member_at w x).rows (p + 1)) (f.heard x (p + 1)))
+    map-range_same (λ p. next_line true (p + 1) (known_at (held_in w x).known p) (told_at nothing_sent p)) (λ p. line_for true (log_of w (p + 1)) p (numbers_at (record { version = k; numbers = next_lines true (member_at w x).rows [] }) (p + 1)) no_numbers) 64
+    (λ p l. ap (λ a. next_line true (p + 1) a (told_at nothing_sent p)) (held_known w x p l)
+    ∙ ap (next_line true (p + 1) (kept_by (log_of w (p + 1)) (row_at (member_at w x) (p + 1)))) (tabled_at (λ (_ : ℕ). none_told) 64 p none_told l)
+    ∙ line_same true p (log_of w (p + 1)) (row_at (member_at w x) (p + 1)) no_numbers (right_row w x (p + 1) f) (λ e. cc)
+    ∙ ap (λ a. line_for true (log_of w (p + 1)) p a no_numbers) (sym (first_lines (member_at w x).rows (p + 1))))
 
 -- ---- one of the two ways to look
 
@@ -108,6 +111,7 @@ refresh_looking credit w x v by g g' named r = record {
   own = g.fit.own_ends;
   ends = g.fit.ends;
   initial_is = g.initial_is;
+  right = λ p. right_row w x p g.fit;
   first = first_packet w x w.initial w.more (right_of (view_in w v) x) v v g.fit;
 }
 
@@ -178,6 +182,7 @@ mark_looking credit w x d by dead g g' named there r =
       own = record { out = g.fit.own_ends.out; current = g.fit.own_ends.current };
       ends = record { ended = g.fit.ends.ended; nothing = g.fit.ends.nothing; sends = g.fit.ends.sends; takes = g.fit.ends.takes };
       initial_is = g.initial_is;
+      right = λ p. right_row w x p g.fit;
       first = first_packet w x w.initial w.more (right_of (view_in (mark_world w d) (newest w + 1)) x) (newest w + 1) (newest w + 1) g.fit;
     }
 

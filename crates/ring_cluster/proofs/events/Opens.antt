@@ -118,7 +118,7 @@ old_ends u x p loose own = by_out (member_at u x).out refl
 -- ---- the ends of links then
 
 -- the new link holds its first packet, in its out end
-new_carries : (initial : ℕ) (u u' : World) (x v : ℕ) (k : Sent) → k ≡ record { view = v; lines = lines_in u' (next_packet (moved_to u x v) no_sending) } → Carries u' initial (new_link u x v) (opened_out initial k) (fresh_in initial)
+new_carries : (initial : ℕ) (u u' : World) (x v : ℕ) (k : Sent) → k ≡ record { view = v; lines = lines_in u' no_sending (next_packet (moved_to u x v) no_sending) } → Carries u' initial (new_link u x v) (opened_out initial k) (fresh_in initial)
 new_carries initial u u' x v k e = opened_carries initial u' (new_link u x v) (Some k ∷ []) initial (ap (λ s. Some s ∷ []) e) refl refl (omega arith)
 
 -- the replaced one its end
@@ -287,7 +287,7 @@ opens_on initial u x v q b new loose k e st none eb en el = subst (λ w. StandMo
         (ap (λ (m : Shown). m.held) eb) (ap (λ (m : Shown). m.ends) eb)
         (sym (ap (option_map p'.outs) out_here ∙ ap Some (placed_same outs n o_new)))
         after.current_here
-        (λ ds. ap (λ (j : Held). record j { door = ds }) (refresh_stands u x v k.may k.good ∙ ap (λ w. held_in w x) is_opened))
+        (λ ds. ap (λ (j : Held). record j { door = ds }) (refresh_stands u x v k.may k.good k.right ∙ ap (λ w. held_in w x) is_opened))
         ins_old
         (λ s l. incoming_old u x v s l)
         (door_opens u x v x (λ s. waits_for u x s && keeps_it u x v s)
@@ -328,11 +328,11 @@ opens_on initial u x v q b new loose k e st none eb en el = subst (λ w. StandMo
             let no : (member_at u x).out ≡ Some s → ⊥ = λ o. false≢true (sym j ∙ ap (λ c. is_place c s) o ∙ nat_eq-same s) in
             subst (λ t. Carries u' initial t (outs s) (p.ins s)) (sym (link_was u x v s no l)) (subst (λ t. Carries u' initial (link_at u s) t (p.ins s)) (sym (old.1.same s no)) was)
 
-    sent_is : first_sent a (view_in u v) ≡ record { view = v; lines = lines_in u' (next_packet (moved_to u x v) no_sending) }
+    sent_is : first_sent a (view_in u v) ≡ record { view = v; lines = lines_in u' no_sending (next_packet (moved_to u x v) no_sending) }
     sent_is =
-        ap (λ (j : Held). sent_of (parcel_on (view_in u v).version j.rows (unsent_on j.initial j.more (right_of (view_in u v) j.id) (view_in u v).version))) held_at
-        ∙ ap (λ i. record { view = i; lines = lines_on (held_in u x).rows (unsent_on u.initial u.more (right_of (view_in u v) x) (view_in u v).version) }) numbered
-        ∙ ap (λ ls. record { view = v; lines = ls }) (k.first ∙ sym (same_lines u u' (next_packet (moved_to u x v) no_sending) after.logs))
+        ap (λ (j : Held). sent_of (parcel_on (view_in u v).version j.known (unsent_on j.initial j.more (right_of (view_in u v) j.id) (view_in u v).version))) held_at
+        ∙ ap (λ i. record { view = i; lines = lines_on (held_in u x).known (unsent_on u.initial u.more (right_of (view_in u v) x) (view_in u v).version) }) numbered
+        ∙ ap (λ ls. record { view = v; lines = ls }) (k.first ∙ sym (same_lines u u' no_sending (next_packet (moved_to u x v) no_sending) after.logs))
 
     initial_at : a.held.initial ≡ initial
     initial_at = ap (λ (j : Held). j.initial) held_at ∙ k.initial_is

@@ -158,7 +158,7 @@ pick_goes credit w by i d q q' loose h enabled found nobody st (b, (j, first, eb
       leaves = pick_leaves w x s lt none here;
       post = refl;
       it = pick_it w p x j (node_at q i) b credit h lt none first_in empty a eb;
-      held = λ y ne. sym (member_others w x y (with_current (Some s) (member_at w x)) ne);
+      held = λ y ne. sym (member_others w x y (with_current (Some s) (member_at w x)) refl ne);
       told = same_phases w x (with_current (Some s) (member_at w x)) q.stopped lt refl;
       outs = λ t _. refl;
       ins = λ t _. refl;

@@ -1,19 +1,20 @@
 -- Where a member has put a packet, the parties stand in the state after the ring's put.
-use Rattle.std.proofs.Common.{◌≡◌, ℕ, ◌+◌, ◌<◌, ◌≤◌, List, [], ◌∷◌, ◌++◌, map, Option, Some, None, is_some, refl, sym, ap, subst, ◌∙◌, arith, append-nil, false}
-use Rattle.std.proofs.lemmas.List.{map-append}
+use Rattle.std.proofs.Common.{◌≡◌, ℕ, ◌+◌, ◌<◌, ◌≤◌, List, [], ◌∷◌, ◌++◌, Option, Some, None, is_some, refl, sym, ap, subst, ◌∙◌, arith, append-nil, false}
 use Rattle.ring_names.specs.declared.numbers.CreditSpec.{CreditSpec}
 use Rattle.group_view.specs.declared.link.LinkName.{LinkName}
 use Rattle.ring_world.specs.declared.event.Event.TheVariants.{Put}
 use Rattle.ring_world.specs.Machine.{World, Packet, Link, member_at, link_at}
+use Rattle.ring_world.specs.Compact.{before_next}
+use Rattle.ring_world.specs.declared.phase.Phase.TheVariants.{Up}
 use Rattle.ring_world.specs.Step.{size, pushed}
 use Rattle.ring_world.specs.Event.{id_of, put_refusal, refusal, effect}
-use Rattle.gm_member.specs.Parcels.{Parcel}
+use Rattle.gm_member.specs.Parcels.{ByOrigin}
 use Rattle.gm_member.specs.Held.{Held, Outgoing, put_held, parcel_on}
 use Rattle.gm_member.specs.Stands.{held_in, outgoing_in, StandsFor}
 use Rattle.gm_member.proofs.Fit.{IsFit}
 use Rattle.gm_member.proofs.PutStands.{leaving, put_stands, put_packet}
 use Rattle.gm_member.proofs.Others.{put_others}
-use Rattle.ring_cluster.specs.Ends.{Sent, OutSeen, InSeen, packet_in, end_items, Carries}
+use Rattle.ring_cluster.specs.Ends.{Sent, OutSeen, InSeen, packet_in, packets_in, end_items, Carries}
 use Rattle.ring_cluster.specs.Parties.{Shown, Parties, node_at}
 use Rattle.ring_cluster.specs.Standing.{Places, MemberStands, Stand}
 use Rattle.ring_cluster.specs.Acting.{sent_of, Acts, ActsOut}
@@ -21,28 +22,29 @@ use Rattle.ring_cluster.proofs.work.Lawful.{IsLawfulAt}
 use Rattle.ring_cluster.proofs.meetings.NamedLinks.{out_unended}
 use Rattle.ring_cluster.proofs.events.OneEvent.{made_of, stands_at, held_but_door}
 use Rattle.ring_cluster.proofs.events.Steps.{OnOut, on_out, goes_out}
-use Rattle.ring_cluster.proofs.standing.Frames.{StandMoved, acts_carries}
+use Rattle.ring_cluster.proofs.standing.Frames.{StandMoved, acts_carries, packets_push}
 
 -- ---- one link
 
-pub put_carries : (initial : ℕ) (w : World) (l : Link) (o o' : OutSeen) (n : InSeen) (k : Sent) (packet : Packet) → l.ending ≡ None → Some k ≡ packet_in w packet → ActsOut (Some k ∷ []) [] false o o' → Carries w initial l o n → Carries w initial (pushed l packet) o' n
-put_carries initial w l o o' n k packet goes_on e t =
+pub put_carries : (initial : ℕ) (w : World) (l : Link) (o o' : OutSeen) (n : InSeen) (k : Sent) (packet : Packet) → l.ending ≡ None → before_next l.had l.packets ≡ l.sending → Some k ≡ packet_in w l.sending packet → ActsOut (Some k ∷ []) [] false o o' → Carries w initial l o n → Carries w initial (pushed l packet) o' n
+put_carries initial w l o o' n k packet goes_on behind e t =
     acts_carries initial w l (pushed l packet) o o' n (Some k ∷ []) false t
-    (ap (λ g. (map (packet_in w) l.packets ++ end_items g) ++ Some k ∷ []) goes_on
-    ∙ ap (λ xs. xs ++ Some k ∷ []) (append-nil (map (packet_in w) l.packets))
-    ∙ ap (λ x. map (packet_in w) l.packets ++ x ∷ []) e
-    ∙ sym (map-append (packet_in w) l.packets (packet ∷ []))
-    ∙ sym (append-nil (map (packet_in w) (l.packets ++ packet ∷ [])))
-    ∙ ap (λ g. map (packet_in w) (l.packets ++ packet ∷ []) ++ end_items g) (sym goes_on))
+    (ap (λ g. (packets_in w l.had l.packets ++ end_items g) ++ Some k ∷ []) goes_on
+    ∙ ap (λ xs. xs ++ Some k ∷ []) (append-nil (packets_in w l.had l.packets))
+    ∙ ap (λ x. packets_in w l.had l.packets ++ x ∷ []) e
+    ∙ ap (λ b. packets_in w l.had l.packets ++ packet_in w b packet ∷ []) (sym behind)
+    ∙ sym (packets_push w l.had l.packets packet)
+    ∙ sym (append-nil (packets_in w l.had (l.packets ++ packet ∷ [])))
+    ∙ ap (λ g. packets_in w l.had (l.packets ++ packet ∷ []) ++ end_items g) (sym goes_on))
     refl (sym (ap is_some goes_on))
 
 -- the packet that the member puts stands for that of the ring
-put_sent : (w : World) (x s : ℕ) (g : Held) (out : Outgoing) → IsFit w → 1 ≤ x → x < size w → g ≡ record (held_in w x) { door = g.door } → outgoing_in w s ≡ out → Some (sent_of (parcel_on g.view.version g.rows out)) ≡ packet_in w (leaving w x s)
-put_sent w x s g out f some lt e is =
-    let k : Parcel = parcel_on (held_in w x).view.version (held_in w x).rows (outgoing_in w s) in
-    let stands : StandsFor w k (leaving w x s) = put_packet w x s f some lt in
-    ap (λ (a : Held). Some (sent_of (parcel_on a.view.version a.rows out))) e
-    ∙ ap (λ a. Some (sent_of (parcel_on (held_in w x).view.version (held_in w x).rows a))) (sym is)
+put_sent : (w : World) (x s : ℕ) (g : Held) (out : Outgoing) → IsFit w → 1 ≤ x → x < size w → (member_at w x).phase ≡ Up → (member_at w x).out ≡ Some s → g ≡ record (held_in w x) { door = g.door } → outgoing_in w s ≡ out → Some (sent_of (parcel_on g.view.version g.known out)) ≡ packet_in w (link_at w s).sending (leaving w x s)
+put_sent w x s g out f some lt up sends e is =
+    let k : ByOrigin = parcel_on (held_in w x).view.version (held_in w x).known (outgoing_in w s) in
+    let stands : StandsFor w (link_at w s).sending k (leaving w x s) = put_packet w x s f some lt up sends in
+    ap (λ (a : Held). Some (sent_of (parcel_on a.view.version a.known out))) e
+    ∙ ap (λ a. Some (sent_of (parcel_on (held_in w x).view.version (held_in w x).known a))) (sym is)
     ∙ ap (λ v. Some (record { view = v; lines = k.lines })) stands.view
     ∙ ap (λ ls. Some (record { view = (leaving w x s).version; lines = ls })) stands.lines
 
@@ -59,8 +61,8 @@ put_goes credit w by i d q q' loose h enabled found st (b, (out, o, o', held_out
     let same_held : m.held ≡ record (held_in w x) { door = m.held.door } = held_but_door w p x m a in
     let same_outgoing : outgoing_in w s ≡ out = made_of (outgoing_in w) (member_at w x).out s out on.is (sym (ap (λ (g : Held). g.out) same_held) ∙ held_out) in
     let same_end : p.outs s ≡ o = made_of p.outs (member_at w x).out s o on.is (sym a.out ∙ ends_out) in
-    let k : Sent = sent_of (parcel_on m.held.view.version m.held.rows out) in
-    let its : Some k ≡ packet_in w (leaving w x s) = put_sent w x s m.held out h.fit (omega arith) on.is_member same_held same_outgoing in
+    let k : Sent = sent_of (parcel_on m.held.view.version m.held.known out) in
+    let its : Some k ≡ packet_in w (link_at w s).sending (leaving w x s) = put_sent w x s m.held out h.fit (omega arith) on.is_member on.up on.is same_held same_outgoing in
     goes_out credit w (effect w (Put by)) q q' i loose (λ t. pushed (link_at w t) (leaving w x t)) o' b st h on refl is none (λ y ne. put_others w x s y h.fit on.is ne)
     (record {
       does = λ (g : Held). put_held g;
@@ -68,4 +70,4 @@ put_goes credit w by i d q q' loose h enabled found st (b, (out, o, o', held_out
       stands = put_stands w x s h.fit (omega arith) on.is_member on.is;
       is = eb;
     })
-    (put_carries credit.initial w (link_at w s) (p.outs s) o' (p.ins s) k (leaving w x s) (out_unended credit w x s h on.run on.is) its (subst (λ e. ActsOut (Some k ∷ []) [] false e o') (sym same_end) puts))
+    (put_carries credit.initial w (link_at w s) (p.outs s) o' (p.ins s) k (leaving w x s) (out_unended credit w x s h on.run on.is) (h.fit.lawful.compact.before s) its (subst (λ e. ActsOut (Some k ∷ []) [] false e o') (sym same_end) puts))

@@ -18,7 +18,7 @@ use Rattle.registrar.specs.Registry.{Registry}
 use Rattle.registrar.specs.Asked.{is_left, mark_refusal, waits_from, since_in}
 use Rattle.registrar.specs.Stands.{StandsIn}
 use Rattle.registrar.proofs.Judged.{view_same}
-use Rattle.gm_member.specs.declared.packet.Load.{Load}
+use Rattle.activity.specs.declared.packet.Load.{Load}
 use Rattle.gm_member.specs.Held.{Held, up_refused, pick_refused, collected_held}
 use Rattle.gm_member.specs.Questions.{has_link}
 use Rattle.gm_member.specs.Stands.{held_in}

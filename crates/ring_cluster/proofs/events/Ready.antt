@@ -1,18 +1,19 @@
 -- A member of a cluster whose ends have met is ready for its calls.
-use Rattle.std.proofs.Common.{◌≡◌, ℕ, ◌+◌, ◌-◌, ◌<◌, ◌≤◌, Bool, true, false, List, [], ◌∷◌, ◌++◌, length, map, sum, Option, Some, None, is_some, refl, sym, ap, subst, ◌∙◌, arith, append-nil}
+use Rattle.std.proofs.Common.{◌≡◌, ℕ, ◌+◌, ◌-◌, ◌<◌, ◌≤◌, Bool, true, false, List, [], ◌∷◌, ◌++◌, length, sum, Option, Some, None, is_some, refl, sym, ap, subst, ◌∙◌, arith, append-nil}
 use Rattle.std.specs.Prelude.{option_map, MatchOption, ⊤}
-use Rattle.std.proofs.lemmas.List.{length-append, length-map}
+use Rattle.std.proofs.lemmas.List.{length-append}
 use Rattle.ring_names.specs.declared.numbers.CreditSpec.{CreditSpec}
 use Rattle.ring_world.specs.declared.phase.Ending.{Ending}
-use Rattle.ring_world.specs.Machine.{World, Packet, member_at, link_at, runs, runs_phase}
+use Rattle.ring_world.specs.Machine.{World, Packet, Sending, member_at, link_at, runs, runs_phase}
 use Rattle.ring_world.specs.Step.{size}
 use Rattle.ring_world.proofs.runs.LinkCredit.{LinkIsKept}
 use Rattle.gm_member.specs.Held.{Held, Outgoing, Incoming}
 use Rattle.gm_member.specs.Stands.{held_in, outgoing_in, incoming_in}
-use Rattle.ring_cluster.specs.Ends.{Sent, OutSeen, InSeen, packet_in, end_items, items_in, Carries, HaveMet}
+use Rattle.ring_cluster.specs.Ends.{Sent, OutSeen, InSeen, packets_in, end_items, items_in, Carries, HaveMet}
 use Rattle.ring_cluster.specs.Parties.{Parties, node_at}
 use Rattle.ring_cluster.specs.Standing.{Places, MemberStands, StandIn, Stand, AllHaveMet, HaveDone, has_in, has_out}
 use Rattle.ring_cluster.specs.Acting.{IsReady}
+use Rattle.ring_cluster.proofs.standing.Frames.{packets_many}
 use Rattle.ring_cluster.proofs.work.Lawful.{IsLawfulAt}
 use Rattle.ring_cluster.proofs.meetings.NamedLinks.{out_unended, out_is_open, out_has, current_has}
 use Rattle.ring_cluster.proofs.events.OneEvent.{met_both, held_but_door}
@@ -41,23 +42,23 @@ settled_items initial w s o n k c = sym (append-nil n.items) ∙ ap (λ xs. n.it
 -- a packet for which there is credit has a slot
 out_room : (credit : CreditSpec) (w : World) (s : ℕ) (o : OutSeen) (n : InSeen) → LinkIsKept credit.initial credit.more (link_at w s) → (link_at w s).ending ≡ None → HaveMet o n → Carries w credit.initial (link_at w s) o n → 0 < (link_at w s).flow.sender.credit → 1 < o.free
 out_room credit w s o n kept goes_on met c some =
-    let items : n.items ≡ map (packet_in w) (link_at w s).packets =
-    settled_items credit.initial w s o n (settled true o n met) c ∙ ap (λ e. map (packet_in w) (link_at w s).packets ++ end_items e) goes_on ∙ append-nil (map (packet_in w) (link_at w s).packets) in
-    let many : length n.items ≡ length (link_at w s).packets = ap length items ∙ length-map (link_at w s).packets (packet_in w) in
+    let items : n.items ≡ packets_in w (link_at w s).had (link_at w s).packets =
+    settled_items credit.initial w s o n (settled true o n met) c ∙ ap (λ e. packets_in w (link_at w s).had (link_at w s).packets ++ end_items e) goes_on ∙ append-nil (packets_in w (link_at w s).had (link_at w s).packets) in
+    let many : length n.items ≡ length (link_at w s).packets = ap length items ∙ packets_many w (link_at w s).had (link_at w s).packets in
     omega (arith, many, met.free, c.initial, kept.kept.kept, some)
 
 -- ---- the link from which it takes
 
 -- where a packet is first there is one
-first_is_packet : (w : World) (ks : List Packet) (e : Option Ending) (k : Sent) (rest : List (Option Sent)) → map (packet_in w) ks ++ end_items e ≡ Some k ∷ rest → 0 < length ks
-first_is_packet w [] None k rest h = cc
-first_is_packet w [] (Some why) k rest h = cc
-first_is_packet w (x ∷ ks) e k rest h = omega arith
+first_is_packet : (w : World) (before : Sending) (ks : List Packet) (e : Option Ending) (k : Sent) (rest : List (Option Sent)) → packets_in w before ks ++ end_items e ≡ Some k ∷ rest → 0 < length ks
+first_is_packet w before [] None k rest h = cc
+first_is_packet w before [] (Some why) k rest h = cc
+first_is_packet w before (x ∷ ks) e k rest h = omega arith
 
 -- the grant that it may bring has a slot
 in_room : (credit : CreditSpec) (w : World) (s : ℕ) (o : OutSeen) (n : InSeen) → LinkIsKept credit.initial credit.more (link_at w s) → length (link_at w s).flow.grants ≤ sum (link_at w s).flow.grants → Settled o n → Carries w credit.initial (link_at w s) o n → (k : Sent) (rest : List (Option Sent)) → n.items ≡ Some k ∷ rest → 0 < n.free
 in_room credit w s o n kept few k0 c k rest first =
-    let some : 0 < length (link_at w s).packets = first_is_packet w (link_at w s).packets (link_at w s).ending k rest (sym (settled_items credit.initial w s o n k0 c) ∙ first) in
+    let some : 0 < length (link_at w s).packets = first_is_packet w (link_at w s).had (link_at w s).packets (link_at w s).ending k rest (sym (settled_items credit.initial w s o n k0 c) ∙ first) in
     let grants : length o.back + length n.given ≡ length (link_at w s).flow.grants = sym (length-append o.back n.given) ∙ ap length c.grants in
     omega (arith, some, grants, kept.kept.kept, few, k0.room, c.fits.initial, c.initial)
 

@@ -21,7 +21,7 @@ use Rattle.gm_member.proofs.DoorParts.{waits_by, member_same, member_other}
 use Rattle.gm_member.proofs.OpenDoors.{sends_right, refresh_looks}
 use Rattle.gm_member.proofs.Others.{member_others}
 use Rattle.ring_world.proofs.work.OwnEnds.{OwnEnds}
-use Rattle.gm_member.proofs.RefreshStands.{door_stays, refresh_stands}
+use Rattle.gm_member.proofs.RefreshStands.{RowsAreRight, door_stays, refresh_stands}
 use Rattle.ring_cluster.specs.Parties.{Shown, Parties, node_at, with_node}
 use Rattle.ring_cluster.specs.Standing.{Places, MemberStands, Stand, HaveDone, is_to, has_out, has_in}
 use Rattle.ring_cluster.specs.Acting.{looked_ends, waits_at}
@@ -44,7 +44,8 @@ pub record IsLooking (initial : ℕ) (u : World) (x v : ℕ) : Type 0 where
   pub own : OwnEnds u
   pub ends : EndsRight u
   pub initial_is : u.initial ≡ initial
-  pub first : lines_on (held_in u x).rows (unsent_on u.initial u.more (right_of (view_in u v) x) v) ≡ lines_in u (next_packet (moved_to u x v) no_sending)
+  pub right : RowsAreRight u x
+  pub first : lines_on (held_in u x).known (unsent_on u.initial u.more (right_of (view_in u v) x) v) ≡ lines_in u no_sending (next_packet (moved_to u x v) no_sending)
 
 -- whether a link stays at x's door
 abbrev pub keeps_it : World → ℕ → ℕ → ℕ → Bool
@@ -124,7 +125,7 @@ looks_on initial u x v q b k e st none eb = subst (λ w. StandMoved initial x w 
     count = (let same : length (set q.nodes (x - 1) b) ≡ length q.nodes = length-set q.nodes (x - 1) b in let many : length (set u.members x (moved_to u x v)) ≡ size u = length-set u.members x (moved_to u x v) in omega (arith, same, many, st.stand.count));
     each = λ z c m. each_set u u' q p p x b st.stand.count k.some k.may.is_member mine
         (λ y c2 m2 ne. beholder u u' p p y (node_at q (y - 1)) k.own (st.stand.each y c2 m2) (after.out_other y ne) (after.current_other y ne)
-        (λ ds. ap (λ (h : Held). record h { door = ds }) (sym (member_others u x y (moved_to u x v) ne)))
+        (λ ds. ap (λ (h : Held). record h { door = ds }) (sym (member_others u x y (moved_to u x v) refl ne)))
         (λ s o. refl) (λ s l. refl) (λ s l. refl)
         (λ ds d. filter_agree (waits_for u' y) (waits_for u y) 0 (length u.links) (λ s a b2. after.waits_other y s ne (omega arith)) ∙ d))
         z c (let many : length (set u.members x (moved_to u x v)) ≡ size u = length-set u.members x (moved_to u x v) in omega (arith, m, many));
@@ -167,7 +168,7 @@ looks_on initial u x v q b k e st none eb = subst (λ w. StandMoved initial x w 
         (ap (λ (m : Shown). m.held) eb) (ap (λ (m : Shown). m.ends) eb)
         ((st.stand.each x k.some k.may.is_member).out ∙ ap (option_map p.outs) (sym out_here))
         after.current_here
-        (λ ds. ap (λ (h : Held). record h { door = ds }) (refresh_stands u x v k.may k.good ∙ ap (λ w. held_in w x) (refresh_looks u x v e)))
+        (λ ds. ap (λ (h : Held). record h { door = ds }) (refresh_stands u x v k.may k.good k.right ∙ ap (λ w. held_in w x) (refresh_looks u x v e)))
         (λ s l. refl) (λ s l. refl)
         (filter_agree (waits_for u' x) (λ s. waits_for u x s && keeps_it u x v s) 0 (length u.links) (λ s i j. after.waits_here s (omega arith))
         ∙ sym (filter_both (waits_for u x) (keeps_it u x v) (range_with_len 0 (length u.links)))

@@ -1,5 +1,5 @@
 -- What a member of a cluster whose ends have met refuses, the ring refuses, for the same reason.
-use Rattle.std.proofs.Common.{◌≡◌, ℕ, ◌-◌, ◌<◌, ◌≤◌, true, List, [], ◌∷◌, ◌++◌, length, map, Option, Some, None, is_some, refl, sym, ap, ◌∙◌, append-nil}
+use Rattle.std.proofs.Common.{◌≡◌, ℕ, ◌-◌, ◌<◌, ◌≤◌, true, List, [], ◌∷◌, ◌++◌, length, Option, Some, None, is_some, refl, sym, ap, ◌∙◌, append-nil}
 use Rattle.std.proofs.lemmas.Option.{none-some}
 use Rattle.std.specs.Prelude.{option_map, slice_index_or}
 use Rattle.ring_names.specs.declared.message.Message.TheVariants as message
@@ -20,7 +20,7 @@ use Rattle.gm_member.proofs.Facts.{version_is}
 use Rattle.gm_member.proofs.TakeStands.{nothing_to_take, no_end_to_take, end_is_next, end_may, packet_is_next, packet_by_version}
 use Rattle.gm_member.proofs.PickStands.{pick_refuses}
 use Rattle.gm_member.proofs.Refusals.{publish_refusal_is, put_refusal_is, stop_refusal_is, take_refusal_is, end_refusal_is}
-use Rattle.ring_cluster.specs.Ends.{packet_in, end_items, items_in, Carries, HaveMet}
+use Rattle.ring_cluster.specs.Ends.{packets_in, end_items, items_in, Carries, HaveMet}
 use Rattle.ring_cluster.specs.Parties.{Shown, Parties, node_at}
 use Rattle.ring_cluster.specs.Standing.{Places, MemberStands, StandIn, Stand, AllHaveMet, has_in, has_out}
 use Rattle.ring_cluster.specs.Acting.{first_item, items_refused, end_refused, back_of, packet_refused, link_end_refused, grant_refused, stop_refused}
@@ -35,14 +35,14 @@ use Rattle.ring_cluster.proofs.events.Ready.{all_settled, settled_items}
 -- ---- what stands first on a link
 
 -- by its items, why no packet is taken
-taken_by_items : (w : World) (y s have : ℕ) (ks : List Packet) (e : Option Ending) → (link_at w s).packets ≡ ks → (link_at w s).ending ≡ e → have ≡ (member_at w y).version → take_refusal w y s ≡ items_refused have (map (packet_in w) ks ++ end_items e)
+taken_by_items : (w : World) (y s have : ℕ) (ks : List Packet) (e : Option Ending) → (link_at w s).packets ≡ ks → (link_at w s).ending ≡ e → have ≡ (member_at w y).version → take_refusal w y s ≡ items_refused have (packets_in w (link_at w s).had ks ++ end_items e)
 taken_by_items w y s have [] None ek ee ev = nothing_to_take w y s ek ee
 taken_by_items w y s have [] (Some why) ek ee ev = end_is_next w y s ek (λ k. none-some why (sym k ∙ ee))
 taken_by_items w y s have (k ∷ ks) e ek ee ev =
     packet_by_version w y s (ap is_empty ek) ∙ ap (λ ps. version_refusal (slice_index_or ps 0 no_packet).version (member_at w y).version) ek ∙ ap (version_refusal k.version) (sym ev)
 
 -- and why no end
-ended_by_items : (w : World) (s : ℕ) (ks : List Packet) (e : Option Ending) → (link_at w s).packets ≡ ks → (link_at w s).ending ≡ e → end_refusal w s ≡ end_refused (map (packet_in w) ks ++ end_items e)
+ended_by_items : (w : World) (s : ℕ) (ks : List Packet) (e : Option Ending) → (link_at w s).packets ≡ ks → (link_at w s).ending ≡ e → end_refusal w s ≡ end_refused (packets_in w (link_at w s).had ks ++ end_items e)
 ended_by_items w s [] None ek ee = no_end_to_take w s ek ee
 ended_by_items w s [] (Some why) ek ee = end_may w s ek (λ k. none-some why (sym k ∙ ee))
 ended_by_items w s (k ∷ ks) e ek ee = packet_is_next w s (ap is_empty ek)

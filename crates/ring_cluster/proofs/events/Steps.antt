@@ -10,6 +10,7 @@ use Rattle.group_view.specs.declared.link.LinkName.{LinkName}
 use Rattle.group_view.specs.Ring.{is_in}
 use Rattle.group_view.proofs.Rings.{in_head, in_tail, head_differs}
 use Rattle.ring_world.specs.Machine.{World, Link, Member, no_link, member_at, link_at, runs, runs_phase}
+use Rattle.ring_world.specs.declared.phase.Phase.TheVariants.{Up}
 use Rattle.ring_world.specs.Step.{size, log_of, with_member}
 use Rattle.ring_world.specs.Event.{id_of, of_member, up_refusal, on_link, at_found, is_stopped}
 use Rattle.ring_world.proofs.events.Enabled.{up_phase, up_later}
@@ -51,6 +52,7 @@ pub record OnOut (w w' : World) (x : ℕ) (becomes : ℕ → Link) : Type 0 wher
   pub is : (member_at w x).out ≡ Some link
   pub is_member : x < size w
   pub within : link < length w.links
+  pub up : (member_at w x).phase ≡ Up
   pub run : runs w x ≡ true
   pub so : w' ≡ sends_in w w.members link (becomes link)
 
@@ -64,6 +66,7 @@ on_out credit w by x later becomes h enabled found =
       is = there.1;
       is_member = (id_within w by x found).1;
       within = (h.fit.own_ends.out x there.0 there.1).0;
+      up = up_phase w x _ acts;
       run = ap runs_phase (up_phase w x _ acts);
       so = found_does (id_of w by) x w (λ y. at_found (member_at w y).out w (λ s. sends_in w w.members s (becomes y s))) found ∙ found_does (member_at w x).out there.0 w (λ s. sends_in w w.members s (becomes x s)) there.1;
     }

@@ -1,5 +1,5 @@
 -- Where a member has taken a packet, the parties stand in the state after the ring's take.
-use Rattle.std.proofs.Common.{◌≡◌, ◌≢◌, ℕ, ◌+◌, ◌<◌, false, List, [], ◌∷◌, ◌++◌, length, map, drop, get_or, Option, Some, None, refl, sym, ap, subst, ◌∙◌, ⊎_elim, arith}
+use Rattle.std.proofs.Common.{◌≡◌, ◌≢◌, ℕ, ◌+◌, ◌<◌, false, List, [], ◌∷◌, ◌++◌, length, drop, get_or, Option, Some, None, refl, sym, ap, subst, ◌∙◌, ⊎_elim, arith}
 use Rattle.std.specs.Prelude.{option_map}
 use Rattle.std.proofs.lemmas.Bool.{false≢true, cases_eq}
 use Rattle.std.proofs.lemmas.List.{get_or-set_same, get_or-set_other}
@@ -11,19 +11,20 @@ use Rattle.group_view.specs.declared.link.LinkName.{LinkName}
 use Rattle.ring_world.specs.declared.event.Event.TheVariants.{Take}
 use Rattle.ring_world.specs.declared.phase.Phase.TheVariants.{Up}
 use Rattle.ring_world.specs.Refusal.{is_empty}
-use Rattle.ring_world.specs.Machine.{World, Packet, Link, no_link, no_packet, member_at, link_at, oldest}
+use Rattle.ring_world.specs.Machine.{World, Packet, Sending, Link, no_link, no_packet, member_at, link_at, oldest}
+use Rattle.ring_world.specs.Compact.{passed}
 use Rattle.ring_world.specs.Step.{size, with_member, taker, popped, take_from}
 use Rattle.ring_world.specs.Event.{id_of, running_refusal, on_link, take_refusal, holds_nothing, at_found, taken_by, refusal, effect}
 use Rattle.ring_world.proofs.events.Enabled.{running_phase, running_later, take_effect}
 use Rattle.ring_world.proofs.runs.OwnLogs.{take_log}
 use Rattle.ring_world.proofs.events.Refusals.{id_within, none_of, not_less}
-use Rattle.gm_member.specs.Parcels.{Parcel}
+use Rattle.gm_member.specs.Parcels.{ByOrigin}
 use Rattle.gm_member.specs.Held.{Held, Incoming, at_some, took_from, took_held}
 use Rattle.gm_member.specs.Stands.{incoming_in, lines_in, waits_for}
 use Rattle.gm_member.proofs.Parts.{current_waits_not}
 use Rattle.gm_member.proofs.TakeStands.{TakesFrom, take_stands}
 use Rattle.gm_member.proofs.Others.{take_others}
-use Rattle.ring_cluster.specs.Ends.{Sent, OutSeen, InSeen, packet_in, end_items, Carries, HasRested}
+use Rattle.ring_cluster.specs.Ends.{Sent, OutSeen, InSeen, packet_in, packets_in, end_items, Carries, HasRested}
 use Rattle.ring_cluster.specs.Parties.{Shown, Parties, node_at, with_node}
 use Rattle.ring_cluster.specs.Standing.{Places, MemberStands, Stand}
 use Rattle.ring_cluster.specs.Acting.{sent_of, due_of, TakesIn, Acts}
@@ -40,15 +41,15 @@ use Rattle.ring_cluster.proofs.events.Steps.{goes_so, ways_leave, same_phases, c
 -- ---- one link
 
 -- what stands behind the first packet
-drop_first : (w : World) (ks : List Packet) (es : List (Option Sent)) → is_empty ks ≡ false → drop 1 (map (packet_in w) ks ++ es) ≡ map (packet_in w) (drop 1 ks) ++ es
-drop_first w [] es e = absurd (false≢true (sym e))
-drop_first w (k ∷ ks) es e = refl
+drop_first : (w : World) (before : Sending) (ks : List Packet) (es : List (Option Sent)) → is_empty ks ≡ false → drop 1 (packets_in w before ks ++ es) ≡ packets_in w (passed (get_or ks 0 no_packet)) (drop 1 ks) ++ es
+drop_first w before [] es e = absurd (false≢true (sym e))
+drop_first w before (k ∷ ks) es e = refl
 
 pub take_carries : (initial : ℕ) (w : World) (l : Link) (o : OutSeen) (n n' : InSeen) (k : Sent) (due : Option ℕ) → is_empty l.packets ≡ false → due ≡ grant_due l.flow.receiver → TakesIn due n k n' → Carries w initial l o n → Carries w initial (popped l) o n'
 take_carries initial w l o n n' k due some ed t c =
     let one_less : length n.items ≡ length n'.items + 1 = omega (arith, ap length t.items) in
     record {
-      items = ap (λ xs. drop 1 (xs ++ o.waiting)) (sym t.items) ∙ ap (drop 1) c.items ∙ drop_first w l.packets (end_items l.ending) some;
+      items = ap (λ xs. drop 1 (xs ++ o.waiting)) (sym t.items) ∙ ap (drop 1) c.items ∙ drop_first w l.had l.packets (end_items l.ending) some;
       grants =
           ap (λ xs. o.back ++ xs) t.given ∙ append-with_grant o.back n.given due ∙ ap (λ xs. with_grant xs due) c.grants
           ∙ ap (with_grant l.flow.grants) ed;
@@ -59,15 +60,15 @@ take_carries initial w l o n n' k due some ed t c =
     }
 
 -- the packet that is taken is the oldest
-first_packet : (w : World) (ks : List Packet) (es : List (Option Sent)) (k : Sent) (xs : List (Option Sent)) → is_empty ks ≡ false → Some k ∷ xs ≡ map (packet_in w) ks ++ es → k.lines ≡ lines_in w (get_or ks 0 no_packet)
-first_packet w [] es k xs some e = absurd (false≢true (sym some))
-first_packet w (packet ∷ ks) es k xs some e =
-    let both : Some k ≡ packet_in w packet = cc in
-    let same : k ≡ record { view = packet.version; lines = lines_in w packet } = cc in
+first_packet : (w : World) (before : Sending) (ks : List Packet) (es : List (Option Sent)) (k : Sent) (xs : List (Option Sent)) → is_empty ks ≡ false → Some k ∷ xs ≡ packets_in w before ks ++ es → k.lines ≡ lines_in w before (get_or ks 0 no_packet)
+first_packet w before [] es k xs some e = absurd (false≢true (sym some))
+first_packet w before (packet ∷ ks) es k xs some e =
+    let both : Some k ≡ packet_in w before packet = cc in
+    let same : k ≡ record { view = packet.version; lines = lines_in w before packet } = cc in
     ap (λ (a : Sent). a.lines) same
 
-pub take_lines : (initial : ℕ) (w : World) (s : ℕ) (o : OutSeen) (n n' : InSeen) (k : Sent) (due : Option ℕ) → is_empty (link_at w s).packets ≡ false → TakesIn due n k n' → Carries w initial (link_at w s) o n → k.lines ≡ lines_in w (oldest (link_at w s))
-take_lines initial w s o n n' k due some t c = first_packet w (link_at w s).packets (end_items (link_at w s).ending) k (n'.items ++ o.waiting) some (ap (λ xs. xs ++ o.waiting) (sym t.items) ∙ c.items)
+pub take_lines : (initial : ℕ) (w : World) (s : ℕ) (o : OutSeen) (n n' : InSeen) (k : Sent) (due : Option ℕ) → is_empty (link_at w s).packets ≡ false → TakesIn due n k n' → Carries w initial (link_at w s) o n → k.lines ≡ lines_in w (link_at w s).had (oldest (link_at w s))
+take_lines initial w s o n n' k due some t c = first_packet w (link_at w s).had (link_at w s).packets (end_items (link_at w s).ending) k (n'.items ++ o.waiting) some (ap (λ xs. xs ++ o.waiting) (sym t.items) ∙ c.items)
 
 -- the receiver rests as it did
 pub take_rested : (o : OutSeen) (n n' : InSeen) (k : Sent) (due : Option ℕ) → TakesIn due n k n' → HasRested o n → HasRested o n'
@@ -75,7 +76,7 @@ take_rested o n n' k due t r = record { moved = r.moved; room = omega (arith, r.
 
 -- ---- what the member holds
 
-took_door : (g : Held) (ds : List Incoming) (k : Parcel) → took_held (record g { door = ds }) k ≡ record (took_held g k) { door = ds }
+took_door : (g : Held) (ds : List Incoming) (k : ByOrigin) → took_held (record g { door = ds }) k ≡ record (took_held g k) { door = ds }
 took_door g ds k = by_current g.current
   where
     by_current : (c : Option Incoming) → at_some c (record g { door = ds }) (took_from (record g { door = ds }) k) ≡ record (at_some c g (took_from g k)) { door = ds }
@@ -90,7 +91,7 @@ take_ways w x s lt sl =
     ways_both w w1 (take_from w x s) (member_ways w x (taker w x s) lt refl refl refl) (link_ways w1 s (popped (link_at w s)) sl refl)
 
 -- the end of the link s from which x takes shows something else
-take_steps : (credit : CreditSpec) (w : World) (i s : ℕ) (q : Parties) (b : Shown) (n : InSeen) (k : Parcel) (st : Stand credit.initial w q) → IsLawfulAt credit w → TakesFrom w (i + 1) s
+take_steps : (credit : CreditSpec) (w : World) (i s : ℕ) (q : Parties) (b : Shown) (n : InSeen) (k : ByOrigin) (st : Stand credit.initial w q) → IsLawfulAt credit w → TakesFrom w (i + 1) s
     → TakesIn (due_of (node_at q i).held) (st.places.ins s) (sent_of k) n → b ≡ record { held = took_held (node_at q i).held k; ends = record (node_at q i).ends { link = Some n } }
     → StandMoved credit.initial (i + 1) (take_from w (i + 1) s) (with_node q i b) None
 take_steps credit w i s q b n k st h t takes e =
@@ -105,7 +106,7 @@ take_steps credit w i s q b n k st h t takes e =
     let a : MemberStands w p x m = stands_at credit.initial w q p i st.stand t.is_member in
     let due : Option ℕ = due_of m.held in
     let due_is : due ≡ grant_due (link_at w s).flow.receiver = ap due_of (held_but_door w p x m a) ∙ ap (λ c. at_some (option_map (incoming_in w) c) None (λ (g : Incoming). grant_due g.counted)) t.current in
-    let lines : k.lines ≡ lines_in w (oldest (link_at w s)) = take_lines credit.initial w s (p.outs s) (p.ins s) n (sent_of k) due t.has takes (st.stand.carry s sl (current_has credit w x s h t.current)) in
+    let lines : k.lines ≡ lines_in w (link_at w s).had (oldest (link_at w s)) = take_lines credit.initial w s (p.outs s) (p.ins s) n (sent_of k) due t.has takes (st.stand.carry s sl (current_has credit w x s h t.current)) in
     let its : Does w w' x m b m.ends.out (Some n) = record {
       does = λ (g : Held). took_held g k;
       but_door = λ g ds. took_door g ds k;

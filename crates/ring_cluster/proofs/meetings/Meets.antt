@@ -13,7 +13,7 @@ use Rattle.ordered_link.specs.declared.plain.PlainIn.{PlainIn}
 use Rattle.ring_world.proofs.rings.Maps.{mapped_rewrite}
 use Rattle.registrar.specs.declared.standing.Standing.{Standing}
 use Rattle.registrar.specs.Registry.{Registry, name_in, end_in, end_of, with_end, end_is}
-use Rattle.gm_member.specs.declared.packet.Load.{Load}
+use Rattle.activity.specs.declared.packet.Load.{Load}
 use Rattle.gm_member.specs.Held.{Held, Incoming}
 use Rattle.gm_member.specs.View.{ring_link}
 use Rattle.gm_member.specs.Shown.{Ends, held_of, ends_of, in_end, with_in as with_end_in, in_name_of, has_in}

@@ -6,7 +6,7 @@ use Rattle.std.proofs.lemmas.List.{set-set, set_comm, length-set, length-map, ma
 use Rattle.group_view.specs.declared.link.LinkName.{LinkName}
 use Rattle.ordered_link.specs.declared.plain.PlainIn.{PlainIn}
 use Rattle.registrar.specs.Registry.{Registry}
-use Rattle.gm_member.specs.declared.packet.Load.{Load}
+use Rattle.activity.specs.declared.packet.Load.{Load}
 use Rattle.gm_member.specs.Held.{Held, Outgoing}
 use Rattle.gm_member.specs.View.{ring_link}
 use Rattle.gm_member.specs.Shown.{in_name_of, out_name_of, in_end}

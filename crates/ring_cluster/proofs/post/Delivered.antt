@@ -6,7 +6,7 @@ use Rattle.ordered_link.specs.declared.plain.PlainIn.{PlainIn}
 use Rattle.ring_world.proofs.rings.Maps.{mapped_read, mapped_rewrite}
 use Rattle.registrar.specs.Registry.{Registry, AreHere, is_known}
 use Rattle.registrar.specs.Asked.{stop_refusal}
-use Rattle.gm_member.specs.declared.packet.Load.{Load}
+use Rattle.activity.specs.declared.packet.Load.{Load}
 use Rattle.ring_cluster.specs.declared.undelivered.Undelivered.{Undelivered}
 use Rattle.ring_cluster.specs.declared.parties.Parties.TheInside.{Inside}
 use Rattle.ring_cluster.specs.Behind.{behind}

@@ -11,7 +11,7 @@ use Rattle.registrar.specs.declared.standing.Standing.{Standing}
 use Rattle.registrar.specs.Registry.{Registry, is_known}
 use Rattle.registrar.specs.Handled.{without_links}
 use Rattle.registrar.proofs.Judged.{knows}
-use Rattle.gm_member.specs.declared.packet.Load.{Load}
+use Rattle.activity.specs.declared.packet.Load.{Load}
 use Rattle.ring_cluster.specs.declared.party.Party.{Party}
 use Rattle.ring_cluster.specs.Parties.{Shown, Posted, Parties, parties, posted, node_at, with_node, shown_in, no_shown}
 use Rattle.ring_cluster.specs.Seen.{state}

@@ -16,7 +16,7 @@ use Rattle.ring_world.specs.Event.{is_stopped, version_refusal}
 use Rattle.ring_world.proofs.rings.Rounds.{nat_eq-is}
 use Rattle.registrar.specs.declared.standing.Standing.{Standing}
 use Rattle.registrar.specs.Asked.{is_left, since_in, waits_from}
-use Rattle.gm_member.specs.declared.packet.Load.{Load}
+use Rattle.activity.specs.declared.packet.Load.{Load}
 use Rattle.gm_member.specs.Held.{Held, Incoming, door_at, on_some, up_refused, pick_refused, first_at_door, is_for, stays}
 use Rattle.gm_member.specs.Questions.{has_link}
 use Rattle.gm_member.proofs.DoorLists.{lt_suc}

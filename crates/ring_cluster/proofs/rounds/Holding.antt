@@ -4,15 +4,17 @@ use Rattle.std.specs.Prelude.{◌&&◌, Option, is_some}
 use Rattle.group_view.specs.declared.link.LinkName.{LinkName}
 use Rattle.ring_names.specs.declared.numbers.CreditSpec.{CreditSpec}
 use Rattle.ring_world.specs.declared.event.Event.{Event}
-use Rattle.ring_world.specs.Rows.{Row}
+use Rattle.activity.specs.Kept.{Kept, got_of}
 use Rattle.ring_world.specs.Machine.{World, member_at, view_in, newest}
-use Rattle.ring_world.specs.Step.{size}
+use Rattle.ring_world.specs.Step.{size, log_of}
 use Rattle.ring_world.specs.Lawful.{row_of}
-use Rattle.gm_member.specs.Held.{Held, Incoming, known_at}
-use Rattle.gm_member.specs.Stands.{held_in, outgoing_in}
+use Rattle.gm_member.specs.Held.{Held, Incoming}
+use Rattle.gm_member.specs.Parcels.{known_at}
+use Rattle.gm_member.specs.Stands.{kept_by, held_in, outgoing_in}
+use Rattle.gm_member.proofs.Knowing.{got_kept}
 use Rattle.gm_member.specs.Shown.{out_name_of}
 use Rattle.gm_member.proofs.Fit.{IsFit, reached_fit}
-use Rattle.gm_member.proofs.Facts.{held_row, version_of_view}
+use Rattle.gm_member.proofs.Facts.{held_known, right_row, version_of_view}
 use Rattle.ring_world.specs.Work.{is_stale}
 use Rattle.ring_cluster.specs.Holds.{HoldsOf}
 use Rattle.ring_cluster.specs.Seen.{state}
@@ -34,16 +36,16 @@ held_holds w x h f e = record {
   name = ap (λ k. k.name) e;
   phase = ap (λ k. k.phase) e;
   view = ap (λ k. k.view) e;
-  got = λ p some lt. ap (λ (r : Row). r.got) (row p some lt);
-  forgot = λ p some lt. ap (λ (r : Row). r.forgot) (row p some lt);
-  retired = λ p some lt. ap (λ (r : Row). r.retired) (row p some lt);
-  messages = λ p some lt. ap (λ (r : Row). r.heard) (row p some lt) ∙ f.heard x p;
+  got = λ p some lt. ap got_of (row p some lt) ∙ got_kept (log_of w p) (row_of w x p) (right_row w x p f);
+  forgot = λ p some lt. ap (λ (k : Kept). k.forgot) (row p some lt);
+  retired = λ p some lt. ap (λ (k : Kept). k.retired) (row p some lt);
+  messages = λ p some lt. ap (λ (k : Kept). k.messages) (row p some lt);
 }
   where
-    row : (p : ℕ) → 1 ≤ p → p < size w → known_at h.rows (p - 1) ≡ row_of w x p
+    row : (p : ℕ) → 1 ≤ p → p < size w → known_at h.known (p - 1) ≡ kept_by (log_of w p) (row_of w x p)
     row p some lt =
         let back : p - 1 + 1 ≡ p = omega arith in
-        ap (λ k. known_at k.rows (p - 1)) e ∙ held_row w x (p - 1) (omega (arith, f.few)) ∙ ap (row_of w x) back
+        ap (λ k. known_at k.known (p - 1)) e ∙ held_known w x (p - 1) (omega (arith, f.few)) ∙ ap (λ q. kept_by (log_of w q) (row_of w x q)) back
 
 -- ---- a cluster
 

@@ -8,10 +8,11 @@ use Rattle.ring_names.specs.declared.numbers.CreditSpec.{CreditSpec}
 use Rattle.group_view.specs.Change.{AreOpeningNames, opening as opening_group}
 use Rattle.group_view.specs.Ring.{is_in}
 use Rattle.ring_world.specs.Rows.{no_row}
-use Rattle.ring_world.specs.declared.phase.Phase.TheVariants.{Up}
 use Rattle.ring_world.specs.View.{ids, left_of, right_of}
 use Rattle.ring_world.specs.Machine.{Link, Member, no_link, member_at, link_at, row_at, numbers_at, left, runs, runs_phase}
-use Rattle.ring_world.specs.Step.{size, opening, opening_link, opening_member}
+use Rattle.activity.specs.Kept.{no_kept}
+use Rattle.ring_names.specs.declared.message.Message.{Message}
+use Rattle.ring_world.specs.Step.{size, log_of, opening, opening_link, opening_member}
 use Rattle.ring_world.specs.Event.{is_stopped}
 use Rattle.ring_world.proofs.events.First.{first_size, first_member}
 use Rattle.ring_world.proofs.rings.Lists.{get_or-mapped}
@@ -20,9 +21,9 @@ use Rattle.ring_world.proofs.walks.Views.{left_is}
 use Rattle.ring_world.proofs.invariants.Opening.{opening_ids, in_range}
 use Rattle.gm_member.specs.Parcels.{places}
 use Rattle.gm_member.specs.Held.{Held, founded, fresh_in as fresh_incoming, fresh_out as fresh_outgoing}
-use Rattle.gm_member.specs.Stands.{held_in, outgoing_in, incoming_in, waits_for, door_links}
+use Rattle.gm_member.specs.Stands.{kept_by, told_in, held_in, outgoing_in, incoming_in, waits_for, door_links}
 use Rattle.gm_member.proofs.Fit.{IsFit, reached_fit}
-use Rattle.gm_member.proofs.Parts.{held_is, held_from, rows_of, current_waits_not, other_waits_not}
+use Rattle.gm_member.proofs.Parts.{held_is, known_by, current_waits_not, other_waits_not}
 use Rattle.gm_member.proofs.DoorLists.{filter_agree}
 use Rattle.ring_cluster.specs.Ends.{Carries, fresh_out, fresh_in}
 use Rattle.ring_cluster.specs.Parties.{node_at, no_shown}
@@ -89,10 +90,13 @@ module _ (credit : CreditSpec) (names : List (List ℕ)) (are : AreOpeningNames 
   no_door : (x : ℕ) → 1 ≤ x → x < size (opening credit names) → door_links (opening credit names) x ≡ []
   no_door x a b = nothing_passes (waits_for (opening credit names) x) 0 (length (opening credit names).links) (λ s _ l. none_waits x s a b (omega (arith, l)))
 
-  rows_are : (x : ℕ) → rows_of (opening_member names x) ≡ map (λ (_ : ℕ). no_row) places
-  rows_are x = each places
+  known_are : (x : ℕ) → known_by (opening credit names) (opening_member names x) ≡ map (λ (_ : ℕ). no_kept) places
+  known_are x = each places
     where
-      each : (ps : List ℕ) → map (λ p. row_at (opening_member names x) (p + 1)) ps ≡ map (λ (_ : ℕ). no_row) ps
+      kept_none : (log : List Message) → kept_by log no_row ≡ no_kept
+      kept_none log = refl
+
+      each : (ps : List ℕ) → map (λ p. kept_by (log_of (opening credit names) (p + 1)) (row_at (opening_member names x) (p + 1))) ps ≡ map (λ (_ : ℕ). no_kept) ps
       each [] = refl
       each (p ∷ ps) =
           let here : row_at (opening_member names x) (p + 1) ≡ no_row = get_or-mapped (λ (_ : ℕ). no_row) (range_with_len 0 (length names + 1)) (p + 1) 0 no_row refl in
@@ -101,7 +105,7 @@ module _ (credit : CreditSpec) (names : List (List ℕ)) (are : AreOpeningNames 
   out_is : (x : ℕ) → 1 ≤ x → x < size (opening credit names) → outgoing_in (opening credit names) (x - 1) ≡ fresh_outgoing credit.initial credit.more (right_of (opening_group names) x) 1
   out_is x a b =
       let l : x - 1 < length (opening credit names).links = omega (arith, b, a, many, first_size credit names) in
-      ap (λ (k : Link). record { to = k.receiver; opened = k.opened; fresh = k.sending.fresh; sent = map (λ p. numbers_at k.sending.sent (p + 1)) places; credit = k.flow.sender }) (link_is (x - 1) l)
+      ap (λ (k : Link). record { to = k.receiver; opened = k.opened; fresh = k.sending.fresh; told = map (λ p. told_in (numbers_at k.sending.sent (p + 1))) places; credit = k.flow.sender }) (link_is (x - 1) l)
       ∙ ap (λ i. fresh_outgoing credit.initial credit.more (right_of (opening_group names) i) 1) (omega (arith, a))
 
   in_is : (x : ℕ) → 1 ≤ x → x < size (opening credit names) → incoming_in (opening credit names) (left_of (opening_group names) x - 1) ≡ fresh_incoming credit.initial credit.more (left_of (opening_group names) x) 1
@@ -112,9 +116,8 @@ module _ (credit : CreditSpec) (names : List (List ℕ)) (are : AreOpeningNames 
 
   held_first : (x : ℕ) → 1 ≤ x → x < size (opening credit names) → held_in (opening credit names) x ≡ founded credit (slice_index_or ([] ∷ names) x []) x (opening_group names)
   held_first x a b =
-      held_is (opening credit names) x (opening_member names x) (Some (fresh_outgoing credit.initial credit.more (right_of (opening_group names) x) 1)) (Some (fresh_incoming credit.initial credit.more (left_of (opening_group names) x) 1)) []
-      (first_member credit names x a b) (ap Some (out_is x a b)) (ap Some (in_is x a b)) (ap (map (incoming_in (opening credit names))) (no_door x a b))
-      ∙ ap (λ rows. held_from x (slice_index_or ([] ∷ names) x []) Up (opening_group names) rows (Some (fresh_outgoing credit.initial credit.more (right_of (opening_group names) x) 1)) (Some (fresh_incoming credit.initial credit.more (left_of (opening_group names) x) 1)) [] credit.initial credit.more) (rows_are x)
+      held_is (opening credit names) x (opening_member names x) (map (λ (_ : ℕ). no_kept) places) (Some (fresh_outgoing credit.initial credit.more (right_of (opening_group names) x) 1)) (Some (fresh_incoming credit.initial credit.more (left_of (opening_group names) x) 1)) []
+      (first_member credit names x a b) (known_are x) (ap Some (out_is x a b)) (ap Some (in_is x a b)) (ap (map (incoming_in (opening credit names))) (no_door x a b))
 
   -- the ends of its links, by their places
   abbrev first_places : Places

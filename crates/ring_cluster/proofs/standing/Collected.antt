@@ -11,7 +11,7 @@ use Rattle.group_view.specs.declared.request.Deposited.{Deposited}
 use Rattle.registrar.specs.declared.standing.Standing.{Standing}
 use Rattle.registrar.specs.Registry.{Registry, AreHere, is_for, beside}
 use Rattle.registrar.specs.Handled.{without_links, deposited, links_for}
-use Rattle.gm_member.specs.declared.packet.Load.{Load}
+use Rattle.activity.specs.declared.packet.Load.{Load}
 use Rattle.gm_member.specs.Held.{Held, asking_held, answered_held, collected_held}
 use Rattle.gm_member.specs.Arrivals.{is_ring_link, joins, arrived_in, incoming_of, given_end, with_arrived}
 use Rattle.gm_member.specs.Shown.{held_of, ends_of}

@@ -1,21 +1,22 @@
 -- What stays where one member and one link are written: the doors, the links that are open, what the packets stand for, and how a member stands.
-use Rattle.std.proofs.Common.{◌≡◌, ℕ, ◌+◌, ◌<◌, Bool, true, cond, nat_eq, List, [], ◌∷◌, ◌++◌, length, map, Some, is_some, refl, sym, ap, subst, ◌∙◌, ◌≤◌, false, Option, None, arith, append_assoc, append-nil}
+use Rattle.gm_member.specs.Parcels.{places}
+use Rattle.std.proofs.Common.{◌≡◌, ℕ, suc, ◌+◌, ◌<◌, Bool, true, cond, nat_eq, List, [], ◌∷◌, ◌++◌, length, map, Some, is_some, refl, sym, ap, subst, ◌∙◌, ◌≤◌, false, Option, None, arith, append_assoc, append-nil}
 use Rattle.std.specs.Prelude.{◌||◌, option_map}
 use Rattle.std.specs.List.{filter, range_with_len}
 use Rattle.std.proofs.lemmas.List.{length-set, length-append}
 use Rattle.credit_flow.specs.Credit.{none_taken}
-use Rattle.ring_world.specs.Machine.{World, Link, Member, Packet, no_link, no_member, numbers_at, member_at, link_at}
+use Rattle.ring_world.specs.Compact.{passed, before_next}
+use Rattle.ring_world.specs.Machine.{World, Link, Member, Packet, Sending, no_link, no_member, numbers_at, member_at, link_at}
 use Rattle.ring_world.specs.OpenLinks.{is_place, is_current}
 use Rattle.ring_world.specs.Step.{size, log_of, with_member, with_link}
 use Rattle.ring_world.proofs.rings.Lists.{at_set}
 use Rattle.gm_member.specs.Held.{Held, Incoming}
 use Rattle.gm_member.specs.View.{ring_link}
-use Rattle.gm_member.specs.Stands.{incoming_in, waits_for, door_links, door_in, held_in, lines_in}
-use Rattle.gm_member.specs.News.{carried_in}
+use Rattle.gm_member.specs.Stands.{incoming_in, waits_for, door_links, door_in, held_in, line_for, lines_in}
 use Rattle.gm_member.proofs.Places.{map-range_same}
 use Rattle.gm_member.proofs.Parts.{Seen, waits_seen, there_same}
 use Rattle.gm_member.proofs.DoorLists.{made_agree}
-use Rattle.ring_cluster.specs.Ends.{Sent, OutSeen, InSeen, packet_in, end_items, items_in, Carries, fresh_in}
+use Rattle.ring_cluster.specs.Ends.{Sent, OutSeen, InSeen, packet_in, packets_in, end_items, items_in, Carries, fresh_in}
 use Rattle.ring_cluster.specs.Parties.{Shown, Parties}
 use Rattle.ring_cluster.specs.Standing.{Places, MemberStands, name_of, is_to, has_out, has_in}
 use Rattle.ring_cluster.specs.Loose.{StandBetween, moved_by}
@@ -148,19 +149,31 @@ same_out w w' s h = ap (λ (a : Way). is_place (member_at w' a.from).out s) (h.w
 -- ---- packets
 
 -- they stand for the same where the logs are the same
-pub same_lines : (w w' : World) (k : Packet) → ((p : ℕ) → log_of w' p ≡ log_of w p) → lines_in w' k ≡ lines_in w k
-same_lines w w' k h = map-range_same (λ p. carried_in (log_of w' (p + 1)) p (numbers_at k (p + 1))) (λ p. carried_in (log_of w (p + 1)) p (numbers_at k (p + 1))) 64 (λ p _. ap (λ log. carried_in log p (numbers_at k (p + 1))) (h (p + 1)))
+pub same_lines : (w w' : World) (before : Sending) (k : Packet) → ((p : ℕ) → log_of w' p ≡ log_of w p) → lines_in w' before k ≡ lines_in w before k
+unfolding places
+same_lines w w' before k h = map-range_same (λ p. line_for before.fresh (log_of w' (p + 1)) p (numbers_at k (p + 1)) (numbers_at before.sent (p + 1))) (λ p. line_for before.fresh (log_of w (p + 1)) p (numbers_at k (p + 1)) (numbers_at before.sent (p + 1))) 64
+    (λ p _. ap (λ log. line_for before.fresh log p (numbers_at k (p + 1)) (numbers_at before.sent (p + 1))) (h (p + 1)))
 
-pub same_packets : (w w' : World) (ks : List Packet) → ((p : ℕ) → log_of w' p ≡ log_of w p) → map (packet_in w') ks ≡ map (packet_in w) ks
-same_packets w w' [] h = refl
-same_packets w w' (k ∷ ks) h =
-    ap (λ ls. Some (record { view = k.version; lines = ls }) ∷ map (packet_in w') ks) (same_lines w w' k h)
-    ∙ ap (λ xs. packet_in w k ∷ xs) (same_packets w w' ks h)
+pub same_packets : (w w' : World) (before : Sending) (ks : List Packet) → ((p : ℕ) → log_of w' p ≡ log_of w p) → packets_in w' before ks ≡ packets_in w before ks
+same_packets w w' before [] h = refl
+same_packets w w' before (k ∷ ks) h =
+    ap (λ ls. Some (record { view = k.version; lines = ls }) ∷ packets_in w' (passed k) ks) (same_lines w w' before k h)
+    ∙ ap (λ xs. packet_in w before k ∷ xs) (same_packets w w' (passed k) ks h)
+
+-- one more behind them
+pub packets_push : (w : World) (before : Sending) (ks : List Packet) (k : Packet) → packets_in w before (ks ++ k ∷ []) ≡ packets_in w before ks ++ packet_in w (before_next before ks) k ∷ []
+packets_push w before [] k = refl
+packets_push w before (j ∷ ks) k = ap (λ xs. packet_in w before j ∷ xs) (packets_push w (passed j) ks k)
+
+-- how many they are
+pub packets_many : (w : World) (before : Sending) (ks : List Packet) → length (packets_in w before ks) ≡ length ks
+packets_many w before [] = refl
+packets_many w before (k ∷ ks) = ap suc (packets_many w (passed k) ks)
 
 -- ends that carry a link carry it in another state where its packets stand for the same
-pub carries_still : (initial : ℕ) (w w' : World) (l l' : Link) (o : OutSeen) (n : InSeen) → map (packet_in w') l'.packets ≡ map (packet_in w) l.packets → l'.ending ≡ l.ending → l'.flow.grants ≡ l.flow.grants → Carries w initial l o n → Carries w' initial l' o n
+pub carries_still : (initial : ℕ) (w w' : World) (l l' : Link) (o : OutSeen) (n : InSeen) → packets_in w' l'.had l'.packets ≡ packets_in w l.had l.packets → l'.ending ≡ l.ending → l'.flow.grants ≡ l.flow.grants → Carries w initial l o n → Carries w' initial l' o n
 carries_still initial w w' l l' o n ep ee eg c = record {
-  items = c.items ∙ ap (λ ks. ks ++ end_items l.ending) (sym ep) ∙ ap (λ e. map (packet_in w') l'.packets ++ end_items e) (sym ee);
+  items = c.items ∙ ap (λ ks. ks ++ end_items l.ending) (sym ep) ∙ ap (λ e. packets_in w' l'.had l'.packets ++ end_items e) (sym ee);
   grants = c.grants ∙ sym eg;
   late = c.late;
   ended = c.ended ∙ ap is_some (sym ee);
@@ -170,7 +183,7 @@ carries_still initial w w' l l' o n ep ee eg c = record {
 
 -- and so where the logs are the same
 pub carries_logs : (initial : ℕ) (w w' : World) (l : Link) (o : OutSeen) (n : InSeen) → ((p : ℕ) → log_of w' p ≡ log_of w p) → Carries w initial l o n → Carries w' initial l o n
-carries_logs initial w w' l o n logs c = carries_still initial w w' l l o n (same_packets w w' l.packets logs) refl refl c
+carries_logs initial w w' l o n logs c = carries_still initial w w' l l o n (same_packets w w' l.had l.packets logs) refl refl c
 
 -- the same of a link that is the same
 pub carries_same : (initial : ℕ) (w w' : World) (s : ℕ) (o : OutSeen) (n : InSeen) → ((p : ℕ) → log_of w' p ≡ log_of w p) → link_at w' s ≡ link_at w s → Carries w initial (link_at w s) o n → Carries w' initial (link_at w' s) o n
@@ -204,12 +217,12 @@ acts_carries initial w l l' o o' n items is_ended t stand grants ends c = record
 }
 
 -- and so where it has ended
-pub end_carries : (initial : ℕ) (w : World) (l l' : Link) (o o' : OutSeen) (n : InSeen) → l.ending ≡ None → l'.packets ≡ l.packets → is_some l'.ending ≡ true → l'.flow.grants ≡ l.flow.grants → ActsOut (None ∷ []) [] true o o' → Carries w initial l o n → Carries w initial l' o' n
+pub end_carries : (initial : ℕ) (w : World) (l l' : Link) (o o' : OutSeen) (n : InSeen) → l.ending ≡ None → packets_in w l'.had l'.packets ≡ packets_in w l.had l.packets → is_some l'.ending ≡ true → l'.flow.grants ≡ l.flow.grants → ActsOut (None ∷ []) [] true o o' → Carries w initial l o n → Carries w initial l' o' n
 end_carries initial w l l' o o' n goes_on ep ends eg t = acts_carries initial w l l' o o' n (None ∷ []) true t
-    (ap (λ e. (map (packet_in w) l.packets ++ end_items e) ++ None ∷ []) goes_on
-    ∙ ap (λ xs. xs ++ None ∷ []) (append-nil (map (packet_in w) l.packets))
-    ∙ ap (λ ks. map (packet_in w) ks ++ None ∷ []) (sym ep)
-    ∙ ap (λ xs. map (packet_in w) l'.packets ++ xs) (last_item l'.ending ends))
+    (ap (λ e. (packets_in w l.had l.packets ++ end_items e) ++ None ∷ []) goes_on
+    ∙ ap (λ xs. xs ++ None ∷ []) (append-nil (packets_in w l.had l.packets))
+    ∙ ap (λ xs. xs ++ None ∷ []) (sym ep)
+    ∙ ap (λ xs. packets_in w l'.had l'.packets ++ xs) (last_item l'.ending ends))
     eg (sym ends)
   where
     last_item : (e : Option Ending) → is_some e ≡ true → None ∷ [] ≡ end_items e

@@ -14,13 +14,14 @@ use Rattle.ordered_link.specs.declared.plain.PlainOut.{PlainOut}
 use Rattle.ordered_link.specs.declared.plain.PlainIn.{PlainIn}
 use Rattle.ordered_link.specs.Steps.{PlainPuts, IsFreshPair}
 use Rattle.ring_world.specs.View.{right_of}
-use Rattle.gm_member.specs.declared.packet.Load.{Load}
+use Rattle.activity.specs.declared.packet.Load.{Load}
 use Rattle.gm_member.specs.declared.links.OutLink.{OutLink}
 use Rattle.gm_member.specs.declared.links.InLink.{InLink}
-use Rattle.gm_member.specs.Parcels.{Parcel}
+use Rattle.activity.specs.Parcels.{Parcel}
+use Rattle.gm_member.specs.Parcels.{by_origin}
 use Rattle.gm_member.specs.Loads.{as_item}
-use Rattle.gm_member.specs.View.{row_of, out_of, in_of, end_of, ring_link, kept_link, stays_at}
-use Rattle.gm_member.specs.Held.{at_some, parcel_on, refreshed_held, sends_to, stays, is_for, fresh_out as unsent_on}
+use Rattle.gm_member.specs.View.{out_of, in_of, end_of, ring_link, kept_link, stays_at}
+use Rattle.gm_member.specs.Held.{at_some, refreshed_held, sends_to, stays, is_for}
 use Rattle.gm_member.specs.Ends.{EndPuts, Replaces}
 use Rattle.gm_member.specs.Shown.{When, held_of, LooksBy, MovesTo, SendsOn, StaysOn}
 use Rattle.ring_cluster.specs.Ends.{OutSeen, opened_out, fresh_in}
@@ -53,9 +54,9 @@ link_kept v x (Some l) = by_test (is_for v x (in_of l)) refl
 -- ---- the link on which it sends
 
 -- the out end of a new link, with its first packet
-opened_seen : (initial : ℕ) (k : Parcel) (o e : PlainOut Load) (n : PlainIn Load) → IsFreshPair initial o n → PlainPuts o (as_item k) e → out_seen e ≡ opened_out initial (sent_of k)
+opened_seen : (initial : ℕ) (k : Parcel) (o e : PlainOut Load) (n : PlainIn Load) → IsFreshPair initial o n → PlainPuts o (as_item k) e → out_seen e ≡ opened_out initial (sent_of (by_origin k))
 opened_seen initial k o e n f p =
-    let waiting : map content e.waiting.items ≡ Some (sent_of k) ∷ [] = ap (map content) p.0 ∙ ap (λ xs. map content (xs ++ as_item k ∷ [])) f.items.0 in
+    let waiting : map content e.waiting.items ≡ Some (sent_of (by_origin k)) ∷ [] = ap (map content) p.0 ∙ ap (λ xs. map content (xs ++ as_item k ∷ [])) f.items.0 in
     let back : e.back.items ≡ [] = ap (λ b. b.items) p.2 ∙ f.grants.0 in
     let size : e.initial ≡ initial = p.3 ∙ f.initial.0 in
     let free : e.free ≡ initial = omega (arith, p.1, f.free.0) in
@@ -137,7 +138,8 @@ looks_asked asks m n v requests ready held by moves = (stay (sends_to (held_of m
         let to : MemberId = moved.0 in
         let s : SendsOn IsFreshPair (λ e. e.free) (λ e. e.ended) PlainPuts v.version to m n requests = moved.2 in
         let opened : out_seen s.opens.end ≡ opened_out m.credit.initial (first_sent (asking_as asks m) v) =
-        opened_seen m.credit.initial (parcel_on v.version (map row_of m.known.items) (unsent_on m.credit.initial m.credit.more to.0 v.version)) s.spare.out s.opens.end s.spare.link s.ready.fresh s.opens.packet in
+        opened_seen m.credit.initial s.opens.packet.0 s.spare.out s.opens.end s.spare.link s.ready.fresh s.opens.packet.2
+        ∙ ap (λ k. opened_out m.credit.initial (sent_of k)) s.opens.packet.1 in
         let out : (shown_of n).ends.out ≡ Some (opened_out m.credit.initial (first_sent (asking_as asks m) v)) =
         ap (λ l. option_map out_seen (at_some l None (λ k. k.end))) s.out ∙ ap (option_map out_seen) s.opens.there ∙ ap Some opened in
         let kept : (shown_of n).ends.kept ≡ None = ap (λ l. at_some l None (λ k. k.kept)) s.out ∙ s.opens.kept in (

@@ -6,7 +6,6 @@ use Rattle.ring_names.specs.declared.reason.Reason.{Reason}
 use Rattle.ring_names.specs.declared.reason.Reason.TheVariants.{Stopped, Waiting, AwaitingAnswer, NoOutLink, LinkFull, NoGrant}
 use Rattle.ring_world.specs.declared.phase.Phase.{Phase}
 use Rattle.ring_world.specs.declared.phase.Phase.TheVariants as phase
-use Rattle.ring_world.specs.Rows.{Row}
 use Rattle.ring_world.specs.Refusal.{or_else, refuse_if, is_empty}
 use Rattle.ring_world.specs.Event.{is_stopped}
 use Rattle.gm_member.proofs.Calls.{may_send, up_later}
@@ -15,10 +14,12 @@ use Rattle.ordered_link.specs.declared.plain.PlainOut.{PlainOut}
 use Rattle.ordered_link.specs.declared.plain.PlainIn.{PlainIn}
 use Rattle.ordered_link.specs.Steps.{PlainPuts, PlainGains}
 use Rattle.ring_world.specs.Machine.{runs_phase, is_waiting}
-use Rattle.gm_member.specs.declared.packet.Load.{Load}
+use Rattle.activity.specs.declared.packet.Load.{Load}
 use Rattle.gm_member.specs.declared.links.OutLink.{OutLink}
 use Rattle.gm_member.specs.declared.links.InLink.{InLink}
-use Rattle.gm_member.specs.Parcels.{Parcel}
+use Rattle.activity.specs.Kept.{Kept}
+use Rattle.activity.specs.Parcels.{Parcel}
+use Rattle.gm_member.specs.Parcels.{by_origin}
 use Rattle.gm_member.specs.Loads.{as_item}
 use Rattle.gm_member.specs.Held.{Held, Outgoing, at_some, up_refused, on_some, put_refused, out_refused, put_held, gain_refused, gained_held, first_at_door, picked_held, without}
 use Rattle.gm_member.specs.View.{out_of, end_of}
@@ -57,7 +58,7 @@ in_there l = option_map in_seen (at_some l None (λ x. x.end))
 
 -- ---- a put
 
-shown_put : (o p : PlainOut Load) (k : Parcel) → PlainPuts o (as_item k) p → ActsOut (Some (sent_of k) ∷ []) [] false (out_seen o) (out_seen p)
+shown_put : (o p : PlainOut Load) (k : Parcel) → PlainPuts o (as_item k) p → ActsOut (Some (sent_of (by_origin k)) ∷ []) [] false (out_seen o) (out_seen p)
 shown_put o p k e = record {
   waiting = ap (map content) e.0 ∙ map-append content o.waiting.items (as_item k ∷ []);
   free = e.1;
@@ -67,13 +68,13 @@ shown_put o p k e = record {
 }
 
 pub puts_shown : (m n : ANode) → PutsOn PlainPuts m n → held_of n ≡ put_held (held_of m) → PutsPacket (shown_of m) (shown_of n)
-puts_shown m n (l, l', ml, nl', (o, p, lo, lp, puts), kept, (current, door, old_outs, old_ins)) held = (
+puts_shown m n (l, l', ml, nl', (k, said, (o, p, lo, lp, puts)), kept, (current, door, old_outs, old_ins)) held = (
   out_of l,
   out_seen o,
   out_seen p,
   ap (option_map out_of) ml,
   ap (option_map out_seen) (ap end_there ml ∙ lo),
-  shown_put o p _ puts,
+  subst (λ s. ActsOut (Some (sent_of s) ∷ []) [] false (out_seen o) (out_seen p)) said (shown_put o p k puts),
   shown_same (record { held = put_held (held_of m); ends = record (ends_seen (ends_of m)) { out = Some (out_seen p) } }) (shown_of n) held
       (ends_same (record (ends_seen (ends_of m)) { out = Some (out_seen p) }) (ends_seen (ends_of n))
       (ap (option_map out_seen) (ap end_there nl' ∙ lp))
@@ -107,16 +108,16 @@ stopped_runs phase.Stopped later e = cc
 pub up_runs : (h : Held) (later : Option Reason) → up_refused h later ≡ None → runs_phase h.phase ≡ true
 up_runs h later e = stopped_runs h.phase _ e
 
-full_slot : (rows : List Row) (k : Outgoing) (e : Option OutSeen) → out_refused rows k ≡ None → MatchOption e ⊥ (λ o. (o.ended ≡ false) × (0 < k.credit.credit → 1 < o.free)) → MatchOption e ⊥ (λ o. o.free ≤ 1) → ⊥
-full_slot rows k None enabled h full = h
-full_slot rows k (Some o) enabled h full =
-    let some : 0 < k.credit.credit = may_send rows k enabled in
+full_slot : (known : List Kept) (k : Outgoing) (e : Option OutSeen) → out_refused known k ≡ None → MatchOption e ⊥ (λ o. (o.ended ≡ false) × (0 < k.credit.credit → 1 < o.free)) → MatchOption e ⊥ (λ o. o.free ≤ 1) → ⊥
+full_slot known k None enabled h full = h
+full_slot known k (Some o) enabled h full =
+    let some : 0 < k.credit.credit = may_send known k enabled in
     let slot : 1 < o.free = h.1 some in
     omega arith
 
-full_out : (rows : List Row) (o : Option Outgoing) (e : Option OutSeen) → on_some o NoOutLink (out_refused rows) ≡ None → MatchOption o ⊤ (λ k. MatchOption e ⊥ (λ o. (o.ended ≡ false) × (0 < k.credit.credit → 1 < o.free))) → MatchOption e ⊥ (λ o. o.free ≤ 1) → ⊥
-full_out rows None e enabled h full = cc
-full_out rows (Some k) e enabled h full = full_slot rows k e enabled h full
+full_out : (known : List Kept) (o : Option Outgoing) (e : Option OutSeen) → on_some o NoOutLink (out_refused known) ≡ None → MatchOption o ⊤ (λ k. MatchOption e ⊥ (λ o. (o.ended ≡ false) × (0 < k.credit.credit → 1 < o.free))) → MatchOption e ⊥ (λ o. o.free ≤ 1) → ⊥
+full_out known None e enabled h full = cc
+full_out known (Some k) e enabled h full = full_slot known k e enabled h full
 
 seen_full : (e : Option (PlainOut Load)) → MatchOption e ⊥ (λ o. o.free ≤ 1) → MatchOption (option_map out_seen e) ⊥ (λ o. o.free ≤ 1)
 seen_full None h = h
@@ -124,7 +125,7 @@ seen_full (Some o) h = h
 
 never_full : (m : ANode) (e : Option (PlainOut Load)) → IsReady (shown_of m) → e ≡ end_there m.out → put_refused (held_of m) ≡ None → MatchOption e ⊥ (λ o. o.free ≤ 1) → ⊥
 never_full m e ready is enabled full =
-    full_out (held_of m).rows (held_of m).out (option_map out_seen (end_there m.out)) (up_later (held_of m) _ enabled) (ready.out (up_runs (held_of m) _ enabled)) (subst (λ x. MatchOption (option_map out_seen x) ⊥ (λ o. o.free ≤ 1)) is (seen_full e full))
+    full_out (held_of m).known (held_of m).out (option_map out_seen (end_there m.out)) (up_later (held_of m) _ enabled) (ready.out (up_runs (held_of m) _ enabled)) (subst (λ x. MatchOption (option_map out_seen x) ⊥ (λ o. o.free ≤ 1)) is (seen_full e full))
 
 -- why nothing was put
 abbrev pub PutFault : ANode → ANode → MemberFault → Type 0

@@ -18,9 +18,10 @@ use Rattle.ring_world.specs.Event.{is_stopped, version_refusal}
 use Rattle.gm_member.specs.declared.fault.MemberFault.{MemberFault}
 use Rattle.gm_member.specs.declared.fault.MemberFault.TheVariants as faults
 use Rattle.gm_member.specs.Faults.{refused_as}
-use Rattle.gm_member.specs.declared.packet.Load.{Load}
+use Rattle.activity.specs.declared.packet.Load.{Load}
 use Rattle.gm_member.specs.declared.links.InLink.{InLink}
-use Rattle.gm_member.specs.Parcels.{Parcel}
+use Rattle.activity.specs.Parcels.{Parcel}
+use Rattle.gm_member.specs.Parcels.{by_origin}
 use Rattle.gm_member.specs.Loads.{as_item, parcel_in, GrantsIf}
 use Rattle.gm_member.specs.Held.{Held, Incoming, at_some, on_some, take_refused, took_held}
 use Rattle.gm_member.specs.View.{in_of, end_of}
@@ -38,7 +39,7 @@ use Rattle.ring_cluster.proofs.standing.Shown.{end_there, kept_there, in_there, 
 
 -- ---- a packet that was taken
 
-shown_take : (due : Option ℕ) (k : Parcel) (i j a b : PlainIn Load) → i.late ≡ None → ((q : Sent) (rest : List (Option Sent)) → (in_seen i).items ≡ Some q ∷ rest → 0 < i.free) → PlainLooked i j → PlainTakes j (as_item k) a → GrantsIf due PlainSends a b → TakesIn due (in_seen i) (sent_of k) (in_seen b)
+shown_take : (due : Option ℕ) (k : Parcel) (i j a b : PlainIn Load) → i.late ≡ None → ((q : Sent) (rest : List (Option Sent)) → (in_seen i).items ≡ Some q ∷ rest → 0 < i.free) → PlainLooked i j → PlainTakes j (as_item k) a → GrantsIf due PlainSends a b → TakesIn due (in_seen i) (sent_of (by_origin k)) (in_seen b)
 shown_take due k i j a b late room looked takes grants =
     let first : (j.given.items ≡ i.given.items) × (j.late ≡ None) = nothing_sent i.given.items j.given.items i.late j.late late looked.1.0 in
     let second : (a.given.items ≡ j.given.items) × (a.late ≡ None) = nothing_sent j.given.items a.given.items j.late a.late first.1 takes.1.0 in
@@ -46,12 +47,12 @@ shown_take due k i j a b late room looked takes grants =
     let given : a.given.items ≡ i.given.items = second.0 ∙ first.0 in
     let slots : length a.given.items + a.free ≡ length i.given.items + i.free = takes.1.1 ∙ looked.1.1 in
     let free : 0 < a.free =
-    let l : 0 < i.free = room (sent_of k) (map content a.items.items) (ap (map content) all) in
+    let l : 0 < i.free = room (sent_of (by_origin k)) (map content a.items.items) (ap (map content) all) in
     let n : length a.given.items ≡ length i.given.items = ap length given in
     omega arith in
     let last : (b.items ≡ a.items) × (b.given.items ≡ with_grant a.given.items due) × (b.late ≡ None) × (length b.given.items + b.free ≡ length a.given.items + a.free) × (b.initial ≡ a.initial) = granted due a b free second.1 grants in
     record {
-      items = ap (map content) all ∙ ap (λ v. Some (sent_of k) ∷ map content v.items) (sym last.0);
+      items = ap (map content) all ∙ ap (λ v. Some (sent_of (by_origin k)) ∷ map content v.items) (sym last.0);
       given = last.1 ∙ ap (λ xs. with_grant xs due) given;
       late = last.2;
       room = last.3 ∙ slots;
@@ -76,16 +77,16 @@ with_link m n i is (out, door, old_outs, old_ins) =
     ends_same (record (ends_seen (ends_of m)) { link = i }) (ends_seen (ends_of n)) (ap (λ x. option_map out_seen (end_there x)) out) (ap kept_there out) is
     (ap (λ v. map (option_map in_seen) (map end_of v.items)) door) (ap (λ v. map named_out v.items) old_outs) (ap (λ v. map named_in v.items) old_ins)
 
-pub takes_shown : (m n : ANode) (k : Parcel) → IsReady (shown_of m) → TookOn (λ e. e.late) PlainTakes PlainLooked PlainSends k m n → held_of n ≡ took_held (held_of m) k → TakesPacket (shown_of m) (shown_of n)
+pub takes_shown : (m n : ANode) (k : Parcel) → IsReady (shown_of m) → TookOn (λ e. e.late) PlainTakes PlainLooked PlainSends k m n → held_of n ≡ took_held (held_of m) (by_origin k) → TakesPacket (shown_of m) (shown_of n)
 takes_shown m n k ready (l, l', ml, nl, (i, j, a, b, li, looked, takes, waits, grants, lb), same) held =
     let h : IsReadyIn (in_seen i) = ready_in m l i ml li ready in
     let due : due_of (held_of m) ≡ grant_due l.counted = ap (λ c. at_some (option_map in_of c) None (λ x. grant_due x.counted)) ml in (
-      k,
+      by_origin k,
       in_seen i,
       in_seen b,
       in_is m l i ml li,
-      subst (λ d. TakesIn d (in_seen i) (sent_of k) (in_seen b)) (sym due) (shown_take (grant_due l.counted) k i j a b h.0 h.1 looked takes grants),
-      shown_same (record { held = took_held (held_of m) k; ends = record (ends_seen (ends_of m)) { link = Some (in_seen b) } }) (shown_of n) held (with_link m n (Some (in_seen b)) (in_is n l' b nl lb) same),
+      subst (λ d. TakesIn d (in_seen i) (sent_of (by_origin k)) (in_seen b)) (sym due) (shown_take (grant_due l.counted) k i j a b h.0 h.1 looked takes grants),
+      shown_same (record { held = took_held (held_of m) (by_origin k); ends = record (ends_seen (ends_of m)) { link = Some (in_seen b) } }) (shown_of n) held (with_link m n (Some (in_seen b)) (in_is n l' b nl lb) same),
     )
 
 -- ---- an end that was looked at

@@ -36,7 +36,7 @@ none_between (suc lo) (suc hi) [] h = refl
 none_between (suc lo) (suc hi) (m ∷ log) h = none_between lo hi log (omega arith)
 
 -- such a row is as it was after the take
-has_stays : (own : Bool) (log : List Message) (r : Row) (k : Numbers) → Has own r k → taken_row own log r k ≡ r
+pub has_stays : (own : Bool) (log : List Message) (r : Row) (k : Numbers) → Has own r k → taken_row own log r k ≡ r
 has_stays true log r k h = rw (sym h.got, sym h.forgot) refl
 has_stays false log r k h =
     let none : messages_between (max k.lo r.got) k.got log ≡ [] = none_between (max k.lo r.got) k.got log (omega (arith, h.got)) in
@@ -75,7 +75,7 @@ module _ (w : World) (y s : ℕ) (m : MayTake w y s) (inv : Inv w) (lg : IsLogge
   own p = is_owned (view_in w (member_at w y).version) y l.sender p
 
   -- the oldest packet says of no origin that more was forgotten than received
-  oldest_says : (p : ℕ) → p < size w → SaysLess (numbers_at (oldest l) p)
+  pub oldest_says : (p : ℕ) → p < size w → SaysLess (numbers_at (oldest l) p)
   oldest_says p pl = says_less w s p lg (λ some. by_packets some l.packets refl)
     where
       ry : runs w y ≡ true

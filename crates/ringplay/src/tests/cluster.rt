@@ -5,7 +5,7 @@ ghost use Rattle.ring_world.specs.Event.{is_plain};
 
 use ring_cluster::Cluster;
 use ring_io::Gate;
-use ring_names::{Body, MemberId, Message, Name, OutOfMemory};
+use ring_names::{Body, MemberId, Name, OutOfMemory};
 use ring_script::{Command, ScriptFault, Steps, read_steps};
 use ring_world::{Event, Refused, are_opening_names};
 use std::alloc::Global;
@@ -222,17 +222,25 @@ fn settle<R: Threads>(
 }
 
 /// Whether the member of an id has heard these bodies of another.
-fn has_heard(cluster: &Cluster, by: u32, of: u32, bodies: &str) -> bool {
-    match cluster.member(MemberId(by)) {
-        Some(member) if of > 0 => are_bodies(member.heard(MemberId(of)), bodies),
-        _ => false,
+fn has_heard(cluster: &Cluster, by: u32, of: u32, bodies: &str) -> Result<bool, OutOfMemory> {
+    let Some(member) = cluster.member(MemberId(by)) else {
+        return Ok(false);
+    };
+    if of == 0 {
+        return Ok(false);
+    }
+    let got = member.got(MemberId(of)) as usize;
+    let all = cluster.published()?;
+    match all.get(of as usize - 1) {
+        Some(published) => Ok(are_bodies(published, got, bodies)),
+        None => Ok(false),
     }
 }
 
-/// Whether the messages have these bodies.
-fn are_bodies(messages: &[Message], bodies: &str) -> bool {
+/// Whether the first of these are the bodies.
+fn are_bodies(published: &[&Body], got: usize, bodies: &str) -> bool {
     let mut wanted = bodies.split_whitespace();
-    for Message::Cast(body) in messages {
+    for body in published.iter().take(got) {
         match wanted.next() {
             Some(text) if text.as_bytes() == body.bytes() => {}
             _ => return false,
@@ -262,7 +270,7 @@ fn is_so<R: Threads + Abort + AllocGlobal>(
         Line::Has(name, has) => {
             return Ok(cluster.has_member(&Name::read(name.as_bytes())?) == has);
         }
-        Line::Heard(by, of, bodies) => return Ok(has_heard(cluster, by, of, bodies)),
+        Line::Heard(by, of, bodies) => return Ok(has_heard(cluster, by, of, bodies)?),
         Line::Confirmed(by, count) => return Ok(confirmed(cluster, by) == count),
         Line::View(version) => return Ok(cluster.view().version == version),
         Line::Events(count) => return Ok(happened(cluster)? == count),

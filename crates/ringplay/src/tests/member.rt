@@ -9,7 +9,8 @@ ghost use Rattle.ring_world.specs.View.{ids};
 ghost use Rattle.gm_member.specs.Shown.{held_of, OutIsBack};
 ghost use Rattle.gm_member.specs.Questions.{OfView};
 
-use gm_member::{Ask, Load, Member, MemberFault};
+use activity::Load;
+use gm_member::{Ask, Member, MemberFault};
 use group_view::{Answer, Deposited, LinkKind, Request, View, are_opening_names};
 use ordered_link::{PlainIn, PlainOut, plain_pair};
 use ring_names::{Body, CreditSpec, Items, MemberId, Message, Name, OutOfMemory, Reason};
@@ -32,13 +33,13 @@ const TALES: &str = "
 knows what it publishes: 1 of a
 phase -> Up
 version -> 1
-heard -> []
+keeps 1 -> None
 confirmed -> 0
 put_refusal -> refused 16 NothingNew
 pick -> refused 43 HasCurrentLink
 publish hi -> 1
 put_refusal
-heard -> [Cast(Body { bytes: [104, 105] })]
+keeps 1 -> Some((0, 1))
 confirmed -> 0
 gain
 
@@ -388,10 +389,17 @@ fn read(alloc: Global, node: &Node, what: &str, rest: &str) -> Result<String, Fa
         "refresh_refusal" => refusal(alloc, node.refresh_refusal(rest.parse::<u32>()?)),
         "version" => seen(alloc, &node.view().version),
         "phase" => seen(alloc, &node.phase()),
-        "heard" => seen(alloc, &node.heard(MemberId(1))),
+        // The numbers up to which it has forgotten the messages of that member, and has them.
+        "keeps" => seen(alloc, &keeps(node, id_of(rest)?)),
         "confirmed" => seen(alloc, &node.confirmed()),
         _ => Err(Fail::new("no such line")),
     }
+}
+
+/// The numbers up to which it has forgotten the messages of a member, and has them.
+fn keeps(node: &Node, of: MemberId) -> Option<(u64, u64)> {
+    let table = node.tables().table(of)?;
+    Some((table.store.forgot(), table.store.got()))
 }
 
 /// What a line asks for, and what it wants to be seen.

@@ -1,7 +1,7 @@
 use Rattle.std.proofs.Common.{false, sym, subst}
 use Rattle.ordered_link.specs.declared.plain.PlainOut.{PlainOut}
 use Rattle.ordered_link.specs.Steps.{IsFreshPair}
-use Rattle.gm_member.specs.declared.packet.Load.{Load}
+use Rattle.activity.specs.declared.packet.Load.{Load}
 use Rattle.gm_member.proofs.Ready.{ready_sound}
 use Rattle.ring_cluster.specs.Parties.{shown_of}
 use Rattle.ring_cluster.specs.Looking.{HasLooked, to_post, kept_post, loose_seen, tidied, without_question}

@@ -16,12 +16,12 @@ pub put_next-requires : goal.put_next-requires
 put_next-requires g c = is_ready c.args.self.now c.requires
 
 -- who may put sends on a link, and the packet is the ring's
-put_out_lifts : (h : Held) → put_refused h ≡ None → (o : Outgoing) × (h.out ≡ Some o) × WhereItStands h (λ w x. IsPutPacket w x (parcel_on h.view.version h.rows o))
-put_out_lifts h e = by_out h.out refl (up_later h (on_some h.out NoOutLink (out_refused h.rows)) e)
+put_out_lifts : (h : Held) → put_refused h ≡ None → (o : Outgoing) × (h.out ≡ Some o) × WhereItStands h (λ w x. IsPutPacket w x (parcel_on h.view.version h.known o))
+put_out_lifts h e = by_out h.out refl (up_later h (on_some h.out NoOutLink (out_refused h.known)) e)
   where
-    by_out : (a : Option Outgoing) → h.out ≡ a → on_some a NoOutLink (out_refused h.rows) ≡ None → (o : Outgoing) × (h.out ≡ Some o) × WhereItStands h (λ w x. IsPutPacket w x (parcel_on h.view.version h.rows o))
+    by_out : (a : Option Outgoing) → h.out ≡ a → on_some a NoOutLink (out_refused h.known) ≡ None → (o : Outgoing) × (h.out ≡ Some o) × WhereItStands h (λ w x. IsPutPacket w x (parcel_on h.view.version h.known o))
     by_out None is k = cc
-    by_out (Some o) is k = (o, is, put_packet_lifts h o is)
+    by_out (Some o) is k = (o, is, put_packet_lifts h o e is)
 
 pub returns-clause-steps : goal.returns-clause-steps
 returns-clause-steps g c = on_ok_both c.put_next.result (steps_lift (λ k. put_refused k ≡ None) Put put_held put_steps (held_of c.args.self.now) (held_of c.put_next.new.self)) c.put_next.ensures.heeds.enabled c.put_next.ensures.puts.ok

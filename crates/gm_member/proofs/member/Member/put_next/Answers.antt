@@ -1,17 +1,23 @@
-use Rattle.std.proofs.Common.{◌≡◌, map, option_map, None, refl, inr, ap, sym, subst, ◌∙◌, arith, rules}
+use Rattle.std.proofs.Common.{option_map, refl, inr, ap, sym, subst, ◌∙◌, arith, rules}
 use Rattle.std.proofs.lemmas.Result.{on_ok_weaker, on_err_weaker, IfErr-weaker}
-use Rattle.gm_member.specs.View.{row_of, out_of}
-use Rattle.gm_member.specs.Held.{out_refused, parcel_on}
+use Rattle.gm_member.specs.View.{all_kept, out_of}
+use Rattle.gm_member.specs.Held.{parcel_on}
 use Rattle.gm_member.specs.Shown.{held_of}
-use Rattle.gm_member.specs.Ends.{EndPuts}
+use Rattle.gm_member.specs.Ends.{EndSends}
 use Rattle.gm_member.proofs.Calls.{put_out_enabled}
+use Rattle.gm_member.proofs.Ready.{sent_there}
+use Rattle.gm_member.proofs.Within.{above_within}
 use Rattle.gm_member.proofs.member.Member.put_next.Goals as goal
-use Rattle.gm_member.specs.Loads.{as_item}
+
+pub invariant_of-self-clause-sent : goal.invariant_of-self-clause-sent
+invariant_of-self-clause-sent g c = above_within c.put.new.self.sent c.args.self.now.tables c.put.ensures.there
+
+pub put-requires-clause-there : goal.put-requires-clause-there
+put-requires-clause-there g c = sent_there c.args.self.now c.in-Some-out.link c.in-Some-out.is
 
 pub put-requires-clause-enabled : goal.put-requires-clause-enabled
 put-requires-clause-enabled g c =
-    subst (λ ks. out_refused (map row_of ks) (out_of c.in-Some-out.link) ≡ None) (sym c.deref.ensures.value)
-    (put_out_enabled (held_of c.args.self.now) (out_of c.in-Some-out.link) (ap (option_map out_of) c.in-Some-out.is) (sym c.put_refusal.ensures ∙ c.in_default.is))
+    put_out_enabled (held_of c.args.self.now) (out_of c.in-Some-out.link) (ap (option_map out_of) c.in-Some-out.is) (sym c.put_refusal.ensures ∙ c.in_default.is)
 
 pub returns-clause-puts : goal.returns-clause-puts
 returns-clause-puts g c = record {
@@ -22,9 +28,7 @@ returns-clause-puts g c = record {
         c.put.new.self,
         c.in-Some-out.is,
         refl,
-        subst (λ k. EndPuts g.O.LinkOut.puts k c.in-Some-out.link.end c.put.new.self.end)
-            (ap (λ v. as_item (parcel_on v (map row_of c.deref.result.now) (out_of c.in-Some-out.link))) c.version-version.ensures
-            ∙ ap (λ ks. as_item (parcel_on c.args.self.now.view.version (map row_of ks) (out_of c.in-Some-out.link))) c.deref.ensures.value) p,
+        subst (λ v. EndSends g.O.LinkOut.puts (parcel_on v (all_kept c.args.self.now.tables) (out_of c.in-Some-out.link)) c.in-Some-out.link.end c.put.new.self.end) c.version-version.ensures p,
         c.put.ensures.kept,
         (refl, refl, refl, refl),
       ))

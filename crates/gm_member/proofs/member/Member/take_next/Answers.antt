@@ -1,10 +1,17 @@
-use Rattle.std.proofs.Common.{◌≡◌, ◌+◌, [], length, Some, map, option_map, refl, sym, ap, ◌∙◌, arith}
-use Rattle.std.proofs.lemmas.List.{with_items_is}
-use Rattle.ring_world.specs.Step.{is_owned}
-use Rattle.gm_member.specs.Held.{at_some, owns, accepted_rows, took_from}
+use Rattle.std.proofs.Common.{◌+◌, ◌≤◌, [], Some, option_map, refl, inr, sym, ap, subst, ◌∙◌, arith, rules}
+use Rattle.std.proofs.lemmas.Result.{err_from_is_err_and}
+use Rattle.std.specs.Vec.{vec_len, vec_capacity}
+use Rattle.activity.specs.Plan.{owns as owned}
+use Rattle.gm_member.specs.Parcels.{by_origin}
+use Rattle.gm_member.specs.Held.{at_some, owns, all_accepted, took_from}
 use Rattle.gm_member.specs.News.{news_below}
-use Rattle.gm_member.specs.View.{row_of, in_of}
+use Rattle.gm_member.specs.View.{in_of, told_on, count_of}
+use Rattle.gm_member.specs.Spares.{told_by_spare}
 use Rattle.gm_member.specs.Shown.{held_of}
+use Rattle.gm_member.proofs.Accepting.{keeps_all, all_applied}
+use Rattle.gm_member.proofs.Calls.{on_err, on_fault}
+use Rattle.gm_member.proofs.TakenWithin.{taken_within}
+use Rattle.gm_member.proofs.Within.{keeps_within}
 use Rattle.gm_member.proofs.member.Member.take_next.Goals as goal
 
 pub returns-clause-takes : goal.returns-clause-takes
@@ -12,23 +19,64 @@ returns-clause-takes g c =
     let m = c.args.self.now in
     let link = c.in-Some-current.link in
     let k = c.in_ok-news.packet in
-    let many : length c.accept.new.known ≡ m.known.len = omega (arith, c.accept.auto.known, ap length c.deref_mut.ensures.value, m.known.ok.0) in
+    let own = owned m.view m.id.0 link.from.0 in
     record {
       ok = (
         k,
         c.in_ok-news.ensures.version,
-        ap (λ ks. record (held_of m) { rows = map row_of ks; current = Some (in_of c.take.new.self) }) (with_items_is m.known c.accept.new.known many)
-            ∙ ap (λ rs. record (held_of m) { rows = rs; current = Some (in_of c.take.new.self) })
-            (c.accept.ensures ∙ ap (λ ks. accepted_rows (λ p. is_owned m.view m.id.0 link.from.0 (p + 1)) (map row_of ks) k.lines) c.deref_mut.ensures.value)
-            ∙ ap (λ l. record (held_of m) { rows = accepted_rows (owns (held_of m) link.from.0) (held_of m).rows k.lines; current = Some l }) c.in_ok-news.ensures.counted
-            ∙ ap (λ o. at_some (option_map in_of o) (held_of m) (took_from (held_of m) k)) (sym c.in-Some-current.is),
+        ap (λ ks. record (held_of m) { known = ks; current = Some (in_of c.take.new.self) }) (all_applied own m.tables c.take.new.tables c.apply.new.self k.lines c.take.ensures.kept (c.apply.ensures own (c.deref.ensures.value ∙ c.in_ok-news.ensures.plan)))
+            ∙ ap (λ l. record (held_of m) { known = all_accepted (owns (held_of m) link.from.0) (held_of m).known (by_origin k).lines; current = Some l }) c.in_ok-news.ensures.counted
+            ∙ ap (λ o. at_some (option_map in_of o) (held_of m) (took_from (held_of m) (by_origin k))) (sym c.in-Some-current.is),
         c.in_ok-news.ensures.news
-            ∙ ap (λ ks. news_below 64 (λ p. is_owned m.view m.id.0 link.from.0 (p + 1)) (map row_of ks) k.lines) c.deref.ensures.value
-            ∙ ap (λ o. at_some (option_map in_of o) [] (λ l. news_below 64 (owns (held_of m) l.from) (held_of m).rows k.lines)) (sym c.in-Some-current.is),
+            ∙ ap (λ o. at_some (option_map in_of o) [] (λ l. news_below 64 (owns (held_of m) l.from) (held_of m).known (by_origin k).lines)) (sym c.in-Some-current.is),
         (link, c.take.new.self, c.in-Some-current.is, refl, c.in_ok-news.ensures.took, (refl, refl, refl, refl)),
       );
       fault = tt;
       err = tt;
       looks = tt;
       kept = tt;
+    }
+
+pub invariant_of-self : goal.invariant_of-self
+invariant_of-self g c =
+    let m = c.args.self.now in
+    record {
+      own = m.own;
+      stands = m.stands;
+      up = m.up;
+      sent = keeps_within (told_on m.out) m.tables c.take.new.tables c.take.ensures.kept m.sent;
+      spared = keeps_within (told_by_spare m.spare) m.tables c.take.new.tables c.take.ensures.kept m.spared;
+      unended = m.unended;
+      room_in = subst (λ o. vec_len m.old_ins + vec_len m.door + count_of o ≤ vec_capacity m.old_ins) c.in-Some-current.is m.room_in;
+      room_out = m.room_out;
+    }
+
+pub invariant_of-self-2-clause-sent : goal.invariant_of-self-2-clause-sent
+invariant_of-self-2-clause-sent g c =
+    let m = c.args.self.now in
+    let own = owned m.view m.id.0 c.in-Some-current.link.from.0 in
+    taken_within (told_on m.out) own m.tables c.take.new.tables c.apply.new.self c.in_ok-news.packet.lines c.take.ensures.kept (c.apply.ensures own (c.deref.ensures.value ∙ c.in_ok-news.ensures.plan)) m.sent
+
+pub invariant_of-self-2-clause-spared : goal.invariant_of-self-2-clause-spared
+invariant_of-self-2-clause-spared g c =
+    let m = c.args.self.now in
+    let own = owned m.view m.id.0 c.in-Some-current.link.from.0 in
+    taken_within (told_by_spare m.spare) own m.tables c.take.new.tables c.apply.new.self c.in_ok-news.packet.lines c.take.ensures.kept (c.apply.ensures own (c.deref.ensures.value ∙ c.in_ok-news.ensures.plan)) m.spared
+
+pub returns-in_err-news-clause-takes : goal.returns-in_err-news-clause-takes
+returns-in_err-news-clause-takes g c =
+    let m = c.args.self.now in
+    let p = err_from_is_err_and c.from_residual.result c.from_residual.ensures.1 in
+    let link = c.in-Some-current.link in
+    let same = keeps_all m.tables c.take.new.tables c.take.ensures.kept in
+    record {
+      ok = search rules;
+      fault = on_fault _ c.from_residual.result p.0 c.in_err-news.field-0.0 p.1 p.2 (inr (sym c.no_link.ensures ∙ c.in_default.is, c.in_err-news.ensures.fault));
+      err = on_err c.from_residual.result
+          (ap (λ ks. record (held_of m) { known = ks; current = Some (in_of c.take.new.self) }) same
+          ∙ ap (λ l. record (held_of m) { current = Some l }) c.in_err-news.ensures.err
+          ∙ ap (λ o. record (held_of m) { current = option_map in_of o }) (sym c.in-Some-current.is));
+      looks = on_err c.from_residual.result ((refl, refl, refl, refl), inr (link, c.take.new.self, c.in-Some-current.is, refl, c.in_err-news.ensures.looks));
+      kept = on_err c.from_residual.result
+          ((refl, refl, same, omega arith, omega arith), λ k r. (r.0, subst (λ o. vec_len m.old_ins + vec_len m.door + count_of o + k ≤ vec_capacity m.old_ins) c.in-Some-current.is r.1));
     }

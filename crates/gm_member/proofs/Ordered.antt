@@ -1,0 +1,82 @@
+-- Where nobody is admitted, no member has forgotten what it didn't receive, also one that has stopped.
+use Rattle.std.proofs.Common.{◌≡◌, ◌⊎◌, inl, inr, true, ℕ, ◌<◌, ◌≤◌, List, [], ◌∷◌, ◌++◌, length, Some, None, refl, sym, ap, subst, ⊎_elim, arith}
+use Rattle.std.proofs.lemmas.List.{length-set}
+use Rattle.ring_names.specs.declared.numbers.CreditSpec.{CreditSpec}
+use Rattle.group_view.specs.Change.{AreOpeningNames}
+use Rattle.ring_world.specs.declared.event.Event.{Event}
+use Rattle.ring_world.specs.declared.phase.Phase.TheVariants.{Up}
+use Rattle.ring_world.specs.Rows.{Row}
+use Rattle.ring_world.specs.View.{right_of}
+use Rattle.ring_world.specs.Machine.{Member, World, row_at, member_at, view_in}
+use Rattle.ring_world.specs.Step.{size, published, taker, with_current, with_member, stop_at, stopped, moved_to, opened_link, opening}
+use Rattle.ring_world.specs.Event.{is_plain, ArePlain, refreshed, refusal, effect, IsRun, last}
+use Rattle.ring_world.specs.Lawful.{row_of}
+use Rattle.ring_world.proofs.events.Composed.{refresh_composed, end_composed}
+use Rattle.ring_world.proofs.events.First.{first_row}
+use Rattle.ring_world.proofs.events.Leaves.{member_leaves}
+use Rattle.ring_world.proofs.events.Plain.{NoneWaits, each_plain, plain_events, opening_none}
+use Rattle.ring_world.proofs.invariants.Happens.{IsGood, event_good, opening_good}
+use Rattle.ring_world.proofs.runs.Apart.{forgot_below}
+
+-- a member has forgotten of no origin what it didn't receive
+abbrev pub IsOrdered : ℕ → Member → Type 0
+IsOrdered n y = (p : ℕ) → 1 ≤ p → p < n → (row_at y p).forgot ≤ (row_at y p).got
+
+-- no member has
+abbrev pub AreOrdered : World → Type 0
+AreOrdered w = (q : ℕ) → IsOrdered (size w) (member_at w q)
+
+-- none that is up has, whatever ring it is
+abbrev pub UpOrdered : World → Type 0
+UpOrdered w = (q : ℕ) → (member_at w q).phase ≡ Up → IsOrdered (size w) (member_at w q)
+
+pub up_ordered : (w : World) → IsGood w → UpOrdered w
+up_ordered w g q up p some lt = forgot_below w q q p g.inv.is_ring (g.inv.walks p some lt) up up
+
+-- a member is written that is up, or has the rows that it had
+written_ordered : (w : World) (x : ℕ) (y : Member) → ((y.phase ≡ Up) ⊎ (y.rows ≡ (member_at w x).rows)) → AreOrdered w → UpOrdered (with_member w x y) → AreOrdered (with_member w x y)
+written_ordered w x y now h up q p some lt =
+    let many : size (with_member w x y) ≡ size w = length-set w.members x y in
+    ⊎_elim
+    (λ (u : (member_at (with_member w x y) q).phase ≡ Up). up q u p some lt)
+    (λ (e : (member_at (with_member w x y) q).rows ≡ (member_at w q).rows).
+    subst (λ rs. (row_at (record (member_at w q) { rows = rs }) p).forgot ≤ (row_at (record (member_at w q) { rows = rs }) p).got) (sym e) (h q p some (omega (arith, many, lt))))
+    (member_leaves (λ _ a b. (b.phase ≡ Up) ⊎ (b.rows ≡ a.rows)) w x y now (λ _. inr refl) q)
+
+-- one that has the rows that it had
+kept_ordered : (w : World) (x : ℕ) (y : Member) → y.rows ≡ (member_at w x).rows → AreOrdered w → AreOrdered (with_member w x y)
+kept_ordered w x y e h q p some lt =
+    let many : size (with_member w x y) ≡ size w = length-set w.members x y in
+    subst (λ rs. (row_at (record (member_at w q) { rows = rs }) p).forgot ≤ (row_at (record (member_at w q) { rows = rs }) p).got)
+    (sym (member_leaves (λ _ a b. b.rows ≡ a.rows) w x y e (λ _. refl) q)) (h q p some (omega (arith, many, lt)))
+
+refresh_ordered : (w : World) (x v : ℕ) → AreOrdered w → AreOrdered (refreshed w x v)
+refresh_ordered w x v h = refresh_composed AreOrdered w x v
+    (λ k _ g. g)
+    (λ u _ g. kept_ordered (record u { links = u.links ++ opened_link u x (right_of (view_in w v) x) ∷ [] }) x (record (member_at u x) { out = Some (length u.links) }) refl g)
+    (kept_ordered w x (moved_to w x v) refl h)
+
+-- where those that are up haven't, an event leaves none that has
+event_ordered : (w : World) (e : Event) → is_plain e ≡ true → NoneWaits w → refusal w e ≡ None → AreOrdered w → UpOrdered (effect w e) → AreOrdered (effect w e)
+event_ordered w e p n r h = each_plain (λ u. UpOrdered u → AreOrdered u) w e p n (record {
+  casts = λ x m u. written_ordered w x (published x m (member_at w x)) (inl u.up) h;
+  puts = λ x o u out k _. h;
+  takes = λ y s u m up. written_ordered w y (taker w y s) (inl u.up) h up;
+  leaves = λ y s u current k _. kept_ordered w y (with_current None (member_at w y)) refl h;
+  gains = λ x o u out k _. h;
+  stops = λ x u _. end_composed AreOrdered _ (stop_at w x) (member_at w x).out (λ k _ g. g) (kept_ordered w x (stopped (member_at w x)) refl h);
+  marks = λ x d u m _. refresh_ordered _ x _ h;
+  refreshes = λ x v u m _. refresh_ordered w x v h;
+  picks = λ y s u none e upto _. kept_ordered w y (with_current (Some s) (member_at w y)) refl h;
+}) r
+
+opening_ordered : (credit : CreditSpec) (names : List (List ℕ)) → AreOrdered (opening credit names)
+opening_ordered credit names q p some lt =
+    let e = first_row credit names q p in
+    let forgot : (row_of (opening credit names) q p).forgot ≡ 0 = ap (λ (r : Row). r.forgot) e in
+    omega arith
+
+-- it holds in every state of every such run
+pub reached_ordered : (credit : CreditSpec) (names : List (List ℕ)) (events : List Event) → AreOpeningNames names → ArePlain events → IsRun (opening credit names) events → AreOrdered (last (opening credit names) events)
+reached_ordered credit names events are plain r =
+    plain_events AreOrdered (λ u e p g n k h. event_ordered u e p n k h (up_ordered (effect u e) (event_good u e g k))) (opening credit names) events plain (opening_good credit names are) (opening_none credit names) r (opening_ordered credit names)
