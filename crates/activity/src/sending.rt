@@ -88,7 +88,8 @@ fn push_line(
     last: SentRow,
 ) -> Result<(), OutOfMemory>
     requires { (told_of last).got ≤ got_of (kept_in table.now) }
-    ensures { OnOk result ((lines.new).items ≡ (lines.old).items ++ cond (line_there first (kept_in table.now) (told_of last))
+    ensures { OnOk result ((lines.new).items
+        ≡ (lines.old).items ++ cond (line_there first (kept_in table.now) (told_of last))
         (line_from (lo_of first (kept_in table.now) (told_of last)) origin (kept_in table.now) ∷ []) []) }
 {
     if !has_line(first, table, last) {

@@ -1,9 +1,11 @@
 //! What is kept of each origin.
-ghost use Rattle.std.specs.Prelude.{◌≡◌, drop, IfSome, ℕ, ◌+◌, ◌<◌, ◌≤◌, ◌^◌, Bool, true, false, cond, nat_eq, length, Some, [], OnOk, IfOk, IfErr, MatchOption};
+ghost use Rattle.std.specs.Prelude.{◌≡◌, drop, IfSome, ℕ, ◌+◌, ◌<◌, ◌≤◌, ◌^◌, Bool, true, false, cond, nat_eq};
+ghost use Rattle.std.specs.Prelude.{length, Some, [], OnOk, IfOk, IfErr, MatchOption};
 ghost use Rattle.group_view.specs.Ring.{AreDistinct};
 ghost use Rattle.activity.specs.Kept.{got_of, no_kept, joined, kept_of, has_room, KeepsRows};
 ghost use Rattle.activity.specs.Parcels.{line_of, origins};
-ghost use Rattle.activity.specs.Plan.{changes_of, changed, change_of, accepted, AreReady, arrivals, opened, begun, begins as line_begins, AreOpened, first_for, whole_change};
+ghost use Rattle.activity.specs.Plan.{changes_of, changed, change_of, accepted, AreReady, arrivals, opened};
+ghost use Rattle.activity.specs.Plan.{begun, begins as line_begins, AreOpened, first_for, whole_change};
 ghost use Rattle.activity.specs.Shown.{kept_in, kept_rows};
 
 use crate::change::Change;

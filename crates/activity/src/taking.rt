@@ -19,8 +19,8 @@ fn owns(view: &View, me: MemberId, sender: MemberId, origin: MemberId) -> bool
     origin.0 == me.0 || view.is_between(sender, origin, me)
 }
 
-/// What a line changes at a member with these tables, which answers for the line's origin or doesn't: none where the line isn't
-/// used. It takes no memory.
+/// What a line changes at a member with these tables, which answers for the line's origin or doesn't: none where the
+/// line isn't used. It takes no memory.
 pub fn line_change(own: bool, tables: &Tables, line: &Line) -> Option<Change>
     ensures { result ≡ change_by own (kept_of tables.now (line.now).origin.0) line.now }
 {

@@ -9,9 +9,9 @@ use std::alloc::Global;
 use std::str::from_utf8;
 use std::test::Fail;
 
-/// What is published before each of two packets, as an origin and a body; the two packets, each line as its origin, `lo`,
-/// the messages and `forgot`; and what member 2 keeps of 1, 2 and 3 once it took both: what it has forgotten, the messages,
-/// and what has come round.
+/// What is published before each of two packets, as an origin and a body; the two packets, each line as its origin,
+/// `lo`, the messages and `forgot`; and what member 2 keeps of 1, 2 and 3 once it took both: what it has forgotten,
+/// the messages, and what has come round.
 struct Row {
     before: &'static str,
     between: &'static str,

@@ -8,10 +8,10 @@ use Rattle.activity.specs.Kept.{Kept, KeptRow, no_kept, got_of, kept_of, joined,
 use Rattle.activity.specs.Told.{Told, ToldRow, none_told, sent_of, KeepsSent}
 use Rattle.activity.specs.Parcels.{Carried, line_of, noted}
 use Rattle.activity.specs.Diff.{next_line, IsNotAbove}
-use Rattle.activity.specs.Plan.{accepted, change_of, changes_of}
+use Rattle.activity.specs.Plan.{accepted, begun, change_of, changes_of}
 use Rattle.ring_world.proofs.rings.Rounds.{nat_eq-same, nat_eq-not}
 use Rattle.gm_member.specs.Parcels.{places, known_at, told_at, line_at, told_now, emptied}
-use Rattle.gm_member.specs.Held.{all_told, all_accepted}
+use Rattle.gm_member.specs.Held.{all_told, all_accepted, all_begun}
 use Rattle.gm_member.proofs.Noting.{noted_now, noted_emptied}
 use Rattle.gm_member.proofs.Places.{map-range_same, tabled_at, tabled_set}
 
@@ -54,6 +54,12 @@ all_applied own old mid new lines k h = map-range_same (λ p. kept_of new (p + 1
     (λ p l. h (p + 1)
     ∙ ap (λ c. accepted (own (p + 1)) c (line_of lines (p + 1))) (k.kept (p + 1) ∙ sym (kept_there old p l))
     ∙ ap (accepted (own (p + 1)) (known_at (kept_all old) p)) (sym (tabled_at (λ q. line_of lines (q + 1)) 64 p None l)))
+
+-- a first packet is taken in
+pub all_filled : (new : List KeptRow) (lines : List Carried) → ((p : ℕ) → kept_of new p ≡ begun (line_of lines p)) → map (λ p. kept_of new (p + 1)) places ≡ all_begun (map (λ p. line_of lines (p + 1)) places)
+unfolding places
+all_filled new lines h = map-range_same (λ p. kept_of new (p + 1)) (λ p. begun (line_at (map (λ q. line_of lines (q + 1)) places) p)) 64
+    (λ p l. h (p + 1) ∙ ap begun (sym (tabled_at (λ q. line_of lines (q + 1)) 64 p None l)))
 
 -- the numbers last sent after a put
 pub all_noted : (first : Bool) (rows : List KeptRow) (old new : List ToldRow) (lines : List Carried) → IsNotAbove old rows → ((p : ℕ) → first ≡ true → ((sent_of old p).got ≡ 0) × ((sent_of old p).forgot ≡ 0))

@@ -1,18 +1,18 @@
 -- What follows for single members, rows and packets.
-use Rattle.std.proofs.Common.{◌≡◌, ◌≢◌, ⊎_elim, ℕ, zero, suc, ◌+◌, ◌-◌, ◌<◌, ◌≤◌, List, [], ◌∷◌, length, get_or, false, Bool, Some, refl, sym, ap, subst, ◌∙◌, arith}
+use Rattle.std.proofs.Common.{◌≡◌, ◌≢◌, ⊎_elim, ℕ, zero, suc, ◌+◌, ◌-◌, ◌<◌, ◌≤◌, List, [], ◌∷◌, length, get_or, true, false, Some, sym, ap, subst, ◌∙◌, arith}
 use Rattle.std.proofs.lemmas.Bool.{false≢true, cases_lt, cases_eq}
 use Rattle.std.proofs.lemmas.List.{get_or_past}
 use Rattle.group_view.specs.Since.{no_group}
 use Rattle.ring_world.specs.declared.event.Event.{Event}
 use Rattle.ring_world.specs.declared.numbers.Numbers.{Numbers}
-use Rattle.ring_world.specs.Rows.{Row, no_row, no_numbers, next_numbers}
+use Rattle.ring_world.specs.Rows.{no_row, no_numbers, lo_of, next_numbers}
 use Rattle.ring_world.specs.Refusal.{is_empty}
-use Rattle.ring_world.specs.Machine.{World, Packet, Member, Sending, no_packet, no_member, row_at, numbers_at, member_at, link_at, view_in, newest, oldest}
-use Rattle.ring_world.specs.Step.{size, log_of, next_lines, next_packet}
+use Rattle.ring_world.specs.Machine.{World, Packet, Member, Sending, no_packet, no_member, row_at, numbers_at, member_at, link_at, view_in, newest, runs, oldest}
+use Rattle.ring_world.specs.Step.{size, log_of, next_packet}
 use Rattle.ring_world.specs.Event.{id_of, by_of, of_member, at_found, refused_at, done_at, refusal, effect}
 use Rattle.ring_world.specs.Lawful.{row_of, NumbersAreWithin, PacketsAreWithin}
 use Rattle.ring_world.proofs.invariants.Happens.{HasViews}
-use Rattle.ring_world.proofs.code.Sent.{next_line_at}
+use Rattle.ring_world.proofs.walks.Packets.{reads_got, reads_forgot, line_of_packet}
 use Rattle.activity.specs.Kept.{no_kept, got_of}
 use Rattle.activity.specs.Told.{none_told}
 use Rattle.gm_member.specs.Parcels.{places, known_at, told_at}
@@ -34,8 +34,8 @@ done_there w x e named = ap (λ o. at_found o w (done_at w e)) named
 pub log_past : (w : World) (p : ℕ) → size w ≤ p → log_of w p ≡ []
 log_past w p ge = ap (λ (y : Member). y.log) (get_or_past w.members p no_member ge)
 
-pub row_past : (w : World) (x p : ℕ) → IsFit w → 1 ≤ x → x < size w → size w ≤ p → row_of w x p ≡ no_row
-row_past w x p f some lt ge = get_or_past (member_at w x).rows p no_row (omega (arith, f.rows x some lt))
+pub row_past : (w : World) (x p : ℕ) → IsFit w → size w ≤ p → row_of w x p ≡ no_row
+row_past w x p f ge = get_or_past (member_at w x).rows p no_row (omega (arith, (f.rows x).few))
 
 -- a number of an origin that publishes nothing is 0
 pub got_zero : (w : World) (q p : ℕ) → IsFit w → log_of w p ≡ [] → (row_of w q p).got ≡ 0
@@ -111,16 +111,20 @@ version_is w x f = version_of_view w (member_at w x).version f.good.views (f.goo
 
 -- ---- packets
 
-lines_past : (fresh : Bool) (rows : List Row) (last : List Numbers) (p : ℕ) → length rows ≤ p → get_or (next_lines fresh rows last) p no_numbers ≡ no_numbers
-lines_past fresh [] last p l = refl
-lines_past fresh (r ∷ rows) last zero l = absurd (omega arith)
-lines_past fresh (r ∷ rows) [] (suc p) l = lines_past fresh rows [] p (omega arith)
-lines_past fresh (r ∷ rows) (k ∷ last) (suc p) l = lines_past fresh rows last p (omega arith)
+-- the numbers of the next packet on the out link of a running member: they go on from what was put last
+pub next_is : (w : World) (x o p : ℕ) → IsFit w → runs w x ≡ true → (member_at w x).out ≡ Some o → numbers_at (next_packet (member_at w x) (link_at w o).sending) p ≡ next_numbers (link_at w o).sending.fresh (row_of w x p) (numbers_at (link_at w o).sending.sent p)
+next_is w x o p f rx is =
+    let s : Sending = (link_at w o).sending in
+    let k : Numbers = numbers_at (next_packet (member_at w x) s) p in
+    let got : k.got ≡ (row_of w x p).got = line_of_packet (λ j. j.got) (λ r. r.got) (member_at w x) s p reads_got in
+    let forgot : k.forgot ≡ (row_of w x p).forgot = line_of_packet (λ j. j.forgot) (λ r. r.forgot) (member_at w x) s p reads_forgot in
+    let lo : k.lo ≡ lo_of s.fresh (row_of w x p).forgot (numbers_at s.sent p) = f.lawful.compact.next x o rx is p ∙ ap (λ n. lo_of s.fresh n (numbers_at s.sent p)) forgot in
+    ap (λ n. record { lo = n; got = k.got; forgot = k.forgot }) lo
+    ∙ ap (λ n. record { lo = lo_of s.fresh (row_of w x p).forgot (numbers_at s.sent p); got = n; forgot = k.forgot }) got
+    ∙ ap (λ n. record { lo = lo_of s.fresh (row_of w x p).forgot (numbers_at s.sent p); got = (row_of w x p).got; forgot = n }) forgot
 
--- the numbers of the next packet, of an origin with a row
-pub next_at : (y : Member) (s : Sending) (p : ℕ) → p < length y.rows → numbers_at (next_packet y s) p ≡ next_numbers s.fresh (row_at y p) (numbers_at s.sent p)
-next_at y s p l = next_line_at s.fresh y.rows s.sent.numbers p l
-
--- and of one without
-pub next_past : (y : Member) (s : Sending) (p : ℕ) → length y.rows ≤ p → numbers_at (next_packet y s) p ≡ no_numbers
-next_past y s p l = lines_past s.fresh y.rows s.sent.numbers p l
+-- and what it tells of each origin
+pub next_tells : (y : Member) (s : Sending) (p : ℕ) → told_in (numbers_at (next_packet y s) p) ≡ record { got = (row_at y p).got; forgot = (row_at y p).forgot }
+next_tells y s p =
+    ap (λ n. record { got = n; forgot = (numbers_at (next_packet y s) p).forgot }) (line_of_packet (λ j. j.got) (λ r. r.got) y s p reads_got)
+    ∙ ap (λ n. record { got = (row_at y p).got; forgot = n }) (line_of_packet (λ j. j.forgot) (λ r. r.forgot) y s p reads_forgot)

@@ -8,14 +8,15 @@ use Rattle.std.proofs.lemmas.List.{length-drop, length-take-le, drop-append-le}
 use Rattle.ring_names.specs.declared.message.Message.{Message}
 use Rattle.ring_world.specs.declared.numbers.Numbers.{Numbers}
 use Rattle.ring_world.specs.Rows.{Row, published_row, next_numbers, taken_row, messages_between}
+use Rattle.ring_world.specs.Step.{begun_row}
 use Rattle.ring_world.specs.Compact.{has_line as has_line_of}
 use Rattle.ring_world.proofs.rings.Maps.{map-range_same_from}
 use Rattle.ring_world.proofs.runs.InOrder.{heard_more}
 use Rattle.group_view.specs.View.{as_id}
-use Rattle.activity.specs.Kept.{got_of, joined}
+use Rattle.activity.specs.Kept.{no_kept, got_of, joined}
 use Rattle.activity.specs.Parcels.{Carried, got_in}
 use Rattle.activity.specs.Diff.{next_line}
-use Rattle.activity.specs.Plan.{fits, accepted}
+use Rattle.activity.specs.Plan.{fits, accepted, begins, begun}
 use Rattle.activity.proofs.Marks.{drop_between}
 use Rattle.gm_member.specs.Parcels.{told_now}
 use Rattle.gm_member.specs.Stands.{kept_by, told_in, line_for}
@@ -153,6 +154,38 @@ accepted_arrival log p r k h f =
     ∙ ap (drop (k.forgot - r.forgot)) (heard_more r.forgot r.got k.got log h.forgot f.got f.within)
     ∙ drop_between r.forgot k.forgot k.got log f.falls_not in
     rw (arrival_fits log p r k h f) (ap (λ ms. record { forgot = k.forgot; messages = ms; retired = r.retired }) both)
+
+-- ---- a first packet
+
+-- What the numbers of a first packet have: it begins where its sender has forgotten, nothing is forgotten in it that wasn't received,
+-- and none is above the length of the log.
+pub record BeginsFirst (log : List Message) (k : Numbers) : Type 0 where
+  pub lo : k.lo ≤ k.forgot
+  pub forgot : k.forgot ≤ k.got
+  pub within : k.got ≤ length log
+
+first_begins : (log : List Message) (p : ℕ) (k : Numbers) → BeginsFirst log k → begins (whole_line log p k) ≡ true
+first_begins log p k f =
+    ap (λ n. nat_le k.lo k.forgot && nat_le k.forgot n) (got_is log p k (omega (arith, f.lo, f.forgot)) f.within)
+    ∙ two (nat_le k.lo k.forgot) (nat_le k.forgot k.got) (not_above k.lo k.forgot f.lo) (not_above k.forgot k.got f.forgot)
+  where
+    two : (a b : Bool) → a ≡ true → b ≡ true → (a && b) ≡ true
+    two a b ea eb = rw (ea, eb) refl
+
+-- a member that has retired nothing begins with the messages of its line
+pub begun_first : (log : List Message) (p : ℕ) (r : Row) (k : Numbers) → r.retired ≡ 0 → BeginsFirst log k → begun (Some (whole_line log p k)) ≡ kept_by log (begun_row r k)
+begun_first log p r k none f =
+    ap (λ b. cond b (record { forgot = k.forgot; messages = drop (k.forgot - k.lo) (messages_between k.lo k.got log); retired = 0 }) no_kept) (first_begins log p k f)
+    ∙ ap (λ ms. record { forgot = k.forgot; messages = ms; retired = 0 }) (drop_between k.lo k.forgot k.got log f.lo)
+    ∙ ap (λ n. record { forgot = k.forgot; messages = messages_between k.forgot k.got log; retired = n }) (sym none)
+
+-- where it has none, nothing was received of the origin
+pub begun_nothing : (log : List Message) (r : Row) (k : Numbers) → r.retired ≡ 0 → k.got ≡ 0 → BeginsFirst log k → begun None ≡ kept_by log (begun_row r k)
+begun_nothing log r k none got f =
+    let forgot : k.forgot ≡ 0 = omega (arith, f.forgot, got) in
+    sym (ap (λ n. kept_by log (record r { got = n; forgot = k.forgot; base = k.got })) got
+    ∙ ap (λ n. kept_by log (record r { got = 0; forgot = n; base = k.got })) forgot
+    ∙ ap (λ n. record { forgot = 0; messages = []; retired = n }) none)
 
 -- ---- what it brings
 

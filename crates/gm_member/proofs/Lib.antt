@@ -1,6 +1,8 @@
 pub mod Accepting
 pub mod AnswerLifts
 pub mod Arriving
+pub mod BeginStands
+pub mod Beginning
 pub mod Calls
 pub mod DoorLists
 pub mod DoorParts
@@ -24,6 +26,7 @@ pub mod Parcels
 pub mod Parts
 pub mod PickStands
 pub mod Places
+pub mod Plain
 pub mod Pruned
 pub mod PublishStands
 pub mod PutStands
@@ -31,6 +34,7 @@ pub mod Putting
 pub mod Ready
 pub mod RefreshStands
 pub mod Refusals
+pub mod Rows
 pub mod Same
 pub mod StopStands
 pub mod TakeStands

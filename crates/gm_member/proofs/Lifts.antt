@@ -1,5 +1,5 @@
 -- From what a member holds to every state in which it stands.
-use Rattle.std.proofs.Common.{◌≡◌, ℕ, ◌+◌, ◌-◌, ◌<◌, ◌≤◌, false, List, [], length, Option, Some, None, refl, sym, ap, subst, ◌∙◌, arith, is_some}
+use Rattle.std.proofs.Common.{◌≡◌, ℕ, ◌+◌, ◌-◌, ◌<◌, ◌≤◌, false, List, [], length, Option, Some, None, refl, sym, ap, subst, ◌∙◌, ⊎_elim, arith, is_some}
 use Rattle.std.specs.Prelude.{option_map}
 use Rattle.ring_names.specs.declared.message.Message.{Message}
 use Rattle.ring_names.specs.declared.message.Message.TheVariants.{Cast}
@@ -8,13 +8,12 @@ use Rattle.ring_names.specs.declared.reason.Reason.TheVariants as reason
 use Rattle.credit_flow.specs.Link.{oldest as oldest_grant}
 use Rattle.ring_world.specs.declared.event.Event.{Event}
 use Rattle.ring_world.specs.declared.event.Event.TheVariants as event
-use Rattle.ring_world.specs.declared.phase.Phase.{Phase}
-use Rattle.ring_world.specs.declared.phase.Phase.TheVariants.{Up}
+use Rattle.ring_world.specs.declared.phase.Phase.TheVariants.{Waiting, Up}
 use Rattle.ring_world.specs.Refusal.{refuse_if, or_else, is_empty}
 use Rattle.ring_world.specs.Machine.{World, member_at, link_at, oldest, view_in, newest}
 use Rattle.ring_world.specs.Step.{size, log_of, put_on as put_in, gain_on, leave_link, opening, current_is}
 use Rattle.ring_world.specs.Event.{is_stopped, on_link, running_refusal, up_refusal, put_refusal, end_refusal, gain_refusal, refusal, at_found, last, id_of, by_of, refresh_refusal, refused_at, done_at, refreshed}
-use Rattle.ring_world.proofs.events.Enabled.{up_later, up_none, running_none}
+use Rattle.ring_world.proofs.events.Enabled.{up_later, up_none}
 use Rattle.gm_member.specs.declared.taken.Taken.{Taken}
 use Rattle.activity.specs.Kept.{got_of}
 use Rattle.gm_member.specs.Parcels.{ByOrigin, known_at}
@@ -26,8 +25,9 @@ use Rattle.gm_member.proofs.Facts.{right_row, version_is, refused_there, done_th
 use Rattle.gm_member.proofs.PublishStands.{publish_stands, publish_number}
 use Rattle.gm_member.proofs.PutStands.{put_refuses, put_stands, put_packet, leaving}
 use Rattle.gm_member.proofs.TakeStands.{TakesFrom, take_refuses, take_enabled, take_does, take_stands, news_are, end_may}
+use Rattle.gm_member.proofs.BeginStands.{BeginsFrom, begin_enabled, begin_does, begin_stands, begin_brings}
 use Rattle.gm_member.proofs.GainStands.{gain_refuses, gain_stands}
-use Rattle.ring_world.proofs.events.Refusals.{up_is}
+use Rattle.ring_world.proofs.events.Refusals.{none_of, up_is, up_or_waits}
 use Rattle.gm_member.proofs.StopStands.{stop_stands}
 use Rattle.gm_member.proofs.EndStands.{end_stands}
 use Rattle.group_view.specs.View.{Group}
@@ -43,9 +43,9 @@ use Rattle.gm_member.proofs.Refusals.{pick_refusal_is}
 
 -- ---- in one state
 
--- who is up runs
-pub running_is : (w : World) (x : ℕ) (later : Option Reason) → (member_at w x).phase ≡ Up → running_refusal w x later ≡ later
-running_is w x later up = ap (λ (g : Phase). or_else (refuse_if (is_stopped g) reason.Stopped) later) up
+-- who hasn't stopped runs
+pub running_is : (w : World) (x : ℕ) (later : Option Reason) → is_stopped (member_at w x).phase ≡ false → running_refusal w x later ≡ later
+running_is w x later runs = ap (λ b. or_else (refuse_if b reason.Stopped) later) runs
 
 -- an event of the member at x that is enabled, where what it does leaves it with h
 steps_there : (w : World) (x : ℕ) (e : Event) (h : Held) → id_of w (by_of e) ≡ Some x → refused_at w e x ≡ None → h ≡ held_in (done_at w e x) x → StepsTo w x e h
@@ -72,36 +72,36 @@ put_is w x out f some lt en e o is =
     let same : outgoing_in w o ≡ out = cc in
     subst (λ a. StandsFor w (link_at w o).sending (parcel_on (held_in w x).view.version (held_in w x).known a) (leaving w x o)) same (put_packet w x o f some lt (up_refused_none (held_in w x) _ en).0 is)
 
--- a member that may take has a link, on which the packet is
-takes_of : (w : World) (x : ℕ) (k : ByOrigin) (s : ℕ) → IsFit w → 1 ≤ x → x < size w → (member_at w x).phase ≡ Up → (member_at w x).current ≡ Some s → k.view ≤ (held_in w x).view.version → (is_empty (link_at w s).packets ≡ false) × StandsFor w (link_at w s).had k (oldest (link_at w s)) → TakesFrom w x s
-takes_of w x k s f some lt up is l n = record {
-  some = some;
-  is_member = lt;
-  up = up;
-  current = is;
-  has = n.0;
-  version = omega (arith, l, version_is w x f, n.1.view);
-}
-
--- who may take is up, and has a link
-has_link : (w : World) (x : ℕ) → IsFit w → take_refused (held_in w x) None ≡ None → ((member_at w x).phase ≡ Up) × (on_link (member_at w x).current reason.NoCurrentLink (λ _. None) ≡ None)
-has_link w x f e = running_none w x (on_link (member_at w x).current reason.NoCurrentLink (λ _. None)) (f.none_waits x) (sym (take_refuses w x None) ∙ e)
+-- who may take runs, and has a link
+has_link : (w : World) (x : ℕ) → take_refused (held_in w x) None ≡ None → (is_stopped (member_at w x).phase ≡ false) × (on_link (member_at w x).current reason.NoCurrentLink (λ _. None) ≡ None)
+has_link w x e = none_of (is_stopped (member_at w x).phase) reason.Stopped (on_link (member_at w x).current reason.NoCurrentLink (λ _. None)) (sym (take_refuses w x None) ∙ e)
 
 -- what a member needs in order to take this packet
 abbrev pub MayTakeIt : ByOrigin → Held → Type 0
 MayTakeIt k h = (take_refused h None ≡ None) × (k.view ≤ h.view.version)
 
-pub take_steps : (w : World) (x : ℕ) (k : ByOrigin) → IsFit w → 1 ≤ x → x < size w → MayTakeIt k (held_in w x) → IsNextPacket w x k → StepsTo w x (event.Take (member_at w x).name) (took_held (held_in w x) k)
-take_steps w x k f some lt e n = by_current (member_at w x).current refl may.1
+-- it is up and takes from link s, or waits and takes its first packet there
+takes_or_begins : (w : World) (x : ℕ) (k : ByOrigin) (P : Type 0) → IsFit w → 1 ≤ x → x < size w → MayTakeIt k (held_in w x) → IsNextPacket w x k
+    → ((s : ℕ) → TakesFrom w x s → StandsFor w (link_at w s).had k (oldest (link_at w s)) → P)
+    → ((s : ℕ) → BeginsFrom w x s → StandsFor w (link_at w s).had k (oldest (link_at w s)) → P) → P
+takes_or_begins w x k P f some lt e n takes begins = by_current (member_at w x).current refl may.1
   where
-    may : ((member_at w x).phase ≡ Up) × (on_link (member_at w x).current reason.NoCurrentLink (λ _. None) ≡ None)
-    may = has_link w x f e.0
+    may : (is_stopped (member_at w x).phase ≡ false) × (on_link (member_at w x).current reason.NoCurrentLink (λ _. None) ≡ None)
+    may = has_link w x e.0
 
-    by_current : (c : Option ℕ) → (member_at w x).current ≡ c → on_link c reason.NoCurrentLink (λ _. None) ≡ None → StepsTo w x (event.Take (member_at w x).name) (took_held (held_in w x) k)
+    by_current : (c : Option ℕ) → (member_at w x).current ≡ c → on_link c reason.NoCurrentLink (λ _. None) ≡ None → P
     by_current None is m = cc
     by_current (Some s) is m =
-        let t : TakesFrom w x s = takes_of w x k s f some lt may.0 is e.1 (n s is) in
-        (take_enabled w x s f t, take_stands w x s k f t (n s is).1.lines ∙ ap (λ v. held_in v x) (sym (take_does w x s f t)))
+        let version : (oldest (link_at w s)).version ≤ (member_at w x).version = omega (arith, e.1, version_is w x f, (n s is).1.view) in
+        ⊎_elim
+        (λ (up : (member_at w x).phase ≡ Up). takes s (record { some = some; is_member = lt; up = up; current = is; has = (n s is).0; version = version }) (n s is).1)
+        (λ (waits : (member_at w x).phase ≡ Waiting). begins s (record { some = some; is_member = lt; waits = waits; current = is; has = (n s is).0; version = version }) (n s is).1)
+        (up_or_waits (member_at w x).phase may.0)
+
+pub take_steps : (w : World) (x : ℕ) (k : ByOrigin) → IsFit w → 1 ≤ x → x < size w → MayTakeIt k (held_in w x) → IsNextPacket w x k → StepsTo w x (event.Take (member_at w x).name) (took_held (held_in w x) k)
+take_steps w x k f some lt e n = takes_or_begins w x k (StepsTo w x (event.Take (member_at w x).name) (took_held (held_in w x) k)) f some lt e n
+    (λ s t same. (take_enabled w x s f t, take_stands w x s k f t same.lines ∙ ap (λ v. held_in v x) (sym (take_does w x s f t))))
+    (λ s b same. (begin_enabled w x s f b, begin_stands w x s k f b same.lines ∙ ap (λ v. held_in v x) (sym (begin_does w x s f b))))
 
 pub gain_steps : (w : World) (x amount : ℕ) → IsFit w → 1 ≤ x → x < size w → gain_refused (held_in w x) ≡ None → IsNextGrant w x amount → StepsTo w x (event.Gain (member_at w x).name) (gained_held (held_in w x) amount)
 gain_steps w x amount f some lt e n =
@@ -121,7 +121,7 @@ gain_steps w x amount f some lt e n =
 
 pub end_steps : (w : World) (x : ℕ) → IsFit w → 1 ≤ x → x < size w → take_refused (held_in w x) None ≡ None → IsNextEnd w x → StepsTo w x (event.TakeEnd (member_at w x).name) (ended_held (held_in w x))
 end_steps w x f some lt e n =
-    let may = has_link w x f e in
+    let may = has_link w x e in
     steps_there w x (event.TakeEnd (member_at w x).name) (ended_held (held_in w x)) (f.named x some lt)
     (running_is w x (on_link (member_at w x).current reason.NoCurrentLink (end_refusal w)) may.0 ∙ refused (member_at w x).current n may.1)
     (by_current (member_at w x).current refl may.1)
@@ -186,64 +186,59 @@ refresh_steps w x v f some lt e there =
 
 -- what holds of a member in each state in which all that is fit holds
 pub lifts : (h : Held) (P : World → ℕ → Held → Type 0) → ((w : World) (x : ℕ) → IsFit w → 1 ≤ x → x < size w → P w x (held_in w x)) → WhereItStands h (λ w x. P w x h)
-lifts h P each credit names events x are plain r some lt s =
+lifts h P each credit names events x are r some lt s =
     let w : World = last (opening credit names) events in
-    subst (P w x) (sym s) (each w x (reached_fit credit names events are plain r) some lt)
+    subst (P w x) (sym s) (each w x (reached_fit credit names events are r) some lt)
 
 -- a call of a member of which this holds, and which leaves it with what the step makes of it, is the event where P holds
 pub steps_where : (R : Held → Type 0) (P : World → ℕ → Type 0) (event : List ℕ → Event) (step : Held → Held)
     → ((w : World) (x : ℕ) → IsFit w → 1 ≤ x → x < size w → R (held_in w x) → P w x → StepsTo w x (event (member_at w x).name) (step (held_in w x)))
     → (h h' : Held) → R h → h' ≡ step h → WhereItStands h (λ w x. P w x → StepsTo w x (event h.name) h')
-steps_where R P event step each h h' en is credit names events x are plain r some lt s p =
-    let t : StepsTo (last (opening credit names) events) x (event h.name) (step h) = lifts h (λ w y k. R k → P w y → StepsTo w y (event k.name) (step k)) each credit names events x are plain r some lt s en p in
+steps_where R P event step each h h' en is credit names events x are r some lt s p =
+    let t : StepsTo (last (opening credit names) events) x (event h.name) (step h) = lifts h (λ w y k. R k → P w y → StepsTo w y (event k.name) (step k)) each credit names events x are r some lt s en p in
     (t.0, is ∙ t.1)
 
 -- and in every state
 pub steps_lift : (R : Held → Type 0) (event : List ℕ → Event) (step : Held → Held)
     → ((w : World) (x : ℕ) → IsFit w → 1 ≤ x → x < size w → R (held_in w x) → StepsTo w x (event (member_at w x).name) (step (held_in w x)))
     → (h h' : Held) → R h → h' ≡ step h → WhereItStands h (λ w x. StepsTo w x (event h.name) h')
-steps_lift R event step each h h' en is credit names events x are plain r some lt s =
-    steps_where R (λ _ _. Unit {0}) event step (λ w y f a b k _. each w y f a b k) h h' en is credit names events x are plain r some lt s tt
+steps_lift R event step each h h' en is credit names events x are r some lt s =
+    steps_where R (λ _ _. Unit {0}) event step (λ w y f a b k _. each w y f a b k) h h' en is credit names events x are r some lt s tt
 
 -- what the ring refuses where P holds, a call refuses that is refused for the first failing condition
 pub refuses_where : {A : Type 0} (failing : Held → Option Reason) (P : World → ℕ → Type 0) (event : List ℕ → Event) (a : A) (answer : Reason → A)
     → ((w : World) (x : ℕ) → IsFit w → 1 ≤ x → x < size w → P w x → failing (held_in w x) ≡ refusal w (event (member_at w x).name))
     → (h : Held) → ((r : Reason) → failing h ≡ Some r → a ≡ answer r) → WhereItStands h (λ w x. P w x → (r : Reason) → refusal w (event h.name) ≡ Some r → a ≡ answer r)
-refuses_where failing P event a answer each h refused credit names events x are plain r some lt s p q e =
-    refused q (lifts h (λ w y k. P w y → failing k ≡ refusal w (event k.name)) each credit names events x are plain r some lt s p ∙ e)
+refuses_where failing P event a answer each h refused credit names events x are r some lt s p q e =
+    refused q (lifts h (λ w y k. P w y → failing k ≡ refusal w (event k.name)) each credit names events x are r some lt s p ∙ e)
 
 -- and in every state
 pub refuses_too : {A : Type 0} (failing : Held → Option Reason) (event : List ℕ → Event) (a : A) (answer : Reason → A)
     → ((w : World) (x : ℕ) → IsFit w → 1 ≤ x → x < size w → failing (held_in w x) ≡ refusal w (event (member_at w x).name))
     → (h : Held) → ((r : Reason) → failing h ≡ Some r → a ≡ answer r) → WhereItStands h (λ w x. (r : Reason) → refusal w (event h.name) ≡ Some r → a ≡ answer r)
-refuses_too failing event a answer each h refused credit names events x are plain r some lt s =
-    refuses_where failing (λ _ _. Unit {0}) event a answer (λ w y f b l _. each w y f b l) h refused credit names events x are plain r some lt s tt
+refuses_too failing event a answer each h refused credit names events x are r some lt s =
+    refuses_where failing (λ _ _. Unit {0}) event a answer (λ w y f b l _. each w y f b l) h refused credit names events x are r some lt s tt
 
 pub number_lifts : (h : Held) (n : ℕ) → n ≡ got_of (known_at h.known (h.id - 1)) + 1 → WhereItStands h (λ w x. n ≡ length (log_of w x) + 1)
-number_lifts h n e credit names events x are plain r some lt s =
-    e ∙ lifts h (λ w y k. got_of (known_at k.known (k.id - 1)) + 1 ≡ length (log_of w y) + 1) publish_number credit names events x are plain r some lt s
+number_lifts h n e credit names events x are r some lt s =
+    e ∙ lifts h (λ w y k. got_of (known_at k.known (k.id - 1)) + 1 ≡ length (log_of w y) + 1) publish_number credit names events x are r some lt s
 
 pub put_packet_lifts : (h : Held) (o : Outgoing) → put_refused h ≡ None → h.out ≡ Some o → WhereItStands h (λ w x. IsPutPacket w x (parcel_on h.view.version h.known o))
-put_packet_lifts h o en e credit names events x are plain r some lt s =
-    lifts h (λ w y k. put_refused k ≡ None → k.out ≡ Some o → IsPutPacket w y (parcel_on k.view.version k.known o)) (λ w y f a b. put_is w y o f a b) credit names events x are plain r some lt s en e
+put_packet_lifts h o en e credit names events x are r some lt s =
+    lifts h (λ w y k. put_refused k ≡ None → k.out ≡ Some o → IsPutPacket w y (parcel_on k.view.version k.known o)) (λ w y f a b. put_is w y o f a b) credit names events x are r some lt s en e
 
 news_there : (w : World) (x : ℕ) (k : ByOrigin) → IsFit w → 1 ≤ x → x < size w → MayTakeIt k (held_in w x) → IsNextPacket w x k → news_of (held_in w x) k ≡ taken_in w (member_at w x).current x
-news_there w x k f some lt e n = by_current (member_at w x).current refl may.1
-  where
-    may : ((member_at w x).phase ≡ Up) × (on_link (member_at w x).current reason.NoCurrentLink (λ _. None) ≡ None)
-    may = has_link w x f e.0
-
-    by_current : (c : Option ℕ) → (member_at w x).current ≡ c → on_link c reason.NoCurrentLink (λ _. None) ≡ None → news_of (held_in w x) k ≡ taken_in w (member_at w x).current x
-    by_current None is m = cc
-    by_current (Some s) is m = news_are w x s k f (takes_of w x k s f some lt may.0 is e.1 (n s is)) (n s is).1
+news_there w x k f some lt e n = takes_or_begins w x k (news_of (held_in w x) k ≡ taken_in w (member_at w x).current x) f some lt e n
+    (λ s t same. news_are w x s k f t same)
+    (λ s b same. begin_brings w x s k b)
 
 pub news_lift : (h : Held) (k : ByOrigin) (t : List Taken) → MayTakeIt k h → t ≡ news_of h k → WhereItStands h (λ w x. IsNextPacket w x k → t ≡ taken_in w (member_at w x).current x)
-news_lift h k t may e credit names events x are plain r some lt s n =
-    e ∙ lifts h (λ w y g. MayTakeIt k g → IsNextPacket w y k → news_of g k ≡ taken_in w (member_at w y).current y) (λ w y f a b. news_there w y k f a b) credit names events x are plain r some lt s may n
+news_lift h k t may e credit names events x are r some lt s n =
+    e ∙ lifts h (λ w y g. MayTakeIt k g → IsNextPacket w y k → news_of g k ≡ taken_in w (member_at w y).current y) (λ w y f a b. news_there w y k f a b) credit names events x are r some lt s may n
 
 -- a refresh to one of the ring's views, with the link that a member that is alone opens to itself
 pub refresh_lifts : (h h' : Held) (v : Group) → refresh_refused h v.version ≡ None → h' ≡ refreshed_held h v
     → WhereItStands h (λ w x. v.version ≤ newest w → v ≡ view_in w v.version → StepsTo w x (event.Refresh h.name v.version) (with_own_link h v h'))
-refresh_lifts h h' v en e credit names events x are plain r some lt s upto is =
+refresh_lifts h h' v en e credit names events x are r some lt s upto is =
     steps_where (λ k. refresh_refused k v.version ≡ None) (λ w _. IsThere w v) (λ name. event.Refresh name v.version) (refreshed_alone v) (λ w y f a b. refresh_steps w y v f a b)
-    h (with_own_link h v h') en (ap (with_own_link h v) e) credit names events x are plain r some lt s (upto, is)
+    h (with_own_link h v h') en (ap (with_own_link h v) e) credit names events x are r some lt s (upto, is)

@@ -8,7 +8,7 @@ use Rattle.ring_world.specs.declared.event.Event.{Event}
 use Rattle.ring_world.specs.declared.phase.Ending.TheVariants.{Halted}
 use Rattle.ring_world.specs.Machine.{Member, World, no_member, member_at, view_in, newest}
 use Rattle.ring_world.specs.Step.{published, taker, with_current, stop_at, stopped, with_member, with_view, moved_to, opening, opening_member}
-use Rattle.ring_world.specs.Event.{is_plain, ArePlain, refreshed, refusal, effect, IsRun, last}
+use Rattle.ring_world.specs.Event.{is_plain, ArePlain, erased_view, refreshed, refusal, effect, IsRun, last}
 use Rattle.ring_world.proofs.events.Cases.{PlainCases}
 use Rattle.ring_world.proofs.events.Composed.{end_composed, refresh_composed}
 use Rattle.ring_world.proofs.events.Plain.{NoneWaits, each_plain, plain_events, opening_none}
@@ -43,8 +43,10 @@ plain_names names w e p n r h = each_plain (NamesAre names) w e p n cases r
       gains = λ x o u is k. h;
       stops = λ x u. end_composed (NamesAre names) Halted (stop_at w x) (member_at w x).out (λ k _ g. g) (set_names names w x (stopped (member_at w x)) refl h);
       marks = λ x d u m. refreshed_names names (with_view w (marked (view_in w (newest w)) d)) x (newest w + 1) h;
+      erases = λ x d u m. refreshed_names names (with_view w (erased_view w d)) x (newest w + 1) h;
       refreshes = λ x v u m. refreshed_names names w x v h;
       picks = λ y s u none at upto. set_names names w y (with_current (Some s) (member_at w y)) refl h;
+      refuses = h;
     }
 
 names_from : (names all : List (List ℕ)) (a : ℕ) → ((k : ℕ) → k < length names → get_or all (a + k) [] ≡ get_or names k []) → map (λ (m : Member). m.name) (map (λ i. record no_member { name = get_or all i [] }) (range_with_len a (length names))) ≡ names

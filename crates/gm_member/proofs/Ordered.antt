@@ -1,22 +1,26 @@
--- Where nobody is admitted, no member has forgotten what it didn't receive, also one that has stopped.
-use Rattle.std.proofs.Common.{◌≡◌, ◌⊎◌, inl, inr, true, ℕ, ◌<◌, ◌≤◌, List, [], ◌∷◌, ◌++◌, length, Some, None, refl, sym, ap, subst, ⊎_elim, arith}
-use Rattle.std.proofs.lemmas.List.{length-set}
+-- No member has forgotten what it didn't receive, also one that has stopped, or waits.
+use Rattle.std.proofs.Common.{◌≡◌, ◌⊎◌, inl, inr, ℕ, ◌+◌, ◌<◌, ◌≤◌, List, [], ◌∷◌, ◌++◌, length, Some, None, refl, sym, ap, subst, ⊎_elim, arith}
+use Rattle.std.specs.List.{range_with_len}
+use Rattle.std.proofs.lemmas.Bool.{cases_lt}
+use Rattle.std.proofs.lemmas.List.{length-set, get_or_past}
 use Rattle.ring_names.specs.declared.numbers.CreditSpec.{CreditSpec}
 use Rattle.group_view.specs.Change.{AreOpeningNames}
 use Rattle.ring_world.specs.declared.event.Event.{Event}
 use Rattle.ring_world.specs.declared.phase.Phase.TheVariants.{Up}
-use Rattle.ring_world.specs.Rows.{Row}
+use Rattle.ring_world.specs.Rows.{Row, born_row}
 use Rattle.ring_world.specs.View.{right_of}
-use Rattle.ring_world.specs.Machine.{Member, World, row_at, member_at, view_in}
-use Rattle.ring_world.specs.Step.{size, published, taker, with_current, with_member, stop_at, stopped, moved_to, opened_link, opening}
-use Rattle.ring_world.specs.Event.{is_plain, ArePlain, refreshed, refusal, effect, IsRun, last}
+use Rattle.ring_world.specs.Machine.{Member, World, no_member, row_at, member_at, link_at, view_in, newest, oldest}
+use Rattle.ring_world.specs.Step.{size, log_of, published, taker, begun, with_current, with_member, stop_at, stopped, moved_to, opened_link, come_to, opening}
+use Rattle.ring_world.specs.Event.{refreshed, refusal, effect, IsRun, last}
 use Rattle.ring_world.specs.Lawful.{row_of}
+use Rattle.ring_world.proofs.events.Cases.{each_event}
 use Rattle.ring_world.proofs.events.Composed.{refresh_composed, end_composed}
 use Rattle.ring_world.proofs.events.First.{first_row}
-use Rattle.ring_world.proofs.events.Leaves.{member_leaves}
-use Rattle.ring_world.proofs.events.Plain.{NoneWaits, each_plain, plain_events, opening_none}
+use Rattle.ring_world.proofs.events.Leaves.{member_leaves, come_member}
 use Rattle.ring_world.proofs.invariants.Happens.{IsGood, event_good, opening_good}
 use Rattle.ring_world.proofs.runs.Apart.{forgot_below}
+use Rattle.ring_world.proofs.runs.OwnLogs.{IsLogged, opening_logged, run_knowing}
+use Rattle.gm_member.proofs.Rows.{mapped_row}
 
 -- a member has forgotten of no origin what it didn't receive
 abbrev pub IsOrdered : ℕ → Member → Type 0
@@ -56,19 +60,34 @@ refresh_ordered w x v h = refresh_composed AreOrdered w x v
     (λ u _ g. kept_ordered (record u { links = u.links ++ opened_link u x (right_of (view_in w v) x) ∷ [] }) x (record (member_at u x) { out = Some (length u.links) }) refl g)
     (kept_ordered w x (moved_to w x v) refl h)
 
+-- a member comes, which has received nothing of anyone; nor has anyone of it
+come_ordered : (w : World) (m : ℕ) (name : List ℕ) → IsLogged w → AreOrdered w → AreOrdered (come_to w m name)
+come_ordered w m name lg h q = come_member w m name q (λ _ y. IsOrdered (size (come_to w m name)) y)
+    (λ p some lt. mapped_row (λ r. r.forgot ≤ r.got) (λ i. born_row (log_of w i)) (range_with_len 0 (size w + 1)) p (λ _. omega arith) (omega arith))
+    (λ p some lt. ⊎_elim
+    (λ (l : p < size w). h q p some l)
+    (λ (ge : size w ≤ p).
+    let none : length (log_of w p) ≡ 0 = ap (λ (y : Member). length y.log) (get_or_past w.members p no_member ge) in
+    omega (arith, none, (lg.within.rows q p).forgot))
+    (cases_lt p (size w)))
+
 -- where those that are up haven't, an event leaves none that has
-event_ordered : (w : World) (e : Event) → is_plain e ≡ true → NoneWaits w → refusal w e ≡ None → AreOrdered w → UpOrdered (effect w e) → AreOrdered (effect w e)
-event_ordered w e p n r h = each_plain (λ u. UpOrdered u → AreOrdered u) w e p n (record {
+event_ordered : (w : World) (e : Event) → IsGood w → refusal w e ≡ None → IsLogged w → AreOrdered w → AreOrdered (effect w e)
+event_ordered w e g r lg h = each_event (λ u. UpOrdered u → AreOrdered u) w e g (record {
   casts = λ x m u. written_ordered w x (published x m (member_at w x)) (inl u.up) h;
   puts = λ x o u out k _. h;
   takes = λ y s u m up. written_ordered w y (taker w y s) (inl u.up) h up;
+  begins = λ y s u m up. written_ordered w y (begun (size w) (member_at w y) (oldest (link_at w s))) (inl refl) h up;
   leaves = λ y s u current k _. kept_ordered w y (with_current None (member_at w y)) refl h;
   gains = λ x o u out k _. h;
-  stops = λ x u _. end_composed AreOrdered _ (stop_at w x) (member_at w x).out (λ k _ g. g) (kept_ordered w x (stopped (member_at w x)) refl h);
+  stops = λ x u _. end_composed AreOrdered _ (stop_at w x) (member_at w x).out (λ k _ t. t) (kept_ordered w x (stopped (member_at w x)) refl h);
   marks = λ x d u m _. refresh_ordered _ x _ h;
+  erases = λ x d u m _. refresh_ordered _ x _ h;
+  admits = λ x name u k _. refresh_ordered (come_to w x name) x (newest w + 1) (come_ordered w x name lg h);
   refreshes = λ x v u m _. refresh_ordered w x v h;
   picks = λ y s u none e upto _. kept_ordered w y (with_current (Some s) (member_at w y)) refl h;
-}) r
+  refuses = λ _. h;
+}) r (up_ordered (effect w e) (event_good w e g r))
 
 opening_ordered : (credit : CreditSpec) (names : List (List ℕ)) → AreOrdered (opening credit names)
 opening_ordered credit names q p some lt =
@@ -76,7 +95,6 @@ opening_ordered credit names q p some lt =
     let forgot : (row_of (opening credit names) q p).forgot ≡ 0 = ap (λ (r : Row). r.forgot) e in
     omega arith
 
--- it holds in every state of every such run
-pub reached_ordered : (credit : CreditSpec) (names : List (List ℕ)) (events : List Event) → AreOpeningNames names → ArePlain events → IsRun (opening credit names) events → AreOrdered (last (opening credit names) events)
-reached_ordered credit names events are plain r =
-    plain_events AreOrdered (λ u e p g n k h. event_ordered u e p n k h (up_ordered (effect u e) (event_good u e g k))) (opening credit names) events plain (opening_good credit names are) (opening_none credit names) r (opening_ordered credit names)
+-- it holds in every state of every run
+pub reached_ordered : (credit : CreditSpec) (names : List (List ℕ)) (events : List Event) → AreOpeningNames names → IsRun (opening credit names) events → AreOrdered (last (opening credit names) events)
+reached_ordered credit names events are r = run_knowing AreOrdered event_ordered (opening credit names) events (opening_good credit names are) r (opening_logged credit names) (opening_ordered credit names)

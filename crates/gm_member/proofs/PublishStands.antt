@@ -28,7 +28,7 @@ published_known_is w x m f some lt =
     (ap (joined m) (held_known w x (x - 1) few)
     ∙ ap (λ p. joined m (kept_by (log_of w p) (row_of w x p))) back
     ∙ sym (kept_published (log_of w x) (row_of w x x) m (f.own x) (right_row w x x f).forgot)
-    ∙ ap (kept_by (log_of w x ++ m ∷ [])) (sym (get_or-set_same y.rows x (published_row (row_at y x) m) no_row (omega (arith, f.rows x some lt))))
+    ∙ ap (kept_by (log_of w x ++ m ∷ [])) (sym (get_or-set_same y.rows x (published_row (row_at y x) m) no_row (f.logged.sized x some lt)))
     ∙ ap (λ ms. kept_by ms (row_at y' x)) (sym (cast_log w x m lt))
     ∙ ap (λ p. kept_by (log_of (publish_at w x m) p) (row_at y' p)) (sym back))
     (λ k kl ne.

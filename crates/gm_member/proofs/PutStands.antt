@@ -8,9 +8,9 @@ use Rattle.ring_names.specs.declared.reason.Reason.{Reason}
 use Rattle.ring_names.specs.declared.reason.Reason.TheVariants as reason
 use Rattle.credit_flow.specs.Credit.{is_blocked, sent}
 use Rattle.ring_world.specs.declared.phase.Phase.TheVariants.{Up}
-use Rattle.ring_world.specs.Rows.{Row, no_numbers, is_sent, next_numbers}
+use Rattle.ring_world.specs.Rows.{Row, no_numbers, is_sent}
 use Rattle.ring_world.specs.Refusal.{refuse_if, or_else}
-use Rattle.ring_world.specs.Machine.{World, Packet, Member, Sending, no_link, numbers_at, member_at, link_at}
+use Rattle.ring_world.specs.Machine.{World, Packet, Member, Sending, no_link, numbers_at, member_at, link_at, runs_phase}
 use Rattle.ring_world.specs.Step.{size, log_of, next_packet, pushed, put_on as put_in}
 use Rattle.ring_world.specs.Event.{on_link, up_refusal, put_refusal, has_nothing_new as nothing_new_in}
 use Rattle.ring_world.specs.Lawful.{row_of}
@@ -22,26 +22,13 @@ use Rattle.gm_member.specs.Held.{on_some, put_refused, has_nothing_new, all_told
 use Rattle.gm_member.specs.Stands.{kept_by, told_in, line_for, held_in, outgoing_in, lines_in, StandsFor}
 use Rattle.gm_member.proofs.Knowing.{got_kept, told_kept, line_same}
 use Rattle.gm_member.proofs.Places.{map-range_same, all-range_longer}
-use Rattle.gm_member.proofs.Parcels.{next_numbers-nothing}
 use Rattle.gm_member.proofs.Fit.{IsFit}
-use Rattle.gm_member.proofs.Facts.{log_past, row_past, got_zero, forgot_zero, sent_nothing, held_known, held_told, right_row, version_is, next_at, next_past}
+use Rattle.gm_member.proofs.Facts.{log_past, got_zero, forgot_zero, sent_nothing, held_known, held_told, right_row, version_is, next_is, next_tells}
 use Rattle.gm_member.proofs.Parts.{held_is, seen, seen_same, current_same, door_still, outgoing_of}
 
 -- the packet that x puts next on link o
 abbrev pub leaving : World → ℕ → ℕ → Packet
 leaving w x o = next_packet (member_at w x) (link_at w o).sending
-
--- of each origin, in the ring and beyond it
-pub leaving_at : (w : World) (x o p : ℕ) → IsFit w → 1 ≤ x → x < size w → numbers_at (leaving w x o) p ≡ next_numbers (link_at w o).sending.fresh (row_of w x p) (numbers_at (link_at w o).sending.sent p)
-leaving_at w x o p f some lt =
-    ⊎_elim
-    (λ (pl : p < size w). next_at (member_at w x) (link_at w o).sending p (omega (arith, f.rows x some lt)))
-    (λ (ge : size w ≤ p).
-    next_past (member_at w x) (link_at w o).sending p (omega (arith, f.rows x some lt))
-    ∙ sym (next_numbers-nothing (link_at w o).sending.fresh)
-    ∙ ap (λ r. next_numbers (link_at w o).sending.fresh r no_numbers) (sym (row_past w x p f some lt ge))
-    ∙ ap (λ k. next_numbers (link_at w o).sending.fresh (row_of w x p) k) (sym (sent_nothing w o p f (log_past w p ge))))
-    (cases_lt p (size w))
 
 -- ---- the refusal
 
@@ -96,7 +83,7 @@ all_told_are w x o f some lt =
     map-range_same (λ p. told_now (known_at (held_in w x).known p)) (λ p. told_in (numbers_at (leaving w x o) (p + 1))) 64
     (λ p pl. ap told_now (held_known w x p pl)
     ∙ told_kept (log_of w (p + 1)) (row_of w x (p + 1)) (right_row w x (p + 1) f)
-    ∙ sym (ap told_in (leaving_at w x o (p + 1) f some lt)))
+    ∙ sym (next_tells (member_at w x) (link_at w o).sending (p + 1)))
 
 -- what a put leaves of each link to its receiver
 pub put_seen : (w : World) (x o j : ℕ) → o < length w.links → seen (link_at (put_in w x o) j) ≡ seen (link_at w j)
@@ -140,7 +127,7 @@ put_lines w x o f some lt up is =
     (λ p pl. ap (λ k. next_line before.fresh (p + 1) k (told_at (outgoing_in w o).told p)) (held_known w x p pl)
     ∙ ap (next_line before.fresh (p + 1) (kept_by (log_of w (p + 1)) (row_of w x (p + 1)))) (held_told w o p pl)
     ∙ line_same before.fresh p (log_of w (p + 1)) (row_of w x (p + 1)) (numbers_at before.sent (p + 1)) (right_row w x (p + 1) f) (sent_forgotten w x o (p + 1) f some lt up is)
-    ∙ ap (λ k. line_for before.fresh (log_of w (p + 1)) p k (numbers_at before.sent (p + 1))) (sym (leaving_at w x o (p + 1) f some lt)))
+    ∙ ap (λ k. line_for before.fresh (log_of w (p + 1)) p k (numbers_at before.sent (p + 1))) (sym (next_is w x o (p + 1) f (ap runs_phase up) is)))
 
 pub put_packet : (w : World) (x o : ℕ) → IsFit w → 1 ≤ x → x < size w → (member_at w x).phase ≡ Up → (member_at w x).out ≡ Some o → StandsFor w (link_at w o).sending (parcel_on (held_in w x).view.version (held_in w x).known (outgoing_in w o)) (leaving w x o)
 put_packet w x o f some lt up is = record { view = version_is w x f; lines = put_lines w x o f some lt up is }

@@ -13,12 +13,13 @@ use Rattle.ring_world.specs.declared.phase.Phase.{Phase}
 use Rattle.ring_world.specs.declared.phase.Phase.TheVariants.{Up}
 use Rattle.ring_world.specs.Rows.{Row, no_numbers, lo_of, taken_row}
 use Rattle.ring_world.specs.Refusal.{refuse_if, or_else, is_empty}
-use Rattle.ring_world.specs.Machine.{World, Packet, Member, no_link, no_member, no_packet, row_at, numbers_at, member_at, link_at, view_in, oldest}
-use Rattle.ring_world.specs.Step.{size, with_member, log_of, is_owned, taker, popped, take_from}
+use Rattle.ring_world.specs.Machine.{World, Packet, Member, no_link, no_member, no_packet, row_at, numbers_at, member_at, link_at, view_in, is_waiting, oldest}
+use Rattle.ring_world.specs.Step.{size, with_member, with_link, log_of, is_owned, taker, popped, take_from}
 use Rattle.ring_world.specs.Event.{on_link, is_stopped, running_refusal, take_refusal, end_refusal, version_refusal, refusal, effect}
 use Rattle.ring_world.specs.Lawful.{row_of, NumbersAreWithin}
 use Rattle.ring_world.proofs.walks.Take.{row_at-taker, take_row, take_phase}
 use Rattle.ring_world.proofs.events.Enabled.{take_effect}
+use Rattle.activity.specs.Kept.{Kept}
 use Rattle.activity.specs.Parcels.{Carried}
 use Rattle.activity.specs.Plan.{accepted}
 use Rattle.ring_world.specs.Compact.{Has, low, line_in, IsInTurn}
@@ -26,9 +27,10 @@ use Rattle.ring_world.proofs.compact.ByLines.{has_stays, oldest_says, without_li
 use Rattle.ring_world.proofs.events.WhatRefuses.{MayTake}
 use Rattle.ring_world.proofs.invariants.Happens.{IsGood, event_good}
 use Rattle.ring_world.proofs.runs.NeverFalls.{RowRises, taker_rises_all}
+use Rattle.gm_member.specs.declared.taken.Taken.{Taken}
 use Rattle.gm_member.specs.Parcels.{places, ByOrigin, known_at, line_at}
 use Rattle.gm_member.specs.News.{line_news, taken_of, news_below, news_of}
-use Rattle.gm_member.specs.Held.{Held, Incoming, at_some, take_refused, owns, all_accepted, counted_in, took_from, took_held}
+use Rattle.gm_member.specs.Held.{Held, Incoming, at_some, take_refused, owns, all_accepted, counted_in, took_from, began_from, took_held}
 use Rattle.gm_member.specs.Stands.{kept_by, line_for, held_in, outgoing_in, incoming_in, lines_in, StandsFor, taken_below, taken_in}
 use Rattle.gm_member.proofs.Knowing.{ComesRound, Arrives, whole_line, accepted_round, accepted_arrival, news_arrive, no_round, no_news}
 use Rattle.gm_member.proofs.Ordered.{up_ordered}
@@ -213,7 +215,7 @@ abbrev pub line_of_packet : World → ℕ → ℕ → ℕ → Option Carried
 line_of_packet w s q p = line_for (link_at w s).had.fresh (log_of w p) q (said w s p) (numbers_at (link_at w s).had.sent p)
 
 -- of an origin that the ring doesn't have there is none
-silent_line : (w : World) (s q p : ℕ) → IsFit w → is_empty (link_at w s).packets ≡ false → log_of w p ≡ [] → line_of_packet w s q p ≡ None
+pub silent_line : (w : World) (s q p : ℕ) → IsFit w → is_empty (link_at w s).packets ≡ false → log_of w p ≡ [] → line_of_packet w s q p ≡ None
 silent_line w s q p f has e =
     let had : numbers_at (link_at w s).had.sent p ≡ no_numbers = no_numbers_within (numbers_at (link_at w s).had.sent p) (subst (λ n. NumbersAreWithin n (numbers_at (link_at w s).had.sent p)) (ap length e) (f.lawful.within.had s p)) in
     ap (λ k. line_for (link_at w s).had.fresh (log_of w p) q k (numbers_at (link_at w s).had.sent p)) (oldest_nothing w s p f has e)
@@ -251,7 +253,7 @@ accepted_at w x s q p f t some =
     (λ (pl : p < size w). accepted_there w x s q p f t some pl ∙ ap (kept_by (log_of w p)) (sym (row_at-taker w x s p pl)))
     (λ (ge : size w ≤ p).
     ap (accepted (owned w x s p) (kept_by (log_of w p) (row_of w x p))) (silent_line w s q p f t.has (log_past w p ge))
-    ∙ ap (kept_by (log_of w p)) (row_past w x p f t.some t.is_member ge ∙ sym (taker_beyond w x s p ge)))
+    ∙ ap (kept_by (log_of w p)) (row_past w x p f ge ∙ sym (taker_beyond w x s p ge)))
     (cases_lt p (size w))
 
 -- ---- the member
@@ -275,26 +277,46 @@ all_accepted_are w x s lines f t e =
     ∙ accepted_at w x s p (p + 1) f t (omega arith))
     ∙ sym (known_same w (take_from w x s) (taker w x s) (take_logs w x s))
 
--- a take leaves each other link as it was
-pub take_other : (w : World) (x s j : ℕ) → j ≢ s → link_at (take_from w x s) j ≡ link_at w j
-take_other w x s j ne = get_or-set_other w.links s j (popped (link_at w s)) no_link ne
+-- ---- what is written
+
+-- x, where it stands so and has these rows
+abbrev pub with_rows : World → ℕ → Phase → List Row → Member
+with_rows w x phase rows = record (member_at w x) { phase = phase; rows = rows }
+
+-- it has taken the oldest packet of link s
+abbrev pub rows_taken : World → ℕ → ℕ → Phase → List Row → World
+rows_taken w x s phase rows = with_link (with_member w x (with_rows w x phase rows)) s (popped (link_at w s))
+
+-- such a take leaves each other link as it was
+pub take_other : (w : World) (x s j : ℕ) (phase : Phase) (rows : List Row) → j ≢ s → link_at (rows_taken w x s phase rows) j ≡ link_at w j
+take_other w x s j phase rows ne = get_or-set_other w.links s j (popped (link_at w s)) no_link ne
+
+-- and the member with what it keeps by these rows
+pub rows_stand : (w : World) (x s : ℕ) (phase : Phase) (rows : List Row) (known : List Kept) → IsFit w → x < size w → (member_at w x).current ≡ Some s
+    → known ≡ known_by (rows_taken w x s phase rows) (with_rows w x phase rows)
+    → record (held_in w x) { phase = phase; known = known; current = Some (counted_in (incoming_in w s)) } ≡ held_in (rows_taken w x s phase rows) x
+rows_stand w x s phase rows known f lt current keeps =
+    let y : Member = with_rows w x phase rows in
+    let w' : World = rows_taken w x s phase rows in
+    let h : Held = held_in w x in
+    let sl : s < length w.links = (f.own_ends.current x s current).0 in
+    let now : member_at w' x ≡ y = get_or-set_same w.members x y no_member lt in
+    sym (held_is w' x y known h.out (Some (counted_in (incoming_in w s))) h.door now (sym keeps)
+    (there_same (outgoing_in w') (outgoing_in w) (member_at w x).out (λ j _. outgoing_same (with_member w x y) s j (popped (link_at w s)) sl refl))
+    (ap (option_map (incoming_in w')) current ∙ ap (λ l. Some (incoming_seen (seen l))) (get_or-set_same w.links s (popped (link_at w s)) no_link sl))
+    (door_but w w' x s (length-set w.links s (popped (link_at w s))) (current_waits_not w x s current) (current_waits_not w' x s (ap (λ (y : Member). y.current) now ∙ current))
+    (λ j ne. (
+      waits_same w w' x j refl (ap (λ (y : Member). y.current) now) (ap (λ (y : Member). y.version) now) (ap seen (take_other w x s j phase rows ne)),
+      ap (λ l. incoming_seen (seen l)) (take_other w x s j phase rows ne),
+    ))))
 
 pub take_stands : (w : World) (x s : ℕ) (k : ByOrigin) → IsFit w → TakesFrom w x s → k.lines ≡ lines_in w (link_at w s).had (oldest (link_at w s)) → took_held (held_in w x) k ≡ held_in (take_from w x s) x
 take_stands w x s k f t e =
-    let w' : World = take_from w x s in
     let h : Held = held_in w x in
-    let sl : s < length w.links = (f.own_ends.current x s t.current).0 in
-    let now : member_at w' x ≡ taker w x s = get_or-set_same w.members x (taker w x s) no_member t.is_member in
-    ap (λ c. at_some (option_map (incoming_in w) c) h (took_from h k)) t.current
+    ap (λ c. at_some (option_map (incoming_in w) c) h (λ a. cond (is_waiting (member_at w x).phase) (began_from h k a) (took_from h k a))) t.current
+    ∙ ap (λ (g : Phase). cond (is_waiting g) (began_from h k (incoming_in w s)) (took_from h k (incoming_in w s))) t.up
     ∙ ap (λ ks. record h { known = ks; current = Some (counted_in (incoming_in w s)) }) (all_accepted_are w x s k.lines f t e)
-    ∙ sym (held_is w' x (taker w x s) (known_by w' (taker w x s)) h.out (Some (counted_in (incoming_in w s))) h.door now refl
-    (there_same (outgoing_in w') (outgoing_in w) (member_at w x).out (λ j _. outgoing_same (with_member w x (taker w x s)) s j (popped (link_at w s)) sl refl))
-    (ap (option_map (incoming_in w')) t.current ∙ ap (λ l. Some (incoming_seen (seen l))) (get_or-set_same w.links s (popped (link_at w s)) no_link sl))
-    (door_but w w' x s (length-set w.links s (popped (link_at w s))) (current_waits_not w x s t.current) (current_waits_not w' x s (ap (λ (y : Member). y.current) now ∙ t.current))
-    (λ j ne. (
-      waits_same w w' x j refl (ap (λ (y : Member). y.current) now) (ap (λ (y : Member). y.version) now) (ap seen (take_other w x s j ne)),
-      ap (λ l. incoming_seen (seen l)) (take_other w x s j ne),
-    ))))
+    ∙ rows_stand w x s (member_at w x).phase (taker w x s).rows (known_by (take_from w x s) (taker w x s)) f t.is_member t.current refl
 
 -- ---- what it brings
 
@@ -349,6 +371,10 @@ news_below_are w x s (suc p) lines f l t e =
 
 pub news_are : (w : World) (x s : ℕ) (k : ByOrigin) → IsFit w → TakesFrom w x s → StandsFor w (link_at w s).had k (oldest (link_at w s)) → news_of (held_in w x) k ≡ taken_in w (member_at w x).current x
 news_are w x s k f t n =
-    ap (λ c. at_some (option_map (incoming_in w) c) [] (λ (a : Incoming). news_below 64 (owns (held_in w x) a.from) (held_in w x).known k.lines)) t.current
+    ap (λ c. at_some (option_map (incoming_in w) c) [] (λ (a : Incoming). brings a (member_at w x).phase)) t.current
+    ∙ ap (brings (incoming_in w s)) t.up
     ∙ news_below_are w x s 64 k.lines f (omega arith) t n.lines
-    ∙ sym (ap (λ c. taken_in w c x) t.current)
+    ∙ sym (ap (λ c. taken_in w c x) t.current ∙ ap (λ (g : Phase). cond (is_waiting g) [] (taken_below 64 w x s)) t.up)
+  where
+    brings : Incoming → Phase → List Taken
+    brings a g = cond (is_waiting g) [] (news_below 64 (owns (held_in w x) a.from) (held_in w x).known k.lines)

@@ -85,8 +85,10 @@ plain_whole w e p n r h = each_plain AreWhole w e p n (record {
   gains = λ x o u out k. h;
   stops = λ x u. end_composed AreWhole _ (stop_at w x) (member_at w x).out (λ k _ g. g) (set_whole w x (stopped (member_at w x)) refl (h.1 x) h);
   marks = λ x d u m. refresh_whole _ x _ h;
+  erases = λ x d u m. refresh_whole _ x _ h;
   refreshes = λ x v u m. refresh_whole w x v h;
   picks = λ y s u none e upto. set_whole w y (with_current (Some s) (member_at w y)) refl (h.1 y) h;
+  refuses = h;
 }) r
 
 -- at the opening

@@ -18,7 +18,7 @@ use Rattle.activity.specs.Kept.{Kept, no_kept, joined}
 use Rattle.activity.specs.Told.{Told, none_told}
 use Rattle.activity.specs.Parcels.{Carried}
 use Rattle.activity.specs.Diff.{next_line, is_told}
-use Rattle.activity.specs.Plan.{accepted}
+use Rattle.activity.specs.Plan.{accepted, begun}
 use Rattle.gm_member.specs.Parcels.{ByOrigin, places, known_at, told_at, line_at, told_now}
 
 -- The link on which a member sends: to whom it goes, the version at which it was opened, whether no packet was put on it yet,
@@ -175,9 +175,17 @@ counted_in c = record c { counted = took c.counted }
 abbrev pub took_from : Held → ByOrigin → Incoming → Held
 took_from h k c = record h { known = all_accepted (owns h c.from) h.known k.lines; current = Some (counted_in c) }
 
--- the member after it has taken a packet from the link that it takes from
+-- what a member that waits begins with, by the lines of its first packet
+abbrev pub all_begun : List (Option Carried) → List Kept
+all_begun lines = map (λ p. begun (line_at lines p)) places
+
+-- it takes that packet from a link, and is up
+abbrev pub began_from : Held → ByOrigin → Incoming → Held
+began_from h k c = record h { phase = Up; known = all_begun k.lines; current = Some (counted_in c) }
+
+-- the member after it has taken a packet from the link that it takes from: where it waited, its first one
 abbrev pub took_held : Held → ByOrigin → Held
-took_held h k = at_some h.current h (took_from h k)
+took_held h k = at_some h.current h (λ c. cond (is_waiting h.phase) (began_from h k c) (took_from h k c))
 
 -- ---- gaining
 

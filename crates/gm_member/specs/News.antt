@@ -1,5 +1,5 @@
 -- The messages that a packet brings a member.
-use Rattle.std.specs.Prelude.{ℕ, zero, suc, ◌+◌, ◌-◌, Bool, true, false, List, [], ◌++◌, map, max, slice_index_or, Option, Some, None}
+use Rattle.std.specs.Prelude.{ℕ, zero, suc, ◌+◌, ◌-◌, Bool, true, false, cond, List, [], ◌++◌, map, max, slice_index_or, Option, Some, None}
 use Rattle.std.specs.List.{range_with_len}
 use Rattle.std.specs.Option.{option_map_or}
 use Rattle.ring_names.specs.declared.message.Message.{Message}
@@ -11,6 +11,7 @@ use Rattle.activity.specs.Parcels.{Carried}
 use Rattle.activity.specs.Plan.{change_of}
 use Rattle.ring_world.specs.declared.numbers.Numbers.{Numbers}
 use Rattle.ring_world.specs.Rows.{most_members}
+use Rattle.ring_world.specs.Machine.{is_waiting}
 use Rattle.ring_world.specs.Shown.{id_of}
 use Rattle.gm_member.specs.declared.taken.Taken.{Taken}
 use Rattle.gm_member.specs.Parcels.{ByOrigin, known_at, line_at}
@@ -43,9 +44,10 @@ abbrev pub news_below : ℕ → (ℕ → Bool) → List Kept → List (Option Ca
 news_below zero own known lines = []
 news_below (suc p) own known lines = news_below p own known lines ++ line_news (own p) p (known_at known p) (line_at lines p)
 
--- all that a packet brings from the link that the member takes from, in order of origin and number
+-- all that a packet brings from the link that the member takes from, in order of origin and number: its first one brings a member
+-- that waits nothing
 abbrev pub news_of : Held → ByOrigin → List Taken
-news_of h k = at_some h.current [] (λ c. news_below most_members (owns h c.from) h.known k.lines)
+news_of h k = at_some h.current [] (λ c. cond (is_waiting h.phase) [] (news_below most_members (owns h c.from) h.known k.lines))
 
 -- the messages of a log that numbers bring to one who has got so many
 abbrev pub taken_of : Bool → ℕ → List Message → ℕ → Numbers → List Taken

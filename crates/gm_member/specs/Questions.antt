@@ -1,19 +1,22 @@
 -- What a member asks the registrar, and what the answer does to it.
-use Rattle.std.specs.Prelude.{Bool, true, false, ◌||◌, is_some, List, ⊤}
+use Rattle.std.specs.Prelude.{◌-◌, Bool, true, false, ◌||◌, is_some, List, ⊤}
 use Rattle.group_view.specs.View.{Group, as_id}
 use Rattle.group_view.specs.declared.request.Request.{Request}
 use Rattle.group_view.specs.declared.request.Request.TheVariants as request
 use Rattle.group_view.specs.declared.request.Answer.{Answer}
 use Rattle.group_view.specs.declared.request.Answer.TheVariants.{Viewed, Links, Noted, No}
 use Rattle.group_view.specs.declared.request.Deposited.{Deposited}
+use Rattle.activity.specs.Kept.{got_of}
 use Rattle.gm_member.specs.declared.questions.Ask.{Ask}
-use Rattle.gm_member.specs.declared.questions.Ask.TheVariants.{Mark, Refresh, Collect}
+use Rattle.gm_member.specs.declared.questions.Ask.TheVariants.{Mark, Erase, Refresh, Collect}
+use Rattle.gm_member.specs.Parcels.{known_at}
 use Rattle.gm_member.specs.Held.{Held, first_at_door, answered_held, refreshed_held, collected_held}
 use Rattle.gm_member.specs.Arrivals.{incoming_of}
 
 -- whether the answer may be a view
 abbrev pub may_bring_view : Ask → Bool
 may_bring_view (Mark dead) = true
+may_bring_view (Erase origin) = true
 may_bring_view Refresh = true
 may_bring_view Collect = false
 
@@ -22,9 +25,11 @@ abbrev pub has_link : Held → Bool
 has_link h = is_some h.current || is_some (first_at_door h)
 
 module _ {I : Type 0} where
-  -- what is asked of the registrar
+  -- what is asked of the registrar; of an id 0 an erasure tells what is kept of the first origin
   abbrev pub asked_for : Held → Ask → Request I
   asked_for h (Mark dead) = request.Mark (as_id h.id) dead h.view.version (has_link h)
+  asked_for h (Erase origin) =
+      request.Erase (as_id h.id) origin (got_of (known_at h.known (origin.0 - 1))) (known_at h.known (origin.0 - 1)).retired h.view.version
   asked_for h Refresh = request.Refresh (as_id h.id)
   asked_for h Collect = request.Collect (as_id h.id)
 

@@ -14,10 +14,10 @@ use Rattle.ring_world.specs.Rows.{Row, most_members, messages_between}
 use Rattle.ring_world.specs.Refusal.{is_empty}
 use Rattle.ring_world.specs.View.{right_of}
 use Rattle.ring_world.specs.Compact.{has_line}
-use Rattle.ring_world.specs.Machine.{World, Packet, Sending, row_at, numbers_at, member_at, link_at, view_in, newest, oldest}
+use Rattle.ring_world.specs.Machine.{World, Packet, Sending, row_at, numbers_at, member_at, link_at, view_in, newest, is_waiting, oldest}
 use Rattle.ring_world.specs.OpenLinks.{is_door_link, passes}
 use Rattle.ring_world.specs.Step.{size, log_of, is_owned, next_packet, opening}
-use Rattle.ring_world.specs.Event.{id_of, refusal, effect, ArePlain, IsRun, last}
+use Rattle.ring_world.specs.Event.{id_of, erased_view, refusal, effect, IsRun, last}
 use Rattle.gm_member.specs.declared.taken.Taken.{Taken}
 use Rattle.activity.specs.Kept.{Kept}
 use Rattle.activity.specs.Told.{Told}
@@ -93,10 +93,10 @@ line_for fresh log p k before = cond (has_line fresh k before)
 abbrev pub lines_in : World → Sending → Packet → List (Option Carried)
 lines_in w before k = map (λ p. line_for before.fresh (log_of w (p + 1)) p (numbers_at k (p + 1)) (numbers_at before.sent (p + 1))) places
 
--- P holds of every state of a run of the events that the parties do so far, and id there, at which a member that holds h stands
+-- P holds of every state of a run, and id there, at which a member that holds h stands
 abbrev pub WhereItStands : Held → (World → ℕ → Type 0) → Type 0
 WhereItStands h P = (credit : CreditSpec) (names : List (List ℕ)) (events : List Event) (x : ℕ)
-    → AreOpeningNames names → ArePlain events → IsRun (opening credit names) events
+    → AreOpeningNames names → IsRun (opening credit names) events
     → 1 ≤ x → x < size (last (opening credit names) events) → Stands (last (opening credit names) events) x h
     → P (last (opening credit names) events) x
 
@@ -107,6 +107,10 @@ StepsTo w x e h = (refusal w e ≡ None) × Stands (effect w e) x h
 -- a view is what marking the member of a name makes of the newest
 abbrev pub IsMarkedView : World → List ℕ → Group → Type 0
 IsMarkedView w dead v = (d : ℕ) × (id_of w dead ≡ Some d) × (v ≡ marked (view_in w (newest w)) d)
+
+-- what erasing the member of a name makes of it
+abbrev pub IsErasedView : World → List ℕ → Group → Type 0
+IsErasedView w origin v = (p : ℕ) × (id_of w origin ≡ Some p) × (v ≡ erased_view w p)
 
 -- the event by which a message is published
 abbrev pub publishing : List ℕ → Message → Event
@@ -140,10 +144,10 @@ taken_below (suc p) w x s =
     taken_below p w x s
     ++ taken_of (is_owned (view_in w (member_at w x).version) x (link_at w s).sender (p + 1)) p (log_of w (p + 1)) (row_at (member_at w x) (p + 1)).got (numbers_at (oldest (link_at w s)) (p + 1))
 
--- all that a take at x brings
+-- all that a take at x brings: the first one nothing, where x waits
 abbrev pub taken_in : World → Option ℕ → ℕ → List Taken
 taken_in w None x = []
-taken_in w (Some s) x = taken_below most_members w x s
+taken_in w (Some s) x = cond (is_waiting (member_at w x).phase) [] (taken_below most_members w x s)
 
 -- the link that a member opens to itself by reading a view: where it is left alone there, and doesn't send to itself yet
 abbrev pub own_link : Held → Group → List Incoming

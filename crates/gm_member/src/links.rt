@@ -236,12 +236,13 @@ impl<I> InLink<I> {
 }
 
 impl<I: LinkIn<Load>> InLink<I> {
-    ghost use Rattle.std.specs.Prelude.{◌≡◌, ◌≤◌, ◌+◌, map, length, OnOk, OnErr, IfOk, IfErr, None, Some, IsSome};
+    ghost use Rattle.std.specs.Prelude.{◌≡◌, ℕ, ◌≤◌, ◌+◌, map, length, OnOk, OnErr, IfOk, IfErr, None, Some, IsSome};
     ghost use Rattle.std.specs.Prelude.{MatchOption};
     ghost use Rattle.credit_flow.specs.Credit.{grant_due};
     ghost use Rattle.ring_world.specs.Step.{is_owned};
-    ghost use Rattle.activity.specs.Kept.{KeepsRows};
-    ghost use Rattle.activity.specs.Plan.{owns as owned, changes_of, AreReady};
+    ghost use Rattle.activity.specs.Kept.{KeepsRows, kept_of};
+    ghost use Rattle.activity.specs.Parcels.{line_of};
+    ghost use Rattle.activity.specs.Plan.{owns as owned, changes_of, AreReady, opened, AreOpened};
     ghost use Rattle.gm_member.specs.Parcels.{by_origin};
     ghost use Rattle.gm_member.specs.Held.{counted_in};
     ghost use Rattle.gm_member.specs.News.{news_below};
@@ -249,8 +250,8 @@ impl<I: LinkIn<Load>> InLink<I> {
     ghost use Rattle.gm_member.specs.Ends.{EndLooks, EndTakes, EndTook, EndEnds, IsEndRefusal, IsTakeFault};
     ghost use Rattle.gm_member.specs.Loads.{parcel_in, GrantsIf};
 
-    /// The oldest packet, copies of the messages that it brings to a member with these tables and this view, and what it
-    /// changes there, for which there is room then.
+    /// The oldest packet, copies of the messages that it brings to a member with these tables and this view, and what
+    /// it changes there, for which there is room then.
     fn take_load(
         &mut self,
         alloc: Global,
@@ -307,8 +308,8 @@ impl<I: LinkIn<Load>> InLink<I> {
         }
     }
 
-    /// The oldest packet, which is counted, copies of the messages that it brings, and what it changes, for which there is
-    /// room then.
+    /// The oldest packet, which is counted, copies of the messages that it brings, and what it changes, for which
+    /// there is room then.
     pub(crate) fn take(
         &mut self,
         alloc: Global,
@@ -336,6 +337,60 @@ impl<I: LinkIn<Load>> InLink<I> {
         self.count();
         let Load::Packet(packet) = load;
         Ok((news, changes, packet))
+    }
+
+    /// The oldest packet, and the tables with which a member that waits begins by it, before its messages join.
+    fn open_load(&mut self, alloc: Global, have: u32) -> Result<(Tables, Load), MemberFault>
+        requires there { IsSome self.old.end }
+        ensures same { in_of self.new ≡ in_of self.old }
+        ensures ok { IfOk result (λ r. EndTakes I.waiting I.takes I.looked r.1 self.old.end self.new.end) }
+        ensures version { IfOk result (λ r. (parcel_in r.1).view ≤ have) }
+        ensures opened { IfOk result (λ r. (p : ℕ) → kept_of r.0 p ≡ opened (line_of (parcel_in r.1).lines p)) }
+        ensures room { IfOk result (λ r. AreOpened r.0 (parcel_in r.1).lines) }
+        ensures fault { IfErr result (λ fault. IsTakeFault I.known I.waiting have fault self.new.end) }
+        ensures looks { OnErr result (EndLooks I.looked self.old.end self.new.end) }
+    {
+        let Some(end) = &mut self.end else {
+            unreachable!()
+        };
+        let tables = match end.peek() {
+            Some(Item::Load(Load::Packet(packet))) => {
+                if let Some(reason) = view_refusal(packet, have) {
+                    return Err(MemberFault::Refused(reason));
+                }
+                Tables::opening(alloc, packet)?
+            }
+            Some(Item::End(_)) => return Err(MemberFault::Refused(Reason::EndNext)),
+            None => return Err(MemberFault::Refused(Reason::NothingToTake)),
+        };
+        match end.take() {
+            Some(Item::Load(load)) => Ok((tables, load)),
+            _ => unreachable!(),
+        }
+    }
+
+    /// The oldest packet, which is counted, and the tables with which a member that waits begins by it, before its
+    /// messages join.
+    pub(crate) fn begin(
+        &mut self,
+        alloc: Global,
+        have: u32,
+    ) -> Result<(Tables, Packet), MemberFault>
+        requires there { IsSome self.old.end }
+        ensures counted { OnOk result (in_of self.new ≡ counted_in (in_of self.old)) }
+        ensures took { IfOk result (λ r. EndTook I.waiting I.takes I.looked I.sends (grant_due self.old.counted) r.1
+            self.old.end self.new.end) }
+        ensures version { IfOk result (λ r. r.1.view ≤ have) }
+        ensures opened { IfOk result (λ r. (p : ℕ) → kept_of r.0 p ≡ opened (line_of r.1.lines p)) }
+        ensures room { IfOk result (λ r. AreOpened r.0 r.1.lines) }
+        ensures fault { IfErr result (λ fault. IsTakeFault I.known I.waiting have fault self.new.end) }
+        ensures err { OnErr result (in_of self.new ≡ in_of self.old) }
+        ensures looks { OnErr result (EndLooks I.looked self.old.end self.new.end) }
+    {
+        let (tables, load) = self.open_load(alloc, have)?;
+        self.count();
+        let Load::Packet(packet) = load;
+        Ok((tables, packet))
     }
 
     /// The end of the link.

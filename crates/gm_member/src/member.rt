@@ -3,7 +3,7 @@ ghost use Rattle.std.specs.Prelude.{◌≡◌, ◌+◌, ◌≤◌, ◌<◌, ◌�
 ghost use Rattle.std.specs.Vec.{vec_len, vec_capacity};
 ghost use Rattle.group_view.specs.Ring.{is_in};
 ghost use Rattle.ring_world.specs.View.{ids};
-ghost use Rattle.ring_world.specs.Machine.{runs_phase};
+ghost use Rattle.ring_world.specs.Machine.{is_waiting, runs_phase};
 ghost use Rattle.gm_member.specs.View.{count_of, has_ended, is_up_where, told_on};
 ghost use Rattle.gm_member.specs.Spares.{told_by_spare};
 ghost use Rattle.gm_member.specs.Within.{IsWithin, one_within};
@@ -25,10 +25,11 @@ use std::alloc::Global;
 /// The greatest number of a message.
 const MOST_MESSAGES: u64 = 1 << 63;
 
-/// A member of the ring, as a process of `gm`. It has a view of the group, and of every origin that it has heard of, itself
-/// among them, the messages that it has received and not forgotten. It sends on one link and takes from one, and further
-/// links may stand at its door. While its question for a view is open it has a link ready, with which the answer wants no
-/// memory. Until it stops, the link on which it sends hasn't ended.
+/// A member of the ring, as a process of `gm`. It has a view of the group, and of every origin that it has heard of,
+/// itself among them, the messages that it has received and not forgotten. It sends on one link and takes from one, and
+/// further links may stand at its door. One that waits for its first packet sends on none. While its question for a
+/// view is open it has a link ready, with which the answer wants no memory. Until it stops, the link on which it
+/// sends hasn't ended.
 #[derive(Drop)]
 pub struct Member<O: LinkOut<Load>, I> {
     pub(crate) alloc: Global,
@@ -51,6 +52,7 @@ pub struct Member<O: LinkOut<Load>, I> {
     ghost sent: { IsWithin (told_on out) tables } by { one_within (told_on out) tables },
     ghost spared: { IsWithin (told_by_spare spare) tables } by { one_within (told_by_spare spare) tables },
     ghost unended: { runs_phase phase ≡ true → has_ended O.ended out ≡ false },
+    ghost silent: { is_waiting phase ≡ true → count_of out ≡ 0 },
     ghost room_in: { vec_len old_ins + vec_len door + count_of current ≤ vec_capacity old_ins },
     ghost room_out: { vec_len old_outs + count_of out + count_of spare ≤ vec_capacity old_outs },
 }
@@ -62,7 +64,7 @@ impl<O: LinkPair<Load, In = I>, I: LinkIn<Load> + Drop> Member<O, I> {
     ghost use Rattle.ring_names.specs.declared.reason.Reason.{Reason};
     ghost use Rattle.ring_world.specs.Rows.{most_members};
     ghost use Rattle.ring_world.specs.declared.event.Event.TheVariants.{Put, Take, TakeEnd, Gain, Stop, Pick, Refresh};
-    ghost use Rattle.ring_world.specs.Machine.{member_at, runs_phase, view_in, newest};
+    ghost use Rattle.ring_world.specs.Machine.{member_at, is_waiting, runs_phase, view_in, newest};
     ghost use Rattle.ring_world.specs.Step.{log_of};
     ghost use Rattle.ring_world.specs.Event.{refusal, take_refusal as the_take_refusal};
     ghost use Rattle.ring_world.specs.Event.{end_refusal as the_end_refusal, gain_refusal as the_gain_refusal};
@@ -160,7 +162,7 @@ impl<O: LinkPair<Load, In = I>, I: LinkIn<Load> + Drop> Member<O, I> {
         self.id
     }
 
-    /// Where it stands: up, or stopped.
+    /// Where it stands: waiting for its first packet, up, or stopped.
     pub fn phase(&self) -> Phase
         ensures { result ≡ (held_of self.now).phase }
     {
@@ -349,7 +351,8 @@ impl<O: LinkPair<Load, In = I>, I: LinkIn<Load> + Drop> Member<O, I> {
     }
 
     /// Takes the oldest packet of the link from which the member takes, and grants credit where that is due. The
-    /// answer is what the packet brings, in order of origin and number. Refused with `Stopped`, `AwaitingAnswer`,
+    /// answer is what the packet brings, in order of origin and number; a member that waits is brought nothing by its
+    /// first packet: it begins with what that says, and is up. Refused with `Stopped`, `AwaitingAnswer`,
     /// `NoCurrentLink`; then with `NothingToTake` where the end of the link gives no item in this call, `EndNext`
     /// where the next item is the end of the link, and `ViewTooOld` where it is a packet of a newer version than the
     /// member's. As `gm:handle_msg` of an activity.
@@ -381,12 +384,51 @@ impl<O: LinkPair<Load, In = I>, I: LinkIn<Load> + Drop> Member<O, I> {
         if let Some(reason) = self.no_link() {
             return Err(MemberFault::Refused(reason));
         }
+        if self.waits() {
+            return self.begin();
+        }
+        self.receive()
+    }
+
+    /// Whether it waits for its first packet.
+    fn waits(&self) -> bool
+        ensures { result ≡ is_waiting (held_of self.now).phase }
+    {
+        matches!(self.phase, Phase::Waiting)
+    }
+
+    /// Of a member that has its state.
+    fn receive(&mut self) -> Result<Vec<Taken>, MemberFault>
+        requires ready { InIsReady self.old }
+        requires enabled { take_refused (held_of self.old) None ≡ None }
+        requires state { is_waiting (held_of self.old).phase ≡ false }
+        ensures { Takes I.known I.waiting I.takes I.looked I.sends self.old self.new result }
+    {
         let Some(link) = &mut self.current else {
             unreachable!()
         };
         let (news, changes, packet) = link.take(self.alloc, &mut self.tables, &self.view, self.id)?;
         self.tables.apply(packet, &changes);
         Ok(news)
+    }
+
+    /// Of one that waits: it begins with what its first packet says, receives nothing, and is up.
+    fn begin(&mut self) -> Result<Vec<Taken>, MemberFault>
+        requires ready { InIsReady self.old }
+        requires enabled { take_refused (held_of self.old) None ≡ None }
+        requires waits { is_waiting (held_of self.old).phase ≡ true }
+        ensures { Takes I.known I.waiting I.takes I.looked I.sends self.old self.new result }
+    {
+        let Some(link) = &mut self.current else {
+            unreachable!()
+        };
+        let have = version(&self.view);
+        let (mut tables, packet) = link.begin(self.alloc, have)?;
+        tables.fill(packet);
+        self.tables = tables;
+        self.phase = Phase::Up;
+        self.spare = None;
+        Ok(Vec::new(self.alloc))
     }
 
     /// Takes the end of the link from which the member takes, and leaves it. Refused with `Stopped`,
@@ -656,6 +698,7 @@ impl<O: LinkPair<Load, In = I>, I: LinkIn<Load> + Drop> Member<O, I> {
 
     /// The member sends on the link that was ready, to another, and what it sent on before ends.
     fn send_to(&mut self, to: MemberId) -> Vec<Request<I>>
+        requires state { is_waiting self.old.phase ≡ false }
         requires ready { IsSome self.old.spare }
         requires out { OutIsOpen O.ended self.old }
         ensures held { SpareIsReady O.are_fresh O.free O.ended self.old → held_of self.new
@@ -696,6 +739,7 @@ impl<O: LinkPair<Load, In = I>, I: LinkIn<Load> + Drop> Member<O, I> {
 
     /// The member reads a view, and sends to its right neighbour in it on the link that was ready.
     pub(crate) fn read(&mut self, view: View, to: MemberId) -> Vec<Request<I>>
+        requires state { is_waiting self.old.phase ≡ false }
         requires stands { is_in self.old.id.0 (ids view) ≡ true }
         requires ready { IsSome self.old.spare }
         requires out { OutIsOpen O.ended self.old }

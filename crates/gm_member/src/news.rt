@@ -1,5 +1,6 @@
 //! What a packet brings a member, as copies.
-ghost use Rattle.std.specs.Prelude.{◌≡◌, ℕ, ◌+◌, ◌-◌, ◌^◌, ◌<◌, ◌≤◌, ◌++◌, ◌∷◌, [], map, length, Option, OnOk, IfOk, IfSome};
+ghost use Rattle.std.specs.Prelude.{◌≡◌, ℕ, ◌+◌, ◌-◌, ◌^◌, ◌<◌, ◌≤◌, ◌++◌, ◌∷◌, [], map, length, Option, OnOk};
+ghost use Rattle.std.specs.Prelude.{IfOk, IfSome};
 ghost use Rattle.std.specs.Option.{option_map_or, option_copied};
 ghost use Rattle.ring_world.specs.Step.{is_owned};
 ghost use Rattle.ring_world.specs.Event.{version_refusal};
@@ -116,7 +117,8 @@ fn push_origin(
 ) -> Result<(), OutOfMemory>
     requires { p < 64 }
     ensures { OnOk result (out.new.items ≡ out.old.items
-        ++ line_news (is_owned view.now id.0 from.0 (p + 1)) p (kept_of tables.now (p + 1)) (line_of (packet.now).lines (p + 1))) }
+        ++ line_news (is_owned view.now id.0 from.0 (p + 1)) p (kept_of tables.now (p + 1))
+        (line_of (packet.now).lines (p + 1))) }
 {
     match line_for(packet.lines(), MemberId(p as u32 + 1)) {
         None => Ok(()),
@@ -133,7 +135,8 @@ fn packet_news(
     id: MemberId,
     from: MemberId,
 ) -> Result<Vec<Taken>, OutOfMemory>
-    ensures { IfOk result (λ v. v.items ≡ news_below 64 (λ p. is_owned view.now id.0 from.0 (p + 1)) (all_kept tables.now)
+    ensures { IfOk result (λ v. v.items
+        ≡ news_below 64 (λ p. is_owned view.now id.0 from.0 (p + 1)) (all_kept tables.now)
         (by_origin packet.now).lines) }
 {
     let mut out = Vec::new(alloc);
@@ -154,8 +157,10 @@ pub(crate) fn arrivals(
     from: MemberId,
 ) -> Result<(Vec<Taken>, Vec<Change>), OutOfMemory>
     ensures news { IfOk result (λ r. r.0.items
-        ≡ news_below 64 (λ p. is_owned view.now id.0 from.0 (p + 1)) (all_kept tables.old) (by_origin packet.now).lines) }
-    ensures plan { IfOk result (λ r. r.1.items ≡ changes_of (owned view.now id.0 from.0) tables.new (packet.now).lines) }
+        ≡ news_below 64 (λ p. is_owned view.now id.0 from.0 (p + 1)) (all_kept tables.old)
+        (by_origin packet.now).lines) }
+    ensures plan { IfOk result (λ r. r.1.items
+        ≡ changes_of (owned view.now id.0 from.0) tables.new (packet.now).lines) }
     ensures room { IfOk result (λ r. AreReady tables.new r.1.items) }
     ensures kept { KeepsRows tables.old tables.new }
 {

@@ -1,7 +1,7 @@
 //! The numbers that a member keeps of an origin.
 
 use crate::member::Member;
-use activity::Load;
+use activity::{KeptNumbers, Load};
 use ordered_link::{LinkIn, LinkPair};
 use ring_names::MemberId;
 
@@ -20,9 +20,23 @@ impl<O: LinkPair<Load, In = I>, I: LinkIn<Load> + Drop> Member<O, I> {
         requires { 1 ≤ of.0 }
         ensures { result ≡ got_of (known_at (held_of self.now).known (of.0 - 1)) }
     {
+        self.numbers_of(of).got
+    }
+
+    /// The numbers that the member keeps of an origin: zeros of an id that no member has.
+    pub fn numbers_of(&self, of: MemberId) -> KeptNumbers
+        requires { 1 ≤ of.0 }
+        ensures got { result.got ≡ got_of (known_at (held_of self.now).known (of.0 - 1)) }
+        ensures forgot { result.forgot ≡ (known_at (held_of self.now).known (of.0 - 1)).forgot }
+        ensures retired { result.retired ≡ (known_at (held_of self.now).known (of.0 - 1)).retired }
+    {
         if of.0 > MOST_MEMBERS {
-            return 0;
+            return KeptNumbers {
+                got: 0,
+                forgot: 0,
+                retired: 0,
+            };
         }
-        self.tables.numbers(of).got
+        self.tables.numbers(of)
     }
 }

@@ -15,6 +15,8 @@ use ring_names::{Items, MemberId, OutOfMemory};
 pub enum Ask {
     /// To mark a neighbour that has stopped.
     Mark(MemberId),
+    /// To erase a dead member, for which it answers.
+    Erase(MemberId),
     /// For the newest view.
     Refresh,
     /// For the links that wait for it.
@@ -28,12 +30,14 @@ impl<O: LinkPair<Load, In = I>, I: LinkIn<Load> + Drop> Member<O, I> {
     ghost use Rattle.ring_names.specs.declared.reason.Reason.{Reason};
     ghost use Rattle.group_view.specs.Ring.{is_in};
     ghost use Rattle.ring_world.specs.declared.event.Event.TheVariants.{Mark as TheMark, Refresh as TheRefresh};
+    ghost use Rattle.ring_world.specs.declared.event.Event.TheVariants.{Erase as TheErase};
     ghost use Rattle.ring_world.specs.Machine.{view_in, newest};
     ghost use Rattle.ring_world.specs.View.{ids};
     ghost use Rattle.gm_member.specs.View.{count_of};
     ghost use Rattle.gm_member.specs.Held.{ask_refused, asking_held, answered_held, collected_held, refreshed_held};
     ghost use Rattle.ring_world.specs.Event.{refusal, effect};
     ghost use Rattle.gm_member.specs.Stands.{WhereItStands, Stands, StepsTo, IsMarkedView, with_own_link};
+    ghost use Rattle.gm_member.specs.Stands.{IsErasedView};
     ghost use Rattle.gm_member.specs.Shown.{When, held_of, ends_of, OutIsReady, LooksBy, MovesTo};
     ghost use Rattle.gm_member.specs.Shown.{SpareIsReady, SpareIsSound, KeepsSpare, HasRoom, StaysReady, OutIsBack};
     ghost use Rattle.gm_member.specs.Arrivals.{incoming_of, with_arrived};
@@ -73,9 +77,9 @@ impl<O: LinkPair<Load, In = I>, I: LinkIn<Load> + Drop> Member<O, I> {
     }
 
     /// The member asks the registrar, and does nothing more until the answer comes; the request is what is to be asked.
-    /// For a mark and for a view it gets a link ready, with which the answer wants no memory. Refused with `Stopped`,
-    /// `Waiting`, and `AwaitingAnswer` while an earlier question is open. As `gm:record_dead_member_in_group` and
-    /// `gm:read_group`.
+    /// For a mark, an erasure and a view it gets a link ready, with which the answer wants no memory. Refused with
+    /// `Stopped`, `Waiting`, and `AwaitingAnswer` while an earlier question is open. As
+    /// `gm:record_dead_member_in_group`, `gm:erase_members_in_group` and `gm:read_group`.
     pub fn ask(&mut self, what: Ask) -> Result<Request<I>, MemberFault>
         ensures heeds { Heeds (ask_refused (held_of self.old)) result }
         ensures fault { IfErr result (IsFault (ask_refused (held_of self.old))) }
@@ -108,7 +112,7 @@ impl<O: LinkPair<Load, In = I>, I: LinkIn<Load> + Drop> Member<O, I> {
     {
         match what {
             Ask::Collect => self.spare = None,
-            Ask::Mark(_) | Ask::Refresh => self.prepare()?,
+            Ask::Mark(_) | Ask::Erase(_) | Ask::Refresh => self.prepare()?,
         }
         Ok(())
     }
@@ -131,8 +135,23 @@ impl<O: LinkPair<Load, In = I>, I: LinkIn<Load> + Drop> Member<O, I> {
                 view: version(&self.view),
                 has_current: self.has_link(),
             },
+            Ask::Erase(origin) => self.erasure(origin),
             Ask::Refresh => Request::Refresh { by: self.id },
             Ask::Collect => Request::Collect { by: self.id },
+        }
+    }
+
+    /// To erase an origin, with what is kept of it. No member has the id 0, of which the first one's numbers are told.
+    fn erasure(&self, origin: MemberId) -> Request<I>
+        ensures { result ≡ asked_for (held_of self.now) (Ask.Erase origin) }
+    {
+        let kept = self.numbers_of(MemberId(origin.0.max(1)));
+        Request::Erase {
+            by: self.id,
+            origin,
+            got: kept.got,
+            retired: kept.retired,
+            view: version(&self.view),
         }
     }
 
@@ -181,6 +200,13 @@ impl<O: LinkPair<Load, In = I>, I: LinkIn<Load> + Drop> Member<O, I> {
             (λ v. WhereItStands (answered_held (held_of self.old)) (λ w x. (dead : List ℕ) → IsMarkedView w dead v
             → refusal w (TheMark (held_of self.old).name dead) ≡ None
             → Stands (effect w (TheMark (held_of self.old).name dead)) x
+            (with_own_link (held_of self.old) v (held_of self.new))))) }
+
+        // The same of the view that an erasure makes of it.
+        ensures erases { SpareIsSound O.are_fresh O.free O.ended self.old → OnOk result (OfView answer
+            (λ v. WhereItStands (answered_held (held_of self.old)) (λ w x. (origin : List ℕ) → IsErasedView w origin v
+            → refusal w (TheErase (held_of self.old).name origin) ≡ None
+            → Stands (effect w (TheErase (held_of self.old).name origin)) x
             (with_own_link (held_of self.old) v (held_of self.new))))) }
     {
         match answer {

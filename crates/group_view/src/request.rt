@@ -23,6 +23,15 @@ pub enum Request<I> {
     Refresh {
         by: MemberId,
     },
+    /// To erase a dead member, for which the asker answers. `got` is up to which number the asker has received
+    /// its messages, and `retired` up to which the asker knows that their acknowledgement has come round.
+    Erase {
+        by: MemberId,
+        origin: MemberId,
+        got: u64,
+        retired: u64,
+        view: u32,
+    },
     /// That the asker has stopped.
     Stopped {
         by: MemberId,

@@ -1,5 +1,6 @@
 //! Entries in ring order, as slices.
-ghost use Rattle.std.specs.Prelude.{MatchOption, ◌≡◌, ◌&&◌, ◌++◌, reverse, filter, position, nat_eq, ◌<◌, ◌≤◌, ◌+◌, ℕ, length};
+ghost use Rattle.std.specs.Prelude.{MatchOption, ◌≡◌, ◌&&◌, ◌++◌, reverse, filter, position, nat_eq, ◌<◌, ◌≤◌};
+ghost use Rattle.std.specs.Prelude.{◌+◌, ℕ, length};
 ghost use Rattle.std.specs.Prelude.{take, drop, map, option_map, IfOk, OnOk, IfSome, true};
 ghost use Rattle.group_view.specs.declared.entry.Mark.TheVariants.{Dead};
 ghost use Rattle.group_view.specs.View.{is_dead as died};

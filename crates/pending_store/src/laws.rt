@@ -1,6 +1,7 @@
 //! The law of stores, whatever is done with one.
 ghost use Rattle.std.specs.Prelude.{◌≡◌, ℕ, ◌-◌, ◌<◌, ◌≤◌, List, [], ◌∷◌, ◌++◌, length, slice_index_or};
-ghost use Rattle.pending_store.specs.Store.{Pending, got_of, messages_between, kept_between, StartsAt, KeepsAll, Gains, ForgetsTo, IsSliceOf, IsNext};
+ghost use Rattle.pending_store.specs.Store.{Pending, got_of, messages_between, kept_between, StartsAt};
+ghost use Rattle.pending_store.specs.Store.{KeepsAll, Gains, ForgetsTo, IsSliceOf, IsNext};
 
 /// A store that is the slice of its origin's log between its numbers stays one: where it starts at a number
 /// that the log has reached, where the log gains messages, where the store gains the log's next message, and

@@ -24,7 +24,11 @@ impl<T> Model for Store<T> {
 
     ghost Value = { Pending T };
 
-    ghost view = { λ s. record { forgot = s.forgot; messages = s.messages.items; spare = deque_capacity s.messages - deque_len s.messages } };
+    ghost view = { λ s. record {
+      forgot = s.forgot;
+      messages = s.messages.items;
+      spare = deque_capacity s.messages - deque_len s.messages;
+    } };
 
     ghost invariant = { λ s. s.forgot + deque_len s.messages ≤ 2 ^ 63 };
 }

@@ -5,13 +5,14 @@ use Rattle.std.proofs.lemmas.Bool.{le-ltb}
 use Rattle.ring_names.specs.declared.reason.Reason.{Reason}
 use Rattle.ring_names.specs.declared.reason.Reason.TheVariants as reason
 use Rattle.group_view.specs.Ring.{is_in}
-use Rattle.group_view.specs.View.{Group, ids, is_live, right_of}
+use Rattle.group_view.specs.View.{Group, ids, is_live, is_dead, is_alias, right_of}
 use Rattle.group_view.specs.Since.{no_group, view_at}
 use Rattle.ring_world.specs.Refusal.{refuse_if, or_else}
 use Rattle.ring_world.specs.View as ring
 use Rattle.ring_world.specs.Machine as machine
-use Rattle.ring_world.specs.declared.event.Event.TheVariants.{Mark, Stop, Refresh}
-use Rattle.ring_world.specs.Machine.{World, member_at, newest, runs_phase}
+use Rattle.ring_world.specs.declared.event.Event.{Event}
+use Rattle.ring_world.specs.declared.event.Event.TheVariants.{Mark, Stop, Refresh, Erase}
+use Rattle.ring_world.specs.Machine.{World, row_at, member_at, newest, runs_phase}
 use Rattle.ring_world.specs.Step.{size}
 use Rattle.ring_world.specs.Event.{id_of, of_member, is_stopped, up_refusal, running_refusal, is_neighbour, left_neighbour, refusal}
 use Rattle.ring_world.specs.Event as event
@@ -19,8 +20,8 @@ use Rattle.ring_world.proofs.invariants.Happens.{IsGood}
 use Rattle.ring_world.proofs.events.Refusals.{id_within, up_is}
 use Rattle.registrar.specs.Registry.{Registry, is_known}
 use Rattle.registrar.specs.Registry as registry
-use Rattle.registrar.specs.Asked.{is_left, is_beside, has_more, mark_refusal, stop_refusal, unknown_refusal}
-use Rattle.registrar.specs.Stands.{IsAsker, StandsIn, TellsTrue}
+use Rattle.registrar.specs.Asked.{is_left, is_beside, has_more, mark_refusal, erase_refusal, stop_refusal, unknown_refusal}
+use Rattle.registrar.specs.Stands.{IsAsker, AsksErase, StandsIn, TellsTrue}
 
 -- ---- the registrar's views are those of the state
 
@@ -72,30 +73,49 @@ and_same a a' b b' e k = by_case a k ∙ ap (λ c. c && b') e
 abbrev pub refusals : Bool → Bool → Bool → Bool → Option Reason
 refusals n l t m = or_else (refuse_if (not n) reason.NotNeighbour) (or_else (refuse_if (not l) reason.AlreadyDead) (or_else (refuse_if (not t) reason.NotStopped) (refuse_if m reason.LinkNotEnded)))
 
+-- those of an erasure but for the names
+abbrev erasing : Bool → Bool → ℕ → ℕ → Option Reason
+erasing dead answers got retired = or_else (refuse_if (not dead) reason.NotDead) (or_else (refuse_if (not answers) reason.NotOwner) (refuse_if (not (nat_eq got retired)) (reason.NotRetired got retired)))
+
+-- what refuses an event that one who is up does to another, once both are found
+named_refusal : (w : World) (name other : List ℕ) (x d v : ℕ) (further : ℕ → ℕ → Option Reason) → IsAsker w name x v → id_of w other ≡ Some d
+    → of_member (id_of w name) (λ y. up_refusal w y (of_member (id_of w other) (further y))) ≡ further x d
+named_refusal w name other x d v further a named =
+    ap (λ o. of_member o (λ y. up_refusal w y (of_member (id_of w other) (further y)))) a.named
+    ∙ up_is w x (of_member (id_of w other) (further x)) a.up
+    ∙ ap (λ o. of_member o (further x)) named
+
 -- ---- requests
 
 module _ {I : Type 0} where
   left_asked : (w : World) (r : Registry I) (name : List ℕ) (x v d : ℕ) → IsGood w → StandsIn w r → IsAsker w name x v → is_left (view_at r.views v) x d ≡ nat_eq d (left_neighbour w x)
   left_asked w r name x v d h s a = ap (λ g. is_left g x d) (view_same w r v s) ∙ is_left_same w name x v d h a
 
+  -- who asks and whom it names are known
+  both_known : (w : World) (r : Registry I) (name other : List ℕ) (x d v : ℕ) (later : Option Reason) → IsGood w → StandsIn w r → IsAsker w name x v → id_of w other ≡ Some d
+      → or_else (refuse_if (not (is_known r x)) reason.UnknownMember) (or_else (refuse_if (not (is_known r d)) reason.UnknownMember) later) ≡ later
+  both_known w r name other x d v later h s a named =
+      ap (λ b. or_else (refuse_if (not b) reason.UnknownMember) (or_else (refuse_if (not (is_known r d)) reason.UnknownMember) later)) (knows w r x h s from.0 from.1)
+      ∙ ap (λ b. or_else (refuse_if (not b) reason.UnknownMember) later) (knows w r d h s to.0 to.1)
+    where
+      from : (1 ≤ x) × (x < size w)
+      from = id_within w name x a.named
+
+      to : (1 ≤ d) × (d < size w)
+      to = id_within w other d named
+
   pub mark_judged : (w : World) (r : Registry I) (x d v : ℕ) (has_current : Bool) (name dead_name : List ℕ) → IsGood w → StandsIn w r
       → IsAsker w name x v → id_of w dead_name ≡ Some d → TellsTrue w r x d v has_current
       → mark_refusal r x d v has_current ≡ refusal w (Mark name dead_name)
   mark_judged w r x d v has_current name dead_name h s a named tells =
-      ap (λ b. or_else (refuse_if (not b) reason.UnknownMember) (or_else (refuse_if (not (is_known r d)) reason.UnknownMember) (refusals n l t m))) (knows w r x h s from.0 from.1)
-      ∙ ap (λ b. or_else (refuse_if (not b) reason.UnknownMember) (refusals n l t m)) (knows w r d h s to.0 to.1)
+      both_known w r name dead_name x d v (refusals n l t m) h s a named
       ∙ ap (λ b. refusals b l t m) (ap (λ g. is_beside g x d) (view_same w r v s) ∙ beside_same w name x v d h a)
       ∙ ap (λ b. refusals (is_neighbour w x d) b t m) (ap (λ (g : Group). is_live g.entries d) (newest_same w r s))
       ∙ ap (λ b. refusals (is_neighbour w x d) (ring.is_live (machine.view_in w (newest w)) d) b m) (s.stopped d to.0 to.1)
       ∙ ap (refusals (is_neighbour w x d) (ring.is_live (machine.view_in w (newest w)) d) (is_stopped (member_at w d).phase))
       (and_same (is_left (view_at r.views v) x d) (nat_eq d (left_neighbour w x)) _ _ (left_asked w r name x v d h s a) tells)
-      ∙ sym (ap (λ o. of_member o (λ y. up_refusal w y (of_member (id_of w dead_name) (event.mark_refusal w y)))) a.named
-      ∙ up_is w x (of_member (id_of w dead_name) (event.mark_refusal w x)) a.up
-      ∙ ap (λ o. of_member o (event.mark_refusal w x)) named)
+      ∙ sym (named_refusal w name dead_name x d v (event.mark_refusal w) a named)
     where
-      from : (1 ≤ x) × (x < size w)
-      from = id_within w name x a.named
-
       to : (1 ≤ d) × (d < size w)
       to = id_within w dead_name d named
 
@@ -110,6 +130,22 @@ module _ {I : Type 0} where
 
       m : Bool
       m = has_more r.links (view_at r.views v) x d has_current
+
+  pub erase_judged : (w : World) (r : Registry I) (x p v got retired : ℕ) (e : Event) → IsGood w → StandsIn w r
+      → (a : AsksErase w x p v got retired e) → erase_refusal r x p got retired v ≡ refusal w (Erase a.name a.origin_name)
+  erase_judged w r x p v got retired e h s a =
+      both_known w r a.name a.origin_name x p v (erasing (is_dead (registry.newest r).entries p) (is_alias (view_at r.views v).entries x p) got retired) h s a.asker a.named
+      ∙ ap (λ b. erasing b (is_alias (view_at r.views v).entries x p) got retired) (ap (λ (g : Group). is_dead g.entries p) (newest_same w r s))
+      ∙ ap (λ b. erasing dead b got retired) (ap (λ (g : Group). is_alias g.entries x p) (view_same w r v s) ∙ sym (ap (λ k. is_alias (machine.view_in w k).entries x p) a.asker.holds))
+      ∙ ap (λ k. erasing dead answers k retired) (sym a.got)
+      ∙ ap (erasing dead answers (row_at (member_at w x) p).got) (sym a.retired)
+      ∙ sym (named_refusal w a.name a.origin_name x p v (event.erase_refusal w) a.asker a.named)
+    where
+      dead : Bool
+      dead = is_dead (machine.view_in w (newest w)).entries p
+
+      answers : Bool
+      answers = is_alias (machine.view_in w (member_at w x).version).entries x p
 
   pub stop_judged : (w : World) (r : Registry I) (x : ℕ) (name : List ℕ) → IsGood w → StandsIn w r → id_of w name ≡ Some x → stop_refusal r x ≡ refusal w (Stop name)
   stop_judged w r x name h s named =

@@ -3,17 +3,18 @@ use Rattle.std.proofs.Common.{◌≡◌, ℕ, ◌+◌, ◌<◌, ◌≤◌, Bool,
 use Rattle.std.proofs.lemmas.List.{length-set}
 use Rattle.group_view.specs.Ring.{is_in}
 use Rattle.group_view.specs.View.{Group}
-use Rattle.group_view.specs.Change.{marked}
+use Rattle.group_view.specs.Change.{marked, erased}
 use Rattle.group_view.specs.Since.{no_group}
 use Rattle.group_view.proofs.Truth.{cond_itself}
 use Rattle.group_view.proofs.Rings.{is_in-append, nat_eq-same, nat_eq-not}
+use Rattle.promotion.specs.Elect.{installed}
 use Rattle.ring_world.specs.Machine as machine
 use Rattle.ring_world.specs.declared.phase.Ending.TheVariants.{Halted}
 use Rattle.ring_world.specs.declared.event.Event.{Event}
-use Rattle.ring_world.specs.declared.event.Event.TheVariants.{Mark, Stop, Refresh}
+use Rattle.ring_world.specs.declared.event.Event.TheVariants.{Mark, Stop, Refresh, Erase}
 use Rattle.ring_world.specs.Machine.{Member, World, no_member, member_at, newest}
 use Rattle.ring_world.specs.Step.{size, opening, with_view, stop_at, stopped, end_out}
-use Rattle.ring_world.specs.Event.{id_of, is_stopped, at_found, refreshed, effect}
+use Rattle.ring_world.specs.Event.{id_of, is_stopped, at_found, refreshed, erased_view, effect}
 use Rattle.ring_world.proofs.rings.Lists.{at_set}
 use Rattle.ring_world.proofs.events.Refusals.{id_within}
 use Rattle.ring_names.specs.declared.numbers.CreditSpec.{CreditSpec}
@@ -45,20 +46,30 @@ module _ {I : Type 0} where
     stopped = s.stopped;
   }
 
-  pub mark_stands : (w : World) (r : Registry I) (x d : ℕ) (name dead_name : List ℕ) → StandsIn w r → id_of w name ≡ Some x → id_of w dead_name ≡ Some d
-      → StandsIn (effect w (Mark name dead_name)) (handled.with_view r (marked (registry.newest r) d))
-  mark_stands w r x d name dead_name s from to =
-      subst (λ k. StandsIn k (handled.with_view r (marked (registry.newest r) d))) (sym is)
-      (stands_same next (refreshed next x (newest w + 1)) _ (told_refreshed next x (newest w + 1))
-      (stands_view w r (marked (machine.view_in w (newest w)) d) (marked (registry.newest r) d) (ap (λ g. marked g d) (sym (newest_same w r s))) s))
+  -- who does something to another has a view follow, and reads it
+  change_stands : (w : World) (r : Registry I) (x d : ℕ) (name other : List ℕ) (f : ℕ → Group) (g : Group) → f d ≡ g → StandsIn w r → id_of w name ≡ Some x → id_of w other ≡ Some d
+      → StandsIn (at_found (id_of w name) w (λ y. at_found (id_of w other) w (λ e. refreshed (with_view w (f e)) y (newest w + 1)))) (handled.with_view r g)
+  change_stands w r x d name other f g is s from to =
+      subst (λ k. StandsIn k (handled.with_view r g)) (sym found)
+      (stands_same next (refreshed next x (newest w + 1)) _ (told_refreshed next x (newest w + 1)) (stands_view w r (f d) g is s))
     where
       next : World
-      next = with_view w (marked (machine.view_in w (newest w)) d)
+      next = with_view w (f d)
 
-      is : effect w (Mark name dead_name) ≡ refreshed next x (newest w + 1)
-      is =
-          ap (λ o. at_found o w (λ y. at_found (id_of w dead_name) w (λ e. refreshed (with_view w (marked (machine.view_in w (newest w)) e)) y (newest w + 1)))) from
-          ∙ ap (λ o. at_found o w (λ e. refreshed (with_view w (marked (machine.view_in w (newest w)) e)) x (newest w + 1))) to
+      found : at_found (id_of w name) w (λ y. at_found (id_of w other) w (λ e. refreshed (with_view w (f e)) y (newest w + 1))) ≡ refreshed next x (newest w + 1)
+      found =
+          ap (λ o. at_found o w (λ y. at_found (id_of w other) w (λ e. refreshed (with_view w (f e)) y (newest w + 1)))) from
+          ∙ ap (λ o. at_found o w (λ e. refreshed (with_view w (f e)) x (newest w + 1))) to
+
+  pub mark_stands : (w : World) (r : Registry I) (x d : ℕ) (name dead_name : List ℕ) → StandsIn w r → id_of w name ≡ Some x → id_of w dead_name ≡ Some d
+      → StandsIn (effect w (Mark name dead_name)) (handled.with_view r (marked (registry.newest r) d))
+  mark_stands w r x d name dead_name s =
+      change_stands w r x d name dead_name (marked (machine.view_in w (newest w))) (marked (registry.newest r) d) (ap (λ g. marked g d) (sym (newest_same w r s))) s
+
+  pub erase_stands : (w : World) (r : Registry I) (x p : ℕ) (name origin_name : List ℕ) → StandsIn w r → id_of w name ≡ Some x → id_of w origin_name ≡ Some p
+      → StandsIn (effect w (Erase name origin_name)) (handled.with_view r (handled.erased_view r p))
+  erase_stands w r x p name origin_name s =
+      change_stands w r x p name origin_name (erased_view w) (handled.erased_view r p) (ap (λ g. installed (erased g p)) (sym (newest_same w r s))) s
 
   pub refresh_stands : (w : World) (r : Registry I) (x v : ℕ) (name : List ℕ) → StandsIn w r → id_of w name ≡ Some x → StandsIn (effect w (Refresh name v)) r
   refresh_stands w r x v name s from =

@@ -3,12 +3,13 @@ use Rattle.std.specs.Prelude.{ℕ, cond, List, [], ◌∷◌, ◌++◌, Option, 
 use Rattle.group_view.specs.declared.link.LinkKind.{LinkKind}
 use Rattle.group_view.specs.declared.link.LinkName.{LinkName}
 use Rattle.group_view.specs.declared.request.Request.{Request}
-use Rattle.group_view.specs.declared.request.Request.TheVariants.{Mark, Refresh, Stopped, Deposit, Collect}
+use Rattle.group_view.specs.declared.request.Request.TheVariants.{Mark, Refresh, Erase, Stopped, Deposit, Collect}
 use Rattle.group_view.specs.declared.request.Answer.{Answer}
 use Rattle.group_view.specs.declared.request.Answer.TheVariants.{Viewed, Links, Noted}
 use Rattle.group_view.specs.declared.request.Deposited.{Deposited}
 use Rattle.group_view.specs.View.{Group}
-use Rattle.group_view.specs.Change.{marked}
+use Rattle.group_view.specs.Change.{marked, erased}
+use Rattle.promotion.specs.Elect.{installed}
 use Rattle.ring_names.specs.declared.numbers.MemberId.{MemberId}
 use Rattle.registrar.specs.declared.standing.Standing.{Standing}
 use Rattle.registrar.specs.Registry.{Registry, newest, is_for, beside}
@@ -17,6 +18,10 @@ module _ {I : Type 0} where
   -- a view follows the others
   abbrev pub with_view : Registry I → Group → Registry I
   with_view r g = record r { views = r.views ++ g ∷ [] }
+
+  -- the view in which p is erased, and a master is elected where none stands
+  abbrev pub erased_view : Registry I → ℕ → Group
+  erased_view r p = installed (erased (newest r) p)
 
   -- p gave notice
   abbrev pub with_stopped : Registry I → ℕ → Registry I
@@ -48,6 +53,7 @@ module _ {I : Type 0} where
   abbrev pub handled : Registry I → Request I → Registry I
   handled r (Mark by dead view has_current) = with_view r (marked (newest r) dead.0)
   handled r (Refresh by) = r
+  handled r (Erase by origin got retired view) = with_view r (erased_view r origin.0)
   handled r (Stopped by) = with_stopped r by.0
   handled r (Deposit by to view kind link) = with_link r (waiting by to view kind link)
   handled r (Collect by) = without_links r by.0
@@ -56,6 +62,7 @@ module _ {I : Type 0} where
   abbrev pub answered : Registry I → Request I → Answer I
   answered r (Mark by dead view has_current) = Viewed (marked (newest r) dead.0)
   answered r (Refresh by) = Viewed (newest r)
+  answered r (Erase by origin got retired view) = Viewed (erased_view r origin.0)
   answered r (Stopped by) = Noted
   answered r (Deposit by to view kind link) = Noted
   answered r (Collect by) = Links (links_for by.0 r.links)

@@ -8,8 +8,8 @@ use Rattle.group_view.specs.Change.{AreOpeningNames}
 use Rattle.group_view.specs.Since.{no_group, view_at}
 use Rattle.ring_world.specs.declared.phase.Phase.TheVariants.{Up}
 use Rattle.ring_world.specs.declared.event.Event.{Event}
-use Rattle.ring_world.specs.declared.event.Event.TheVariants.{Stop, Mark, Refresh}
-use Rattle.ring_world.specs.Machine.{World, member_at, newest}
+use Rattle.ring_world.specs.declared.event.Event.TheVariants.{Stop, Mark, Refresh, Erase}
+use Rattle.ring_world.specs.Machine.{World, row_at, member_at, newest}
 use Rattle.ring_world.specs.Step.{size, opening}
 use Rattle.ring_world.specs.Event.{IsRun, last, id_of, is_stopped, is_registered, at_door}
 use Rattle.registrar.specs.Registry.{Registry}
@@ -32,6 +32,16 @@ pub record AsksRefresh (w : World) (x v : ℕ) (e : Event) : Type 0 where
   pub name : List ℕ
   pub asker : IsAsker w name x v
   pub is : e ≡ Refresh name (newest w)
+
+-- a member that is up asks to erase another, and tells truly what it has got of it, and what it has retired
+pub record AsksErase (w : World) (x p v n m : ℕ) (e : Event) : Type 0 where
+  pub name : List ℕ
+  pub origin_name : List ℕ
+  pub asker : IsAsker w name x v
+  pub named : id_of w origin_name ≡ Some p
+  pub got : (row_at (member_at w x) p).got ≡ n
+  pub retired : (row_at (member_at w x) p).retired ≡ m
+  pub is : e ≡ Erase name origin_name
 
 -- an event that neither stops a member nor adds a view
 abbrev pub IsOwn : Event → Type 0
@@ -63,6 +73,7 @@ module _ {I : Type 0} where
   abbrev pub Asks : World → Registry I → Request I → Event → Type 0
   Asks w r (request.Mark by dead view has_current) e = AsksMark w r by.0 dead.0 view has_current e
   Asks w r (request.Refresh by) e = (v : ℕ) × AsksRefresh w by.0 v e
+  Asks w r (request.Erase by origin got retired view) e = AsksErase w by.0 origin.0 view got retired e
   Asks w r (request.Stopped by) e = AsksStop w by.0 e
   Asks w r (request.Deposit by to view kind link) e = ⊥
   Asks w r (request.Collect by) e = ⊥

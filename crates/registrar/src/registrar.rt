@@ -1,17 +1,20 @@
 //! The registrar.
-ghost use Rattle.std.specs.Prelude.{◌≡◌, ◌↔◌, ◌≤◌, false, IfOk, OnOk, IfErr, OnErr, IfSome, IsSome, Some, None, length};
+ghost use Rattle.std.specs.Prelude.{◌≡◌, ◌↔◌, ◌+◌, ◌≤◌, false, length, Some, None};
+ghost use Rattle.std.specs.Prelude.{IfOk, OnOk, IfErr, OnErr, IfSome, IsSome};
 ghost use Rattle.std.specs.List.{filter};
 ghost use Rattle.ring_names.specs.declared.reason.Reason.{Reason};
-ghost use Rattle.group_view.specs.Change.{AreOpeningNames, marked, mark_refusal as group_refusal};
+ghost use Rattle.group_view.specs.Change.{AreOpeningNames, marked};
+ghost use Rattle.group_view.specs.Change.{mark_refusal as group_refusal, erase_refusal as group_erasure};
 ghost use Rattle.group_view.specs.Ring.{is_in};
 ghost use Rattle.group_view.specs.Request.{handed_over};
 ghost use Rattle.group_view.specs.Since.{view_at};
 ghost use Rattle.registrar.specs.Registry.{AreHere, AreHereBut, newest as the_newest, founded, is_known, is_for};
 ghost use Rattle.registrar.specs.Registry.{name_in, end_in, end_is, IsLent, Lends, Gives};
 ghost use Rattle.registrar.specs.Asked.{mark_refusal as the_mark_refusal, unknown_refusal};
+ghost use Rattle.registrar.specs.Asked.{erase_refusal as the_erase_refusal};
 ghost use Rattle.registrar.specs.Asked.{stop_refusal as the_stop_refusal, request_refusal};
 ghost use Rattle.registrar.specs.Handled.{with_view, with_stopped, with_link, without_links, links_for, handled};
-ghost use Rattle.registrar.specs.Handled.{answered};
+ghost use Rattle.registrar.specs.Handled.{answered, erased_view};
 ghost use Rattle.registrar.specs.Stands.{StandsIn, WhereAsked};
 ghost use Rattle.ring_names.specs.declared.numbers.CreditSpec.{CreditSpec};
 ghost use Rattle.ring_world.specs.Event.{refusal, effect};
@@ -21,6 +24,7 @@ use crate::giving::{count_for, count_named, give_all};
 use crate::judging::{has_more, is_among, is_beside, newest, view_of};
 use crate::standing::Standing;
 use group_view::{Answer, Deposited, LinkName, Request, View};
+use promotion::install;
 use ring_names::{Items, MemberId, Name, OutOfMemory, Reason};
 use std::alloc::Global;
 use std::marker::Model;
@@ -156,9 +160,14 @@ impl<I: Drop> Registrar<I> {
     /// `NotNeighbour` where the asker isn't live there, as in a version that was never made, or the other
     /// isn't its neighbour; then `AlreadyDead` by the newest view, `NotStopped` where the other gave no
     /// notice, and `LinkNotEnded` where it is the left neighbour and the asker has more to take from it: by
-    /// its own word, or since such a link waits here for it. `Stopped` is refused where the notice was given
-    /// before. Only a request that nothing refuses wants memory, and without it everything stands as it
-    /// stood, and the request comes back. As `gm:record_dead_member_in_group` and `gm:read_group`.
+    /// its own word, or since such a link waits here for it. `Erase` is refused as `NotDead` where the origin
+    /// isn't dead in the newest view; then as `NotOwner` where it isn't dead in the view that the asker holds,
+    /// or the asker isn't the first live one there from the origin rightwards, as where the asker isn't live
+    /// there, and in a version that was never made; then as `NotRetired`, with both numbers, where what the
+    /// asker got of the origin isn't what has come round of it. Where the master is erased, another is
+    /// elected. `Stopped` is refused where the notice was given before. Only a request that nothing refuses
+    /// wants memory, and without it everything stands as it stood, and the request comes back. As
+    /// `gm:record_dead_member_in_group`, `gm:erase_members_in_group` and `gm:read_group`.
     pub fn handle(&mut self, request: Request<I>) -> Result<Answer<I>, (Request<I>, OutOfMemory)>
         requires { AreHere self.old.links }
         ensures refused { (r : Reason) → request_refusal self.old request ≡ Some r
@@ -209,6 +218,13 @@ impl<I: Drop> Registrar<I> {
                 has_current,
             } => self.mark_refusal(*by, *dead, *view, *has_current),
             Request::Refresh { by } => self.unknown_refusal(*by),
+            Request::Erase {
+                by,
+                origin,
+                got,
+                retired,
+                view,
+            } => self.erase_refusal(*by, *origin, *got, *retired, *view),
             Request::Stopped { by } => self.stop_refusal(*by),
             Request::Deposit { by, to, .. } => {
                 self.unknown_refusal(*by).or(self.unknown_refusal(*to))
@@ -269,6 +285,34 @@ impl<I: Drop> Registrar<I> {
         None
     }
 
+    fn erase_refusal(
+        &self,
+        by: MemberId,
+        origin: MemberId,
+        got: u64,
+        retired: u64,
+        version: u32,
+    ) -> Option<Reason>
+        ensures { result ≡ the_erase_refusal self.now by.0 origin.0 got retired version }
+    {
+        if !self.knows(by) || !self.knows(origin) {
+            return Some(Reason::UnknownMember);
+        }
+        if !self.view().is_dead(origin) {
+            return Some(Reason::NotDead);
+        }
+        let Some(held) = view_of(&self.views, version) else {
+            return Some(Reason::NotOwner);
+        };
+        if !held.is_alias(by, origin) {
+            return Some(Reason::NotOwner);
+        }
+        if got != retired {
+            return Some(Reason::NotRetired { got, retired });
+        }
+        None
+    }
+
     /// Does what is asked, which nothing refuses.
     fn fulfil(&mut self, request: Request<I>) -> Result<Answer<I>, (Request<I>, OutOfMemory)>
         requires { request_refusal self.old request ≡ None }
@@ -300,6 +344,7 @@ impl<I: Drop> Registrar<I> {
         match request {
             Request::Mark { dead, .. } => Ok(Answer::Viewed(self.mark(*dead)?)),
             Request::Refresh { .. } => Ok(Answer::Viewed(self.view().copy()?)),
+            Request::Erase { origin, .. } => Ok(Answer::Viewed(self.erase(*origin)?)),
             Request::Stopped { by } => {
                 self.note(*by)?;
                 Ok(Answer::Noted)
@@ -320,6 +365,31 @@ impl<I: Drop> Registrar<I> {
         if next.mark_dead(dead).is_err() {
             unreachable!()
         }
+        self.follow(next)
+    }
+
+    /// A view follows in which an origin is erased, with a master where one can be elected.
+    fn erase(&mut self, origin: MemberId) -> Result<View, OutOfMemory>
+        requires { group_erasure (the_newest self.old).entries origin.0 ≡ None }
+        ensures ok { OnOk result (self.new ≡ with_view self.old (erased_view self.old origin.0)) }
+        ensures answer { IfOk result (λ view. view ≡ erased_view self.old origin.0) }
+        ensures err { OnErr result (self.new ≡ self.old) }
+    {
+        let mut next = self.view().copy()?;
+        if next.erase(origin).is_err() {
+            unreachable!()
+        }
+        install(&mut next);
+        self.follow(next)
+    }
+
+    /// A view follows the others, and is answered.
+    fn follow(&mut self, next: View) -> Result<View, OutOfMemory>
+        requires { next.version ≡ length self.old.views + 1 }
+        ensures ok { OnOk result (self.new ≡ with_view self.old next) }
+        ensures answer { IfOk result (λ view. view ≡ next) }
+        ensures err { OnErr result (self.new ≡ self.old) }
+    {
         let answer = next.copy()?;
         self.views.push(next)?;
         Ok(answer)

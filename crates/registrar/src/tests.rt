@@ -1,5 +1,6 @@
 //! Small groups, with values from the rules of the ring: rows of what is asked, and behind `=` the answer that is
 //! wanted. `mark a b 1 linked`: by whom, who, the asker's version, and whether the asker has a link to take from;
+//! `erase a b 2 3 3`: by whom, who, the asker's version, and what the asker got and retired;
 //! `refresh a`, `stopped a`, `collect a`; `deposit a b 1 ring 7`: from whom, to whom, the sender's version, the kind,
 //! and the link. A request is asked again where an allocation failed.
 ghost use Rattle.std.specs.Prelude.{IfOk};
@@ -56,6 +57,23 @@ deposit b c 1 ring 8 = noted
 mark c b 1 alone = refused 22
 collect c = links 5 7 8
 mark c b 1 alone = view 2";
+
+/// Who answers for a dead member has it erased, once all that it got of it has come round.
+const B_ERASES_A: &str = "\
+stopped a = noted
+erase d a 1 3 3 = refused 6
+erase b none 1 3 3 = refused 6
+erase b a 1 3 3 = refused 8
+mark b a 1 alone = view 2
+erase b a 1 3 3 = refused 23
+erase b a 0 3 3 = refused 23
+erase b a 3 3 3 = refused 23
+erase c a 2 3 3 = refused 23
+erase a a 2 3 3 = refused 23
+erase b a 2 3 2 = refused 24
+erase b a 2 3 3 = view 3
+erase b a 3 3 3 = refused 8
+refresh c = view 3";
 
 /// A link from before the two were neighbours doesn't count.
 const COUNTS_NO_LINK_FROM_BEFORE: &str = "\
@@ -122,6 +140,19 @@ fn mark_by(by: MemberId, rest: &str) -> Request<u32> {
     }
 }
 
+fn erase_by(by: MemberId, rest: &str) -> Request<u32> {
+    let (origin, rest) = first_word(rest);
+    let (view, rest) = first_word(rest);
+    let (got, retired) = first_word(rest);
+    Request::Erase {
+        by,
+        origin: id(origin),
+        got: u64::from(number(got)),
+        retired: u64::from(number(retired)),
+        view: number(view),
+    }
+}
+
 fn deposit_by(by: MemberId, rest: &str) -> Request<u32> {
     let (to, rest) = first_word(rest);
     let (view, rest) = first_word(rest);
@@ -146,6 +177,7 @@ fn request_of(asked: &str) -> Option<Request<u32>> {
     let by = id(by);
     match verb {
         "mark" => Some(mark_by(by, rest)),
+        "erase" => Some(erase_by(by, rest)),
         "refresh" => Some(Request::Refresh { by }),
         "stopped" => Some(Request::Stopped { by }),
         "deposit" => Some(deposit_by(by, rest)),
@@ -312,6 +344,14 @@ fn marks_who_gave_notice(rt: HostRuntime) -> Result<(), Fail> {
     let registrar = played(&rt, rt.alloc(), "a b c", A_MARKS_B)?;
     assert!(rt; has_mark(&registrar, 0, Mark::Live) && has_mark(&registrar, 1, Mark::Dead));
     assert!(rt; registrar.in_name(0).is_none() && registrar.name_at(0).is_none());
+    Ok(())
+}
+
+#[test]
+fn erases_who_is_dead(rt: HostRuntime) -> Result<(), Fail> {
+    let registrar = played(&rt, rt.alloc(), "a b c", B_ERASES_A)?;
+    assert!(rt; has_mark(&registrar, 0, Mark::Erased) && has_mark(&registrar, 1, Mark::Live));
+    assert!(rt; registrar.view().master == Some(MemberId(2)) && registrar.view().term == 2);
     Ok(())
 }
 

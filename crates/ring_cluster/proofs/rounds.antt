@@ -1,11 +1,9 @@
 -- Turns, rounds, the drain, and what is played.
-pub mod Alive
 pub mod Asking
 pub mod Counting
 pub mod Doing
 pub mod Holding
 pub mod Named
-pub mod NoStops
 pub mod Numbers
 pub mod Playing
 pub mod Settling

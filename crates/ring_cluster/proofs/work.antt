@@ -3,6 +3,4 @@ pub mod Fresh
 pub mod Given
 pub mod Heard
 pub mod Lawful
-pub mod Phases
 pub mod Publishing
-pub mod Rest

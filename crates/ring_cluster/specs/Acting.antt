@@ -9,10 +9,11 @@ use Rattle.credit_flow.specs.Credit.{grant_due}
 use Rattle.credit_flow.specs.Link.{with_grant}
 use Rattle.group_view.specs.declared.link.LinkName.{LinkName}
 use Rattle.group_view.specs.View.{Group}
-use Rattle.group_view.specs.Change.{marked}
+use Rattle.group_view.specs.Change.{marked, erased}
 use Rattle.group_view.specs.Since.{view_at}
+use Rattle.promotion.specs.Elect.{installed}
 use Rattle.ring_world.specs.declared.event.Event.{Event}
-use Rattle.ring_world.specs.declared.event.Event.TheVariants.{Cast, Put, Take, TakeEnd, Gain, Stop, Mark, Refresh, Pick, Refuse}
+use Rattle.ring_world.specs.declared.event.Event.TheVariants.{Cast, Put, Take, TakeEnd, Gain, Stop, Mark, Refresh, Pick, Erase, Refuse}
 use Rattle.ring_world.specs.Refusal.{refuse_if, is_empty}
 use Rattle.ring_world.specs.View.{right_of}
 use Rattle.ring_world.specs.Machine.{runs_phase}
@@ -233,15 +234,21 @@ newest_of q = view_at q.views (length q.views)
 abbrev pub viewing : Group → Parties → Parties
 viewing v q = record q { views = q.views ++ v ∷ [] }
 
+-- the one in which p is erased, and a master is elected where none stands
+abbrev pub erasing : Parties → ℕ → Group
+erasing q p = installed (erased (newest_of q) p)
+
 -- the member at a place has another view
 abbrev pub LooksAt : Group → ℕ → Parties → Parties → Option (LinkName × OutSeen) → Type 0
 LooksAt v i q q' loose = (b : Shown) × (new : Option Posted) × Looks v (node_at q i) b new loose × (q' ≡ posting new (with_node q i b))
 
--- the event of the member at place i; d is the id of the one that is marked
+-- the event of the member at place i; d is the id of the one that is marked or erased; a refusal changes nothing
 abbrev pub Acts : Event → ℕ → ℕ → Parties → Parties → Option (LinkName × OutSeen) → Type 0
 Acts (Stop by) i d q q' loose = (b : Shown) × Stops (node_at q i) b × (q' ≡ record (with_node q i b) { stopped = q.stopped ++ (i + 1) ∷ [] }) × (loose ≡ None)
 Acts (Mark by dead) i d q q' loose = LooksAt (marked (newest_of q) d) i (viewing (marked (newest_of q) d) q) q' loose
 Acts (Refresh by version) i d q q' loose = LooksAt (view_at q.views version) i q q' loose
+Acts (Erase by origin) i d q q' loose = LooksAt (erasing q d) i (viewing (erasing q d) q) q' loose
+Acts (Refuse code inner) i d q q' loose = (q' ≡ q) × (loose ≡ None)
 Acts e i d q q' loose = (b : Shown) × DoesAlone e (node_at q i) b × (q' ≡ with_node q i b) × (loose ≡ None)
 
 -- ---- collecting

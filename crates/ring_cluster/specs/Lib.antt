@@ -6,7 +6,6 @@ pub mod Ends
 pub mod Gathered
 pub mod Heard
 pub mod Holds
-pub mod Idle
 pub mod Kept
 pub mod Looking
 pub mod Loose

@@ -1,13 +1,21 @@
 -- What a member that has another view hands on: the link that it opens, and the out end that it replaces.
-use Rattle.std.specs.Prelude.{List, [], ◌∷◌, Option, Some, None, option_map}
+use Rattle.std.specs.Prelude.{Bool, true, false, List, [], ◌∷◌, Option, Some, None, option_map}
 use Rattle.ordered_link.specs.declared.plain.PlainOut.{PlainOut}
 use Rattle.ordered_link.specs.declared.plain.PlainIn.{PlainIn}
 use Rattle.group_view.specs.declared.link.LinkName.{LinkName}
 use Rattle.group_view.specs.declared.request.Request.{Request}
+use Rattle.ring_names.specs.declared.reason.Reason.{Reason}
 use Rattle.activity.specs.declared.packet.Load.{Load}
 use Rattle.group_view.specs.Request.{handed_over}
 use Rattle.group_view.specs.View.{Group}
-use Rattle.gm_member.specs.Held.{answered_held}
+use Rattle.group_view.specs.Change.{marked}
+use Rattle.registrar.specs.Registry.{Registry, newest}
+use Rattle.registrar.specs.Asked.{request_refusal}
+use Rattle.registrar.specs.Handled.{erased_view}
+use Rattle.gm_member.specs.declared.questions.Ask.{Ask}
+use Rattle.gm_member.specs.declared.questions.Ask.TheVariants.{Mark, Erase, Refresh, Collect}
+use Rattle.gm_member.specs.Held.{up_refused, answered_held}
+use Rattle.gm_member.specs.Questions.{asked_for}
 use Rattle.ring_cluster.specs.declared.undelivered.Undelivered.{Undelivered}
 use Rattle.ring_cluster.specs.Ends.{OutSeen}
 use Rattle.ring_cluster.specs.Acting.{Looks}
@@ -42,3 +50,23 @@ without_question a = record a { held = answered_held a.held }
 -- A member has another view (`Looks`).
 pub record HasLooked (v : Group) (a b : Shown) (opened : Option Posted) (loose : Option (LinkName × OutSeen)) : Type 0 where
   pub looks : Looks v a b opened loose
+
+-- ---- a member that asks for a view
+
+-- whether the registrar is to make one
+abbrev pub makes_view : Ask → Bool
+makes_view (Mark dead) = true
+makes_view (Erase origin) = true
+makes_view Refresh = false
+makes_view Collect = false
+
+-- why a member doesn't ask, or isn't answered
+abbrev pub ask_refused : {I : Type 0} → Registry I → Shown → Ask → Option Reason
+ask_refused r m what = up_refused m.held (request_refusal r (asked_for m.held what))
+
+-- the view that the registrar makes; where it makes none, its newest
+abbrev pub view_for : {I : Type 0} → Registry I → Ask → Group
+view_for r (Mark dead) = marked (newest r) dead.0
+view_for r (Erase origin) = erased_view r origin.0
+view_for r Refresh = newest r
+view_for r Collect = newest r

@@ -1,31 +1,40 @@
 -- When a journal plays what a cluster was given.
-use Rattle.std.specs.Prelude.{◌≡◌, ℕ, ◌+◌, true, ◌&&◌, ◌<◌, ◌≤◌, List, [], ◌∷◌, ◌++◌, length, map, take, slice_get, slice_set, slice_index_or, IsSome, position, bytes_eq, Option, Some, None, if◌then◌else◌, Contains}
+use Rattle.std.specs.Prelude.{◌≡◌, ◌⊎◌, ℕ, ◌&&◌, ◌<◌, ◌≤◌, List, [], ◌∷◌, ◌++◌, length, map, take, slice_get, slice_set, slice_index_or, IsSome, position, bytes_eq, Option, Some, None, if◌then◌else◌, Contains}
 use Rattle.std.specs.List.{flat_map}
 use Rattle.ring_names.specs.declared.numbers.CreditSpec.{CreditSpec}
+use Rattle.ring_names.specs.declared.reason.Reason.TheVariants as reason
+use Rattle.ring_names.specs.Reason.{code_of}
 use Rattle.ring_script.specs.declared.command.Command.{Command}
 use Rattle.ring_script.specs.declared.command.Command.TheVariants as command
 use Rattle.ring_world.specs.declared.event.Event.{Event}
-use Rattle.ring_world.specs.declared.event.Event.TheVariants.{Cast}
-use Rattle.ring_world.specs.Machine.{runs}
-use Rattle.ring_world.specs.Event.{by_of, is_asked}
+use Rattle.ring_world.specs.declared.event.Event.TheVariants.{Cast, Stop, Refuse}
+use Rattle.ring_world.specs.declared.event.Client.{Client}
+use Rattle.ring_world.specs.declared.event.Client.TheVariants as client
+use Rattle.ring_world.specs.Event.{by_of, is_asked, event_of}
 use Rattle.ring_world.specs.Quiet.{IsQuiet}
 use Rattle.ring_cluster.specs.declared.agenda.Task.{Task}
 use Rattle.ring_cluster.specs.declared.agenda.Task.TheVariants as task
-use Rattle.ring_cluster.specs.Seen.{Seen, state, state_of}
+use Rattle.ring_cluster.specs.Seen.{Seen, state}
 
 -- ---- what clients asked for
 
--- an event that a client of this member asked for; the member's other steps are its own
-abbrev pub client_event : List ℕ → Event → List Event
-client_event name e = if is_asked e && bytes_eq (by_of e) name then e ∷ [] else []
+-- what a client asked for that has come of it: what was done, or what was refused
+abbrev pub asked_event : Event → Event
+asked_event (Refuse code inner) = event_of inner
+asked_event e = e
 
--- the client events of a member, in the order of the journal
+-- what a client of this member asked for, and was answered by this event; the member's other steps are its own
+abbrev pub client_event : List ℕ → Event → List Event
+client_event name e = if is_asked e && bytes_eq (by_of e) name then asked_event e ∷ [] else []
+
+-- what clients of a member asked for, in the order in which the journal has it done or refused
 abbrev pub client_events : List ℕ → List Event → List Event
 client_events name events = flat_map (client_event name) events
 
 -- what a command asks of this member
 abbrev pub asked_by : List ℕ → Command → List Event
 asked_by name (command.Cast by body) = if bytes_eq by name then Cast by body ∷ [] else []
+asked_by name (command.Kill by) = if bytes_eq by name then Stop by ∷ [] else []
 asked_by name (command.Go turns) = []
 asked_by name command.Settle = []
 
@@ -38,6 +47,20 @@ asked name commands = flat_map (asked_by name) commands
 -- the event of a task, by its member
 abbrev pub task_event : List ℕ → Task → Event
 task_event name (task.Cast body) = Cast name body
+task_event name task.Stop = Stop name
+
+-- what a client asks of this member by it
+abbrev pub task_client : List ℕ → Task → Client
+task_client name (task.Cast body) = client.Cast name body
+task_client name task.Stop = client.Stop name
+
+-- the refusal of a task, as one that has stopped refuses it
+abbrev pub refused_task : List ℕ → Task → Event
+refused_task name t = Refuse (code_of reason.Stopped) (task_client name t)
+
+-- by this event the member of that name has done the task, or has refused it since it has stopped
+abbrev pub IsDoneBy : List ℕ → Task → Event → Type 0
+IsDoneBy name t e = (e ≡ task_event name t) ⊎ (e ≡ refused_task name t)
 
 -- the events of an agenda
 abbrev pub todo : List ℕ → List Task → List Event
@@ -70,18 +93,21 @@ with_task agendas (Some i) t = slice_set agendas i (agenda_at agendas i ++ t ∷
 -- a command that a member of these names is asked for
 abbrev pub IsCommandTo : List (List ℕ) → Command → Type 0
 IsCommandTo names (command.Cast by body) = IsSome (place_among names by)
+IsCommandTo names (command.Kill by) = IsSome (place_among names by)
 IsCommandTo names (command.Go turns) = ⊥
 IsCommandTo names command.Settle = ⊥
 
 -- the agendas after a command was taken
 abbrev pub tasked : List (List ℕ) → List (List Task) → Command → List (List Task)
 tasked names agendas (command.Cast by body) = with_task agendas (place_among names by) (task.Cast body)
+tasked names agendas (command.Kill by) = with_task agendas (place_among names by) task.Stop
 tasked names agendas (command.Go turns) = agendas
 tasked names agendas command.Settle = agendas
 
 -- the place and the task of a command
 abbrev pub IsTaskOf : List (List ℕ) → Command → ℕ → Task → Type 0
 IsTaskOf names (command.Cast by body) i t = (place_among names by ≡ Some i) × (t ≡ task.Cast body)
+IsTaskOf names (command.Kill by) i t = (place_among names by ≡ Some i) × (t ≡ task.Stop)
 IsTaskOf names (command.Go turns) i t = ⊥
 IsTaskOf names command.Settle i t = ⊥
 
@@ -91,33 +117,33 @@ commanded c x = record c { agendas = tasked c.names c.agendas x; given = c.given
 
 -- ---- playing
 
--- these commands were done and the ring was quiet after some of the events
+-- these commands were done or refused, and the ring was quiet, after some of the events
 pub record HasSettled (credit : CreditSpec) (names : List (List ℕ)) (events : List Event) (commands : List Command) : Type 0 where
   pub count : ℕ
   pub within : count ≤ length events
   pub quiet : IsQuiet (state credit names (take count events))
   pub done : (name : List ℕ) → client_events name (take count events) ≡ asked name commands
 
--- at each settling all earlier commands were done and the ring was quiet
+-- at each settling all earlier commands were done or refused, and the ring was quiet
 abbrev pub HasSettledEach : CreditSpec → List (List ℕ) → List Event → List Command → Type 0
 HasSettledEach credit names events given = (k : ℕ) → slice_get given k ≡ Some command.Settle → HasSettled credit names events (take k given)
 
--- The journal plays what was given: each member's client events are its commands in their order and nothing else,
--- and at each settling all earlier commands were done and the ring was quiet.
+-- The journal plays what was given: what each member has done and refused of what clients asked is its commands in their
+-- order and nothing else, and at each settling all earlier commands were done or refused, and the ring was quiet.
 pub record Plays (credit : CreditSpec) (names : List (List ℕ)) (events : List Event) (given : List Command) : Type 0 where
   pub done : (name : List ℕ) → client_events name events ≡ asked name given
   pub settled : HasSettledEach credit names events given
 
--- The journal of a cluster plays what it was given so far: what each member has done, followed by what it has still to
--- do, is what it was asked. A cluster on which `step` was never called does so.
+-- The journal of a cluster plays what it was given so far: what each member has done and refused, followed by what it has
+-- still to do, is what it was asked. A cluster on which `step` was never called does so.
 pub record PlaysSoFar (c : Seen) : Type 0 where
   pub asked : (name : List ℕ) → client_events name c.events ++ todo name (agenda_of c name) ≡ asked name c.given
   pub settled : HasSettledEach c.credit c.names c.events c.given
 
 -- ---- going on
 
--- The members have gone on: the journal has these events more, and what each member has done of its agenda in them,
--- followed by what it has still to do, is what it had to do.
+-- The members have gone on: the journal has these events more, and what each member has done and refused in them, followed
+-- by what it has still to do, is what it had to do.
 pub record GoesOn (c d : Seen) (more : List Event) : Type 0 where
   pub credit : d.credit ≡ c.credit
   pub names : d.names ≡ c.names
@@ -129,30 +155,26 @@ pub record GoesOn (c d : Seen) (more : List Event) : Type 0 where
 abbrev pub HasGoneOn : Seen → Seen → Type 0
 HasGoneOn c d = (more : List Event) × GoesOn c d more
 
--- the member at place i has done the first of its tasks
-abbrev pub performed : Seen → ℕ → Task → List Task → Seen
-performed c i t ts = record c { events = c.events ++ task_event (slice_index_or c.names i []) t ∷ []; agendas = slice_set c.agendas i ts }
+-- this event has happened, and these tasks are left to the member at place i
+abbrev pub performed : Seen → ℕ → Event → List Task → Seen
+performed c i e ts = record c { events = c.events ++ e ∷ []; agendas = slice_set c.agendas i ts }
 
 -- what was given and how many rounds were given a number stay
 abbrev pub SameGiven : Seen → Seen → Type 0
 SameGiven c d = (d.given ≡ c.given) × (d.rounds ≡ c.rounds)
 
--- the member at a place has begun with its agenda, where it runs and had one
+-- the member at a place has begun with its agenda, where it had one
 abbrev pub HasBegun : ℕ → Seen → Seen → Type 0
-HasBegun i c d = runs (state_of c) (i + 1) ≡ true → 0 < length (agenda_at c.agendas i) → length (agenda_at d.agendas i) < length (agenda_at c.agendas i)
+HasBegun i c d = 0 < length (agenda_at c.agendas i) → length (agenda_at d.agendas i) < length (agenda_at c.agendas i)
 
 -- the agendas at other places stay
 abbrev pub SameElsewhere : ℕ → Seen → Seen → Type 0
 SameElsewhere i c d = (j : ℕ) → ¬ (j ≡ i) → agenda_at d.agendas j ≡ agenda_at c.agendas j
 
--- the head of the agenda of each member that runs is among these events
+-- the head of the agenda of each member is among what was done or refused by these events
 abbrev pub HeadsAre : Seen → List Event → Type 0
-HeadsAre c more = (name : List ℕ) (i : ℕ) (t : Task) (ts : List Task) → place_among c.names name ≡ Some i → runs (state_of c) (i + 1) ≡ true → agenda_at c.agendas i ≡ t ∷ ts → Contains more (task_event name t)
+HeadsAre c more = (name : List ℕ) (i : ℕ) (t : Task) (ts : List Task) → place_among c.names name ≡ Some i → agenda_at c.agendas i ≡ t ∷ ts → Contains (client_events name more) (task_event name t)
 
--- no member that runs has anything to do
-abbrev pub AgendasAreDone : Seen → Type 0
-AgendasAreDone c = (i : ℕ) → i < length c.agendas → runs (state_of c) (i + 1) ≡ true → agenda_at c.agendas i ≡ []
-
--- nobody has
+-- nobody has anything left to do that it was asked
 abbrev pub AgendasAreEmpty : Seen → Type 0
 AgendasAreEmpty c = (i : ℕ) → i < length c.agendas → agenda_at c.agendas i ≡ []

@@ -1,12 +1,12 @@
 -- The turns of a cluster.
-use Rattle.std.specs.Prelude.{◌≡◌, ◌≢◌, ℕ, ◌+◌, ◌<◌, ◌≤◌, Bool, true, false, List, [], ◌++◌, length, bytes_eq, None, Result, IfOk}
+use Rattle.std.specs.Prelude.{◌≡◌, ◌≢◌, ℕ, ◌<◌, ◌≤◌, Bool, true, false, List, [], ◌++◌, length, bytes_eq, None, Result, IfOk}
 use Rattle.std.specs.List.{All, filter}
 use Rattle.ring_names.specs.declared.memory.OutOfMemory.{OutOfMemory}
 use Rattle.ring_world.specs.declared.event.Event.{Event}
-use Rattle.ring_world.specs.declared.event.Event.TheVariants.{Put, Take, TakeEnd, Gain, Mark, Refresh, Pick}
+use Rattle.ring_world.specs.declared.event.Event.TheVariants.{Put, Take, TakeEnd, Gain, Mark, Refresh, Pick, Erase}
 use Rattle.ring_world.specs.Machine.{World, member_at, newest, right, runs}
 use Rattle.ring_world.specs.Step.{size}
-use Rattle.ring_world.specs.Event.{by_of, refusal}
+use Rattle.ring_world.specs.Event.{by_of, erase_refusal, refusal}
 use Rattle.ring_cluster.specs.declared.driver.OwnStep.{OwnStep}
 use Rattle.ring_cluster.specs.declared.driver.OwnStep.TheVariants as step
 use Rattle.ring_cluster.specs.declared.driver.OwnTurn.{OwnTurn}
@@ -23,17 +23,11 @@ step_event step.TakeEnd by = TakeEnd by
 step_event step.Gain by = Gain by
 step_event step.Put by = Put by
 
--- the members are as many, and nobody has stopped or come up
-pub record SamePhases (w w' : World) : Type 0 where
-  pub many : size w' ≡ size w
-  pub phase : (x : ℕ) → (member_at w' x).phase ≡ (member_at w x).phase
-
 -- members have taken turns
 pub record TakesRound (c d : Seen) : Type 0 where
   pub goes : HasGoneOn c d
   pub given : SameGiven c d
   pub names : d.names ≡ c.names
-  pub phases : SamePhases (state_of c) (state_of d)
 
 -- they have done steps of their own, and their agendas stay
 pub record Works (c d : Seen) : Type 0 where
@@ -64,9 +58,9 @@ events_of name events = filter (λ e. bytes_eq (by_of e) name) events
 abbrev pub EachDoesAtMost : ℕ → Seen → Seen → Type 0
 EachDoesAtMost turns c d = (more : List Event) × (d.events ≡ c.events ++ more) × ((name : List ℕ) → length (events_of name more) ≤ turns)
 
--- the member at a place is done with its agenda, where it runs
+-- the member at a place is done with its agenda
 abbrev pub IsDoneAt : ℕ → Seen → Type 0
-IsDoneAt i c = runs (state_of c) (i + 1) ≡ true → agenda_at c.agendas i ≡ []
+IsDoneAt i c = agenda_at c.agendas i ≡ []
 
 -- member y may do this step
 abbrev pub MayStep : World → ℕ → OwnStep → Type 0
@@ -80,18 +74,24 @@ MayStepNowhere w y = (s : OwnStep) → MayStep w y s → ⊥
 abbrev pub MarksNoneAt : World → ℕ → Type 0
 MarksNoneAt w y = refusal w (Mark (member_at w y).name (member_at w (right w (newest w) y)).name) ≢ None
 
--- where it runs, it isn't stale, may do no step, and has nobody to have marked
+-- it can have nobody erased
+abbrev pub ErasesNoneAt : World → ℕ → Type 0
+ErasesNoneAt w y = (p : ℕ) → p < size w → erase_refusal w y p ≢ None
+
+-- where it runs, it isn't stale, may do no step, and has nobody to have marked or erased
 abbrev pub RestsAt : World → ℕ → Type 0
-RestsAt w y = runs w y ≡ true → (is_stale (newest w) (member_at w y) ≡ false) × MayStepNowhere w y × MarksNoneAt w y
+RestsAt w y = runs w y ≡ true → (is_stale (newest w) (member_at w y) ≡ false) × MayStepNowhere w y × MarksNoneAt w y × ErasesNoneAt w y
 
 -- the event of what member y has to do by itself
 abbrev pub turn_event : World → ℕ → OwnTurn → Event
 turn_event w y turn.Refresh = Refresh (member_at w y).name (newest w)
 turn_event w y turn.Mark = Mark (member_at w y).name (member_at w (right w (newest w) y)).name
+turn_event w y (turn.Erase origin) = Erase (member_at w y).name (member_at w origin.0).name
 turn_event w y (turn.Step s) = step_event s (member_at w y).name
 
--- it has that to do: it is stale, or may have its right neighbour marked, or may do that step
+-- it has that to do: it is stale, or may have its right neighbour marked, or that one erased, or may do that step
 abbrev pub HasTurn : World → ℕ → OwnTurn → Type 0
 HasTurn w y turn.Refresh = is_stale (newest w) (member_at w y) ≡ true
 HasTurn w y turn.Mark = refusal w (turn_event w y turn.Mark) ≡ None
+HasTurn w y (turn.Erase origin) = (1 ≤ origin.0) × (origin.0 < size w) × (refusal w (turn_event w y (turn.Erase origin)) ≡ None)
 HasTurn w y (turn.Step s) = MayStep w y s

@@ -9,17 +9,18 @@ ghost use Rattle.ring_cluster.specs.Acting.{IsReady};
 ghost use Rattle.ring_cluster.specs.Acting.{is_alone as the_alone, alone_refused, DoesAlone};
 ghost use Rattle.ring_cluster.specs.Tried.{IsJudged};
 
-use crate::looking::{Loose, look, mark};
+use crate::looking::{Loose, ask, look};
 use crate::node::{Node, cast, gain, pick, put, stop, take, take_end};
 use crate::parties::Parties;
 use crate::party::Party;
-use crate::refusing::{look_refusal, stop_refusal, unknown};
+use crate::refusing::{look_refusal, stop_refusal, telling_refusal, unknown};
 use activity::Load;
+use gm_member::Ask;
 use group_view::Request;
 use ordered_link::PlainIn;
 use registrar::Registrar;
 use ring_names::{MemberId, Name};
-use ring_world::{Event, Refused};
+use ring_world::{Client, Event, Refused};
 
 /// Whether the member has that name.
 fn has_name(node: &Node, name: &Name) -> bool
@@ -90,18 +91,22 @@ fn notify(registrar: &mut Registrar<PlainIn<Load>>, by: MemberId) -> Result<(), 
 }
 
 impl Parties {
-    ghost use Rattle.std.specs.Prelude.{◌≡◌, ◌+◌, ◌<◌, ℕ, List, true, false, IfSome, IfOk, OnOk, OnErr, None, length};
+    ghost use Rattle.std.specs.Prelude.{◌≡◌, ◌+◌, ◌<◌, ◌≤◌, ℕ, List, true, false, IfSome, IfOk, OnOk, OnErr, None};
+    ghost use Rattle.std.specs.Prelude.{length};
     ghost use Rattle.std.specs.Prelude.{option_map};
+    ghost use Rattle.group_view.specs.View.{number};
     ghost use Rattle.group_view.specs.Since.{view_at};
-    ghost use Rattle.ring_world.specs.declared.event.Event.TheVariants.{Stop, Mark};
+    ghost use Rattle.ring_world.specs.declared.event.Event.TheVariants.{Stop, Mark, Erase};
     ghost use Rattle.ring_world.specs.Event.{is_plain};
     ghost use Rattle.ring_cluster.specs.Parties.{node_at};
     ghost use Rattle.ring_cluster.specs.Standing.{StandSomewhere};
     ghost use Rattle.ring_cluster.specs.Tried.{IsJudged};
     ghost use Rattle.ring_cluster.specs.Looking.{loose_seen};
     ghost use Rattle.ring_cluster.specs.Acting.{is_alone as the_alone, alone_refused, stop_refused, look_refused};
-    ghost use Rattle.ring_cluster.specs.Acting.{newest_of, LooksAt, Acts};
-    ghost use Rattle.ring_cluster.specs.Refused.{id_named, mark_refused, office_of, act_refused, marked_in};
+    ghost use Rattle.ring_cluster.specs.Acting.{newest_of, viewing, LooksAt, Acts};
+    ghost use Rattle.ring_cluster.specs.Refused.{id_named, mark_refused, erase_refused, office_of, act_refused};
+    ghost use Rattle.ring_cluster.specs.Refused.{telling_refused, marked_in};
+    ghost use Rattle.ring_cluster.specs.Looking.{makes_view, ask_refused, view_for};
 
     /// The place of the member of that name.
     pub(crate) fn place_named(&self, name: &Name) -> Option<usize>
@@ -109,6 +114,16 @@ impl Parties {
         ensures within { IfSome result (λ i. i < length (self.now).all.nodes) }
     {
         first_named(&self.members, name)
+    }
+
+    /// The id of the member of that name.
+    pub(crate) fn id_named(&self, name: &Name) -> Option<MemberId>
+        requires { StandSomewhere (self.now).all }
+        ensures id { id_named (self.now).all name.now ≡ option_map number result }
+        ensures within { IfSome result (λ id. 1 ≤ id.0) }
+    {
+        let place = self.place_named(name)?;
+        Some(MemberId(place as u32 + 1))
     }
 
     /// The event of the member at a place happens there, where it is enabled: the out end that the member replaces.
@@ -133,16 +148,19 @@ impl Parties {
                 Ok(None)
             }
             Event::Mark { by: _, dead } => Ok(self.act_mark(i, dead)?),
+            Event::Erase { by: _, origin } => Ok(self.act_erase(i, origin)?),
             Event::Refresh { by: _, view } => Ok(self.act_refresh(i, *view)?),
+            Event::Refuse { code, inner } => {
+                self.act_refuse(i, *code, inner)?;
+                Ok(None)
+            }
             Event::Cast { by: _, body: _ }
             | Event::Put { by: _ }
             | Event::Take { by: _ }
             | Event::TakeEnd { by: _ }
             | Event::Gain { by: _ }
             | Event::Pick { by: _ }
-            | Event::Admit { by: _, name: _ }
-            | Event::Erase { by: _, origin: _ }
-            | Event::Refuse { code: _, inner: _ } => unreachable!(),
+            | Event::Admit { by: _, name: _ } => unreachable!(),
         }
     }
 
@@ -213,6 +231,20 @@ impl Parties {
         Ok(looked.loose)
     }
 
+    /// The member at a place tells a client that what it asks isn't done, where that is so: nothing changes.
+    fn act_refuse(&self, i: usize, code: u32, asked: &Client) -> Result<(), Refused>
+        requires within { i < length (self.now).all.nodes }
+        requires standing { StandSomewhere (self.now).all }
+        ensures { IsJudged (telling_refused (newest_of (self.now).all) code asked.now
+            (node_at (self.now).all i)) result }
+    {
+        let node = &self.members[i].node;
+        match telling_refusal(self.registrar.view(), node, code, asked) {
+            Some(reason) => Err(Refused::NotEnabled(reason)),
+            None => Ok(()),
+        }
+    }
+
     /// The member at a place has the one of a name marked dead by the registrar, where it may.
     fn act_mark(&mut self, i: usize, dead: &Name) -> Result<Option<Loose>, Refused>
         requires within { i < length (self.old).all.nodes }
@@ -225,11 +257,43 @@ impl Parties {
         ensures agendas { (self.new).agendas ≡ (self.old).agendas }
         ensures err { OnErr result (self.new ≡ self.old) }
     {
-        let Some(place) = self.place_named(dead) else {
+        let Some(id) = self.id_named(dead) else {
             return Err(Refused::NotEnabled(unknown(&self.members[i].node)));
         };
-        let id = MemberId(place as u32 + 1);
-        match mark(&mut self.members[i].node, &mut self.registrar, id) {
+        self.act_ask(i, Ask::Mark(id))
+    }
+
+    /// It has the one of a name erased, likewise.
+    fn act_erase(&mut self, i: usize, origin: &Name) -> Result<Option<Loose>, Refused>
+        requires within { i < length (self.old).all.nodes }
+        requires delivered { (self.old).owes ≡ false }
+        requires standing { StandSomewhere (self.old).all }
+        ensures judged { IsJudged (erase_refused (office_of (self.old).all) (node_at (self.old).all i)
+            (id_named (self.old).all origin.now)) result }
+        ensures ok { IfOk result (λ loose. (by : List ℕ) → Acts (Erase by origin.now) i
+            (marked_in (Erase by origin.now) (self.old).all) (self.old).all (self.new).all (loose_seen loose)) }
+        ensures agendas { (self.new).agendas ≡ (self.old).agendas }
+        ensures err { OnErr result (self.new ≡ self.old) }
+    {
+        let Some(id) = self.id_named(origin) else {
+            return Err(Refused::NotEnabled(unknown(&self.members[i].node)));
+        };
+        self.act_ask(i, Ask::Erase(id))
+    }
+
+    /// The member at a place asks the registrar to make a view, and has it, where it may.
+    fn act_ask(&mut self, i: usize, what: Ask) -> Result<Option<Loose>, Refused>
+        requires makes { makes_view what ≡ true }
+        requires within { i < length (self.old).all.nodes }
+        requires delivered { (self.old).owes ≡ false }
+        requires standing { StandSomewhere (self.old).all }
+        ensures judged { IsJudged (ask_refused (office_of (self.old).all) (node_at (self.old).all i) what) result }
+        ensures ok { IfOk result (λ loose. LooksAt (view_for (office_of (self.old).all) what) i
+            (viewing (view_for (office_of (self.old).all) what) (self.old).all) (self.new).all (loose_seen loose)) }
+        ensures agendas { (self.new).agendas ≡ (self.old).agendas }
+        ensures err { OnErr result (self.new ≡ self.old) }
+    {
+        match ask(&mut self.members[i].node, &mut self.registrar, what) {
             Ok(looked) => {
                 self.late = looked.opened;
                 Ok(looked.loose)

@@ -1,10 +1,10 @@
 //! What a member has still to do.
 ghost use Rattle.std.specs.Prelude.{◌≡◌, ◌∷◌, ◌++◌, [], List, drop, MatchOption, IfOk, IfErr, OnOk, OnErr};
-ghost use Rattle.ring_cluster.specs.Plays.{task_event};
+ghost use Rattle.ring_cluster.specs.Plays.{task_event, task_client, refused_task};
 ghost use Rattle.ring_cluster.specs.declared.agenda.Task.{Task};
 
-use ring_names::{Body, Name, OutOfMemory};
-use ring_world::Event;
+use ring_names::{Body, Name, OutOfMemory, Reason};
+use ring_world::{Client, Event};
 use std::alloc::Global;
 use std::collections::VecDeque;
 use std::marker::Model;
@@ -14,6 +14,8 @@ use std::marker::Model;
 pub enum Task {
     /// It multicasts a message.
     Cast(Body),
+    /// It stops.
+    Stop,
 }
 
 /// The tasks of one member, the next one first.
@@ -41,7 +43,32 @@ impl Task {
                 by: *by,
                 body: body.copy()?,
             }),
+            Task::Stop => Ok(Event::Stop { by: *by }),
         }
+    }
+
+    /// What a client asks of this member by it.
+    fn client(&self, by: &Name) -> Result<Client, OutOfMemory>
+        ensures { IfOk result (λ client. client ≡ task_client by.now self.now) }
+    {
+        match self {
+            Task::Cast(body) => Ok(Client::Cast {
+                by: *by,
+                body: body.copy()?,
+            }),
+            Task::Stop => Ok(Client::Stop { by: *by }),
+        }
+    }
+
+    /// The event by which this member refuses it, as one that has stopped.
+    pub(crate) fn refused(&self, by: &Name) -> Result<Event, OutOfMemory>
+        ensures { IfOk result (λ event. event ≡ refused_task by.now self.now) }
+    {
+        let inner = self.client(by)?;
+        Ok(Event::Refuse {
+            code: Reason::Stopped.code(),
+            inner,
+        })
     }
 }
 

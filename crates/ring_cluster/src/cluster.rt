@@ -14,7 +14,7 @@ use group_view::View;
 use ring_io::Gate;
 use ring_names::{Body, CreditSpec, MemberId, Name, OutOfMemory, Reason};
 use ring_script::Command;
-use ring_world::{Event, Refused};
+use ring_world::{Event, Phase, Refused};
 use std::alloc::Global;
 use std::marker::Model;
 use std::thread::Threads;
@@ -54,7 +54,7 @@ impl Model for Cluster {
 impl Cluster {
     ghost use Rattle.std.specs.Prelude.{◌≡◌, ◌↔◌, ◌≢◌, ◌⊎◌, ℕ, ◌+◌, ◌-◌, ◌<◌, ◌≤◌, ◌^◌, ◌∷◌, ◌++◌, [], List, true};
     ghost use Rattle.std.specs.Prelude.{false, Some, None, Err, IsTrue, IsSome, MatchOption, IfSome, IfOk, IfErr};
-    ghost use Rattle.std.specs.Prelude.{OnOk, OnErr, length, map, replicate, min, drop, slice_set, slice_index_or};
+    ghost use Rattle.std.specs.Prelude.{OnOk, OnErr, length, map, replicate, min, not, drop, slice_set, slice_index_or};
     ghost use Rattle.ring_names.specs.declared.reason.Reason.{Reason};
     ghost use Rattle.ring_script.specs.declared.command.Command.{Command};
     ghost use Rattle.ring_script.specs.declared.command.Command.TheVariants as command;
@@ -63,21 +63,21 @@ impl Cluster {
     ghost use Rattle.ring_world.specs.declared.event.Event.TheVariants as event;
     ghost use Rattle.ring_world.specs.Machine.{member_at, row_at, view_in, newest, runs};
     ghost use Rattle.ring_world.specs.Quiet.{IsQuiet};
+    ghost use Rattle.ring_world.specs.Refusal.{is_empty};
     ghost use Rattle.ring_world.specs.Event.{refusal, is_plain};
     ghost use Rattle.gm_member.specs.Stands.{held_in};
     ghost use Rattle.gm_member.specs.Shown.{held_of};
-    ghost use Rattle.ring_world.specs.Idle.{NobodySteps, MarksNobody};
-    ghost use Rattle.ring_cluster.specs.Idle.{NobodyStopped};
+    ghost use Rattle.ring_world.specs.Idle.{NobodySteps, MarksNobody, ErasesNobody};
     ghost use Rattle.ring_cluster.specs.Holds.{HoldsOf};
     ghost use Rattle.ring_cluster.specs.Parties.{shown_of, node_at};
     ghost use Rattle.ring_cluster.specs.Published.{logs_in, logs_of};
     ghost use Rattle.ring_cluster.specs.Seen.{Seen, IsGoing, IsEventAt, SameButOwed, MayHandOver, state_of};
     ghost use Rattle.ring_cluster.specs.Seen.{IsStepped, opening_seen, with_event, owing};
     ghost use Rattle.ring_cluster.specs.declared.agenda.Task.{Task};
-    ghost use Rattle.ring_cluster.specs.Plays.{PlaysSoFar, Plays, task_event, place_among, IsCommandTo, commanded};
+    ghost use Rattle.ring_cluster.specs.Plays.{PlaysSoFar, Plays, IsDoneBy, place_among, IsCommandTo, commanded};
     ghost use Rattle.ring_cluster.specs.Plays.{performed, agenda_at, GoesOn, HasGoneOn, HasBegun, HeadsAre};
-    ghost use Rattle.ring_cluster.specs.Plays.{AgendasAreDone, AgendasAreEmpty};
-    ghost use Rattle.ring_cluster.specs.Turns.{MayStep, SamePhases, TakesRound, EachDoesAtMost};
+    ghost use Rattle.ring_cluster.specs.Plays.{AgendasAreEmpty};
+    ghost use Rattle.ring_cluster.specs.Turns.{MayStep, TakesRound, EachDoesAtMost};
     ghost use Rattle.ring_cluster.specs.Rounds.{more_rounds, GivesNumbers};
 
     /// The cluster of a ring that has just opened with these members, in ring order: nobody has anything
@@ -163,8 +163,8 @@ impl Cluster {
     /// The one event, where it is enabled; after it nothing is owed. After a refusal all stands as it stood, and each
     /// member shows what it showed. Before an event that isn't refused the acting member collects the links that wait
     /// for it, and what is owed is handed over. For want of memory no event happens, though some of that may have
-    /// been done; or the event has happened, and the cluster owes the registrar a link. An admission, an erasure and a
-    /// refusal aren't done by the members yet.
+    /// been done; or the event has happened, and the cluster owes the registrar a link. The members don't admit anybody
+    /// yet.
     pub fn step(&mut self, event: &Event) -> Result<(), Refused>
         requires { is_plain event.now ≡ true }
         ensures enabled { OnOk result (refusal (state_of self.old) event.now ≡ None) }
@@ -228,12 +228,27 @@ impl Cluster {
     pub(crate) fn may_mark(&self, place: usize, dead: &Name) -> bool
         requires { place < length (self.now).names }
         ensures may { result ≡ true
-            → refusal (state_of self.now) (event.Mark (member_at (state_of self.now) (place + 1)).name dead.now) ≡ None }
+            → refusal (state_of self.now)
+            (event.Mark (member_at (state_of self.now) (place + 1)).name dead.now) ≡ None }
         ensures may_not { result ≡ false
-            → refusal (state_of self.now) (event.Mark (member_at (state_of self.now) (place + 1)).name dead.now) ≢ None }
+            → refusal (state_of self.now)
+            (event.Mark (member_at (state_of self.now) (place + 1)).name dead.now) ≢ None }
     {
         self.is_going();
         let refusal = self.parties.mark_refusal(place, dead);
+        refusal.is_none()
+    }
+
+    /// Whether the member at a place may have the one of a name erased.
+    pub(crate) fn may_erase(&self, place: usize, origin: &Name) -> bool
+        requires { place < length (self.now).names }
+        ensures may { result ≡ true → refusal (state_of self.now)
+            (event.Erase (member_at (state_of self.now) (place + 1)).name origin.now) ≡ None }
+        ensures may_not { result ≡ false → refusal (state_of self.now)
+            (event.Erase (member_at (state_of self.now) (place + 1)).name origin.now) ≢ None }
+    {
+        self.is_going();
+        let refusal = self.parties.erase_refusal(place, origin);
         refusal.is_none()
     }
 
@@ -245,16 +260,16 @@ impl Cluster {
         self.parties.hand_over()
     }
 
-    /// The member at a place does the first of its tasks: whether it had one and hasn't stopped.
+    /// The member at a place does the first of its tasks, or refuses it where it has stopped: whether it had one.
     #[tactic(auto, using(crate::proofs::post::Owed::but_refl, crate::proofs::post::Owed::but_handed))]
     pub(crate) fn perform(&mut self, place: usize) -> Result<bool, OutOfMemory>
         requires { place < length (self.old).names }
-        ensures done { IfOk result (λ b. b ≡ true → (t : Task) × (ts : List Task)
+        ensures done { IfOk result (λ b. b ≡ true → (t : Task) × (ts : List Task) × (e : Event)
             × (agenda_at (self.old).agendas place ≡ t ∷ ts)
-            × (refusal (state_of self.old) (task_event (slice_index_or (self.old).names place []) t) ≡ None)
-            × SameButOwed (performed self.old place t ts) self.new) }
+            × IsDoneBy (slice_index_or (self.old).names place []) t e × (refusal (state_of self.old) e ≡ None)
+            × SameButOwed (performed self.old place e ts) self.new) }
         ensures none { IfOk result (λ b. b ≡ false → SameButOwed self.old self.new
-            × ((agenda_at (self.old).agendas place ≡ []) ⊎ (runs (state_of self.old) (place + 1) ≡ false))) }
+            × (agenda_at (self.old).agendas place ≡ [])) }
         ensures err { OnErr result (SameButOwed self.old self.new) }
     {
         self.is_going();
@@ -266,23 +281,59 @@ impl Cluster {
                 self.strike_off(place);
                 Ok(true)
             }
-            Err(Refused::NotEnabled(_)) => Ok(false),
+            Err(Refused::NotEnabled(_)) => unreachable!(),
             Err(Refused::OutOfMemory) => Err(OutOfMemory),
         }
     }
 
-    /// The event of the first task of the member at a place, where it has one.
+    /// The event by which the member at a place does or refuses the first of its tasks, where it has one.
     fn next_event(&self, place: usize) -> Result<Option<Event>, OutOfMemory>
         requires { place < length (self.now).names }
         ensures { IfOk result (λ next. MatchOption next (agenda_at (self.now).agendas place ≡ [])
             (λ event. (t : Task) × (ts : List Task) × (agenda_at (self.now).agendas place ≡ t ∷ ts)
-            × (event ≡ task_event (slice_index_or (self.now).names place []) t))) }
+            × IsDoneBy (slice_index_or (self.now).names place []) t event
+            × (refusal (state_of self.now) event ≡ None))) }
     {
         let Some(task) = self.parties.next_task(place) else {
             return Ok(None);
         };
-        let event = task.event(&self.names[place])?;
+        let event = self.event_of(place, task)?;
         Ok(Some(event))
+    }
+
+    /// The event by which the member at a place does a task, or refuses it where it has stopped.
+    fn event_of(&self, place: usize, task: &Task) -> Result<Event, OutOfMemory>
+        requires { place < length (self.now).names }
+        ensures does { IfOk result (λ event. IsDoneBy (slice_index_or (self.now).names place []) task.now event) }
+        ensures enabled { IfOk result (λ event. refusal (state_of self.now) event ≡ None) }
+    {
+        self.is_going();
+        let name = self.name_at(place);
+        if self.runs(MemberId(place as u32 + 1)) {
+            task.event(&name)
+        } else {
+            task.refused(&name)
+        }
+    }
+
+    /// Whether the member of an id runs.
+    pub(crate) fn runs(&self, id: MemberId) -> bool
+        requires { (1 ≤ id.0) × (id.0 ≤ length (self.now).names) }
+        ensures { result ≡ runs (state_of self.now) id.0 }
+    {
+        let Some(member) = self.member(id) else {
+            unreachable!()
+        };
+        matches!(member.phase(), Phase::Waiting | Phase::Up)
+    }
+
+    /// Whether the member at a place has a task.
+    pub(crate) fn has_task(&self, place: usize) -> bool
+        requires { place < length (self.now).names }
+        ensures { result ≡ not (is_empty (agenda_at (self.now).agendas place)) }
+    {
+        self.is_going();
+        self.parties.next_task(place).is_some()
     }
 
     /// The first task of the member at a place is done.
@@ -318,9 +369,9 @@ impl Cluster {
         self.journal.len()
     }
 
-    /// One round: each member that hasn't stopped takes at least one and at most so many turns, the first of which
-    /// does the head of its agenda, where it has one; after it nothing is owed. Before and after each turn the gate is
-    /// passed. Want of memory leaves what has happened.
+    /// One round: each member that runs or has a task takes at least one and at most so many turns, the first of which
+    /// does the head of its agenda, where it has one, or refuses it where the member has stopped; after it nothing is
+    /// owed. Before and after each turn the gate is passed. Want of memory leaves what has happened.
     pub fn go<T: Threads, G: Gate>(
         &mut self,
         threads: &T,
@@ -332,7 +383,6 @@ impl Cluster {
             × GoesOn self.old self.new more × HeadsAre self.old more) }
         ensures goes { HasGoneOn self.old self.new }
         ensures few { EachDoesAtMost turns self.old self.new }
-        ensures alive { NobodyStopped (state_of self.old) → NobodyStopped (state_of self.new) }
         ensures given { OnOk result
             ((self.new).given ≡ (self.old).given ++ command.Go turns ∷ []) }
         ensures not_given { OnErr result ((self.new).given ≡ (self.old).given) }
@@ -365,17 +415,16 @@ impl Cluster {
         Ok(())
     }
 
-    /// Rounds of 16 turns until one does nothing, 64 at most, and then a drain: each member that runs does all of its
-    /// agenda, and the ring works and repairs itself until no member has anything left to do. Each round has a number,
-    /// and so has the drain. Where nobody has stopped it is quiet then. After it nothing is owed. Want of memory
-    /// leaves what has happened.
+    /// Rounds of 16 turns until one does nothing, 64 at most, and then a drain: each member does all of its agenda, or
+    /// refuses it where it has stopped, and the ring works and repairs itself until no member has anything left to do.
+    /// Then it is quiet: who has died is erased, where anybody runs. Each round has a number, and so has the drain.
+    /// After it nothing is owed. Want of memory leaves what has happened.
     pub fn settle<T: Threads, G: Gate>(&mut self, threads: &T, gate: &G) -> Result<(), OutOfMemory>
         ensures goes { HasGoneOn self.old self.new }
-        ensures alive { NobodyStopped (state_of self.old) → NobodyStopped (state_of self.new) }
-        ensures done { OnOk result (AgendasAreDone self.new) }
-        ensures idle { OnOk result (NobodySteps (state_of self.new) × MarksNobody (state_of self.new)) }
-        ensures quiet { OnOk result (NobodyStopped (state_of self.old) → IsQuiet (state_of self.new)
-            × AgendasAreEmpty self.new) }
+        ensures empty { OnOk result (AgendasAreEmpty self.new) }
+        ensures idle { OnOk result (NobodySteps (state_of self.new) × MarksNobody (state_of self.new)
+            × ErasesNobody (state_of self.new)) }
+        ensures quiet { OnOk result (IsQuiet (state_of self.new)) }
         ensures given { OnOk result ((self.new).given ≡ (self.old).given ++ command.Settle ∷ []) }
         ensures not_given { OnErr result ((self.new).given ≡ (self.old).given) }
         ensures rounds { OnOk result (GivesNumbers 2 65 self.old self.new) }
@@ -400,13 +449,12 @@ impl Cluster {
     /// The rounds of a settling, and its drain.
     fn work_out<G: Gate>(&mut self, gate: &G) -> Result<(), OutOfMemory>
         ensures goes { HasGoneOn self.old self.new }
-        ensures phases { SamePhases (state_of self.old) (state_of self.new) }
         ensures given { (self.new).given ≡ (self.old).given }
-        ensures done { OnOk result (AgendasAreDone self.new) }
+        ensures empty { OnOk result (AgendasAreEmpty self.new) }
         ensures idle { OnOk result (NobodySteps (state_of self.new)) }
         ensures marks { OnOk result (MarksNobody (state_of self.new)) }
-        ensures quiet { OnOk result (NobodyStopped (state_of self.new) → IsQuiet (state_of self.new)) }
-        ensures empty { OnOk result (NobodyStopped (state_of self.new) → AgendasAreEmpty self.new) }
+        ensures erases { OnOk result (ErasesNobody (state_of self.new)) }
+        ensures quiet { OnOk result (IsQuiet (state_of self.new)) }
         ensures rounds { OnOk result (GivesNumbers 2 65 self.old self.new) }
         ensures rounds_begun { OnErr result (GivesNumbers 1 65 self.old self.new) }
         ensures delivered { OnOk result ((self.new).owes ≡ false) }
@@ -422,7 +470,6 @@ impl Cluster {
     /// The rounds of a settling.
     fn work_rounds<G: Gate>(&mut self, gate: &G) -> Result<(), OutOfMemory>
         ensures goes { HasGoneOn self.old self.new }
-        ensures phases { SamePhases (state_of self.old) (state_of self.new) }
         ensures given { (self.new).given ≡ (self.old).given }
         ensures rounds { GivesNumbers 1 64 self.old self.new }
     {
@@ -567,6 +614,12 @@ fn task_of(names: &[Name], command: &Command) -> Result<(usize, Task), OutOfMemo
                 unreachable!()
             };
             Ok((place, Task::Cast(body.copy()?)))
+        }
+        Command::Kill { by } => {
+            let Some(place) = the_place_among(names, by) else {
+                unreachable!()
+            };
+            Ok((place, Task::Stop))
         }
         Command::Go { .. } | Command::Settle => unreachable!(),
     }

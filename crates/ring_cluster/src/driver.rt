@@ -1,17 +1,20 @@
 //! The turns of the members: rounds, and the drain that ends when nothing is left to do.
-ghost use Rattle.std.specs.Prelude.{◌≡◌, ◌≢◌, ℕ, ◌+◌, ◌-◌, ◌<◌, ◌≤◌, ◌∷◌, ◌++◌, ◌||◌, [], true, false, length, IfOk};
-ghost use Rattle.std.specs.Prelude.{OnOk, OnErr, MatchOption, None};
-ghost use Rattle.ring_world.specs.Machine.{member_at, newest as the_newest, right as the_right, runs as runs_at};
-ghost use Rattle.ring_world.specs.Event.{by_of, refusal, is_asked, is_plain};
-ghost use Rattle.ring_world.specs.Idle.{NobodySteps, MarksNobody};
+ghost use Rattle.std.specs.Prelude.{◌≡◌, ◌≢◌, ℕ, ◌+◌, ◌-◌, ◌<◌, ◌≤◌, ◌∷◌, ◌++◌, ◌||◌, [], true, false, not};
+ghost use Rattle.std.specs.Prelude.{length, IfOk, OnOk, OnErr, MatchOption, None, Contains};
+ghost use Rattle.ring_world.specs.Machine.{member_at, view_in, newest as the_newest, right as the_right};
+ghost use Rattle.ring_world.specs.Machine.{runs as runs_at};
+ghost use Rattle.ring_world.specs.Refusal.{is_empty};
+ghost use Rattle.ring_world.specs.Event.{by_of, refusal, erase_refusal, is_asked, is_plain};
+ghost use Rattle.ring_world.specs.Idle.{NobodySteps, MarksNobody, ErasesNobody};
 ghost use Rattle.ring_world.specs.Work.{total, is_stale as the_staleness, LeavesLess};
 ghost use Rattle.ring_cluster.specs.Seen.{Seen, state_of, IsGoing, SameButOwed};
-ghost use Rattle.ring_cluster.specs.Plays.{agenda_at, HasBegun, AgendasAreDone};
+ghost use Rattle.ring_cluster.specs.Plays.{agenda_at, HasBegun, AgendasAreEmpty};
 ghost use Rattle.ring_cluster.specs.Turns.{step_event, Works, DoesOrRests, TakesTurns, TakesRound, IsDoneAt};
-ghost use Rattle.ring_cluster.specs.Turns.{MayStep, MayStepNowhere, MarksNoneAt, RestsAt, DoesAtMost, EachDoesAtMost};
-ghost use Rattle.ring_cluster.specs.Turns.{HasTurn, turn_event};
+ghost use Rattle.ring_cluster.specs.Turns.{MayStep, MayStepNowhere, MarksNoneAt, ErasesNoneAt, RestsAt, DoesAtMost};
+ghost use Rattle.ring_cluster.specs.Turns.{EachDoesAtMost, HasTurn, turn_event};
 
 use crate::cluster::Cluster;
+use group_view::{Entry, Mark};
 use ring_io::Gate;
 use ring_names::{MemberId, Name, OutOfMemory};
 use ring_world::{Event, Phase, Refused};
@@ -53,6 +56,8 @@ pub(crate) enum OwnTurn {
     Refresh,
     /// It has its right neighbour in that view marked dead.
     Mark,
+    /// It has that one erased.
+    Erase(MemberId),
     /// It does a step on its links.
     Step(OwnStep),
 }
@@ -83,17 +88,6 @@ fn name_of(cluster: &Cluster, id: MemberId) -> Name
 {
     cluster.is_going();
     cluster.name_at(id.0 as usize - 1)
-}
-
-/// Whether the member of an id runs.
-fn runs(cluster: &Cluster, id: MemberId) -> bool
-    requires { (1 ≤ id.0) × (id.0 ≤ length (cluster.now).names) }
-    ensures { result ≡ runs_at (state_of cluster.now) id.0 }
-{
-    let Some(member) = cluster.member(id) else {
-        unreachable!()
-    };
-    matches!(member.phase(), Phase::Waiting | Phase::Up)
 }
 
 /// Whether it is stale: its view isn't the newest, or it sends on no link.
@@ -161,6 +155,41 @@ fn may_mark(cluster: &Cluster, id: MemberId) -> bool
     cluster.may_mark(id.0 as usize - 1, &dead)
 }
 
+/// The first of the dead in the newest view that a member that runs may have erased. Only the dead are asked for.
+fn next_erasable(cluster: &Cluster, id: MemberId) -> Option<MemberId>
+    requires within { (1 ≤ id.0) × (id.0 ≤ length (cluster.now).names) }
+    requires runs { runs_at (state_of cluster.now) id.0 ≡ true }
+    ensures { MatchOption result (ErasesNoneAt (state_of cluster.now) id.0)
+        (λ origin. HasTurn (state_of cluster.now) id.0 (OwnTurn.Erase origin)) }
+{
+    cluster.is_going();
+    for entry in cluster.view().entries.as_slice() {
+        if may_erase(cluster, id, entry) {
+            return Some(entry.id);
+        }
+    }
+    None
+}
+
+/// Whether a member that runs may have the one of an entry of the newest view erased: not where that isn't dead.
+fn may_erase(cluster: &Cluster, id: MemberId, entry: &Entry) -> bool
+    requires within { (1 ≤ id.0) × (id.0 ≤ length (cluster.now).names) }
+    requires runs { runs_at (state_of cluster.now) id.0 ≡ true }
+    requires entry { Contains (view_in (state_of cluster.now) (the_newest (state_of cluster.now))).entries entry.now }
+    ensures may { result ≡ true → HasTurn (state_of cluster.now) id.0 (OwnTurn.Erase (entry.now).id) }
+    ensures may_not { result ≡ false → erase_refusal (state_of cluster.now) id.0 (entry.now).id.0 ≢ None }
+{
+    cluster.is_going();
+    match entry.mark {
+        Mark::Dead => {
+            let origin = name_of(cluster, entry.id);
+            cluster.may_erase(id.0 as usize - 1, &origin)
+        }
+        Mark::Live => false,
+        Mark::Erased => false,
+    }
+}
+
 /// The first step on its links that a member may do.
 fn next_step(cluster: &Cluster, id: MemberId) -> Option<OwnStep>
     requires { (1 ≤ id.0) × (id.0 ≤ length (cluster.now).names) }
@@ -186,7 +215,7 @@ fn next_step(cluster: &Cluster, id: MemberId) -> Option<OwnStep>
 }
 
 /// What a member that runs has to do: where it is stale, it reads the newest view. Else it has its right neighbour
-/// marked dead, or does a step on its links, the first of these that it may. This only reads.
+/// marked dead, has somebody erased, or does a step on its links, the first of these that it may. This only reads.
 fn next_turn(cluster: &Cluster, id: MemberId) -> Option<OwnTurn>
     requires within { (1 ≤ id.0) × (id.0 ≤ length (cluster.now).names) }
     requires runs { runs_at (state_of cluster.now) id.0 ≡ true }
@@ -198,6 +227,9 @@ fn next_turn(cluster: &Cluster, id: MemberId) -> Option<OwnTurn>
     if may_mark(cluster, id) {
         return Some(OwnTurn::Mark);
     }
+    if let Some(origin) = next_erasable(cluster, id) {
+        return Some(OwnTurn::Erase(origin));
+    }
     let step = next_step(cluster, id)?;
     Some(OwnTurn::Step(step))
 }
@@ -206,8 +238,10 @@ fn next_turn(cluster: &Cluster, id: MemberId) -> Option<OwnTurn>
 fn event_of(cluster: &Cluster, id: MemberId, turn: OwnTurn) -> Event
     requires within { (1 ≤ id.0) × (id.0 ≤ length (cluster.now).names) }
     requires runs { runs_at (state_of cluster.now) id.0 ≡ true }
+    requires turn { HasTurn (state_of cluster.now) id.0 turn }
     ensures { result ≡ turn_event (state_of cluster.now) id.0 turn }
 {
+    cluster.is_going();
     let by = name_of(cluster, id);
     match turn {
         OwnTurn::Refresh => Event::Refresh {
@@ -217,6 +251,10 @@ fn event_of(cluster: &Cluster, id: MemberId, turn: OwnTurn) -> Event
         OwnTurn::Mark => Event::Mark {
             by,
             dead: name_of(cluster, right_of(cluster, id)),
+        },
+        OwnTurn::Erase(origin) => Event::Erase {
+            by,
+            origin: name_of(cluster, origin),
         },
         OwnTurn::Step(step) => step.event(by),
     }
@@ -263,14 +301,15 @@ fn work_turn(cluster: &mut Cluster, place: usize) -> Result<bool, OutOfMemory>
 {
     cluster.is_going();
     let id = MemberId(place as u32 + 1);
-    if !runs(cluster, id) {
+    if !cluster.runs(id) {
         return Ok(false);
     }
     let did = own_turn(cluster, id)?;
     Ok(did)
 }
 
-/// The member at a place takes a turn: the head of its agenda, or a step of its own. Whether it did any.
+/// The member at a place takes a turn: it does the head of its agenda, or refuses it where it has stopped; else a step
+/// of its own. Whether it did any.
 #[tactic(auto, using(crate::proofs::rounds::Turning::one_turn))]
 fn turn(cluster: &mut Cluster, place: usize) -> Result<bool, OutOfMemory>
     requires { place < length (cluster.old).names }
@@ -286,7 +325,7 @@ fn turn(cluster: &mut Cluster, place: usize) -> Result<bool, OutOfMemory>
     Ok(did)
 }
 
-/// The member at a place takes at least one and at most so many turns, where it hasn't stopped.
+/// The member at a place takes at least one and at most so many turns, where it runs or has a task.
 #[tactic(auto, using(crate::proofs::rounds::Turning::more_turns))]
 fn turns_of<G: Gate>(
     cluster: &mut Cluster,
@@ -301,13 +340,24 @@ fn turns_of<G: Gate>(
     ensures begun { OnOk result (HasBegun place cluster.old cluster.new) }
 {
     cluster.is_going();
-    if !runs(cluster, MemberId(place as u32 + 1)) {
+    if !has_turns(cluster, place) {
         return Ok(());
     }
     if gated_turn(cluster, place, gate)? {
         more_turns(cluster, place, turns - 1, gate)?;
     }
     Ok(())
+}
+
+/// Whether the member at a place takes turns in a round: it runs, or has a task, which it refuses where it has stopped.
+fn has_turns(cluster: &Cluster, place: usize) -> bool
+    requires { place < length (cluster.now).names }
+    ensures { result ≡ (runs_at (state_of cluster.now) (place + 1)
+        || not (is_empty (agenda_at (cluster.now).agendas place))) }
+{
+    cluster.is_going();
+    let has_task = cluster.has_task(place);
+    either(cluster.runs(MemberId(place as u32 + 1)), has_task)
 }
 
 /// Up to so many further turns, while it has anything to do.
@@ -350,7 +400,7 @@ const BEFORE: u8 = 1;
 
 const AFTER: u8 = 2;
 
-/// Every member that hasn't stopped takes its turns, one member after another.
+/// Every member that runs or has a task takes its turns, one member after another.
 #[tactic(auto, using(crate::proofs::rounds::Turning::rounds))]
 pub(crate) fn round<G: Gate>(cluster: &mut Cluster, turns: u32, gate: &G) -> Result<(), OutOfMemory>
     requires { 1 ≤ turns }
@@ -367,7 +417,7 @@ pub(crate) fn round<G: Gate>(cluster: &mut Cluster, turns: u32, gate: &G) -> Res
     Ok(())
 }
 
-/// The member at a place does all its tasks, where it runs.
+/// The member at a place does all its tasks, or refuses them where it has stopped.
 #[tactic(auto, using(crate::proofs::rounds::Turning::tasks))]
 fn finish(cluster: &mut Cluster, place: usize) -> Result<(), OutOfMemory>
     requires { place < length (cluster.old).names }
@@ -382,11 +432,11 @@ fn finish(cluster: &mut Cluster, place: usize) -> Result<(), OutOfMemory>
     }
 }
 
-/// Every member that runs does all its tasks.
+/// Every member does all its tasks, or refuses them.
 #[tactic(auto, using(crate::proofs::rounds::Turning::all_tasks))]
 fn finish_all(cluster: &mut Cluster) -> Result<(), OutOfMemory>
     ensures round { TakesRound cluster.old cluster.new }
-    ensures done { OnOk result (AgendasAreDone cluster.new) }
+    ensures empty { OnOk result (AgendasAreEmpty cluster.new) }
 {
     let count = cluster.count();
     for place in 0..count {
@@ -422,6 +472,7 @@ fn work_out(cluster: &mut Cluster) -> Result<(), OutOfMemory>
     ensures works { Works cluster.old cluster.new }
     ensures idle { OnOk result (NobodySteps (state_of cluster.new)) }
     ensures marks { OnOk result (MarksNobody (state_of cluster.new)) }
+    ensures erases { OnOk result (ErasesNobody (state_of cluster.new)) }
 {
     'passes: loop {
         cluster.is_going();
@@ -431,13 +482,14 @@ fn work_out(cluster: &mut Cluster) -> Result<(), OutOfMemory>
     }
 }
 
-/// All tasks of members that run are done, and then all work.
+/// All tasks are done or refused, and then all members work.
 #[tactic(auto, using(crate::proofs::rounds::Turning::draining))]
 pub(crate) fn drain(cluster: &mut Cluster) -> Result<(), OutOfMemory>
     ensures round { TakesRound cluster.old cluster.new }
-    ensures done { OnOk result (AgendasAreDone cluster.new) }
+    ensures empty { OnOk result (AgendasAreEmpty cluster.new) }
     ensures idle { OnOk result (NobodySteps (state_of cluster.new)) }
     ensures marks { OnOk result (MarksNobody (state_of cluster.new)) }
+    ensures erases { OnOk result (ErasesNobody (state_of cluster.new)) }
 {
     finish_all(cluster)?;
     work_out(cluster)?;

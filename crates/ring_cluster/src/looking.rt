@@ -5,13 +5,11 @@ ghost use Rattle.ordered_link.specs.declared.plain.PlainOut.{PlainOut as Out};
 ghost use Rattle.ordered_link.specs.Steps.{IsFreshPair};
 ghost use Rattle.activity.specs.declared.packet.Load.{Load as Loaded};
 ghost use Rattle.gm_member.specs.Shown.{SpareIsReady};
-ghost use Rattle.group_view.specs.Change.{marked};
-ghost use Rattle.registrar.specs.Registry.{AreHere, newest};
+ghost use Rattle.registrar.specs.Registry.{AreHere};
 ghost use Rattle.registrar.specs.Handled.{with_view, handled, answered};
 ghost use Rattle.registrar.specs.Asked.{request_refusal};
 ghost use Rattle.group_view.specs.View.{Group};
 ghost use Rattle.group_view.specs.declared.request.Answer.TheVariants.{Viewed};
-ghost use Rattle.ring_cluster.specs.Refused.{mark_refused};
 ghost use Rattle.group_view.specs.Ring.{is_in};
 ghost use Rattle.ring_world.specs.View.{ids};
 ghost use Rattle.gm_member.specs.Held.{refresh_refused};
@@ -19,7 +17,7 @@ ghost use Rattle.ring_cluster.specs.Parties.{shown_of};
 ghost use Rattle.ring_cluster.specs.Tried.{IsJudged};
 ghost use Rattle.ring_cluster.specs.Acting.{IsReady};
 ghost use Rattle.ring_cluster.specs.Looking.{first_of, to_post, kept_post, loose_seen, tidied, without_question};
-ghost use Rattle.ring_cluster.specs.Looking.{HasLooked};
+ghost use Rattle.ring_cluster.specs.Looking.{HasLooked, makes_view, ask_refused, view_for};
 
 use crate::node::{Node, drop_old_ins};
 use crate::undelivered::Undelivered;
@@ -28,7 +26,7 @@ use gm_member::Ask;
 use group_view::{Answer, LinkName, Request, View};
 use ordered_link::{PlainIn, PlainOut};
 use registrar::Registrar;
-use ring_names::{MemberId, OutOfMemory, Reason};
+use ring_names::{OutOfMemory, Reason};
 use ring_world::Refused;
 
 /// An out end that its member has replaced, with the name of its link.
@@ -56,21 +54,22 @@ pub(crate) fn look(node: &mut Node, view: View) -> Result<Looked, OutOfMemory>
     }
 }
 
-/// The registrar marks a member dead, which the acting one asks for, and this one has the view in which it is.
-pub(crate) fn mark(
+/// The member asks the registrar to make a view, and has it.
+pub(crate) fn ask(
     node: &mut Node,
     registrar: &mut Registrar<PlainIn<Load>>,
-    dead: MemberId,
+    what: Ask,
 ) -> Result<Looked, Refused>
+    requires makes { makes_view what ≡ true }
     requires ready { IsReady (shown_of node.old) }
     requires here { AreHere (registrar.old).links }
-    ensures judged { IsJudged (mark_refused registrar.old (shown_of node.old) (Some dead.0)) result }
-    ensures ok { IfOk result (λ l. HasLooked (marked (newest registrar.old) dead.0) (shown_of node.old)
-        (shown_of node.new) (kept_post l.opened) (loose_seen l.loose)) }
-    ensures registrar { OnOk result (registrar.new ≡ with_view registrar.old (marked (newest registrar.old) dead.0)) }
+    ensures judged { IsJudged (ask_refused registrar.old (shown_of node.old) what) result }
+    ensures ok { IfOk result (λ l. HasLooked (view_for registrar.old what) (shown_of node.old) (shown_of node.new)
+        (kept_post l.opened) (loose_seen l.loose)) }
+    ensures registrar { OnOk result (registrar.new ≡ with_view registrar.old (view_for registrar.old what)) }
     ensures err { OnErr result ((shown_of node.new ≡ shown_of node.old) × (registrar.new ≡ registrar.old)) }
 {
-    let request = node.ask(Ask::Mark(dead))?;
+    let request = node.ask(what)?;
     match ask_for_view(registrar, request) {
         Ok(view) => Ok(read_answer(node, view)),
         Err(refused) => {

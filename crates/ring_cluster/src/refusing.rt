@@ -1,6 +1,7 @@
 //! Why an event of a member of the cluster is refused. What is here only reads, and wants no memory.
 ghost use Rattle.std.specs.Prelude.{◌≡◌, ◌∷◌, List, [], true, false, Some, None, Option, MatchOption, map};
 ghost use Rattle.ring_world.specs.Refusal.{is_empty};
+ghost use Rattle.ring_world.specs.Event.{is_told as told, is_passing as passes};
 ghost use Rattle.ring_names.specs.declared.reason.Reason.{Reason};
 ghost use Rattle.gm_member.specs.Held.{up_refused, take_refused};
 ghost use Rattle.ring_cluster.specs.Ends.{Sent};
@@ -8,7 +9,7 @@ ghost use Rattle.ring_cluster.specs.Behind.{behind};
 ghost use Rattle.ring_cluster.specs.Parties.{shown_of, content, posted};
 ghost use Rattle.ring_cluster.specs.Acting.{stop_refused, look_refused, packet_refused, link_end_refused};
 ghost use Rattle.ring_cluster.specs.Acting.{grant_refused, alone_refused, back_of, first_item as the_first};
-ghost use Rattle.ring_cluster.specs.Refused.{first_for};
+ghost use Rattle.ring_cluster.specs.Refused.{first_for, admission_refused, client_refused, telling_refused};
 
 use crate::driver::OwnStep;
 use crate::node::Node;
@@ -16,11 +17,14 @@ use crate::parties::Parties;
 use crate::undelivered::Undelivered;
 use activity::Load;
 use gm_member::view_refusal;
-use group_view::Request;
+use group_view::{Request, View};
 use ordered_link::{Item, PlainIn};
 use registrar::Registrar;
-use ring_names::{MemberId, Name, Reason};
-use ring_world::{Event, Phase};
+use ring_names::{Name, Reason};
+use ring_world::{Client, Event, Phase};
+
+/// The most entries of a view.
+const MOST_MEMBERS: usize = 64;
 
 /// Why a member may not stop, of which no question is open.
 pub(crate) fn stop_refusal(node: &Node) -> Option<Reason>
@@ -64,7 +68,7 @@ pub(crate) fn look_refusal(node: &Node, newest: u32, version: u32) -> Option<Rea
     None
 }
 
-/// Why a member has nobody marked of whom nobody knows.
+/// Why a member has nobody marked or erased of whom nobody knows.
 pub(crate) fn unknown(node: &Node) -> Reason
     requires { (shown_of node.now).held.asks ≡ false }
     ensures { up_refused (shown_of node.now).held (Some Reason.UnknownMember) ≡ Some result }
@@ -73,6 +77,63 @@ pub(crate) fn unknown(node: &Node) -> Reason
         Some(reason) => reason,
         None => Reason::UnknownMember,
     }
+}
+
+/// Why a member admits nobody under a name, where this is the newest view.
+fn admit_refusal(view: &View, node: &Node, name: &Name) -> Option<Reason>
+    requires { (shown_of node.now).held.asks ≡ false }
+    ensures { result ≡ up_refused (shown_of node.now).held (admission_refused view.now name.now) }
+{
+    if let Some(reason) = up_refusal(node) {
+        return Some(reason);
+    }
+    if view.find(name).is_some() {
+        return Some(Reason::NameTaken);
+    }
+    if view.entries.as_slice().len() >= MOST_MEMBERS {
+        return Some(Reason::TooManyMembers);
+    }
+    None
+}
+
+/// Why a member doesn't do what a client asks, where this is the newest view.
+fn client_refusal(view: &View, node: &Node, asked: &Client) -> Option<Reason>
+    requires { (shown_of node.now).held.asks ≡ false }
+    ensures { result ≡ client_refused view.now asked.now (shown_of node.now) }
+{
+    match asked {
+        Client::Cast { by: _, body: _ } => up_refusal(node),
+        Client::Stop { by: _ } => stop_refusal(node),
+        Client::Admit { by: _, name } => admit_refusal(view, node, name),
+    }
+}
+
+/// Whether a client isn't told a refusal, as its command stays.
+fn is_passing(reason: &Reason) -> bool
+    ensures { result ≡ passes reason.now }
+{
+    matches!(reason, Reason::Waiting | Reason::NotStarted)
+}
+
+/// Whether a client is refused with this number.
+fn is_told(code: u32, refusal: &Option<Reason>) -> bool
+    ensures { result ≡ told code refusal.now }
+{
+    match refusal {
+        Some(reason) => reason.code() == code && !is_passing(reason),
+        None => false,
+    }
+}
+
+/// Why a member doesn't tell a client with this number that what it asks isn't done.
+pub(crate) fn telling_refusal(view: &View, node: &Node, code: u32, asked: &Client) -> Option<Reason>
+    requires { (shown_of node.now).held.asks ≡ false }
+    ensures { result ≡ telling_refused view.now code asked.now (shown_of node.now) }
+{
+    if !is_told(code, &client_refusal(view, node, asked)) {
+        return Some(Reason::NotRefused);
+    }
+    None
 }
 
 /// Why the member may take nothing, before its link is looked at.
@@ -212,7 +273,7 @@ fn first_late(late: &Option<Undelivered>, node: &Node) -> Option<u32>
 impl Parties {
     ghost use Rattle.std.specs.Prelude.{◌≡◌, ◌<◌, ℕ, List, None, length};
     ghost use Rattle.ring_names.specs.declared.reason.Reason.{Reason};
-    ghost use Rattle.ring_world.specs.declared.event.Event.TheVariants.{Mark};
+    ghost use Rattle.ring_world.specs.declared.event.Event.TheVariants.{Mark, Erase};
     ghost use Rattle.ring_world.specs.Event.{is_plain, version_refusal};
     ghost use Rattle.gm_member.specs.Held.{on_some, up_refused, pick_refused};
     ghost use Rattle.gm_member.specs.Questions.{has_link};
@@ -232,8 +293,12 @@ impl Parties {
         let node = &self.members[i].node;
         match event {
             Event::Mark { by: _, dead } => self.mark_refusal(i, dead),
+            Event::Erase { by: _, origin } => self.erase_refusal(i, origin),
             Event::Refresh { by: _, view } => {
                 look_refusal(node, self.registrar.view().version, *view)
+            }
+            Event::Refuse { code, inner } => {
+                telling_refusal(self.registrar.view(), node, *code, inner)
             }
             Event::Pick { by: _ } => self.pick_refusal(i),
             Event::Cast { by: _, body: _ }
@@ -242,9 +307,7 @@ impl Parties {
             | Event::TakeEnd { by: _ }
             | Event::Gain { by: _ }
             | Event::Stop { by: _ } => alone_refusal(node, event),
-            Event::Admit { by: _, name: _ }
-            | Event::Erase { by: _, origin: _ }
-            | Event::Refuse { code: _, inner: _ } => unreachable!(),
+            Event::Admit { by: _, name: _ } => unreachable!(),
         }
     }
 
@@ -318,7 +381,7 @@ impl Parties {
         ensures { (by : List ℕ) → IsRefusalAt i (Mark by dead.now) (self.now).all result }
     {
         let node = &self.members[i].node;
-        let Some(place) = self.place_named(dead) else {
+        let Some(id) = self.id_named(dead) else {
             return Some(unknown(node));
         };
         if let Some(reason) = up_refusal(node) {
@@ -326,9 +389,32 @@ impl Parties {
         }
         self.registrar.refusal(&Request::Mark {
             by: node.id(),
-            dead: MemberId(place as u32 + 1),
+            dead: id,
             view: node.view().version,
             has_current: self.has_link(i),
+        })
+    }
+
+    /// Why it may not have the one of a name erased, likewise.
+    pub(crate) fn erase_refusal(&self, i: usize, origin: &Name) -> Option<Reason>
+        requires within { i < length (self.now).all.nodes }
+        requires standing { StandSomewhere (self.now).all }
+        ensures { (by : List ℕ) → IsRefusalAt i (Erase by origin.now) (self.now).all result }
+    {
+        let node = &self.members[i].node;
+        let Some(id) = self.id_named(origin) else {
+            return Some(unknown(node));
+        };
+        if let Some(reason) = up_refusal(node) {
+            return Some(reason);
+        }
+        let kept = node.numbers_of(id);
+        self.registrar.refusal(&Request::Erase {
+            by: node.id(),
+            origin: id,
+            got: kept.got,
+            retired: kept.retired,
+            view: node.view().version,
         })
     }
 }

@@ -11,7 +11,7 @@ use Rattle.ring_world.specs.declared.event.Event.{Event}
 use Rattle.ring_script.specs.declared.fault.Kind.{Kind}
 use Rattle.ring_script.specs.declared.fault.Kind.TheVariants.{UnknownName, BodyTooLong, BadNumber}
 use Rattle.ring_script.specs.declared.script.Keyword.{Keyword}
-use Rattle.ring_script.specs.declared.script.Keyword.TheVariants.{Cast, Go, Settle}
+use Rattle.ring_script.specs.declared.script.Keyword.TheVariants.{Cast, Kill, Go, Settle}
 use Rattle.ring_script.specs.declared.command.Command.{Command}
 use Rattle.ring_script.specs.declared.text.Text.{Text}
 use Rattle.ring_script.specs.Words.{lines_of, words_of, first_word, behind_word, is_text_byte, is_digit, is_number, number_of, has_byte}
@@ -83,11 +83,21 @@ cast_right members (name ∷ words) body text e =
     let known = none_of_both (name_fault name) (if is_among members name then None else Some UnknownName) both.0 in
     (among_contains members name (none_by (is_among members name) UnknownName known.1), IsBody-from body (ltb-false 256 (length body) (short_by (nat_lt 256 (length body)) both.1)) text)
 
+-- ---- kills
+
+kill_right : (members words : List (List ℕ)) → one_word (known_fault members) words ≡ None → Contains members (get_or words 0 [])
+kill_right members [] e = cc
+kill_right members (name ∷ []) e =
+    let known = none_of_both (name_fault name) (if is_among members name then None else Some UnknownName) e in
+    among_contains members name (none_by (is_among members name) UnknownName known.1)
+kill_right members (name ∷ other ∷ words) e = cc
+
 -- ---- a command
 
 command_right : (members : List (List ℕ)) (keyword : Option Keyword) (rest : List ℕ) → list_all is_text_byte rest ≡ true → command_fault members keyword rest ≡ None
     → MayBeGiven members (command_by keyword rest)
 command_right members (Some Cast) rest text e = cast_right members (words_of rest) (body_in rest) (behind_space_text (behind_word rest) (behind_word_text rest text)) e
+command_right members (Some Kill) rest text e = kill_right members (words_of rest) e
 command_right members (Some Go) rest text e = turns_right (words_of rest) e
 command_right members (Some Settle) rest text e = tt
 command_right members None rest text e = cc
@@ -118,7 +128,9 @@ own_plain own.Pick by = refl
 event_plain : (word : Option EventWord) (rest : List ℕ) → is_plain (event_by word rest) ≡ true
 event_plain (Some begins.Cast) rest = refl
 event_plain (Some begins.Mark) rest = refl
+event_plain (Some begins.Erase) rest = refl
 event_plain (Some begins.Refresh) rest = refl
+event_plain (Some begins.Refuse) rest = refl
 event_plain (Some (begins.Own which)) rest = own_plain which (operand_in rest)
 event_plain None rest = refl
 

@@ -132,6 +132,7 @@ CanOpen names = AreOpeningNames names × All IsName names
 -- a command that the members of these names may be given
 abbrev pub MayBeGiven : List (List ℕ) → Command → Type 0
 MayBeGiven names (command.Cast by body) = Contains names by × IsBody body
+MayBeGiven names (command.Kill by) = Contains names by
 MayBeGiven names (command.Go turns) = (1 ≤ turns) × (turns ≤ most_turns)
 MayBeGiven names command.Settle = ⊤
 

@@ -1,15 +1,19 @@
 -- What a line of a step file says behind the opening ones, and what is wrong with it. Its names need only be names: who
 -- plays the event says whether they are the ring's.
-use Rattle.std.specs.Prelude.{ℕ, if◌then◌else◌, Option, Some, None, unwrap_or, option_map, List, codes, bytes_eq}
+use Rattle.std.specs.Prelude.{ℕ, if◌then◌else◌, Option, Some, None, unwrap_or, option_map, List, [], ◌∷◌, codes, bytes_eq}
 use Rattle.std.specs.Option.{option_or}
 use Rattle.ring_script.specs.declared.fault.Kind.{Kind}
-use Rattle.ring_script.specs.declared.fault.Kind.TheVariants.{UnknownCommand}
+use Rattle.ring_script.specs.declared.fault.Kind.TheVariants.{UnknownCommand, MissingWord}
+use Rattle.ring_script.specs.declared.steps.ClientWord.{ClientWord}
+use Rattle.ring_script.specs.declared.steps.ClientWord.TheVariants as asks
 use Rattle.ring_script.specs.declared.steps.EventWord.{EventWord}
 use Rattle.ring_script.specs.declared.steps.EventWord.TheVariants as begins
 use Rattle.ring_script.specs.declared.steps.OwnStep.{OwnStep}
 use Rattle.ring_script.specs.declared.steps.OwnStep.TheVariants as own
-use Rattle.ring_script.specs.Words.{words_of, number_of}
+use Rattle.ring_script.specs.Words.{words_of, behind_word, number_of}
 use Rattle.ring_script.specs.Line.{Grammar, operand_in, second_in, body_in, one_word, two_words, name_fault, number_fault, cast_fault}
+use Rattle.ring_world.specs.declared.event.Client.{Client}
+use Rattle.ring_world.specs.declared.event.Client.TheVariants as client
 use Rattle.ring_world.specs.declared.event.Event.{Event}
 use Rattle.ring_world.specs.declared.event.Event.TheVariants as event
 
@@ -30,16 +34,50 @@ event_word_of word =
     if bytes_eq word (codes "cast") then Some begins.Cast
     else (if bytes_eq word (codes "mark") then Some begins.Mark
     else (if bytes_eq word (codes "refresh") then Some begins.Refresh
-    else option_map begins.Own (own_step_of word)))
+    else (if bytes_eq word (codes "erase") then Some begins.Erase
+    else (if bytes_eq word (codes "refuse") then Some begins.Refuse
+    else option_map begins.Own (own_step_of word)))))
+
+-- what a client asks for that a word begins
+abbrev pub client_word_of : List ℕ → Option ClientWord
+client_word_of word =
+    if bytes_eq word (codes "cast") then Some asks.Cast
+    else (if bytes_eq word (codes "stop") then Some asks.Stop
+    else (if bytes_eq word (codes "admit") then Some asks.Admit
+    else None))
 
 -- the greatest version that a line can name
 abbrev pub most_version : ℕ
 most_version = 1000000
 
--- `cast` has a name and a body; `mark` has two names; `refresh` has a name and a version; each other has a name
+-- the greatest number of a refusal that a line can name
+abbrev pub most_code : ℕ
+most_code = 99
+
+-- what is wrong with two words as names
+abbrev pub names_fault : List ℕ → List ℕ → Option Kind
+names_fault by other = option_or (name_fault by) (name_fault other)
+
+-- what is wrong with what a client asked for, by its word and its rest: `cast` has a name and a body, `stop` a name, `admit`
+-- two names. Its words are judged behind this word, which is the number of a refusal.
+abbrev pub client_fault : List ℕ → Option ClientWord → List ℕ → Option Kind
+client_fault code (Some asks.Cast) rest = cast_fault (λ by. option_or (number_fault most_code code) (name_fault by)) (body_in rest) (words_of rest)
+client_fault code (Some asks.Stop) rest = one_word (λ by. option_or (number_fault most_code code) (name_fault by)) (words_of rest)
+client_fault code (Some asks.Admit) rest = two_words (λ by name. option_or (number_fault most_code code) (names_fault by name)) (words_of rest)
+client_fault code None rest = Some UnknownCommand
+
+-- `refuse` has a number, and what a client asked for
+abbrev pub refuse_fault : List ℕ → List (List ℕ) → Option Kind
+refuse_fault rest [] = Some MissingWord
+refuse_fault rest (code ∷ []) = Some MissingWord
+refuse_fault rest (code ∷ word ∷ words) = client_fault code (client_word_of word) (behind_word (behind_word rest))
+
+-- `cast` has a name and a body; `mark` and `erase` have two names; `refresh` has a name and a version; each other has a name
 abbrev pub event_fault : Option EventWord → List ℕ → Option Kind
 event_fault (Some begins.Cast) rest = cast_fault name_fault (body_in rest) (words_of rest)
-event_fault (Some begins.Mark) rest = two_words (λ by dead. option_or (name_fault by) (name_fault dead)) (words_of rest)
+event_fault (Some begins.Mark) rest = two_words names_fault (words_of rest)
+event_fault (Some begins.Erase) rest = two_words names_fault (words_of rest)
+event_fault (Some begins.Refuse) rest = refuse_fault rest (words_of rest)
 event_fault (Some begins.Refresh) rest = two_words (λ by version. option_or (name_fault by) (number_fault most_version version)) (words_of rest)
 event_fault (Some (begins.Own which)) rest = one_word name_fault (words_of rest)
 event_fault None rest = Some UnknownCommand
@@ -57,10 +95,23 @@ own_event own.Gain by = event.Gain by
 own_event own.Stop by = event.Stop by
 own_event own.Pick by = event.Pick by
 
+-- what a client asked for, by its word and its rest
+abbrev pub client_by : Option ClientWord → List ℕ → Client
+client_by (Some asks.Cast) rest = client.Cast (operand_in rest) (body_in rest)
+client_by (Some asks.Stop) rest = client.Stop (operand_in rest)
+client_by (Some asks.Admit) rest = client.Admit (operand_in rest) (second_in rest)
+client_by None rest = client.Stop (operand_in rest)
+
+-- its refusal with the number that a word writes
+abbrev pub refused_by : List ℕ → Option ClientWord → List ℕ → Event
+refused_by code word rest = event.Refuse (unwrap_or (number_of most_code code) 0) (client_by word rest)
+
 -- the event that a line tells, by its word and its rest
 abbrev pub event_by : Option EventWord → List ℕ → Event
 event_by (Some begins.Cast) rest = event.Cast (operand_in rest) (body_in rest)
 event_by (Some begins.Mark) rest = event.Mark (operand_in rest) (second_in rest)
+event_by (Some begins.Erase) rest = event.Erase (operand_in rest) (second_in rest)
+event_by (Some begins.Refuse) rest = refused_by (operand_in rest) (client_word_of (second_in rest)) (behind_word (behind_word rest))
 event_by (Some begins.Refresh) rest = event.Refresh (operand_in rest) (unwrap_or (number_of most_version (second_in rest)) 0)
 event_by (Some (begins.Own which)) rest = own_event which (operand_in rest)
 event_by None rest = event.Put (operand_in rest)

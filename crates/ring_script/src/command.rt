@@ -8,6 +8,8 @@ use ring_names::{Body, Name, OutOfMemory};
 pub enum Command {
     /// The member multicasts a message.
     Cast { by: Name, body: Body },
+    /// The member stops.
+    Kill { by: Name },
     /// The members take so many turns each.
     Go { turns: u32 },
     /// The ring works until nothing is left to do.
@@ -24,6 +26,7 @@ impl Command {
                 by: *by,
                 body: body.copy()?,
             }),
+            Command::Kill { by } => Ok(Command::Kill { by: *by }),
             Command::Go { turns } => Ok(Command::Go { turns: *turns }),
             Command::Settle => Ok(Command::Settle),
         }

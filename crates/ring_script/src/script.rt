@@ -25,6 +25,7 @@ pub type Script = Text<Command>;
 #[derive(Clone, Copy, PartialEq, Eq, Debug)]
 pub(crate) enum Keyword {
     Cast,
+    Kill,
     Go,
     Settle,
 }
@@ -39,6 +40,7 @@ impl Keyword {
     {
         by_word!(word;
             b"cast" => Some(Keyword::Cast),
+            b"kill" => Some(Keyword::Kill),
             b"go" => Some(Keyword::Go),
             b"settle" => Some(Keyword::Settle),
             _ => None
@@ -59,6 +61,7 @@ impl Statement for Command {
     ) -> Result<Command, LineFault> {
         match Keyword::of(word) {
             Some(Keyword::Cast) => read_cast(alloc, members, rest),
+            Some(Keyword::Kill) => read_kill(members, rest),
             Some(Keyword::Go) => read_go(rest),
             Some(Keyword::Settle) => read_settle(rest),
             None => Err(LineFault::Wrong(Kind::UnknownCommand)),
@@ -77,6 +80,15 @@ fn read_cast(alloc: Global, members: &[Name], rest: Words) -> Result<Command, Li
     let by = known_name(members, word)?;
     let body = read_body(alloc, words.body())?;
     Ok(Command::Cast { by, body })
+}
+
+/// The kill of what is left on a line.
+fn read_kill(members: &[Name], rest: Words) -> Result<Command, LineFault>
+    ensures fault { Tells (command_fault members.now (Some Keyword.Kill) (left_in rest.entry)) result }
+    ensures kill { IfOk result (λ command. command ≡ command_by (Some Keyword.Kill) (left_in rest.entry)) }
+{
+    let by = known_name(members, one_left(rest)?)?;
+    Ok(Command::Kill { by })
 }
 
 /// The round of what is left on a line.

@@ -4,7 +4,8 @@ ghost use Rattle.std.specs.List.{list_all};
 ghost use Rattle.ring_script.specs.Words.{is_text_byte};
 ghost use Rattle.ring_script.specs.Place.{left_in};
 ghost use Rattle.ring_script.specs.Fault.{Tells};
-ghost use Rattle.ring_script.specs.Steps.{own_step_of, event_word_of, step_grammar, event_fault, own_event, event_by};
+ghost use Rattle.ring_script.specs.Steps.{own_step_of, event_word_of, client_word_of, step_grammar, event_fault};
+ghost use Rattle.ring_script.specs.Steps.{client_fault, own_event, event_by, refused_by};
 ghost use Rattle.ring_script.specs.Steps.{event_of};
 ghost use Rattle.ring_script.specs.Reading.{AreStepsOf, IsFirstFault, CanOpen, JudgesEachText};
 
@@ -14,7 +15,7 @@ use crate::statement::Statement;
 use crate::text::{Text, read_text};
 use crate::words::{Words, by_word};
 use ring_names::Name;
-use ring_world::Event;
+use ring_world::{Client, Event};
 use std::alloc::Global;
 
 /// What a step file says: the events that are then tried. They name whom they like: the ring refuses an event
@@ -28,10 +29,22 @@ pub(crate) enum EventWord {
     Cast,
     /// A member has another marked dead.
     Mark,
+    /// A member has a dead origin erased.
+    Erase,
     /// A member reads the view of a version.
     Refresh,
+    /// What a client asked of a member is refused.
+    Refuse,
     /// A member takes a step that nothing more is said of.
     Own(OwnStep),
+}
+
+/// What a client asks of a member, by the word that begins it.
+#[derive(Clone, Copy, PartialEq, Eq, Debug)]
+pub(crate) enum ClientWord {
+    Cast,
+    Stop,
+    Admit,
 }
 
 /// A step of a member that its name alone tells.
@@ -48,6 +61,9 @@ pub(crate) enum OwnStep {
 /// The greatest version that a line may name.
 const MOST_VERSION: u32 = 1_000_000;
 
+/// The greatest number of a refusal that a line may name.
+const MOST_CODE: u32 = 99;
+
 impl EventWord {
     /// What this word begins, if it does.
     fn of(word: &[u8]) -> Option<EventWord>
@@ -57,7 +73,23 @@ impl EventWord {
             b"cast" => Some(EventWord::Cast),
             b"mark" => Some(EventWord::Mark),
             b"refresh" => Some(EventWord::Refresh),
+            b"erase" => Some(EventWord::Erase),
+            b"refuse" => Some(EventWord::Refuse),
             _ => Some(EventWord::Own(OwnStep::of(word)?))
+        )
+    }
+}
+
+impl ClientWord {
+    /// What a client asks for that this word begins, if it begins that.
+    fn of(word: &[u8]) -> Option<ClientWord>
+        ensures { result ≡ client_word_of word.now }
+    {
+        by_word!(word;
+            b"cast" => Some(ClientWord::Cast),
+            b"stop" => Some(ClientWord::Stop),
+            b"admit" => Some(ClientWord::Admit),
+            _ => None
         )
     }
 }
@@ -103,7 +135,9 @@ impl Statement for Event {
         match EventWord::of(word) {
             Some(EventWord::Cast) => read_cast(alloc, rest),
             Some(EventWord::Mark) => read_mark(rest),
+            Some(EventWord::Erase) => read_erase(rest),
             Some(EventWord::Refresh) => read_refresh(rest),
+            Some(EventWord::Refuse) => read_refuse(alloc, rest),
             Some(EventWord::Own(step)) => read_own(step, rest),
             None => Err(LineFault::Wrong(Kind::UnknownCommand)),
         }
@@ -143,6 +177,80 @@ fn read_refresh(rest: Words) -> Result<Event, LineFault>
     let by = name_from(by)?;
     let view = number_from(version, MOST_VERSION)?;
     Ok(Event::Refresh { by, view })
+}
+
+/// The erasure of what is left on a line.
+fn read_erase(rest: Words) -> Result<Event, LineFault>
+    ensures fault { Tells (event_fault (Some EventWord.Erase) (left_in rest.entry)) result }
+    ensures erase { IfOk result (λ event. event ≡ event_by (Some EventWord.Erase) (left_in rest.entry)) }
+{
+    let (by, origin) = two_left(rest)?;
+    let by = name_from(by)?;
+    let origin = name_from(origin)?;
+    Ok(Event::Erase { by, origin })
+}
+
+/// The refusal of what is left on a line.
+fn read_refuse(alloc: Global, rest: Words) -> Result<Event, LineFault>
+    requires text { list_all is_text_byte (left_in rest) ≡ true }
+    ensures fault { Tells (event_fault (Some EventWord.Refuse) (left_in rest.entry)) result }
+    ensures refuse { IfOk result (λ event. event ≡ event_by (Some EventWord.Refuse) (left_in rest.entry)) }
+{
+    let mut words = rest;
+    let code = words.next_word().ok_or(Kind::MissingWord)?;
+    let word = words.next_word().ok_or(Kind::MissingWord)?;
+    match ClientWord::of(word) {
+        Some(ClientWord::Cast) => read_refused_cast(alloc, code, words),
+        Some(ClientWord::Stop) => read_refused_stop(code, words),
+        Some(ClientWord::Admit) => read_refused_admit(code, words),
+        None => Err(LineFault::Wrong(Kind::UnknownCommand)),
+    }
+}
+
+/// The cast that is left on a line, refused with the number that a word writes.
+fn read_refused_cast(alloc: Global, code: &[u8], rest: Words) -> Result<Event, LineFault>
+    requires text { list_all is_text_byte (left_in rest) ≡ true }
+    ensures fault { Tells (client_fault code.now (Some ClientWord.Cast) (left_in rest.entry)) result }
+    ensures cast { IfOk result (λ event. event ≡ refused_by code.now (Some ClientWord.Cast) (left_in rest.entry)) }
+{
+    let mut words = rest;
+    let word = words.next_word().ok_or(Kind::MissingWord)?;
+    let code = number_from(code, MOST_CODE)?;
+    let by = name_from(word)?;
+    let body = read_body(alloc, words.body())?;
+    Ok(Event::Refuse {
+        code,
+        inner: Client::Cast { by, body },
+    })
+}
+
+/// The stop that is left on a line, refused with the number that a word writes.
+fn read_refused_stop(code: &[u8], rest: Words) -> Result<Event, LineFault>
+    ensures fault { Tells (client_fault code.now (Some ClientWord.Stop) (left_in rest.entry)) result }
+    ensures stop { IfOk result (λ event. event ≡ refused_by code.now (Some ClientWord.Stop) (left_in rest.entry)) }
+{
+    let by = one_left(rest)?;
+    let code = number_from(code, MOST_CODE)?;
+    let by = name_from(by)?;
+    Ok(Event::Refuse {
+        code,
+        inner: Client::Stop { by },
+    })
+}
+
+/// The admission that is left on a line, refused with the number that a word writes.
+fn read_refused_admit(code: &[u8], rest: Words) -> Result<Event, LineFault>
+    ensures fault { Tells (client_fault code.now (Some ClientWord.Admit) (left_in rest.entry)) result }
+    ensures admit { IfOk result (λ event. event ≡ refused_by code.now (Some ClientWord.Admit) (left_in rest.entry)) }
+{
+    let (by, name) = two_left(rest)?;
+    let code = number_from(code, MOST_CODE)?;
+    let by = name_from(by)?;
+    let name = name_from(name)?;
+    Ok(Event::Refuse {
+        code,
+        inner: Client::Admit { by, name },
+    })
 }
 
 /// The step of the one whose name is left on a line.

@@ -4,7 +4,7 @@
 //! before a `%` fills its line up to 2,000 bytes.
 use crate::*;
 use ring_names::{Body, CreditSpec, Name};
-use ring_world::Event;
+use ring_world::{Client, Event};
 use std::alloc::Global;
 use std::process::Abort;
 use std::test::Fail;
@@ -148,15 +148,20 @@ const COMMANDS: &str = "\
 2 52 members a|ack a 1
 2 52 members a|requeue a 1
 2 52 members a|join a n
-2 52 members a|kill a
+2 52 members a|kills a
+2 52 members a|stop a
 2 52 members a|sync a b
 2 52 members a|put a
 2 52 members a|refresh a 1
 -- Words are missing, or too many, before what stands there is judged.
 2 53 members a|cast
 2 53 members a|cast   |
+2 53 members a|kill
+2 53 members a|kill   |
 2 53 members a|go
 2 53 members a| go |
+2 54 members a|kill a a
+2 54 members a|kill B! z
 2 54 members a|go 5 5
 2 54 members a|go x y
 2 54 members a|settle a
@@ -170,6 +175,9 @@ good members a|go 1|go 1000|
 2 55 members a|go 1x
 2 55 members a|go 18446744073709551617
 -- A name is judged as such, then as that of a member, and then comes the body.
+good members a b|kill b|kill b|cast b x|
+2 56 members a|kill B!
+2 57 members a|kill z
 2 56 members a|cast A x
 2 56 members a|cast a_ x
 2 56 members a|cast ~
@@ -214,8 +222,11 @@ const EVENTS: &str = "\
 2 52 members a|publish a x
 2 52 members a|get a
 2 52 members a|admit a n
-2 52 members a|erase a b
+-- Nor is what was refused what a client asks for.
 2 52 members a|refuse a n
+2 52 members a|refuse 12 put a
+2 52 members a|refuse x kill A
+2 52 members a|refuse 12 refuse 12 stop a
 2 52 members a|sync a b
 2 52 members a|kill a
 -- Words are missing, or too many, before what stands there is judged.
@@ -225,6 +236,13 @@ const EVENTS: &str = "\
 2 53 members a|pick   |
 2 53 members a|mark
 2 53 members a|mark A
+2 53 members a|erase
+2 53 members a|erase A
+2 53 members a|refuse
+2 53 members a|refuse x   |
+2 53 members a|refuse x cast
+2 53 members a|refuse x stop   |
+2 53 members a|refuse x admit A
 2 53 members a|refresh
 2 53 members a|refresh A
 2 54 members a|put A b
@@ -234,6 +252,9 @@ const EVENTS: &str = "\
 2 54 members a|stop a b
 2 54 members a|pick a b
 2 54 members a|mark A b c
+2 54 members a|erase A b c
+2 54 members a|refuse x stop A b
+2 54 members a|refuse x admit A b c
 2 54 members a|refresh A 0 1
 -- Versions.
 good members a|refresh a 1|refresh a 1000000
@@ -243,8 +264,14 @@ good members a|refresh a 1|refresh a 1000000
 2 55 members a|refresh a +2
 2 55 members a|refresh a a
 2 55 members a|refresh a 18446744073709551617
+-- Numbers of refusals.
+good members a|refuse 1 stop a|refuse 99 stop a
+2 55 members a|refuse 0 stop A
+2 55 members a|refuse 100 cast A x^x
+2 55 members a|refuse 012 admit A B
+2 55 members a|refuse x stop a
 -- Names, whether the ring has them or not, and then what stands behind them.
-good members a|put z|mark abcdefghijklmnop 0
+good members a|put z|mark abcdefghijklmnop 0|erase y z|refuse 6 admit y z
 2 56 members a|put A
 2 56 members a|stop abcdefghijklmnopq
 2 56 members a|cast ~
@@ -252,12 +279,20 @@ good members a|put z|mark abcdefghijklmnop 0
 2 56 members a|mark A b
 2 56 members a|mark a B
 2 56 members a|mark a abcdefghijklmnopq
+2 56 members a|erase A b
+2 56 members a|erase a B
+2 56 members a|refuse 12 cast A x^x
+2 56 members a|refuse 12 stop B!
+2 56 members a|refuse 12 admit A b
+2 56 members a|refuse 12 admit a B
 2 56 members a|refresh A 0
 -- A body of 256 bytes, and of 257.
 good members a|cast a x^|
 2 60 members a|cast a x^x|
 good members a|cast a  ^|
 2 60 members a|cast z  ^ |
+good members a|refuse 12 cast a x^|
+2 60 members a|refuse 12 cast z x^x|
 -- Of several bad lines the first is told, whatever its kind.
 good members a|&
 2 52 members a|&fly
@@ -366,7 +401,9 @@ const LAST_COMMANDS: &str = "\
 cb25 # x||members a b|   |cast b hi|#
 g-77 # x||members a b|   |cast b hi|#|go 7|
 s--0 # x||members a b|   |cast b hi|#|go 7|||settle
+kb-2 members a b|kill b
 -- Spaces round words.
+kb-2 members a b|  kill   b  |
 g-22 members a|  go   12  |
 s--2 members a|  settle  |
 -- A body is all that follows one space.
@@ -389,13 +426,21 @@ sa-2 members a b|stop a
 mab2 members a b|mark a b
 rb72 members a b|refresh b 7
 kb-2 members a b|pick b
+xab2 members a b|erase a b
+f2b- members a b|refuse 12 stop b
+f9bn members a b|refuse 9 admit b n
+f2b2 members a b|refuse 12 cast b hi
 -- Spaces round words.
 mab2 members a|  mark   a   b  |
+f2b- members a b|  refuse   12   stop   b  |
 -- A body is all that follows one space.
 ca02 members a|cast a
 ca02 members a|cast a |
 ca42 members a|cast a   hi
 ca82 members a|  cast   a hi  you |
+f2b0 members a b|refuse 12 cast b
+f2b0 members a b|refuse 12 cast b |
+f2b8 members a b|  refuse  12  cast   b hi  you |
 ";
 
 const NAMES: &[u8] = b" a b c d e f g h i j k l m n o p q r s t u v w x y z 0 1 2 3 4 5 6 7 8 9 \
@@ -411,7 +456,7 @@ enum Ask {
     ScriptOpening,
     StepsOpening,
     /// The last command of a script, or the last event of a step file: a letter for its word, its member's first,
-    /// then the length of its body, its number or its second name, and its line.
+    /// then the length of its body, its number or its second name, and its line. Of a refusal its number for the line.
     Command,
     Event,
     /// How many lines it has.
@@ -509,6 +554,7 @@ fn last_command(lines: &[(u32, Command)]) -> [u8; 4] {
 fn command_on(line: u8, command: &Command) -> [u8; 4] {
     match command {
         Command::Cast { by, body } => [b'c', letter(by), length(body), line],
+        Command::Kill { by } => [b'k', letter(by), b'-', line],
         Command::Go { turns } => [b'g', b'-', digit(u64::from(*turns)), line],
         Command::Settle => [b's', b'-', b'-', line],
     }
@@ -529,7 +575,18 @@ fn last_event(lines: &[(u32, Event)]) -> [u8; 4] {
         Event::Mark { by, dead } => [b'm', letter(by), letter(dead), line],
         Event::Refresh { by, view } => [b'r', letter(by), digit(u64::from(*view)), line],
         Event::Pick { by } => [b'k', letter(by), b'-', line],
-        Event::Admit { .. } | Event::Erase { .. } | Event::Refuse { .. } => *b"none",
+        Event::Erase { by, origin } => [b'x', letter(by), letter(origin), line],
+        Event::Refuse { code, inner } => refused(digit(u64::from(*code)), inner),
+        Event::Admit { .. } => *b"none",
+    }
+}
+
+/// Of what was refused with this number its member's first letter, and the length of its body or its second name.
+fn refused(code: u8, inner: &Client) -> [u8; 4] {
+    match inner {
+        Client::Cast { by, body } => [b'f', code, letter(by), length(body)],
+        Client::Stop { by } => [b'f', code, letter(by), b'-'],
+        Client::Admit { by, name } => [b'f', code, letter(by), letter(name)],
     }
 }
 

@@ -311,11 +311,9 @@ abbrev pub is_refusal : Event → Bool
 is_refusal (Refuse code inner) = true
 is_refusal e = false
 
--- whether the parties do such an event so far: it is no admission, no erasure and no refusal
+-- whether the parties do such an event so far: it is no admission
 abbrev pub is_plain : Event → Bool
 is_plain (Admit by name) = false
-is_plain (Erase by origin) = false
-is_plain (Refuse code inner) = false
 is_plain e = true
 
 -- whether they do each of these so far

@@ -30,6 +30,10 @@ NobodySteps w = (y : ℕ) → runs w y ≡ true → HasNoStep w y
 abbrev pub MarksNobody : World → Type 0
 MarksNobody w = (x : ℕ) → runs w x ≡ true → mark_refusal w x (right w (the_newest w) x) ≢ None
 
+-- none can have anybody erased
+abbrev pub ErasesNobody : World → Type 0
+ErasesNobody w = (x : ℕ) → runs w x ≡ true → (p : ℕ) → p < size w → erase_refusal w x p ≢ None
+
 -- one that is up can have nobody marked dead, and nobody erased
 pub record HasNobodyGone (w : World) (y : ℕ) : Type 0 where
   pub mark : (d : ℕ) → d < size w → mark_refusal w y d ≢ None

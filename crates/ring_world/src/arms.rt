@@ -20,7 +20,7 @@ use ring_names::{Body, Message, OutOfMemory};
 use std::alloc::Global;
 
 /// The member at a place publishes a body.
-#[tactic(auto, using(crate::proofs::code::Found::few_seats, crate::proofs::code::Found::own_row, crate::proofs::code::Found::own_got))]
+#[tactic(auto, using(crate::proofs::code::Found::own_place))]
 pub(crate) fn cast(ring: &mut Ring, place: usize, body: &Body) -> Result<(), OutOfMemory>
     requires placed { IsPlaced (world_of ring.old) }
     requires place { place < length ring.old.seats.items }

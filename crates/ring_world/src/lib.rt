@@ -37,14 +37,14 @@
 //! and a death with all numbers.
 //!
 //! Who answers for a dead member has it erased (`Erase`) once all that it got of it has come round, and the
-//! acknowledgement too. The entry stays, and nothing of the member is under way any more. Where the master is erased, the
-//! oldest member that is live and registered as synchronised becomes it.
+//! acknowledgement too. The entry stays, and nothing of the member is under way any more. Where the master is erased,
+//! the oldest member that is live and registered as synchronised becomes it.
 //!
 //! A member admits another of a new name (`Admit`), which stands directly right of it: `gm:handle_call` `add_on_right`.
 //! The admitter sends to it from now on, and the new one takes from that link and waits. Its first take brings what the
 //! admitter knows: it hears nothing of what came before (its base), answers for itself, and is up. At its next
-//! refresh it opens a link of its own. A member has rows only for those that it knew of at its last take: of the others it
-//! knows nothing yet.
+//! refresh it opens a link of its own. A member has rows only for those that it knew of at its last take: of the
+//! others it knows nothing yet.
 //!
 //! What a client asked of a member and can't be done is told by an event too (`Refuse`), with the number of the first
 //! condition that fails. It leaves the ring as it is, and a `World` keeps the list (`World::refusals`).

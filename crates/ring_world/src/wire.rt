@@ -23,8 +23,8 @@ pub struct Packet {
     pub(crate) numbers: Vec<Numbers>,
 }
 
-/// A link from one member to another, with the grants under way back to the sender. It keeps the packet taken last, which the
-/// laws speak of and no call reads.
+/// A link from one member to another, with the grants under way back to the sender. It keeps the packet taken last,
+/// which the laws speak of and no call reads.
 #[derive(Drop)]
 pub struct Wire {
     pub(crate) sender: u32,

@@ -11,19 +11,17 @@ use Rattle.group_view.specs.Change.{AreOpeningNames}
 use Rattle.ring_world.specs.declared.event.Event.{Event}
 use Rattle.ring_world.specs.Machine.{World}
 use Rattle.ring_world.specs.Step.{opening}
-use Rattle.ring_world.specs.Event.{is_plain, ArePlain, IsRun, effect, last}
+use Rattle.ring_world.specs.Event.{is_plain, ArePlain, IsRun, effect, last, refusals_of}
 use Rattle.ring_world.specs.Laws.{IsLawful, GoesOn}
 use Rattle.ring_world.specs.Quiet.{IsQuiet}
 use Rattle.ring_world.proofs.events.Names.{own_bytes}
 use Rattle.ring_world.proofs.runs.InOrder.{last_append}
 use Rattle.ring_world.proofs.runs.AllRuns.{every_state_lawful, every_run_goes_on}
-use Rattle.gm_member.proofs.Fit.{reached_fit}
+use Rattle.gm_member.proofs.Plain.{reached_plain}
 use Rattle.ring_cluster.specs.Seen.{Seen, IsGoing, state_of, opening_seen}
-use Rattle.ring_cluster.specs.Idle.{NobodyStopped}
 use Rattle.ring_cluster.specs.Plays.{Plays, HasGoneOn, AgendasAreEmpty, place_among}
 use Rattle.ring_cluster.specs.Plays as cluster
 use Rattle.ring_cluster.proofs.lists.Places.{position_there}
-use Rattle.ring_cluster.proofs.rounds.Alive.{nobody_stopped_before}
 use Rattle.ring_cluster.proofs.work.Heard.{run_quiet_has_heard}
 use Rattle.ring_script.specs.declared.text.Text.{Text}
 use Rattle.ring_script.specs.Reading.{MayBeGiven}
@@ -38,6 +36,7 @@ known_place names by (k, l, e) = position_there (λ n. bytes_eq n by) names k by
 -- a command of a script, but for rounds and settlings, is one to a member
 pub known_command_of : (names : List (List ℕ)) (x : Command) → ((turns : ℕ) → x ≡ command.Go turns → ⊥) → (x ≡ command.Settle → ⊥) → MayBeGiven names x → cluster.IsCommandTo names x
 known_command_of names (command.Cast by body) ng ns h = known_place names by h.0
+known_command_of names (command.Kill by) ng ns h = known_place names by h
 known_command_of names (command.Go turns) ng ns h = ng turns refl
 known_command_of names command.Settle ng ns h = ns refl
 
@@ -55,16 +54,11 @@ run_back w zero events r = r
 run_back w (suc k) [] r = tt
 run_back w (suc k) (e ∷ es) r = run_back (effect w e) k es r.1
 
--- events that the parties do so far, in two parts too
+-- its first events are plain where all are
 pub plain_front : (k : ℕ) (events : List Event) → ArePlain events → ArePlain (take k events)
 plain_front zero events p = refl
 plain_front (suc k) [] p = refl
 plain_front (suc k) (e ∷ es) p = let both = and_parts (is_plain e) (list_all is_plain es) p in rw (both.0, plain_front k es both.1) refl
-
-pub plain_back : (k : ℕ) (events : List Event) → ArePlain events → ArePlain (drop k events)
-plain_back zero events p = p
-plain_back (suc k) [] p = refl
-plain_back (suc k) (e ∷ es) p = plain_back k es (and_parts (is_plain e) (list_all is_plain es) p).1
 
 -- after both stands the whole
 whole_run : (w : World) (k : ℕ) (events : List Event) → last (last w (take k events)) (drop k events) ≡ last w events
@@ -81,13 +75,7 @@ module _ (credit : CreditSpec) (names : List (List ℕ)) (journal : List Event) 
   lawful_after k = every_state_lawful credit names (take k journal) are (run_front opened k journal run)
 
   fronts_after : (k : ℕ) → HearsFronts (state_after credit names journal k)
-  fronts_after k = (reached_fit credit names (take k journal) are (plain_front k journal plain) (run_front opened k journal run)).heard
-
-  -- nobody had stopped before where nobody has at the end
-  pub alive_after : NobodyStopped (last opened journal) → (k : ℕ) → NobodyStopped (state_after credit names journal k)
-  alive_after up k =
-      nobody_stopped_before credit names (take k journal) (drop k journal) are (plain_front k journal plain) (plain_back k journal plain) (run_front opened k journal run) (run_back opened k journal run)
-      (subst NobodyStopped (sym (whole_run opened k journal)) up)
+  fronts_after k = (reached_plain credit names (take k journal) are (plain_front k journal plain) (run_front opened k journal run)).heard
 
   goes_on_after : (j k : ℕ) → j ≤ k → GoesOn (state_after credit names journal j) (state_after credit names journal k)
   goes_on_after j k l =
@@ -121,19 +109,18 @@ has_run credit names journal c ec en ej going =
 
 -- a cluster that has performed a script and settled has played it
 pub played_by : (script : Text Command) (c : Seen) (journal : List Event) (text : List ℕ) → c.credit ≡ script.credit → c.names ≡ script.members → c.given ≡ given_of script
-    → IsGoing c → NobodyStopped (state_of c) → IsQuiet (state_of c) → AgendasAreEmpty c → Plays c.credit c.names c.events c.given → journal ≡ c.events → text ≡ report_of (state_of c)
-    → IsPlayedBy script journal text (Some c)
-played_by script c journal text ec en eg going up quiet empty plays ej et =
+    → IsGoing c → IsQuiet (state_of c) → AgendasAreEmpty c → Plays c.credit c.names c.events c.given → journal ≡ c.events
+    → text ≡ report_of (state_of c) (refusals_of c.events) → IsPlayedBy script journal text (Some c)
+played_by script c journal text ec en eg going quiet empty plays ej et =
     let ran = has_run script.credit script.members journal c ec en ej going in
     let quiet' : IsQuiet (last (opening script.credit script.members) journal) = subst IsQuiet ran.state quiet in
     record {
       played = record {
         run = ran.run;
         plays = rw (sym ec, sym en, ej, sym eg) plays;
-        alive = alive_after script.credit script.members journal ran.are ran.run.plain ran.run.run (subst NobodyStopped ran.state up);
         quiet = quiet';
         heard_all = run_quiet_has_heard script.credit script.members journal ran.are ran.run.plain ran.run.run quiet';
-        report = et ∙ ap report_of ran.state;
+        report = et ∙ ap (λ w. report_of w (refusals_of c.events)) ran.state ∙ ap (λ es. report_of (last (opening script.credit script.members) journal) (refusals_of es)) (sym ej);
       };
       by = record { seen = c; is = refl; names = en; credit = ec; events = sym ej; given = eg; empty = empty };
     }
@@ -141,11 +128,11 @@ played_by script c journal text ec en eg going up quiet empty plays ej et =
 -- a cluster that opened as a, performed the commands of a script to b and settled to c
 pub played_all : (script : Text Command) (a b c : Seen) (journal : List Event) (text : List ℕ) → a ≡ opening_seen script.credit script.members
     → SameRing a b → b.given ≡ a.given ++ commands_on script.lines → HasGoneOn b c → c.given ≡ b.given ++ command.Settle ∷ []
-    → IsGoing c → NobodyStopped (state_of c) → IsQuiet (state_of c) → AgendasAreEmpty c → Plays c.credit c.names c.events c.given → journal ≡ c.events → text ≡ report_of (state_of c)
-    → IsPlayedBy script journal text (Some c)
-played_all script a b c journal text ea ring given goes settled going up quiet empty plays ej et =
+    → IsGoing c → IsQuiet (state_of c) → AgendasAreEmpty c → Plays c.credit c.names c.events c.given → journal ≡ c.events
+    → text ≡ report_of (state_of c) (refusals_of c.events) → IsPlayedBy script journal text (Some c)
+played_all script a b c journal text ea ring given goes settled going quiet empty plays ej et =
     played_by script c journal text
     (goes.1.credit ∙ ring.1 ∙ ap (λ s. s.credit) ea)
     (goes.1.names ∙ ring.0 ∙ ap (λ s. s.names) ea)
     (settled ∙ ap (λ xs. xs ++ command.Settle ∷ []) (given ∙ ap (λ s. s.given ++ commands_on script.lines) ea))
-    going up quiet empty plays ej et
+    going quiet empty plays ej et

@@ -10,6 +10,7 @@ use Rattle.std.proofs.lemmas.List.Recursion.{is_count_by}
 use Rattle.ring_names.specs.declared.message.Message.{Message}
 use Rattle.ring_names.specs.declared.message.Message.TheVariants.{Cast}
 use Rattle.ring_world.specs.declared.shown.Counts.{Counts}
+use Rattle.ring_world.specs.declared.event.Event.{Event}
 use Rattle.ring_world.specs.Shown.{is_cast, is_publish, counts_in}
 use Rattle.group_view.specs.View.{Group, entry_in}
 use Rattle.ring_world.specs.Machine.{World, row_at, member_at}
@@ -17,9 +18,10 @@ use Rattle.ring_world.specs.Step.{size, log_of}
 use Rattle.ring_world.specs.Asked.{counts_of}
 use Rattle.gm_member.specs.Held.{Held}
 use Rattle.gm_member.proofs.Fit.{IsFit}
+use Rattle.gm_member.proofs.Plain.{IsPlainFit}
 use Rattle.ring_cluster.specs.Holds.{HoldsOf}
 use Rattle.ring_cluster.specs.Published.{casts_with, logs_in, logs_of}
-use Rattle.ringplay.specs.Report.{name_of, newest_view, member_line, counts_lines, heard_line, heard_from, heard_lines, while_up, lines_of_member}
+use Rattle.ringplay.specs.Report.{name_of, newest_view, member_line, counts_lines, heard_line, heard_from, heard_lines, while_up, refusal_lines, lines_of_member}
 
 -- the numbers from a on, and the next one
 range_more : (a n k : ℕ) → a + n ≡ k → range_with_len a (n + 1) ≡ range_with_len a n ++ k ∷ []
@@ -72,7 +74,7 @@ counts_tell w x n forgot bodies f log many come =
     ∙ ap (λ k. counts_in k own) come
 
 -- what was received of the origin p is the front of its log
-pub heard_tells : (w : World) (x p got : ℕ) (name : List ℕ) (bodies : List (Bor (List ℕ))) → IsFit w → name ≡ name_of w p → casts_with bodies ≡ log_of w p → got ≡ (row_at (member_at w x) p).got
+pub heard_tells : (w : World) (x p got : ℕ) (name : List ℕ) (bodies : List (Bor (List ℕ))) → IsPlainFit w → name ≡ name_of w p → casts_with bodies ≡ log_of w p → got ≡ (row_at (member_at w x) p).got
     → flat_map (heard_line name) (casts_with (take got bodies)) ≡ heard_from w x p
 heard_tells w x p got name bodies f named log all =
     ap (λ n. flat_map (heard_line n) (casts_with (take got bodies))) named
@@ -82,18 +84,23 @@ heard_tells w x p got name bodies f named log all =
 -- ---- one member
 
 -- what is pushed for a member that stands at the id x is what the report says of it
-pub lines_stand : (w : World) (x : ℕ) (h : Held) (g : Group) (counts : Counts) (old named counted heard : List ℕ) → HoldsOf w x h → g ≡ newest_view w
+pub lines_stand : (w : World) (refusals : List Event) (x : ℕ) (h : Held) (g : Group) (counts : Counts) (old named counted heard refused : List ℕ) → HoldsOf w x h → g ≡ newest_view w
     → named ≡ old ++ member_line h.name h.phase (entry_in g.entries h.id)
     → counts ≡ counts_of x (member_at w x)
     → counted ≡ named ++ counts_lines counts
     → heard ≡ counted ++ while_up h.phase (heard_lines w h.id)
-    → heard ≡ old ++ lines_of_member w x
-lines_stand w x h g counts old named counted heard holds v a n b c =
+    → refused ≡ heard ++ refusal_lines h.name refusals
+    → refused ≡ old ++ lines_of_member w refusals x
+lines_stand w refusals x h g counts old named counted heard refused holds v a n b c d =
     let line = member_line (name_of w x) (member_at w x).phase (entry_in (newest_view w).entries x) in
     let a' : named ≡ old ++ line =
     a ∙ ap (λ m. old ++ member_line m h.phase (entry_in g.entries h.id)) holds.name ∙ ap (λ f. old ++ member_line (name_of w x) f (entry_in g.entries h.id)) holds.phase
     ∙ ap (λ i. old ++ member_line (name_of w x) (member_at w x).phase (entry_in g.entries i)) holds.id
     ∙ ap (λ u. old ++ member_line (name_of w x) (member_at w x).phase (entry_in u.entries x)) v in
+    let told = line ++ counts_lines (counts_of x (member_at w x)) ++ while_up (member_at w x).phase (heard_lines w x) in
+    let all : heard ≡ old ++ told =
     joined old line (counts_lines (counts_of x (member_at w x))) (while_up (member_at w x).phase (heard_lines w x)) named counted heard a'
     (b ∙ ap (λ k. named ++ counts_lines k) n)
-    (c ∙ ap (λ f. counted ++ while_up f (heard_lines w h.id)) holds.phase ∙ ap (λ i. counted ++ while_up (member_at w x).phase (heard_lines w i)) holds.id)
+    (c ∙ ap (λ f. counted ++ while_up f (heard_lines w h.id)) holds.phase ∙ ap (λ i. counted ++ while_up (member_at w x).phase (heard_lines w i)) holds.id) in
+    d ∙ ap (λ m. heard ++ refusal_lines m refusals) holds.name ∙ ap (λ t. t ++ refusal_lines (name_of w x) refusals) all
+    ∙ append_assoc old told (refusal_lines (name_of w x) refusals)

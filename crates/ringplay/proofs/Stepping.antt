@@ -4,7 +4,7 @@ use Rattle.std.proofs.lemmas.List.{append-nil, append_assoc}
 use Rattle.ring_script.specs.declared.text.Text.{Text}
 use Rattle.ring_world.specs.declared.event.Event.{Event}
 use Rattle.ring_world.specs.Step.{opening}
-use Rattle.ring_world.specs.Event.{refusal, last}
+use Rattle.ring_world.specs.Event.{refusal, last, refusals_of}
 use Rattle.ring_world.proofs.runs.InOrder.{last_append}
 use Rattle.ring_cluster.specs.Seen.{Seen, IsGoing, state_of, opening_seen}
 use Rattle.ring_cluster.specs.Plays.{agenda_at}
@@ -81,7 +81,7 @@ nothing_at (suc n) (suc i) = nothing_at n i
 
 -- a cluster that opened as a and in which the lines' events have happened to b
 pub stepped_all : (steps : Text Event) (a b : Seen) (journal : List Event) (text told : List ℕ) → a ≡ opening_seen steps.credit steps.members → IsGoing b
-    → HasStepped a b (enabled_of (state_of a) steps.lines) → told ≡ refused_lines (state_of a) steps.lines → text ≡ told ++ report_of (state_of b) → journal ≡ b.events
+    → HasStepped a b (enabled_of (state_of a) steps.lines) → told ≡ refused_lines (state_of a) steps.lines → text ≡ told ++ report_of (state_of b) (refusals_of b.events) → journal ≡ b.events
     → AreSteppedBy steps journal text (Some b)
 stepped_all steps a b journal text told ea going h et er ej =
     let opens : state_of a ≡ opening steps.credit steps.members = ap state_of ea in
@@ -92,7 +92,9 @@ stepped_all steps a b journal text told ea going h et er ej =
       stepped = record {
         run = ran.run;
         enabled = ej ∙ h.events ∙ ap (λ s. s.events ++ enabled_of (state_of a) steps.lines) ea ∙ ap (λ w. enabled_of w steps.lines) opens;
-        report = er ∙ ap (λ t. t ++ report_of (state_of b)) (et ∙ ap (λ w. refused_lines w steps.lines) opens) ∙ ap (λ w. refused_lines (opening steps.credit steps.members) steps.lines ++ report_of w) ran.state;
+        report = er ∙ ap (λ t. t ++ report_of (state_of b) (refusals_of b.events)) (et ∙ ap (λ w. refused_lines w steps.lines) opens)
+            ∙ ap (λ w. refused_lines (opening steps.credit steps.members) steps.lines ++ report_of w (refusals_of b.events)) ran.state
+            ∙ ap (λ es. refused_lines (opening steps.credit steps.members) steps.lines ++ report_of (last (opening steps.credit steps.members) journal) (refusals_of es)) (sym ej);
       };
       by = record {
         seen = b;

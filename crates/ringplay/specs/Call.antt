@@ -13,12 +13,11 @@ use Rattle.ring_script.specs.Reading.{IsScriptOf, AreStepsOf, IsFirstFault}
 use Rattle.ring_world.specs.declared.event.Event.{Event}
 use Rattle.ring_world.specs.Machine.{World}
 use Rattle.ring_world.specs.Step.{opening, log_of}
-use Rattle.ring_world.specs.Event.{ArePlain, IsRun, last}
+use Rattle.ring_world.specs.Event.{ArePlain, IsRun, last, refusals_of}
 use Rattle.ring_world.specs.Lawful.{row_of}
 use Rattle.ring_world.specs.Laws.{IsLawful, GoesOn}
 use Rattle.ring_world.specs.Quiet.{IsQuiet}
 use Rattle.ring_cluster.specs.Seen.{Seen}
-use Rattle.ring_cluster.specs.Idle.{NobodyStopped}
 use Rattle.ring_cluster.specs.Heard.{HasHeardAll}
 use Rattle.ring_cluster.specs.Plays.{Plays, AgendasAreEmpty}
 use Rattle.ringplay.specs.declared.call.Cause.{Cause}
@@ -40,9 +39,8 @@ state_after credit names journal k = last (opening credit names) (take k journal
 abbrev pub HearsFronts : World → Type 0
 HearsFronts w = (q p : ℕ) → (row_of w q p).heard ≡ take (row_of w q p).got (log_of w p)
 
--- The journal is a run of the ring from these members and this credit, in which nobody is admitted or erased and no refusal
--- stands. The laws hold after each of its prefixes, each member has heard the front of each log, and from each to each longer
--- one nothing falls.
+-- The journal is a run of the ring from these members and this credit, in which nobody is admitted. The laws hold after each
+-- of its prefixes, each member has heard the front of each log, and from each to each longer one nothing falls.
 pub record IsLawfulRun (credit : CreditSpec) (names : List (List ℕ)) (journal : List Event) : Type 0 where
   pub plain : ArePlain journal
   pub run : IsRun (opening credit names) journal
@@ -77,15 +75,14 @@ abbrev pub given_of : Text Command → List Command
 given_of script = commands_on script.lines ++ Settle ∷ []
 
 -- The journal is a lawful run. Each member's client events in it are its commands, and at each settling all earlier
--- commands were done and the ring was quiet. After each of its prefixes every member is up. Its last state is quiet, each
--- message is confirmed there and every member has heard all, and the text is the report of it.
+-- commands were done or refused and the ring was quiet. Its last state is quiet, each message of a running member is
+-- confirmed there and every member that is up has heard all these, and the text is the report of it and of all refusals.
 pub record IsPlayed (script : Text Command) (journal : List Event) (text : List ℕ) : Type 0 where
   pub run : IsLawfulRun script.credit script.members journal
   pub plays : Plays script.credit script.members journal (given_of script)
-  pub alive : (k : ℕ) → NobodyStopped (state_after script.credit script.members journal k)
   pub quiet : IsQuiet (last (opening script.credit script.members) journal)
   pub heard_all : HasHeardAll (last (opening script.credit script.members) journal)
-  pub report : text ≡ report_of (last (opening script.credit script.members) journal)
+  pub report : text ≡ report_of (last (opening script.credit script.members) journal) (refusals_of journal)
 
 -- the script was played, by this cluster
 pub record IsPlayedBy (script : Text Command) (journal : List Event) (text : List ℕ) (cluster : Option Seen) : Type 0 where
@@ -95,11 +92,11 @@ pub record IsPlayedBy (script : Text Command) (journal : List Event) (text : Lis
 -- ---- what is stepped
 
 -- The journal is a lawful run, of the lines' events that were enabled, each after the earlier ones. The text has a line for
--- each that was refused, and then the report of the last state.
+-- each that was refused, and then the report of the last state and of the refusals in the journal.
 pub record AreStepped (steps : Text Event) (journal : List Event) (text : List ℕ) : Type 0 where
   pub run : IsLawfulRun steps.credit steps.members journal
   pub enabled : journal ≡ enabled_of (opening steps.credit steps.members) steps.lines
-  pub report : text ≡ refused_lines (opening steps.credit steps.members) steps.lines ++ report_of (last (opening steps.credit steps.members) journal)
+  pub report : text ≡ refused_lines (opening steps.credit steps.members) steps.lines ++ report_of (last (opening steps.credit steps.members) journal) (refusals_of journal)
 
 -- the steps were taken, by this cluster, which was given nothing
 pub record AreSteppedBy (steps : Text Event) (journal : List Event) (text : List ℕ) (cluster : Option Seen) : Type 0 where

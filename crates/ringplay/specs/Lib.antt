@@ -1,5 +1,6 @@
 pub mod Words
 pub mod Report
+pub mod Lent
 pub mod Step
 pub mod Call
 pub mod Due

@@ -1,6 +1,6 @@
--- The report of a state of the ring.
-use Rattle.std.specs.Prelude.{ℕ, ◌-◌, Bool, true, false, List, [], ◌∷◌, ◌++◌, codes, Option, Some, None}
-use Rattle.std.specs.List.{range_with_len, flat_map}
+-- The report of a state of the ring, and of what was refused until then.
+use Rattle.std.specs.Prelude.{ℕ, ◌-◌, Bool, true, false, List, [], ◌∷◌, ◌++◌, codes, Option, Some, None, bytes_eq}
+use Rattle.std.specs.List.{range_with_len, flat_map, filter}
 use Rattle.std.specs.Fmt.{decimal}
 use Rattle.ring_names.specs.declared.message.Message.{Message}
 use Rattle.ring_names.specs.declared.message.Message.TheVariants.{Cast}
@@ -9,11 +9,16 @@ use Rattle.group_view.specs.declared.entry.Entry.{Entry}
 use Rattle.group_view.specs.declared.entry.Mark.{Mark}
 use Rattle.group_view.specs.declared.entry.Mark.TheVariants.{Live, Dead, Erased}
 use Rattle.group_view.specs.View.{Group, entry_in}
+use Rattle.ring_world.specs.declared.event.Client.{Client}
+use Rattle.ring_world.specs.declared.event.Client.TheVariants as client
+use Rattle.ring_world.specs.declared.event.Event.{Event}
+use Rattle.ring_world.specs.declared.event.Event.TheVariants.{Refuse}
 use Rattle.ring_world.specs.declared.phase.Phase.{Phase}
 use Rattle.ring_world.specs.declared.phase.Phase.TheVariants.{Waiting, Up, Stopped}
 use Rattle.ring_world.specs.declared.shown.Counts.{Counts}
 use Rattle.ring_world.specs.Machine.{World, member_at, row_at, view_in, newest}
 use Rattle.ring_world.specs.Step.{size}
+use Rattle.ring_world.specs.Event.{by_of}
 use Rattle.ring_world.specs.Asked.{counts_of}
 
 -- the name of the member of an id
@@ -82,12 +87,27 @@ while_up Waiting lines = []
 while_up Up lines = lines
 while_up Stopped lines = []
 
--- the lines of the member x
-abbrev pub lines_of_member : World → ℕ → List ℕ
-lines_of_member w x =
-    member_line (name_of w x) (member_at w x).phase (entry_in (newest_view w).entries x) ++ counts_lines (counts_of x (member_at w x))
-    ++ while_up (member_at w x).phase (heard_lines w x)
+-- what a client asked for, in the words of a step file
+abbrev pub asked_text : Client → List ℕ
+asked_text (client.Cast by body) = codes "cast " ++ by ++ codes " " ++ body
+asked_text (client.Stop by) = codes "stop " ++ by
+asked_text (client.Admit by name) = codes "admit " ++ by ++ codes " " ++ name
 
--- the ring, and then each member that it has ever had, by its id
-abbrev pub report_of : World → List ℕ
-report_of w = ring_line (newest_view w) ++ flat_map (lines_of_member w) (range_with_len 1 (size w - 1))
+-- the line of a refusal: its number, and what was refused
+abbrev pub refusal_line : Event → List ℕ
+refusal_line (Refuse code inner) = codes "refused " ++ decimal code ++ codes " " ++ asked_text inner ++ newline
+refusal_line e = []
+
+-- the lines of those among refusals that are of the member of this name, in their order
+abbrev pub refusal_lines : List ℕ → List Event → List ℕ
+refusal_lines name refusals = flat_map refusal_line (filter (λ e. bytes_eq (by_of e) name) refusals)
+
+-- the lines of the member x, where these were refused
+abbrev pub lines_of_member : World → List Event → ℕ → List ℕ
+lines_of_member w refusals x =
+    member_line (name_of w x) (member_at w x).phase (entry_in (newest_view w).entries x) ++ counts_lines (counts_of x (member_at w x))
+    ++ while_up (member_at w x).phase (heard_lines w x) ++ refusal_lines (name_of w x) refusals
+
+-- the ring, and then each member that it has ever had, by its id, with its refusals among these
+abbrev pub report_of : World → List Event → List ℕ
+report_of w refusals = ring_line (newest_view w) ++ flat_map (lines_of_member w refusals) (range_with_len 1 (size w - 1))

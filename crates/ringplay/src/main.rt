@@ -9,6 +9,7 @@ ghost use Rattle.ringplay.specs.Call.{status_of};
 
 mod call;
 mod play;
+mod refusals;
 mod report;
 mod step;
 #[cfg(test)]

@@ -41,7 +41,6 @@ pub(crate) fn play<T: Threads, G: Gate>(
     let heard = lines.len();
     let mut cluster = Cluster::opening(alloc, &names, credit)?;
     perform(threads, &mut cluster, lines, gate)?;
-    cluster.is_going();
     cluster.settle(threads, gate)?;
     cluster.is_going();
     let journal = cluster.journal()?;

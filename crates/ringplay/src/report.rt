@@ -1,4 +1,4 @@
-//! The report: the ring, and of each member what it has published and what it has received.
+//! The report: the ring, and of each member what it has published, what it has received and what was refused.
 ghost use Rattle.std.specs.Prelude.{◌≡◌, ℕ, ◌+◌, ◌<◌, ◌≤◌, ◌++◌, [], IfOk, OnOk, MatchOption, codes};
 ghost use Rattle.std.specs.Prelude.{length, nat_eq, take, slice_index_or};
 ghost use Rattle.std.specs.Fmt.{decimal};
@@ -7,6 +7,7 @@ ghost use Rattle.ring_names.specs.declared.message.Message.TheVariants as messag
 ghost use Rattle.group_view.specs.View.{entry_in, no_entry};
 ghost use Rattle.ring_world.specs.Rows.{most_members};
 ghost use Rattle.ring_world.specs.Machine.{member_at as at_id};
+ghost use Rattle.ring_world.specs.Event.{refusals_of};
 ghost use Rattle.ring_world.specs.Asked.{counts_of};
 ghost use Rattle.gm_member.specs.Shown.{held_of};
 ghost use Rattle.ring_cluster.specs.Seen.{state_of};
@@ -14,19 +15,21 @@ ghost use Rattle.ring_cluster.specs.Holds.{HoldsOf};
 ghost use Rattle.ring_cluster.specs.Published.{casts_with, logs_in, logs_of};
 ghost use Rattle.ringplay.specs.Report.{report_of, newline, ring_line, master_name, state_text as the_state_text};
 ghost use Rattle.ringplay.specs.Report.{up_text as the_up_text, stopped_text as the_stopped_text, member_line};
+ghost use Rattle.ringplay.specs.Lent.{lent_in};
 ghost use Rattle.ringplay.specs.Report.{counts_lines, heard_line, heard_from, heard_lines, while_up, lines_of_member};
 
+use crate::refusals::{push_refusals, refusals_in};
 use group_view::{Entry, Mark, View};
 use ring_cluster::{Cluster, Node};
 use ring_names::{Body, MemberId, Name, OutOfMemory};
-use ring_world::{Counts, Phase};
+use ring_world::{Counts, Event, Phase};
 use std::alloc::Global;
 
 /// The bytes of the shortest line of a message that was received, its line feed with it.
 const SHORTEST_HEARD: usize = 9;
 
-/// The report of the state in which the cluster's members stand, whose ring opened with these names. At
-/// first it has room for `heard` short lines of each.
+/// The report of the state in which the cluster's members stand, whose ring opened with these names, and of what they
+/// refused. At first it has room for `heard` short lines of each.
 pub(crate) fn report(
     alloc: Global,
     names: &[Name],
@@ -34,7 +37,8 @@ pub(crate) fn report(
     heard: usize,
 ) -> Result<Vec<u8>, OutOfMemory>
     requires { names.now ≡ (cluster.now).names }
-    ensures { IfOk result (λ text. text.items ≡ report_of (state_of cluster.now)) }
+    ensures { IfOk result (λ text. text.items
+        ≡ report_of (state_of cluster.now) (refusals_of (cluster.now).events)) }
 {
     let room = names
         .len()
@@ -45,7 +49,8 @@ pub(crate) fn report(
     Ok(text)
 }
 
-/// The report of the state in which the cluster's members stand, whose ring opened with these names.
+/// The report of the state in which the cluster's members stand, whose ring opened with these names, and of what they
+/// refused. The journal is read once for what was published, and once for the refusals.
 pub(crate) fn push_report(
     alloc: Global,
     out: &mut Vec<u8>,
@@ -53,14 +58,17 @@ pub(crate) fn push_report(
     cluster: &Cluster,
 ) -> Result<(), OutOfMemory>
     requires { names.now ≡ (cluster.now).names }
-    ensures { OnOk result (out.new.items ≡ out.old.items ++ report_of (state_of cluster.now)) }
+    ensures { OnOk result (out.new.items ≡ out.old.items
+        ++ report_of (state_of cluster.now) (refusals_of (cluster.now).events)) }
 {
     cluster.is_going();
     let count = names.len();
     let published = cluster.published()?;
+    let all = refusals_in(alloc, cluster.events())?;
+    let refusals = all.as_slice();
     push_ring(alloc, out, cluster.view())?;
     for place in 0..count {
-        push_member(alloc, out, cluster, &published, place)?;
+        push_member(alloc, out, cluster, &published, refusals, place)?;
     }
     Ok(())
 }
@@ -155,23 +163,26 @@ fn push_ring(alloc: Global, out: &mut Vec<u8>, view: &View) -> Result<(), OutOfM
     Ok(())
 }
 
-/// What the report says of the member at a place, where these are the bodies that each has published.
+/// What the report says of the member at a place, where these are the bodies that each has published, and the refusals.
 fn push_member(
     alloc: Global,
     out: &mut Vec<u8>,
     cluster: &Cluster,
     published: &[Vec<&Body>],
+    refusals: &[&Event],
     place: usize,
 ) -> Result<(), OutOfMemory>
     requires within { place < length (cluster.now).names }
     requires logs { logs_in published.now ≡ logs_of (state_of cluster.now) }
-    ensures { OnOk result (out.new.items ≡ out.old.items ++ lines_of_member (state_of cluster.now) (place + 1)) }
+    ensures { OnOk result (out.new.items ≡ out.old.items
+        ++ lines_of_member (state_of cluster.now) (lent_in refusals.now) (place + 1)) }
 {
     cluster.is_going();
     let member = member_at(cluster, place);
     push_state(out, member, cluster.view())?;
     push_counts(alloc, out, &counts(cluster, published, place))?;
     push_heard(out, cluster, published, member)?;
+    push_refusals(alloc, out, refusals, member.name())?;
     Ok(())
 }
 

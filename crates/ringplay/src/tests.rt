@@ -88,6 +88,35 @@ member b up synced
 casts 1 confirmed 1
 publishes 0 confirmed 0
 heard b 
+==== Who has stopped refuses what is left on its agenda
+play
+members a b
+kill b
+kill b
+cast b z
+settle
+=> Done, status 0
+ring view=3 term=1 master=a
+member a up synced
+casts 0 confirmed 0
+publishes 0 confirmed 0
+member b erased
+casts 0 confirmed 0
+publishes 0 confirmed 0
+refused 12 stop b
+refused 12 cast b z
+==== Nobody is left to mark the last one
+play
+members a
+kill a
+cast a 
+settle
+=> Done, status 0
+ring view=1 term=1 master=a
+member a stopped
+casts 0 confirmed 0
+publishes 0 confirmed 0
+refused 12 cast a 
 ==== Links of credit 1, rounds, a comment, and a body with spaces
 play
 # two members
@@ -164,6 +193,91 @@ publishes 0 confirmed 0
 heard a first
 heard b 
 heard c  two words 
+==== The sole member is killed
+play
+members a
+cast a hi
+kill a
+cast a x
+settle
+=> Done, status 0
+ring view=1 term=1 master=a
+member a stopped
+casts 1 confirmed 0
+publishes 0 confirmed 0
+refused 12 cast a x
+==== examples/publisher_killed.script
+play
+# A publisher is killed in mid-stream. What it has put on its link is heard by all others. Its last cast, in the turn
+# before its kill, is at nobody else.
+members a b c
+
+cast a a1
+cast b b1
+go 3
+
+cast b b2
+kill b
+# b refuses what comes behind its kill.
+cast b b3
+cast a a2
+cast c c1
+settle
+=> Done, status 0
+ring view=3 term=1 master=a
+member a up synced
+casts 2 confirmed 2
+publishes 0 confirmed 0
+heard a a1
+heard a a2
+heard b b1
+heard c c1
+member b erased
+casts 2 confirmed 0
+publishes 0 confirmed 0
+refused 12 cast b b3
+member c up synced
+casts 1 confirmed 1
+publishes 0 confirmed 0
+heard a a1
+heard a a2
+heard b b1
+heard c c1
+==== examples/all_but_one_killed.script
+play
+# Of four members one is left. It has the others marked dead and erased, and is the master then.
+members a b c d
+
+cast a a1
+cast c c1
+settle
+
+cast b b1
+kill a
+kill b
+kill c
+# b has stopped by then.
+kill b
+cast d d1
+settle
+=> Done, status 0
+ring view=7 term=2 master=d
+member a erased
+casts 1 confirmed 1
+publishes 0 confirmed 0
+member b erased
+casts 1 confirmed 0
+publishes 0 confirmed 0
+refused 12 stop b
+member c erased
+casts 1 confirmed 1
+publishes 0 confirmed 0
+member d up synced
+casts 1 confirmed 1
+publishes 0 confirmed 0
+heard a a1
+heard c c1
+heard d d1
 ";
 
 /// What is written of step files. A title begins with the number of the events that happen.
@@ -337,7 +451,7 @@ casts 0 confirmed 0
 publishes 0 confirmed 0
 heard a x
 heard a y
-==== 17 events: The publisher stops when only its right neighbour has the message
+==== 18 events: The publisher stops when only its right neighbour has the message
 step
 members a b c
 cast a x
@@ -356,12 +470,14 @@ put c
 take b
 put b
 take c
+erase b a
 put c
 take b
+erase b a
 => Done, status 0
 line 9 refused 14 need=2 have=1
-ring view=2 term=1 master=a
-member a stopped
+ring view=3 term=2 master=b
+member a erased
 casts 1 confirmed 0
 publishes 0 confirmed 0
 member b up synced
@@ -372,18 +488,21 @@ member c up synced
 casts 0 confirmed 0
 publishes 0 confirmed 0
 heard a x
-==== 4 events: The publisher stops before its put
+==== 5 events: The publisher stops before its put
 step
 members a b c
 cast a x
 stop a
 mark c a
 take b
+erase b a
 refresh b 2
+erase b a
 => Done, status 0
 line 5 refused 40
-ring view=2 term=1 master=a
-member a stopped
+line 6 refused 23
+ring view=3 term=2 master=b
+member a erased
 casts 1 confirmed 0
 publishes 0 confirmed 0
 member b up synced
@@ -392,7 +511,7 @@ publishes 0 confirmed 0
 member c up synced
 casts 0 confirmed 0
 publishes 0 confirmed 0
-==== 21 events: Two neighbours stop before either is marked
+==== 23 events: Two neighbours stop before either is marked
 step
 members a b c d
 cast a x
@@ -416,12 +535,14 @@ put c
 take d
 put d
 take c
+erase c a
+erase c b
 => Done, status 0
-ring view=3 term=1 master=a
-member a stopped
+ring view=5 term=2 master=c
+member a erased
 casts 1 confirmed 0
 publishes 0 confirmed 0
-member b stopped
+member b erased
 casts 0 confirmed 0
 publishes 0 confirmed 0
 member c up synced
@@ -514,6 +635,30 @@ publishes 0 confirmed 0
 member c up synced
 casts 0 confirmed 0
 publishes 0 confirmed 0
+==== 4 events: What clients are refused is told
+step
+members a b
+stop b
+refuse 9 admit b a
+refuse 12 cast b  two words
+refuse 12 cast a x
+refuse 12 stop b
+refuse 9 admit a b
+refuse 10 admit a n
+=> Done, status 0
+line 3 refused 44
+line 5 refused 44
+line 8 refused 44
+ring view=1 term=1 master=a
+member a up synced
+casts 0 confirmed 0
+publishes 0 confirmed 0
+refused 9 admit a b
+member b stopped
+casts 0 confirmed 0
+publishes 0 confirmed 0
+refused 12 cast b  two words
+refused 12 stop b
 ==== 4 events: What the sole member puts comes round at once
 step
 members a
@@ -562,6 +707,32 @@ ring view=1 term=1 master=a
 member a up synced
 casts 0 confirmed 0
 publishes 0 confirmed 0
+==== 5 events: Refusals are told where they are true, and at the member that was asked
+step
+members a b
+refuse 12 cast b x
+stop b
+refuse 12 cast b  y
+refuse 9 admit a b
+refuse 12 cast b
+refuse 12 stop b
+refuse 6 admit a n
+refuse 12 stop z
+=> Done, status 0
+line 2 refused 44
+line 8 refused 44
+line 9 refused 6
+ring view=1 term=1 master=a
+member a up synced
+casts 0 confirmed 0
+publishes 0 confirmed 0
+refused 9 admit a b
+member b stopped
+casts 0 confirmed 0
+publishes 0 confirmed 0
+refused 12 cast b  y
+refused 12 cast b 
+refused 12 stop b
 ==== 7 events: examples/no_credit.steps
 step
 # A link that takes one packet, and the next one when the grant for it has come back.
@@ -753,7 +924,7 @@ script 3 52
 step
 members a b
 stop a
-erase b a
+admit b n
 => Script { line: 3, kind: 52 }, status 2
 script 3 52
 ==== a missing word

@@ -1,12 +1,13 @@
 -- What a member has done, as an event of the parties.
-use Rattle.std.proofs.Common.{◌≡◌, ℕ, ◌+◌, true, List, [], ◌∷◌, ◌++◌, map, set, get_or, Option, Some, None, refl, sym, ap, subst, ◌∙◌, append-nil}
+use Rattle.std.proofs.Common.{◌≡◌, ℕ, ◌+◌, true, List, [], ◌∷◌, ◌++◌, map, set, get_or, Option, Some, None, Result, Ok, Err, refl, sym, ap, subst, ◌∙◌, append-nil}
+use Rattle.std.specs.Prelude.{IfOk}
 use Rattle.ordered_link.specs.declared.plain.PlainIn.{PlainIn}
 use Rattle.group_view.specs.declared.link.LinkName.{LinkName}
 use Rattle.group_view.specs.View.{Group}
 use Rattle.group_view.specs.Change.{marked}
 use Rattle.ring_world.specs.declared.event.Event.{Event}
 use Rattle.ring_world.specs.declared.event.Event.TheVariants.{Stop, Mark, Refresh, Admit, Erase, Refuse}
-use Rattle.registrar.specs.Registry.{Registry, newest}
+use Rattle.registrar.specs.Registry.{Registry}
 use Rattle.registrar.specs.Handled.{with_view, with_stopped}
 use Rattle.activity.specs.declared.packet.Load.{Load}
 use Rattle.gm_member.specs.Held.{at_some}
@@ -17,7 +18,7 @@ use Rattle.ring_cluster.specs.Parties.{Parties, parties, posted, with_node, show
 use Rattle.ring_cluster.specs.Behind.{behind}
 use Rattle.ring_cluster.specs.Looking.{HasLooked, kept_post}
 use Rattle.ring_cluster.specs.Acting.{is_alone, DoesAlone}
-use Rattle.ring_cluster.specs.Acting.{Stops, Acts, LooksAt, posting, viewing}
+use Rattle.ring_cluster.specs.Acting.{Stops, Acts, LooksAt, posting, newest_of, viewing, erasing}
 use Rattle.ring_cluster.specs.Refused.{marked_in, id_named}
 
 -- the member at a place is another
@@ -63,13 +64,24 @@ pub looks_at : (v : Group) (i : ℕ) (nodes nodes' : List Party) (r : Registry (
     → LooksAt v i (parties nodes r []) (parties nodes' r (behind late)) loose
 looks_at v i nodes nodes' r late loose h e = (_, kept_post late, h.looks, posts nodes' r late ∙ ap (posting (kept_post late)) (one_other nodes nodes' r i e))
 
-pub mark_acts : (by dead : List ℕ) (i d : ℕ) (nodes nodes' : List Party) (r r' : Registry (PlainIn Load)) (late : Option Undelivered) (loose : Option (LinkName × OutSeen))
-    → id_named (parties nodes r []) dead ≡ Some d
-    → HasLooked (marked (newest r) d) (get_or (map shown_in nodes) i no_shown) (get_or (map shown_in nodes') i no_shown) (kept_post late) loose
+-- a view follows, and the member at a place has it
+pub follow_acts : (v : Group) (i : ℕ) (nodes nodes' : List Party) (r r' : Registry (PlainIn Load)) (late : Option Undelivered) (loose : Option (LinkName × OutSeen))
+    → HasLooked v (get_or (map shown_in nodes) i no_shown) (get_or (map shown_in nodes') i no_shown) (kept_post late) loose
     → map shown_in nodes' ≡ set (map shown_in nodes) i (get_or (map shown_in nodes') i no_shown)
-    → r' ≡ with_view r (marked (newest r) d)
-    → Acts (Mark by dead) i (marked_in (Mark by dead) (parties nodes r [])) (parties nodes r []) (parties nodes' r' (behind late)) loose
-mark_acts by dead i d nodes nodes' r r' late loose named h e k =
-    subst (λ c. LooksAt (marked (newest r) c) i (viewing (marked (newest r) c) (parties nodes r [])) (parties nodes' r' (behind late)) loose) (sym (ap (λ o. at_some o 0 (λ c. c)) named))
-    (subst (λ s. LooksAt (marked (newest r) d) i (parties nodes (with_view r (marked (newest r) d)) []) (parties nodes' s (behind late)) loose) (sym k)
-    (looks_at (marked (newest r) d) i nodes nodes' (with_view r (marked (newest r) d)) late loose h e))
+    → r' ≡ with_view r v
+    → LooksAt v i (viewing v (parties nodes r [])) (parties nodes' r' (behind late)) loose
+follow_acts v i nodes nodes' r r' late loose h e k =
+    subst (λ s. LooksAt v i (parties nodes (with_view r v) []) (parties nodes' s (behind late)) loose) (sym k)
+    (looks_at v i nodes nodes' (with_view r v) late loose h e)
+
+-- what follows of what a call answers
+pub ok_also : {X E : Type 0} (r : Result X E) (P Q : X → Type 0) → ((x : X) → P x → Q x) → IfOk r P → IfOk r Q
+ok_also (Ok x) P Q h p = h x p
+ok_also (Err e) P Q h p = tt
+
+-- it is a mark, or an erasure, of the member of a name
+pub mark_acts : (by dead : List ℕ) (i d : ℕ) (q q' : Parties) (loose : Option (LinkName × OutSeen)) → id_named q dead ≡ Some d → LooksAt (marked (newest_of q) d) i (viewing (marked (newest_of q) d) q) q' loose → Acts (Mark by dead) i (marked_in (Mark by dead) q) q q' loose
+mark_acts by dead i d q q' loose named = subst (λ c. LooksAt (marked (newest_of q) c) i (viewing (marked (newest_of q) c) q) q' loose) (sym (ap (λ o. at_some o 0 (λ c. c)) named))
+
+pub erase_acts : (by origin : List ℕ) (i p : ℕ) (q q' : Parties) (loose : Option (LinkName × OutSeen)) → id_named q origin ≡ Some p → LooksAt (erasing q p) i (viewing (erasing q p) q) q' loose → Acts (Erase by origin) i (marked_in (Erase by origin) q) q q' loose
+erase_acts by origin i p q q' loose named = subst (λ c. LooksAt (erasing q c) i (viewing (erasing q c) q) q' loose) (sym (ap (λ o. at_some o 0 (λ c. c)) named))

@@ -42,8 +42,8 @@ use Rattle.ring_cluster.specs.Seen.{state, IsEventAt}
 use Rattle.ring_cluster.specs.Standing.{MemberStands, StandAfter, IsJournal}
 use Rattle.ring_cluster.specs.Loose.{StandBetween, BetweenAfter, moved_by}
 use Rattle.ring_cluster.specs.Meeting.{MayMeet, MeetsIn}
-use Rattle.ring_cluster.specs.Acting.{alone_refused, stop_refused, look_refused, posting, newest_of, viewing, LooksAt, Acts}
-use Rattle.ring_cluster.specs.Refused.{id_named, NothingWaits, mark_refused, act_refused, marked_in, office_of}
+use Rattle.ring_cluster.specs.Acting.{alone_refused, stop_refused, look_refused, posting, newest_of, viewing, erasing, LooksAt, Acts}
+use Rattle.ring_cluster.specs.Refused.{id_named, NothingWaits, mark_refused, erase_refused, telling_refused, act_refused, marked_in, office_of}
 use Rattle.ring_cluster.specs.Behind.{behind}
 use Rattle.ring_cluster.specs.declared.undelivered.Undelivered.{Undelivered}
 use Rattle.ring_cluster.proofs.work.Lawful.{IsLawfulAt}
@@ -52,7 +52,7 @@ use Rattle.ring_cluster.proofs.rounds.Named.{run_many, run_found}
 use Rattle.ring_cluster.proofs.events.Found.{named_alike, found_within}
 use Rattle.ring_cluster.proofs.events.AloneRefusals.{alone_refusal_is}
 use Rattle.ring_cluster.proofs.events.AloneGoes.{IsAlone}
-use Rattle.ring_cluster.proofs.events.Refusing.{look_refuses, mark_asked_refuses, mark_unknown}
+use Rattle.ring_cluster.proofs.events.Refusing.{look_refuses, mark_asked_refuses, nobody_named, erase_refuses, telling_refuses}
 use Rattle.ring_cluster.proofs.events.EachGoes.{MayGo, each_goes}
 use Rattle.ring_cluster.proofs.events.Marking.{refresh_may}
 use Rattle.ring_cluster.proofs.meetings.Receivers.{GoesIn, loose_goes_in}
@@ -130,15 +130,20 @@ module _ (credit : CreditSpec) (names : List (List ℕ)) (events : List Event) w
       mark_up by dead d k e l Stopped f = not_up Stopped (λ n. cc) f l _ _ ∙ sym (ap (λ o. of_member o (λ y. up_refusal w y (of_member (id_of w dead) (event.mark_refusal w y)))) k)
 
       by_dead : (by dead : List ℕ) (o : Option ℕ) → id_of w by ≡ Some (i + 1) → id_of w dead ≡ o → i < length q.nodes → mark_refused (office_of q) (node_at q i) o ≡ refusal w (Mark by dead)
-      by_dead by dead None k d l = subst (λ j. mark_refused (office_of q) (node_at q j) None ≡ refusal w (Mark by dead)) (place i) (mark_unknown credit w q (i + 1) by dead (lawful_after credit names events s.journal) k d s.stand)
+      by_dead by dead None k d l = subst (λ j. mark_refused (office_of q) (node_at q j) None ≡ refusal w (Mark by dead)) (place i) (nobody_named credit w q (i + 1) by dead (event.mark_refusal w) k d s.stand)
       by_dead by dead (Some d) k e l = mark_up by dead d k e l (node_at q i).held.phase refl
+
+      by_origin : (by origin : List ℕ) (o : Option ℕ) → id_of w by ≡ Some (i + 1) → id_of w origin ≡ o → erase_refused (office_of q) (node_at q i) o ≡ refusal w (Erase by origin)
+      by_origin by origin None k p = subst (λ j. erase_refused (office_of q) (node_at q j) None ≡ refusal w (Erase by origin)) (place i) (nobody_named credit w q (i + 1) by origin (event.erase_refusal w) k p s.stand)
+      by_origin by origin (Some p) k e = subst (λ j. erase_refused (office_of q) (node_at q j) (Some p) ≡ refusal w (Erase by origin)) (place i)
+          (erase_refuses credit w (office_of q) q (i + 1) p by origin (lawful_after credit names events s.journal) (record { views = s.stand.stand.views; stopped = s.stand.stand.stopped }) k e s.stand)
 
       by_event : (f : Event) → is_plain f ≡ true → id_of w (by_of f) ≡ Some (i + 1) → i < length q.nodes → act_refused f i q ≡ refusal w f
       by_event (Mark by dead) p k l = ap (mark_refused (office_of q) (node_at q i)) (found q dead s) ∙ by_dead by dead (id_of w dead) k refl l
       by_event (Refresh by version) p k l = subst (λ j. look_refused (newest_of q).version (node_at q j) version ≡ refusal w (Refresh by version)) (place i) (look_refuses credit w q (i + 1) version by (lawful_after credit names events s.journal) k s.stand)
       by_event (Admit by name) p k l = absurd (false≢true p)
-      by_event (Erase by origin) p k l = absurd (false≢true p)
-      by_event (Refuse code inner) p k l = absurd (false≢true p)
+      by_event (Erase by origin) p k l = ap (erase_refused (office_of q) (node_at q i)) (found q origin s) ∙ by_origin by origin (id_of w origin) k refl
+      by_event (Refuse code inner) p k l = subst (λ j. telling_refused (newest_of q) code inner (node_at q j) ≡ refusal w (Refuse code inner)) (place i) (telling_refuses credit w q (i + 1) code inner k s.stand)
       by_event (Pick by) p k l = pick_up by k l (node_at q i).held.phase refl
       by_event f p k l = alone f k tt
 
@@ -161,6 +166,8 @@ module _ (credit : CreditSpec) (names : List (List ℕ)) (events : List Event) w
       by_event (Stop by) (b, _, is, _) = ap (λ (p : Parties). length p.nodes) is ∙ length-set q.nodes i b
       by_event (Mark by dead) k = looks (marked (newest_of q) d) (viewing (marked (newest_of q) d) q) refl k
       by_event (Refresh by version) k = looks (view_at q.views version) q refl k
+      by_event (Erase by origin) k = looks (erasing q d) (viewing (erasing q d) q) refl k
+      by_event (Refuse code inner) k = ap (λ (p : Parties). length p.nodes) k.0
       by_event f (b, _, is, _) = one b is
 
   -- a loose end goes to a member
@@ -182,6 +189,8 @@ module _ (credit : CreditSpec) (names : List (List ℕ)) (events : List Event) w
       by_event : (f : Event) → Acts f i d q q' (Some (name, o)) → GoesIn w name
       by_event (Mark by dead) (b, new, how, _) = looks_at (marked (newest_of q) d) (posting new (with_node q i b)) (b, new, how, refl)
       by_event (Refresh by version) k = looks_at (view_at q.views version) q' k
+      by_event (Erase by origin) (b, new, how, _) = looks_at (erasing q d) (posting new (with_node q i b)) (b, new, how, refl)
+      by_event (Refuse code inner) k = never k.1
       by_event f k = never k.3
 
   -- what the event needs besides
@@ -195,16 +204,19 @@ module _ (credit : CreditSpec) (names : List (List ℕ)) (events : List Event) w
       up : (later : ℕ → Option Reason) (o : Option ℕ) → o ≡ Some (i + 1) → of_member o (λ x. up_refusal w x (later x)) ≡ None → i < length q.nodes → NothingWaits (i + 1) q
       up later o k e l = waits (phase_is q i s l ∙ (up_none w (i + 1) (later (i + 1)) (sym (ap (λ c. of_member c (λ x. up_refusal w x (later x))) k) ∙ e)).0)
 
-      dead_is : (by dead : List ℕ) (o : Option ℕ) → id_named q dead ≡ o → id_of w by ≡ Some (i + 1) → refusal w (Mark by dead) ≡ None → id_of w dead ≡ Some (at_some (id_named q dead) 0 (λ d. d))
-      dead_is by dead (Some d) k _ _ = sym (found q dead s) ∙ k ∙ ap (λ o. Some (at_some o 0 (λ d. d))) (sym k)
-      dead_is by dead None k b e =
-          let later : up_refusal w (i + 1) (of_member (id_of w dead) (event.mark_refusal w (i + 1))) ≡ None = sym (ap (λ o. of_member o (λ y. up_refusal w y (of_member (id_of w dead) (event.mark_refusal w y)))) b) ∙ e in
-          let none : of_member (id_of w dead) (event.mark_refusal w (i + 1)) ≡ None = (up_none w (i + 1) _ later).1 in
-          let unknown : Some reason.UnknownMember ≡ None = sym (ap (λ o. of_member o (event.mark_refusal w (i + 1))) (sym (found q dead s) ∙ k)) ∙ none in
+      -- the one that is marked or erased
+      other_is : (by other : List ℕ) (later : ℕ → ℕ → Option Reason) (o : Option ℕ) → id_named q other ≡ o → id_of w by ≡ Some (i + 1) → of_member (id_of w by) (λ y. up_refusal w y (of_member (id_of w other) (later y))) ≡ None
+          → id_of w other ≡ Some (at_some (id_named q other) 0 (λ d. d))
+      other_is by other later (Some d) k _ _ = sym (found q other s) ∙ k ∙ ap (λ o. Some (at_some o 0 (λ d. d))) (sym k)
+      other_is by other later None k b e =
+          let up : up_refusal w (i + 1) (of_member (id_of w other) (later (i + 1))) ≡ None = sym (ap (λ o. of_member o (λ y. up_refusal w y (of_member (id_of w other) (later y)))) b) ∙ e in
+          let none : of_member (id_of w other) (later (i + 1)) ≡ None = (up_none w (i + 1) _ up).1 in
+          let unknown : Some reason.UnknownMember ≡ None = sym (ap (λ o. of_member o (later (i + 1))) (sym (found q other s) ∙ k)) ∙ none in
           cc
 
       by_event : (f : Event) → refusal w f ≡ None → id_of w (by_of f) ≡ Some (i + 1) → i < length q.nodes → MayGo w f (i + 1) (marked_in f q) q
-      by_event (Mark by dead) e k l = (dead_is by dead (id_named q dead) refl k e, up (λ y. of_member (id_of w dead) (event.mark_refusal w y)) (id_of w by) k e l)
+      by_event (Mark by dead) e k l = (other_is by dead (event.mark_refusal w) (id_named q dead) refl k e, up (λ y. of_member (id_of w dead) (event.mark_refusal w y)) (id_of w by) k e l)
+      by_event (Erase by origin) e k l = (other_is by origin (event.erase_refusal w) (id_named q origin) refl k e, up (λ y. of_member (id_of w origin) (event.erase_refusal w y)) (id_of w by) k e l)
       by_event (Refresh by version) e k l = up (λ y. refresh_refusal w y version) (id_of w by) k e l
       by_event (Pick by) e k l = up (λ y. or_else (refuse_if (is_some (member_at w y).current) reason.HasCurrentLink) (pick_refusal w y)) (id_of w by) k e l
       by_event f e k l = tt
@@ -271,11 +283,15 @@ module _ (credit : CreditSpec) (names : List (List ℕ)) (events : List Event) w
 
   -- ---- what the calls of a member need
 
+  pub few_stand : (q : Parties) → StandAfter credit names events q → length q.nodes ≤ 64
+  few_stand q s =
+      let many = run_many credit names events s.journal.are s.journal.plain s.journal.run in
+      omega (arith, many, s.stand.stand.count, s.journal.are.few)
+
   pub few_after : (nodes : List Party) (r : Registry (PlainIn Load)) (behind : List Posted) → StandAfter credit names events (parties nodes r behind) → length nodes ≤ 64
   few_after nodes r behind s =
       let shown : length (map shown_in nodes) ≡ length nodes = length-map nodes shown_in in
-      let many = run_many credit names events s.journal.are s.journal.plain s.journal.run in
-      omega (arith, shown, many, s.stand.stand.count, s.journal.are.few)
+      omega (arith, shown, few_stand (parties nodes r behind) s)
 
   -- the registrar hasn't heard of one that hasn't stopped
   pub unheard_after : (nodes : List Party) (r : Registry (PlainIn Load)) (i : ℕ) → StandAfter credit names events (parties nodes r []) → i < length nodes → stop_refused (node_at (parties nodes r []) i) ≡ None → stop_refusal r (i + 1) ≡ None

@@ -1,4 +1,4 @@
--- A refresh and a mark, as steps of the ring: the parties stand in the state after them.
+-- A refresh, a mark and an erasure, as steps of the ring: the parties stand in the state after them.
 use Rattle.std.proofs.Common.{◌≡◌, ℕ, ◌+◌, ◌-◌, ◌<◌, ◌≤◌, Bool, true, false, not, nat_eq, nat_le, List, [], ◌∷◌, ◌++◌, length, get_or, max, Option, Some, None, refl, sym, ap, subst, ◌∙◌, arith}
 use Rattle.std.specs.Prelude.{◌&&◌}
 use Rattle.std.specs.List.{filter}
@@ -6,22 +6,24 @@ use Rattle.std.proofs.lemmas.Bool.{false≢true}
 use Rattle.ring_names.specs.declared.numbers.CreditSpec.{CreditSpec}
 use Rattle.group_view.specs.declared.link.LinkName.{LinkName}
 use Rattle.group_view.specs.View.{Group, entry_in}
-use Rattle.group_view.specs.Change.{marked}
+use Rattle.group_view.specs.Change.{marked, erased}
 use Rattle.group_view.specs.Since.{no_group}
 use Rattle.group_view.specs.Since as since
+use Rattle.promotion.specs.Elect.{installed}
 use Rattle.ring_world.specs.Rows.{no_numbers}
-use Rattle.ring_world.specs.declared.event.Event.TheVariants.{Mark, Refresh}
+use Rattle.ring_world.specs.declared.event.Event.TheVariants.{Mark, Refresh, Erase}
+use Rattle.ring_world.specs.declared.phase.Phase.TheVariants.{Up}
 use Rattle.ring_world.specs.View.{right_of}
 use Rattle.ring_world.specs.Machine.{World, Link, no_sending, numbers_at, member_at, link_at, view_in, newest, left, row_at}
 use Rattle.ring_world.specs.OpenLinks.{version_of, since_in, comes_from_left, is_door_link}
 use Rattle.ring_world.specs.Step.{size, log_of, next_lines, with_view}
 use Rattle.ring_world.specs.Event.{id_of, of_member, at_found, refresh_refusal, refused_at, refreshed, refusal, done_at, effect}
-use Rattle.ring_world.proofs.events.WhatRefuses.{MayLook, MayMark}
+use Rattle.ring_world.proofs.events.WhatRefuses.{MayLook, MayMark, MayErase}
 use Rattle.ring_world.proofs.events.Refusals.{id_within}
 use Rattle.ring_world.proofs.events.Enabled.{up_none}
 use Rattle.ring_world.proofs.events.Cases.{may_look}
 use Rattle.ring_world.proofs.walks.Views.{view_old, left_old}
-use Rattle.ring_world.proofs.invariants.Happens.{IsGood, mark_good, newer_look}
+use Rattle.ring_world.proofs.invariants.Happens.{IsGood, mark_good, erase_good, newer_look, newer_good}
 use Rattle.activity.specs.Told.{none_told}
 use Rattle.activity.specs.Diff.{next_line}
 use Rattle.gm_member.specs.Parcels.{places, known_at, told_at}
@@ -34,7 +36,7 @@ use Rattle.gm_member.proofs.Knowing.{line_same}
 use Rattle.gm_member.proofs.DoorLists.{filter_agree}
 use Rattle.gm_member.proofs.Facts.{held_known, right_row}
 use Rattle.gm_member.proofs.Fit.{IsFit}
-use Rattle.gm_member.proofs.MarkStands.{mark_view, mark_world, mark_newest, mark_may, mark_is, view_held}
+use Rattle.gm_member.proofs.MarkStands.{mark_may, mark_is, erase_may, erase_is, view_held, view_newest}
 use Rattle.gm_member.proofs.OpenDoors.{sends_right}
 use Rattle.ring_world.proofs.work.OwnEnds.{OwnEnds}
 use Rattle.gm_member.proofs.RefreshStands.{first_lines}
@@ -169,36 +171,68 @@ view_stands initial w g q h own st = record {
     had : (s : ℕ) → s < length w.links → has_in u s ≡ true → has_in w s ≡ true
     had s l i = had_before w u s own refl (λ y e. e) (λ y e. sym (waits_view w g y s h l) ∙ e) i
 
--- ---- a mark
+-- ---- a member has a view follow the newest, and reads it
 
-pub mark_looking : (credit : CreditSpec) (w : World) (x d : ℕ) (by dead : List ℕ) → IsLawfulAt credit w → IsLawfulAt credit (effect w (Mark by dead)) → id_of w by ≡ Some x → id_of w dead ≡ Some d → refusal w (Mark by dead) ≡ None → IsLooking credit.initial (mark_world w d) x (newest w + 1)
-mark_looking credit w x d by dead g g' named there r =
-    let m : MayMark w x d = mark_may w x d by dead named there r in
-    record {
-      may = newer_look w x (mark_view w d) m.is_member m.up g.fit.good.inv.is_ring;
-      some = (id_within w by x named).0;
-      good = mark_good w d m.rests m.lives g.fit.good;
-      later = subst IsGood (mark_is w x d by dead named there) g'.fit.good;
-      own = record { out = g.fit.own_ends.out; current = g.fit.own_ends.current };
-      ends = record { ended = g.fit.ends.ended; nothing = g.fit.ends.nothing; sends = g.fit.ends.sends; takes = g.fit.ends.takes };
-      initial_is = g.initial_is;
-      right = λ p. right_row w x p g.fit;
-      first = first_packet w x w.initial w.more (right_of (view_in (mark_world w d) (newest w + 1)) x) (newest w + 1) (newest w + 1) g.fit;
-    }
+-- What is needed of the view, and of who has it follow: the ring is good with it, and the member is up.
+pub record MayFollow (w : World) (x : ℕ) (g : Group) : Type 0 where
+  pub some : 1 ≤ x
+  pub is_member : x < size w
+  pub up : (member_at w x).phase ≡ Up
+  pub good : IsGood (with_view w g)
+
+follow_looking : (credit : CreditSpec) (w : World) (x : ℕ) (g : Group) → IsLawfulAt credit w → MayFollow w x g → IsLooking credit.initial (with_view w g) x (newest w + 1)
+follow_looking credit w x g h m = record {
+  may = newer_look w x g m.is_member m.up h.fit.good.inv.is_ring;
+  some = m.some;
+  good = m.good;
+  later = newer_good w x g m.is_member m.up h.fit.good m.good;
+  own = record { out = h.fit.own_ends.out; current = h.fit.own_ends.current };
+  ends = record { ended = h.fit.ends.ended; nothing = h.fit.ends.nothing; sends = h.fit.ends.sends; takes = h.fit.ends.takes };
+  initial_is = h.initial_is;
+  right = λ p. right_row w x p h.fit;
+  first = first_packet w x w.initial w.more (right_of (view_in (with_view w g) (newest w + 1)) x) (newest w + 1) (newest w + 1) h.fit;
+}
+
+-- so the parties stand in the state after that
+follow_stand : (credit : CreditSpec) (w w' : World) (q q' : Parties) (i : ℕ) (g : Group) (loose : Option (LinkName × OutSeen)) → IsLawfulAt credit w → MayFollow w (i + 1) g → w' ≡ refreshed (with_view w g) (i + 1) (newest w + 1)
+    → Stand credit.initial w q → filter (waits_at (i + 1)) q.post ≡ [] → LooksAt g i (viewing g q) q' loose → StandMoved credit.initial (i + 1) w' q' loose
+follow_stand credit w w' q q' i g loose h m is st none looks =
+    let back : i + 1 - 1 ≡ i = omega arith in
+    let u : World = with_view w g in
+    let v : ℕ = newest w + 1 in
+    let new : view_in u v ≡ g = view_newest w g h.fit.good in
+    let at : LooksAt (view_in u v) (i + 1 - 1) (viewing g q) q' loose = subst (λ k. LooksAt (view_in u v) k (viewing g q) q' loose) (sym back) (subst (λ t. LooksAt t i (viewing g q) q' loose) (sym new) looks) in
+    subst (λ t. StandMoved credit.initial (i + 1) t q' loose) (sym is)
+    (looks_stand credit.initial u (i + 1) v (viewing g q) q' loose (follow_looking credit w (i + 1) g h m) (view_stands credit.initial w g q h.fit.good h.fit.own_ends st) none at)
 
 -- the newest view of the parties is the state's
 pub newest_is : (w : World) (q : Parties) → w.views ≡ no_group ∷ q.views → newest_of q ≡ view_in w (newest w)
 newest_is w q e = let many : length q.views ≡ newest w = omega (arith, ap length e) in ap (since.view_at q.views) many ∙ view_is w q (newest w) e
 
-pub mark_between : (credit : CreditSpec) (w : World) (q q' : Parties) (i d : ℕ) (by dead : List ℕ) (loose : Option (LinkName × OutSeen)) → IsLawfulAt credit w → IsLawfulAt credit (effect w (Mark by dead)) → refusal w (Mark by dead) ≡ None → id_of w by ≡ Some (i + 1) → id_of w dead ≡ Some d
+-- where the parties' view is the state's, made of the newest
+follow_between : (credit : CreditSpec) (w w' : World) (q q' : Parties) (i : ℕ) (made : Group → Group) (loose : Option (LinkName × OutSeen)) → IsLawfulAt credit w → MayFollow w (i + 1) (made (view_in w (newest w)))
+    → w' ≡ refreshed (with_view w (made (view_in w (newest w)))) (i + 1) (newest w + 1) → Stand credit.initial w q → filter (waits_at (i + 1)) q.post ≡ []
+    → LooksAt (made (newest_of q)) i (viewing (made (newest_of q)) q) q' loose → StandMoved credit.initial (i + 1) w' q' loose
+follow_between credit w w' q q' i made loose h m is st none looks =
+    follow_stand credit w w' q q' i (made (view_in w (newest w))) loose h m is st none
+    (subst (λ t. LooksAt (made t) i (viewing (made t) q) q' loose) (newest_is w q st.stand.views) looks)
+
+-- ---- a mark
+
+pub mark_between : (credit : CreditSpec) (w : World) (q q' : Parties) (i d : ℕ) (by dead : List ℕ) (loose : Option (LinkName × OutSeen)) → IsLawfulAt credit w → refusal w (Mark by dead) ≡ None → id_of w by ≡ Some (i + 1) → id_of w dead ≡ Some d
     → Stand credit.initial w q → filter (waits_at (i + 1)) q.post ≡ [] → Acts (Mark by dead) i d q q' loose → StandMoved credit.initial (i + 1) (effect w (Mark by dead)) q' loose
-mark_between credit w q q' i d by dead loose g g' r named there st none acts =
-    let back : i + 1 - 1 ≡ i = omega arith in
-    let u : World = mark_world w d in
-    let v : ℕ = newest w + 1 in
-    let is : marked (newest_of q) d ≡ mark_view w d = ap (λ t. marked t d) (newest_is w q st.stand.views) in
-    let acts' : LooksAt (mark_view w d) i (viewing (mark_view w d) q) q' loose = subst (λ t. LooksAt t i (viewing t q) q' loose) is acts in
-    let at : LooksAt (view_in u v) (i + 1 - 1) (viewing (mark_view w d) q) q' loose = subst (λ k. LooksAt (view_in u v) k (viewing (mark_view w d) q) q' loose) (sym back) (subst (λ t. LooksAt t i (viewing (mark_view w d) q) q' loose) (sym (mark_newest w d g.fit.good)) acts') in
-    subst (λ t. StandMoved credit.initial (i + 1) t q' loose) (sym (mark_is w (i + 1) d by dead named there))
-    (looks_stand credit.initial u (i + 1) v (viewing (mark_view w d) q) q' loose (mark_looking credit w (i + 1) d by dead g g' named there r)
-    (view_stands credit.initial w (mark_view w d) q g.fit.good g.fit.own_ends st) none at)
+mark_between credit w q q' i d by dead loose h r named there =
+    let m : MayMark w (i + 1) d = mark_may w (i + 1) d by dead named there r in
+    follow_between credit w (effect w (Mark by dead)) q q' i (λ g. marked g d) loose h
+    (record { some = omega arith; is_member = m.is_member; up = m.up; good = mark_good w d m.rests m.lives h.fit.good })
+    (mark_is w (i + 1) d by dead named there)
+
+-- ---- an erasure
+
+pub erase_between : (credit : CreditSpec) (w : World) (q q' : Parties) (i p : ℕ) (by origin : List ℕ) (loose : Option (LinkName × OutSeen)) → IsLawfulAt credit w → refusal w (Erase by origin) ≡ None → id_of w by ≡ Some (i + 1) → id_of w origin ≡ Some p
+    → Stand credit.initial w q → filter (waits_at (i + 1)) q.post ≡ [] → Acts (Erase by origin) i p q q' loose → StandMoved credit.initial (i + 1) (effect w (Erase by origin)) q' loose
+erase_between credit w q q' i p by origin loose h r named there =
+    let m : MayErase w (i + 1) p = erase_may w (i + 1) p by origin named there r in
+    follow_between credit w (effect w (Erase by origin)) q q' i (λ g. installed (erased g p)) loose h
+    (record { some = omega arith; is_member = m.is_member; up = m.up; good = erase_good w p m.dead h.fit.good })
+    (erase_is w (i + 1) p by origin named there)

@@ -1,5 +1,5 @@
 -- What the lemmas on single events of a cluster share.
-use Rattle.std.proofs.Common.{◌≡◌, ℕ, ◌+◌, ◌-◌, ◌<◌, Bool, true, false, Option, Some, None, refl, sym, ap, subst, ◌∙◌, arith}
+use Rattle.std.proofs.Common.{◌≡◌, ℕ, ◌+◌, ◌-◌, ◌<◌, Bool, true, false, Option, Some, None, inl, refl, sym, ap, subst, ◌∙◌, arith}
 use Rattle.std.specs.Prelude.{option_map}
 use Rattle.ring_names.specs.declared.reason.Reason.{Reason}
 use Rattle.ring_world.specs.Machine.{World}
@@ -9,7 +9,8 @@ use Rattle.gm_member.specs.Held.{Held}
 use Rattle.gm_member.specs.Stands.{held_in}
 use Rattle.ring_cluster.specs.Ends.{OutSeen, InSeen, HaveMet, HasRested}
 use Rattle.ring_cluster.specs.Parties.{Shown, Parties, node_at}
-use Rattle.ring_cluster.specs.Standing.{Places, MemberStands, StandIn, HaveDone}
+use Rattle.ring_cluster.specs.Standing.{Places, MemberStands, StandIn, Stand, HaveDone, has_out}
+use Rattle.ring_cluster.proofs.standing.Frames.{StandMoved}
 
 -- ---- the member that is found
 
@@ -46,3 +47,16 @@ met_rested b o n e h = subst (λ c. HaveDone c o n) e h
 
 pub met_both : (b : Bool) (o : OutSeen) (n : InSeen) → b ≡ true → HaveDone b o n → HaveMet o n
 met_both b o n e h = subst (λ c. HaveDone c o n) e h
+
+-- ---- where nothing happens
+
+-- parties that stand do so where an end might have moved
+pub nothing_moved : (initial : ℕ) (w : World) (x : ℕ) (q : Parties) → Stand initial w q → StandMoved initial x w q None
+nothing_moved initial w x q st = record {
+  places = st.places;
+  stand = st.stand;
+  dropped = λ s l has lost. inl (met_rested (has_out w s) (st.places.outs s) (st.places.ins s) lost (st.met s l has));
+  fits = λ s o l has e. cc;
+  met = λ s l has o _. met_both (has_out w s) (st.places.outs s) (st.places.ins s) o (st.met s l has);
+  known = st.known;
+}

@@ -9,10 +9,12 @@ use Rattle.ordered_link.specs.declared.plain.PlainIn.{PlainIn}
 use Rattle.group_view.specs.Since.{view_at}
 use Rattle.ring_world.specs.Refusal.{refuse_if, or_else}
 use Rattle.ring_world.specs.declared.event.Event.{Event}
-use Rattle.ring_world.specs.declared.event.Event.TheVariants.{Mark, Refresh, Pick}
+use Rattle.ring_world.specs.declared.event.Event.TheVariants.{Mark, Refresh, Pick, Erase, Refuse}
+use Rattle.ring_world.specs.declared.event.Client.{Client}
 use Rattle.ring_world.specs.Machine.{World, member_at, view_in}
 use Rattle.ring_world.specs.Step.{size}
 use Rattle.ring_world.specs.Event.{id_of, by_of, of_member, up_refusal, pick_refusal, refusal}
+use Rattle.ring_world.specs.Event as event
 use Rattle.ring_world.proofs.invariants.Happens.{IsGood}
 use Rattle.registrar.specs.Registry.{Registry}
 use Rattle.registrar.specs.Asked.{is_left, mark_refusal, waits_from, since_in}
@@ -28,14 +30,14 @@ use Rattle.ring_cluster.specs.Parties.{Shown, Posted, Parties, parties, posted, 
 use Rattle.ring_cluster.specs.Seen.{state, IsEventAt}
 use Rattle.ring_cluster.specs.Standing.{Stand, StandIn, StandAfter}
 use Rattle.ring_cluster.specs.Acting.{waits_at, received, is_kept_by, alone_refused, look_refused, newest_of}
-use Rattle.ring_cluster.specs.Refused.{id_named, with_post}
+use Rattle.ring_cluster.specs.Refused.{id_named, with_post, erase_refused, telling_refused}
 use Rattle.ring_cluster.proofs.work.Fresh.{reached_fresh}
 use Rattle.ring_cluster.proofs.events.After.{lawful_after, within_after, member_after, id_after}
 use Rattle.ring_cluster.proofs.events.AloneGoes.{IsAlone}
 use Rattle.ring_cluster.proofs.events.AloneRefusals.{alone_refusal_is}
 use Rattle.ring_cluster.proofs.events.Found.{named_alike}
 use Rattle.ring_cluster.proofs.events.OneEvent.{held_but_door}
-use Rattle.ring_cluster.proofs.events.Refusing.{look_refuses, mark_refuses, mark_unknown}
+use Rattle.ring_cluster.proofs.events.Refusing.{look_refuses, mark_refuses, nobody_named, erase_refuses, telling_refuses}
 use Rattle.ring_cluster.proofs.post.Collections.{AreFresh, without_to, none_to, collected}
 use Rattle.ring_cluster.proofs.post.Handing.{registrar_stands}
 use Rattle.ring_cluster.proofs.post.Waiting.{registrar_waits}
@@ -111,16 +113,38 @@ module _ (credit : CreditSpec) (names : List (List ℕ)) (events : List Event) (
       ap pick_refused (whole (inside (Pick by) at)) ∙ pick_refuses w (i + 1) (lawful_after credit names events s.journal).fit.good
       ∙ sym (ap (λ o. of_member o (λ y. up_refusal w y (or_else (refuse_if (is_some (member_at w y).current) reason.HasCurrentLink) (pick_refusal w y)))) (named (Pick by) at))
 
+  pub telling_reads : (code : ℕ) (inner : Client) → IsEventAt names i (Refuse code inner) → telling_refused (newest_of q) code inner (node_at q i) ≡ refusal w (Refuse code inner)
+  telling_reads code inner at = subst (λ j. telling_refused (newest_of q) code inner (node_at q j) ≡ refusal w (Refuse code inner)) place
+      (telling_refuses credit w q (i + 1) code inner (named (Refuse code inner) at) s.stand)
+
+  -- the one that is named has the id by which it is found
+  pub other_named : (other : List ℕ) → id_of w other ≡ id_named q other
+  other_named other = sym (named_alike credit.initial w q s.stand.places other s.stand.stand)
+
+  -- where nobody has the name
+  nobody_reads : (e : Event) (other : List ℕ) (later : ℕ → ℕ → Option Reason) → IsEventAt names i e → id_named q other ≡ None → up_refused (node_at q i).held (Some reason.UnknownMember) ≡ of_member (id_of w (by_of e)) (λ y. up_refusal w y (of_member (id_of w other) (later y)))
+  nobody_reads e other later at none = subst (λ j. up_refused (node_at q j).held (Some reason.UnknownMember) ≡ of_member (id_of w (by_of e)) (λ y. up_refusal w y (of_member (id_of w other) (later y)))) place
+      (nobody_named credit w q (i + 1) (by_of e) other later (named e at) (other_named other ∙ none) s.stand)
+
   pub mark_reads_unknown : (by dead : List ℕ) → IsEventAt names i (Mark by dead) → id_named q dead ≡ None → up_refused (node_at q i).held (Some reason.UnknownMember) ≡ refusal w (Mark by dead)
-  mark_reads_unknown by dead at none = subst (λ j. up_refused (node_at q j).held (Some reason.UnknownMember) ≡ refusal w (Mark by dead)) place
-      (mark_unknown credit w q (i + 1) by dead (lawful_after credit names events s.journal) (named (Mark by dead) at) (sym (named_alike credit.initial w q s.stand.places dead s.stand.stand) ∙ none) s.stand)
+  mark_reads_unknown by dead = nobody_reads (Mark by dead) dead (event.mark_refusal w)
+
+  pub erase_reads_unknown : (by origin : List ℕ) → IsEventAt names i (Erase by origin) → id_named q origin ≡ None → up_refused (node_at q i).held (Some reason.UnknownMember) ≡ refusal w (Erase by origin)
+  erase_reads_unknown by origin = nobody_reads (Erase by origin) origin (event.erase_refusal w)
+
+  pub erase_reads : (nodes : List Party) (r : Registry (PlainIn Load)) (behind : List Posted) → q ≡ parties nodes r behind → (by origin : List ℕ) (p : ℕ) → IsEventAt names i (Erase by origin) → id_named q origin ≡ Some p
+      → erase_refused r (node_at q i) (Some p) ≡ refusal w (Erase by origin)
+  erase_reads nodes r behind is by origin p at there = subst (λ j. erase_refused r (node_at q j) (Some p) ≡ refusal w (Erase by origin)) place
+      (erase_refuses credit w r q (i + 1) p by origin (lawful_after credit names events s.journal)
+      (registrar_stands credit.initial w nodes r behind s.stand.places (subst (λ z. StandIn credit.initial w z s.stand.places) is s.stand.stand))
+      (named (Erase by origin) at) (other_named origin ∙ there) s.stand)
 
   pub mark_reads : (nodes : List Party) (r : Registry (PlainIn Load)) (behind : List Posted) → q ≡ parties nodes r behind → (by dead : List ℕ) (d : ℕ) → IsEventAt names i (Mark by dead) → id_named q dead ≡ Some d
       → up_refused (node_at q i).held (mark_refusal r (node_at q i).held.id d (node_at q i).held.view.version (has_link (with_post (node_at q i).held q.post))) ≡ refusal w (Mark by dead)
   mark_reads nodes r behind is by dead d at dead_is =
       ap (λ k. up_refused (node_at q i).held (mark_refusal r (node_at q i).held.id d (node_at q i).held.view.version (has_link k))) now
       ∙ ap (λ (k : Held). up_refused k (mark_refusal r k.id d k.view.version (has_link (held_in w x)))) same
-      ∙ mark_refuses w r x d by dead (lawful_after credit names events s.journal).fit.good rs (named (Mark by dead) at) (sym (named_alike credit.initial w q s.stand.places dead s.stand.stand) ∙ dead_is) waits
+      ∙ mark_refuses w r x d by dead (lawful_after credit names events s.journal).fit.good rs (named (Mark by dead) at) (other_named dead ∙ dead_is) waits
     where
       l : i < length q.nodes
       l = inside (Mark by dead) at

@@ -1,5 +1,5 @@
--- Why a member's refresh or mark is refused: as the ring's.
-use Rattle.std.proofs.Common.{◌≡◌, ℕ, ◌-◌, ◌<◌, ◌≤◌, Bool, true, false, cond, nat_eq, nat_lt, nat_le, List, [], ◌∷◌, ◌++◌, map, Option, Some, None, is_some, refl, sym, ap, ◌∙◌, arith, not}
+-- Why a member's refresh, mark or erasure, and what it tells a client, is refused: as the ring's.
+use Rattle.std.proofs.Common.{◌≡◌, ℕ, ◌+◌, ◌-◌, ◌<◌, ◌≤◌, Bool, true, false, cond, nat_eq, nat_lt, nat_le, List, [], ◌∷◌, ◌++◌, map, Option, Some, None, is_some, refl, sym, ap, ◌∙◌, arith, not}
 use Rattle.std.specs.Prelude.{◌&&◌, ◌||◌, option_map}
 use Rattle.std.specs.List.{filter}
 use Rattle.ring_names.specs.declared.reason.Reason.{Reason}
@@ -13,21 +13,31 @@ use Rattle.group_view.specs.Since.{view_at}
 use Rattle.ring_world.specs.Refusal.{refuse_if, or_else}
 use Rattle.ring_world.specs.declared.phase.Phase.{Phase}
 use Rattle.ring_world.specs.declared.phase.Phase.TheVariants.{Waiting, Up, Stopped}
-use Rattle.ring_world.specs.declared.event.Event.TheVariants.{Mark, Refresh}
+use Rattle.ring_world.specs.declared.event.Event.TheVariants.{Mark, Refresh, Erase, Refuse}
+use Rattle.ring_world.specs.declared.event.Client.{Client}
+use Rattle.ring_world.specs.declared.event.Client.TheVariants as client
 use Rattle.ring_world.specs.Machine.{World, member_at, newest, is_waiting}
-use Rattle.ring_world.specs.Step.{size}
-use Rattle.ring_world.specs.Event.{id_of, of_member, is_stopped, up_refusal, refresh_refusal, at_door, refusal}
+use Rattle.ring_world.specs.Step.{size, log_of}
+use Rattle.ring_world.specs.Lawful.{row_of}
+use Rattle.ring_world.specs.Event.{id_of, of_member, is_stopped, is_told, asked_of, event_of, up_refusal, refresh_refusal, doing_refusal, refused_at, at_door, refusal}
 use Rattle.ring_world.specs.Event as event
 use Rattle.ring_world.proofs.invariants.Happens.{IsGood}
-use Rattle.ring_world.proofs.events.Refusals.{id_within, cond_or}
+use Rattle.ring_world.proofs.events.Refusals.{id_within, cond_or, up_is}
 use Rattle.registrar.specs.declared.standing.Standing.{Standing}
 use Rattle.registrar.specs.Registry.{Registry, is_known, newest as newest_view}
-use Rattle.registrar.specs.Asked.{mark_refusal, is_ring_from, waits_from, since_in, is_left, is_beside}
+use Rattle.registrar.specs.Asked.{mark_refusal, erase_refusal, is_ring_from, waits_from, since_in, is_left, is_beside}
 use Rattle.registrar.specs.Stands.{StandsIn}
-use Rattle.registrar.proofs.Judged.{mark_judged}
-use Rattle.gm_member.specs.Held.{Held, up_refused, first_at_door}
+use Rattle.registrar.proofs.Judged.{mark_judged, erase_judged}
+use Rattle.activity.specs.Kept.{Kept, got_of}
+use Rattle.gm_member.specs.Parcels.{known_at}
+use Rattle.gm_member.specs.Held.{Held, up_refused, active_refused, first_at_door}
+use Rattle.gm_member.specs.declared.questions.Ask.{Ask}
+use Rattle.gm_member.specs.declared.questions.Ask.TheVariants as ask
 use Rattle.gm_member.specs.Questions.{has_link}
-use Rattle.gm_member.specs.Stands.{incoming_in, held_in}
+use Rattle.gm_member.specs.Stands.{kept_by, incoming_in, held_in}
+use Rattle.gm_member.proofs.Fit.{IsFit}
+use Rattle.gm_member.proofs.Knowing.{got_kept}
+use Rattle.gm_member.proofs.Facts.{held_known, place_few, right_row}
 use Rattle.gm_member.proofs.Doors.{view_version}
 use Rattle.gm_member.proofs.PickStands.{first_is}
 use Rattle.ring_cluster.specs.declared.party.Party.{Party}
@@ -35,10 +45,12 @@ use Rattle.ring_cluster.specs.Parties.{Shown, Posted, Parties, node_at, parties,
 use Rattle.ring_cluster.specs.Standing.{MemberStands, Stand}
 use Rattle.ring_cluster.specs.Acting.{look_refused, newest_of, waits_at}
 use Rattle.ring_cluster.proofs.work.Lawful.{IsLawfulAt}
+use Rattle.ring_cluster.proofs.events.OneEvent.{held_but_door}
 use Rattle.ring_cluster.proofs.events.Marking.{held_whole, newest_is}
 use Rattle.ring_cluster.proofs.lists.Truth.{made_some}
 use Rattle.group_view.specs.Ring.{is_in}
-use Rattle.ring_cluster.specs.Refused.{standing_of, office_of, mark_refused}
+use Rattle.ring_cluster.specs.Looking.{ask_refused, view_for}
+use Rattle.ring_cluster.specs.Refused.{standing_of, office_of, mark_refused, erase_refused, admission_refused, client_refused, telling_refused}
 
 -- ---- a refresh
 
@@ -69,6 +81,13 @@ up_same w x a b h = by_phase (member_at w x).phase h
     by_phase Up k = k refl
     by_phase Stopped k = refl
 
+-- what the registrar refuses of a member that is found, it does of one that is up as the ring does
+by_registrar : (w : World) (x : ℕ) (name : List ℕ) (asked : Option Reason) (later : ℕ → Option Reason) → id_of w name ≡ Some x
+    → ((member_at w x).phase ≡ Up → asked ≡ of_member (id_of w name) (λ y. up_refusal w y (later y))) → up_refusal w x asked ≡ of_member (id_of w name) (λ y. up_refusal w y (later y))
+by_registrar w x name asked later named k =
+    let found : of_member (id_of w name) (λ y. up_refusal w y (later y)) ≡ up_refusal w x (later x) = ap (λ o. of_member o (λ y. up_refusal w y (later y))) named in
+    up_same w x asked (later x) (λ up. k up ∙ found ∙ up_is w x (later x) up) ∙ sym found
+
 -- what x has still to take, by its own word
 tells : (w : World) (x : ℕ) → IsGood w → (is_some (held_in w x).current || is_some (first_at_door (held_in w x))) ≡ (is_some (member_at w x).current || is_some (at_door w x))
 tells w x h = by_current (member_at w x).current refl
@@ -85,23 +104,19 @@ module _ {I : Type 0} where
   mark_refuses w r x d name dead h st named there waits =
       let u : ℕ = (member_at w x).version in
       let has : Bool = is_some (held_in w x).current || is_some (first_at_door (held_in w x)) in
-      let later : Option Reason = of_member (id_of w dead) (event.mark_refusal w x) in
       ap (λ v. up_refusal w x (mark_refusal r x d v has)) (view_version w u h (h.inv.is_ring.held x))
-      ∙ up_same w x (mark_refusal r x d u has) later
-      (λ up. mark_judged w r x d u has name dead h st (record { named = named; up = up; holds = refl }) there
-      (λ left. waits left ∙ tells w x h)
-      ∙ ap (λ o. of_member o (λ y. up_refusal w y (of_member (id_of w dead) (event.mark_refusal w y)))) named
-      ∙ ap (λ f. or_else (refuse_if (is_stopped f) reason.Stopped) (or_else (refuse_if (is_waiting f) reason.Waiting) later)) up)
-      ∙ sym (ap (λ o. of_member o (λ y. up_refusal w y (of_member (id_of w dead) (event.mark_refusal w y)))) named)
+      ∙ by_registrar w x name (mark_refusal r x d u has) (λ y. of_member (id_of w dead) (event.mark_refusal w y)) named
+      (λ up. mark_judged w r x d u has name dead h st (record { named = named; up = up; holds = refl }) there (λ left. waits left ∙ tells w x h))
 
--- of the name of nobody
-pub mark_unknown : (credit : CreditSpec) (w : World) (q : Parties) (x : ℕ) (name dead : List ℕ) → IsLawfulAt credit w → id_of w name ≡ Some x → id_of w dead ≡ None → Stand credit.initial w q → up_refused (node_at q (x - 1)).held (Some reason.UnknownMember) ≡ refusal w (Mark name dead)
-mark_unknown credit w q x name dead g named none st =
+-- of the name of nobody, whatever is asked of one who is known
+pub nobody_named : (credit : CreditSpec) (w : World) (q : Parties) (x : ℕ) (name other : List ℕ) (later : ℕ → ℕ → Option Reason) → id_of w name ≡ Some x → id_of w other ≡ None → Stand credit.initial w q
+    → up_refused (node_at q (x - 1)).held (Some reason.UnknownMember) ≡ of_member (id_of w name) (λ y. up_refusal w y (of_member (id_of w other) (later y)))
+nobody_named credit w q x name other later named none st =
     let at : (1 ≤ x) × (x < size w) = id_within w name x named in
     let h : MemberStands w st.places x (node_at q (x - 1)) = st.stand.each x at.0 at.1 in
     ap (λ (k : Held). up_refused k (Some reason.UnknownMember)) h.held
-    ∙ ap (λ o. up_refusal w x (of_member o (event.mark_refusal w x))) (sym none)
-    ∙ sym (ap (λ o. of_member o (λ y. up_refusal w y (of_member (id_of w dead) (event.mark_refusal w y)))) named)
+    ∙ ap (λ o. up_refusal w x (of_member o (later x))) (sym none)
+    ∙ sym (ap (λ o. of_member o (λ y. up_refusal w y (of_member (id_of w other) (later y)))) named)
 
 -- no link of the ring waits at the registrar where none is posted for x
 none_from : (d x since : ℕ) (ps : List Posted) → filter (waits_at x) ps ≡ [] → waits_from (map standing_of ps) d x since ≡ false
@@ -137,6 +152,54 @@ mark_asked_refuses credit w q x d name dead m g named there st none is =
     or_nothing true = refl
     or_nothing false = refl
 
+-- ---- an erasure
+
+-- what x has got of p, and what it has retired, by what it holds
+numbers_held : (w : World) (x p : ℕ) → IsFit w → 1 ≤ p → p < size w → known_at (held_in w x).known (p - 1) ≡ kept_by (log_of w p) (row_of w x p)
+numbers_held w x p f some lt =
+    let back : p - 1 + 1 ≡ p = omega arith in
+    held_known w x (p - 1) (place_few w p f some lt) ∙ ap (λ k. kept_by (log_of w k) (row_of w x k)) back
+
+module _ {I : Type 0} where
+  -- of one that is known: by the newest view, and the member's own view and numbers
+  pub erase_refuses : (credit : CreditSpec) (w : World) (r : Registry I) (q : Parties) (x p : ℕ) (name origin : List ℕ) → IsLawfulAt credit w → StandsIn w r → id_of w name ≡ Some x → id_of w origin ≡ Some p → Stand credit.initial w q
+      → erase_refused r (node_at q (x - 1)) (Some p) ≡ refusal w (Erase name origin)
+  erase_refuses credit w r q x p name origin g st named there stand =
+      let at : (1 ≤ x) × (x < size w) = id_within w name x named in
+      let it : (1 ≤ p) × (p < size w) = id_within w origin p there in
+      let u : ℕ = (member_at w x).version in
+      let kept : known_at (held_in w x).known (p - 1) ≡ kept_by (log_of w p) (row_of w x p) = numbers_held w x p g.fit it.0 it.1 in
+      let got : got_of (known_at (held_in w x).known (p - 1)) ≡ (row_of w x p).got = ap got_of kept ∙ got_kept (log_of w p) (row_of w x p) (right_row w x p g.fit) in
+      let retired : (known_at (held_in w x).known (p - 1)).retired ≡ (row_of w x p).retired = ap (λ (k : Kept). k.retired) kept in
+      ap (λ (k : Held). up_refused k (erase_refusal r k.id p (got_of (known_at k.known (p - 1))) (known_at k.known (p - 1)).retired k.view.version)) (held_but_door w stand.places x (node_at q (x - 1)) (stand.stand.each x at.0 at.1))
+      ∙ ap (λ v. up_refusal w x (erase_refusal r x p (got_of (known_at (held_in w x).known (p - 1))) (known_at (held_in w x).known (p - 1)).retired v)) (view_version w u g.fit.good (g.fit.good.inv.is_ring.held x))
+      ∙ by_registrar w x name (erase_refusal r x p (got_of (known_at (held_in w x).known (p - 1))) (known_at (held_in w x).known (p - 1)).retired u) (λ y. of_member (id_of w origin) (event.erase_refusal w y)) named
+      (λ up. erase_judged w r x p u (got_of (known_at (held_in w x).known (p - 1))) (known_at (held_in w x).known (p - 1)).retired (Erase name origin) g.fit.good st
+      (record { name = name; origin_name = origin; asker = record { named = named; up = up; holds = refl }; named = there; got = sym got; retired = sym retired; is = refl }))
+
+-- ---- what a client asks
+
+-- a member doesn't do it just where the ring refuses it, for the same reason
+pub client_refuses : (credit : CreditSpec) (w : World) (q : Parties) (x : ℕ) (inner : Client) → 1 ≤ x → x < size w → Stand credit.initial w q → client_refused (newest_of q) inner (node_at q (x - 1)) ≡ doing_refusal w (event_of inner) x
+client_refuses credit w q x inner some lt st = by_client inner
+  where
+    same : (node_at q (x - 1)).held ≡ record (held_in w x) { door = (node_at q (x - 1)).held.door }
+    same = held_but_door w st.places x (node_at q (x - 1)) (st.stand.each x some lt)
+
+    by_client : (c : Client) → client_refused (newest_of q) c (node_at q (x - 1)) ≡ doing_refusal w (event_of c) x
+    by_client (client.Cast by body) = ap (λ (k : Held). up_refused k None) same
+    by_client (client.Stop by) = ap (λ (k : Held). active_refused k None) same
+    by_client (client.Admit by name) =
+        ap (λ (k : Held). up_refused k (admission_refused (newest_of q) name)) same
+        ∙ ap (λ g. up_refusal w x (admission_refused g name)) (newest_is w q st.stand.views)
+
+-- so it tells the client so just where the ring does
+pub telling_refuses : (credit : CreditSpec) (w : World) (q : Parties) (x code : ℕ) (inner : Client) → id_of w (asked_of inner) ≡ Some x → Stand credit.initial w q → telling_refused (newest_of q) code inner (node_at q (x - 1)) ≡ refusal w (Refuse code inner)
+telling_refuses credit w q x code inner named st =
+    let at : (1 ≤ x) × (x < size w) = id_within w (asked_of inner) x named in
+    ap (λ r. refuse_if (not (is_told code r)) reason.NotRefused) (client_refuses credit w q x inner at.0 at.1 st)
+    ∙ sym (ap (λ o. of_member o (refused_at w (Refuse code inner))) named)
+
 -- ---- the registrar, and what is shown of it
 
 -- the same links wait
@@ -157,3 +220,17 @@ mark_same nodes r m d =
     (or_else (refuse_if (not (is_in d r.stopped)) reason.NotStopped)
     (refuse_if (is_left g x d && (has || b)) reason.LinkNotEnded)))))))
     (same_waits d x (since_in g x) r.links)
+
+-- and for any question for a view
+pub ask_same : (nodes : List Party) (r : Registry (PlainIn Load)) (m : Shown) (what : Ask) → ask_refused (office_of (parties nodes r [])) m what ≡ ask_refused r m what
+ask_same nodes r m (ask.Mark dead) = mark_same nodes r m dead.0
+ask_same nodes r m (ask.Erase origin) = refl
+ask_same nodes r m ask.Refresh = refl
+ask_same nodes r m ask.Collect = refl
+
+-- and makes the same view
+pub view_for_same : (nodes : List Party) (r : Registry (PlainIn Load)) (what : Ask) → view_for (office_of (parties nodes r [])) what ≡ view_for r what
+view_for_same nodes r (ask.Mark dead) = refl
+view_for_same nodes r (ask.Erase origin) = refl
+view_for_same nodes r ask.Refresh = refl
+view_for_same nodes r ask.Collect = refl

@@ -117,7 +117,7 @@ stop_goes credit w by i d q q' loose h enabled found st (b, (ends, eb), is, none
     let lt : i + 1 < size w = (id_within w by x found).1 in
     let a : MemberStands w st.places x (node_at q i) = stands_at credit.initial w q st.places i st.stand lt in
     let acts = found_later (id_of w by) x (λ y. running_refusal w y None) found enabled in
-    let up : (member_at w x).phase ≡ Up = running_phase w x _ (h.fit.none_waits x) acts in
+    let up : (member_at w x).phase ≡ Up = running_phase w x _ (h.none_waits x) acts in
     let w' : World = stopped_in w x (member_at w x).out in
     let does : effect w (Stop by) ≡ w' = found_does (id_of w by) x w (λ y. end_out Halted (stop_at w y) (member_at w y).out) found in
     goes_so credit.initial x w' (effect w (Stop by)) (record (with_node q i b) { stopped = q.stopped ++ x ∷ [] }) q' loose does is none

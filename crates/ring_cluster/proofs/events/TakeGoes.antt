@@ -1,5 +1,5 @@
 -- Where a member has taken a packet, the parties stand in the state after the ring's take.
-use Rattle.std.proofs.Common.{◌≡◌, ◌≢◌, ℕ, ◌+◌, ◌<◌, false, List, [], ◌∷◌, ◌++◌, length, drop, get_or, Option, Some, None, refl, sym, ap, subst, ◌∙◌, ⊎_elim, arith}
+use Rattle.std.proofs.Common.{◌≡◌, ◌≢◌, ℕ, ◌+◌, ◌<◌, Bool, true, false, cond, List, [], ◌∷◌, ◌++◌, length, drop, get_or, Option, Some, None, refl, sym, ap, subst, ◌∙◌, ⊎_elim, arith}
 use Rattle.std.specs.Prelude.{option_map}
 use Rattle.std.proofs.lemmas.Bool.{false≢true, cases_eq}
 use Rattle.std.proofs.lemmas.List.{get_or-set_same, get_or-set_other}
@@ -11,7 +11,7 @@ use Rattle.group_view.specs.declared.link.LinkName.{LinkName}
 use Rattle.ring_world.specs.declared.event.Event.TheVariants.{Take}
 use Rattle.ring_world.specs.declared.phase.Phase.TheVariants.{Up}
 use Rattle.ring_world.specs.Refusal.{is_empty}
-use Rattle.ring_world.specs.Machine.{World, Packet, Sending, Link, no_link, no_packet, member_at, link_at, oldest}
+use Rattle.ring_world.specs.Machine.{World, Packet, Sending, Link, no_link, no_packet, member_at, link_at, is_waiting, oldest}
 use Rattle.ring_world.specs.Compact.{passed}
 use Rattle.ring_world.specs.Step.{size, with_member, taker, popped, take_from}
 use Rattle.ring_world.specs.Event.{id_of, running_refusal, on_link, take_refusal, holds_nothing, at_found, taken_by, refusal, effect}
@@ -19,7 +19,7 @@ use Rattle.ring_world.proofs.events.Enabled.{running_phase, running_later, take_
 use Rattle.ring_world.proofs.runs.OwnLogs.{take_log}
 use Rattle.ring_world.proofs.events.Refusals.{id_within, none_of, not_less}
 use Rattle.gm_member.specs.Parcels.{ByOrigin}
-use Rattle.gm_member.specs.Held.{Held, Incoming, at_some, took_from, took_held}
+use Rattle.gm_member.specs.Held.{Held, Incoming, at_some, took_from, began_from, took_held}
 use Rattle.gm_member.specs.Stands.{incoming_in, lines_in, waits_for}
 use Rattle.gm_member.proofs.Parts.{current_waits_not}
 use Rattle.gm_member.proofs.TakeStands.{TakesFrom, take_stands}
@@ -79,9 +79,14 @@ take_rested o n n' k due t r = record { moved = r.moved; room = omega (arith, r.
 took_door : (g : Held) (ds : List Incoming) (k : ByOrigin) → took_held (record g { door = ds }) k ≡ record (took_held g k) { door = ds }
 took_door g ds k = by_current g.current
   where
-    by_current : (c : Option Incoming) → at_some c (record g { door = ds }) (took_from (record g { door = ds }) k) ≡ record (at_some c g (took_from g k)) { door = ds }
+    by_phase : (a : Incoming) (b : Bool) → cond b (began_from (record g { door = ds }) k a) (took_from (record g { door = ds }) k a) ≡ record (cond b (began_from g k a) (took_from g k a)) { door = ds }
+    by_phase a true = refl
+    by_phase a false = refl
+
+    by_current : (c : Option Incoming) → at_some c (record g { door = ds }) (λ a. cond (is_waiting g.phase) (began_from (record g { door = ds }) k a) (took_from (record g { door = ds }) k a))
+        ≡ record (at_some c g (λ a. cond (is_waiting g.phase) (began_from g k a) (took_from g k a))) { door = ds }
     by_current None = refl
-    by_current (Some a) = refl
+    by_current (Some a) = by_phase a (is_waiting g.phase)
 
 -- ---- the parties
 
@@ -146,7 +151,7 @@ take_goes credit w by i d q q' loose h enabled found st (b, (k, n, n', ends_link
     let p : Places = st.places in
     let a : MemberStands w p x (node_at q i) = stands_at credit.initial w q p i st.stand lt in
     let acts = found_later (id_of w by) x (λ y. running_refusal w y (on_link (member_at w y).current reason.NoCurrentLink (take_refusal w y))) found enabled in
-    let up : (member_at w x).phase ≡ Up = running_phase w x _ (h.fit.none_waits x) acts in
+    let up : (member_at w x).phase ≡ Up = running_phase w x _ (h.none_waits x) acts in
     let there = link_there (member_at w x).current reason.NoCurrentLink (take_refusal w x) (running_later w x _ acts) in
     let s : ℕ = there.0 in
     let current : (member_at w x).current ≡ Some s = there.1 in

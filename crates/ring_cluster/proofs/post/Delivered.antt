@@ -17,12 +17,14 @@ use Rattle.ring_cluster.specs.Parties.{ANode, Shown, PartiesSeen, parties, shown
 use Rattle.ring_cluster.specs.Standing.{StandSomewhere}
 use Rattle.ring_cluster.specs.Acting.{IsReady, stop_refused}
 use Rattle.ring_cluster.specs.Collecting.{AreOfRing}
-use Rattle.ring_cluster.specs.Refused.{mark_refused, office_of}
+use Rattle.ring_cluster.specs.Refused.{office_of}
+use Rattle.ring_cluster.specs.Looking.{ask_refused}
+use Rattle.gm_member.specs.declared.questions.Ask.{Ask}
 use Rattle.ring_cluster.proofs.events.After.{here_after, free_after, ready_after}
 use Rattle.ring_cluster.proofs.events.Closing.{few_after, unheard_after, stands_after, MayLookAt}
 use Rattle.ring_cluster.proofs.post.Gathers.{all_ring, is_known_there}
 use Rattle.ring_cluster.proofs.standing.Nodes.{read_shown, same_shown, shown_at}
-use Rattle.ring_cluster.proofs.events.Refusing.{mark_same}
+use Rattle.ring_cluster.proofs.events.Refusing.{ask_same}
 
 -- members, a registrar and a link behind it, as the parties are seen of which they are the parts
 abbrev pub seen_as : List Party → Registry (PlainIn Load) → Option Undelivered → PartiesSeen
@@ -116,9 +118,9 @@ module _ (a : Inside) (q : PartiesSeen) (is : gathered a ≡ q) where
           subst (λ (m : Shown). is_known a.registrar m.held.id ≡ true) (read_shown a.members.items i x (inside i l) e)
           (is_known_there stand.0 stand.1 stand.2 a.members.items a.registrar stand.3 i (inside i l))
 
-      -- why it doesn't have another marked dead
-      pub mark_is : (x : Party) → x ≡ get_or a.members.items i x → (d : ℕ) → mark_refused (office_of q.all) (node_at q.all i) (Some d) ≡ mark_refused a.registrar (shown_in x) (Some d)
-      mark_is x e d =
-          ap (λ p. mark_refused (office_of p) (node_at p i) (Some d)) (bare none)
-          ∙ mark_same a.members.items a.registrar (shown_at a.members.items i) d
-          ∙ ap (λ m. mark_refused a.registrar m (Some d)) (read_shown a.members.items i x (inside i l) e)
+      -- why it isn't answered with a view
+      pub ask_is : (x : Party) → x ≡ get_or a.members.items i x → (what : Ask) → ask_refused (office_of q.all) (node_at q.all i) what ≡ ask_refused a.registrar (shown_in x) what
+      ask_is x e what =
+          ap (λ p. ask_refused (office_of p) (node_at p i) what) (bare none)
+          ∙ ask_same a.members.items a.registrar (shown_at a.members.items i) what
+          ∙ ap (λ m. ask_refused a.registrar m what) (read_shown a.members.items i x (inside i l) e)

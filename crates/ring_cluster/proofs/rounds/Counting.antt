@@ -9,9 +9,9 @@ use Rattle.ring_world.specs.Event.{by_of}
 use Rattle.ring_world.proofs.events.Names.{same_bytes}
 use Rattle.ring_cluster.specs.declared.agenda.Task.{Task}
 use Rattle.ring_cluster.specs.Seen.{Seen, IsGoing, IsEventAt, SameButOwed, with_event}
-use Rattle.ring_cluster.specs.Plays.{performed, task_event}
+use Rattle.ring_cluster.specs.Plays.{performed, IsDoneBy}
 use Rattle.ring_cluster.specs.Turns.{DoesAtMost, events_of, EachDoesAtMost}
-use Rattle.ring_cluster.proofs.rounds.Named.{task_by, task_plain}
+use Rattle.ring_cluster.proofs.rounds.Named.{done_by, done_plain}
 
 -- ---- of one member
 
@@ -21,10 +21,9 @@ did_none turns i c d s = ([], ap (λ x. x.events) s.1 ∙ sym (append-nil c.even
 pub did_one : (i : ℕ) (c d : Seen) (e : Event) → IsEventAt c.names i e → SameButOwed (with_event c e) d → DoesAtMost 1 i c d
 did_one i c d e at s = (e ∷ [], ap (λ x. x.events) s.1, omega arith, All-cons (IsEventAt c.names i) e [] at (All-nil (IsEventAt c.names i)))
 
-pub did_task : (i : ℕ) (c d : Seen) (t : Task) (ts : List Task) → i < length c.names → SameButOwed (performed c i t ts) d → DoesAtMost 1 i c d
-did_task i c d t ts l s =
-    let e : Event = task_event (get_or c.names i []) t in
-    (e ∷ [], ap (λ x. x.events) s.1, omega arith, All-cons (IsEventAt c.names i) e [] (l, task_by (get_or c.names i []) t, task_plain (get_or c.names i []) t) (All-nil (IsEventAt c.names i)))
+pub did_task : (i : ℕ) (c d : Seen) (t : Task) (ts : List Task) (e : Event) → i < length c.names → IsDoneBy (get_or c.names i []) t e → SameButOwed (performed c i e ts) d → DoesAtMost 1 i c d
+did_task i c d t ts e l k s =
+    (e ∷ [], ap (λ x. x.events) s.1, omega arith, All-cons (IsEventAt c.names i) e [] (l, done_by (get_or c.names i []) t e k, done_plain (get_or c.names i []) t e k) (All-nil (IsEventAt c.names i)))
 
 pub did_fewer : (m n i : ℕ) (c d : Seen) → m ≤ n → DoesAtMost m i c d → DoesAtMost n i c d
 did_fewer m n i c d le h = (h.0, h.1, omega (arith, le, h.2), h.3)

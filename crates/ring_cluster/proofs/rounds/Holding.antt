@@ -59,7 +59,7 @@ node_stands credit names events q x s some le =
 
 pub node_holds : (credit : CreditSpec) (names : List (List ℕ)) (events : List Event) (q : Parties) (x : ℕ) → StandAfter credit names events q → 1 ≤ x → x ≤ length names → HoldsOf (state credit names events) x (node_at q (x - 1)).held
 node_holds credit names events q x s some le =
-    held_holds (state credit names events) x (node_at q (x - 1)).held (reached_fit credit names events s.journal.are s.journal.plain s.journal.run) (node_stands credit names events q x s some le)
+    held_holds (state credit names events) x (node_at q (x - 1)).held (reached_fit credit names events s.journal.are s.journal.run) (node_stands credit names events q x s some le)
 
 -- ---- whether a member is stale
 

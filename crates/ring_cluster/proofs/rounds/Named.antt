@@ -1,26 +1,28 @@
 -- The members of a cluster by their names, and what they may do.
-use Rattle.std.proofs.Common.{◌≡◌, ℕ, suc, ◌+◌, ◌-◌, ◌<◌, ◌≤◌, true, false, List, [], ◌∷◌, length, map, get_or, Option, Some, None, refl, sym, ap, subst, ◌∙◌, arith}
-use Rattle.std.specs.Prelude.{◌&&◌, nat_eq, MatchOption, bytes_eq, drop, option_map, position}
+use Rattle.std.proofs.Common.{◌≡◌, ℕ, suc, ◌+◌, ◌-◌, ◌<◌, ◌≤◌, Bool, true, false, List, [], ◌∷◌, length, map, get_or, Option, Some, None, inl, inr, refl, sym, ap, subst, ◌∙◌, arith}
+use Rattle.std.specs.Prelude.{◌&&◌, ◌||◌, not, is_some, nat_eq, MatchOption, bytes_eq, drop, option_map, position}
 use Rattle.std.proofs.lemmas.Bool.{false≢true, le-ltb}
 use Rattle.std.proofs.lemmas.List.{length-map, get_or-map}
 use Rattle.std.proofs.lemmas.List.Quantifiers.{position-Some}
 use Rattle.ring_names.specs.declared.reason.Reason.{Reason}
 use Rattle.ring_names.specs.declared.reason.Reason.TheVariants as reason
+use Rattle.ring_names.specs.Reason.{code_of}
 use Rattle.ring_names.specs.declared.numbers.CreditSpec.{CreditSpec}
 use Rattle.group_view.specs.Change.{AreOpeningNames}
 use Rattle.ring_world.specs.declared.event.Event.{Event}
-use Rattle.ring_world.specs.declared.event.Event.TheVariants.{Mark, Refresh}
+use Rattle.ring_world.specs.declared.event.Event.TheVariants.{Mark, Refresh, Erase}
 use Rattle.ring_world.specs.declared.phase.Phase.{Phase}
 use Rattle.ring_world.specs.declared.phase.Phase.TheVariants.{Waiting, Up, Stopped}
-use Rattle.ring_world.specs.Refusal.{refuse_if, or_else}
+use Rattle.ring_world.specs.Refusal.{refuse_if, or_else, is_empty}
 use Rattle.ring_world.specs.Machine.{Member, World, no_member, member_at, newest, runs, runs_phase, is_waiting}
 use Rattle.ring_world.specs.Step.{size, opening}
-use Rattle.ring_world.specs.Event.{by_of, id_of, of_member, is_plain, refused_at, is_stopped, up_refusal, refresh_refusal, refusal, ArePlain, IsRun}
+use Rattle.ring_world.specs.Event.{by_of, asked_of, id_of, of_member, is_plain, is_told, refused_at, is_stopped, running_refusal, up_refusal, refresh_refusal, erase_refusal, refusal, ArePlain, IsRun}
 use Rattle.ring_world.proofs.events.Plain.{up_of}
 use Rattle.ring_world.proofs.rings.Maps.{position_map}
 use Rattle.ring_world.proofs.events.Names.{same_bytes}
 use Rattle.gm_member.proofs.Names.{NamesAre, reached_names}
 use Rattle.gm_member.proofs.Fit.{IsFit, reached_fit}
+use Rattle.gm_member.proofs.Plain.{IsPlainFit, reached_plain}
 use Rattle.ring_cluster.specs.declared.agenda.Task.{Task}
 use Rattle.ring_cluster.specs.declared.agenda.Task.TheVariants as task
 use Rattle.ring_cluster.specs.declared.driver.OwnStep.{OwnStep}
@@ -31,12 +33,23 @@ use Rattle.ring_world.proofs.work.Fit as ring
 use Rattle.ring_world.proofs.work.Settling.{repair_less}
 use Rattle.ring_world.specs.Settling.{is_repair, stale_one}
 use Rattle.ring_cluster.specs.Seen.{Seen, state, state_of, IsGoing, IsEventAt}
-use Rattle.ring_cluster.specs.Plays.{task_event, place_among}
+use Rattle.ring_cluster.specs.Plays.{task_event, task_client, refused_task, IsDoneBy, place_among}
 use Rattle.ring_cluster.specs.Turns.{step_event}
 
 -- what holds of a value that is there
 pub from_some : {A : Type 0} (P : Type 0) (Q : A → Type 0) (o : Option A) (x : A) → o ≡ Some x → MatchOption o P Q → Q x
 from_some P Q o x e h = subst (λ k. MatchOption k P Q) e h
+
+-- a task that was found is the first of the agenda
+pub first_task : {X : Type 0} (task_in : X → Task) (o : Option X) (ts : List Task) → MatchOption o (ts ≡ []) (λ x. (rest : List Task) × (ts ≡ task_in x ∷ rest)) → is_some o ≡ not (is_empty ts)
+first_task task_in None ts h = sym (ap (λ xs. not (is_empty xs)) h)
+first_task task_in (Some x) ts h = sym (ap (λ xs. not (is_empty xs)) h.1)
+
+-- who neither runs nor has a task has none
+pub no_task : (on : Bool) (ts : List Task) → (on || not (is_empty ts)) ≡ false → ts ≡ []
+no_task true ts e = absurd (false≢true (sym e))
+no_task false [] e = refl
+no_task false (t ∷ ts) e = absurd (false≢true (sym e))
 
 -- ---- names and sizes
 
@@ -58,10 +71,13 @@ run_many credit names events are plain r = names_many names (state credit names 
 pub run_found : (credit : CreditSpec) (names : List (List ℕ)) (events : List Event) (i : ℕ) → AreOpeningNames names → ArePlain events → IsRun (opening credit names) events → i < length names → id_of (state credit names events) (get_or names i []) ≡ Some (i + 1)
 run_found credit names events i are plain r l =
     ap (id_of (state credit names events)) (sym (name_in names (state credit names events) i (reached_names credit names events are plain r) l))
-    ∙ (reached_fit credit names events are plain r).named (i + 1) (omega arith) (omega (arith, run_many credit names events are plain r))
+    ∙ (reached_fit credit names events are r).named (i + 1) (omega arith) (omega (arith, run_many credit names events are plain r))
 
 pub going_fit : (c : Seen) → IsGoing c → IsFit (state_of c)
-going_fit c g = reached_fit c.credit c.names c.events g.are g.plain g.run
+going_fit c g = reached_fit c.credit c.names c.events g.are g.run
+
+pub going_plain : (c : Seen) → IsGoing c → IsPlainFit (state_of c)
+going_plain c g = reached_plain c.credit c.names c.events g.are g.plain g.run
 
 -- and what holds of it as a state of the ring
 pub going_ring : (c : Seen) → IsGoing c → ring.IsFit (state_of c)
@@ -108,36 +124,83 @@ event_before c e x g some le is plain = (omega arith, is ∙ sym (name_before c 
 
 -- ---- tasks
 
-pub task_by : (name : List ℕ) (t : Task) → by_of (task_event name t) ≡ name
+task_by : (name : List ℕ) (t : Task) → by_of (task_event name t) ≡ name
 task_by name (task.Cast body) = refl
+task_by name task.Stop = refl
 
-pub task_plain : (name : List ℕ) (t : Task) → is_plain (task_event name t) ≡ true
+task_plain : (name : List ℕ) (t : Task) → is_plain (task_event name t) ≡ true
 task_plain name (task.Cast body) = refl
+task_plain name task.Stop = refl
 
--- who is refused a cast has stopped
-refused_stops : (f : Phase) (r : Reason) → is_waiting f ≡ false → or_else (refuse_if (is_stopped f) reason.Stopped) (or_else (refuse_if (is_waiting f) reason.Waiting) None) ≡ Some r → runs_phase f ≡ false
-refused_stops Waiting r n h = absurd (false≢true (sym n))
-refused_stops Up r n h = cc
-refused_stops Stopped r n h = refl
+client_by : (name : List ℕ) (t : Task) → asked_of (task_client name t) ≡ name
+client_by name (task.Cast body) = refl
+client_by name task.Stop = refl
 
-pub task_stops : (c : Seen) (i : ℕ) (t : Task) (r : Reason) → IsGoing c → i < length c.names → refusal (state_of c) (task_event (get_or c.names i []) t) ≡ Some r → runs (state_of c) (i + 1) ≡ false
-task_stops c i (task.Cast body) r g l h =
-    refused_stops (member_at (state_of c) (i + 1)).phase r ((going_fit c g).none_waits (i + 1))
-    (sym (ap (λ o. of_member o (λ x. up_refusal (state_of c) x None)) (going_found c i g l)) ∙ h)
+-- by whose event a task is done or refused
+pub done_by : (name : List ℕ) (t : Task) (e : Event) → IsDoneBy name t e → by_of e ≡ name
+done_by name t e (inl is) = ap by_of is ∙ task_by name t
+done_by name t e (inr is) = ap by_of is ∙ client_by name t
 
--- ---- a refresh
+pub done_plain : (name : List ℕ) (t : Task) (e : Event) → IsDoneBy name t e → is_plain e ≡ true
+done_plain name t e (inl is) = ap is_plain is ∙ task_plain name t
+done_plain name t e (inr is) = ap is_plain is
+
+-- ---- who may do a task, and who may refuse it
 
 up_enabled : (f : Phase) (later : Option Reason) → f ≡ Up → later ≡ None → or_else (refuse_if (is_stopped f) reason.Stopped) (or_else (refuse_if (is_waiting f) reason.Waiting) later) ≡ None
 up_enabled Waiting later e h = cc
 up_enabled Up later e h = h
 up_enabled Stopped later e h = cc
 
+running_enabled : (f : Phase) → f ≡ Up → or_else (refuse_if (is_stopped f) reason.Stopped) None ≡ None
+running_enabled Waiting e = refl
+running_enabled Up e = refl
+running_enabled Stopped e = cc
+
+-- what is asked of one that has stopped is refused as such
+stopped_told : (f : Phase) (later : Option Reason) → runs_phase f ≡ false
+    → refuse_if (not (is_told (code_of reason.Stopped) (or_else (refuse_if (is_stopped f) reason.Stopped) later))) reason.NotRefused ≡ None
+stopped_told Waiting later e = absurd (false≢true (sym e))
+stopped_told Up later e = absurd (false≢true (sym e))
+stopped_told Stopped later e = refl
+
+pub task_enabled : (c : Seen) (i : ℕ) (t : Task) → IsGoing c → i < length c.names → runs (state_of c) (i + 1) ≡ true → refusal (state_of c) (task_event (get_or c.names i []) t) ≡ None
+task_enabled c i (task.Cast body) g l r =
+    ap (λ o. of_member o (λ x. up_refusal (state_of c) x None)) (going_found c i g l)
+    ∙ up_enabled (member_at (state_of c) (i + 1)).phase None (up_of (state_of c) (i + 1) (going_plain c g).none_waits r) refl
+task_enabled c i task.Stop g l r =
+    ap (λ o. of_member o (λ x. running_refusal (state_of c) x None)) (going_found c i g l)
+    ∙ running_enabled (member_at (state_of c) (i + 1)).phase (up_of (state_of c) (i + 1) (going_plain c g).none_waits r)
+
+pub refused_enabled : (c : Seen) (i : ℕ) (t : Task) → IsGoing c → i < length c.names → runs (state_of c) (i + 1) ≡ false → refusal (state_of c) (refused_task (get_or c.names i []) t) ≡ None
+refused_enabled c i (task.Cast body) g l r =
+    ap (λ o. of_member o (λ x. refuse_if (not (is_told (code_of reason.Stopped) (up_refusal (state_of c) x None))) reason.NotRefused)) (going_found c i g l)
+    ∙ stopped_told (member_at (state_of c) (i + 1)).phase _ r
+refused_enabled c i task.Stop g l r =
+    ap (λ o. of_member o (λ x. refuse_if (not (is_told (code_of reason.Stopped) (running_refusal (state_of c) x None))) reason.NotRefused)) (going_found c i g l)
+    ∙ stopped_told (member_at (state_of c) (i + 1)).phase None r
+
+-- the event of a task, by a name that is that of its member, and the refusal of it
+pub done_enabled : (c : Seen) (i : ℕ) (t : Task) (name : List ℕ) (e : Event) → IsGoing c → i < length c.names → name ≡ get_or c.names i [] → runs (state_of c) (i + 1) ≡ true → e ≡ task_event name t → refusal (state_of c) e ≡ None
+done_enabled c i t name e g l same r is = subst (λ x. refusal (state_of c) x ≡ None) (sym (is ∙ ap (λ n. task_event n t) same)) (task_enabled c i t g l r)
+
+pub stopped_enabled : (c : Seen) (i : ℕ) (t : Task) (name : List ℕ) (e : Event) → IsGoing c → i < length c.names → name ≡ get_or c.names i [] → runs (state_of c) (i + 1) ≡ false → e ≡ refused_task name t → refusal (state_of c) e ≡ None
+stopped_enabled c i t name e g l same r is = subst (λ x. refusal (state_of c) x ≡ None) (sym (is ∙ ap (λ n. refused_task n t) same)) (refused_enabled c i t g l r)
+
+-- ---- a refresh
+
 -- who runs may read the newest view
-pub refresh_enabled : (w : World) (x : ℕ) → IsFit w → 1 ≤ x → x < size w → runs w x ≡ true → refusal w (Refresh (member_at w x).name (newest w)) ≡ None
+pub refresh_enabled : (w : World) (x : ℕ) → IsPlainFit w → 1 ≤ x → x < size w → runs w x ≡ true → refusal w (Refresh (member_at w x).name (newest w)) ≡ None
 refresh_enabled w x f some lt r =
-    ap (λ o. of_member o (λ k. up_refusal w k (refresh_refusal w k (newest w)))) (f.named x some lt)
+    ap (λ o. of_member o (λ k. up_refusal w k (refresh_refusal w k (newest w)))) (f.fit.named x some lt)
     ∙ up_enabled (member_at w x).phase (refresh_refusal w x (newest w)) (up_of w x f.none_waits r)
-    (rw (le-ltb (newest w) (member_at w x).version (f.good.inv.is_ring.held x), le-ltb (newest w) (newest w) (omega arith)) refl)
+    (rw (le-ltb (newest w) (member_at w x).version (f.fit.good.inv.is_ring.held x), le-ltb (newest w) (newest w) (omega arith)) refl)
+
+-- whom it may have erased it may by that one's name
+pub erase_enabled : (w : World) (x p : ℕ) → IsPlainFit w → 1 ≤ x → x < size w → 1 ≤ p → p < size w → runs w x ≡ true → erase_refusal w x p ≡ None → refusal w (Erase (member_at w x).name (member_at w p).name) ≡ None
+erase_enabled w x p f some lt some_p lt_p r h =
+    ap (λ o. of_member o (λ k. up_refusal w k (of_member (id_of w (member_at w p).name) (erase_refusal w k)))) (f.fit.named x some lt)
+    ∙ up_enabled (member_at w x).phase _ (up_of w x f.none_waits r) (ap (λ o. of_member o (erase_refusal w x)) (f.fit.named p some_p lt_p) ∙ h)
 
 -- ---- what leaves less to do
 
@@ -167,6 +230,9 @@ step_plain step.Put by = refl
 
 pub mark_less : (c : Seen) (by dead : List ℕ) → IsGoing c → LeavesLess (state_of c) (Mark by dead)
 mark_less c by dead g = repair_less (state_of c) (going_ring c g) (Mark by dead) refl
+
+pub erase_less : (c : Seen) (by origin : List ℕ) → IsGoing c → LeavesLess (state_of c) (Erase by origin)
+erase_less c by origin g = repair_less (state_of c) (going_ring c g) (Erase by origin) refl
 
 pub refresh_less : (c : Seen) (x : ℕ) (by : List ℕ) (version : ℕ) → IsGoing c → 1 ≤ x → x ≤ length c.names → by ≡ (member_at (state_of c) x).name → version ≡ newest (state_of c) → is_stale (newest (state_of c)) (member_at (state_of c) x) ≡ true → LeavesLess (state_of c) (Refresh by version)
 refresh_less c x by version g some le e v was = repair_less (state_of c) (going_ring c g) (Refresh by version) repairs

@@ -1,9 +1,14 @@
 -- When a cluster has nothing left to do.
-use Rattle.std.proofs.Common.{◌≡◌, ℕ, ◌+◌, ◌-◌, ◌<◌, ◌≤◌, true, false, List, length, refl, sym, ap, subst, ◌∙◌, arith}
+use Rattle.std.proofs.Common.{◌≡◌, ◌≢◌, ℕ, suc, ◌+◌, ◌-◌, ◌<◌, ◌≤◌, Bool, true, false, cond, not, nat_eq, List, [], ◌∷◌, length, get_or, None, refl, sym, ap, subst, ◌∙◌, arith}
+use Rattle.std.specs.Prelude.{All, Contains}
+use Rattle.std.proofs.lemmas.List.Elements.{All-contains}
 use Rattle.std.proofs.lemmas.Bool.{false≢true}
-use Rattle.ring_script.specs.declared.command.Command.{Command}
-use Rattle.group_view.specs.View.{right_of as right_of_entries}
-use Rattle.group_view.proofs.Passing.{live_in}
+use Rattle.ring_names.specs.declared.reason.Reason.TheVariants as reason
+use Rattle.group_view.specs.declared.entry.Entry.{Entry}
+use Rattle.group_view.specs.Ring.{is_in}
+use Rattle.group_view.specs.View.{entry_in, is_dead, is_dead_mark, ids as ids_of, right_of as right_of_entries}
+use Rattle.group_view.proofs.Passing.{live_in, dead_in}
+use Rattle.group_view.proofs.Rings.{nat_eq-is}
 use Rattle.ring_world.specs.View.{is_live}
 use Rattle.ring_world.specs.Machine.{World, member_at, view_in, newest, right, runs}
 use Rattle.ring_world.specs.Step.{size}
@@ -11,20 +16,19 @@ use Rattle.ring_world.specs.Quiet.{IsQuiet}
 use Rattle.ring_world.proofs.invariants.Period.{right_lives}
 use Rattle.ring_world.proofs.walks.Views.{right_is}
 use Rattle.ring_world.proofs.walks.Ended.{runs_lt}
-use Rattle.ring_world.proofs.walks.Put.{runs_phase-Up}
+use Rattle.ring_world.specs.Event.{erase_refusal}
+use Rattle.ring_world.proofs.events.Refusals.{none_of, not_false}
+use Rattle.ring_world.proofs.rests.Rests.{id_in, entry_at, run_worked_is_quiet}
 use Rattle.ring_cluster.specs.declared.driver.OwnStep.TheVariants as step
-use Rattle.ring_world.specs.Idle.{HasNoStep, NobodySteps, MarksNobody}
+use Rattle.ring_world.specs.Idle.{HasNoStep, NobodySteps, MarksNobody, ErasesNobody}
 use Rattle.ring_world.specs.Work.{is_stale}
 use Rattle.ring_world.proofs.events.Plain.{up_of}
 use Rattle.ring_world.proofs.work.Fit as ring
 use Rattle.ring_world.proofs.work.Nobody.{ring_members}
 use Rattle.ring_world.proofs.work.Settling.{no_step, no_mark, someone}
-use Rattle.ring_cluster.specs.Idle.{NobodyStopped}
 use Rattle.ring_cluster.specs.Seen.{Seen, state_of, IsGoing, SameButOwed}
-use Rattle.ring_cluster.specs.Plays.{AgendasAreDone, AgendasAreEmpty}
-use Rattle.ring_cluster.specs.Turns.{SamePhases, MayStepNowhere, RestsAt}
-use Rattle.ring_cluster.proofs.work.Rest.{run_alive_is_quiet}
-use Rattle.ring_cluster.proofs.rounds.Named.{going_fit, going_ring, going_many}
+use Rattle.ring_cluster.specs.Turns.{MayStepNowhere, ErasesNoneAt, RestsAt}
+use Rattle.ring_cluster.proofs.rounds.Named.{going_plain, going_ring, going_many}
 
 -- ---- the right neighbour of a member that runs
 
@@ -37,6 +41,39 @@ right_there w x f r =
 -- the view finds it
 pub right_found : (w : World) (x : ℕ) → right_of_entries (view_in w (newest w)).entries x ≡ right w (newest w) x
 right_found w x = sym (right_is w (newest w) x (view_in w (newest w)) refl)
+
+-- ---- who may be erased
+
+-- an entry of the newest view is one of the members
+pub entry_there : (w : World) (e : Entry) → ring.IsFit w → Contains (view_in w (newest w)).entries e → (1 ≤ e.id.0) × (e.id.0 < size w)
+entry_there w e f h =
+    let es : List Entry = (view_in w (newest w)).entries in
+    All-contains (λ (x : Entry). (1 ≤ x.id.0) × (x.id.0 < size w)) es e (λ k d l. ring_members w f.good f.nobody (get_or es k d).id.0 (id_in es k d l)) h
+
+-- only the dead are erased
+erased_is_dead : (w : World) (y p : ℕ) → erase_refusal w y p ≡ None → is_dead (view_in w (newest w)).entries p ≡ true
+erased_is_dead w y p h = not_false _ (none_of (not (is_dead (view_in w (newest w)).entries p)) reason.NotDead _ h).0
+
+pub not_dead_stays : (w : World) (y : ℕ) (e : Entry) → ring.IsFit w → Contains (view_in w (newest w)).entries e → is_dead_mark e.mark ≡ false → erase_refusal w y e.id.0 ≢ None
+not_dead_stays w y e f h lives none =
+    let es : List Entry = (view_in w (newest w)).entries in
+    let is : entry_in es e.id.0 ≡ e = All-contains (λ (x : Entry). entry_in es x.id.0 ≡ x) es e (λ k d l. entry_at es k d (f.good.inv.is_ring.distinct (newest w) (omega arith)) l) h in
+    false≢true (sym lives ∙ ap (λ (x : Entry). is_dead_mark x.mark) (sym is) ∙ erased_is_dead w y e.id.0 none)
+
+-- what holds of each entry's id holds of the id of any
+at_id : (P : ℕ → Type 0) (es : List Entry) (p : ℕ) → All (λ (e : Entry). P e.id.0) es → is_in p (ids_of es) ≡ true → P p
+at_id P [] p h i = absurd (false≢true i)
+at_id P (e ∷ es) p h i = by_test (nat_eq p e.id.0) refl i (λ k. at_id P es p (λ j d l. h (suc j) d (omega arith)) k)
+  where
+    by_test : (b : Bool) → nat_eq p e.id.0 ≡ b → cond b true (is_in p (ids_of es)) ≡ true → (is_in p (ids_of es) ≡ true → P p) → P p
+    by_test true t k later = subst P (sym (nat_eq-is p e.id.0 t)) (h 0 e (omega arith))
+    by_test false t k later = later k
+
+-- where none of the entries may be erased, nobody may
+pub erases_none : (w : World) (y : ℕ) → All (λ (e : Entry). erase_refusal w y e.id.0 ≢ None) (view_in w (newest w)).entries → ErasesNoneAt w y
+erases_none w y h p lt none =
+    let es : List Entry = (view_in w (newest w)).entries in
+    at_id (λ k. erase_refusal w y k ≢ None) es p h (dead_in es p (erased_is_dead w y p none)) none
 
 -- ---- who has nothing to do
 
@@ -71,30 +108,11 @@ steps_after c d g h = subst (λ x. NobodySteps (state_of x)) (sym h.0.1) (λ y r
 pub marks_after : (c d : Seen) → IsGoing c → SameButOwed c d × ((i : ℕ) → i < length c.names → RestsAt (state_of c) (i + 1)) → MarksNobody (state_of d)
 marks_after c d g h = subst (λ x. MarksNobody (state_of x)) (sym h.0.1) (λ y r.
     let w : World = state_of c in
-    no_mark w (going_ring c g) y (right w (newest w) y) r (up_of w y (going_fit c g).none_waits r) (right_there w y (going_ring c g) r).1 (rests_at c y g h.1 r).2)
+    no_mark w (going_ring c g) y (right w (newest w) y) r (up_of w y (going_plain c g).none_waits r) (right_there w y (going_ring c g) r).1 (rests_at c y g h.1 r).2)
 
--- ---- where nobody has stopped
+pub erases_after : (c d : Seen) → IsGoing c → SameButOwed c d × ((i : ℕ) → i < length c.names → RestsAt (state_of c) (i + 1)) → ErasesNobody (state_of d)
+erases_after c d g h = subst (λ x. ErasesNobody (state_of x)) (sym h.0.1) (λ y r. (rests_at c y g h.1 r).3)
 
-pub still_alive_in : (w w' : World) → SamePhases w w' → NobodyStopped w → NobodyStopped w'
-still_alive_in w w' s h x some lt = s.phase x ∙ h x some (omega (arith, s.many))
-
-pub still_alive : (c d : Seen) → SamePhases (state_of c) (state_of d) → NobodyStopped (state_of c) → NobodyStopped (state_of d)
-still_alive c d = still_alive_in (state_of c) (state_of d)
-
-pub alive_is_quiet : (c : Seen) → IsGoing c → NobodyStopped (state_of c) → NobodySteps (state_of c) → IsQuiet (state_of c)
-alive_is_quiet c g = run_alive_is_quiet c.credit c.names c.events g.are g.run
-
-pub done_is_empty : (c : Seen) → IsGoing c → NobodyStopped (state_of c) → AgendasAreDone c → AgendasAreEmpty c
-done_is_empty c g alive done i l = done i l (runs_phase-Up (state_of c) (i + 1) (alive (i + 1) (omega arith) (omega (arith, going_many c g, g.agendas))))
-
--- ---- the same, where only what was given or the rounds differ
-
--- c1 has another count of rounds than c, and c2 another list of what was given than c1
-pub alive_from : (c c1 c2 d : Seen) (rounds : ℕ) (given : List Command) → c1 ≡ record c { rounds = rounds } → c2 ≡ record c1 { given = given } → SamePhases (state_of c2) (state_of d) → NobodyStopped (state_of c) → NobodyStopped (state_of d)
-alive_from c c1 c2 d rounds given e1 e2 s h = still_alive c2 d s (subst NobodyStopped (sym (ap state_of e2 ∙ ap state_of e1)) h)
-
-pub alive_noted : (c c2 d : Seen) (given : List Command) → c2 ≡ record c { given = given } → SamePhases (state_of c2) (state_of d) → NobodyStopped (state_of c) → NobodyStopped (state_of d)
-alive_noted c c2 d given e2 s h = still_alive c2 d s (subst NobodyStopped (sym (ap state_of e2)) h)
-
-pub alive_into : (d e : Seen) (given : List Command) → e ≡ record d { given = given } → NobodyStopped (state_of d) → NobodyStopped (state_of e)
-alive_into d e given is h = subst NobodyStopped (sym (ap state_of is)) h
+-- where nobody has anything to do any more, it is quiet
+pub worked_is_quiet : (c : Seen) → IsGoing c → NobodySteps (state_of c) → MarksNobody (state_of c) → ErasesNobody (state_of c) → IsQuiet (state_of c)
+worked_is_quiet c g = run_worked_is_quiet c.credit c.names c.events g.are g.run

@@ -1,19 +1,16 @@
 -- One turn after another, where members may stop.
-use Rattle.std.proofs.Common.{◌≡◌, ◌≢◌, ◌⊎◌, ℕ, ◌+◌, ◌<◌, ◌≤◌, Bool, true, false, ◌||◌, List, [], ◌∷◌, length, get_or, None, inl, inr, refl, sym, ap, subst, ◌∙◌, ⊎_elim, arith}
+use Rattle.std.proofs.Common.{◌≡◌, ◌≢◌, ℕ, ◌+◌, ◌<◌, ◌≤◌, Bool, true, false, ◌||◌, [], length, refl, sym, ap, subst, ◌∙◌, ⊎_elim, arith}
 use Rattle.std.proofs.lemmas.Bool.{cases_eq, false≢true}
 use Rattle.ring_world.specs.declared.event.Event.{Event}
-use Rattle.ring_world.specs.Machine.{runs}
-use Rattle.ring_world.specs.Event.{refusal, is_asked}
-use Rattle.ring_cluster.specs.declared.agenda.Task.{Task}
+use Rattle.ring_world.specs.Event.{is_asked}
 use Rattle.ring_world.specs.Work.{total}
 use Rattle.ring_cluster.specs.Seen.{Seen, state_of, IsGoing, SameButOwed, with_event}
-use Rattle.ring_cluster.specs.Plays.{agenda_at, performed, task_event, SameGiven, HasBegun, AgendasAreDone}
+use Rattle.ring_cluster.specs.Plays.{agenda_at, SameGiven, HasBegun, AgendasAreEmpty}
 use Rattle.ring_cluster.specs.Turns.{Works, TakesTurns, TakesRound, IsDoneAt, RestsAt}
-use Rattle.ring_cluster.proofs.work.Phases.{same_refl, same_trans, same_runs}
 use Rattle.ring_cluster.proofs.post.Owed.{but_refl, but_trans}
 use Rattle.ring_cluster.proofs.rounds.Playing.{HasGoneOn-refl, HasGoneOn-showing, HasGoneOn-trans}
 use Rattle.ring_cluster.proofs.rounds.Counting.{did_none, did_fewer, did_later, did_more, few_none, few_more, few_each}
-use Rattle.ring_cluster.proofs.rounds.Doing.{own_falls, own_goes, own_stays, performed_goes, performed_shrinks, performed_elsewhere, performed_stays, begun_on, begun_later}
+use Rattle.ring_cluster.proofs.rounds.Doing.{Performs, own_falls, own_goes, performed_goes, performed_shrinks, performed_elsewhere, begun_on, begun_later}
 
 pub given_refl : (c : Seen) → SameGiven c c
 given_refl c = (refl, refl)
@@ -24,15 +21,15 @@ given_trans c d e a b = (b.0 ∙ a.0, b.1 ∙ a.1)
 -- ---- rounds
 
 pub round_refl : (c : Seen) → TakesRound c c
-round_refl c = record { goes = HasGoneOn-refl c; given = given_refl c; names = refl; phases = same_refl (state_of c) }
+round_refl c = record { goes = HasGoneOn-refl c; given = given_refl c; names = refl }
 
 pub round_trans : (c d e : Seen) → TakesRound c d → TakesRound d e → TakesRound c e
-round_trans c d e a b = record { goes = HasGoneOn-trans c d e a.goes b.goes; given = given_trans c d e a.given b.given; names = b.names ∙ a.names; phases = same_trans (state_of c) (state_of d) (state_of e) a.phases b.phases }
+round_trans c d e a b = record { goes = HasGoneOn-trans c d e a.goes b.goes; given = given_trans c d e a.given b.given; names = b.names ∙ a.names }
 
 -- ---- work
 
 pub works_same : (c d : Seen) → SameButOwed c d → Works c d
-works_same c d e = subst (Works c) (sym e.1) (record { round = record { goes = HasGoneOn-showing c e.0; given = (refl, refl); names = refl; phases = same_refl (state_of c) }; agendas = refl })
+works_same c d e = subst (Works c) (sym e.1) (record { round = record { goes = HasGoneOn-showing c e.0; given = (refl, refl); names = refl }; agendas = refl })
 
 pub works_refl : (c : Seen) → Works c c
 works_refl c = works_same c c (but_refl c)
@@ -40,9 +37,9 @@ works_refl c = works_same c c (but_refl c)
 pub works_trans : (c d e : Seen) → Works c d → Works d e → Works c e
 works_trans c d e a b = record { round = round_trans c d e a.round b.round; agendas = b.agendas ∙ a.agendas }
 
-pub own_works : (c d : Seen) (e : Event) → IsGoing c → is_asked e ≡ false → SameButOwed (with_event c e) d → Works c d
-own_works c d e g l is = record {
-  round = record { goes = own_goes c d e l is; given = subst (SameGiven c) (sym is.1) (given_refl c); names = ap (λ x. x.names) is.1; phases = own_stays c d e g l is };
+pub own_works : (c d : Seen) (e : Event) → is_asked e ≡ false → SameButOwed (with_event c e) d → Works c d
+own_works c d e l is = record {
+  round = record { goes = own_goes c d e l is; given = subst (SameGiven c) (sym is.1) (given_refl c); names = ap (λ x. x.names) is.1 };
   agendas = ap (λ x. x.agendas) is.1;
 }
 
@@ -68,36 +65,23 @@ turns_trans i c d e a b = record {
   elsewhere = λ j ne. b.elsewhere j ne ∙ a.elsewhere j ne;
 }
 
--- the member at a place has done the first of its tasks
-abbrev pub Performs : ℕ → Seen → Seen → Type 0
-Performs i c d = (t : Task) × (ts : List Task) × (agenda_at c.agendas i ≡ t ∷ ts) × (refusal (state_of c) (task_event (get_or c.names i []) t) ≡ None) × SameButOwed (performed c i t ts) d
-
 pub performed_turns : (i : ℕ) (c d : Seen) → IsGoing c → i < length c.names → Performs i c d → TakesTurns i c d
 performed_turns i c d g l p = record {
   round = record {
-    goes = performed_goes c d i p.0 p.1 g l p.2 p.4;
-    given = subst (SameGiven c) (sym p.4.1) (given_refl c);
-    names = ap (λ x. x.names) p.4.1;
-    phases = performed_stays c d i p.0 p.1 p.4;
+    goes = performed_goes i c d g l p;
+    given = subst (SameGiven c) (sym p.6.1) (given_refl c);
+    names = ap (λ x. x.names) p.6.1;
   };
-  shrinks = omega (arith, performed_shrinks c d i p.0 p.1 g l p.2 p.4);
-  elsewhere = performed_elsewhere c d i p.0 p.1 p.4;
+  shrinks = omega (arith, performed_shrinks i c d g l p);
+  elsewhere = performed_elsewhere i c d p;
 }
 
 pub performed_begun : (i : ℕ) (c d : Seen) → IsGoing c → i < length c.names → Performs i c d → HasBegun i c d
-performed_begun i c d g l p r some = performed_shrinks c d i p.0 p.1 g l p.2 p.4
+performed_begun i c d g l p some = performed_shrinks i c d g l p
 
-pub performed_fewer : (i : ℕ) (c d : Seen) → IsGoing c → i < length c.names → Performs i c d → length (agenda_at d.agendas i) < length (agenda_at c.agendas i)
-performed_fewer i c d g l p = performed_shrinks c d i p.0 p.1 g l p.2 p.4
-
--- who has no task, or has stopped
-pub done_begun : (i : ℕ) (c d : Seen) → (agenda_at c.agendas i ≡ []) ⊎ (runs (state_of c) (i + 1) ≡ false) → HasBegun i c d
-done_begun i c d (inl e) r some = absurd (omega (arith, ap length e))
-done_begun i c d (inr e) r some = absurd (false≢true (sym e ∙ r))
-
-pub done_at : (i : ℕ) (c : Seen) → (agenda_at c.agendas i ≡ []) ⊎ (runs (state_of c) (i + 1) ≡ false) → IsDoneAt i c
-done_at i c (inl e) r = e
-done_at i c (inr e) r = absurd (false≢true (sym e ∙ r))
+-- who has no task
+pub done_begun : (i : ℕ) (c d : Seen) → agenda_at c.agendas i ≡ [] → HasBegun i c d
+done_begun i c d e some = absurd (omega (arith, ap length e))
 
 pub begun_still : (i : ℕ) (c d e : Seen) → HasBegun i c d → TakesTurns i d e → HasBegun i c e
 begun_still i c d e h t = begun_on i c d e h t.shrinks
@@ -124,7 +108,7 @@ begun_more k c d e b t h = record {
   round = round_trans c d e b.round (turns_round k d e t);
   begun = λ i l.
       ⊎_elim
-      (λ (same : i ≡ k). subst (λ j. HasBegun j c e) (sym same) (begun_later k c d e (same_runs (state_of c) (state_of d) (k + 1) b.round.phases) (b.others k (omega arith)) h))
+      (λ (same : i ≡ k). subst (λ j. HasBegun j c e) (sym same) (begun_later k c d e (b.others k (omega arith)) h))
       (λ (ne : i ≢ k). begun_on i c d e (b.begun i (omega arith)) (omega (arith, ap length (t.elsewhere i ne))))
       (cases_eq i k);
   others = λ i l. t.elsewhere i (λ same. omega arith) ∙ b.others i (omega arith);
@@ -144,17 +128,16 @@ done_more k c d e b t h = record {
   done = λ i l.
       ⊎_elim
       (λ (same : i ≡ k). subst (λ j. IsDoneAt j e) (sym same) h)
-      (λ (ne : i ≢ k). λ r. t.elsewhere i ne ∙ b.done i (omega arith) (sym (same_runs (state_of d) (state_of e) (i + 1) t.round.phases) ∙ r))
+      (λ (ne : i ≢ k). t.elsewhere i ne ∙ b.done i (omega arith))
       (cases_eq i k);
 }
 
-pub all_done : (k : ℕ) (c d : Seen) → IsGoing d → k ≡ length d.names → DoneBelow k c d → AgendasAreDone d
+pub all_done : (k : ℕ) (c d : Seen) → IsGoing d → k ≡ length d.names → DoneBelow k c d → AgendasAreEmpty d
 all_done k c d g e b i l = b.done i (omega (arith, g.agendas))
 
 -- they are still, after members have worked
-pub done_still : (c d : Seen) → AgendasAreDone c → Works c d → AgendasAreDone d
-done_still c d h w i l r =
-    ap (λ ags. agenda_at ags i) w.agendas ∙ h i (omega (arith, ap length w.agendas)) (sym (same_runs (state_of c) (state_of d) (i + 1) w.round.phases) ∙ r)
+pub done_still : (c d : Seen) → AgendasAreEmpty c → Works c d → AgendasAreEmpty d
+done_still c d h w i l = ap (λ ags. agenda_at ags i) w.agendas ∙ h i (omega (arith, ap length w.agendas))
 
 -- ---- a pass
 
@@ -197,7 +180,7 @@ pub ruleset more_turns = (turns_trans, turns_refl, begun_still, did_none, did_fe
 pub ruleset rounds = (begun_more, begun_none, round_trans, turns_round, few_none, few_more, few_each)
 
 -- what it does that all tasks of one member are done
-pub ruleset tasks = (performed_turns, performed_fewer, turns_trans, turns_same, turns_refl, done_at)
+pub ruleset tasks = (performed_turns, performed_shrinks, turns_trans, turns_same, turns_refl)
 
 -- and those of all members
 pub ruleset all_tasks = (done_more, done_none, round_trans, turns_round, all_done)

@@ -41,7 +41,7 @@ nothing_passes t a n h = filter_agree t (λ _. false) a n h ∙ none (range_with
 
 module _ (credit : CreditSpec) (names : List (List ℕ)) (are : AreOpeningNames names) where
   fit : IsFit (opening credit names)
-  fit = reached_fit credit names [] are refl tt
+  fit = reached_fit credit names [] are tt
 
   many : length (opening credit names).links ≡ length names
   many = length-map-range_with_len (opening_link credit names) 1 (length names)

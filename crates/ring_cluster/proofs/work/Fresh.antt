@@ -12,7 +12,7 @@ use Rattle.ring_world.specs.declared.phase.Ending.TheVariants.{Halted}
 use Rattle.ring_world.specs.Machine.{Member, Link, World, no_link, member_at, link_at, view_in, newest, runs_phase}
 use Rattle.ring_world.specs.OpenLinks.{is_place, is_current, is_door_link, passes}
 use Rattle.ring_world.specs.Step.{size, published, publish_at, put_on, gain_on, taker, take_from, pushed, popped, next_packet, finished, stopped, stop_at, ended, end_out, opening}
-use Rattle.ring_world.specs.Event.{is_plain, ArePlain, refreshed, refusal, effect, IsRun, last}
+use Rattle.ring_world.specs.Event.{is_plain, ArePlain, erased_view, refreshed, refusal, effect, IsRun, last}
 use Rattle.ring_world.proofs.events.Cases.{up_runs}
 use Rattle.ring_world.proofs.events.Composed.{end_composed}
 use Rattle.ring_world.proofs.events.Plain.{NoneWaits, each_plain, plain_events, opening_none}
@@ -107,8 +107,10 @@ event_keeps w e p g n r = each_plain (Keeps w) w e p n (record {
   gains = λ x o u out k. keeps_set w w.members o _ (g.inv.linked.out_lt x o (ap runs_phase u.up) out) (λ _. refl);
   stops = λ x u. stop_keeps w x (member_at w x).out (λ k out. g.inv.linked.out_lt x k (ap runs_phase u.up) out);
   marks = λ x d u m. refresh_keeps w (w.views ++ marked (view_in w (newest w)) d ∷ []) x (newest w + 1) u.lt;
+  erases = λ x d u m. refresh_keeps w (w.views ++ erased_view w d ∷ []) x (newest w + 1) u.lt;
   refreshes = λ x v u m. refresh_keeps w w.views x v u.lt;
   picks = λ y s u none at upto. keeps_links w w.views _;
+  refuses = keeps_links w w.views w.members;
 }) r
 
 -- no link rises from its place
@@ -122,8 +124,10 @@ event_places w e p g n r = each_plain (KeepsPlaces w) w e p n (record {
   stops = λ x u. written_places w (end_out Halted (stop_at w x) (member_at w x).out) x (stopped (member_at w x)) g
       (end_composed (λ w'. IsWritten w w' x (stopped (member_at w x))) Halted (stop_at w x) (member_at w x).out (λ _ _ m. record { many = m.many; here = m.here; others = m.others }) (written w w.views x (stopped (member_at w x)) w.links u.lt)) refl;
   marks = λ x d u m. refresh_places w (w.views ++ marked (view_in w (newest w)) d ∷ []) x (newest w + 1) g u.lt;
+  erases = λ x d u m. refresh_places w (w.views ++ erased_view w d ∷ []) x (newest w + 1) g u.lt;
   refreshes = λ x v u m. refresh_places w w.views x v g u.lt;
   picks = λ y s u none at upto. pick_places w y s g u.lt none at upto;
+  refuses = written_places w w 0 (member_at w 0) g (unwritten w 0 w.links) refl;
 }) r (event_good w e g r) (event_later w e g r)
 
 -- a link that waits then has waited before, or is new

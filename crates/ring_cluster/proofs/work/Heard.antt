@@ -21,7 +21,7 @@ use Rattle.ring_world.proofs.invariants.Happens.{IsGood}
 use Rattle.ring_world.proofs.runs.Confirmed.{runs_in_walk}
 use Rattle.ring_world.proofs.events.Plain.{NoneWaits, up_of}
 use Rattle.ring_world.proofs.walks.Ended.{runs_lt}
-use Rattle.gm_member.proofs.Fit.{IsFit, reached_fit}
+use Rattle.gm_member.proofs.Plain.{IsPlainFit, reached_plain}
 use Rattle.ring_cluster.specs.Heard.{HasHeardAll}
 
 -- ---- what has come round twice was forgotten by its publisher
@@ -57,16 +57,16 @@ module _ (w : World) (p : ℕ) (g : IsGood w) (n : NoneWaits w) (some : 1 ≤ p)
 
 -- ---- a ring at rest
 
-module _ (w : World) (h : IsFit w) (rest : IsAtRest w) where
+module _ (w : World) (h : IsPlainFit w) (rest : IsAtRest w) where
   -- all that a running member published was forgotten by it
   all_forgotten : (p : ℕ) → 1 ≤ p → runs w p ≡ true → length (log_of w p) ≤ (row_of w p p).forgot
-  all_forgotten p some rp = omega (arith, (rest.members p rp).come_round, retired_is_forgotten w p h.good h.none_waits some rp)
+  all_forgotten p some rp = omega (arith, (rest.members p rp).come_round, retired_is_forgotten w p h.fit.good h.none_waits some rp)
 
   pub rest_has_heard : HasHeardAll w
   rest_has_heard = record {
-    confirmed = λ p some rp. omega (arith, all_forgotten p some rp, (h.lawful.within.rows p p).forgot);
+    confirmed = λ p some rp. omega (arith, all_forgotten p some rp, (h.fit.lawful.within.rows p p).forgot);
     heard = λ q p some rp up.
-        let all : length (log_of w p) ≤ (row_of w q p).got = omega (arith, all_forgotten p some rp, h.lawful.confirmed.up q p some (runs_lt w p rp) up) in
+        let all : length (log_of w p) ≤ (row_of w q p).got = omega (arith, all_forgotten p some rp, h.fit.lawful.confirmed.up q p some (runs_lt w p rp) up) in
         h.heard q p ∙ take_all (row_of w q p).got (log_of w p) all;
   }
 
@@ -84,4 +84,4 @@ pub run_quiet_has_heard : (credit : CreditSpec) (names : List (List ℕ)) (event
 run_quiet_has_heard credit names events are plain r quiet =
     let w : World = last (opening credit names) events in
     ⊎_elim (λ (none : (y : ℕ) → runs w y ≡ false). nobody_has w none)
-    (λ (rest : IsAtRest w). rest_has_heard w (reached_fit credit names events are plain r) rest) quiet
+    (λ (rest : IsAtRest w). rest_has_heard w (reached_plain credit names events are plain r) rest) quiet

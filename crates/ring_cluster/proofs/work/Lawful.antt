@@ -6,6 +6,7 @@ use Rattle.ring_world.specs.declared.event.Event.{Event}
 use Rattle.ring_world.specs.Machine.{World, link_at}
 use Rattle.ring_world.specs.Step.{opening}
 use Rattle.ring_world.specs.Event.{ArePlain, IsRun, last}
+use Rattle.ring_world.proofs.events.Plain.{NoneWaits, plain_reached}
 use Rattle.ring_world.proofs.runs.LinkCredit.{LinkIsKept, run_credited}
 use Rattle.gm_member.proofs.Fit.{IsFit, reached_fit}
 use Rattle.gm_member.proofs.WithinLinks.{AllWithin, reached_within}
@@ -13,6 +14,8 @@ use Rattle.ring_cluster.proofs.work.Given.{run_gives}
 
 pub record IsLawfulAt (credit : CreditSpec) (w : World) : Type 0 where
   pub fit : IsFit w
+  -- nobody waits
+  pub none_waits : NoneWaits w
   pub within : AllWithin w
   pub initial_is : w.initial ≡ credit.initial
   pub more_is : w.more ≡ credit.more
@@ -22,7 +25,8 @@ pub record IsLawfulAt (credit : CreditSpec) (w : World) : Type 0 where
 
 pub lawful_at : (credit : CreditSpec) (names : List (List ℕ)) (events : List Event) → AreOpeningNames names → ArePlain events → IsRun (opening credit names) events → IsLawfulAt credit (last (opening credit names) events)
 lawful_at credit names events are plain r = record {
-  fit = reached_fit credit names events are plain r;
+  fit = reached_fit credit names events are r;
+  none_waits = plain_reached credit names events plain r;
   within = reached_within credit names events are r;
   initial_is = (run_credited credit names events are r).initial_is;
   more_is = (run_credited credit names events are r).more_is;

@@ -99,3 +99,6 @@ out_some r i n s h l e up many = by_out s.out refl
     by_out (Some o) k =
         let same : member_in r.seats.items i ≡ member_of s = read_member r.seats.items i s l e in
         omega (arith, many, out_at r i o h up (ap (λ m. m.out) same ∙ k))
+
+-- what a member's own place among the seats has
+pub ruleset own_place = (few_seats, own_row, own_got)

@@ -47,7 +47,7 @@ EachGain P w = (x o : ℕ) → IsUp w x → (member_at w x).out ≡ Some o → g
 abbrev pub EachPick : (World → Type 0) → World → Type 0
 EachPick P w = (y s : ℕ) → IsUp w y → (member_at w y).current ≡ None → at_door w y ≡ Some s → (link_at w s).opened ≤ (member_at w y).version → P (current_is w y (Some s))
 
--- the events that are no admission, no erasure and no refusal, each by itself, where all members that act are up
+-- the events that are no admission, each by itself, where all members that act are up
 pub record PlainCases (P : World → Type 0) (w : World) : Type 0 where
   pub casts : (x : ℕ) (m : Message) → IsUp w x → P (publish_at w x m)
   pub puts : EachPut P w
@@ -56,8 +56,10 @@ pub record PlainCases (P : World → Type 0) (w : World) : Type 0 where
   pub gains : EachGain P w
   pub stops : (x : ℕ) → IsUp w x → P (end_out Halted (stop_at w x) (member_at w x).out)
   pub marks : (x d : ℕ) → IsUp w x → MayMark w x d → P (refreshed (with_view w (marked (view_in w (newest w)) d)) x (newest w + 1))
+  pub erases : (x d : ℕ) → IsUp w x → MayErase w x d → P (refreshed (with_view w (erased_view w d)) x (newest w + 1))
   pub refreshes : (x v : ℕ) → IsUp w x → MayLook w x v → P (refreshed w x v)
   pub picks : EachPick P w
+  pub refuses : P w
 
 -- each event by itself, under its conditions; who waits takes its first packet, or stops
 pub record Cases (P : World → Type 0) (w : World) : Type 0 where
@@ -84,8 +86,10 @@ plain_of P w c = record {
   gains = c.gains;
   stops = λ x u. c.stops x (up_runs w x u);
   marks = c.marks;
+  erases = c.erases;
   refreshes = c.refreshes;
   picks = c.picks;
+  refuses = c.refuses;
 }
 
 -- ---- conditions
@@ -142,7 +146,7 @@ at_named P w name later f h k = by_id (id_of w name) refl h
 
 -- ---- events
 
--- of a member that is up, but for admissions, erasures and refusals
+-- of a member that is up, but for admissions
 pub each_plain_up : (P : World → Type 0) (w : World) (e : Event) (x : ℕ) → is_plain e ≡ true → PlainCases P w → IsUp w x → further_refusal w e x ≡ None → P (done_at w e x)
 each_plain_up P w (Cast by body) x p c u h = c.casts x (message.Cast body) u
 each_plain_up P w (Put by) x p c u h = at_link P w reason.NoOutLink (put_refusal w x) (put_on w x) (member_at w x).out h (λ o out k. c.puts x o u out k)
@@ -158,14 +162,14 @@ each_plain_up P w (Pick by) x p c u h =
     let a = none_of (is_some (member_at w x).current) reason.HasCurrentLink _ h in
     at_link P w reason.NoLinkAtDoor (λ s. version_refusal (link_at w s).opened (member_at w x).version) (λ s. current_is w x (Some s)) (at_door w x) a.1
     (λ s e k. c.picks x s u (none_there (member_at w x).current a.0) e (not_less (member_at w x).version (link_at w s).opened _ k))
-each_plain_up P w e x p c u h = absurd (false≢true p)
+each_plain_up P w (Erase by origin) x p c u h = at_named P w origin (erase_refusal w x) (λ d. refreshed (with_view w (erased_view w d)) x (newest w + 1)) h
+    (λ d some lt k. c.erases x d u (may_erase w x d u.lt u.up k))
+each_plain_up P w (Refuse code inner) x p c u h = c.refuses
+each_plain_up P w (Admit by name) x p c u h = absurd (false≢true p)
 
 -- of one that is up
 each_up : (P : World → Type 0) (w : World) (e : Event) (x : ℕ) → Cases P w → IsUp w x → further_refusal w e x ≡ None → P (done_at w e x)
-each_up P w (Erase by origin) x c u h = at_named P w origin (erase_refusal w x) (λ d. refreshed (with_view w (erased_view w d)) x (newest w + 1)) h
-    (λ d some lt k. c.erases x d u (may_erase w x d u.lt u.up k))
 each_up P w (Admit by name) x c u h = c.admits x name u h
-each_up P w (Refuse code inner) x c u h = c.refuses
 each_up P w e x c u h = each_plain_up P w e x refl (plain_of P w c) u h
 
 -- of one that waits

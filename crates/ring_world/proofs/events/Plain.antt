@@ -32,7 +32,7 @@ up_of w x n r = by_phase (member_at w x).phase refl r
     by_phase Up e k = refl
     by_phase Stopped e k = absurd (false≢true k)
 
--- an event that is no admission, no erasure and no refusal, where nobody waits
+-- an event that is no admission, where nobody waits
 pub each_plain : (P : World → Type 0) (w : World) (e : Event) → is_plain e ≡ true → NoneWaits w → PlainCases P w → refusal w e ≡ None → P (effect w e)
 each_plain P w e p n c r = at_named P w (by_of e) (refused_at w e) (done_at w e) r (λ x some lt k. at e p x some lt k)
   where
@@ -44,7 +44,7 @@ each_plain P w e p n c r = at_named P w (by_of e) (refused_at w e) (done_at w e)
         (λ (k : ((member_at w x).phase ≡ Waiting) × (is_for_up e ≡ false)). absurd (none_waiting w x n k.0)) a.0
 
     at : (e : Event) → is_plain e ≡ true → (x : ℕ) → 1 ≤ x → x < size w → refused_at w e x ≡ None → P (done_at w e x)
-    at (Refuse code inner) p x some lt h = absurd (false≢true p)
+    at (Refuse code inner) p x some lt h = c.refuses
     at e p x some lt h = doing e x p some lt h
 
 -- ---- and so it stays
@@ -68,8 +68,10 @@ plain_waits w e p n r = each_plain NoneWaits w e p n (record {
   gains = λ x o u out k. n;
   stops = λ x u. end_composed NoneWaits _ (stop_at w x) (member_at w x).out (λ k _ h. h) (waits_set w x (stopped (member_at w x)) refl n);
   marks = λ x d u m. refreshed_none _ x _ n;
+  erases = λ x d u m. refreshed_none _ x _ n;
   refreshes = λ x v u m. refreshed_none w x v n;
   picks = λ y s u none e upto. waits_set w y _ (n y) n;
+  refuses = n;
 }) r
 
 -- ---- runs

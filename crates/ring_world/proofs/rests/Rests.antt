@@ -17,7 +17,7 @@ use Rattle.ring_world.specs.Machine.{Phase, Waiting, Up, Stopped, World, no_memb
 use Rattle.ring_world.specs.Step.{size, log_of, opening}
 use Rattle.ring_world.specs.Event.{Event, IsRun, last, is_stopped, left_neighbour, is_neighbour, is_still_taken, at_door, mark_refusal}
 use Rattle.ring_world.specs.Lawful.{row_of}
-use Rattle.ring_world.specs.Idle.{NobodySteps, MarksNobody, HasNobodyGone, IsIdle}
+use Rattle.ring_world.specs.Idle.{NobodySteps, MarksNobody, ErasesNobody, HasNobodyGone, IsIdle}
 use Rattle.ring_world.specs.Quiet.{IsAtRest, IsQuiet}
 use Rattle.ring_world.proofs.rings.Lists.{get_or_beyond}
 use Rattle.ring_world.proofs.rings.Rounds.{nat_eq-is, nat_eq-same}
@@ -136,18 +136,9 @@ module _ (w : World) (h : IsReached w) (lg : IsLogged w) (idle : NobodySteps w) 
         };
   }
 
--- ---- in an idle ring
+-- ---- and nobody to have erased
 
-module _ (w : World) (h : IsReached w) (lg : IsLogged w) (idle : IsIdle w) (y0 : ℕ) (r0 : runs w y0 ≡ true) where
-  steps : NobodySteps w
-  steps y ry = (idle y ry).steps
-
-  others : (y : ℕ) → runs w y ≡ true → HasNobodyGone w y
-  others y ry = (idle y ry).up (up_there w h steps y ry)
-
-  marks : MarksNobody w
-  marks x rx = (others x rx).mark (right w (newest w) x) (ring_below w h.good (right w (newest w) x) (live_in (view_in w (newest w)).entries (right w (newest w) x) (right_lives w (newest w) x (lives_now w h.good.inv.is_ring x rx))))
-
+module _ (w : World) (h : IsReached w) (lg : IsLogged w) (steps : NobodySteps w) (marks : MarksNobody w) (erases : ErasesNobody w) (y0 : ℕ) (r0 : runs w y0 ≡ true) where
   -- no entry is dead: its owner could have it erased
   none_dead : (p : ℕ) → is_in p (ring w) ≡ true → is_dead (view_in w (newest w)).entries p ≡ false
   none_dead p ip = by_dead (is_dead (view_in w (newest w)).entries p) refl
@@ -160,10 +151,25 @@ module _ (w : World) (h : IsReached w) (lg : IsLogged w) (idle : IsIdle w) (y0 :
 
       by_dead : (b : Bool) → is_dead (view_in w (newest w)).entries p ≡ b → is_dead (view_in w (newest w)).entries p ≡ false
       by_dead false e = e
-      by_dead true e = absurd ((others o.one o.runs_on).erase p (ring_below w h.good p ip) (may_erase w h.good.inv still p (ring_below w h.good p ip) ip o e))
+      by_dead true e = absurd (erases o.one o.runs_on p (ring_below w h.good p ip) (may_erase w h.good.inv still p (ring_below w h.good p ip) ip o e))
+
+  pub worked_rests : IsAtRest w
+  worked_rests = calm_rests w h lg steps marks y0 r0 none_dead
+
+-- ---- in an idle ring
+
+module _ (w : World) (h : IsReached w) (lg : IsLogged w) (idle : IsIdle w) (y0 : ℕ) (r0 : runs w y0 ≡ true) where
+  idle_steps : NobodySteps w
+  idle_steps y ry = (idle y ry).steps
+
+  others : (y : ℕ) → runs w y ≡ true → HasNobodyGone w y
+  others y ry = (idle y ry).up (up_there w h idle_steps y ry)
+
+  idle_marks : MarksNobody w
+  idle_marks x rx = (others x rx).mark (right w (newest w) x) (ring_below w h.good (right w (newest w) x) (live_in (view_in w (newest w)).entries (right w (newest w) x) (right_lives w (newest w) x (lives_now w h.good.inv.is_ring x rx))))
 
   pub idle_rests : IsAtRest w
-  idle_rests = calm_rests w h lg steps marks y0 r0 none_dead
+  idle_rests = worked_rests w h lg idle_steps idle_marks (λ x rx p pl. (others x rx).erase p pl) y0 r0
 
 -- ---- every state of every run
 
@@ -202,3 +208,10 @@ pub run_idle_is_quiet : (credit : CreditSpec) (names : List (List ℕ)) (events 
 run_idle_is_quiet credit names events are r idle =
     let w : World = last (opening credit names) events in
     quiet_where w (λ y ry. idle_rests w (reached credit names events are r) (run_logged credit names events are r) idle y ry)
+
+-- and so is one in which nobody has a step to do, somebody at its right to have marked, or somebody to have erased
+pub run_worked_is_quiet : (credit : CreditSpec) (names : List (List ℕ)) (events : List Event) → AreOpeningNames names → IsRun (opening credit names) events
+    → NobodySteps (last (opening credit names) events) → MarksNobody (last (opening credit names) events) → ErasesNobody (last (opening credit names) events) → IsQuiet (last (opening credit names) events)
+run_worked_is_quiet credit names events are r steps marks erases =
+    let w : World = last (opening credit names) events in
+    quiet_where w (λ y ry. worked_rests w (reached credit names events are r) (run_logged credit names events are r) steps marks erases y ry)

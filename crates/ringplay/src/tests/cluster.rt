@@ -118,10 +118,7 @@ fn happened(cluster: &Cluster) -> Result<usize, OutOfMemory> {
 fn is_played(event: &Event) -> bool
     ensures { result ≡ is_plain event.now }
 {
-    !matches!(
-        event,
-        Event::Admit { .. } | Event::Erase { .. } | Event::Refuse { .. }
-    )
+    !matches!(event, Event::Admit { .. })
 }
 
 /// An event happens where the ring lets it.
@@ -318,17 +315,19 @@ fn three_members_settle(rt: HostRuntime) -> Result<(), Fail> {
     play(&rt, "members a b c", &THREE_SETTLE)
 }
 
-const AGENDA_OF_WHO_STOPPED: [Line; 19] = [
+/// In the round `a` refuses its task, `b` does its own, and `c` has `a` marked dead.
+const AGENDA_OF_WHO_STOPPED: [Line; 20] = [
     Line::Ask("a", "a1"),
     Line::Ask("b", "b1"),
     Line::Steps("members a\nstop a", 1),
     Line::Go(1),
-    Line::Events(3),
+    Line::Events(4),
     Line::Rounds(2),
     Line::View(2),
     Line::Heard(2, 2, "b1"),
     Line::Ask("c", "c1"),
     Line::Settle,
+    Line::View(3),
     Line::Heard(1, 1, ""),
     Line::Heard(2, 1, ""),
     Line::Heard(2, 2, "b1"),
@@ -338,10 +337,11 @@ const AGENDA_OF_WHO_STOPPED: [Line; 19] = [
     Line::Heard(3, 2, "b1"),
     Line::Heard(3, 3, "c1"),
     Line::Confirmed(3, Some(1)),
+    Line::View(3),
 ];
 
 #[test]
-fn who_has_stopped_keeps_its_agenda(rt: HostRuntime) -> Result<(), Fail> {
+fn who_has_stopped_refuses_its_agenda(rt: HostRuntime) -> Result<(), Fail> {
     play(&rt, "members a b c", &AGENDA_OF_WHO_STOPPED)
 }
 
@@ -372,7 +372,8 @@ const AROUND_FAILED_TURNS: [Line; 9] = [
     Line::Passes(1, 2, 8),
 ];
 
-/// The gate is passed before and after each turn, also of one that wants memory, and not by who has stopped.
+/// The gate is passed before and after each turn, also of one that wants memory, and not by who has stopped and has
+/// nothing to refuse.
 #[test]
 fn each_turn_is_between_two_passes(rt: HostRuntime) -> Result<(), Fail> {
     play(&rt, "members a b c", &AROUND_TURNS)?;
@@ -387,7 +388,7 @@ const LEFT_ALONE: [Line; 8] = [
     Line::Confirmed(2, Some(1)),
     Line::Steps("members b\nstop b", 1),
     Line::Settle,
-    Line::View(2),
+    Line::View(3),
 ];
 
 #[test]
@@ -410,7 +411,7 @@ const SETTLED_AGAIN: [Line; 15] = [
     Line::Heard(3, 1, "a1 a2"),
     Line::Heard(3, 3, "c1 c2"),
     Line::Confirmed(3, Some(2)),
-    Line::View(2),
+    Line::View(3),
 ];
 
 /// Rounds and settlings go on from what has happened, where an allocation failed in them.

@@ -1,6 +1,6 @@
 //! The plain machine of the ring, played from texts, in which each line is an event as step files have it, or a
-//! question: `view`, `quiet`, `member a`, `state a`, `counts a`, `walk a`, `heard BY OF`, `refusals`. Behind its arrow stands the
-//! answer that the rules of the ring want. An event that has no arrow happens.
+//! question: `view`, `quiet`, `member a`, `state a`, `counts a`, `walk a`, `heard BY OF`, `refusals`. Behind its
+//! arrow stands the answer that the rules of the ring want. An event that has no arrow happens.
 mod answers;
 mod rows;
 

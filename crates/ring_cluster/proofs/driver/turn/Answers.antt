@@ -8,4 +8,4 @@ returns-then-branch-clause-turns c = performed_turns c.args.place c.args.cluster
 pub returns-then-branch-clause-once : goal.returns-then-branch-clause-once
 returns-then-branch-clause-once c =
     let p = c.in_ok-perform.ensures.done c.if-branch.true in
-    did_task c.args.place c.args.cluster.now c.perform.new.self p.0 p.1 c.requires p.4
+    did_task c.args.place c.args.cluster.now c.perform.new.self p.0 p.1 p.2 c.requires p.4 p.6

@@ -2,7 +2,6 @@ use Rattle.std.proofs.Common.{◌≡◌, ◌++◌, ◌∙◌, sym, ap, subst}
 use Rattle.std.specs.List.{All}
 use Rattle.ring_script.specs.Reading.{MayBeGiven}
 use Rattle.ring_cluster.specs.Seen.{opening_seen}
-use Rattle.ring_cluster.proofs.rounds.NoStops.{plays_alive}
 use Rattle.ringplay.specs.Call.{commands_on}
 use Rattle.ringplay.proofs.Playing.{played_all}
 use Rattle.ringplay.proofs.play.play.Goals as goal
@@ -18,9 +17,8 @@ pub returns : goal.returns
 returns g c =
     let opens : c.in_ok-cluster.cluster ≡ opening_seen c.args.script.credit c.args.script.members =
     c.in_ok-cluster.ensures.opens ∙ ap (opening_seen c.args.script.credit) (c.deref.ensures.value ∙ c.into_vec-names.ensures) in
-    let up = plays_alive c.perform.new.cluster c.is_going.ensures c.perform.ensures.plays in
     played_all c.args.script c.in_ok-cluster.cluster c.perform.new.cluster c.settle.new.self c.in_ok-journal.journal.items c.in_ok-text.text.items
     opens c.in_ok-perform.ensures.ring (c.in_ok-perform.ensures.given ∙ ap (λ lines. c.in_ok-cluster.cluster.given ++ commands_on lines) c.into_vec-lines.ensures)
     c.in_ok-settle.ensures.goes c.in_ok-settle.ensures.given
-    c.is_going-2.ensures (c.settle.ensures.alive up) (c.in_ok-settle.ensures.quiet up).0 (c.in_ok-settle.ensures.quiet up).1
+    c.is_going.ensures c.in_ok-settle.ensures.quiet c.in_ok-settle.ensures.empty
     (c.in_ok-settle.ensures.played c.perform.ensures.plays) c.in_ok-journal.ensures c.in_ok-text.ensures

@@ -4,7 +4,7 @@ use Rattle.ring_world.specs.Machine.{row_at, member_at}
 use Rattle.ring_world.specs.Step.{size, log_of}
 use Rattle.ring_cluster.specs.Published.{casts_with, logs_in}
 use Rattle.ring_cluster.specs.Seen.{state_of}
-use Rattle.ring_cluster.proofs.rounds.Named.{going_fit, going_many}
+use Rattle.ring_cluster.proofs.rounds.Named.{going_plain, going_many}
 use Rattle.ringplay.specs.Report.{name_of, heard_line}
 use Rattle.ringplay.proofs.Reports.{log_at_place, logs_many, heard_tells}
 use Rattle.ringplay.proofs.report.push_heard_of.Goals as goal
@@ -29,4 +29,4 @@ returns c =
     let all : c.got-got.result ≡ (row_at (member_at w x) p).got = c.got-got.ensures ∙ ap (λ o. (row_at (member_at w x) o).got) (c.id.ensures ∙ c.member_at-origin.ensures.holds.id) in
     c.in_ok-push_casts.ensures
     ∙ ap (λ bs. out ++ flat_map (heard_line origin) (casts_with bs)) c.first_of-bodies.ensures
-    ∙ ap (λ t. out ++ t) (heard_tells w x p c.got-got.result origin bodies (going_fit k c.is_going.ensures) named log all)
+    ∙ ap (λ t. out ++ t) (heard_tells w x p c.got-got.result origin bodies (going_plain k c.is_going.ensures) named log all)

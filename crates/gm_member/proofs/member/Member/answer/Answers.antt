@@ -1,7 +1,7 @@
 use Rattle.std.proofs.Common.{subst}
 use Rattle.gm_member.specs.Shown.{held_of, OutIsBack}
 use Rattle.gm_member.specs.Questions.{OfView}
-use Rattle.gm_member.proofs.AnswerLifts.{asks_up, answer_lifts, mark_lifts, of_view}
+use Rattle.gm_member.proofs.AnswerLifts.{asks_up, answer_lifts, mark_lifts, erase_lifts, of_view}
 use Rattle.gm_member.proofs.Ready.{is_ready}
 use Rattle.gm_member.proofs.member.Member.answer.Goals as goal
 
@@ -18,3 +18,8 @@ pub returns-in-Ok-clause-marks : goal.returns-in-Ok-clause-marks
 returns-in-Ok-clause-marks g c sound =
     of_view c.args.answer c.in-Viewed.view _ c.in-Viewed.is
     (mark_lifts (held_of c.args.self.now) (held_of c.read_answer.new.self) c.in-Viewed.view (c.in-Ok.ensures.reads sound).ok)
+
+pub returns-in-Ok-clause-erases : goal.returns-in-Ok-clause-erases
+returns-in-Ok-clause-erases g c sound =
+    of_view c.args.answer c.in-Viewed.view _ c.in-Viewed.is
+    (erase_lifts (held_of c.args.self.now) (held_of c.read_answer.new.self) c.in-Viewed.view (c.in-Ok.ensures.reads sound).ok)

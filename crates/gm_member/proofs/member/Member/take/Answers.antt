@@ -17,10 +17,10 @@ returns-clause-steps g c = if_ok_both c.take_next.result
     (λ taken enabled ok. (
       ok.0,
       ok.4,
-      λ credit names events x are plain r l n s next. (
+      λ credit names events x are r l n s next. (
         steps_where (MayTakeIt (by_origin ok.0)) (λ w y. IsNextPacket w y (by_origin ok.0)) Take (λ h. took_held h (by_origin ok.0)) (λ w y f a b. take_steps w y (by_origin ok.0) f a b)
-            (held_of c.args.self.now) (held_of c.take_next.new.self) (enabled, ok.1) ok.2 credit names events x are plain r l n s next,
-        news_lift (held_of c.args.self.now) (by_origin ok.0) taken.items (enabled, ok.1) ok.3 credit names events x are plain r l n s next,
+            (held_of c.args.self.now) (held_of c.take_next.new.self) (enabled, ok.1) ok.2 credit names events x are r l n s next,
+        news_lift (held_of c.args.self.now) (by_origin ok.0) taken.items (enabled, ok.1) ok.3 credit names events x are r l n s next,
       ),
     ))
     c.take_next.ensures.heeds.enabled c.take_next.ensures.takes.ok

@@ -2,25 +2,15 @@ use Rattle.std.proofs.Common.{◌≡◌, refl, ap, ◌∙◌}
 use Rattle.ring_script.specs.declared.command.Command.TheVariants as command
 use Rattle.ring_cluster.proofs.rounds.Counting.{each_none, each_beside}
 use Rattle.ring_cluster.proofs.rounds.Doing.{gone_from, gone_into, round_heads, given_after, go_plays, same_plays}
-use Rattle.ring_cluster.proofs.rounds.Settling.{alive_from, alive_into}
 use Rattle.ring_cluster.proofs.cluster.Cluster.go.Goals as goal
 
 pub returns-in-Ok-clause-heads : goal.returns-in-Ok-clause-heads
 returns-in-Ok-clause-heads g c = round_heads c.args.self.now c.number_round.new.self c.note.new.self c.take_round.new.self _ _ c.number_round.ensures c.in_ok-note.ensures.ok c.in-Ok.ensures.round.goes c.in-Ok.ensures.begun
 
-pub returns-in-Ok-clause-alive : goal.returns-in-Ok-clause-alive
-returns-in-Ok-clause-alive g c = alive_from c.args.self.now c.number_round.new.self c.note.new.self c.take_round.new.self _ _ c.number_round.ensures c.in_ok-note.ensures.ok c.in-Ok.ensures.round.phases
-
 pub returns-in-Ok-clause-plays : goal.returns-in-Ok-clause-plays
 returns-in-Ok-clause-plays g c = go_plays c.args.self.now c.take_round.new.self c.args.turns
     (gone_from c.args.self.now c.number_round.new.self c.note.new.self c.take_round.new.self _ _ c.number_round.ensures c.in_ok-note.ensures.ok c.in-Ok.ensures.round.goes)
     (given_after c.args.self.now c.number_round.new.self c.note.new.self c.take_round.new.self _ (command.Go c.args.turns) c.number_round.ensures c.in_ok-note.ensures.ok c.in-Ok.ensures.round.given.0)
-
-pub returns-in-Err-clause-alive : goal.returns-in-Err-clause-alive
-returns-in-Err-clause-alive g c = λ h.
-    let is : c.forget_note.new.self ≡ record c.take_round.new.self { given = c.number_round.new.self.given } = c.forget_note.ensures c.number_round.new.self.given (command.Go c.args.turns) (c.in-Err.ensures.round.given.0 ∙ ap (λ y. y.given) c.in_ok-note.ensures.ok) in
-    alive_into c.take_round.new.self c.forget_note.new.self _ is
-    (alive_from c.args.self.now c.number_round.new.self c.note.new.self c.take_round.new.self _ _ c.number_round.ensures c.in_ok-note.ensures.ok c.in-Err.ensures.round.phases h)
 
 pub returns-in-Err-clause-plays : goal.returns-in-Err-clause-plays
 returns-in-Err-clause-plays g c =

@@ -1,35 +1,20 @@
 use Rattle.std.proofs.Common.{◌≡◌, arith, refl, ap, ◌∙◌}
 use Rattle.ring_script.specs.declared.command.Command.TheVariants as command
 use Rattle.ring_cluster.proofs.rounds.Doing.{gone_noted, gone_into, noted, settle_plays, settle_played, same_plays}
-use Rattle.ring_cluster.proofs.rounds.NoStops.{plays_alive}
 use Rattle.ring_cluster.proofs.rounds.Numbers.{gives_within, gives_none, gives_beside, on_err}
-use Rattle.ring_cluster.proofs.rounds.Settling.{alive_noted, alive_into}
 use Rattle.ring_cluster.proofs.cluster.Cluster.settle.Goals as goal
 
-pub returns-in-Ok-clause-alive : goal.returns-in-Ok-clause-alive
-returns-in-Ok-clause-alive g c = alive_noted c.args.self.now c.note.new.self c.work_out.new.self _ c.in_ok-note.ensures.ok c.in-Ok.ensures.phases
-
-pub returns-in-Ok-clause-quiet : goal.returns-in-Ok-clause-quiet
-returns-in-Ok-clause-quiet g c = λ h. let a = returns-in-Ok-clause-alive g c h in (c.in-Ok.ensures.quiet a, c.in-Ok.ensures.empty a)
-
 pub returns-in-Ok-clause-plays : goal.returns-in-Ok-clause-plays
-returns-in-Ok-clause-plays g c = λ h.
-    let a = returns-in-Ok-clause-alive g c (plays_alive c.args.self.now c.is_going.ensures h) in
+returns-in-Ok-clause-plays g c =
     settle_plays c.args.self.now c.work_out.new.self
-    (gone_noted c.args.self.now c.note.new.self c.work_out.new.self _ c.in_ok-note.ensures.ok c.in-Ok.ensures.goes) (c.in-Ok.ensures.empty a) (c.in-Ok.ensures.quiet a)
-    (noted c.args.self.now c.note.new.self c.work_out.new.self command.Settle c.in_ok-note.ensures.ok c.in-Ok.ensures.given) h
+    (gone_noted c.args.self.now c.note.new.self c.work_out.new.self _ c.in_ok-note.ensures.ok c.in-Ok.ensures.goes) c.in-Ok.ensures.empty c.in-Ok.ensures.quiet
+    (noted c.args.self.now c.note.new.self c.work_out.new.self command.Settle c.in_ok-note.ensures.ok c.in-Ok.ensures.given)
 
 pub returns-in-Ok-clause-played : goal.returns-in-Ok-clause-played
-returns-in-Ok-clause-played g c = λ h.
-    let a = returns-in-Ok-clause-alive g c (plays_alive c.args.self.now c.is_going.ensures h) in
+returns-in-Ok-clause-played g c =
     settle_played c.args.self.now c.work_out.new.self
-    (gone_noted c.args.self.now c.note.new.self c.work_out.new.self _ c.in_ok-note.ensures.ok c.in-Ok.ensures.goes) (c.in-Ok.ensures.empty a) (c.in-Ok.ensures.quiet a)
-    (noted c.args.self.now c.note.new.self c.work_out.new.self command.Settle c.in_ok-note.ensures.ok c.in-Ok.ensures.given) h
-
-pub returns-in-Err-clause-alive : goal.returns-in-Err-clause-alive
-returns-in-Err-clause-alive g c = λ h.
-    let is : c.forget_note.new.self ≡ record c.work_out.new.self { given = c.args.self.now.given } = c.forget_note.ensures c.args.self.now.given command.Settle (c.in-Err.ensures.given ∙ ap (λ y. y.given) c.in_ok-note.ensures.ok) in
-    alive_into c.work_out.new.self c.forget_note.new.self _ is (alive_noted c.args.self.now c.note.new.self c.work_out.new.self _ c.in_ok-note.ensures.ok c.in-Err.ensures.phases h)
+    (gone_noted c.args.self.now c.note.new.self c.work_out.new.self _ c.in_ok-note.ensures.ok c.in-Ok.ensures.goes) c.in-Ok.ensures.empty c.in-Ok.ensures.quiet
+    (noted c.args.self.now c.note.new.self c.work_out.new.self command.Settle c.in_ok-note.ensures.ok c.in-Ok.ensures.given)
 
 pub returns-in-Err-clause-plays : goal.returns-in-Err-clause-plays
 returns-in-Err-clause-plays g c =

@@ -1,16 +1,17 @@
 use Rattle.std.proofs.Common.{arith, sym, ap, subst, ◌∙◌}
-use Rattle.ring_world.specs.Idle.{NobodySteps}
-use Rattle.ring_cluster.specs.Plays.{AgendasAreDone}
+use Rattle.ring_world.specs.Idle.{NobodySteps, MarksNobody, ErasesNobody}
 use Rattle.ring_cluster.specs.Seen.{state_of}
 use Rattle.ring_cluster.proofs.rounds.Numbers.{gives_within, gives_more, on_err}
-use Rattle.ring_cluster.proofs.rounds.Settling.{alive_is_quiet, done_is_empty}
+use Rattle.ring_cluster.proofs.rounds.Settling.{worked_is_quiet}
 use Rattle.ring_cluster.proofs.cluster.Cluster.work_out.Goals as goal
 
 pub returns-clause-quiet : goal.returns-clause-quiet
-returns-clause-quiet g c = λ alive. alive_is_quiet c.deliver.new.self c.is_going.ensures alive (subst (λ x. NobodySteps (state_of x)) (sym c.in_ok-deliver.ensures.ok) c.in_ok-drain.ensures.idle)
-
-pub returns-clause-empty : goal.returns-clause-empty
-returns-clause-empty g c = λ alive. done_is_empty c.deliver.new.self c.is_going.ensures alive (subst AgendasAreDone (sym c.in_ok-deliver.ensures.ok) c.in_ok-drain.ensures.done)
+returns-clause-quiet g c =
+    let same = sym c.in_ok-deliver.ensures.ok in
+    worked_is_quiet c.deliver.new.self c.is_going.ensures
+    (subst (λ x. NobodySteps (state_of x)) same c.in_ok-drain.ensures.idle)
+    (subst (λ x. MarksNobody (state_of x)) same c.in_ok-drain.ensures.marks)
+    (subst (λ x. ErasesNobody (state_of x)) same c.in_ok-drain.ensures.erases)
 
 pub returns-clause-rounds : goal.returns-clause-rounds
 returns-clause-rounds g c = gives_more 1 64 c.args.self.now c.work_rounds.new.self c.number_round.new.self c.deliver.new.self c.work_rounds.ensures.rounds c.number_round.ensures (ap (λ x. x.rounds) c.in_ok-deliver.ensures.ok ∙ c.drain.ensures.round.given.1)

@@ -13,3 +13,8 @@ pub returns-in_ok-act_refresh-in-Refresh-clause-ok : goal.returns-in_ok-act_refr
 returns-in_ok-act_refresh-in-Refresh-clause-ok c =
     subst (λ e. Acts e c.args.i (marked_in e (c.args.self.now).all) (c.args.self.now).all (c.act_refresh.new.self).all (loose_seen c.in_ok-act_refresh-in-Refresh.field-0))
     (sym c.in-Refresh.is) c.in_ok-act_refresh-in-Refresh.ensures.ok
+
+pub returns-in_ok-act_erase-in-Erase-clause-ok : goal.returns-in_ok-act_erase-in-Erase-clause-ok
+returns-in_ok-act_erase-in-Erase-clause-ok c =
+    subst (λ e. Acts e c.args.i (marked_in e (c.args.self.now).all) (c.args.self.now).all (c.act_erase.new.self).all (loose_seen c.in_ok-act_erase-in-Erase.field-0))
+    (sym c.in-Erase.is) (c.in_ok-act_erase-in-Erase.ensures.ok c.in-Erase.by)

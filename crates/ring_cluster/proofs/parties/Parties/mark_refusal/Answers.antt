@@ -1,6 +1,7 @@
-use Rattle.std.proofs.Common.{◌≡◌, ◌+◌, None, Some, sym, ap, ◌∙◌, arith}
+use Rattle.std.proofs.Common.{◌≡◌, None, Some, sym, ap, ◌∙◌}
 use Rattle.std.specs.Prelude.{option_map}
 use Rattle.ring_names.specs.declared.reason.Reason.TheVariants as reason
+use Rattle.group_view.specs.View.{number}
 use Rattle.registrar.specs.Asked.{mark_refusal}
 use Rattle.gm_member.specs.Held.{up_refused}
 use Rattle.gm_member.specs.Questions.{has_link}
@@ -8,7 +9,7 @@ use Rattle.ring_cluster.specs.Behind.{behind}
 use Rattle.ring_cluster.specs.Parties.{PartiesSeen, Shown, node_at}
 use Rattle.ring_cluster.specs.Refused.{id_named, with_post}
 use Rattle.ring_cluster.proofs.events.Reads.{up_first, up_then, mark_reads, mark_reads_unknown}
-use Rattle.ring_cluster.proofs.post.Delivered.{inside, shown_is, few, asks_nothing}
+use Rattle.ring_cluster.proofs.post.Delivered.{shown_is, asks_nothing}
 use Rattle.ring_cluster.proofs.parties.Parties.mark_refusal.Goals as goal
 
 pub unknown-requires : goal.unknown-requires
@@ -19,7 +20,7 @@ returns-in_default c = λ by credit names events s at.
     let shown = shown_is c.self.inside c.args.self.now c.self.view_is c.args.i c.requires.within c.index.result.now c.index.ensures in
     sym c.unknown.ensures
     ∙ ap (λ (m : Shown). up_refused m.held (Some reason.UnknownMember)) shown
-    ∙ mark_reads_unknown credit names events (c.args.self.now).all s c.args.i by c.args.dead.now at (c.place_named.ensures.place ∙ ap (option_map (λ j. j + 1)) c.in_default.is)
+    ∙ mark_reads_unknown credit names events (c.args.self.now).all s c.args.i by c.args.dead.now at (c.id_named.ensures.id ∙ ap (option_map number) c.in_default.is)
 
 pub up_refusal-requires : goal.up_refusal-requires
 up_refusal-requires c = asks_nothing c.self.inside c.args.self.now c.self.view_is c.requires.standing c.args.i c.requires.within c.index.result.now c.index.ensures
@@ -27,23 +28,17 @@ up_refusal-requires c = asks_nothing c.self.inside c.args.self.now c.self.view_i
 pub returns-in-Some-up_refusal : goal.returns-in-Some-up_refusal
 returns-in-Some-up_refusal c = λ by credit names events s at.
     let q = (c.args.self.now).all in
-    let named : id_named q c.args.dead.now ≡ Some (c.in-Some.place + 1) = c.place_named.ensures.place ∙ ap (option_map (λ j. j + 1)) c.in-Some.is in
+    let named : id_named q c.args.dead.now ≡ Some c.in-Some.id.0 = c.id_named.ensures.id ∙ ap (option_map number) c.in-Some.is in
     let shown = shown_is c.self.inside c.args.self.now c.self.view_is c.args.i c.requires.within c.index.result.now c.index.ensures in
     let h = (node_at q c.args.i).held in
     let refused : up_refused h None ≡ Some c.in-Some-up_refusal.reason = ap (λ (m : Shown). up_refused m.held None) (sym shown) ∙ sym c.up_refusal.ensures ∙ c.in-Some-up_refusal.is in
-    sym (up_first h (mark_refusal c.self.inside.registrar h.id (c.in-Some.place + 1) h.view.version (has_link (with_post h q.post))) c.in-Some-up_refusal.reason refused)
-    ∙ mark_reads credit names events q s c.args.i c.self.inside.members.items c.self.inside.registrar (behind c.self.inside.late) (sym (ap (λ (x : PartiesSeen). x.all) c.self.view_is)) by c.args.dead.now (c.in-Some.place + 1) at named
-
-pub overflow_cast-place : goal.overflow_cast-place
-overflow_cast-place c = omega (arith, few c.self.inside c.args.self.now c.self.view_is c.requires.standing, inside c.self.inside c.args.self.now c.self.view_is c.in-Some.place c.in-Some.ensures.within)
-
-pub overflow_add-place : goal.overflow_add-place
-overflow_add-place c = omega (arith, few c.self.inside c.args.self.now c.self.view_is c.requires.standing, inside c.self.inside c.args.self.now c.self.view_is c.in-Some.place c.in-Some.ensures.within)
+    sym (up_first h (mark_refusal c.self.inside.registrar h.id c.in-Some.id.0 h.view.version (has_link (with_post h q.post))) c.in-Some-up_refusal.reason refused)
+    ∙ mark_reads credit names events q s c.args.i c.self.inside.members.items c.self.inside.registrar (behind c.self.inside.late) (sym (ap (λ (x : PartiesSeen). x.all) c.self.view_is)) by c.args.dead.now c.in-Some.id.0 at named
 
 pub returns : goal.returns
 returns c = λ by credit names events s at.
     let q = (c.args.self.now).all in
-    let named : id_named q c.args.dead.now ≡ Some (c.in-Some.place + 1) = c.place_named.ensures.place ∙ ap (option_map (λ j. j + 1)) c.in-Some.is in
+    let named : id_named q c.args.dead.now ≡ Some c.in-Some.id.0 = c.id_named.ensures.id ∙ ap (option_map number) c.in-Some.is in
     let shown = shown_is c.self.inside c.args.self.now c.self.view_is c.args.i c.requires.within c.index.result.now c.index.ensures in
     let h = (node_at q c.args.i).held in
     let r = c.self.inside.registrar in
@@ -51,8 +46,8 @@ returns c = λ by credit names events s at.
     let id : c.id.result.0 ≡ h.id = c.id.ensures ∙ ap (λ (m : Shown). m.held.id) shown in
     let version : c.behind-node.inside.version ≡ h.view.version = ap (λ g. g.version) (c.behind-node.view_is ∙ c.view.ensures) ∙ ap (λ (m : Shown). m.held.view.version) shown in
     c.refusal.ensures
-    ∙ ap (λ x. mark_refusal r x (c.in-Some.place + 1) c.behind-node.inside.version c.has_link.result) id
-    ∙ ap (λ v. mark_refusal r h.id (c.in-Some.place + 1) v c.has_link.result) version
-    ∙ ap (mark_refusal r h.id (c.in-Some.place + 1) h.view.version) c.has_link.ensures
-    ∙ sym (up_then h (mark_refusal r h.id (c.in-Some.place + 1) h.view.version (has_link (with_post h q.post))) up)
-    ∙ mark_reads credit names events q s c.args.i c.self.inside.members.items r (behind c.self.inside.late) (sym (ap (λ (x : PartiesSeen). x.all) c.self.view_is)) by c.args.dead.now (c.in-Some.place + 1) at named
+    ∙ ap (λ x. mark_refusal r x c.in-Some.id.0 c.behind-node.inside.version c.has_link.result) id
+    ∙ ap (λ v. mark_refusal r h.id c.in-Some.id.0 v c.has_link.result) version
+    ∙ ap (mark_refusal r h.id c.in-Some.id.0 h.view.version) c.has_link.ensures
+    ∙ sym (up_then h (mark_refusal r h.id c.in-Some.id.0 h.view.version (has_link (with_post h q.post))) up)
+    ∙ mark_reads credit names events q s c.args.i c.self.inside.members.items r (behind c.self.inside.late) (sym (ap (λ (x : PartiesSeen). x.all) c.self.view_is)) by c.args.dead.now c.in-Some.id.0 at named

@@ -4,9 +4,10 @@ use Rattle.ring_world.specs.declared.event.Event.TheVariants.{Cast, Put, Take, T
 use Rattle.ring_world.specs.Event.{refusal}
 use Rattle.ring_cluster.specs.Parties.{PartiesSeen, shown_in}
 use Rattle.ring_cluster.specs.Acting.{alone_refused, look_refused, newest_of}
+use Rattle.ring_cluster.specs.Refused.{telling_refused}
 use Rattle.ring_cluster.specs.Seen.{state, IsEventAt}
 use Rattle.ring_cluster.proofs.events.AloneGoes.{IsAlone}
-use Rattle.ring_cluster.proofs.events.Reads.{alone_reads, look_reads, pick_reads}
+use Rattle.ring_cluster.proofs.events.Reads.{alone_reads, look_reads, telling_reads, pick_reads}
 use Rattle.ring_cluster.proofs.post.Delivered.{shown_is, asks_nothing}
 use Rattle.ring_cluster.proofs.parties.Parties.refusal.Goals as goal
 
@@ -26,6 +27,21 @@ returns-in-Refresh c = λ credit names events s at.
     ∙ ap (λ m. look_refused (newest_of q).version m c.in-Refresh.view) shown
     ∙ look_reads credit names events q s c.args.i c.in-Refresh.by c.in-Refresh.view (subst (IsEventAt names c.args.i) c.in-Refresh.is at)
     ∙ ap (refusal (state credit names events)) (sym c.in-Refresh.is)
+
+pub telling_refusal-requires : goal.telling_refusal-requires
+telling_refusal-requires c = asks_nothing c.self.inside c.args.self.now c.self.view_is c.requires.standing c.args.i c.requires.within c.index.result.now c.index.ensures
+
+pub returns-in-Refuse : goal.returns-in-Refuse
+returns-in-Refuse c = λ credit names events s at.
+    let q = (c.args.self.now).all in
+    let code = c.in-Refuse.code in
+    let inner = c.in-Refuse.inner in
+    let shown = shown_is c.self.inside c.args.self.now c.self.view_is c.args.i c.requires.within c.index.result.now c.index.ensures in
+    c.telling_refusal.ensures
+    ∙ ap (λ g. telling_refused g code inner (shown_in c.index.result.now)) (c.view-in-Refuse.ensures.newest ∙ ap (λ (x : PartiesSeen). newest_of x.all) c.self.view_is)
+    ∙ ap (telling_refused (newest_of q) code inner) shown
+    ∙ telling_reads credit names events q s c.args.i code inner (subst (IsEventAt names c.args.i) c.in-Refuse.is at)
+    ∙ ap (refusal (state credit names events)) (sym c.in-Refuse.is)
 
 pub returns-in-Pick : goal.returns-in-Pick
 returns-in-Pick c = λ credit names events s at.

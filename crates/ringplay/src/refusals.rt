@@ -1,0 +1,124 @@
+//! What the report says of the refusals of a journal.
+ghost use Rattle.std.specs.Prelude.{◌≡◌, ◌∷◌, ◌++◌, [], IfOk, OnOk, codes};
+ghost use Rattle.ring_world.specs.Event.{is_refusal as refusal_is, refusals_of};
+ghost use Rattle.ringplay.specs.Report.{asked_text, refusal_line, refusal_lines};
+ghost use Rattle.ringplay.specs.Lent.{lent_in};
+
+use ring_names::{Name, OutOfMemory};
+use ring_world::{Client, Event};
+use std::alloc::Global;
+
+/// The refusals among these events, in their order.
+pub(crate) fn refusals_in<'a>(
+    alloc: Global,
+    events: &'a [Event],
+) -> Result<Vec<&'a Event>, OutOfMemory>
+    ensures { IfOk result (λ all. lent_in all.items ≡ refusals_of events.now) }
+{
+    let mut all = Vec::new(alloc);
+    for event in events {
+        note_refusal(&mut all, event)?;
+    }
+    Ok(all)
+}
+
+/// One event more joins the refusals, where it is one.
+fn note_refusal<'a>(all: &mut Vec<&'a Event>, event: &'a Event) -> Result<(), OutOfMemory>
+    ensures { OnOk result (lent_in all.new.items ≡ lent_in all.old.items ++ refusals_of (event.now ∷ [])) }
+{
+    if is_refusal(event) {
+        all.push(event)?;
+    }
+    Ok(())
+}
+
+fn is_refusal(event: &Event) -> bool
+    ensures { result ≡ refusal_is event.now }
+{
+    matches!(event, Event::Refuse { .. })
+}
+
+/// What the report says of those that are refusals of the member of this name.
+pub(crate) fn push_refusals(
+    alloc: Global,
+    out: &mut Vec<u8>,
+    refusals: &[&Event],
+    name: &Name,
+) -> Result<(), OutOfMemory>
+    ensures { OnOk result (out.new.items ≡ out.old.items ++ refusal_lines name.now (lent_in refusals.now)) }
+{
+    for refusal in refusals {
+        push_if_by(alloc, out, refusal, name)?;
+    }
+    Ok(())
+}
+
+/// What it says of one, where that is a refusal of the member of this name.
+fn push_if_by(
+    alloc: Global,
+    out: &mut Vec<u8>,
+    refusal: &Event,
+    name: &Name,
+) -> Result<(), OutOfMemory>
+    ensures { OnOk result (out.new.items ≡ out.old.items ++ refusal_lines name.now (refusal.now ∷ [])) }
+{
+    if refusal.by().bytes() == name.bytes() {
+        push_refusal(alloc, out, refusal)?;
+    }
+    Ok(())
+}
+
+fn push_refusal(alloc: Global, out: &mut Vec<u8>, refusal: &Event) -> Result<(), OutOfMemory>
+    ensures { OnOk result (out.new.items ≡ out.old.items ++ refusal_line refusal.now) }
+{
+    match refusal {
+        Event::Refuse { code, inner } => push_refused(alloc, out, *code, inner),
+        _ => Ok(()),
+    }
+}
+
+/// That this was refused with this number.
+fn push_refused(
+    alloc: Global,
+    out: &mut Vec<u8>,
+    code: u32,
+    inner: &Client,
+) -> Result<(), OutOfMemory>
+    ensures { OnOk result (out.new.items ≡ out.old.items ++ refusal_line (Event.Refuse code inner.now)) }
+{
+    let number = format!(in alloc; "refused {code} ")?;
+    out.extend_from_slice(number.as_bytes())?;
+    push_asked(out, inner)?;
+    out.extend_from_slice(b"\n")?;
+    Ok(())
+}
+
+/// What a client asked for, in the words of a step file.
+fn push_asked(out: &mut Vec<u8>, inner: &Client) -> Result<(), OutOfMemory>
+    ensures { OnOk result (out.new.items ≡ out.old.items ++ asked_text inner.now) }
+{
+    match inner {
+        Client::Cast { by, body } => push_two(out, b"cast ", by, body.bytes()),
+        Client::Stop { by } => push_one(out, b"stop ", by),
+        Client::Admit { by, name } => push_two(out, b"admit ", by, name.bytes()),
+    }
+}
+
+/// A word and a name.
+fn push_one(out: &mut Vec<u8>, word: &[u8], by: &Name) -> Result<(), OutOfMemory>
+    ensures { OnOk result (out.new.items ≡ out.old.items ++ (word.now ++ by.now)) }
+{
+    out.extend_from_slice(word)?;
+    out.extend_from_slice(by.bytes())?;
+    Ok(())
+}
+
+/// A word, a name, and further bytes behind a space.
+fn push_two(out: &mut Vec<u8>, word: &[u8], by: &Name, further: &[u8]) -> Result<(), OutOfMemory>
+    ensures { OnOk result (out.new.items ≡ out.old.items ++ (word.now ++ by.now ++ codes " " ++ further.now)) }
+{
+    push_one(out, word, by)?;
+    out.extend_from_slice(b" ")?;
+    out.extend_from_slice(further)?;
+    Ok(())
+}
