@@ -337,7 +337,6 @@ const AGENDA_OF_WHO_STOPPED: [Line; 20] = [
     Line::Heard(3, 2, "b1"),
     Line::Heard(3, 3, "c1"),
     Line::Confirmed(3, Some(1)),
-    Line::View(3),
 ];
 
 #[test]
