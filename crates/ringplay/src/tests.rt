@@ -470,7 +470,6 @@ put c
 take b
 put b
 take c
-erase b a
 put c
 take b
 erase b a
