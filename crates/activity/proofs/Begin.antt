@@ -35,17 +35,17 @@ module _ (x : Carried) (rest : List Carried) (apart : is_in x.origin.0 (origins 
 -- ---- a line that is used
 
 -- what is kept before its messages join, and after
-pub opened_used : (c : Carried) → begins c ≡ true → opened (Some c) ≡ record { forgot = c.lo; messages = []; retired = 0 }
-opened_used c h = ap (λ b. cond b (record { forgot = c.lo; messages = []; retired = 0 }) no_kept) h
+pub opened_used : (c : Carried) → begins c ≡ true → opened (Some c) ≡ record { forgot = c.lo; messages = []; retired = 0; base = got_in c }
+opened_used c h = ap (λ b. cond b (record { forgot = c.lo; messages = []; retired = 0; base = got_in c }) no_kept) h
 
-pub begun_used : (c : Carried) → begins c ≡ true → begun (Some c) ≡ record { forgot = c.forgot; messages = drop (c.forgot - c.lo) c.messages; retired = 0 }
-begun_used c h = ap (λ b. cond b (record { forgot = c.forgot; messages = drop (c.forgot - c.lo) c.messages; retired = 0 }) no_kept) h
+pub begun_used : (c : Carried) → begins c ≡ true → begun (Some c) ≡ record { forgot = c.forgot; messages = drop (c.forgot - c.lo) c.messages; retired = 0; base = got_in c }
+begun_used c h = ap (λ b. cond b (record { forgot = c.forgot; messages = drop (c.forgot - c.lo) c.messages; retired = 0; base = got_in c }) no_kept) h
 
 pub opened_passed : (c : Carried) → begins c ≡ false → opened (Some c) ≡ begun (Some c)
-opened_passed c h = ap (λ b. cond b (record { forgot = c.lo; messages = []; retired = 0 }) no_kept) h
-    ∙ sym (ap (λ b. cond b (record { forgot = c.forgot; messages = drop (c.forgot - c.lo) c.messages; retired = 0 }) no_kept) h)
+opened_passed c h = ap (λ b. cond b (record { forgot = c.lo; messages = []; retired = 0; base = got_in c }) no_kept) h
+    ∙ sym (ap (λ b. cond b (record { forgot = c.forgot; messages = drop (c.forgot - c.lo) c.messages; retired = 0; base = got_in c }) no_kept) h)
 
-whole_fits : (c : Carried) → nat_le c.lo c.forgot ≡ true → nat_le c.forgot (got_in c) ≡ true → change_of false (record { forgot = c.lo; messages = []; retired = 0 }) c ≡ Some (whole_change c)
+whole_fits : (c : Carried) → nat_le c.lo c.forgot ≡ true → nat_le c.forgot (got_in c) ≡ true → change_of false (record { forgot = c.lo; messages = []; retired = 0; base = got_in c }) c ≡ Some (whole_change c)
 whole_fits c a b =
     let one : nat_le c.lo (c.lo + 0) ≡ true = le-leb c.lo (c.lo + 0) (omega arith) in
     let two : nat_le (c.lo + 0) (got_in c) ≡ true = le-leb (c.lo + 0) (got_in c) (omega arith) in
@@ -62,7 +62,7 @@ first_planned k c h e =
 pub first_made : (k : Kept) (c : Carried) → begins c ≡ true → k ≡ opened (Some c) → changed k c (whole_change c) ≡ begun (Some c)
 first_made k c h e =
     let z : c.lo - c.lo ≡ 0 = omega arith in
-    ap (λ k. changed k c (whole_change c)) (e ∙ opened_used c h) ∙ ap (λ n. record { forgot = c.forgot; messages = drop (c.forgot - c.lo) (drop n c.messages); retired = 0 }) z ∙ sym (begun_used c h)
+    ap (λ k. changed k c (whole_change c)) (e ∙ opened_used c h) ∙ ap (λ n. record { forgot = c.forgot; messages = drop (c.forgot - c.lo) (drop n c.messages); retired = 0; base = got_in c }) z ∙ sym (begun_used c h)
 
 pub first_arrivals : (c : Carried) → arrivals (whole_change c) ≡ length c.messages
 first_arrivals c = omega arith

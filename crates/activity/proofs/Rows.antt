@@ -205,8 +205,8 @@ none_kept k es w h zero = record {
     apart p n true e there = absurd (true≢false (sym there ∙ ap (λ q. has_room (kept_rows es) q n) (nat_eq-is p k.0 e) ∙ room_none k es n h))
 
 -- a table that starts
-pub started : (at : ℕ) (t : Table) → StartsAt at t.store → t.retired ≡ 0 → kept_in t ≡ record { forgot = at; messages = []; retired = 0 }
-started at t s r = λ i. record { forgot = s.forgot i; messages = s.messages i; retired = r i }
+pub started : (at base : ℕ) (t : Table) → StartsAt at t.store → t.retired ≡ 0 → t.base ≡ base → kept_in t ≡ record { forgot = at; messages = []; retired = 0; base = base }
+started at base t s r b = λ i. record { forgot = s.forgot i; messages = s.messages i; retired = r i; base = b i }
 
 pub room_added : (k : MemberId) (es : List (MemberId × Table)) (w : Table) → lookup (same k) es ≡ None → has_room (kept_rows (es ++ (k, w) ∷ [])) k.0 0 ≡ true
 room_added k es w h = room_push k es w h k.0 0 ∙ ap (λ b. cond b (nat_le 0 w.store.spare) (has_room (kept_rows es) k.0 0)) (nat_eq-same k.0) ∙ le-leb 0 w.store.spare (omega arith)
@@ -242,11 +242,11 @@ keeps_reserved k es v w h same_kept more = record {
         le-leb n w.store.spare (omega arith)
 
 -- what a store keeps, with the same number beside it
-pub kept_again : (v w : Table) → KeepsAll v.store w.store → w.retired ≡ v.retired → kept_in w ≡ kept_in v
-kept_again v w k r = λ i. record { forgot = k.forgot i; messages = k.messages i; retired = r i }
+pub kept_again : (v w : Table) → KeepsAll v.store w.store → w.retired ≡ v.retired → w.base ≡ v.base → kept_in w ≡ kept_in v
+kept_again v w k r b = λ i. record { forgot = k.forgot i; messages = k.messages i; retired = r i; base = b i }
 
-pub kept_joins : (m : Message) (v w : Table) → Gains v.store m w.store → w.retired ≡ v.retired → kept_in w ≡ joined m (kept_in v)
-kept_joins m v w g r = λ i. record { forgot = g.forgot i; messages = g.messages i; retired = r i }
+pub kept_joins : (m : Message) (v w : Table) → Gains v.store m w.store → w.retired ≡ v.retired → w.base ≡ v.base → kept_in w ≡ joined m (kept_in v)
+kept_joins m v w g r b = λ i. record { forgot = g.forgot i; messages = g.messages i; retired = r i; base = b i }
 
 -- what is kept of an origin after its row is written, as a change of what was kept
 pub kept_written : (k : MemberId) (es : List (MemberId × Table)) (v w : Table) (f : Kept → Kept) → lookup (same k) es ≡ Some v → kept_in w ≡ f (kept_in v) → (p : ℕ)
@@ -279,8 +279,8 @@ kept_absent (r ∷ rows) p h = by (nat_eq p r.origin.0) (kept_absent rows p) h
     by false later h = later h
 
 -- a table that starts, with room
-pub reserved_start : (at : ℕ) (t : Table) (s : Pending Message) → StartsAt at t.store → t.retired ≡ 0 → KeepsAll t.store s → kept_in (record t { store = s }) ≡ record { forgot = at; messages = []; retired = 0 }
-reserved_start at t s h r k = λ i. record { forgot = (k.forgot ∙ h.forgot) i; messages = (k.messages ∙ h.messages) i; retired = r i }
+pub reserved_start : (at base : ℕ) (t : Table) (s : Pending Message) → StartsAt at t.store → t.retired ≡ 0 → t.base ≡ base → KeepsAll t.store s → kept_in (record t { store = s }) ≡ record { forgot = at; messages = []; retired = 0; base = base }
+reserved_start at base t s h r b k = λ i. record { forgot = (k.forgot ∙ h.forgot) i; messages = (k.messages ∙ h.messages) i; retired = r i; base = b i }
 
 pub room_at_push : (k : MemberId) (es : List (MemberId × Table)) (w : Table) (n : ℕ) → lookup (same k) es ≡ None → n ≤ w.store.spare → has_room (kept_rows (es ++ (k, w) ∷ [])) k.0 n ≡ true
 room_at_push k es w n h room = room_push k es w h k.0 n ∙ ap (λ b. cond b (nat_le n w.store.spare) (has_room (kept_rows es) k.0 n)) (nat_eq-same k.0) ∙ le-leb n w.store.spare room

@@ -3,12 +3,14 @@ use Rattle.std.specs.Prelude.{◌≡◌, ℕ, ◌+◌, Bool, true, false, cond, 
 use Rattle.ring_names.specs.declared.message.Message.{Message}
 use Rattle.ring_names.specs.declared.numbers.MemberId.{MemberId}
 
--- What is kept of an origin: how many of its messages are forgotten, those behind them, and up to which of the member's
--- own the acknowledgement has come round (gm's `pending_ack` of a member).
+-- What is kept of an origin: how many of its messages are forgotten, those behind them, up to which of the member's own the
+-- acknowledgement has come round (gm's `pending_ack` of a member), and the number behind which the member receives: that of
+-- its first packet, where it joined.
 pub record Kept : Type 0 where
   pub forgot : ℕ
   pub messages : List Message
   pub retired : ℕ
+  pub base : ℕ
 
 -- the number of the last message
 abbrev pub got_of : Kept → ℕ
@@ -16,7 +18,7 @@ got_of k = k.forgot + length k.messages
 
 -- what counts of an origin without a row: nothing
 abbrev pub no_kept : Kept
-no_kept = record { forgot = 0; messages = []; retired = 0 }
+no_kept = record { forgot = 0; messages = []; retired = 0; base = 0 }
 
 -- The row of an origin, with the number of messages for which it has room.
 pub record KeptRow : Type 0 where

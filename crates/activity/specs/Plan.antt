@@ -37,7 +37,7 @@ changes_of own rows lines = filter_map (λ c. change_of (own c.origin.0) (kept_o
 abbrev pub changed : Kept → Carried → Change → Kept
 changed k c (Receive p from to forgot) =
     record k { forgot = forgot; messages = drop (forgot - k.forgot) (k.messages ++ drop (from - c.lo) c.messages) }
-changed k c (CameRound p forgot retired) = record { forgot = forgot; messages = drop (forgot - k.forgot) k.messages; retired = retired }
+changed k c (CameRound p forgot retired) = record k { forgot = forgot; messages = drop (forgot - k.forgot) k.messages; retired = retired }
 
 -- what a packet makes of what is kept of an origin, by its line there
 abbrev pub accepted : Bool → Kept → Option Carried → Kept
@@ -74,15 +74,15 @@ begins c = nat_le c.lo c.forgot && nat_le c.forgot (got_in c)
 abbrev pub whole_change : Carried → Change
 whole_change c = Receive c.origin c.lo (got_in c) c.forgot
 
--- what is kept of an origin before a line's messages join: nothing, from its first on
+-- what is kept of an origin before a line's messages join: nothing, from its first on; the member receives behind its last
 abbrev pub opened : Option Carried → Kept
 opened None = no_kept
-opened (Some c) = cond (begins c) (record { forgot = c.lo; messages = []; retired = 0 }) no_kept
+opened (Some c) = cond (begins c) (record { forgot = c.lo; messages = []; retired = 0; base = got_in c }) no_kept
 
 -- what the member begins with: the line's messages, but for those that the sender has forgotten
 abbrev pub begun : Option Carried → Kept
 begun None = no_kept
-begun (Some c) = cond (begins c) (record { forgot = c.forgot; messages = drop (c.forgot - c.lo) c.messages; retired = 0 }) no_kept
+begun (Some c) = cond (begins c) (record { forgot = c.forgot; messages = drop (c.forgot - c.lo) c.messages; retired = 0; base = got_in c }) no_kept
 
 -- each line that is used has a row, with room for its messages
 pub record AreOpened (rows : List KeptRow) (lines : List Carried) : Type 0 where

@@ -8,7 +8,7 @@ use Rattle.activity.specs.Told.{Told, ToldRow}
 
 -- what a table keeps
 abbrev pub kept_in : Table → Kept
-kept_in t = record { forgot = t.store.forgot; messages = t.store.messages; retired = t.retired }
+kept_in t = record { forgot = t.store.forgot; messages = t.store.messages; retired = t.retired; base = t.base }
 
 -- the row of an entry
 abbrev pub kept_row : MemberId × Table → KeptRow

@@ -12,25 +12,30 @@ use ring_names::Message;
 use std::alloc::Global;
 
 /// What is kept of an origin: its messages that were got and aren't forgotten, and, where the member
-/// answers for the origin, up to which number their acknowledgement has come round.
+/// answers for the origin, up to which number their acknowledgement has come round; and behind which number the
+/// member receives.
 #[derive(Drop, Debug)]
 pub struct Table {
     /// The messages.
     pub store: Store<Message>,
     /// The number of the last message whose acknowledgement has come round.
     pub retired: u64,
+    /// The number behind which the member receives: that of its first packet, where it joined, else 0.
+    pub base: u64,
 }
 
 impl Table {
-    /// Nothing is kept, and messages go on behind this number.
-    pub(crate) fn starting(alloc: Global, at: u64) -> Table
+    /// Nothing is kept, messages go on behind a number, and the member receives behind another.
+    pub(crate) fn starting(alloc: Global, at: u64, base: u64) -> Table
         requires { at ≤ 2 ^ 63 }
         ensures store { StartsAt at result.store }
         ensures retired { result.retired ≡ 0 }
+        ensures base { result.base ≡ base }
     {
         Table {
             store: Store::starting(alloc, at),
             retired: 0,
+            base,
         }
     }
 

@@ -43,6 +43,8 @@ pub struct KeptNumbers {
     pub forgot: u64,
     /// Of the last message whose acknowledgement has come round, where the member answers for the origin.
     pub retired: u64,
+    /// Behind which the member receives: of its first packet, where it joined, else 0.
+    pub base: u64,
 }
 
 impl Tables {
@@ -68,6 +70,7 @@ impl Tables {
         ensures got { result.got ≡ got_of (kept_of self.now origin.0) }
         ensures forgot { result.forgot ≡ (kept_of self.now origin.0).forgot }
         ensures retired { result.retired ≡ (kept_of self.now origin.0).retired }
+        ensures base { result.base ≡ (kept_of self.now origin.0).base }
         ensures bound { got_of (kept_of self.now origin.0) ≤ 2 ^ 63 }
     {
         match self.table(origin) {
@@ -75,11 +78,13 @@ impl Tables {
                 got: table.store.got(),
                 forgot: table.store.forgot(),
                 retired: table.retired,
+                base: table.base,
             },
             None => KeptNumbers {
                 got: 0,
                 forgot: 0,
                 retired: 0,
+                base: 0,
             },
         }
     }
@@ -165,7 +170,7 @@ fn make_row(rows: &mut IndexMap<MemberId, Table>, origin: MemberId) -> Result<()
     ensures kept { KeepsRows (kept_rows rows.old.entries) (kept_rows rows.new.entries) }
 {
     if !rows.contains_key(&origin) {
-        let table = Table::starting(*rows.allocator(), 0);
+        let table = Table::starting(*rows.allocator(), 0, 0);
         rows.insert(origin, table)?;
     }
     Ok(())
@@ -292,22 +297,24 @@ fn as_received(line: &Line) -> Change
     }
 }
 
-/// Adds a row of an origin that has none: its messages go on behind a number, and there is room for `n`.
+/// Adds a row of an origin that has none: its messages go on behind `lo`, the member receives behind `base`, and
+/// there is room for `n`.
 fn add_row(
     rows: &mut IndexMap<MemberId, Table>,
     origin: MemberId,
     lo: u64,
+    base: u64,
     n: u64,
 ) -> Result<(), OutOfMemory>
     requires absent { has_room (kept_rows rows.old.entries) origin.0 0 ≡ false }
     requires small { lo ≤ 2 ^ 63 }
     ensures kept { OnOk result ((p : ℕ) → kept_of (kept_rows rows.new.entries) p ≡ cond (nat_eq p origin.0)
-        (record { forgot = lo; messages = []; retired = 0 }) (kept_of (kept_rows rows.old.entries) p)) }
+        (record { forgot = lo; messages = []; retired = 0; base = base }) (kept_of (kept_rows rows.old.entries) p)) }
     ensures room { OnOk result (has_room (kept_rows rows.new.entries) origin.0 n ≡ true) }
     ensures others { OnOk result ((p m : ℕ) → nat_eq p origin.0 ≡ false
         → has_room (kept_rows rows.new.entries) p m ≡ has_room (kept_rows rows.old.entries) p m) }
 {
-    let mut table = Table::starting(*rows.allocator(), lo);
+    let mut table = Table::starting(*rows.allocator(), lo, base);
     table.store.reserve(n)?;
     rows.insert(origin, table)?;
     Ok(())
@@ -327,7 +334,7 @@ fn open_row(rows: &mut IndexMap<MemberId, Table>, line: &Line) -> Result<(), Out
         return Ok(());
     }
     let n = line.messages.as_slice().len() as u64;
-    add_row(rows, line.origin, line.lo, n)
+    add_row(rows, line.origin, line.lo, line.got(), n)
 }
 
 fn open_rows(alloc: Global, lines: &[Line]) -> Result<IndexMap<MemberId, Table>, OutOfMemory>

@@ -1,28 +1,36 @@
--- A member that is answered the newest view, or the one that its mark or its erasure makes.
-use Rattle.std.proofs.Common.{◌≡◌, ℕ, ◌+◌, ◌<◌, ◌≤◌, Bool, true, false, nat_lt, List, Some, None, refl, sym, ap, subst, ◌∙◌, arith}
+-- A member that is answered the newest view, or the one that its mark, its erasure or its admission makes.
+use Rattle.std.proofs.Common.{◌≡◌, ℕ, ◌+◌, ◌<◌, ◌≤◌, Bool, true, false, cond, nat_eq, nat_lt, List, [], ◌∷◌, ◌++◌, Some, None, refl, sym, ap, subst, ◌∙◌, arith}
+use Rattle.std.proofs.lemmas.List.{append-nil}
 use Rattle.std.proofs.lemmas.Bool.{le-ltb}
+use Rattle.ring_names.specs.declared.numbers.MemberId.{MemberId}
 use Rattle.ring_names.specs.declared.reason.Reason.{Reason}
 use Rattle.ring_names.specs.declared.reason.Reason.TheVariants as reason
 use Rattle.group_view.specs.View.{Group}
 use Rattle.group_view.specs.declared.request.Answer.{Answer}
-use Rattle.group_view.specs.declared.request.Answer.TheVariants.{Viewed}
+use Rattle.group_view.specs.declared.request.Answer.TheVariants.{Viewed, Admitted}
 use Rattle.ring_world.specs.declared.phase.Phase.{Phase}
 use Rattle.ring_world.specs.declared.phase.Phase.TheVariants.{Waiting, Up, Stopped}
 use Rattle.ring_world.specs.declared.event.Event.{Event}
 use Rattle.ring_world.specs.declared.event.Event.TheVariants as event
 use Rattle.ring_world.specs.Refusal.{or_else, refuse_if}
 use Rattle.ring_world.specs.Machine.{World, member_at, view_in, newest, is_waiting}
-use Rattle.ring_world.specs.Step.{size, opening, with_view}
+use Rattle.ring_world.specs.View.{right_of}
+use Rattle.ring_world.specs.Step.{size, opening, with_view, admitted_view, come_to}
 use Rattle.ring_world.specs.Event.{is_stopped, id_of, erased_view, refreshed, refusal, effect, last}
-use Rattle.ring_world.proofs.events.WhatRefuses.{MayLook, MayMark, MayErase}
+use Rattle.ring_world.proofs.events.WhatRefuses.{MayMark, MayErase}
+use Rattle.ring_world.proofs.rings.Rounds.{nat_eq-not}
+use Rattle.ring_world.proofs.invariants.KeptAdmit.{CanJoin, right_of_m}
 use Rattle.ring_world.proofs.invariants.Happens.{IsGood, mark_good, erase_good, newer_look}
 use Rattle.gm_member.specs.View.{is_up_where}
-use Rattle.gm_member.specs.Held.{Held, answered_held, refresh_refused, refreshed_held}
-use Rattle.gm_member.specs.Stands.{held_in, WhereItStands, Stands, StepsTo, IsMarkedView, IsErasedView, with_own_link}
+use Rattle.gm_member.specs.Held.{Held, Incoming, fresh_in, sends_to, answered_held, refresh_refused, refreshed_held}
+use Rattle.gm_member.specs.Stands.{held_in, WhereItStands, Stands, StepsTo, IsMarkedView, IsErasedView, IsAdmittedView, with_own_link}
 use Rattle.gm_member.specs.Questions.{OfView}
 use Rattle.gm_member.proofs.Doors.{view_version}
-use Rattle.gm_member.proofs.Facts.{right_row}
+use Rattle.gm_member.proofs.Facts.{right_row, done_there}
 use Rattle.gm_member.proofs.Fit.{IsFit, reached_fit}
+use Rattle.gm_member.proofs.OpenDoors.{SeesLinks, sees_links}
+use Rattle.gm_member.proofs.RefreshStands.{RowsAreRight}
+use Rattle.gm_member.proofs.AdmitStands.{admit_can, come_held, come_sees, come_right}
 use Rattle.gm_member.proofs.Lifts.{refreshed_alone, refresh_alone, lifts, refresh_lifts}
 use Rattle.gm_member.proofs.MarkStands.{view_held, view_newest, mark_view, mark_may, mark_is, erase_may, erase_is}
 
@@ -55,53 +63,93 @@ answer_lifts h h' v up e credit names events x are r some l s is =
 
 -- ---- a view that an event at another makes of the newest
 
--- it is read as the event
-follow_stands : (w : World) (x : ℕ) (v g : Group) (e : Event) → IsFit w → x < size w → (member_at w x).phase ≡ Up → IsGood (with_view w g) → v ≡ g → effect w e ≡ refreshed (with_view w g) x (newest w + 1)
+-- it is read as the event, in the state that the event makes of it before the look
+follow_stands : (w u : World) (x : ℕ) (v : Group) (e : Event) → held_in w x ≡ held_in u x → SeesLinks u x (newest w + 1) → RowsAreRight u x → v ≡ view_in u (newest w + 1) → effect w e ≡ refreshed u x (newest w + 1)
     → refreshed_alone v (held_in w x) ≡ held_in (effect w e) x
-follow_stands w x v g e f lt up good is done =
-    let u : World = with_view w g in
-    let n : ℕ = newest w + 1 in
-    let look : MayLook u x n = newer_look w x g lt up f.good.inv.is_ring in
-    let new : v ≡ view_in u n = is ∙ sym (view_newest w g f.good) in
-    ap (refreshed_alone v) (view_held w g x f.good)
-    ∙ refresh_alone u x n v look good (λ p. right_row w x p f) new (ap (λ (k : Group). k.version) new ∙ view_version u n good look.upto)
-    ∙ ap (λ t. held_in t x) (sym done)
+follow_stands w u x v e held sees right is done =
+    ap (refreshed_alone v) held ∙ refresh_alone u x (newest w + 1) v sees right is ∙ ap (λ t. held_in t x) (sym done)
+
+-- where the event adds a view alone
+view_stands : (w : World) (x : ℕ) (v g : Group) (e : Event) → IsFit w → x < size w → (member_at w x).phase ≡ Up → IsGood (with_view w g) → v ≡ g → effect w e ≡ refreshed (with_view w g) x (newest w + 1)
+    → refreshed_alone v (held_in w x) ≡ held_in (effect w e) x
+view_stands w x v g e f lt up good is done =
+    follow_stands w (with_view w g) x v e (view_held w g x f.good)
+    (sees_links (with_view w g) x (newest w + 1) (newer_look w x g lt up f.good.inv.is_ring) good) (λ p. right_row w x p f) (is ∙ sym (view_newest w g f.good)) done
 
 -- wherever nothing refuses a member the event, and the view is what it makes, this is so
-abbrev IsReadAs : (List ℕ → List ℕ → Event) → (World → List ℕ → Group → Type 0) → Group → Type 0
-IsReadAs event IsMade v = (w : World) (x : ℕ) (other : List ℕ) → IsFit w → 1 ≤ x → x < size w → IsMade w other v → refusal w (event (member_at w x).name other) ≡ None
+abbrev IsReadAs : (List ℕ → List ℕ → Event) → (World → ℕ → List ℕ → Group → Type 0) → Group → Type 0
+IsReadAs event IsMade v = (w : World) (x : ℕ) (other : List ℕ) → IsFit w → 1 ≤ x → x < size w → IsMade w x other v → refusal w (event (member_at w x).name other) ≡ None
     → refreshed_alone v (held_in w x) ≡ held_in (effect w (event (member_at w x).name other)) x
 
-follow_lifts : (event : List ℕ → List ℕ → Event) (IsMade : World → List ℕ → Group → Type 0) (h h' : Held) (v : Group) → IsReadAs event IsMade v → h' ≡ refreshed_held (answered_held h) v
-    → WhereItStands (answered_held h) (λ w x. (other : List ℕ) → IsMade w other v → refusal w (event h.name other) ≡ None → Stands (effect w (event h.name other)) x (with_own_link h v h'))
+follow_lifts : (event : List ℕ → List ℕ → Event) (IsMade : World → ℕ → List ℕ → Group → Type 0) (h h' : Held) (v : Group) → IsReadAs event IsMade v → h' ≡ refreshed_held (answered_held h) v
+    → WhereItStands (answered_held h) (λ w x. (other : List ℕ) → IsMade w x other v → refusal w (event h.name other) ≡ None → Stands (effect w (event h.name other)) x (with_own_link h v h'))
 follow_lifts event IsMade h h' v each e credit names events x are r some lt s other made enabled =
     ap (with_own_link h v) e
-    ∙ lifts (answered_held h) (λ w y k. IsMade w other v → refusal w (event k.name other) ≡ None → refreshed_alone v k ≡ held_in (effect w (event k.name other)) y) (λ w y f a b. each w y other f a b)
+    ∙ lifts (answered_held h) (λ w y k. IsMade w y other v → refusal w (event k.name other) ≡ None → refreshed_alone v k ≡ held_in (effect w (event k.name other)) y) (λ w y f a b. each w y other f a b)
     credit names events x are r some lt s made enabled
 
 -- so a mark's is, and an erasure's
-mark_read : (v : Group) → IsReadAs event.Mark IsMarkedView v
+mark_read : (v : Group) → IsReadAs event.Mark (λ w _. IsMarkedView w) v
 mark_read v w x dead f some lt (d, there, is) r =
     let named : id_of w (member_at w x).name ≡ Some x = f.named x some lt in
     let m : MayMark w x d = mark_may w x d (member_at w x).name dead named there r in
-    follow_stands w x v (mark_view w d) (event.Mark (member_at w x).name dead) f lt m.up (mark_good w d m.rests m.lives f.good) is (mark_is w x d (member_at w x).name dead named there)
+    view_stands w x v (mark_view w d) (event.Mark (member_at w x).name dead) f lt m.up (mark_good w d m.rests m.lives f.good) is (mark_is w x d (member_at w x).name dead named there)
 
-erase_read : (v : Group) → IsReadAs event.Erase IsErasedView v
+erase_read : (v : Group) → IsReadAs event.Erase (λ w _. IsErasedView w) v
 erase_read v w x origin f some lt (p, there, is) r =
     let named : id_of w (member_at w x).name ≡ Some x = f.named x some lt in
     let m : MayErase w x p = erase_may w x p (member_at w x).name origin named there r in
-    follow_stands w x v (erased_view w p) (event.Erase (member_at w x).name origin) f lt m.up (erase_good w p m.dead f.good) is (erase_is w x p (member_at w x).name origin named there)
+    view_stands w x v (erased_view w p) (event.Erase (member_at w x).name origin) f lt m.up (erase_good w p m.dead f.good) is (erase_is w x p (member_at w x).name origin named there)
 
 pub mark_lifts : (h h' : Held) (v : Group) → h' ≡ refreshed_held (answered_held h) v
     → WhereItStands (answered_held h) (λ w x. (dead : List ℕ) → IsMarkedView w dead v → refusal w (event.Mark h.name dead) ≡ None → Stands (effect w (event.Mark h.name dead)) x (with_own_link h v h'))
-mark_lifts h h' v = follow_lifts event.Mark IsMarkedView h h' v (mark_read v)
+mark_lifts h h' v = follow_lifts event.Mark (λ w _. IsMarkedView w) h h' v (mark_read v)
 
 pub erase_lifts : (h h' : Held) (v : Group) → h' ≡ refreshed_held (answered_held h) v
     → WhereItStands (answered_held h) (λ w x. (origin : List ℕ) → IsErasedView w origin v → refusal w (event.Erase h.name origin) ≡ None → Stands (effect w (event.Erase h.name origin)) x (with_own_link h v h'))
-erase_lifts h h' v = follow_lifts event.Erase IsErasedView h h' v (erase_read v)
+erase_lifts h h' v = follow_lifts event.Erase (λ w _. IsErasedView w) h h' v (erase_read v)
+
+-- ---- an admission
+
+-- nothing opens to the member itself where another is its right neighbour
+not_alone : (h : Held) (v : Group) (h' : Held) → nat_eq (right_of v h.id) h.id ≡ false → with_own_link h v h' ≡ h'
+not_alone h v h' e =
+    ap (λ b. record h' { door = h'.door ++ cond (sends_to h.out (right_of v h.id)) [] (cond b (fresh_in h.initial h.more h.id v.version ∷ []) []) }) e
+    ∙ ap (λ ls. record h' { door = h'.door ++ ls }) (either (sends_to h.out (right_of v h.id)))
+    ∙ ap (λ ls. record h' { door = ls }) (append-nil h'.door)
+  where
+    either : (b : Bool) → ◌≡◌ {A = List Incoming} (cond b [] []) []
+    either true = refl
+    either false = refl
+
+-- the view is read as the admission
+admit_read : (v : Group) → IsReadAs event.Admit IsAdmittedView v
+admit_read v w x newcomer f some lt made r =
+    let named : id_of w (member_at w x).name ≡ Some x = f.named x some lt in
+    let j : CanJoin w x = admit_can w x newcomer f some lt r in
+    follow_stands w (come_to w x newcomer) x v (event.Admit (member_at w x).name newcomer) (come_held w x newcomer x lt f.good) (come_sees w x newcomer j f.good)
+    (come_right w x newcomer x lt (λ p. right_row w x p f)) (made ∙ sym (view_newest w (admitted_view w x newcomer) f.good)) (done_there w x (event.Admit (member_at w x).name newcomer) named)
+
+-- and who comes is then the right neighbour
+admit_beside : (v : Group) (w : World) (x : ℕ) (newcomer : List ℕ) → IsFit w → 1 ≤ x → x < size w → IsAdmittedView w x newcomer v → refusal w (event.Admit (member_at w x).name newcomer) ≡ None → nat_eq (right_of v x) x ≡ false
+admit_beside v w x newcomer f some lt made r =
+    let beside : right_of v x ≡ size w = ap (λ (g : Group). right_of g x) made ∙ right_of_m w x newcomer (admit_can w x newcomer f some lt r) in
+    nat_eq-not (right_of v x) x (λ (is : right_of v x ≡ x). omega (arith, beside, is, lt))
+
+pub admit_lifts : (h h' : Held) (v : Group) → h' ≡ refreshed_held (answered_held h) v
+    → WhereItStands (answered_held h) (λ w x. (newcomer : List ℕ) → IsAdmittedView w x newcomer v → refusal w (event.Admit h.name newcomer) ≡ None → Stands (effect w (event.Admit h.name newcomer)) x h')
+admit_lifts h h' v e credit names events x are r some lt s newcomer made enabled =
+    sym (not_alone h v h'
+    (lifts (answered_held h) (λ w y k. IsAdmittedView w y newcomer v → refusal w (event.Admit k.name newcomer) ≡ None → nat_eq (right_of v k.id) k.id ≡ false) (λ w y f a b. admit_beside v w y newcomer f a b)
+    credit names events x are r some lt s made enabled))
+    ∙ follow_lifts event.Admit IsAdmittedView h h' v (admit_read v) e credit names events x are r some lt s newcomer made enabled
 
 -- ---- either answer
 
 -- what holds of the view that was answered
 pub of_view : {I : Type 0} (a : Answer I) (v : Group) (P : Group → Type 0) → a ≡ Viewed v → P v → OfView a P
 of_view a v P e p = subst (λ b. OfView b P) (sym e) p
+
+-- the same of one in which a member is admitted
+pub of_admitted : {I : Type 0} (a : Answer I) (v : Group) (id : MemberId) (P : Group → Type 0) → a ≡ Admitted v id → P v → OfView a P
+of_admitted a v id P e p = subst (λ b. OfView b P) (sym e) p

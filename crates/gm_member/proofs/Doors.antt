@@ -2,13 +2,13 @@
 use Rattle.std.proofs.Common.{◌≡◌, ℕ, ◌<◌, ◌≤◌, Bool, true, false, not, nat_eq, nat_lt, length, max, refl, sym, ap, subst, ◌∙◌, ⊎_elim, arith}
 use Rattle.std.specs.Prelude.{◌&&◌, ◌||◌}
 use Rattle.std.proofs.lemmas.Bool.{and_parts, false≢true, lt-ltb, le-ltb, cases_lt}
+use Rattle.group_view.specs.View.{Group}
 use Rattle.ring_world.specs.View.{left_by}
 use Rattle.ring_world.specs.Machine.{Link, World, link_at, view_in, newest, is_kept}
 use Rattle.ring_world.specs.OpenLinks.{version_of, comes_from_left, passes, is_current, is_door_link}
 use Rattle.ring_world.specs.Event.{is_at_door}
 use Rattle.ring_world.proofs.rings.Rounds.{nat_eq-is}
 use Rattle.ring_world.proofs.invariants.Good.{kept_true}
-use Rattle.ring_world.proofs.walks.Refresh.{kept_less}
 use Rattle.ring_world.proofs.invariants.FromLeft.{IsGood, OpenedRight, opened_right, comes_is}
 use Rattle.gm_member.specs.Held.{Incoming, is_for, stays}
 use Rattle.gm_member.specs.Stands.{incoming_in, waits_for}
@@ -47,8 +47,11 @@ stays_is w l v h o upto =
     (cases_lt v l.opened)
 
 -- of one that isn't newer than the view it is the test by the view
+pub stays_older : (g : Group) (x v : ℕ) (l : Incoming) → g.version ≡ v → l.opened ≤ v → stays g x l ≡ is_for g x l
+stays_older g x v l numbered older = ap (λ b. b || is_for g x l) (le-ltb g.version l.opened (omega (arith, numbered)))
+
 pub stays_for : (w : World) (x v : ℕ) (l : Incoming) → IsGood w → v ≤ newest w → l.opened ≤ v → stays (view_in w v) x l ≡ is_for (view_in w v) x l
-stays_for w x v l h upto older = ap (λ b. b || is_for (view_in w v) x l) (le-ltb (view_in w v).version l.opened (omega (arith, view_version w v h upto)))
+stays_for w x v l h upto older = stays_older (view_in w v) x v l (view_version w v h upto) older
 
 -- ---- the links to a member
 
@@ -65,10 +68,6 @@ comes_stays w x s v h there to upto =
 -- the ring's test at the door, by what the member holds
 pub passes_stays : (w : World) (x s : ℕ) → IsGood w → s < length w.links → (link_at w s).receiver ≡ x → passes w x (link_at w s) ≡ stays (view_in w (version_of w x)) x (incoming_in w s)
 passes_stays w x s h there to = comes_stays w x s (version_of w x) h there to (h.inv.is_ring.held x)
-
--- a link that stays in a view stayed in each earlier one
-pub stays_less : (w : World) (x s u v : ℕ) → IsGood w → s < length w.links → (link_at w s).receiver ≡ x → u ≤ v → v ≤ newest w → stays (view_in w v) x (incoming_in w s) ≡ true → stays (view_in w u) x (incoming_in w s) ≡ true
-stays_less w x s u v h there to le upto e = stays_kept w x s u h there to (omega arith) ∙ kept_less w (link_at w s) u v le (sym (stays_kept w x s v h there to upto) ∙ e)
 
 -- ---- what waits at the door
 

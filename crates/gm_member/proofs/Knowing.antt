@@ -67,11 +67,11 @@ kept_published log r m e l =
     ∙ ap (drop r.forgot) (take_one_more log m)
     ∙ drop-append-le r.forgot log (m ∷ []) (omega (arith, e))
     ∙ ap (λ ms. drop r.forgot ms ++ m ∷ []) (sym (ap (λ n. take n log) e ∙ take_all log)) in
-    ap (λ ms. record { forgot = r.forgot; messages = ms; retired = r.retired }) upto
+    ap (λ ms. record { forgot = r.forgot; messages = ms; retired = r.retired; base = r.base }) upto
 
 -- what a member keeps of an origin doesn't change where the log grows
 pub kept_grown : (log more : List Message) (r : Row) → r.got ≤ length log → kept_by (log ++ more) r ≡ kept_by log r
-kept_grown log more r l = ap (λ ms. record { forgot = r.forgot; messages = ms; retired = r.retired }) (between_grown r.forgot r.got log more l)
+kept_grown log more r l = ap (λ ms. record { forgot = r.forgot; messages = ms; retired = r.retired; base = r.base }) (between_grown r.forgot r.got log more l)
 
 -- ---- putting
 
@@ -135,8 +135,8 @@ pub accepted_round : (log : List Message) (p : ℕ) (r : Row) (k : Numbers) → 
 accepted_round log p r k h f =
     let c : Carried = whole_line log p k in
     rw (round_fits log p r k h f)
-    (ap (λ n. record { forgot = n; messages = drop (n - r.forgot) (messages_between r.forgot r.got log); retired = k.forgot }) (got_is log p k f.lo f.within)
-    ∙ ap (λ ms. record { forgot = k.got; messages = ms; retired = k.forgot }) (drop_between r.forgot k.got r.got log f.forgot))
+    (ap (λ n. record { forgot = n; messages = drop (n - r.forgot) (messages_between r.forgot r.got log); retired = k.forgot; base = r.base }) (got_is log p k f.lo f.within)
+    ∙ ap (λ ms. record { forgot = k.got; messages = ms; retired = k.forgot; base = r.base }) (drop_between r.forgot k.got r.got log f.forgot))
 
 pub arrival_fits : (log : List Message) (p : ℕ) (r : Row) (k : Numbers) → IsRight log r → Arrives log r k → fits false (kept_by log r) (whole_line log p k) ≡ true
 arrival_fits log p r k h f =
@@ -153,7 +153,7 @@ accepted_arrival log p r k h f =
     ∙ ap (λ ms. drop (k.forgot - r.forgot) (messages_between r.forgot r.got log ++ ms)) (drop_between k.lo r.got k.got log f.lo)
     ∙ ap (drop (k.forgot - r.forgot)) (heard_more r.forgot r.got k.got log h.forgot f.got f.within)
     ∙ drop_between r.forgot k.forgot k.got log f.falls_not in
-    rw (arrival_fits log p r k h f) (ap (λ ms. record { forgot = k.forgot; messages = ms; retired = r.retired }) both)
+    rw (arrival_fits log p r k h f) (ap (λ ms. record { forgot = k.forgot; messages = ms; retired = r.retired; base = r.base }) both)
 
 -- ---- a first packet
 
@@ -175,9 +175,10 @@ first_begins log p k f =
 -- a member that has retired nothing begins with the messages of its line
 pub begun_first : (log : List Message) (p : ℕ) (r : Row) (k : Numbers) → r.retired ≡ 0 → BeginsFirst log k → begun (Some (whole_line log p k)) ≡ kept_by log (begun_row r k)
 begun_first log p r k none f =
-    ap (λ b. cond b (record { forgot = k.forgot; messages = drop (k.forgot - k.lo) (messages_between k.lo k.got log); retired = 0 }) no_kept) (first_begins log p k f)
-    ∙ ap (λ ms. record { forgot = k.forgot; messages = ms; retired = 0 }) (drop_between k.lo k.forgot k.got log f.lo)
-    ∙ ap (λ n. record { forgot = k.forgot; messages = messages_between k.forgot k.got log; retired = n }) (sym none)
+    ap (λ b. cond b (record { forgot = k.forgot; messages = drop (k.forgot - k.lo) (messages_between k.lo k.got log); retired = 0; base = got_in (whole_line log p k) }) no_kept) (first_begins log p k f)
+    ∙ ap (λ n. record { forgot = k.forgot; messages = drop (k.forgot - k.lo) (messages_between k.lo k.got log); retired = 0; base = n }) (got_is log p k (omega (arith, f.lo, f.forgot)) f.within)
+    ∙ ap (λ ms. record { forgot = k.forgot; messages = ms; retired = 0; base = k.got }) (drop_between k.lo k.forgot k.got log f.lo)
+    ∙ ap (λ n. record { forgot = k.forgot; messages = messages_between k.forgot k.got log; retired = n; base = k.got }) (sym none)
 
 -- where it has none, nothing was received of the origin
 pub begun_nothing : (log : List Message) (r : Row) (k : Numbers) → r.retired ≡ 0 → k.got ≡ 0 → BeginsFirst log k → begun None ≡ kept_by log (begun_row r k)
@@ -185,7 +186,8 @@ begun_nothing log r k none got f =
     let forgot : k.forgot ≡ 0 = omega (arith, f.forgot, got) in
     sym (ap (λ n. kept_by log (record r { got = n; forgot = k.forgot; base = k.got })) got
     ∙ ap (λ n. kept_by log (record r { got = 0; forgot = n; base = k.got })) forgot
-    ∙ ap (λ n. record { forgot = 0; messages = []; retired = n }) none)
+    ∙ ap (λ n. record { forgot = 0; messages = []; retired = r.retired; base = n }) got
+    ∙ ap (λ n. record { forgot = 0; messages = []; retired = n; base = 0 }) none)
 
 -- ---- what it brings
 

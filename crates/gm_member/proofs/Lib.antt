@@ -1,4 +1,5 @@
 pub mod Accepting
+pub mod AdmitStands
 pub mod AnswerLifts
 pub mod Arriving
 pub mod BeginStands
@@ -12,11 +13,11 @@ pub mod Facts
 pub mod Fit
 pub mod Fresh
 pub mod GainStands
+pub mod JoinStands
 pub mod Knowing
 pub mod Lifts
 pub mod MarkStands
 pub mod Moving
-pub mod Names
 pub mod Noting
 pub mod OpenDoors
 pub mod Ordered
@@ -26,7 +27,6 @@ pub mod Parcels
 pub mod Parts
 pub mod PickStands
 pub mod Places
-pub mod Plain
 pub mod Pruned
 pub mod PublishStands
 pub mod PutStands
@@ -39,6 +39,6 @@ pub mod Same
 pub mod StopStands
 pub mod TakeStands
 pub mod TakenWithin
-pub mod Whole
+pub mod Waiters
 pub mod Within
 pub mod WithinLinks

@@ -38,7 +38,8 @@ use Rattle.ring_world.proofs.invariants.Happens.{IsGood}
 use Rattle.gm_member.proofs.Doors.{view_version}
 use Rattle.gm_member.proofs.DoorParts.{up_refused_none}
 use Rattle.gm_member.proofs.PickStands.{PicksAt, picks_some, pick_stands, MayPick, may_pick}
-use Rattle.gm_member.proofs.RefreshStands.{RowsAreRight, refresh_refuses_too, refresh_stands}
+use Rattle.gm_member.proofs.OpenDoors.{SeesLinks, sees_links}
+use Rattle.gm_member.proofs.RefreshStands.{RowsAreRight, refresh_refuses_too, looks_at}
 use Rattle.gm_member.proofs.Refusals.{pick_refusal_is}
 
 -- ---- in one state
@@ -166,11 +167,11 @@ abbrev pub refreshed_alone : Group → Held → Held
 refreshed_alone v h = with_own_link h v (refreshed_held h v)
 
 -- it stands where the ring's leaves it
-pub refresh_alone : (w : World) (x n : ℕ) (v : Group) → MayLook w x n → IsGood w → RowsAreRight w x → v ≡ view_in w n → v.version ≡ n → refreshed_alone v (held_in w x) ≡ held_in (refreshed w x n) x
-refresh_alone w x n v m h right is numbered =
+pub refresh_alone : (w : World) (x n : ℕ) (v : Group) → SeesLinks w x n → RowsAreRight w x → v ≡ view_in w n → refreshed_alone v (held_in w x) ≡ held_in (refreshed w x n) x
+refresh_alone w x n v k right is =
     ap (λ (g : Group). with_own_link (held_in w x) (record g { version = v.version }) (refreshed_held (held_in w x) g)) is
-    ∙ ap (λ i. with_own_link (held_in w x) (record (view_in w n) { version = i }) (refreshed_held (held_in w x) (view_in w n))) numbered
-    ∙ refresh_stands w x n m h right
+    ∙ ap (λ i. with_own_link (held_in w x) (record (view_in w n) { version = i }) (refreshed_held (held_in w x) (view_in w n))) (ap (λ (g : Group). g.version) is ∙ k.numbered)
+    ∙ looks_at w x n k right
 
 -- a view that is one of the ring's
 abbrev pub IsThere : World → Group → Type 0
@@ -180,7 +181,7 @@ pub refresh_steps : (w : World) (x : ℕ) (v : Group) → IsFit w → 1 ≤ x �
 refresh_steps w x v f some lt e there =
     steps_there w x (event.Refresh (member_at w x).name v.version) (refreshed_alone v (held_in w x)) (f.named x some lt)
     (none_some (refresh_refused (held_in w x) v.version) (up_refusal w x (refresh_refusal w x v.version)) e (refresh_refuses_too w x v.version f.good there.0))
-    (refresh_alone w x v.version v (may_look w x v.version lt f.good there.0 e) f.good (λ p. right_row w x p f) there.1 refl)
+    (refresh_alone w x v.version v (sees_links w x v.version (may_look w x v.version lt f.good there.0 e) f.good) (λ p. right_row w x p f) there.1)
 
 -- ---- in every state of every run
 

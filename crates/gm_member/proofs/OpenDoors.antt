@@ -6,7 +6,7 @@ use Rattle.std.proofs.lemmas.List.{map-append}
 use Rattle.group_view.proofs.Passing.{right_inside}
 use Rattle.group_view.specs.Ring.{is_in}
 use Rattle.ring_world.specs.View.{ids, is_live, right_of}
-use Rattle.ring_world.specs.Machine.{Link, World, member_at, view_in, newest, left, runs, runs_phase}
+use Rattle.ring_world.specs.Machine.{Link, World, member_at, link_at, view_in, newest, left, runs, runs_phase, is_kept}
 use Rattle.ring_world.specs.OpenLinks.{comes_from_left, is_place}
 use Rattle.ring_world.specs.Step.{size, look_at}
 use Rattle.ring_world.specs.Event.{refreshed}
@@ -18,11 +18,12 @@ use Rattle.group_view.proofs.Marks.{right_is as right_of_entry}
 use Rattle.ring_world.proofs.invariants.Happens.{IsGood}
 use Rattle.ring_world.proofs.work.Refreshed as ring
 pub use Rattle.ring_world.proofs.work.Refreshed.{new_link, sending_member, opened_world, old_links, old_many, link_old, link_new, links_more}
-use Rattle.gm_member.specs.Held.{Incoming, fresh_in, sends_to}
+use Rattle.gm_member.specs.Held.{Incoming, fresh_in, sends_to, stays}
 use Rattle.gm_member.specs.Stands.{incoming_in, outgoing_in, held_in}
 use Rattle.gm_member.proofs.DoorLists.{filter_agree, made_agree, filter_more}
 use Rattle.ring_world.proofs.invariants.FromLeft.{OpenedRight, comes_is}
 use Rattle.gm_member.proofs.DoorParts.{waits_by}
+use Rattle.gm_member.proofs.Doors.{view_version, stays_kept, comes_stays}
 
 -- ---- the link that opens
 
@@ -82,9 +83,14 @@ new_comes w x v u m h upto =
     comes_is w (new_link w x v) u h (new_right w x v m h) upto
     ∙ kept_true w (new_link w x v) u (λ k a b. ap (left w k) (sym (right_is w v x (view_in w v) refl)) ∙ h.inv.is_ring.front x v k (ap runs_phase m.up) m.later a (omega arith))
 
--- and waits at the door of its receiver alone
-pub waits_new : (w : World) (x v y : ℕ) (c : Option ℕ) (u : ℕ) → MayLook w x v → IsGood w → u ≤ newest w → is_place c (length w.links) ≡ false → waits_by (opened_world w x v (old_links w x)) y c u (length w.links) ≡ nat_eq (right_of (view_in w v) x) y
-waits_new w x v y c u m h upto none =
+-- so at the door of whoever receives it
+pub new_at : (w : World) (x v y u : ℕ) → MayLook w x v → IsGood w → u ≤ newest w → nat_eq (right_of (view_in w v) x) y ≡ true → comes_from_left w y (new_link w x v) (max u v) ≡ true
+new_at w x v y u m h upto e = subst (λ q. comes_from_left w q (new_link w x v) (max u v) ≡ true) (nat_eq-is (right_of (view_in w v) x) y e) (new_comes w x v u m h upto)
+
+-- where it passes there, it waits at the door of its receiver alone
+pub waits_fresh : (w : World) (x v y : ℕ) (c : Option ℕ) (u : ℕ) → (nat_eq (right_of (view_in w v) x) y ≡ true → comes_from_left w y (new_link w x v) (max u v) ≡ true) → is_place c (length w.links) ≡ false
+    → waits_by (opened_world w x v (old_links w x)) y c u (length w.links) ≡ nat_eq (right_of (view_in w v) x) y
+waits_fresh w x v y c u comes none =
     ap (λ (k : Link). (nat_eq k.receiver y && (not (is_place c (length w.links)) && not k.over)) && comes_from_left w y k (max u k.opened)) (link_new w x v)
     ∙ ap (λ b. (nat_eq z y && (not b && not false)) && comes_from_left w y (new_link w x v) (max u v)) none
     ∙ by_receiver (nat_eq z y) refl
@@ -93,8 +99,12 @@ waits_new w x v y c u m h upto none =
     z = right_of (view_in w v) x
 
     by_receiver : (b : Bool) → nat_eq z y ≡ b → ((b && (not false && not false)) && comes_from_left w y (new_link w x v) (max u v)) ≡ b
-    by_receiver true e = subst (λ q. comes_from_left w q (new_link w x v) (max u v) ≡ true) (nat_eq-is z y e) (new_comes w x v u m h upto)
+    by_receiver true e = comes e
     by_receiver false e = refl
+
+-- so in a good state
+pub waits_new : (w : World) (x v y : ℕ) (c : Option ℕ) (u : ℕ) → MayLook w x v → IsGood w → u ≤ newest w → is_place c (length w.links) ≡ false → waits_by (opened_world w x v (old_links w x)) y c u (length w.links) ≡ nat_eq (right_of (view_in w v) x) y
+waits_new w x v y c u m h upto none = waits_fresh w x v y c u (new_at w x v y u m h upto) none
 
 -- ---- a door after the link has opened
 
@@ -103,17 +113,17 @@ pub incoming_new : (w : World) (x v : ℕ) → incoming_in (opened_world w x v (
 incoming_new w x v = ap (λ (k : Link). record { from = k.sender; opened = k.opened; counted = k.flow.receiver }) (link_new w x v)
 
 -- the links that pass at the door of y, of which t says which were there
-pub door_after : (w : World) (x v y : ℕ) (t : ℕ → Bool) (c : Option ℕ) (u : ℕ) → MayLook w x v → IsGood w → u ≤ newest w → is_place c (length w.links) ≡ false → ((s : ℕ) → s < length w.links → waits_by w y c u s ≡ t s)
+pub door_after : (w : World) (x v y : ℕ) (t : ℕ → Bool) (c : Option ℕ) (u : ℕ) → (nat_eq (right_of (view_in w v) x) y ≡ true → comes_from_left w y (new_link w x v) (max u v) ≡ true) → is_place c (length w.links) ≡ false → ((s : ℕ) → s < length w.links → waits_by w y c u s ≡ t s)
     → map (incoming_in (opened_world w x v (old_links w x))) (filter (waits_by (opened_world w x v (old_links w x)) y c u) (range_with_len 0 (length (opened_world w x v (old_links w x)).links)))
     ≡ map (incoming_in w) (filter t (range_with_len 0 (length w.links))) ++ cond (nat_eq (right_of (view_in w v) x) y) (fresh_in w.initial w.more x v ∷ []) []
-door_after w x v y t c u m h upto none tests =
+door_after w x v y t c u comes none tests =
     ap (λ k. map (incoming_in w') (filter (waits_by w' y c u) (range_with_len 0 k))) (links_more w x v)
     ∙ ap (map (incoming_in w')) (filter_more (waits_by w' y c u) 0 n n (let is : 0 + n ≡ n = omega arith in is))
     ∙ map-append (incoming_in w') (filter (waits_by w' y c u) (range_with_len 0 n)) (cond (waits_by w' y c u n) (n ∷ []) [])
     ∙ ap (λ xs. xs ++ map (incoming_in w') (cond (waits_by w' y c u n) (n ∷ []) []))
     (ap (map (incoming_in w')) (filter_agree (waits_by w' y c u) t 0 n (λ s a b. waits_old w x v y c u s (omega arith) ∙ tests s (omega arith)))
     ∙ made_agree (incoming_in w') (incoming_in w) t 0 n (λ s a b _. incoming_old w x v s (omega arith)))
-    ∙ ap (λ b. map (incoming_in w) (filter t (range_with_len 0 n)) ++ map (incoming_in w') (cond b (n ∷ []) [])) (waits_new w x v y c u m h upto none)
+    ∙ ap (λ b. map (incoming_in w) (filter t (range_with_len 0 n)) ++ map (incoming_in w') (cond b (n ∷ []) [])) (waits_fresh w x v y c u comes none)
     ∙ ap (λ xs. map (incoming_in w) (filter t (range_with_len 0 n)) ++ xs) (by_receiver (nat_eq (right_of (view_in w v) x) y))
   where
     w' : World
@@ -125,3 +135,28 @@ door_after w x v y t c u m h upto none tests =
     by_receiver : (b : Bool) → map (incoming_in w') (cond b (n ∷ []) []) ≡ cond b (fresh_in w.initial w.more x v ∷ []) []
     by_receiver true = ap (λ a. a ∷ []) (incoming_new w x v)
     by_receiver false = refl
+
+-- ---- what a look rests on
+
+-- What x has where it looks at the view of version v: that view's number, the links to x, and that a link which x opens to
+-- itself passes at its door.
+pub record SeesLinks (w : World) (x v : ℕ) : Type 0 where
+  pub may : MayLook w x v
+  pub numbered : (view_in w v).version ≡ v
+  pub current : (s : ℕ) → (member_at w x).current ≡ Some s → (s < length w.links) × ((link_at w s).receiver ≡ x) × ((link_at w s).opened ≤ (member_at w x).version)
+  pub stays_kept : (s u : ℕ) → s < length w.links → (link_at w s).receiver ≡ x → u ≤ newest w → stays (view_in w u) x (incoming_in w s) ≡ is_kept w (link_at w s) u
+  pub comes_stays : (s u : ℕ) → s < length w.links → (link_at w s).receiver ≡ x → u ≤ newest w → comes_from_left w x (link_at w s) (max u (link_at w s).opened) ≡ stays (view_in w u) x (incoming_in w s)
+  pub own : nat_eq (right_of (view_in w v) x) x ≡ true → comes_from_left w x (new_link w x v) (max v v) ≡ true
+
+-- so in a good state
+pub sees_links : (w : World) (x v : ℕ) → MayLook w x v → IsGood w → SeesLinks w x v
+sees_links w x v m h =
+    let rx : runs w x ≡ true = ap runs_phase m.up in
+    record {
+      may = m;
+      numbered = view_version w v h m.upto;
+      current = λ s e. (h.inv.current.lt x s rx e, h.inv.current.receiver x s rx e, h.inv.current.opened x s rx e);
+      stays_kept = λ s u there to upto. stays_kept w x s u h there to upto;
+      comes_stays = λ s u there to upto. comes_stays w x s u h there to upto;
+      own = new_at w x v x v m h m.upto;
+    }

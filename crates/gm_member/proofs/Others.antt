@@ -8,8 +8,8 @@ use Rattle.std.proofs.lemmas.Bool.{cases_eq}
 use Rattle.std.proofs.lemmas.List.{length-set, get_or-set_same, get_or-set_other}
 use Rattle.ring_names.specs.declared.message.Message.{Message}
 use Rattle.ring_world.specs.declared.phase.Ending.TheVariants.{Halted}
-use Rattle.ring_world.specs.Machine.{World, Member, Link, no_link, no_member, row_at, member_at, link_at, view_in}
-use Rattle.ring_world.specs.Step.{size, log_of, with_member, with_link, publish_at, published, put_on as put_in, pushed, gain_on, take_from, taker, popped, leave_link, with_current, finished, stop_at, stopped, end_out}
+use Rattle.ring_world.specs.Machine.{World, Member, Link, no_link, no_member, row_at, member_at, link_at, view_in, oldest}
+use Rattle.ring_world.specs.Step.{size, log_of, with_member, with_link, publish_at, published, put_on as put_in, pushed, gain_on, take_from, taker, begun, begin_from, popped, leave_link, with_current, finished, stop_at, stopped, end_out}
 use Rattle.ring_world.proofs.rings.Maps.{map-range_same}
 use Rattle.gm_member.specs.Stands.{kept_by, held_in, outgoing_in, incoming_in}
 use Rattle.gm_member.proofs.Fit.{IsFit}
@@ -92,6 +92,9 @@ current_others w x s y m l f logged is ne to shows =
 
 pub take_others : (w : World) (x s y : ℕ) → IsFit w → (member_at w x).current ≡ Some s → y ≢ x → held_in w y ≡ held_in (take_from w x s) y
 take_others w x s y f is ne = current_others w x s y (taker w x s) (popped (link_at w s)) f refl is ne refl refl
+
+pub begin_others : (w : World) (x s y : ℕ) → IsFit w → (member_at w x).current ≡ Some s → y ≢ x → held_in w y ≡ held_in (begin_from w x s) y
+begin_others w x s y f is ne = current_others w x s y (begun (size w) (member_at w x) (oldest (link_at w s))) (popped (link_at w s)) f refl is ne refl refl
 
 pub end_others : (w : World) (x s y : ℕ) → IsFit w → (member_at w x).current ≡ Some s → y ≢ x → held_in w y ≡ held_in (leave_link w x s) y
 end_others w x s y f is ne = current_others w x s y (with_current None (member_at w x)) (finished (link_at w s)) f refl is ne refl refl

@@ -14,7 +14,7 @@ use Rattle.gm_member.specs.Stands.{known_in, incoming_in, outgoing_in, waits_for
 use Rattle.gm_member.proofs.Parts.{known_by, known_same, log_written, held_by, held_same}
 use Rattle.gm_member.proofs.DoorParts.{waits_by, member_other}
 use Rattle.gm_member.proofs.Others.{member_others}
-use Rattle.gm_member.proofs.OpenDoors.{sends_right, arriving, sending_member, opened_world, old_links, refresh_looks, refresh_opens, incoming_old, outgoing_old, door_after}
+use Rattle.gm_member.proofs.OpenDoors.{sends_right, arriving, sending_member, opened_world, old_links, refresh_looks, refresh_opens, incoming_old, outgoing_old, new_at, door_after}
 use Rattle.gm_member.proofs.RefreshStands.{current_lt, nothing_opens}
 use Rattle.gm_member.proofs.WithinLinks.{IsWithin}
 
@@ -30,7 +30,7 @@ opens_others w x v y m h i ne =
     refl
     (same_out k.out (λ o e. i.out o e))
     (same_current k.current (λ s e. i.current s e))
-    (door_after w x v y (waits_for w y) k.current k.version m h (h.inv.is_ring.held y) (current_lt w y (length w.links) k.current (λ s e. i.current s e)) (λ s l. refl))
+    (door_after w x v y (waits_for w y) k.current k.version (new_at w x v y k.version m h (h.inv.is_ring.held y)) (current_lt w y (length w.links) k.current (λ s e. i.current s e)) (λ s l. refl))
   where
     same_out : (o : Option ℕ) → ((s : ℕ) → o ≡ Some s → s < length w.links) → option_map (outgoing_in (opened_world w x v (old_links w x))) o ≡ option_map (outgoing_in w) o
     same_out None l = refl

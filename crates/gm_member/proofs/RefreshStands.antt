@@ -10,13 +10,14 @@ use Rattle.ring_names.specs.declared.reason.Reason.TheVariants as reason
 use Rattle.ring_world.specs.Rows.{Row, no_row, no_numbers, next_numbers}
 use Rattle.ring_world.specs.Refusal.{refuse_if, or_else}
 use Rattle.ring_world.specs.View.{right_of}
-use Rattle.ring_world.specs.Machine.{Member, World, no_sending, row_at, numbers_at, member_at, link_at, view_in, newest, runs, runs_phase, is_kept, is_waiting}
+use Rattle.ring_world.specs.Machine.{Member, World, no_sending, row_at, numbers_at, member_at, link_at, view_in, newest, is_kept, is_waiting}
 use Rattle.ring_world.specs.OpenLinks.{version_of, comes_from_left, passes, is_place, is_current}
 use Rattle.ring_world.specs.Step.{log_of, next_lines, next_packet, moved_to, look_at, kept_current}
 use Rattle.ring_world.specs.Event.{refreshed, up_refusal, refresh_refusal, is_stopped}
 use Rattle.ring_world.proofs.rings.Maps.{map-range_same}
 use Rattle.ring_world.proofs.events.WhatRefuses.{MayLook}
 use Rattle.ring_world.proofs.rings.Rounds.{nat_eq-is, nat_eq-not}
+use Rattle.ring_world.proofs.walks.Refresh.{kept_less}
 use Rattle.ring_world.proofs.invariants.Happens.{IsGood}
 use Rattle.activity.specs.Kept.{no_kept}
 use Rattle.gm_member.specs.Parcels.{places, known_at, told_now}
@@ -25,10 +26,10 @@ use Rattle.gm_member.specs.Stands.{kept_by, told_in, known_in, incoming_in, outg
 use Rattle.gm_member.proofs.Knowing.{IsRight, told_kept}
 use Rattle.gm_member.proofs.Places.{tabled_at}
 use Rattle.gm_member.proofs.DoorLists.{filter_agree, filter_made}
-use Rattle.gm_member.proofs.Doors.{view_version, comes_stays, passes_stays, stays_kept, stays_less, stays_for}
+use Rattle.gm_member.proofs.Doors.{view_version, stays_older}
 use Rattle.gm_member.proofs.Parts.{known_by, known_same, log_written, held_by, held_same}
 use Rattle.gm_member.proofs.DoorParts.{waits_by, member_same}
-use Rattle.gm_member.proofs.OpenDoors.{sends_right, arriving, new_link, sending_member, opened_world, old_links, refresh_looks, refresh_opens, link_new, incoming_old, door_after}
+use Rattle.gm_member.proofs.OpenDoors.{sends_right, arriving, new_link, sending_member, opened_world, old_links, refresh_looks, refresh_opens, link_new, incoming_old, door_after, SeesLinks, sees_links}
 
 -- ---- the conditions
 
@@ -73,12 +74,9 @@ refresh_refuses_too w x v h upto =
 -- ---- the link that x takes from
 
 -- it stays where the ring's refresh keeps it
-pub current_kept : (w : World) (x v : ℕ) → MayLook w x v → IsGood w → kept_in (view_in w v) x (option_map (incoming_in w) (member_at w x).current) ≡ option_map (incoming_in w) (kept_current (λ s. is_kept w (link_at w s) v) (member_at w x).current)
-current_kept w x v m h = by_current (member_at w x).current refl
+pub current_kept : (w : World) (x v : ℕ) → SeesLinks w x v → kept_in (view_in w v) x (option_map (incoming_in w) (member_at w x).current) ≡ option_map (incoming_in w) (kept_current (λ s. is_kept w (link_at w s) v) (member_at w x).current)
+current_kept w x v k = by_current (member_at w x).current refl
   where
-    rx : runs w x ≡ true
-    rx = ap runs_phase m.up
-
     made : (b : Bool) (s : ℕ) → cond b (Some (incoming_in w s)) None ≡ option_map (incoming_in w) (cond b (Some s) None)
     made true s = refl
     made false s = refl
@@ -86,10 +84,11 @@ current_kept w x v m h = by_current (member_at w x).current refl
     by_current : (c : Option ℕ) → (member_at w x).current ≡ c → kept_in (view_in w v) x (option_map (incoming_in w) c) ≡ option_map (incoming_in w) (kept_current (λ s. is_kept w (link_at w s) v) c)
     by_current None e = refl
     by_current (Some s) e =
-        let older = h.inv.current.opened x s rx e in
-        let later = m.later in
+        let is = k.current s e in
+        let older = is.2 in
+        let later = k.may.later in
         ap (λ b. cond b (Some (incoming_in w s)) None)
-        (sym (stays_for w x v (incoming_in w s) h m.upto (omega arith)) ∙ stays_kept w x s v h (h.inv.current.lt x s rx e) (h.inv.current.receiver x s rx e) m.upto)
+        (sym (stays_older (view_in w v) x v (incoming_in w s) k.numbered (omega arith)) ∙ k.stays_kept s v is.0 is.1 k.may.upto)
         ∙ made (is_kept w (link_at w s) v) s
 
 -- whatever stays of it is no later link
@@ -121,12 +120,15 @@ kept_place kept (Some t) s e = by_place (nat_eq t s) refl
 -- ---- the door
 
 -- a link stays at the door exactly where it was there and stays in the new view
-pub door_stays : (w : World) (x v s : ℕ) → MayLook w x v → IsGood w → s < length w.links
+pub door_sees : (w : World) (x v s : ℕ) → SeesLinks w x v → s < length w.links
     → waits_by w x (kept_current (λ k. is_kept w (link_at w k) v) (member_at w x).current) v s ≡ (waits_for w x s && stays (view_in w v) x (incoming_in w s))
-door_stays w x v s m h there = by_receiver (nat_eq (link_at w s).receiver x) refl
+door_sees w x v s k there = by_receiver (nat_eq (link_at w s).receiver x) refl
   where
+    mine : version_of w x ≤ newest w
+    mine = let later = k.may.later in let upto = k.may.upto in omega arith
+
     kept : ℕ → Bool
-    kept k = is_kept w (link_at w k) v
+    kept j = is_kept w (link_at w j) v
 
     later : Option ℕ
     later = kept_current kept (member_at w x).current
@@ -142,10 +144,15 @@ door_stays w x v s m h there = by_receiver (nat_eq (link_at w s).receiver x) ref
     by_receiver false e = refl
     by_receiver true e =
         let to : (link_at w s).receiver ≡ x = nat_eq-is (link_at w s).receiver x e in
-        ap (λ p. (not (is_place later s) && not (link_at w s).over) && p) (comes_stays w x s v h there to m.upto)
+        let kept_then = k.stays_kept s v there to k.may.upto in
+        ap (λ p. (not (is_place later s) && not (link_at w s).over) && p) (k.comes_stays s v there to k.may.upto)
         ∙ tests (is_place later s) (is_current w x s) (link_at w s).over (passes w x (link_at w s)) q
-        (λ k. passes_stays w x s h there to ∙ stays_less w x s (version_of w x) v h there to m.later m.upto k)
-        (λ k. kept_place kept (member_at w x).current s (sym (stays_kept w x s v h there to m.upto) ∙ k))
+        (λ b. k.comes_stays s (version_of w x) there to mine ∙ k.stays_kept s (version_of w x) there to mine ∙ kept_less w (link_at w s) (version_of w x) v k.may.later (sym kept_then ∙ b))
+        (λ b. kept_place kept (member_at w x).current s (sym kept_then ∙ b))
+
+pub door_stays : (w : World) (x v s : ℕ) → MayLook w x v → IsGood w → s < length w.links
+    → waits_by w x (kept_current (λ k. is_kept w (link_at w k) v) (member_at w x).current) v s ≡ (waits_for w x s && stays (view_in w v) x (incoming_in w s))
+door_stays w x v s m h there = door_sees w x v s (sees_links w x v m h) there
 
 -- ---- the link that opens
 
@@ -160,10 +167,10 @@ abbrev pub RowsAreRight : World → ℕ → Type 0
 RowsAreRight w x = (p : ℕ) → IsRight (log_of w p) (row_at (member_at w x) p)
 
 -- with its first packet it is the ring's
-pub first_out_is : (w : World) (x v : ℕ) → MayLook w x v → IsGood w → RowsAreRight w x → first_out (looked_held (held_in w x) (view_in w v)) (right_of (view_in w v) x) ≡ outgoing_in (opened_world w x v (old_links w x)) (length w.links)
+pub first_out_is : (w : World) (x v : ℕ) → (view_in w v).version ≡ v → RowsAreRight w x → first_out (looked_held (held_in w x) (view_in w v)) (right_of (view_in w v) x) ≡ outgoing_in (opened_world w x v (old_links w x)) (length w.links)
 unfolding places
-first_out_is w x v m h right =
-    ap (λ n. put_on (known_in w x) (fresh_out w.initial w.more (right_of (view_in w v) x) n)) (view_version w v h m.upto)
+first_out_is w x v numbered right =
+    ap (λ n. put_on (known_in w x) (fresh_out w.initial w.more (right_of (view_in w v) x) n)) numbered
     ∙ ap (λ ns. record (outgoing_in one 0) { told = ns })
     (map-range_same (λ p. told_now (known_at (known_in w x) p)) (λ p. told_in (numbers_at (next_packet (moved_to w x v) no_sending) (p + 1))) 64
     (λ p l. ap told_now (tabled_at (λ k. kept_by (log_of w (k + 1)) (row_at (member_at w x) (k + 1))) 64 p no_kept l)
@@ -177,8 +184,8 @@ first_out_is w x v m h right =
 -- ---- what the member holds then
 
 -- where it sends to its right neighbour already
-looks_stands : (w : World) (x v : ℕ) → MayLook w x v → IsGood w → sends_right w x v ≡ true → record (refreshed_held (held_in w x) (view_in w v)) { door = kept_door (view_in w v) x (door_in w x) ++ arriving w x v x } ≡ held_in (look_at w x v) x
-looks_stands w x v m h e =
+looks_stands : (w : World) (x v : ℕ) → SeesLinks w x v → sends_right w x v ≡ true → record (refreshed_held (held_in w x) (view_in w v)) { door = kept_door (view_in w v) x (door_in w x) ++ arriving w x v x } ≡ held_in (look_at w x v) x
+looks_stands w x v k e =
     let w' : World = look_at w x v in
     let y : Member = member_at w x in
     let n : ℕ = length w.links in
@@ -187,53 +194,54 @@ looks_stands w x v m h e =
     (sym (known_same w w' (moved_to w x v) (log_written w x (moved_to w x v) refl)))
     refl
     (ap (λ b. cond b (option_map (outgoing_in w) y.out) (Some (first_out (looked_held (held_in w x) (view_in w v)) (right_of (view_in w v) x)))) e)
-    (current_kept w x v m h)
+    (current_kept w x v k)
     (ap (λ b. kept_door (view_in w v) x (door_in w x) ++ cond b [] (cond (nat_eq (right_of (view_in w v) x) x) (fresh_in w.initial w.more x v ∷ []) [])) e
     ∙ append-nil (kept_door (view_in w v) x (door_in w x))
     ∙ filter_made (stays (view_in w v) x) (incoming_in w) (waits_for w x) (range_with_len 0 n)
     ∙ ap (map (incoming_in w)) (filter_agree (λ s. waits_for w x s && stays (view_in w v) x (incoming_in w s)) (waits_for w' x) 0 n
-    (λ s a b. sym (door_stays w x v s m h (omega arith)) ∙ sym (ap (λ k. waits_by w x k.current k.version s) (member_same w x (moved_to w x v) m.is_member)))))
-    ∙ sym (ap (λ k. held_by x k (known_by w' k) (view_in w k.version) (option_map (outgoing_in w) k.out) (option_map (incoming_in w) k.current) (door_in w' x) w.initial w.more) (member_same w x (moved_to w x v) m.is_member))
+    (λ s a b. sym (door_sees w x v s k (omega arith)) ∙ sym (ap (λ j. waits_by w x j.current j.version s) (member_same w x (moved_to w x v) k.may.is_member)))))
+    ∙ sym (ap (λ j. held_by x j (known_by w' j) (view_in w j.version) (option_map (outgoing_in w) j.out) (option_map (incoming_in w) j.current) (door_in w' x) w.initial w.more) (member_same w x (moved_to w x v) k.may.is_member))
 
 -- where a link opens
-opens_stands : (w : World) (x v : ℕ) → MayLook w x v → IsGood w → RowsAreRight w x → sends_right w x v ≡ false → record (refreshed_held (held_in w x) (view_in w v)) { door = kept_door (view_in w v) x (door_in w x) ++ arriving w x v x } ≡ held_in (opened_world w x v (old_links w x)) x
-opens_stands w x v m h right e =
+opens_stands : (w : World) (x v : ℕ) → SeesLinks w x v → RowsAreRight w x → sends_right w x v ≡ false → record (refreshed_held (held_in w x) (view_in w v)) { door = kept_door (view_in w v) x (door_in w x) ++ arriving w x v x } ≡ held_in (opened_world w x v (old_links w x)) x
+opens_stands w x v k right e =
     let w' : World = opened_world w x v (old_links w x) in
     let y : Member = member_at w x in
     let n : ℕ = length w.links in
     let kept : ℕ → Bool = λ s. is_kept w (link_at w s) v in
     let y' : Member = sending_member w x v n in
-    let here : member_at w' x ≡ y' = member_same w x y' m.is_member in
-    let none : is_place y.current n ≡ false = current_lt w x n y.current (λ s k. h.inv.current.lt x s (ap runs_phase m.up) k) in
+    let here : member_at w' x ≡ y' = member_same w x y' k.may.is_member in
+    let none : is_place y.current n ≡ false = current_lt w x n y.current (λ s is. (k.current s is).0) in
     held_same x y (known_in w x) (known_by w' y') (view_in w v) (view_in w v) (out_to (looked_held (held_in w x) (view_in w v)) (right_of (view_in w v) x)) (Some (outgoing_in w' n)) (kept_in (view_in w v) x (option_map (incoming_in w) y.current)) (option_map (incoming_in w') (kept_current kept y.current)) (kept_door (view_in w v) x (door_in w x) ++ arriving w x v x) (door_in w' x) w.initial w.more
     (sym (known_same w w' y' (log_written w x y' refl)))
     refl
-    (ap (λ b. cond b (option_map (outgoing_in w) y.out) (Some (first_out (looked_held (held_in w x) (view_in w v)) (right_of (view_in w v) x)))) e ∙ ap Some (first_out_is w x v m h right))
-    (current_kept w x v m h ∙ same_current w x v m h)
+    (ap (λ b. cond b (option_map (outgoing_in w) y.out) (Some (first_out (looked_held (held_in w x) (view_in w v)) (right_of (view_in w v) x)))) e ∙ ap Some (first_out_is w x v k.numbered right))
+    (current_kept w x v k ∙ same_current (member_at w x).current refl)
     (ap (λ b. kept_door (view_in w v) x (door_in w x) ++ cond b [] (cond (nat_eq (right_of (view_in w v) x) x) (fresh_in w.initial w.more x v ∷ []) [])) e
     ∙ ap (λ ls. ls ++ cond (nat_eq (right_of (view_in w v) x) x) (fresh_in w.initial w.more x v ∷ []) []) (filter_made (stays (view_in w v) x) (incoming_in w) (waits_for w x) (range_with_len 0 n))
-    ∙ sym (door_after w x v x (λ s. waits_for w x s && stays (view_in w v) x (incoming_in w s)) (kept_current kept y.current) v m h m.upto (kept_lt n kept y.current none) (λ s l. door_stays w x v s m h l))
-    ∙ sym (ap (λ k. map (incoming_in w') (filter (waits_by w' x k.current k.version) (range_with_len 0 (length w'.links)))) here))
-    ∙ sym (ap (λ k. held_by x k (known_by w' k) (view_in w k.version) (option_map (outgoing_in w') k.out) (option_map (incoming_in w') k.current) (door_in w' x) w.initial w.more) here)
+    ∙ sym (door_after w x v x (λ s. waits_for w x s && stays (view_in w v) x (incoming_in w s)) (kept_current kept y.current) v k.own (kept_lt n kept y.current none) (λ s l. door_sees w x v s k l))
+    ∙ sym (ap (λ j. map (incoming_in w') (filter (waits_by w' x j.current j.version) (range_with_len 0 (length w'.links)))) here))
+    ∙ sym (ap (λ j. held_by x j (known_by w' j) (view_in w j.version) (option_map (outgoing_in w') j.out) (option_map (incoming_in w') j.current) (door_in w' x) w.initial w.more) here)
   where
-    same_current : (w : World) (x v : ℕ) → MayLook w x v → IsGood w → option_map (incoming_in w) (kept_current (λ s. is_kept w (link_at w s) v) (member_at w x).current) ≡ option_map (incoming_in (opened_world w x v (old_links w x))) (kept_current (λ s. is_kept w (link_at w s) v) (member_at w x).current)
-    same_current w x v m h = by_current (member_at w x).current refl
-      where
-        by_test : (s : ℕ) → s < length w.links → (b : Bool) → option_map (incoming_in w) (cond b (Some s) None) ≡ option_map (incoming_in (opened_world w x v (old_links w x))) (cond b (Some s) None)
-        by_test s l true = ap Some (sym (incoming_old w x v s l))
-        by_test s l false = refl
+    by_test : (s : ℕ) → s < length w.links → (b : Bool) → option_map (incoming_in w) (cond b (Some s) None) ≡ option_map (incoming_in (opened_world w x v (old_links w x))) (cond b (Some s) None)
+    by_test s l true = ap Some (sym (incoming_old w x v s l))
+    by_test s l false = refl
 
-        by_current : (c : Option ℕ) → (member_at w x).current ≡ c → option_map (incoming_in w) (kept_current (λ s. is_kept w (link_at w s) v) c) ≡ option_map (incoming_in (opened_world w x v (old_links w x))) (kept_current (λ s. is_kept w (link_at w s) v) c)
-        by_current None k = refl
-        by_current (Some s) k = by_test s (h.inv.current.lt x s (ap runs_phase m.up) k) (is_kept w (link_at w s) v)
+    same_current : (c : Option ℕ) → (member_at w x).current ≡ c → option_map (incoming_in w) (kept_current (λ s. is_kept w (link_at w s) v) c) ≡ option_map (incoming_in (opened_world w x v (old_links w x))) (kept_current (λ s. is_kept w (link_at w s) v) c)
+    same_current None is = refl
+    same_current (Some s) is = by_test s (k.current s is).0 (is_kept w (link_at w s) v)
 
 -- the member's refresh, with the link that it opens to itself, where it is alone, behind the others at its door
-pub refresh_stands : (w : World) (x v : ℕ) → MayLook w x v → IsGood w → RowsAreRight w x → record (refreshed_held (held_in w x) (view_in w v)) { door = kept_door (view_in w v) x (door_in w x) ++ arriving w x v x } ≡ held_in (refreshed w x v) x
-refresh_stands w x v m h right = by_out (sends_right w x v) refl
+pub looks_at : (w : World) (x v : ℕ) → SeesLinks w x v → RowsAreRight w x → record (refreshed_held (held_in w x) (view_in w v)) { door = kept_door (view_in w v) x (door_in w x) ++ arriving w x v x } ≡ held_in (refreshed w x v) x
+looks_at w x v k right = by_out (sends_right w x v) refl
   where
     by_out : (b : Bool) → sends_right w x v ≡ b → record (refreshed_held (held_in w x) (view_in w v)) { door = kept_door (view_in w v) x (door_in w x) ++ arriving w x v x } ≡ held_in (refreshed w x v) x
-    by_out true e = looks_stands w x v m h e ∙ sym (ap (λ u. held_in u x) (refresh_looks w x v e))
-    by_out false e = opens_stands w x v m h right e ∙ sym (ap (λ u. held_in u x) (refresh_opens w x v m.is_member e))
+    by_out true e = looks_stands w x v k e ∙ sym (ap (λ u. held_in u x) (refresh_looks w x v e))
+    by_out false e = opens_stands w x v k right e ∙ sym (ap (λ u. held_in u x) (refresh_opens w x v k.may.is_member e))
+
+-- so in a good state
+pub refresh_stands : (w : World) (x v : ℕ) → MayLook w x v → IsGood w → RowsAreRight w x → record (refreshed_held (held_in w x) (view_in w v)) { door = kept_door (view_in w v) x (door_in w x) ++ arriving w x v x } ≡ held_in (refreshed w x v) x
+refresh_stands w x v m h right = looks_at w x v (sees_links w x v m h) right
 
 pub nothing_opens : (w : World) (x v y : ℕ) → sends_right w x v ≡ true → arriving w x v y ≡ []
 nothing_opens w x v y e = ap (λ b. cond b [] (cond (nat_eq (right_of (view_in w v) x) y) (fresh_in w.initial w.more x v ∷ []) [])) e

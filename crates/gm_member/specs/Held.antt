@@ -10,7 +10,7 @@ use Rattle.group_view.specs.View.{Group, entry_in}
 use Rattle.ring_world.specs.Refusal.{refuse_if, or_else}
 use Rattle.ring_world.specs.View.{left_of, right_of}
 use Rattle.ring_world.specs.declared.phase.Phase.{Phase}
-use Rattle.ring_world.specs.declared.phase.Phase.TheVariants.{Up, Stopped}
+use Rattle.ring_world.specs.declared.phase.Phase.TheVariants.{Waiting, Up, Stopped}
 use Rattle.ring_world.specs.Machine.{is_waiting}
 use Rattle.ring_world.specs.Step.{is_owned}
 use Rattle.ring_world.specs.Event.{is_stopped, version_refusal}
@@ -65,7 +65,7 @@ abbrev pub at_some : {A B : Type 0} → Option A → B → (A → B) → B
 at_some None d f = d
 at_some (Some a) d f = f a
 
--- ---- founding
+-- ---- founding and joining
 
 -- nothing was sent
 abbrev pub nothing_sent : List Told
@@ -88,6 +88,22 @@ founded credit name id view = record {
   view = view;
   known = map (λ (_ : ℕ). no_kept) places;
   out = Some (fresh_out credit.initial credit.more (right_of view id) view.version);
+  current = Some (fresh_in credit.initial credit.more (left_of view id) view.version);
+  door = [];
+  asks = false;
+  initial = credit.initial;
+  more = credit.more;
+}
+
+-- a member that joins: it waits for the first packet of its left neighbour in the view in which it was admitted
+abbrev pub joining_held : CreditSpec → List ℕ → ℕ → Group → Held
+joining_held credit name id view = record {
+  id = id;
+  name = name;
+  phase = Waiting;
+  view = view;
+  known = map (λ (_ : ℕ). no_kept) places;
+  out = None;
   current = Some (fresh_in credit.initial credit.more (left_of view id) view.version);
   door = [];
   asks = false;

@@ -11,12 +11,13 @@ use Rattle.ring_world.specs.declared.event.Event.{Event}
 use Rattle.ring_world.specs.declared.event.Event.TheVariants as event
 use Rattle.ring_world.specs.declared.numbers.Numbers.{Numbers}
 use Rattle.ring_world.specs.Rows.{Row, most_members, messages_between}
+use Rattle.ring_world.specs.declared.phase.Phase.TheVariants.{Waiting}
 use Rattle.ring_world.specs.Refusal.{is_empty}
 use Rattle.ring_world.specs.View.{right_of}
 use Rattle.ring_world.specs.Compact.{has_line}
 use Rattle.ring_world.specs.Machine.{World, Packet, Sending, row_at, numbers_at, member_at, link_at, view_in, newest, is_waiting, oldest}
 use Rattle.ring_world.specs.OpenLinks.{is_door_link, passes}
-use Rattle.ring_world.specs.Step.{size, log_of, is_owned, next_packet, opening}
+use Rattle.ring_world.specs.Step.{size, log_of, is_owned, next_packet, admitted_view, opening}
 use Rattle.ring_world.specs.Event.{id_of, erased_view, refusal, effect, IsRun, last}
 use Rattle.gm_member.specs.declared.taken.Taken.{Taken}
 use Rattle.activity.specs.Kept.{Kept}
@@ -26,9 +27,10 @@ use Rattle.gm_member.specs.Parcels.{ByOrigin, places}
 use Rattle.gm_member.specs.News.{taken_of}
 use Rattle.gm_member.specs.Held.{Held, Outgoing, Incoming, fresh_in, sends_to}
 
--- what is kept of an origin with this log, by a row of the ring: the messages that were received and aren't forgotten
+-- what is kept of an origin with this log, by a row of the ring: the messages that were received and aren't forgotten, and
+-- the number behind which the member receives
 abbrev pub kept_by : List Message → Row → Kept
-kept_by log r = record { forgot = r.forgot; messages = messages_between r.forgot r.got log; retired = r.retired }
+kept_by log r = record { forgot = r.forgot; messages = messages_between r.forgot r.got log; retired = r.retired; base = r.base }
 
 -- what numbers of the ring tell
 abbrev pub told_in : Numbers → Told
@@ -111,6 +113,23 @@ IsMarkedView w dead v = (d : ℕ) × (id_of w dead ≡ Some d) × (v ≡ marked 
 -- what erasing the member of a name makes of it
 abbrev pub IsErasedView : World → List ℕ → Group → Type 0
 IsErasedView w origin v = (p : ℕ) × (id_of w origin ≡ Some p) × (v ≡ erased_view w p)
+
+-- what admitting a member of a name makes of it, by the member of an id
+abbrev pub IsAdmittedView : World → ℕ → List ℕ → Group → Type 0
+IsAdmittedView w by newcomer v = v ≡ admitted_view w by newcomer
+
+-- The member of this id, which has this name and this view, waits for its first packet, and no link stands at its door.
+pub record WaitsThere (w : World) (x : ℕ) (name : List ℕ) (v : Group) : Type 0 where
+  pub named : (member_at w x).name ≡ name
+  pub waits : (member_at w x).phase ≡ Waiting
+  pub looks : v ≡ view_in w (member_at w x).version
+  pub nothing : door_links w x ≡ []
+
+-- in every state of a run in which it so waits, a member that holds h stands at that id
+abbrev pub StandsWhereItWaits : CreditSpec → List ℕ → ℕ → Group → Held → Type 0
+StandsWhereItWaits credit name x v h = (names : List (List ℕ)) (events : List Event)
+    → AreOpeningNames names → IsRun (opening credit names) events
+    → WaitsThere (last (opening credit names) events) x name v → Stands (last (opening credit names) events) x h
 
 -- the event by which a message is published
 abbrev pub publishing : List ℕ → Message → Event

@@ -74,14 +74,14 @@ impl<O: LinkPair<Load, In = I>, I: LinkIn<Load> + Drop> Member<O, I> {
     ghost use Rattle.gm_member.specs.Parcels.{by_origin, known_at};
     ghost use Rattle.gm_member.specs.View.{all_kept, ring_link, left_end, kept_link, left_current};
     ghost use Rattle.gm_member.specs.Ends.{IsPutFault, IsTakeFault, IsEndRefusal, Replaces};
-    ghost use Rattle.gm_member.specs.Held.{founded, active_refused, up_refused, published_held};
+    ghost use Rattle.gm_member.specs.Held.{founded, joining_held, active_refused, up_refused, published_held};
     ghost use Rattle.gm_member.specs.Held.{put_refused, put_held, take_refused, took_held, ended_held, stopped_held};
     ghost use Rattle.gm_member.specs.Held.{gain_refused, gained_held, kept_in, looked_held, sends_to as sends_to_it};
     ghost use Rattle.gm_member.specs.Held.{first_out, refresh_refused, refreshed_held};
     ghost use Rattle.gm_member.specs.Held.{first_at_door as the_first_at_door, pick_refused, picked_held, picked_at};
     ghost use Rattle.gm_member.specs.Held.{Outgoing, parcel_on};
     ghost use Rattle.gm_member.specs.Stands.{WhereItStands, StepsTo, with_own_link, publishing, IsPutPacket};
-    ghost use Rattle.gm_member.specs.Stands.{IsNextPacket, IsNextGrant, IsNextEnd, taken_in};
+    ghost use Rattle.gm_member.specs.Stands.{IsNextPacket, IsNextGrant, IsNextEnd, taken_in, StandsWhereItWaits};
     ghost use Rattle.gm_member.specs.News.{news_of};
     ghost use Rattle.gm_member.specs.Shown.{Ends, held_of, ends_of, out_name_of, OutIsReady, InIsReady, PutsOn};
     ghost use Rattle.gm_member.specs.Shown.{LooksOut, LooksIn, TookOn, LeavesOn, EndsOn, KeepsGrant, NoGrantBack};
@@ -144,6 +144,58 @@ impl<O: LinkPair<Load, In = I>, I: LinkIn<Load> + Drop> Member<O, I> {
             asked: false,
             spare: None,
             old_outs,
+            old_ins,
+        })
+    }
+
+    /// A member that joins a ring, and waits for the first packet of its left neighbour, which has admitted it. The
+    /// caller gives the id that the admission gave it, the view in which it was admitted, the credit of the ring's
+    /// links, and the end of the link that its left neighbour opened to it then. Without memory the view and the end
+    /// are handed back. As `gm:join_group`.
+    pub fn joining(
+        alloc: Global,
+        name: Name,
+        id: MemberId,
+        view: View,
+        credit: CreditSpec,
+        link: I,
+    ) -> Result<Member<O, I>, (View, I, OutOfMemory)>
+        requires from_one { 1 ≤ id.0 }
+        requires few { id.0 ≤ most_members }
+        requires stands { is_in id.0 (ids view) ≡ true }
+        ensures held { IfOk result (λ m. held_of m ≡ joining_held credit name id.0 view) }
+        ensures ends { IfOk result (λ m. ends_of m
+            ≡ record { out = None; kept = None; link = Some link; door = []; old_outs = []; old_ins = [] }) }
+        ensures back { IfErr result (λ e. (e.0 ≡ view) × (e.1 ≡ link)) }
+
+        // It stands in every state of a run of the ring in which a member of its id and name waits with that view, and
+        // no link stands at that one's door.
+        ensures stands { IfOk result (λ m. StandsWhereItWaits credit name id.0 view (held_of m)) }
+    {
+        let Ok(old_ins) = Vec::with_capacity(alloc, 1) else {
+            return Err((view, link, OutOfMemory));
+        };
+        let from = left(&view, id);
+        let opened = view.version;
+        Ok(Member {
+            alloc,
+            name,
+            id,
+            phase: Phase::Waiting,
+            view,
+            tables: Tables::new(alloc),
+            credit,
+            out: None,
+            current: Some(InLink {
+                from,
+                opened,
+                counted: CreditIn::new(credit),
+                end: Some(link),
+            }),
+            door: Vec::new(alloc),
+            asked: false,
+            spare: None,
+            old_outs: Vec::new(alloc),
             old_ins,
         })
     }

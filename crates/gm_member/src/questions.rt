@@ -8,13 +8,15 @@ use crate::views::{right, version};
 use activity::Load;
 use group_view::{Answer, Deposited, Request, View};
 use ordered_link::{LinkIn, LinkPair};
-use ring_names::{Items, MemberId, OutOfMemory};
+use ring_names::{Items, MemberId, Name, OutOfMemory};
 
 /// What a member asks of the registrar.
 #[derive(Clone, Copy, PartialEq, Eq, Debug)]
 pub enum Ask {
     /// To mark a neighbour that has stopped.
     Mark(MemberId),
+    /// To admit a member of this name, directly to its right.
+    Admit(Name),
     /// To erase a dead member, for which it answers.
     Erase(MemberId),
     /// For the newest view.
@@ -30,14 +32,14 @@ impl<O: LinkPair<Load, In = I>, I: LinkIn<Load> + Drop> Member<O, I> {
     ghost use Rattle.ring_names.specs.declared.reason.Reason.{Reason};
     ghost use Rattle.group_view.specs.Ring.{is_in};
     ghost use Rattle.ring_world.specs.declared.event.Event.TheVariants.{Mark as TheMark, Refresh as TheRefresh};
-    ghost use Rattle.ring_world.specs.declared.event.Event.TheVariants.{Erase as TheErase};
+    ghost use Rattle.ring_world.specs.declared.event.Event.TheVariants.{Erase as TheErase, Admit as TheAdmit};
     ghost use Rattle.ring_world.specs.Machine.{view_in, newest};
     ghost use Rattle.ring_world.specs.View.{ids};
     ghost use Rattle.gm_member.specs.View.{count_of};
     ghost use Rattle.gm_member.specs.Held.{ask_refused, asking_held, answered_held, collected_held, refreshed_held};
     ghost use Rattle.ring_world.specs.Event.{refusal, effect};
     ghost use Rattle.gm_member.specs.Stands.{WhereItStands, Stands, StepsTo, IsMarkedView, with_own_link};
-    ghost use Rattle.gm_member.specs.Stands.{IsErasedView};
+    ghost use Rattle.gm_member.specs.Stands.{IsErasedView, IsAdmittedView};
     ghost use Rattle.gm_member.specs.Shown.{When, held_of, ends_of, OutIsReady, LooksBy, MovesTo};
     ghost use Rattle.gm_member.specs.Shown.{SpareIsReady, SpareIsSound, KeepsSpare, HasRoom, StaysReady, OutIsBack};
     ghost use Rattle.gm_member.specs.Arrivals.{incoming_of, with_arrived};
@@ -77,9 +79,10 @@ impl<O: LinkPair<Load, In = I>, I: LinkIn<Load> + Drop> Member<O, I> {
     }
 
     /// The member asks the registrar, and does nothing more until the answer comes; the request is what is to be asked.
-    /// For a mark, an erasure and a view it gets a link ready, with which the answer wants no memory. Refused with
-    /// `Stopped`, `Waiting`, and `AwaitingAnswer` while an earlier question is open. As
-    /// `gm:record_dead_member_in_group`, `gm:erase_members_in_group` and `gm:read_group`.
+    /// For a mark, an admission, an erasure and a view it gets a link ready, with which the answer wants no memory.
+    /// Refused with `Stopped`, `Waiting`, and `AwaitingAnswer` while an earlier question is open. As
+    /// `gm:record_dead_member_in_group`, `gm:record_new_member_in_group`, `gm:erase_members_in_group` and
+    /// `gm:read_group`.
     pub fn ask(&mut self, what: Ask) -> Result<Request<I>, MemberFault>
         ensures heeds { Heeds (ask_refused (held_of self.old)) result }
         ensures fault { IfErr result (IsFault (ask_refused (held_of self.old))) }
@@ -95,24 +98,24 @@ impl<O: LinkPair<Load, In = I>, I: LinkIn<Load> + Drop> Member<O, I> {
         if let Some(reason) = self.up_refusal() {
             return Err(MemberFault::Refused(reason));
         }
-        self.make_ready(what)?;
+        self.make_ready(&what)?;
         self.asked = true;
-        Ok(self.request(what))
+        Ok(self.request(&what))
     }
 
     /// A link is ready where the answer may be a view; else there is none.
-    fn make_ready(&mut self, what: Ask) -> Result<(), OutOfMemory>
+    fn make_ready(&mut self, what: &Ask) -> Result<(), OutOfMemory>
         ensures held { held_of self.new ≡ held_of self.old }
         ensures ends { ends_of self.new ≡ ends_of self.old }
         ensures ins { KeepsIns self.old self.new }
         ensures same { (self.new.phase ≡ self.old.phase) × (self.new.id ≡ self.old.id) }
-        ensures spare { OnOk result (When (may_bring_view what) (SpareIsReady O.are_fresh O.free O.ended self.new)) }
+        ensures spare { OnOk result (When (may_bring_view what.now) (SpareIsReady O.are_fresh O.free O.ended self.new)) }
         ensures sound { OnOk result (SpareIsSound O.are_fresh O.free O.ended self.new) }
         ensures kept { OnErr result (KeepsSpare self.old self.new) }
     {
-        match what {
+        match *what {
             Ask::Collect => self.spare = None,
-            Ask::Mark(_) | Ask::Erase(_) | Ask::Refresh => self.prepare()?,
+            Ask::Mark(_) | Ask::Admit(_) | Ask::Erase(_) | Ask::Refresh => self.prepare()?,
         }
         Ok(())
     }
@@ -125,16 +128,17 @@ impl<O: LinkPair<Load, In = I>, I: LinkIn<Load> + Drop> Member<O, I> {
     }
 
     /// What is to be asked of the registrar.
-    fn request(&self, what: Ask) -> Request<I>
-        ensures { result ≡ asked_for (held_of self.now) what }
+    fn request(&self, what: &Ask) -> Request<I>
+        ensures { result ≡ asked_for (held_of self.now) what.now }
     {
-        match what {
+        match *what {
             Ask::Mark(dead) => Request::Mark {
                 by: self.id,
                 dead,
                 view: version(&self.view),
                 has_current: self.has_link(),
             },
+            Ask::Admit(name) => Request::Admit { by: self.id, name },
             Ask::Erase(origin) => self.erasure(origin),
             Ask::Refresh => Request::Refresh { by: self.id },
             Ask::Collect => Request::Collect { by: self.id },
@@ -155,12 +159,12 @@ impl<O: LinkPair<Load, In = I>, I: LinkIn<Load> + Drop> Member<O, I> {
         }
     }
 
-    /// The registrar's answer closes the member's question. A view is read as by `refresh`; links come to the door in
-    /// their order where they may yet be taken from, and the ends of the others join those that the member has left;
-    /// else nothing more is done. The answer is what is to be asked of the registrar then. Want of memory leaves all
-    /// as it stood, and comes only of a view where no link is ready, and of links for which there is no room. A view
-    /// in which the member has no entry, with which no registrar answers its member, is handed back likewise. A view
-    /// asks that the end on which the member sends isn't lent.
+    /// The registrar's answer closes the member's question. A view is read as by `refresh`, also one in which a member
+    /// is admitted; links come to the door in their order where they may yet be taken from, and the ends of the others
+    /// join those that the member has left; else nothing more is done. The answer is what is to be asked of the
+    /// registrar then. Want of memory leaves all as it stood, and comes only of a view where no link is ready, and of
+    /// links for which there is no room. A view in which the member has no entry, with which no registrar answers its
+    /// member, is handed back likewise. A view asks that the end on which the member sends isn't lent.
     pub fn answer(&mut self, answer: Answer<I>) -> Result<Vec<Request<I>>, (Answer<I>, OutOfMemory)>
         requires open { (held_of self.old).asks ≡ true }
         requires out { OfView answer (λ _. OutIsBack self.old) }
@@ -208,11 +212,21 @@ impl<O: LinkPair<Load, In = I>, I: LinkIn<Load> + Drop> Member<O, I> {
             → refusal w (TheErase (held_of self.old).name origin) ≡ None
             → Stands (effect w (TheErase (held_of self.old).name origin)) x
             (with_own_link (held_of self.old) v (held_of self.new))))) }
+
+        // And of the view in which it has admitted one of a name, who is its right neighbour then.
+        ensures admits { SpareIsSound O.are_fresh O.free O.ended self.old → OnOk result (OfView answer
+            (λ v. WhereItStands (answered_held (held_of self.old)) (λ w x. (newcomer : List ℕ)
+            → IsAdmittedView w x newcomer v → refusal w (TheAdmit (held_of self.old).name newcomer) ≡ None
+            → Stands (effect w (TheAdmit (held_of self.old).name newcomer)) x (held_of self.new)))) }
     {
         match answer {
             Answer::Viewed(view) => match self.read_answer(view) {
                 Ok(requests) => Ok(requests),
                 Err((view, fault)) => Err((Answer::Viewed(view), fault)),
+            },
+            Answer::Admitted { view, id } => match self.read_answer(view) {
+                Ok(requests) => Ok(requests),
+                Err((view, fault)) => Err((Answer::Admitted { view, id }, fault)),
             },
             Answer::Links(links) => match self.collect(links.into_vec()) {
                 Ok(()) => Ok(Vec::new(self.alloc)),

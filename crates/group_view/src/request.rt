@@ -4,7 +4,7 @@ ghost use Rattle.group_view.specs.Request.{deposit_of, handed_over};
 
 use crate::link::{LinkKind, LinkName};
 use crate::view::View;
-use ring_names::{Items, MemberId, Reason};
+use ring_names::{Items, MemberId, Name, Reason};
 
 /// What a member asks. `I` is the receiving end of a link; `by` is the asker, and a `view` is the version
 /// that the asker holds.
@@ -22,6 +22,11 @@ pub enum Request<I> {
     /// For the newest view.
     Refresh {
         by: MemberId,
+    },
+    /// To admit a member of this name directly to the right of the asker.
+    Admit {
+        by: MemberId,
+        name: Name,
     },
     /// To erase a dead member, for which the asker answers. `got` is up to which number the asker has received
     /// its messages, and `retired` up to which the asker knows that their acknowledgement has come round.
@@ -109,6 +114,8 @@ pub struct Deposited<I> {
 pub enum Answer<I> {
     /// The newest view.
     Viewed(View),
+    /// The newest view, in which a member is admitted, and the id that it has there.
+    Admitted { view: View, id: MemberId },
     /// The links that were deposited for the asker, the oldest first.
     Links(Items<Deposited<I>>),
     /// It is done, and nothing is to be told.

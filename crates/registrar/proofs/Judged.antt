@@ -1,17 +1,19 @@
 -- What a member of the ring asks for is judged as the event is.
-use Rattle.std.proofs.Common.{◌≡◌, ℕ, ◌<◌, ◌≤◌, Bool, true, false, not, nat_eq, nat_lt, List, length, get_or, Option, Some, None, refl, sym, ap, ◌∙◌, arith}
-use Rattle.std.specs.Prelude.{◌&&◌, ◌||◌}
+use Rattle.std.proofs.Common.{◌≡◌, ℕ, ◌<◌, ◌≤◌, Bool, true, false, not, nat_eq, nat_lt, List, cond, length, get_or, Option, Some, None, refl, sym, ap, ◌∙◌, arith}
+use Rattle.std.specs.Prelude.{◌&&◌, ◌||◌, nat_le}
 use Rattle.std.proofs.lemmas.Bool.{le-ltb}
 use Rattle.ring_names.specs.declared.reason.Reason.{Reason}
 use Rattle.ring_names.specs.declared.reason.Reason.TheVariants as reason
 use Rattle.group_view.specs.Ring.{is_in}
 use Rattle.group_view.specs.View.{Group, ids, is_live, is_dead, is_alias, right_of}
+use Rattle.group_view.specs.Change.{is_taken, most_entries, admit_refusal as group_refusal}
 use Rattle.group_view.specs.Since.{no_group, view_at}
+use Rattle.group_view.proofs.Passing.{live_in}
 use Rattle.ring_world.specs.Refusal.{refuse_if, or_else}
 use Rattle.ring_world.specs.View as ring
 use Rattle.ring_world.specs.Machine as machine
 use Rattle.ring_world.specs.declared.event.Event.{Event}
-use Rattle.ring_world.specs.declared.event.Event.TheVariants.{Mark, Stop, Refresh, Erase}
+use Rattle.ring_world.specs.declared.event.Event.TheVariants.{Mark, Stop, Refresh, Admit, Erase}
 use Rattle.ring_world.specs.Machine.{World, row_at, member_at, newest, runs_phase}
 use Rattle.ring_world.specs.Step.{size}
 use Rattle.ring_world.specs.Event.{id_of, of_member, is_stopped, up_refusal, running_refusal, is_neighbour, left_neighbour, refusal}
@@ -20,7 +22,7 @@ use Rattle.ring_world.proofs.invariants.Happens.{IsGood}
 use Rattle.ring_world.proofs.events.Refusals.{id_within, up_is}
 use Rattle.registrar.specs.Registry.{Registry, is_known}
 use Rattle.registrar.specs.Registry as registry
-use Rattle.registrar.specs.Asked.{is_left, is_beside, has_more, mark_refusal, erase_refusal, stop_refusal, unknown_refusal}
+use Rattle.registrar.specs.Asked.{is_left, is_beside, has_more, mark_refusal, admit_refusal, erase_refusal, stop_refusal, unknown_refusal}
 use Rattle.registrar.specs.Stands.{IsAsker, AsksErase, StandsIn, TellsTrue}
 
 -- ---- the registrar's views are those of the state
@@ -44,6 +46,10 @@ module _ {I : Type 0} where
 -- the asker is live in its view
 asker_lives : (w : World) (name : List ℕ) (x v : ℕ) → IsGood w → IsAsker w name x v → is_live (machine.view_in w v).entries x ≡ true
 asker_lives w name x v h a = h.inv.is_ring.lives x v (ap runs_phase a.up) (omega (arith, a.holds)) (omega (arith, a.holds, h.inv.is_ring.held x))
+
+-- and in the newest
+asker_stays : (w : World) (name : List ℕ) (x v : ℕ) → IsGood w → IsAsker w name x v → is_live (machine.view_in w (newest w)).entries x ≡ true
+asker_stays w name x v h a = h.inv.is_ring.lives x (newest w) (ap runs_phase a.up) (h.inv.is_ring.held x) (omega arith)
 
 -- its left neighbour
 is_left_same : (w : World) (name : List ℕ) (x v d : ℕ) → IsGood w → IsAsker w name x v → is_left (machine.view_in w v) x d ≡ nat_eq d (left_neighbour w x)
@@ -86,6 +92,18 @@ named_refusal w name other x d v further a named =
     ∙ ap (λ o. of_member o (further x)) named
 
 -- ---- requests
+
+-- who lives may admit another where the ring lets it
+living_admits : (w : World) (x : ℕ) (name : List ℕ) → is_live (machine.view_in w (newest w)).entries x ≡ true
+    → group_refusal (machine.view_in w (newest w)).entries x name ≡ event.admit_refusal w name
+living_admits w x name lives =
+    let g : Group = machine.view_in w (newest w) in
+    rw (live_in g.entries x lives, lives) (by_case (is_taken g.entries name) (nat_le most_entries (length g.entries)))
+  where
+    by_case : (t m : Bool) → cond t (Some reason.NameTaken) (cond m (Some reason.TooManyMembers) None) ≡ or_else (refuse_if t reason.NameTaken) (refuse_if m reason.TooManyMembers)
+    by_case true m = refl
+    by_case false true = refl
+    by_case false false = refl
 
 module _ {I : Type 0} where
   left_asked : (w : World) (r : Registry I) (name : List ℕ) (x v d : ℕ) → IsGood w → StandsIn w r → IsAsker w name x v → is_left (view_at r.views v) x d ≡ nat_eq d (left_neighbour w x)
@@ -130,6 +148,12 @@ module _ {I : Type 0} where
 
       m : Bool
       m = has_more r.links (view_at r.views v) x d has_current
+
+  pub admit_judged : (w : World) (r : Registry I) (x v : ℕ) (name newcomer : List ℕ) → IsGood w → StandsIn w r → IsAsker w name x v → admit_refusal r x newcomer ≡ refusal w (Admit name newcomer)
+  admit_judged w r x v name newcomer h s a =
+      ap (λ (g : Group). group_refusal g.entries x newcomer) (newest_same w r s)
+      ∙ living_admits w x newcomer (asker_stays w name x v h a)
+      ∙ sym (ap (λ o. of_member o (λ y. up_refusal w y (event.admit_refusal w newcomer))) a.named ∙ up_is w x (event.admit_refusal w newcomer) a.up)
 
   pub erase_judged : (w : World) (r : Registry I) (x p v got retired : ℕ) (e : Event) → IsGood w → StandsIn w r
       → (a : AsksErase w x p v got retired e) → erase_refusal r x p got retired v ≡ refusal w (Erase a.name a.origin_name)

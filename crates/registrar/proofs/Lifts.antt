@@ -7,13 +7,13 @@ use Rattle.ring_world.specs.declared.event.Event.{Event}
 use Rattle.ring_world.specs.Event.{refusal, effect}
 use Rattle.ring_world.proofs.invariants.Happens.{IsGood, reached_good}
 use Rattle.group_view.specs.declared.request.Request.{Request}
-use Rattle.group_view.specs.declared.request.Request.TheVariants.{Mark, Refresh, Erase, Stopped, Deposit, Collect}
+use Rattle.group_view.specs.declared.request.Request.TheVariants.{Mark, Refresh, Admit, Erase, Stopped, Deposit, Collect}
 use Rattle.registrar.specs.Registry.{Registry}
 use Rattle.registrar.specs.Asked.{request_refusal}
 use Rattle.registrar.specs.Handled.{handled}
 use Rattle.registrar.specs.Stands.{StandsIn, Asks, WhereAsked}
-use Rattle.registrar.proofs.Judged.{mark_judged, erase_judged, stop_judged, refresh_judged}
-use Rattle.registrar.proofs.Steps.{mark_stands, erase_stands, stop_stands, refresh_stands}
+use Rattle.registrar.proofs.Judged.{mark_judged, admit_judged, erase_judged, stop_judged, refresh_judged}
+use Rattle.registrar.proofs.Steps.{mark_stands, admit_stands, erase_stands, stop_stands, refresh_stands}
 
 module _ {I : Type 0} where
   -- in one state
@@ -21,6 +21,7 @@ module _ {I : Type 0} where
   judged w r (Mark by dead view has_current) e h s a =
       mark_judged w r by.0 dead.0 view has_current a.name a.dead_name h s a.asker a.named a.tells ∙ sym (ap (refusal w) a.is)
   judged w r (Refresh by) e h s (v, a) = refresh_judged w r by.0 v a.name h s a.asker ∙ sym (ap (refusal w) a.is)
+  judged w r (Admit by name) e h s (v, a) = admit_judged w r by.0 v a.name name h s a.asker ∙ sym (ap (refusal w) a.is)
   judged w r (Erase by origin got retired view) e h s a = erase_judged w r by.0 origin.0 view got retired e h s a ∙ sym (ap (refusal w) a.is)
   judged w r (Stopped by) e h s a = stop_judged w r by.0 a.name h s a.named ∙ sym (ap (refusal w) a.is)
   judged w r (Deposit by to view kind link) e h s a = absurd a
@@ -30,6 +31,7 @@ module _ {I : Type 0} where
   steps w r (Mark by dead view has_current) e s a =
       subst (λ k. StandsIn (effect w k) (handled r (Mark by dead view has_current))) (sym a.is) (mark_stands w r by.0 dead.0 a.name a.dead_name s a.asker.named a.named)
   steps w r (Refresh by) e s (v, a) = subst (λ k. StandsIn (effect w k) r) (sym a.is) (refresh_stands w r by.0 _ a.name s a.asker.named)
+  steps w r (Admit by name) e s (v, a) = subst (λ k. StandsIn (effect w k) (handled r (Admit by name))) (sym a.is) (admit_stands w r by.0 a.name name s a.asker.named)
   steps w r (Erase by origin got retired view) e s a =
       subst (λ k. StandsIn (effect w k) (handled r (Erase by origin got retired view))) (sym a.is) (erase_stands w r by.0 origin.0 a.name a.origin_name s a.asker.named a.named)
   steps w r (Stopped by) e s a = subst (λ k. StandsIn (effect w k) (handled r (Stopped by))) (sym a.is) (stop_stands w r by.0 a.name s a.named)

@@ -1,9 +1,9 @@
 -- Where nothing refuses it, what is done for a request is the event.
-use Rattle.std.proofs.Common.{◌≡◌, ℕ, ◌+◌, ◌<◌, ◌≤◌, Bool, true, false, cond, List, ◌∷◌, [], ◌++◌, Some, refl, sym, ap, subst, ◌∙◌, arith}
-use Rattle.std.proofs.lemmas.List.{length-set}
+use Rattle.std.proofs.Common.{◌≡◌, ◌≢◌, ℕ, ◌+◌, ◌<◌, ◌≤◌, Bool, true, false, cond, List, ◌∷◌, [], ◌++◌, Some, refl, sym, ap, subst, ◌∙◌, arith}
+use Rattle.std.proofs.lemmas.List.{length-set, length_push}
 use Rattle.group_view.specs.Ring.{is_in}
 use Rattle.group_view.specs.View.{Group}
-use Rattle.group_view.specs.Change.{marked, erased}
+use Rattle.group_view.specs.Change.{marked, erased, admitted}
 use Rattle.group_view.specs.Since.{no_group}
 use Rattle.group_view.proofs.Truth.{cond_itself}
 use Rattle.group_view.proofs.Rings.{is_in-append, nat_eq-same, nat_eq-not}
@@ -11,14 +11,15 @@ use Rattle.promotion.specs.Elect.{installed}
 use Rattle.ring_world.specs.Machine as machine
 use Rattle.ring_world.specs.declared.phase.Ending.TheVariants.{Halted}
 use Rattle.ring_world.specs.declared.event.Event.{Event}
-use Rattle.ring_world.specs.declared.event.Event.TheVariants.{Mark, Stop, Refresh, Erase}
+use Rattle.ring_world.specs.declared.event.Event.TheVariants.{Mark, Stop, Refresh, Admit, Erase}
 use Rattle.ring_world.specs.Machine.{Member, World, no_member, member_at, newest}
-use Rattle.ring_world.specs.Step.{size, opening, with_view, stop_at, stopped, end_out}
+use Rattle.ring_world.specs.Step.{size, opening, with_view, stop_at, stopped, end_out, joiner, admitted_view, come_to}
 use Rattle.ring_world.specs.Event.{id_of, is_stopped, at_found, refreshed, erased_view, effect}
 use Rattle.ring_world.proofs.rings.Lists.{at_set}
 use Rattle.ring_world.proofs.events.Refusals.{id_within}
 use Rattle.ring_names.specs.declared.numbers.CreditSpec.{CreditSpec}
 use Rattle.ring_world.proofs.events.First.{first_member}
+use Rattle.ring_world.proofs.events.Leaves.{come_each}
 use Rattle.registrar.specs.Registry.{Registry}
 use Rattle.registrar.specs.Registry as registry
 use Rattle.registrar.specs.Handled.{with_stopped}
@@ -33,6 +34,7 @@ module _ {I : Type 0} where
   stands_same w w' r k s = record {
     views = ap (λ (t : Told). t.views) k ∙ s.views;
     stopped = λ q a b. s.stopped q a (omega (arith, b, many_same w w' k)) ∙ sym (stopped_same w w' q k);
+    nobody_else = λ q a. s.nobody_else q (omega (arith, a, many_same w w' k));
   }
 
   -- what else members do leaves the registrar where it stands
@@ -44,6 +46,7 @@ module _ {I : Type 0} where
   stands_view w r g g' e s = record {
     views = ap (λ vs. vs ++ g ∷ []) s.views ∙ ap (λ k. no_group ∷ (r.views ++ k ∷ [])) e;
     stopped = s.stopped;
+    nobody_else = s.nobody_else;
   }
 
   -- who does something to another has a view follow, and reads it
@@ -66,6 +69,32 @@ module _ {I : Type 0} where
   mark_stands w r x d name dead_name s =
       change_stands w r x d name dead_name (marked (machine.view_in w (newest w))) (marked (registry.newest r) d) (ap (λ g. marked g d) (sym (newest_same w r s))) s
 
+  -- a member comes to the ring, and its view
+  come_stands : (w : World) (r : Registry I) (x : ℕ) (name : List ℕ) → StandsIn w r → StandsIn (come_to w x name) (handled.with_view r (handled.admitted_view r x name))
+  come_stands w r x name s = record {
+    views =
+        ap (λ vs. vs ++ admitted_view w x name ∷ []) s.views
+        ∙ ap (λ g. no_group ∷ (r.views ++ admitted g x name ∷ [])) (sym (newest_same w r s));
+    stopped = λ q a b. come_each w x name q (λ k y. is_in k r.stopped ≡ is_stopped y.phase)
+        (s.nobody_else (size w) (omega arith))
+        (s.stopped q a)
+        (λ gt. let none : ⊥ = omega (arith, b, gt, many) in absurd none);
+    nobody_else = λ q a. s.nobody_else q (omega (arith, a, many));
+  }
+    where
+      many : size (come_to w x name) ≡ size w + 1
+      many = length_push w.members (joiner w name)
+
+  pub admit_stands : (w : World) (r : Registry I) (x : ℕ) (name newcomer : List ℕ) → StandsIn w r → id_of w name ≡ Some x
+      → StandsIn (effect w (Admit name newcomer)) (handled.with_view r (handled.admitted_view r x newcomer))
+  admit_stands w r x name newcomer s from =
+      subst (λ k. StandsIn k (handled.with_view r (handled.admitted_view r x newcomer)))
+      (sym (ap (λ o. at_found o w (λ y. refreshed (come_to w y newcomer) y (newest w + 1))) from))
+      (stands_same next (refreshed next x (newest w + 1)) _ (told_refreshed next x (newest w + 1)) (come_stands w r x newcomer s))
+    where
+      next : World
+      next = come_to w x newcomer
+
   pub erase_stands : (w : World) (r : Registry I) (x p : ℕ) (name origin_name : List ℕ) → StandsIn w r → id_of w name ≡ Some x → id_of w origin_name ≡ Some p
       → StandsIn (effect w (Erase name origin_name)) (handled.with_view r (handled.erased_view r p))
   erase_stands w r x p name origin_name s =
@@ -81,9 +110,13 @@ module _ {I : Type 0} where
         views = ap (λ (t : Told). t.views) same ∙ s.views;
         stopped = λ q a b. at_set (λ k (y : Member). 1 ≤ k → k < size w → is_in k (r.stopped ++ x ∷ []) ≡ is_stopped y.phase) w.members x q (stopped (member_at w x)) no_member there
             (λ c e. is_in-append x r.stopped (x ∷ []) ∙ last (is_in x r.stopped))
-            (λ ne c e. is_in-append q r.stopped (x ∷ []) ∙ ap (λ t. cond (is_in q r.stopped) true (cond t true false)) (nat_eq-not q x ne) ∙ cond_itself (is_in q r.stopped) ∙ s.stopped q c e)
-            a (omega (arith, b, many_same next after same, length-set w.members x (stopped (member_at w x))))
+            (λ ne c e. is_in-append q r.stopped (x ∷ []) ∙ apart q ne ∙ s.stopped q c e)
+            a (omega (arith, b, many))
             ∙ sym (stopped_same next after q same);
+        nobody_else = λ q a.
+            let beyond : size w ≤ q = omega (arith, a, many) in
+            let other : q ≢ x = omega (arith, beyond, there) in
+            is_in-append q r.stopped (x ∷ []) ∙ apart q other ∙ s.nobody_else q beyond;
       })
     where
       next : World
@@ -94,6 +127,12 @@ module _ {I : Type 0} where
 
       same : told after ≡ told next
       same = told_ended Halted next (member_at w x).out
+
+      many : size after ≡ size w
+      many = many_same next after same ∙ length-set w.members x (stopped (member_at w x))
+
+      apart : (q : ℕ) → q ≢ x → cond (is_in q r.stopped) true (is_in q (x ∷ [])) ≡ is_in q r.stopped
+      apart q ne = ap (λ t. cond (is_in q r.stopped) true (cond t true false)) (nat_eq-not q x ne) ∙ cond_itself (is_in q r.stopped)
 
       there : x < size w
       there = (id_within w name x from).1
@@ -107,4 +146,5 @@ pub opening_stands : {I : Type 0} (credit : CreditSpec) (names : List (List ℕ)
 opening_stands credit names = record {
   views = refl;
   stopped = λ q a b. sym (ap (λ (m : Member). is_stopped m.phase) (first_member credit names q a b));
+  nobody_else = λ q a. refl;
 }

@@ -5,8 +5,9 @@ use Rattle.ring_names.specs.declared.reason.Reason.{Reason}
 use Rattle.ring_names.specs.declared.reason.Reason.TheVariants as reason
 use Rattle.group_view.specs.Link.{is_ring}
 use Rattle.group_view.specs.declared.request.Request.{Request}
-use Rattle.group_view.specs.declared.request.Request.TheVariants.{Mark, Refresh, Erase, Stopped, Deposit, Collect}
+use Rattle.group_view.specs.declared.request.Request.TheVariants.{Mark, Refresh, Admit, Erase, Stopped, Deposit, Collect}
 use Rattle.group_view.specs.Ring.{is_in}
+use Rattle.group_view.specs.Change.{admit_refusal as group_refusal}
 use Rattle.group_view.specs.View.{Group, entry_in, is_live, is_dead, is_alias, left_of, right_of}
 use Rattle.group_view.specs.Since.{view_at}
 use Rattle.ring_world.specs.Refusal.{refuse_if, or_else}
@@ -50,6 +51,11 @@ module _ {I : Type 0} where
       (or_else (refuse_if (not (is_in d r.stopped)) reason.NotStopped)
       (refuse_if (has_more r.links (view_at r.views v) x d has_current) reason.LinkNotEnded)))))
 
+  -- x admits one of this name only where the newest view lets it: x is known and lives there, the name is free, and there
+  -- is room
+  abbrev pub admit_refusal : Registry I → ℕ → List ℕ → Option Reason
+  admit_refusal r x name = group_refusal (newest r).entries x name
+
   -- x has p erased only where both are known, p is dead in the newest view, x answers for it as dead in the view that x holds,
   -- and where what x says that it got of p is what it says has come round of it
   abbrev pub erase_refusal : Registry I → ℕ → ℕ → ℕ → ℕ → ℕ → Option Reason
@@ -72,6 +78,7 @@ module _ {I : Type 0} where
   abbrev pub request_refusal : Registry I → Request I → Option Reason
   request_refusal r (Mark by dead view has_current) = mark_refusal r by.0 dead.0 view has_current
   request_refusal r (Refresh by) = unknown_refusal r by.0
+  request_refusal r (Admit by name) = admit_refusal r by.0 name
   request_refusal r (Erase by origin got retired view) = erase_refusal r by.0 origin.0 got retired view
   request_refusal r (Stopped by) = stop_refusal r by.0
   request_refusal r (Deposit by to view kind link) = or_else (unknown_refusal r by.0) (unknown_refusal r to.0)

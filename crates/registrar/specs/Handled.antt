@@ -3,12 +3,12 @@ use Rattle.std.specs.Prelude.{ℕ, cond, List, [], ◌∷◌, ◌++◌, Option, 
 use Rattle.group_view.specs.declared.link.LinkKind.{LinkKind}
 use Rattle.group_view.specs.declared.link.LinkName.{LinkName}
 use Rattle.group_view.specs.declared.request.Request.{Request}
-use Rattle.group_view.specs.declared.request.Request.TheVariants.{Mark, Refresh, Erase, Stopped, Deposit, Collect}
+use Rattle.group_view.specs.declared.request.Request.TheVariants.{Mark, Refresh, Admit, Erase, Stopped, Deposit, Collect}
 use Rattle.group_view.specs.declared.request.Answer.{Answer}
-use Rattle.group_view.specs.declared.request.Answer.TheVariants.{Viewed, Links, Noted}
+use Rattle.group_view.specs.declared.request.Answer.TheVariants.{Viewed, Admitted, Links, Noted}
 use Rattle.group_view.specs.declared.request.Deposited.{Deposited}
-use Rattle.group_view.specs.View.{Group}
-use Rattle.group_view.specs.Change.{marked, erased}
+use Rattle.group_view.specs.View.{Group, as_id}
+use Rattle.group_view.specs.Change.{marked, erased, admitted}
 use Rattle.promotion.specs.Elect.{installed}
 use Rattle.ring_names.specs.declared.numbers.MemberId.{MemberId}
 use Rattle.registrar.specs.declared.standing.Standing.{Standing}
@@ -18,6 +18,10 @@ module _ {I : Type 0} where
   -- a view follows the others
   abbrev pub with_view : Registry I → Group → Registry I
   with_view r g = record r { views = r.views ++ g ∷ [] }
+
+  -- the view in which x has admitted one of this name
+  abbrev pub admitted_view : Registry I → ℕ → List ℕ → Group
+  admitted_view r x name = admitted (newest r) x name
 
   -- the view in which p is erased, and a master is elected where none stands
   abbrev pub erased_view : Registry I → ℕ → Group
@@ -53,6 +57,7 @@ module _ {I : Type 0} where
   abbrev pub handled : Registry I → Request I → Registry I
   handled r (Mark by dead view has_current) = with_view r (marked (newest r) dead.0)
   handled r (Refresh by) = r
+  handled r (Admit by name) = with_view r (admitted_view r by.0 name)
   handled r (Erase by origin got retired view) = with_view r (erased_view r origin.0)
   handled r (Stopped by) = with_stopped r by.0
   handled r (Deposit by to view kind link) = with_link r (waiting by to view kind link)
@@ -62,6 +67,7 @@ module _ {I : Type 0} where
   abbrev pub answered : Registry I → Request I → Answer I
   answered r (Mark by dead view has_current) = Viewed (marked (newest r) dead.0)
   answered r (Refresh by) = Viewed (newest r)
+  answered r (Admit by name) = Admitted (admitted_view r by.0 name) (as_id (newest r).next_id)
   answered r (Erase by origin got retired view) = Viewed (erased_view r origin.0)
   answered r (Stopped by) = Noted
   answered r (Deposit by to view kind link) = Noted

@@ -8,7 +8,7 @@ use Rattle.group_view.specs.Change.{AreOpeningNames}
 use Rattle.group_view.specs.Since.{no_group, view_at}
 use Rattle.ring_world.specs.declared.phase.Phase.TheVariants.{Up}
 use Rattle.ring_world.specs.declared.event.Event.{Event}
-use Rattle.ring_world.specs.declared.event.Event.TheVariants.{Stop, Mark, Refresh, Erase}
+use Rattle.ring_world.specs.declared.event.Event.TheVariants.{Stop, Mark, Refresh, Admit, Erase}
 use Rattle.ring_world.specs.Machine.{World, row_at, member_at, newest}
 use Rattle.ring_world.specs.Step.{size, opening}
 use Rattle.ring_world.specs.Event.{IsRun, last, id_of, is_stopped, is_registered, at_door}
@@ -33,6 +33,12 @@ pub record AsksRefresh (w : World) (x v : ℕ) (e : Event) : Type 0 where
   pub asker : IsAsker w name x v
   pub is : e ≡ Refresh name (newest w)
 
+-- a member that is up asks to admit one of a new name
+pub record AsksAdmit (w : World) (x v : ℕ) (newcomer : List ℕ) (e : Event) : Type 0 where
+  pub name : List ℕ
+  pub asker : IsAsker w name x v
+  pub is : e ≡ Admit name newcomer
+
 -- a member that is up asks to erase another, and tells truly what it has got of it, and what it has retired
 pub record AsksErase (w : World) (x p v n m : ℕ) (e : Event) : Type 0 where
   pub name : List ℕ
@@ -48,10 +54,12 @@ abbrev pub IsOwn : Event → Type 0
 IsOwn e = is_registered e ≡ false
 
 module _ {I : Type 0} where
-  -- a registrar that keeps r has the views of the state, and notice of just those members that have stopped
+  -- a registrar that keeps r has the views of the state, and notice of just those members that have stopped, and of
+  -- nobody beyond the ring
   pub record StandsIn (w : World) (r : Registry I) : Type 0 where
     pub views : w.views ≡ no_group ∷ r.views
     pub stopped : (q : ℕ) → 1 ≤ q → q < size w → is_in q r.stopped ≡ is_stopped (member_at w q).phase
+    pub nobody_else : (q : ℕ) → size w ≤ q → is_in q r.stopped ≡ false
 
   -- Where d is the left neighbour in the view that x holds: x has more to take by its own word, or by a link that waits at the
   -- registrar, just where it has a current link, or one at its door.
@@ -73,6 +81,7 @@ module _ {I : Type 0} where
   abbrev pub Asks : World → Registry I → Request I → Event → Type 0
   Asks w r (request.Mark by dead view has_current) e = AsksMark w r by.0 dead.0 view has_current e
   Asks w r (request.Refresh by) e = (v : ℕ) × AsksRefresh w by.0 v e
+  Asks w r (request.Admit by name) e = (v : ℕ) × AsksAdmit w by.0 v name e
   Asks w r (request.Erase by origin got retired view) e = AsksErase w by.0 origin.0 view got retired e
   Asks w r (request.Stopped by) e = AsksStop w by.0 e
   Asks w r (request.Deposit by to view kind link) e = ⊥

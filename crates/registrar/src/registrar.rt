@@ -5,16 +5,18 @@ ghost use Rattle.std.specs.List.{filter};
 ghost use Rattle.ring_names.specs.declared.reason.Reason.{Reason};
 ghost use Rattle.group_view.specs.Change.{AreOpeningNames, marked};
 ghost use Rattle.group_view.specs.Change.{mark_refusal as group_refusal, erase_refusal as group_erasure};
+ghost use Rattle.group_view.specs.Change.{admit_refusal as group_admission};
+ghost use Rattle.group_view.specs.View.{as_id};
 ghost use Rattle.group_view.specs.Ring.{is_in};
 ghost use Rattle.group_view.specs.Request.{handed_over};
 ghost use Rattle.group_view.specs.Since.{view_at};
 ghost use Rattle.registrar.specs.Registry.{AreHere, AreHereBut, newest as the_newest, founded, is_known, is_for};
 ghost use Rattle.registrar.specs.Registry.{name_in, end_in, end_is, IsLent, Lends, Gives};
 ghost use Rattle.registrar.specs.Asked.{mark_refusal as the_mark_refusal, unknown_refusal};
-ghost use Rattle.registrar.specs.Asked.{erase_refusal as the_erase_refusal};
+ghost use Rattle.registrar.specs.Asked.{erase_refusal as the_erase_refusal, admit_refusal as the_admit_refusal};
 ghost use Rattle.registrar.specs.Asked.{stop_refusal as the_stop_refusal, request_refusal};
 ghost use Rattle.registrar.specs.Handled.{with_view, with_stopped, with_link, without_links, links_for, handled};
-ghost use Rattle.registrar.specs.Handled.{answered, erased_view};
+ghost use Rattle.registrar.specs.Handled.{answered, erased_view, admitted_view};
 ghost use Rattle.registrar.specs.Stands.{StandsIn, WhereAsked};
 ghost use Rattle.ring_names.specs.declared.numbers.CreditSpec.{CreditSpec};
 ghost use Rattle.ring_world.specs.Event.{refusal, effect};
@@ -28,6 +30,9 @@ use promotion::install;
 use ring_names::{Items, MemberId, Name, OutOfMemory, Reason};
 use std::alloc::Global;
 use std::marker::Model;
+
+/// How many members a group ever has.
+const MOST_MEMBERS: usize = 64;
 
 /// The party that keeps the group, as `gm` keeps it in one registry: it is asked one request after another,
 /// so that all changes of membership have one order. It has every view that the group ever had, so that it
@@ -160,14 +165,17 @@ impl<I: Drop> Registrar<I> {
     /// `NotNeighbour` where the asker isn't live there, as in a version that was never made, or the other
     /// isn't its neighbour; then `AlreadyDead` by the newest view, `NotStopped` where the other gave no
     /// notice, and `LinkNotEnded` where it is the left neighbour and the asker has more to take from it: by
-    /// its own word, or since such a link waits here for it. `Erase` is refused as `NotDead` where the origin
+    /// its own word, or since such a link waits here for it. `Admit` is judged by the newest view: `AlreadyDead`
+    /// where the asker isn't live there, `NameTaken` where an entry of any mark has the name, and
+    /// `TooManyMembers` where 64 entries stand. `Erase` is refused as `NotDead` where the origin
     /// isn't dead in the newest view; then as `NotOwner` where it isn't dead in the view that the asker holds,
     /// or the asker isn't the first live one there from the origin rightwards, as where the asker isn't live
     /// there, and in a version that was never made; then as `NotRetired`, with both numbers, where what the
     /// asker got of the origin isn't what has come round of it. Where the master is erased, another is
     /// elected. `Stopped` is refused where the notice was given before. Only a request that nothing refuses
     /// wants memory, and without it everything stands as it stood, and the request comes back. As
-    /// `gm:record_dead_member_in_group`, `gm:erase_members_in_group` and `gm:read_group`.
+    /// `gm:record_dead_member_in_group`, `gm:record_new_member_in_group`, `gm:erase_members_in_group` and
+    /// `gm:read_group`.
     pub fn handle(&mut self, request: Request<I>) -> Result<Answer<I>, (Request<I>, OutOfMemory)>
         requires { AreHere self.old.links }
         ensures refused { (r : Reason) → request_refusal self.old request ≡ Some r
@@ -218,6 +226,7 @@ impl<I: Drop> Registrar<I> {
                 has_current,
             } => self.mark_refusal(*by, *dead, *view, *has_current),
             Request::Refresh { by } => self.unknown_refusal(*by),
+            Request::Admit { by, name } => self.admit_refusal(*by, name),
             Request::Erase {
                 by,
                 origin,
@@ -285,6 +294,25 @@ impl<I: Drop> Registrar<I> {
         None
     }
 
+    fn admit_refusal(&self, by: MemberId, name: &Name) -> Option<Reason>
+        ensures { result ≡ the_admit_refusal self.now by.0 name.now }
+    {
+        if !self.knows(by) {
+            return Some(Reason::UnknownMember);
+        }
+        let view = self.view();
+        if !view.is_live(by) {
+            return Some(Reason::AlreadyDead);
+        }
+        if view.find(name).is_some() {
+            return Some(Reason::NameTaken);
+        }
+        if view.entries.as_slice().len() >= MOST_MEMBERS {
+            return Some(Reason::TooManyMembers);
+        }
+        None
+    }
+
     fn erase_refusal(
         &self,
         by: MemberId,
@@ -344,6 +372,7 @@ impl<I: Drop> Registrar<I> {
         match request {
             Request::Mark { dead, .. } => Ok(Answer::Viewed(self.mark(*dead)?)),
             Request::Refresh { .. } => Ok(Answer::Viewed(self.view().copy()?)),
+            Request::Admit { by, name } => self.admit(*by, name),
             Request::Erase { origin, .. } => Ok(Answer::Viewed(self.erase(*origin)?)),
             Request::Stopped { by } => {
                 self.note(*by)?;
@@ -366,6 +395,22 @@ impl<I: Drop> Registrar<I> {
             unreachable!()
         }
         self.follow(next)
+    }
+
+    /// A view follows in which one of a new name is admitted, and is answered with the new id.
+    fn admit(&mut self, by: MemberId, name: &Name) -> Result<Answer<I>, OutOfMemory>
+        requires { group_admission (the_newest self.old).entries by.0 name.now ≡ None }
+        ensures ok { OnOk result (self.new ≡ with_view self.old (admitted_view self.old by.0 name.now)) }
+        ensures answer { IfOk result (λ a. a ≡ Answer.Admitted (admitted_view self.old by.0 name.now)
+            (as_id (the_newest self.old).next_id)) }
+        ensures err { OnErr result (self.new ≡ self.old) }
+    {
+        let mut next = self.view().copy()?;
+        let Ok(id) = next.admit(by, *name) else {
+            return Err(OutOfMemory);
+        };
+        let view = self.follow(next)?;
+        Ok(Answer::Admitted { view, id })
     }
 
     /// A view follows in which an origin is erased, with a master where one can be elected.

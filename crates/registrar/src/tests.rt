@@ -1,6 +1,7 @@
 //! Small groups, with values from the rules of the ring: rows of what is asked, and behind `=` the answer that is
 //! wanted. `mark a b 1 linked`: by whom, who, the asker's version, and whether the asker has a link to take from;
 //! `erase a b 2 3 3`: by whom, who, the asker's version, and what the asker got and retired;
+//! `admit a d = admitted 2 4`: by whom, the new name, and the version and the id that are wanted;
 //! `refresh a`, `stopped a`, `collect a`; `deposit a b 1 ring 7`: from whom, to whom, the sender's version, the kind,
 //! and the link. A request is asked again where an allocation failed.
 ghost use Rattle.std.specs.Prelude.{IfOk};
@@ -75,6 +76,38 @@ erase b a 2 3 3 = view 3
 erase b a 3 3 3 = refused 8
 refresh c = view 3";
 
+/// A name is given once, also where its member is dead or erased; who is dead admits nobody.
+const ADMITS_ON_THE_RIGHT: &str = "\
+admit a d = admitted 2 4
+refresh d = view 2
+admit b a = refused 9
+admit a d = refused 9
+admit nobody e = refused 6
+admit none a = refused 6
+stopped d = noted
+mark a b 2 alone = refused 21
+mark b d 2 alone = view 3
+admit d e = refused 7
+admit d a = refused 7
+admit b d = refused 9
+erase b d 3 0 0 = view 4
+admit d e = refused 7
+admit b d = refused 9
+admit b e = admitted 5 5
+admit b f = admitted 6 6
+refresh a = view 6";
+
+/// The names of as many members as a group ever has.
+const OF_SIXTY_FOUR: &str = "\
+1 2 3 4 5 6 7 8 9 10 11 12 13 14 15 16 17 18 19 20 21 22 23 24 25 26 27 28 29 30 31 32 \
+33 34 35 36 37 38 39 40 41 42 43 44 45 46 47 48 49 50 51 52 53 54 55 56 57 58 59 60 61 62 63 64";
+
+/// No group has more.
+const ADMITS_NO_MORE: &str = "\
+admit a z = refused 10
+admit a 64 = refused 9
+admit none z = refused 6";
+
 /// A link from before the two were neighbours doesn't count.
 const COUNTS_NO_LINK_FROM_BEFORE: &str = "\
 stopped b = noted
@@ -140,6 +173,11 @@ fn mark_by(by: MemberId, rest: &str) -> Request<u32> {
     }
 }
 
+fn admit_by(by: MemberId, rest: &str) -> Option<Request<u32>> {
+    let name = Name::read(rest.as_bytes()).ok()?;
+    Some(Request::Admit { by, name })
+}
+
 fn erase_by(by: MemberId, rest: &str) -> Request<u32> {
     let (origin, rest) = first_word(rest);
     let (view, rest) = first_word(rest);
@@ -177,6 +215,7 @@ fn request_of(asked: &str) -> Option<Request<u32>> {
     let by = id(by);
     match verb {
         "mark" => Some(mark_by(by, rest)),
+        "admit" => admit_by(by, rest),
         "erase" => Some(erase_by(by, rest)),
         "refresh" => Some(Request::Refresh { by }),
         "stopped" => Some(Request::Stopped { by }),
@@ -218,6 +257,13 @@ fn is_refusal(reason: Reason, wanted: &str) -> bool {
     word == "refused" && number(code) == reason.code()
 }
 
+/// Whether an admission with this version and this id is wanted.
+fn is_admission(version: u32, id: MemberId, wanted: &str) -> bool {
+    let (word, rest) = first_word(wanted);
+    let (wanted_version, wanted_id) = first_word(rest);
+    word == "admitted" && number(wanted_version) == version && number(wanted_id) == id.0
+}
+
 /// Whether an answer is the one that is wanted.
 fn is_wanted(answer: &Answer<u32>, wanted: &str) -> bool {
     let (word, rest) = first_word(wanted);
@@ -225,6 +271,7 @@ fn is_wanted(answer: &Answer<u32>, wanted: &str) -> bool {
         Answer::No(reason) => is_refusal(*reason, wanted),
         Answer::Noted => word == "noted",
         Answer::Viewed(view) => word == "view" && number(rest) == view.version,
+        Answer::Admitted { view, id } => is_admission(view.version, *id, wanted),
         Answer::Links(links) => word == "links" && are_links(links.as_slice(), rest),
     }
 }
@@ -252,6 +299,7 @@ fn is_counted(registrar: &Registrar<u32>, asked: &str, wanted: &str) -> bool {
 fn version_after(registrar: &Registrar<u32>, wanted: &str) -> u32 {
     match first_word(wanted) {
         ("view", version) => number(version),
+        ("admitted", rest) => number(first_word(rest).0),
         _ => registrar.view().version,
     }
 }
@@ -325,6 +373,7 @@ fn answers_as_the_tables_want(rt: HostRuntime) -> Result<(), Fail> {
         ("a b c", WAITS_FOR_THE_END_OF_A_LINK),
         ("a b c", COUNTS_NO_LINK_FROM_BEFORE),
         ("a b c", GIVES_LINKS_ONCE_AND_IN_ORDER),
+        (OF_SIXTY_FOUR, ADMITS_NO_MORE),
     ] {
         played(&rt, rt.alloc(), members, table)?;
     }
@@ -352,6 +401,26 @@ fn erases_who_is_dead(rt: HostRuntime) -> Result<(), Fail> {
     let registrar = played(&rt, rt.alloc(), "a b c", B_ERASES_A)?;
     assert!(rt; has_mark(&registrar, 0, Mark::Erased) && has_mark(&registrar, 1, Mark::Live));
     assert!(rt; registrar.view().master == Some(MemberId(2)) && registrar.view().term == 2);
+    Ok(())
+}
+
+/// Whether the newest view has just these ids, in ring order.
+fn has_ids(registrar: &Registrar<u32>, ids: &[u32]) -> bool {
+    let mut entries = registrar.view().entries.as_slice().iter();
+    for id in ids {
+        match entries.next() {
+            Some(entry) if entry.id.0 == *id => {}
+            _ => return false,
+        }
+    }
+    entries.next().is_none()
+}
+
+#[test]
+fn admits_on_the_right(rt: HostRuntime) -> Result<(), Fail> {
+    let registrar = played(&rt, rt.alloc(), "a b c", ADMITS_ON_THE_RIGHT)?;
+    assert!(rt; has_ids(&registrar, &[1, 4, 2, 6, 5, 3]));
+    assert!(rt; has_mark(&registrar, 1, Mark::Erased) && has_mark(&registrar, 3, Mark::Live));
     Ok(())
 }
 

@@ -1,5 +1,6 @@
 -- Each event of a cluster: what its member does, and that all parties stand afterwards.
 pub mod Acted
+pub mod Admitting
 pub mod After
 pub mod AloneGoes
 pub mod AloneRefusals
@@ -10,6 +11,7 @@ pub mod EndGoes
 pub mod Found
 pub mod GainGoes
 pub mod Marking
+pub mod Newcomers
 pub mod OneEvent
 pub mod Opens
 pub mod PickGoes

@@ -2,5 +2,6 @@
 pub mod Grants
 pub mod Lists
 pub mod Places
+pub mod Plans
 pub mod Rows
 pub mod Truth

@@ -3,8 +3,10 @@ pub mod Asking
 pub mod Counting
 pub mod Doing
 pub mod Holding
+pub mod Members
 pub mod Named
 pub mod Numbers
 pub mod Playing
+pub mod Resting
 pub mod Settling
 pub mod Turning

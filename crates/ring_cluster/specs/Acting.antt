@@ -5,21 +5,22 @@ use Rattle.ring_names.specs.declared.message.Message.{Message}
 use Rattle.ring_names.specs.declared.message.Message.TheVariants as message
 use Rattle.ring_names.specs.declared.reason.Reason.{Reason}
 use Rattle.ring_names.specs.declared.reason.Reason.TheVariants as reason
+use Rattle.ring_names.specs.declared.numbers.CreditSpec.{CreditSpec}
 use Rattle.credit_flow.specs.Credit.{grant_due}
 use Rattle.credit_flow.specs.Link.{with_grant}
 use Rattle.group_view.specs.declared.link.LinkName.{LinkName}
 use Rattle.group_view.specs.View.{Group}
-use Rattle.group_view.specs.Change.{marked, erased}
+use Rattle.group_view.specs.Change.{marked, erased, admitted}
 use Rattle.group_view.specs.Since.{view_at}
 use Rattle.promotion.specs.Elect.{installed}
 use Rattle.ring_world.specs.declared.event.Event.{Event}
-use Rattle.ring_world.specs.declared.event.Event.TheVariants.{Cast, Put, Take, TakeEnd, Gain, Stop, Mark, Refresh, Pick, Erase, Refuse}
+use Rattle.ring_world.specs.declared.event.Event.TheVariants.{Cast, Put, Take, TakeEnd, Gain, Stop, Mark, Refresh, Admit, Pick, Erase, Refuse}
 use Rattle.ring_world.specs.Refusal.{refuse_if, is_empty}
 use Rattle.ring_world.specs.View.{right_of}
 use Rattle.ring_world.specs.Machine.{runs_phase}
 use Rattle.ring_world.specs.Event.{version_refusal, is_registered}
 use Rattle.gm_member.specs.Parcels.{ByOrigin}
-use Rattle.gm_member.specs.Held.{Held, Outgoing, Incoming, at_some, active_refused, up_refused, on_some, published_held, put_held, parcel_on, put_refused, pick_refused, take_refused, took_held, gained_held, ended_held, stopped_held, is_for, stays, sends_to, fresh_out as unsent_on, fresh_in as arriving_in, refreshed_held, first_at_door, picked_held, without, collected_held}
+use Rattle.gm_member.specs.Held.{Held, joining_held, Outgoing, Incoming, at_some, active_refused, up_refused, on_some, published_held, put_held, parcel_on, put_refused, pick_refused, take_refused, took_held, gained_held, ended_held, stopped_held, is_for, stays, sends_to, fresh_out as unsent_on, fresh_in as arriving_in, refreshed_held, first_at_door, picked_held, without, collected_held}
 use Rattle.gm_member.specs.View.{ring_link}
 use Rattle.gm_member.specs.Shown.{When}
 use Rattle.ring_cluster.specs.Ends.{Sent, OutSeen, InSeen, opened_out, fresh_in}
@@ -242,12 +243,42 @@ erasing q p = installed (erased (newest_of q) p)
 abbrev pub LooksAt : Group → ℕ → Parties → Parties → Option (LinkName × OutSeen) → Type 0
 LooksAt v i q q' loose = (b : Shown) × (new : Option Posted) × Looks v (node_at q i) b new loose × (q' ≡ posting new (with_node q i b))
 
+-- the links of a member are of this credit
+abbrev pub HasCredit : CreditSpec → Held → Type 0
+HasCredit credit h = (credit.initial ≡ h.initial) × (credit.more ≡ h.more)
+
+-- the view in which the member at a place has admitted one of a name
+abbrev pub admitting : Parties → ℕ → List ℕ → Group
+admitting q i name = admitted (newest_of q) (i + 1) name
+
+-- a member that joins with a view, and has this end of the link to it
+abbrev pub joined : CreditSpec → List ℕ → ℕ → Group → Option InSeen → Shown
+joined credit name id v end = record {
+  held = joining_held credit name id v;
+  ends = record { out = None; kept = None; link = end; door = []; old_outs = []; old_ins = [] };
+}
+
+-- one more is among the members
+abbrev pub joining : Shown → Parties → Parties
+joining m q = record q { nodes = q.nodes ++ m ∷ [] }
+
+-- the member at a place has a view, and one of this name and id joins with it, for whom the link is that this opens
+abbrev pub LetsIn : Group → CreditSpec → List ℕ → ℕ → ℕ → Parties → Parties → Option (LinkName × OutSeen) → Type 0
+LetsIn v credit name id i q q' loose =
+    (b : Shown) × (new : Option Posted) × Looks v (node_at q i) b new loose
+    × (q' ≡ joining (joined credit name id v (at_some new None (λ (d : Posted). d.end))) (viewing v (with_node q i b)))
+
+-- the member at a place admits one of a name
+abbrev pub AdmitsAt : List ℕ → ℕ → Parties → Parties → Option (LinkName × OutSeen) → Type 0
+AdmitsAt name i q q' loose = (credit : CreditSpec) × HasCredit credit (node_at q i).held × LetsIn (admitting q i name) credit name (newest_of q).next_id i q q' loose
+
 -- the event of the member at place i; d is the id of the one that is marked or erased; a refusal changes nothing
 abbrev pub Acts : Event → ℕ → ℕ → Parties → Parties → Option (LinkName × OutSeen) → Type 0
 Acts (Stop by) i d q q' loose = (b : Shown) × Stops (node_at q i) b × (q' ≡ record (with_node q i b) { stopped = q.stopped ++ (i + 1) ∷ [] }) × (loose ≡ None)
 Acts (Mark by dead) i d q q' loose = LooksAt (marked (newest_of q) d) i (viewing (marked (newest_of q) d) q) q' loose
 Acts (Refresh by version) i d q q' loose = LooksAt (view_at q.views version) i q q' loose
 Acts (Erase by origin) i d q q' loose = LooksAt (erasing q d) i (viewing (erasing q d) q) q' loose
+Acts (Admit by name) i d q q' loose = AdmitsAt name i q q' loose
 Acts (Refuse code inner) i d q q' loose = (q' ≡ q) × (loose ≡ None)
 Acts e i d q q' loose = (b : Shown) × DoesAlone e (node_at q i) b × (q' ≡ with_node q i b) × (loose ≡ None)
 

@@ -1,4 +1,5 @@
 pub mod Acting
+pub mod Agendas
 pub mod Behind
 pub mod Collecting
 pub mod EachState

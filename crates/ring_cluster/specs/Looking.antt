@@ -1,9 +1,11 @@
 -- What a member that has another view hands on: the link that it opens, and the out end that it replaces.
-use Rattle.std.specs.Prelude.{Bool, true, false, List, [], ◌∷◌, Option, Some, None, option_map}
+use Rattle.std.specs.Prelude.{ℕ, Bool, true, false, List, [], ◌∷◌, Option, Some, None, option_map}
 use Rattle.ordered_link.specs.declared.plain.PlainOut.{PlainOut}
 use Rattle.ordered_link.specs.declared.plain.PlainIn.{PlainIn}
 use Rattle.group_view.specs.declared.link.LinkName.{LinkName}
 use Rattle.group_view.specs.declared.request.Request.{Request}
+use Rattle.group_view.specs.declared.request.Answer.{Answer}
+use Rattle.group_view.specs.declared.request.Answer.TheVariants.{Viewed, Admitted}
 use Rattle.ring_names.specs.declared.reason.Reason.{Reason}
 use Rattle.activity.specs.declared.packet.Load.{Load}
 use Rattle.group_view.specs.Request.{handed_over}
@@ -11,9 +13,9 @@ use Rattle.group_view.specs.View.{Group}
 use Rattle.group_view.specs.Change.{marked}
 use Rattle.registrar.specs.Registry.{Registry, newest}
 use Rattle.registrar.specs.Asked.{request_refusal}
-use Rattle.registrar.specs.Handled.{erased_view}
+use Rattle.registrar.specs.Handled.{admitted_view, erased_view}
 use Rattle.gm_member.specs.declared.questions.Ask.{Ask}
-use Rattle.gm_member.specs.declared.questions.Ask.TheVariants.{Mark, Erase, Refresh, Collect}
+use Rattle.gm_member.specs.declared.questions.Ask.TheVariants.{Mark, Admit, Erase, Refresh, Collect}
 use Rattle.gm_member.specs.Held.{up_refused, answered_held}
 use Rattle.gm_member.specs.Questions.{asked_for}
 use Rattle.ring_cluster.specs.declared.undelivered.Undelivered.{Undelivered}
@@ -56,6 +58,7 @@ pub record HasLooked (v : Group) (a b : Shown) (opened : Option Posted) (loose :
 -- whether the registrar is to make one
 abbrev pub makes_view : Ask → Bool
 makes_view (Mark dead) = true
+makes_view (Admit name) = true
 makes_view (Erase origin) = true
 makes_view Refresh = false
 makes_view Collect = false
@@ -64,9 +67,16 @@ makes_view Collect = false
 abbrev pub ask_refused : {I : Type 0} → Registry I → Shown → Ask → Option Reason
 ask_refused r m what = up_refused m.held (request_refusal r (asked_for m.held what))
 
--- the view that the registrar makes; where it makes none, its newest
-abbrev pub view_for : {I : Type 0} → Registry I → Ask → Group
-view_for r (Mark dead) = marked (newest r) dead.0
-view_for r (Erase origin) = erased_view r origin.0
-view_for r Refresh = newest r
-view_for r Collect = newest r
+-- the view that the registrar makes for the member of an id; where it makes none, its newest
+abbrev pub view_for : {I : Type 0} → Registry I → ℕ → Ask → Group
+view_for r x (Mark dead) = marked (newest r) dead.0
+view_for r x (Admit name) = admitted_view r x name
+view_for r x (Erase origin) = erased_view r origin.0
+view_for r x Refresh = newest r
+view_for r x Collect = newest r
+
+-- the view that an answer brings, where it brings one
+abbrev pub brought : {I : Type 0} → Answer I → Option Group
+brought (Viewed v) = Some v
+brought (Admitted v id) = Some v
+brought a = None

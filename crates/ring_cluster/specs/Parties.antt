@@ -18,7 +18,6 @@ use Rattle.gm_member.specs.Parcels.{by_origin}
 use Rattle.gm_member.specs.Loads.{parcel_in}
 use Rattle.gm_member.specs.Held.{Held}
 use Rattle.gm_member.specs.Shown.{Ends, held_of, ends_of, with_in as with_end}
-use Rattle.ring_cluster.specs.declared.agenda.Task.{Task}
 use Rattle.ring_cluster.specs.declared.party.Party.{Party}
 use Rattle.ring_cluster.specs.Ends.{Sent, OutSeen, InSeen}
 
@@ -83,10 +82,6 @@ shown_of m = record { held = held_of m; ends = ends_seen (ends_of m) }
 abbrev pub shown_in : Party → Shown
 shown_in p = shown_of p.node
 
--- what it has still to do
-abbrev pub tasks_of : Party → List Task
-tasks_of p = p.agenda
-
 -- what a member shows that isn't there, for places beyond the last
 abbrev pub no_shown : Shown
 no_shown = record {
@@ -123,16 +118,18 @@ pub record Parties : Type 0 where
 abbrev pub parties : List Party → Registry (PlainIn Load) → List Posted → Parties
 parties members r behind = record { nodes = map shown_in members; views = r.views; stopped = r.stopped; post = map posted r.links ++ behind }
 
--- What is seen of the parties: what they show, whether the registrar is owed a link that waits behind those which stand there, and what
--- each member has still to do, by places.
+-- What is seen of the parties: what they show, and whether the registrar is owed a link that waits behind those which stand there.
 pub record PartiesSeen : Type 0 where
   pub all : Parties
   pub owes : Bool
-  pub agendas : List (List Task)
 
 -- the member at a place
 abbrev pub node_at : Parties → ℕ → Shown
 node_at q i = slice_index_or q.nodes i no_shown
+
+-- the names of the members, by places
+abbrev pub names_shown : Parties → List (List ℕ)
+names_shown q = map (λ m. m.held.name) q.nodes
 
 -- it is another
 abbrev pub with_node : Parties → ℕ → Shown → Parties

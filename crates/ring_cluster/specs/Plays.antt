@@ -1,5 +1,5 @@
 -- When a journal plays what a cluster was given.
-use Rattle.std.specs.Prelude.{◌≡◌, ◌⊎◌, ℕ, ◌&&◌, ◌<◌, ◌≤◌, List, [], ◌∷◌, ◌++◌, length, map, take, slice_get, slice_set, slice_index_or, IsSome, position, bytes_eq, Option, Some, None, if◌then◌else◌, Contains}
+use Rattle.std.specs.Prelude.{◌≡◌, ◌⊎◌, ℕ, ◌&&◌, ◌<◌, ◌≤◌, List, [], ◌∷◌, ◌++◌, length, map, take, slice_get, IsSome, bytes_eq, Option, Some, None, if◌then◌else◌, Contains}
 use Rattle.std.specs.List.{flat_map}
 use Rattle.ring_names.specs.declared.numbers.CreditSpec.{CreditSpec}
 use Rattle.ring_names.specs.declared.reason.Reason.TheVariants as reason
@@ -14,6 +14,7 @@ use Rattle.ring_world.specs.Event.{by_of, is_asked, event_of}
 use Rattle.ring_world.specs.Quiet.{IsQuiet}
 use Rattle.ring_cluster.specs.declared.agenda.Task.{Task}
 use Rattle.ring_cluster.specs.declared.agenda.Task.TheVariants as task
+use Rattle.ring_cluster.specs.Agendas.{Plan, names_of, place_among, tasks_in, with_tasks, with_task}
 use Rattle.ring_cluster.specs.Seen.{Seen, state}
 
 -- ---- what clients asked for
@@ -66,29 +67,11 @@ IsDoneBy name t e = (e ≡ task_event name t) ⊎ (e ≡ refused_task name t)
 abbrev pub todo : List ℕ → List Task → List Event
 todo name tasks = map (task_event name) tasks
 
--- the agenda at a place
-abbrev pub agenda_at : List (List Task) → ℕ → List Task
-agenda_at agendas i = slice_index_or agendas i []
-
--- the agenda at a place, where there is one
-abbrev pub agenda_found : List (List Task) → Option ℕ → List Task
-agenda_found agendas None = []
-agenda_found agendas (Some i) = agenda_at agendas i
-
--- the place of a name
-abbrev pub place_among : List (List ℕ) → List ℕ → Option ℕ
-place_among names name = position (λ n. bytes_eq n name) names
-
--- the agenda of the member of that name
+-- what is on the agenda of the member of that name
 abbrev pub agenda_of : Seen → List ℕ → List Task
-agenda_of c name = agenda_found c.agendas (place_among c.names name)
+agenda_of c name = tasks_in c.agendas name
 
 -- ---- commands
-
--- a task joins the agenda at a place
-abbrev pub with_task : List (List Task) → Option ℕ → Task → List (List Task)
-with_task agendas None t = agendas
-with_task agendas (Some i) t = slice_set agendas i (agenda_at agendas i ++ t ∷ [])
 
 -- a command that a member of these names is asked for
 abbrev pub IsCommandTo : List (List ℕ) → Command → Type 0
@@ -98,22 +81,22 @@ IsCommandTo names (command.Go turns) = ⊥
 IsCommandTo names command.Settle = ⊥
 
 -- the agendas after a command was taken
-abbrev pub tasked : List (List ℕ) → List (List Task) → Command → List (List Task)
-tasked names agendas (command.Cast by body) = with_task agendas (place_among names by) (task.Cast body)
-tasked names agendas (command.Kill by) = with_task agendas (place_among names by) task.Stop
-tasked names agendas (command.Go turns) = agendas
-tasked names agendas command.Settle = agendas
+abbrev pub tasked : List Plan → Command → List Plan
+tasked plans (command.Cast by body) = with_task plans by (task.Cast body)
+tasked plans (command.Kill by) = with_task plans by task.Stop
+tasked plans (command.Go turns) = plans
+tasked plans command.Settle = plans
 
--- the place and the task of a command
-abbrev pub IsTaskOf : List (List ℕ) → Command → ℕ → Task → Type 0
-IsTaskOf names (command.Cast by body) i t = (place_among names by ≡ Some i) × (t ≡ task.Cast body)
-IsTaskOf names (command.Kill by) i t = (place_among names by ≡ Some i) × (t ≡ task.Stop)
-IsTaskOf names (command.Go turns) i t = ⊥
-IsTaskOf names command.Settle i t = ⊥
+-- whom a command asks, and for which task
+abbrev pub IsTaskOf : Command → List ℕ → Task → Type 0
+IsTaskOf (command.Cast by body) name t = (name ≡ by) × (t ≡ task.Cast body)
+IsTaskOf (command.Kill by) name t = (name ≡ by) × (t ≡ task.Stop)
+IsTaskOf (command.Go turns) name t = ⊥
+IsTaskOf command.Settle name t = ⊥
 
 -- a command was given
 abbrev pub commanded : Seen → Command → Seen
-commanded c x = record c { agendas = tasked c.names c.agendas x; given = c.given ++ x ∷ [] }
+commanded c x = record c { agendas = tasked c.agendas x; given = c.given ++ x ∷ [] }
 
 -- ---- playing
 
@@ -147,7 +130,7 @@ pub record PlaysSoFar (c : Seen) : Type 0 where
 pub record GoesOn (c d : Seen) (more : List Event) : Type 0 where
   pub credit : d.credit ≡ c.credit
   pub names : d.names ≡ c.names
-  pub count : length d.agendas ≡ length c.agendas
+  pub agendas : names_of d.agendas ≡ names_of c.agendas
   pub events : d.events ≡ c.events ++ more
   pub asked : (name : List ℕ) → client_events name more ++ todo name (agenda_of d name) ≡ todo name (agenda_of c name)
 
@@ -155,26 +138,26 @@ pub record GoesOn (c d : Seen) (more : List Event) : Type 0 where
 abbrev pub HasGoneOn : Seen → Seen → Type 0
 HasGoneOn c d = (more : List Event) × GoesOn c d more
 
--- this event has happened, and these tasks are left to the member at place i
-abbrev pub performed : Seen → ℕ → Event → List Task → Seen
-performed c i e ts = record c { events = c.events ++ e ∷ []; agendas = slice_set c.agendas i ts }
+-- this event has happened, and these tasks are left to the member of that name
+abbrev pub performed : Seen → List ℕ → Event → List Task → Seen
+performed c name e ts = record c { events = c.events ++ e ∷ []; agendas = with_tasks c.agendas name ts }
 
 -- what was given and how many rounds were given a number stay
 abbrev pub SameGiven : Seen → Seen → Type 0
 SameGiven c d = (d.given ≡ c.given) × (d.rounds ≡ c.rounds)
 
--- the member at a place has begun with its agenda, where it had one
-abbrev pub HasBegun : ℕ → Seen → Seen → Type 0
-HasBegun i c d = 0 < length (agenda_at c.agendas i) → length (agenda_at d.agendas i) < length (agenda_at c.agendas i)
+-- the member of that name has begun with its agenda, where it had one
+abbrev pub HasBegun : List ℕ → Seen → Seen → Type 0
+HasBegun name c d = 0 < length (agenda_of c name) → length (agenda_of d name) < length (agenda_of c name)
 
--- the agendas at other places stay
-abbrev pub SameElsewhere : ℕ → Seen → Seen → Type 0
-SameElsewhere i c d = (j : ℕ) → ¬ (j ≡ i) → agenda_at d.agendas j ≡ agenda_at c.agendas j
+-- no agenda has more on it
+abbrev pub NoneGrows : Seen → Seen → Type 0
+NoneGrows c d = (name : List ℕ) → length (agenda_of d name) ≤ length (agenda_of c name)
 
 -- the head of the agenda of each member is among what was done or refused by these events
 abbrev pub HeadsAre : Seen → List Event → Type 0
-HeadsAre c more = (name : List ℕ) (i : ℕ) (t : Task) (ts : List Task) → place_among c.names name ≡ Some i → agenda_at c.agendas i ≡ t ∷ ts → Contains (client_events name more) (task_event name t)
+HeadsAre c more = (name : List ℕ) (t : Task) (ts : List Task) → agenda_of c name ≡ t ∷ ts → Contains (client_events name more) (task_event name t)
 
 -- nobody has anything left to do that it was asked
 abbrev pub AgendasAreEmpty : Seen → Type 0
-AgendasAreEmpty c = (i : ℕ) → i < length c.agendas → agenda_at c.agendas i ≡ []
+AgendasAreEmpty c = (name : List ℕ) → agenda_of c name ≡ []

@@ -7,7 +7,7 @@ use Rattle.ring_names.specs.declared.numbers.CreditSpec.{CreditSpec}
 use Rattle.group_view.specs.View.{Group}
 use Rattle.group_view.specs.Change.{is_taken, most_entries}
 use Rattle.ring_world.specs.declared.event.Event.{Event}
-use Rattle.ring_world.specs.declared.event.Event.TheVariants.{Mark, Refresh, Erase, Refuse}
+use Rattle.ring_world.specs.declared.event.Event.TheVariants.{Mark, Refresh, Admit, Erase, Refuse}
 use Rattle.ring_world.specs.declared.event.Client.{Client}
 use Rattle.ring_world.specs.declared.event.Client.TheVariants as client
 use Rattle.ring_world.specs.Refusal.{refuse_if, or_else}
@@ -20,7 +20,7 @@ use Rattle.gm_member.specs.Parcels.{known_at}
 use Rattle.gm_member.specs.Held.{Held, at_some, up_refused, first_at_door, is_for, collected_held}
 use Rattle.ring_cluster.specs.Ends.{InSeen}
 use Rattle.ring_cluster.specs.Parties.{Shown, Posted, Parties, node_at}
-use Rattle.ring_cluster.specs.Seen.{state, IsEventAt}
+use Rattle.ring_cluster.specs.Seen.{state, IsEventIn}
 use Rattle.ring_cluster.specs.Standing.{StandAfter}
 use Rattle.ring_cluster.specs.Acting.{waits_at, received, alone_refused, stop_refused, look_refused, newest_of}
 
@@ -71,6 +71,7 @@ abbrev pub act_refused : Event → ℕ → Parties → Option Reason
 act_refused (Mark by dead) i q = mark_refused (office_of q) (node_at q i) (id_named q dead)
 act_refused (Refresh by version) i q = look_refused (newest_of q).version (node_at q i) version
 act_refused (Erase by origin) i q = erase_refused (office_of q) (node_at q i) (id_named q origin)
+act_refused (Admit by name) i q = up_refused (node_at q i).held (admission_refused (newest_of q) name)
 act_refused (Refuse code inner) i q = telling_refused (newest_of q) code inner (node_at q i)
 act_refused e i q = alone_refused e (node_at q i)
 
@@ -97,4 +98,4 @@ first_for h (d ∷ ps) = cond (comes_for h d) (Some d.name.view) (first_for h ps
 
 -- wherever these parties stand, this is the first failing condition of an event of the member at a place
 abbrev pub IsRefusalAt : ℕ → Event → Parties → Option Reason → Type 0
-IsRefusalAt i e q r = (credit : CreditSpec) (names : List (List ℕ)) (events : List Event) → StandAfter credit names events q → IsEventAt names i e → r ≡ refusal (state credit names events) e
+IsRefusalAt i e q r = (credit : CreditSpec) (names : List (List ℕ)) (events : List Event) → StandAfter credit names events q → IsEventIn (state credit names events) i e → r ≡ refusal (state credit names events) e

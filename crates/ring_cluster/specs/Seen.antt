@@ -1,13 +1,13 @@
 -- What is seen of a cluster.
-use Rattle.std.specs.Prelude.{◌≡◌, ℕ, ◌+◌, ◌-◌, ◌<◌, ◌^◌, ◌++◌, ◌∷◌, Bool, true, false, List, [], length, min, replicate, slice_index_or}
+use Rattle.std.specs.Prelude.{◌≡◌, ℕ, ◌+◌, ◌-◌, ◌<◌, ◌^◌, ◌++◌, ◌∷◌, Bool, true, false, List, [], length, min, slice_index_or}
 use Rattle.ring_names.specs.declared.numbers.CreditSpec.{CreditSpec}
 use Rattle.ring_script.specs.declared.command.Command.{Command}
 use Rattle.group_view.specs.Change.{AreOpeningNames}
 use Rattle.ring_world.specs.declared.event.Event.{Event}
-use Rattle.ring_world.specs.Machine.{World}
-use Rattle.ring_world.specs.Step.{opening}
-use Rattle.ring_world.specs.Event.{is_plain, ArePlain, IsRun, last, by_of}
-use Rattle.ring_cluster.specs.declared.agenda.Task.{Task}
+use Rattle.ring_world.specs.Machine.{World, member_at}
+use Rattle.ring_world.specs.Step.{size, opening}
+use Rattle.ring_world.specs.Event.{IsRun, last, by_of}
+use Rattle.ring_cluster.specs.Agendas.{Plan, names_of, opened_plans}
 use Rattle.ring_cluster.specs.Parties.{Parties}
 use Rattle.ring_cluster.specs.Opened.{opened_parties}
 
@@ -15,19 +15,19 @@ use Rattle.ring_cluster.specs.Opened.{opened_parties}
 abbrev pub state : CreditSpec → List (List ℕ) → List Event → World
 state credit names events = last (opening credit names) events
 
--- it is an event of the member at this place, and one that the parties do so far
-abbrev pub IsEventAt : List (List ℕ) → ℕ → Event → Type 0
-IsEventAt names i e = (i < length names) × (by_of e ≡ slice_index_or names i []) × (is_plain e ≡ true)
+-- it is an event of the member at this place of a state, of the opening or joined
+abbrev pub IsEventIn : World → ℕ → Event → Type 0
+IsEventIn w i e = (i + 1 < size w) × (by_of e ≡ (member_at w (i + 1)).name)
 
 -- A cluster is seen as the names and the credit with which its ring opened, its journal, what each member has
--- still to do, by places, how many rounds were given a number, what it was given: the commands that it took
+-- still to do, how many rounds were given a number, what it was given: the commands that it took
 -- and its rounds and settlings, in their order; whether it owes the registrar a link, which was opened by an event
 -- and couldn't be handed over for want of memory; and what its parties show, with the links that wait for their receivers.
 pub record Seen : Type 0 where
   pub credit : CreditSpec
   pub names : List (List ℕ)
   pub events : List Event
-  pub agendas : List (List Task)
+  pub agendas : List Plan
   pub rounds : ℕ
   pub given : List Command
   pub owes : Bool
@@ -39,16 +39,15 @@ state_of c = state c.credit c.names c.events
 
 -- a cluster that has just opened: nothing has happened, and nobody has anything to do
 abbrev pub opening_seen : CreditSpec → List (List ℕ) → Seen
-opening_seen credit names = record { credit = credit; names = names; events = []; agendas = replicate (length names) []; rounds = 0; given = []; owes = false; shows = opened_parties credit names }
+opening_seen credit names = record { credit = credit; names = names; events = []; agendas = opened_plans names; rounds = 0; given = []; owes = false; shows = opened_parties credit names }
 
--- what every cluster keeps of this: its journal is a run of the ring of fewer than 2^59 events, of those that the parties
--- do so far, each member has an agenda, and the count of rounds is a u32
+-- what every cluster keeps of this: its journal is a run of the ring of fewer than 2^59 events, each member of the opening has an
+-- agenda, and the count of rounds is a u32
 pub record IsGoing (c : Seen) : Type 0 where
   pub are : AreOpeningNames c.names
-  pub plain : ArePlain c.events
   pub run : IsRun (opening c.credit c.names) c.events
   pub few : length c.events < 2 ^ 59
-  pub agendas : length c.agendas ≡ length c.names
+  pub agendas : names_of c.agendas ≡ c.names
   pub rounds : c.rounds < 2 ^ 32
 
 -- c, but that it owes a link or nothing

@@ -10,7 +10,7 @@ use Rattle.ring_world.specs.declared.event.Event.{Event}
 use Rattle.ring_world.specs.Machine.{World, member_at, link_at}
 use Rattle.ring_world.specs.OpenLinks.{is_place, is_open}
 use Rattle.ring_world.specs.Step.{size, opening}
-use Rattle.ring_world.specs.Event.{ArePlain, IsRun, is_stopped}
+use Rattle.ring_world.specs.Event.{IsRun, is_stopped}
 use Rattle.gm_member.specs.View.{ring_link}
 use Rattle.gm_member.specs.Stands.{incoming_in, door_links, held_in}
 use Rattle.ring_cluster.specs.Ends.{OutSeen, InSeen, Carries, HaveMet, HasRested}
@@ -53,13 +53,14 @@ pub record MemberStands (w : World) (p : Places) (x : ℕ) (m : Shown) : Type 0 
   pub old_outs : m.ends.old_outs ≡ []
   pub old_ins : m.ends.old_ins ≡ []
 
--- The parties show a state: each member at its id, the registrar with the views and the notices of those that have stopped, the links that
--- wait with their names and ends; and this holds of each link that its receiver may still take from.
+-- The parties show a state: each member at its id, the registrar with the views and the notices of just those that have stopped, the links
+-- that wait with their names and ends; and this holds of each link that its receiver may still take from.
 pub record Shows (Holds : ℕ → Type 0) (w : World) (q : Parties) (p : Places) : Type 0 where
   pub count : length q.nodes + 1 ≡ size w
   pub each : (x : ℕ) → 1 ≤ x → x < size w → MemberStands w p x (node_at q (x - 1))
   pub views : w.views ≡ no_group ∷ q.views
   pub stopped : (x : ℕ) → 1 ≤ x → x < size w → is_in x q.stopped ≡ is_stopped (member_at w x).phase
+  pub nobody_else : (x : ℕ) → size w ≤ x → is_in x q.stopped ≡ false
   pub post : q.post ≡ map (λ s. record { name = name_of w s; end = Some (p.ins s) }) p.post
   pub within : (s : ℕ) → is_in s p.post ≡ true → s < length w.links
   pub carry : (s : ℕ) → s < length w.links → has_in w s ≡ true → Holds s
@@ -91,10 +92,9 @@ pub record Stand (initial : ℕ) (w : World) (q : Parties) : Type 0 where
 
 -- ---- a cluster
 
--- The journal is a run of the ring of fewer than 2^59 events, of those that the parties do so far.
+-- The journal is a run of the ring of fewer than 2^59 events.
 pub record IsJournal (credit : CreditSpec) (names : List (List ℕ)) (events : List Event) : Type 0 where
   pub are : AreOpeningNames names
-  pub plain : ArePlain events
   pub run : IsRun (opening credit names) events
   pub few : length events < 2 ^ 59
 

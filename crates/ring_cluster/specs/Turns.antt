@@ -1,9 +1,10 @@
 -- The turns of a cluster.
-use Rattle.std.specs.Prelude.{◌≡◌, ◌≢◌, ℕ, ◌<◌, ◌≤◌, Bool, true, false, List, [], ◌++◌, length, bytes_eq, None, Result, IfOk}
+use Rattle.std.specs.Prelude.{◌≡◌, ◌≢◌, ℕ, ◌+◌, ◌<◌, ◌≤◌, Bool, true, false, List, [], ◌++◌, length, bytes_eq, None, Result, IfOk}
 use Rattle.std.specs.List.{All, filter}
 use Rattle.ring_names.specs.declared.memory.OutOfMemory.{OutOfMemory}
 use Rattle.ring_world.specs.declared.event.Event.{Event}
 use Rattle.ring_world.specs.declared.event.Event.TheVariants.{Put, Take, TakeEnd, Gain, Mark, Refresh, Pick, Erase}
+use Rattle.ring_world.specs.declared.phase.Phase.TheVariants.{Up}
 use Rattle.ring_world.specs.Machine.{World, member_at, newest, right, runs}
 use Rattle.ring_world.specs.Step.{size}
 use Rattle.ring_world.specs.Event.{by_of, erase_refusal, refusal}
@@ -11,9 +12,9 @@ use Rattle.ring_cluster.specs.declared.driver.OwnStep.{OwnStep}
 use Rattle.ring_cluster.specs.declared.driver.OwnStep.TheVariants as step
 use Rattle.ring_cluster.specs.declared.driver.OwnTurn.{OwnTurn}
 use Rattle.ring_cluster.specs.declared.driver.OwnTurn.TheVariants as turn
-use Rattle.ring_cluster.specs.Seen.{Seen, state_of, IsEventAt, SameButOwed}
+use Rattle.ring_cluster.specs.Seen.{Seen, state_of, SameButOwed}
 use Rattle.ring_world.specs.Work.{is_stale, total}
-use Rattle.ring_cluster.specs.Plays.{agenda_at, HasGoneOn, SameGiven, SameElsewhere}
+use Rattle.ring_cluster.specs.Plays.{HasGoneOn, SameGiven, NoneGrows}
 
 -- the event of a step on its links, by the member of this name
 abbrev pub step_event : OwnStep → List ℕ → Event
@@ -23,11 +24,20 @@ step_event step.TakeEnd by = TakeEnd by
 step_event step.Gain by = Gain by
 step_event step.Put by = Put by
 
--- members have taken turns
+-- the member at place i has this name
+abbrev pub IsMemberAt : Seen → ℕ → List ℕ → Type 0
+IsMemberAt c i name = (i + 1 < size (state_of c)) × ((member_at (state_of c) (i + 1)).name ≡ name)
+
+-- each member stays at its place, with its name
+abbrev pub MembersStay : Seen → Seen → Type 0
+MembersStay c d = (i : ℕ) (name : List ℕ) → IsMemberAt c i name → IsMemberAt d i name
+
+-- members have taken turns: nobody has more to do than before that it was asked
 pub record TakesRound (c d : Seen) : Type 0 where
   pub goes : HasGoneOn c d
   pub given : SameGiven c d
-  pub names : d.names ≡ c.names
+  pub stay : MembersStay c d
+  pub less : NoneGrows c d
 
 -- they have done steps of their own, and their agendas stay
 pub record Works (c d : Seen) : Type 0 where
@@ -40,15 +50,9 @@ pub record DoesOrRests (c d : Seen) (rests : Type 0) (result : Result Bool OutOf
   pub falls : IfOk result (λ b. b ≡ true → total (state_of d) < total (state_of c))
   pub stays : IfOk result (λ b. b ≡ false → SameButOwed c d × rests)
 
--- the member at place i has taken turns: its agenda hasn't grown, and the others' stay
-pub record TakesTurns (i : ℕ) (c d : Seen) : Type 0 where
-  pub round : TakesRound c d
-  pub shrinks : length (agenda_at d.agendas i) ≤ length (agenda_at c.agendas i)
-  pub elsewhere : SameElsewhere i c d
-
--- at most so many events have happened since, each a turn of the member at place i
-abbrev pub DoesAtMost : ℕ → ℕ → Seen → Seen → Type 0
-DoesAtMost turns i c d = (more : List Event) × (d.events ≡ c.events ++ more) × (length more ≤ turns) × All (IsEventAt c.names i) more
+-- at most so many events have happened since, each of the member of that name
+abbrev pub DoesAtMost : ℕ → List ℕ → Seen → Seen → Type 0
+DoesAtMost turns name c d = (more : List Event) × (d.events ≡ c.events ++ more) × (length more ≤ turns) × All (λ e. by_of e ≡ name) more
 
 -- the events of the member of that name
 abbrev pub events_of : List ℕ → List Event → List Event
@@ -57,10 +61,6 @@ events_of name events = filter (λ e. bytes_eq (by_of e) name) events
 -- of the events that have happened since, at most so many are of each member
 abbrev pub EachDoesAtMost : ℕ → Seen → Seen → Type 0
 EachDoesAtMost turns c d = (more : List Event) × (d.events ≡ c.events ++ more) × ((name : List ℕ) → length (events_of name more) ≤ turns)
-
--- the member at a place is done with its agenda
-abbrev pub IsDoneAt : ℕ → Seen → Type 0
-IsDoneAt i c = agenda_at c.agendas i ≡ []
 
 -- member y may do this step
 abbrev pub MayStep : World → ℕ → OwnStep → Type 0
@@ -78,9 +78,13 @@ MarksNoneAt w y = refusal w (Mark (member_at w y).name (member_at w (right w (ne
 abbrev pub ErasesNoneAt : World → ℕ → Type 0
 ErasesNoneAt w y = (p : ℕ) → p < size w → erase_refusal w y p ≢ None
 
--- where it runs, it isn't stale, may do no step, and has nobody to have marked or erased
+-- it isn't stale, and has nobody to have marked or erased
+abbrev pub RepairsNothing : World → ℕ → Type 0
+RepairsNothing w y = (is_stale (newest w) (member_at w y) ≡ false) × MarksNoneAt w y × ErasesNoneAt w y
+
+-- where it runs, it may do no step; and where it is up, it has nothing to repair
 abbrev pub RestsAt : World → ℕ → Type 0
-RestsAt w y = runs w y ≡ true → (is_stale (newest w) (member_at w y) ≡ false) × MayStepNowhere w y × MarksNoneAt w y × ErasesNoneAt w y
+RestsAt w y = runs w y ≡ true → MayStepNowhere w y × ((member_at w y).phase ≡ Up → RepairsNothing w y)
 
 -- the event of what member y has to do by itself
 abbrev pub turn_event : World → ℕ → OwnTurn → Event
@@ -89,9 +93,9 @@ turn_event w y turn.Mark = Mark (member_at w y).name (member_at w (right w (newe
 turn_event w y (turn.Erase origin) = Erase (member_at w y).name (member_at w origin.0).name
 turn_event w y (turn.Step s) = step_event s (member_at w y).name
 
--- it has that to do: it is stale, or may have its right neighbour marked, or that one erased, or may do that step
+-- it has that to do: it is up and stale, or may have its right neighbour marked, or that one erased, or may do that step
 abbrev pub HasTurn : World → ℕ → OwnTurn → Type 0
-HasTurn w y turn.Refresh = is_stale (newest w) (member_at w y) ≡ true
+HasTurn w y turn.Refresh = ((member_at w y).phase ≡ Up) × (is_stale (newest w) (member_at w y) ≡ true)
 HasTurn w y turn.Mark = refusal w (turn_event w y turn.Mark) ≡ None
 HasTurn w y (turn.Erase origin) = (1 ≤ origin.0) × (origin.0 < size w) × (refusal w (turn_event w y (turn.Erase origin)) ≡ None)
 HasTurn w y (turn.Step s) = MayStep w y s

@@ -19,7 +19,7 @@ use gm_member::Ask;
 use group_view::Request;
 use ordered_link::PlainIn;
 use registrar::Registrar;
-use ring_names::{MemberId, Name};
+use ring_names::{CreditSpec, MemberId, Name};
 use ring_world::{Client, Event, Refused};
 
 /// Whether the member has that name.
@@ -97,13 +97,12 @@ impl Parties {
     ghost use Rattle.group_view.specs.View.{number};
     ghost use Rattle.group_view.specs.Since.{view_at};
     ghost use Rattle.ring_world.specs.declared.event.Event.TheVariants.{Stop, Mark, Erase};
-    ghost use Rattle.ring_world.specs.Event.{is_plain};
     ghost use Rattle.ring_cluster.specs.Parties.{node_at};
     ghost use Rattle.ring_cluster.specs.Standing.{StandSomewhere};
     ghost use Rattle.ring_cluster.specs.Tried.{IsJudged};
     ghost use Rattle.ring_cluster.specs.Looking.{loose_seen};
     ghost use Rattle.ring_cluster.specs.Acting.{is_alone as the_alone, alone_refused, stop_refused, look_refused};
-    ghost use Rattle.ring_cluster.specs.Acting.{newest_of, viewing, LooksAt, Acts};
+    ghost use Rattle.ring_cluster.specs.Acting.{newest_of, viewing, LooksAt, HasCredit, Acts};
     ghost use Rattle.ring_cluster.specs.Refused.{id_named, mark_refused, erase_refused, office_of, act_refused};
     ghost use Rattle.ring_cluster.specs.Refused.{telling_refused, marked_in};
     ghost use Rattle.ring_cluster.specs.Looking.{makes_view, ask_refused, view_for};
@@ -127,15 +126,19 @@ impl Parties {
     }
 
     /// The event of the member at a place happens there, where it is enabled: the out end that the member replaces.
-    pub(crate) fn act(&mut self, i: usize, event: &Event) -> Result<Option<Loose>, Refused>
+    pub(crate) fn act(
+        &mut self,
+        credit: CreditSpec,
+        i: usize,
+        event: &Event,
+    ) -> Result<Option<Loose>, Refused>
         requires within { i < length (self.old).all.nodes }
-        requires plain { is_plain event.now ≡ true }
+        requires credit { HasCredit credit (node_at (self.old).all i).held }
         requires delivered { (self.old).owes ≡ false }
         requires standing { StandSomewhere (self.old).all }
         ensures judged { IsJudged (act_refused event.now i (self.old).all) result }
         ensures ok { IfOk result (λ loose. Acts event.now i (marked_in event.now (self.old).all)
             (self.old).all (self.new).all (loose_seen loose)) }
-        ensures agendas { (self.new).agendas ≡ (self.old).agendas }
         ensures err { OnErr result (self.new ≡ self.old) }
     {
         if is_alone(event) {
@@ -148,6 +151,7 @@ impl Parties {
                 Ok(None)
             }
             Event::Mark { by: _, dead } => Ok(self.act_mark(i, dead)?),
+            Event::Admit { by: _, name } => Ok(self.act_admit(credit, i, name)?),
             Event::Erase { by: _, origin } => Ok(self.act_erase(i, origin)?),
             Event::Refresh { by: _, view } => Ok(self.act_refresh(i, *view)?),
             Event::Refuse { code, inner } => {
@@ -159,8 +163,7 @@ impl Parties {
             | Event::Take { by: _ }
             | Event::TakeEnd { by: _ }
             | Event::Gain { by: _ }
-            | Event::Pick { by: _ }
-            | Event::Admit { by: _, name: _ } => unreachable!(),
+            | Event::Pick { by: _ } => unreachable!(),
         }
     }
 
@@ -172,7 +175,6 @@ impl Parties {
         requires standing { StandSomewhere (self.old).all }
         ensures judged { IsJudged (alone_refused event.now (node_at (self.old).all i)) result }
         ensures ok { OnOk result ((d : ℕ) → Acts event.now i d (self.old).all (self.new).all None) }
-        ensures agendas { (self.new).agendas ≡ (self.old).agendas }
         ensures err { OnErr result (self.new ≡ self.old) }
     {
         do_alone(&mut self.members[i].node, event)?;
@@ -186,7 +188,6 @@ impl Parties {
         requires standing { StandSomewhere (self.old).all }
         ensures judged { IsJudged (stop_refused (node_at (self.old).all i)) result }
         ensures ok { OnOk result ((by : List ℕ) (d : ℕ) → Acts (Stop by) i d (self.old).all (self.new).all None) }
-        ensures agendas { (self.new).agendas ≡ (self.old).agendas }
         ensures err { OnErr result (self.new ≡ self.old) }
     {
         if let Some(reason) = stop_refusal(&self.members[i].node) {
@@ -208,7 +209,6 @@ impl Parties {
             (node_at (self.old).all i) version) result }
         ensures ok { IfOk result (λ loose. LooksAt (view_at (self.old).all.views version) i
             (self.old).all (self.new).all (loose_seen loose)) }
-        ensures agendas { (self.new).agendas ≡ (self.old).agendas }
         ensures err { OnErr result (self.new ≡ self.old) }
     {
         if let Some(reason) = look_refusal(
@@ -254,7 +254,6 @@ impl Parties {
             (id_named (self.old).all dead.now)) result }
         ensures ok { IfOk result (λ loose. (by : List ℕ) → Acts (Mark by dead.now) i
             (marked_in (Mark by dead.now) (self.old).all) (self.old).all (self.new).all (loose_seen loose)) }
-        ensures agendas { (self.new).agendas ≡ (self.old).agendas }
         ensures err { OnErr result (self.new ≡ self.old) }
     {
         let Some(id) = self.id_named(dead) else {
@@ -272,7 +271,6 @@ impl Parties {
             (id_named (self.old).all origin.now)) result }
         ensures ok { IfOk result (λ loose. (by : List ℕ) → Acts (Erase by origin.now) i
             (marked_in (Erase by origin.now) (self.old).all) (self.old).all (self.new).all (loose_seen loose)) }
-        ensures agendas { (self.new).agendas ≡ (self.old).agendas }
         ensures err { OnErr result (self.new ≡ self.old) }
     {
         let Some(id) = self.id_named(origin) else {
@@ -288,9 +286,9 @@ impl Parties {
         requires delivered { (self.old).owes ≡ false }
         requires standing { StandSomewhere (self.old).all }
         ensures judged { IsJudged (ask_refused (office_of (self.old).all) (node_at (self.old).all i) what) result }
-        ensures ok { IfOk result (λ loose. LooksAt (view_for (office_of (self.old).all) what) i
-            (viewing (view_for (office_of (self.old).all) what) (self.old).all) (self.new).all (loose_seen loose)) }
-        ensures agendas { (self.new).agendas ≡ (self.old).agendas }
+        ensures ok { IfOk result (λ loose. LooksAt (view_for (office_of (self.old).all) (i + 1) what) i
+            (viewing (view_for (office_of (self.old).all) (i + 1) what) (self.old).all) (self.new).all
+            (loose_seen loose)) }
         ensures err { OnErr result (self.new ≡ self.old) }
     {
         match ask(&mut self.members[i].node, &mut self.registrar, what) {

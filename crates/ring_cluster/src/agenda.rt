@@ -1,5 +1,8 @@
-//! What a member has still to do.
-ghost use Rattle.std.specs.Prelude.{◌≡◌, ◌∷◌, ◌++◌, [], List, drop, MatchOption, IfOk, IfErr, OnOk, OnErr};
+//! What each member has still to do.
+ghost use Rattle.std.specs.Prelude.{◌≡◌, ◌<◌, ◌∷◌, ◌++◌, [], List, drop, length, IsSome, MatchOption, IfOk, IfSome};
+ghost use Rattle.std.specs.Prelude.{OnOk, OnErr, bytes_eq, position};
+ghost use Rattle.ring_cluster.specs.Agendas.{names_of, place_among, tasks_in, with_tasks, with_task};
+ghost use Rattle.ring_cluster.specs.Agendas.{opened_plans};
 ghost use Rattle.ring_cluster.specs.Plays.{task_event, task_client, refused_task};
 ghost use Rattle.ring_cluster.specs.declared.agenda.Task.{Task};
 
@@ -18,19 +21,19 @@ pub enum Task {
     Stop,
 }
 
-/// The tasks of one member, the next one first.
+/// The tasks of one member, by its name, the next one first. A name may have an agenda before a member has it.
 #[derive(Drop)]
 pub struct Agenda {
+    name: Name,
     tasks: VecDeque<Task>,
 }
 
 impl Model for Agenda {
-    ghost use Rattle.std.specs.Prelude.{List};
-    ghost use Rattle.ring_cluster.specs.declared.agenda.Task.{Task};
+    ghost use Rattle.ring_cluster.specs.Agendas.{Plan};
 
-    ghost Value = { List Task };
+    ghost Value = { Plan };
 
-    ghost view = { λ a. a.tasks.items };
+    ghost view = { λ a. record { name = a.name; tasks = a.tasks.items } };
 }
 
 impl Task {
@@ -73,18 +76,28 @@ impl Task {
 }
 
 impl Agenda {
+    ghost use Rattle.std.specs.Prelude.{◌≡◌, ◌∷◌, ◌++◌, [], List, drop, IfErr, OnOk, OnErr};
+
     /// An agenda with nothing on it.
-    pub(crate) fn new(alloc: Global) -> Agenda
-        ensures { result ≡ [] }
+    fn new(alloc: Global, name: Name) -> Agenda
+        ensures { result ≡ record { name = name; tasks = [] } }
     {
         Agenda {
+            name,
             tasks: VecDeque::new(alloc),
         }
     }
 
-    /// A task joins the end of the agenda.
-    pub(crate) fn push(&mut self, task: Task) -> Result<(), Task>
-        ensures ok { OnOk result (self.new ≡ self.old ++ task ∷ []) }
+    /// Whether it is the agenda of that name.
+    fn is_of(&self, name: &Name) -> bool
+        ensures { result ≡ bytes_eq (self.now).name name.now }
+    {
+        self.name.bytes() == name.bytes()
+    }
+
+    /// A task joins its end.
+    fn push(&mut self, task: Task) -> Result<(), Task>
+        ensures ok { OnOk result (self.new ≡ record self.old { tasks = (self.old).tasks ++ task ∷ [] }) }
         ensures err { OnErr result (self.new ≡ self.old) }
         ensures back { IfErr result (λ back. back ≡ task) }
     {
@@ -95,17 +108,72 @@ impl Agenda {
     }
 
     /// The next task.
-    pub(crate) fn head(&self) -> Option<&Task>
-        ensures { MatchOption result (self.now ≡ [])
-            (λ task. (rest : List Task) × (self.now ≡ task.now ∷ rest)) }
+    fn head(&self) -> Option<&Task>
+        ensures { MatchOption result ((self.now).tasks ≡ [])
+            (λ task. (rest : List Task) × ((self.now).tasks ≡ task.now ∷ rest)) }
     {
         self.tasks.front()
     }
 
     /// The next task is done.
-    pub(crate) fn pop(&mut self)
-        ensures { self.new ≡ drop 1 self.old }
+    fn pop(&mut self)
+        ensures { self.new ≡ record self.old { tasks = drop 1 (self.old).tasks } }
     {
         let _ = self.tasks.pop_front();
+    }
+}
+
+/// Agendas with nothing on them, of members with these names.
+pub(crate) fn opening(alloc: Global, names: &[Name]) -> Result<Vec<Agenda>, OutOfMemory>
+    ensures { IfOk result (λ v. v.items ≡ opened_plans names.now) }
+{
+    let mut agendas = Vec::new(alloc);
+    for name in names {
+        let agenda = Agenda::new(alloc, *name);
+        if agendas.push(agenda).is_err() {
+            return Err(OutOfMemory);
+        }
+    }
+    Ok(agendas)
+}
+
+/// The place of the agenda of that name.
+fn place_of(agendas: &[Agenda], name: &Name) -> Option<usize>
+    ensures place { result ≡ position (λ agenda. bytes_eq agenda.name name.now) agendas.now }
+    ensures within { IfSome result (λ place. place < length agendas.now) }
+{
+    agendas.iter().position(|agenda| agenda.is_of(name))
+}
+
+/// The next task of the member of that name.
+pub(crate) fn next_task<'a>(agendas: &'a [Agenda], name: &Name) -> Option<&'a Task>
+    ensures { MatchOption result (tasks_in agendas.now name.now ≡ [])
+        (λ task. (rest : List Task) × (tasks_in agendas.now name.now ≡ task.now ∷ rest)) }
+{
+    match place_of(agendas, name) {
+        Some(place) => agendas[place].head(),
+        None => None,
+    }
+}
+
+/// The next task of the member of that name is done.
+pub(crate) fn strike_off(agendas: &mut Vec<Agenda>, name: &Name)
+    ensures { agendas.new.items
+        ≡ with_tasks agendas.old.items name.now (drop 1 (tasks_in agendas.old.items name.now)) }
+{
+    if let Some(place) = place_of(agendas, name) {
+        agendas[place].pop();
+    }
+}
+
+/// A task joins the end of the agenda of that name. Without memory for that nothing changes.
+pub(crate) fn give_task(agendas: &mut Vec<Agenda>, name: &Name, task: Task) -> Result<(), Task>
+    requires { IsSome (place_among (names_of agendas.old.items) name.now) }
+    ensures ok { OnOk result (agendas.new.items ≡ with_task agendas.old.items name.now task) }
+    ensures err { OnErr result (agendas.new.items ≡ agendas.old.items) }
+{
+    match place_of(agendas, name) {
+        Some(place) => agendas[place].push(task),
+        None => unreachable!(),
     }
 }

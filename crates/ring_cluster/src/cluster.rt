@@ -1,9 +1,10 @@
 //! The cluster.
-ghost use Rattle.std.specs.Prelude.{◌≡◌, ◌<◌, ◌∷◌, ◌++◌, [], IfOk, IfSome};
+ghost use Rattle.std.specs.Prelude.{◌≡◌, ℕ, ◌<◌, ◌∷◌, ◌++◌, [], List, IfOk, IfSome};
 ghost use Rattle.std.specs.Prelude.{bytes_eq, length, vec_len, vec_capacity};
-ghost use Rattle.ring_cluster.specs.Plays.{IsCommandTo, IsTaskOf, place_among as the_place};
+ghost use Rattle.ring_cluster.specs.Agendas.{place_among as the_place};
+ghost use Rattle.ring_cluster.specs.Plays.{IsCommandTo, IsTaskOf};
 
-use crate::agenda::Task;
+use crate::agenda::{self, Agenda, Task};
 use crate::driver::{OwnStep, drain, round};
 use crate::node::Node;
 use crate::numbering::Rounds;
@@ -34,6 +35,7 @@ pub struct Cluster {
     credit: CreditSpec,
     names: Vec<Name>,
     parties: Parties,
+    agendas: Vec<Agenda>,
     journal: Vec<Event>,
     rounds: Rounds,
     given: Vec<Command>,
@@ -62,22 +64,24 @@ impl Cluster {
     ghost use Rattle.ring_world.specs.declared.event.Event.{Event};
     ghost use Rattle.ring_world.specs.declared.event.Event.TheVariants as event;
     ghost use Rattle.ring_world.specs.Machine.{member_at, row_at, view_in, newest, runs};
+    ghost use Rattle.ring_world.specs.Step.{size};
     ghost use Rattle.ring_world.specs.Quiet.{IsQuiet};
     ghost use Rattle.ring_world.specs.Refusal.{is_empty};
-    ghost use Rattle.ring_world.specs.Event.{refusal, is_plain};
+    ghost use Rattle.ring_world.specs.Event.{refusal};
     ghost use Rattle.gm_member.specs.Stands.{held_in};
     ghost use Rattle.gm_member.specs.Shown.{held_of};
     ghost use Rattle.ring_world.specs.Idle.{NobodySteps, MarksNobody, ErasesNobody};
     ghost use Rattle.ring_cluster.specs.Holds.{HoldsOf};
     ghost use Rattle.ring_cluster.specs.Parties.{shown_of, node_at};
     ghost use Rattle.ring_cluster.specs.Published.{logs_in, logs_of};
-    ghost use Rattle.ring_cluster.specs.Seen.{Seen, IsGoing, IsEventAt, SameButOwed, MayHandOver, state_of};
+    ghost use Rattle.ring_cluster.specs.Seen.{Seen, IsGoing, IsEventIn, SameButOwed, MayHandOver, state_of};
     ghost use Rattle.ring_cluster.specs.Seen.{IsStepped, opening_seen, with_event, owing};
     ghost use Rattle.ring_cluster.specs.declared.agenda.Task.{Task};
-    ghost use Rattle.ring_cluster.specs.Plays.{PlaysSoFar, Plays, IsDoneBy, place_among, IsCommandTo, commanded};
-    ghost use Rattle.ring_cluster.specs.Plays.{performed, agenda_at, GoesOn, HasGoneOn, HasBegun, HeadsAre};
+    ghost use Rattle.ring_cluster.specs.Plays.{PlaysSoFar, Plays, IsDoneBy, IsCommandTo, commanded};
+    ghost use Rattle.ring_cluster.specs.Agendas.{place_among, with_tasks};
+    ghost use Rattle.ring_cluster.specs.Plays.{performed, agenda_of, GoesOn, HasGoneOn, HasBegun, HeadsAre};
     ghost use Rattle.ring_cluster.specs.Plays.{AgendasAreEmpty};
-    ghost use Rattle.ring_cluster.specs.Turns.{MayStep, TakesRound, EachDoesAtMost};
+    ghost use Rattle.ring_cluster.specs.Turns.{MayStep, TakesRound, EachDoesAtMost, IsMemberAt};
     ghost use Rattle.ring_cluster.specs.Rounds.{more_rounds, GivesNumbers};
 
     /// The cluster of a ring that has just opened with these members, in ring order: nobody has anything
@@ -101,19 +105,21 @@ impl Cluster {
     {
         let parties = Parties::opening(alloc, members, credit)?;
         let names = copied(alloc, members)?;
+        let agendas = agenda::opening(alloc, members)?;
         Ok(Cluster {
             alloc,
             credit,
             names,
             parties,
+            agendas,
             journal: Vec::new(alloc),
             rounds: Rounds::none(),
             given: Vec::new(alloc),
         })
     }
 
-    /// A law of every cluster: its journal is a run of the ring from its opening, and each member has an
-    /// agenda.
+    /// A law of every cluster: its journal is a run of the ring from its opening, and each member of the opening has
+    /// an agenda.
     pub fn is_going(&self)
         ensures { IsGoing self.now }
     {
@@ -147,13 +153,13 @@ impl Cluster {
         ensures err { OnErr result (self.new ≡ self.old) }
         ensures back { IfErr result (λ e. e.0 ≡ command) }
     {
-        let Ok((place, task)) = task_of(&self.names, &command) else {
+        let Ok((name, task)) = task_of(&command) else {
             return Err((command, OutOfMemory));
         };
         if self.given.reserve(1).is_err() {
             return Err((command, OutOfMemory));
         }
-        if self.parties.give_task(place, task).is_err() {
+        if agenda::give_task(&mut self.agendas, &name, task).is_err() {
             return Err((command, OutOfMemory));
         }
         push_reserved(&mut self.given, command);
@@ -163,10 +169,9 @@ impl Cluster {
     /// The one event, where it is enabled; after it nothing is owed. After a refusal all stands as it stood, and each
     /// member shows what it showed. Before an event that isn't refused the acting member collects the links that wait
     /// for it, and what is owed is handed over. For want of memory no event happens, though some of that may have
-    /// been done; or the event has happened, and the cluster owes the registrar a link. The members don't admit anybody
-    /// yet.
+    /// been done; or the event has happened, and the cluster owes the registrar a link. A member that
+    /// is admitted is there at once, since it was got ready before.
     pub fn step(&mut self, event: &Event) -> Result<(), Refused>
-        requires { is_plain event.now ≡ true }
         ensures enabled { OnOk result (refusal (state_of self.old) event.now ≡ None) }
         ensures ok { OnOk result (IsStepped self.old event.now false self.new) }
         ensures refused { (r : Reason) → refusal (state_of self.old) event.now ≡ Some r
@@ -190,17 +195,16 @@ impl Cluster {
 
     /// The place of the member of an event, where the ring has it.
     fn place_of(&self, event: &Event) -> Option<usize>
-        requires { is_plain event.now ≡ true }
         ensures { MatchOption result (refusal (state_of self.now) event.now ≡ Some Reason.UnknownMember)
-            (λ place. IsEventAt (self.now).names place event.now) }
+            (λ place. IsEventIn (state_of self.now) place event.now) }
     {
         self.is_going();
-        the_place_among(&self.names, event.by())
+        self.parties.place_named(event.by())
     }
 
     /// The one event, of the member at a place, as a part of a round.
     pub(crate) fn happen(&mut self, place: usize, event: &Event) -> Result<(), Refused>
-        requires { IsEventAt (self.old).names place event.now }
+        requires { IsEventIn (state_of self.old) place event.now }
         ensures enabled { OnOk result (refusal (state_of self.old) event.now ≡ None) }
         ensures ok { OnOk result (SameButOwed (with_event self.old event.now) self.new) }
         ensures refused { (r : Reason) → refusal (state_of self.old) event.now ≡ Some r
@@ -215,7 +219,7 @@ impl Cluster {
 
     /// Whether the member at a place may do a step on its links.
     pub(crate) fn may_step(&self, place: usize, step: OwnStep) -> bool
-        requires { place < length (self.now).names }
+        requires { place + 1 < size (state_of self.now) }
         ensures may { result ≡ true → MayStep (state_of self.now) (place + 1) step }
         ensures may_not { result ≡ false → MayStep (state_of self.now) (place + 1) step → ⊥ }
     {
@@ -226,7 +230,7 @@ impl Cluster {
 
     /// Whether the member at a place may have the one of a name marked dead.
     pub(crate) fn may_mark(&self, place: usize, dead: &Name) -> bool
-        requires { place < length (self.now).names }
+        requires { place + 1 < size (state_of self.now) }
         ensures may { result ≡ true
             → refusal (state_of self.now)
             (event.Mark (member_at (state_of self.now) (place + 1)).name dead.now) ≡ None }
@@ -241,7 +245,7 @@ impl Cluster {
 
     /// Whether the member at a place may have the one of a name erased.
     pub(crate) fn may_erase(&self, place: usize, origin: &Name) -> bool
-        requires { place < length (self.now).names }
+        requires { place + 1 < size (state_of self.now) }
         ensures may { result ≡ true → refusal (state_of self.now)
             (event.Erase (member_at (state_of self.now) (place + 1)).name origin.now) ≡ None }
         ensures may_not { result ≡ false → refusal (state_of self.now)
@@ -260,25 +264,26 @@ impl Cluster {
         self.parties.hand_over()
     }
 
-    /// The member at a place does the first of its tasks, or refuses it where it has stopped: whether it had one.
+    /// The member at a place, which has this name, does the first of its tasks, or refuses it where it has stopped:
+    /// whether it had one.
     #[tactic(auto, using(crate::proofs::post::Owed::but_refl, crate::proofs::post::Owed::but_handed))]
-    pub(crate) fn perform(&mut self, place: usize) -> Result<bool, OutOfMemory>
-        requires { place < length (self.old).names }
+    pub(crate) fn perform(&mut self, place: usize, name: &Name) -> Result<bool, OutOfMemory>
+        requires { IsMemberAt self.old place name.now }
         ensures done { IfOk result (λ b. b ≡ true → (t : Task) × (ts : List Task) × (e : Event)
-            × (agenda_at (self.old).agendas place ≡ t ∷ ts)
-            × IsDoneBy (slice_index_or (self.old).names place []) t e × (refusal (state_of self.old) e ≡ None)
-            × SameButOwed (performed self.old place e ts) self.new) }
+            × (agenda_of self.old name.now ≡ t ∷ ts)
+            × IsDoneBy name.now t e × (refusal (state_of self.old) e ≡ None)
+            × SameButOwed (performed self.old name.now e ts) self.new) }
         ensures none { IfOk result (λ b. b ≡ false → SameButOwed self.old self.new
-            × (agenda_at (self.old).agendas place ≡ [])) }
+            × (agenda_of self.old name.now ≡ [])) }
         ensures err { OnErr result (SameButOwed self.old self.new) }
     {
         self.is_going();
-        let Some(event) = self.next_event(place)? else {
+        let Some(event) = self.next_event(place, name)? else {
             return Ok(false);
         };
         match self.happen(place, &event) {
             Ok(()) => {
-                self.strike_off(place);
+                self.strike_off(name);
                 Ok(true)
             }
             Err(Refused::NotEnabled(_)) => unreachable!(),
@@ -287,38 +292,37 @@ impl Cluster {
     }
 
     /// The event by which the member at a place does or refuses the first of its tasks, where it has one.
-    fn next_event(&self, place: usize) -> Result<Option<Event>, OutOfMemory>
-        requires { place < length (self.now).names }
-        ensures { IfOk result (λ next. MatchOption next (agenda_at (self.now).agendas place ≡ [])
-            (λ event. (t : Task) × (ts : List Task) × (agenda_at (self.now).agendas place ≡ t ∷ ts)
-            × IsDoneBy (slice_index_or (self.now).names place []) t event
-            × (refusal (state_of self.now) event ≡ None))) }
+    fn next_event(&self, place: usize, name: &Name) -> Result<Option<Event>, OutOfMemory>
+        requires { IsMemberAt self.now place name.now }
+        ensures { IfOk result (λ next. MatchOption next (agenda_of self.now name.now ≡ [])
+            (λ event. (t : Task) × (ts : List Task) × (agenda_of self.now name.now ≡ t ∷ ts)
+            × IsDoneBy name.now t event × (refusal (state_of self.now) event ≡ None))) }
     {
-        let Some(task) = self.parties.next_task(place) else {
+        let Some(task) = agenda::next_task(&self.agendas, name) else {
             return Ok(None);
         };
-        let event = self.event_of(place, task)?;
+        let event = self.event_of(place, name, task)?;
         Ok(Some(event))
     }
 
-    /// The event by which the member at a place does a task, or refuses it where it has stopped.
-    fn event_of(&self, place: usize, task: &Task) -> Result<Event, OutOfMemory>
-        requires { place < length (self.now).names }
-        ensures does { IfOk result (λ event. IsDoneBy (slice_index_or (self.now).names place []) task.now event) }
+    /// The event by which the member at a place, which has an agenda, does a task, or refuses it where it has stopped.
+    fn event_of(&self, place: usize, name: &Name, task: &Task) -> Result<Event, OutOfMemory>
+        requires at { IsMemberAt self.now place name.now }
+        requires agenda { agenda_of self.now name.now ≢ [] }
+        ensures does { IfOk result (λ event. IsDoneBy name.now task.now event) }
         ensures enabled { IfOk result (λ event. refusal (state_of self.now) event ≡ None) }
     {
         self.is_going();
-        let name = self.name_at(place);
         if self.runs(MemberId(place as u32 + 1)) {
-            task.event(&name)
+            task.event(name)
         } else {
-            task.refused(&name)
+            task.refused(name)
         }
     }
 
     /// Whether the member of an id runs.
     pub(crate) fn runs(&self, id: MemberId) -> bool
-        requires { (1 ≤ id.0) × (id.0 ≤ length (self.now).names) }
+        requires { (1 ≤ id.0) × (id.0 < size (state_of self.now)) }
         ensures { result ≡ runs (state_of self.now) id.0 }
     {
         let Some(member) = self.member(id) else {
@@ -327,39 +331,55 @@ impl Cluster {
         matches!(member.phase(), Phase::Waiting | Phase::Up)
     }
 
-    /// Whether the member at a place has a task.
-    pub(crate) fn has_task(&self, place: usize) -> bool
-        requires { place < length (self.now).names }
-        ensures { result ≡ not (is_empty (agenda_at (self.now).agendas place)) }
+    /// Whether the member of an id is up.
+    pub(crate) fn is_up(&self, id: MemberId) -> bool
+        requires { (1 ≤ id.0) × (id.0 < size (state_of self.now)) }
+        ensures up { result ≡ true → (member_at (state_of self.now) id.0).phase ≡ Phase.Up }
+        ensures others { result ≡ false → (member_at (state_of self.now) id.0).phase ≢ Phase.Up }
     {
-        self.is_going();
-        self.parties.next_task(place).is_some()
+        let Some(member) = self.member(id) else {
+            unreachable!()
+        };
+        match member.phase() {
+            Phase::Up => true,
+            Phase::Waiting | Phase::Stopped => false,
+        }
     }
 
-    /// The first task of the member at a place is done.
-    fn strike_off(&mut self, place: usize)
-        requires { place < length (self.old).names }
+    /// Whether the member of that name has a task.
+    pub(crate) fn has_task(&self, name: &Name) -> bool
+        ensures { result ≡ not (is_empty (agenda_of self.now name.now)) }
+    {
+        agenda::next_task(&self.agendas, name).is_some()
+    }
+
+    /// The first task of the member of that name is done.
+    fn strike_off(&mut self, name: &Name)
         ensures { self.new ≡ record self.old {
-          agendas = slice_set (self.old).agendas place
-              (drop 1 (agenda_at (self.old).agendas place));
+          agendas = with_tasks (self.old).agendas name.now (drop 1 (agenda_of self.old name.now));
         } }
     {
-        self.parties.strike_off(place);
+        agenda::strike_off(&mut self.agendas, name);
     }
 
     /// The name of the member at a place.
     pub(crate) fn name_at(&self, place: usize) -> Name
-        requires { place < length (self.now).names }
-        ensures { result ≡ slice_index_or (self.now).names place [] }
+        requires { place + 1 < size (state_of self.now) }
+        ensures { result ≡ (member_at (state_of self.now) (place + 1)).name }
     {
-        self.names[place]
+        self.is_going();
+        let Some(member) = self.member(MemberId(place as u32 + 1)) else {
+            unreachable!()
+        };
+        *member.name()
     }
 
     /// How many members there are.
     pub(crate) fn count(&self) -> usize
-        ensures { result ≡ length (self.now).names }
+        ensures { result + 1 ≡ size (state_of self.now) }
     {
-        self.names.len()
+        self.is_going();
+        self.parties.count()
     }
 
     /// How many events have happened.
@@ -407,7 +427,7 @@ impl Cluster {
         requires { 1 ≤ turns }
         ensures round { TakesRound self.old self.new }
         ensures few { EachDoesAtMost turns self.old self.new }
-        ensures begun { OnOk result ((i : ℕ) → i < length (self.old).names → HasBegun i self.old self.new) }
+        ensures begun { OnOk result ((name : List ℕ) → HasBegun name self.old self.new) }
         ensures delivered { OnOk result ((self.new).owes ≡ false) }
     {
         round(self, turns, gate)?;
@@ -515,7 +535,7 @@ impl Cluster {
     /// The member of that id: it stands in the last state of the journal, but for the links at its door that it
     /// hasn't collected yet. None exactly where the ring has no such member.
     pub fn member(&self, id: MemberId) -> Option<&Node>
-        ensures there { IsSome result ↔ ((1 ≤ id.0) × (id.0 ≤ length (self.now).names)) }
+        ensures there { IsSome result ↔ ((1 ≤ id.0) × (id.0 < size (state_of self.now))) }
         ensures stands { IfSome result (λ m. held_of m.now
             ≡ record (held_in (state_of self.now) id.0) { door = (held_of m.now).door }) }
         ensures holds { IfSome result (λ m. HoldsOf (state_of self.now) id.0 (held_of m.now)) }
@@ -534,8 +554,8 @@ impl Cluster {
     /// Up to which number the member of the first id has received the messages of the second; of itself how many it
     /// has published.
     pub fn got(&self, id: MemberId, of: MemberId) -> u64
-        requires within { (1 ≤ id.0) × (id.0 ≤ length (self.now).names) }
-        requires origin { (1 ≤ of.0) × (of.0 ≤ length (self.now).names) }
+        requires within { (1 ≤ id.0) × (id.0 < size (state_of self.now)) }
+        requires origin { (1 ≤ of.0) × (of.0 < size (state_of self.now)) }
         ensures { result ≡ (row_at (member_at (state_of self.now) id.0) of.0).got }
     {
         self.is_going();
@@ -545,9 +565,23 @@ impl Cluster {
         member.got(of)
     }
 
+    /// Behind which number the member of the first id receives the messages of the second: 0 where it opened the ring,
+    /// or waits still; where it joined, the number in its first packet.
+    pub fn base(&self, id: MemberId, of: MemberId) -> u64
+        requires within { (1 ≤ id.0) × (id.0 < size (state_of self.now)) }
+        requires origin { (1 ≤ of.0) × (of.0 < size (state_of self.now)) }
+        ensures { result ≡ (row_at (member_at (state_of self.now) id.0) of.0).base }
+    {
+        self.is_going();
+        let Some(member) = self.member(id) else {
+            unreachable!()
+        };
+        member.base(of)
+    }
+
     /// Up to which number the messages of a member have come round to it, so that every member has them.
     pub fn confirmed(&self, id: MemberId) -> u64
-        requires { (1 ≤ id.0) × (id.0 ≤ length (self.now).names) }
+        requires { (1 ≤ id.0) × (id.0 < size (state_of self.now)) }
         ensures { result ≡ (row_at (member_at (state_of self.now) id.0) id.0).forgot }
     {
         self.is_going();
@@ -570,7 +604,8 @@ impl Cluster {
         ensures { IfOk result (λ all. logs_in all.items ≡ logs_of (state_of self.now)) }
     {
         self.is_going();
-        let all = casts_of(self.alloc, &self.names, self.events())?;
+        let names = self.parties.names(self.alloc)?;
+        let all = casts_of(self.alloc, &names, self.events())?;
         Ok(all)
     }
 
@@ -602,25 +637,14 @@ fn copied_events(alloc: Global, events: &[Event]) -> Result<Vec<Event>, OutOfMem
     Ok(all)
 }
 
-/// The place and the task of a command.
-fn task_of(names: &[Name], command: &Command) -> Result<(usize, Task), OutOfMemory>
-    requires { IsCommandTo names.now command.now }
-    ensures place { IfOk result (λ r. r.0 < length names.now) }
-    ensures task { IfOk result (λ r. IsTaskOf names.now command.now r.0 r.1) }
+/// Whom a command asks, and for which task.
+fn task_of(command: &Command) -> Result<(Name, Task), OutOfMemory>
+    requires { (names : List (List ℕ)) × IsCommandTo names command.now }
+    ensures { IfOk result (λ r. IsTaskOf command.now r.0 r.1) }
 {
     match command {
-        Command::Cast { by, body } => {
-            let Some(place) = the_place_among(names, by) else {
-                unreachable!()
-            };
-            Ok((place, Task::Cast(body.copy()?)))
-        }
-        Command::Kill { by } => {
-            let Some(place) = the_place_among(names, by) else {
-                unreachable!()
-            };
-            Ok((place, Task::Stop))
-        }
+        Command::Cast { by, body } => Ok((*by, Task::Cast(body.copy()?))),
+        Command::Kill { by } => Ok((*by, Task::Stop)),
         Command::Go { .. } | Command::Settle => unreachable!(),
     }
 }

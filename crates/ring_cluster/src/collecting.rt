@@ -53,7 +53,6 @@ impl Parties {
         requires standing { StandSomewhere (self.old).all }
         ensures standing { StandStill (self.old).all (self.new).all }
         ensures delivered { (self.new).owes ≡ false }
-        ensures agendas { (self.new).agendas ≡ (self.old).agendas }
         ensures none { OnOk result ((node_at (self.new).all i).held.phase ≡ Up
             → NothingWaits (i + 1) (self.new).all) }
     {
@@ -127,6 +126,7 @@ fn ask_for_links(
     match registrar.handle(request) {
         Ok(Answer::Links(links)) => Ok(links),
         Ok(Answer::Viewed(_)) => unreachable!(),
+        Ok(Answer::Admitted { view: _, id: _ }) => unreachable!(),
         Ok(Answer::Noted) => unreachable!(),
         Ok(Answer::No(_)) => unreachable!(),
         Err((_request, OutOfMemory)) => Err(OutOfMemory),

@@ -1,17 +1,18 @@
 //! The turns of the members: rounds, and the drain that ends when nothing is left to do.
-ghost use Rattle.std.specs.Prelude.{◌≡◌, ◌≢◌, ℕ, ◌+◌, ◌-◌, ◌<◌, ◌≤◌, ◌∷◌, ◌++◌, ◌||◌, [], true, false, not};
+ghost use Rattle.std.specs.Prelude.{◌≡◌, ◌≢◌, ℕ, List, ◌+◌, ◌-◌, ◌<◌, ◌≤◌, ◌∷◌, ◌++◌, ◌||◌, [], true, false, not};
 ghost use Rattle.std.specs.Prelude.{length, IfOk, OnOk, OnErr, MatchOption, None, Contains};
 ghost use Rattle.ring_world.specs.Machine.{member_at, view_in, newest as the_newest, right as the_right};
 ghost use Rattle.ring_world.specs.Machine.{runs as runs_at};
+ghost use Rattle.ring_world.specs.Step.{size};
 ghost use Rattle.ring_world.specs.Refusal.{is_empty};
-ghost use Rattle.ring_world.specs.Event.{by_of, refusal, erase_refusal, is_asked, is_plain};
+ghost use Rattle.ring_world.specs.Event.{by_of, refusal, erase_refusal, is_asked};
 ghost use Rattle.ring_world.specs.Idle.{NobodySteps, MarksNobody, ErasesNobody};
 ghost use Rattle.ring_world.specs.Work.{total, is_stale as the_staleness, LeavesLess};
 ghost use Rattle.ring_cluster.specs.Seen.{Seen, state_of, IsGoing, SameButOwed};
-ghost use Rattle.ring_cluster.specs.Plays.{agenda_at, HasBegun, AgendasAreEmpty};
-ghost use Rattle.ring_cluster.specs.Turns.{step_event, Works, DoesOrRests, TakesTurns, TakesRound, IsDoneAt};
+ghost use Rattle.ring_cluster.specs.Plays.{agenda_of, HasBegun, AgendasAreEmpty};
+ghost use Rattle.ring_cluster.specs.Turns.{step_event, Works, DoesOrRests, TakesRound, IsMemberAt};
 ghost use Rattle.ring_cluster.specs.Turns.{MayStep, MayStepNowhere, MarksNoneAt, ErasesNoneAt, RestsAt, DoesAtMost};
-ghost use Rattle.ring_cluster.specs.Turns.{EachDoesAtMost, HasTurn, turn_event};
+ghost use Rattle.ring_cluster.specs.Turns.{EachDoesAtMost, HasTurn, turn_event, RepairsNothing};
 
 use crate::cluster::Cluster;
 use group_view::{Entry, Mark};
@@ -65,13 +66,12 @@ pub(crate) enum OwnTurn {
 /// An event of the member of an id, of its own, that leaves less to do, where it is enabled: whether it was.
 #[tactic(auto, using(crate::proofs::rounds::Turning::own_step))]
 fn happens(cluster: &mut Cluster, id: MemberId, event: &Event) -> Result<bool, OutOfMemory>
-    requires within { (1 ≤ id.0) × (id.0 ≤ length (cluster.old).names) }
+    requires within { (1 ≤ id.0) × (id.0 < size (state_of cluster.old)) }
     requires named { by_of event.now ≡ (member_at (state_of cluster.old) id.0).name }
     requires own { is_asked event.now ≡ false }
-    requires plain { is_plain event.now ≡ true }
     requires less { LeavesLess (state_of cluster.old) event.now }
     ensures does { DoesOrRests cluster.old cluster.new (refusal (state_of cluster.old) event.now ≢ None) result }
-    ensures once { DoesAtMost 1 (id.0 - 1) cluster.old cluster.new }
+    ensures once { DoesAtMost 1 (member_at (state_of cluster.old) id.0).name cluster.old cluster.new }
 {
     cluster.is_going();
     match cluster.happen(id.0 as usize - 1, event) {
@@ -83,7 +83,7 @@ fn happens(cluster: &mut Cluster, id: MemberId, event: &Event) -> Result<bool, O
 
 /// The name of the member of an id.
 fn name_of(cluster: &Cluster, id: MemberId) -> Name
-    requires { (1 ≤ id.0) × (id.0 ≤ length (cluster.now).names) }
+    requires { (1 ≤ id.0) × (id.0 < size (state_of cluster.now)) }
     ensures { result ≡ (member_at (state_of cluster.now) id.0).name }
 {
     cluster.is_going();
@@ -92,7 +92,7 @@ fn name_of(cluster: &Cluster, id: MemberId) -> Name
 
 /// Whether it is stale: its view isn't the newest, or it sends on no link.
 fn is_stale(cluster: &Cluster, id: MemberId) -> bool
-    requires { (1 ≤ id.0) × (id.0 ≤ length (cluster.now).names) }
+    requires { (1 ≤ id.0) × (id.0 < size (state_of cluster.now)) }
     ensures { result ≡ the_staleness (the_newest (state_of cluster.now)) (member_at (state_of cluster.now) id.0) }
 {
     cluster.is_going();
@@ -115,10 +115,10 @@ fn newest(cluster: &Cluster) -> u32
 
 /// The right neighbour of a member that runs, in the newest view.
 fn right_of(cluster: &Cluster, id: MemberId) -> MemberId
-    requires within { (1 ≤ id.0) × (id.0 ≤ length (cluster.now).names) }
+    requires within { (1 ≤ id.0) × (id.0 < size (state_of cluster.now)) }
     requires runs { runs_at (state_of cluster.now) id.0 ≡ true }
     ensures right { result.0 ≡ the_right (state_of cluster.now) (the_newest (state_of cluster.now)) id.0 }
-    ensures within { (1 ≤ result.0) × (result.0 ≤ length (cluster.now).names) }
+    ensures within { (1 ≤ result.0) × (result.0 < size (state_of cluster.now)) }
 {
     cluster.is_going();
     cluster.view().right_of(id)
@@ -126,7 +126,7 @@ fn right_of(cluster: &Cluster, id: MemberId) -> MemberId
 
 /// Whether the member of an id has stopped.
 fn has_stopped(cluster: &Cluster, id: MemberId) -> bool
-    requires { (1 ≤ id.0) × (id.0 ≤ length (cluster.now).names) }
+    requires { (1 ≤ id.0) × (id.0 < size (state_of cluster.now)) }
     ensures { result ≡ false → (member_at (state_of cluster.now) id.0).phase ≢ Phase.Stopped }
 {
     let Some(member) = cluster.member(id) else {
@@ -141,7 +141,7 @@ fn has_stopped(cluster: &Cluster, id: MemberId) -> bool
 /// Whether a member that runs may have its right neighbour in the newest view marked dead: not where that hasn't
 /// stopped.
 fn may_mark(cluster: &Cluster, id: MemberId) -> bool
-    requires within { (1 ≤ id.0) × (id.0 ≤ length (cluster.now).names) }
+    requires within { (1 ≤ id.0) × (id.0 < size (state_of cluster.now)) }
     requires runs { runs_at (state_of cluster.now) id.0 ≡ true }
     ensures may { result ≡ true → HasTurn (state_of cluster.now) id.0 OwnTurn.Mark }
     ensures may_not { result ≡ false → MarksNoneAt (state_of cluster.now) id.0 }
@@ -155,10 +155,10 @@ fn may_mark(cluster: &Cluster, id: MemberId) -> bool
     cluster.may_mark(id.0 as usize - 1, &dead)
 }
 
-/// The first of the dead in the newest view that a member that runs may have erased. Only the dead are asked for.
+/// The first of the dead in the newest view that a member that is up may have erased. Only the dead are asked for.
 fn next_erasable(cluster: &Cluster, id: MemberId) -> Option<MemberId>
-    requires within { (1 ≤ id.0) × (id.0 ≤ length (cluster.now).names) }
-    requires runs { runs_at (state_of cluster.now) id.0 ≡ true }
+    requires within { (1 ≤ id.0) × (id.0 < size (state_of cluster.now)) }
+    requires up { (member_at (state_of cluster.now) id.0).phase ≡ Phase.Up }
     ensures { MatchOption result (ErasesNoneAt (state_of cluster.now) id.0)
         (λ origin. HasTurn (state_of cluster.now) id.0 (OwnTurn.Erase origin)) }
 {
@@ -171,10 +171,10 @@ fn next_erasable(cluster: &Cluster, id: MemberId) -> Option<MemberId>
     None
 }
 
-/// Whether a member that runs may have the one of an entry of the newest view erased: not where that isn't dead.
+/// Whether a member that is up may have the one of an entry of the newest view erased: not where that isn't dead.
 fn may_erase(cluster: &Cluster, id: MemberId, entry: &Entry) -> bool
-    requires within { (1 ≤ id.0) × (id.0 ≤ length (cluster.now).names) }
-    requires runs { runs_at (state_of cluster.now) id.0 ≡ true }
+    requires within { (1 ≤ id.0) × (id.0 < size (state_of cluster.now)) }
+    requires up { (member_at (state_of cluster.now) id.0).phase ≡ Phase.Up }
     requires entry { Contains (view_in (state_of cluster.now) (the_newest (state_of cluster.now))).entries entry.now }
     ensures may { result ≡ true → HasTurn (state_of cluster.now) id.0 (OwnTurn.Erase (entry.now).id) }
     ensures may_not { result ≡ false → erase_refusal (state_of cluster.now) id.0 (entry.now).id.0 ≢ None }
@@ -192,7 +192,7 @@ fn may_erase(cluster: &Cluster, id: MemberId, entry: &Entry) -> bool
 
 /// The first step on its links that a member may do.
 fn next_step(cluster: &Cluster, id: MemberId) -> Option<OwnStep>
-    requires { (1 ≤ id.0) × (id.0 ≤ length (cluster.now).names) }
+    requires { (1 ≤ id.0) × (id.0 < size (state_of cluster.now)) }
     ensures { MatchOption result (MayStepNowhere (state_of cluster.now) id.0) (MayStep (state_of cluster.now) id.0) }
 {
     let place = id.0 as usize - 1;
@@ -214,12 +214,12 @@ fn next_step(cluster: &Cluster, id: MemberId) -> Option<OwnStep>
     None
 }
 
-/// What a member that runs has to do: where it is stale, it reads the newest view. Else it has its right neighbour
-/// marked dead, has somebody erased, or does a step on its links, the first of these that it may. This only reads.
-fn next_turn(cluster: &Cluster, id: MemberId) -> Option<OwnTurn>
-    requires within { (1 ≤ id.0) × (id.0 ≤ length (cluster.now).names) }
-    requires runs { runs_at (state_of cluster.now) id.0 ≡ true }
-    ensures { MatchOption result (RestsAt (state_of cluster.now) id.0) (HasTurn (state_of cluster.now) id.0) }
+/// What a member that is up has to repair: where it is stale, it reads the newest view; else it has its right
+/// neighbour marked dead, or somebody erased, the first of these that it may. This only reads.
+fn next_repair(cluster: &Cluster, id: MemberId) -> Option<OwnTurn>
+    requires within { (1 ≤ id.0) × (id.0 < size (state_of cluster.now)) }
+    requires up { (member_at (state_of cluster.now) id.0).phase ≡ Phase.Up }
+    ensures { MatchOption result (RepairsNothing (state_of cluster.now) id.0) (HasTurn (state_of cluster.now) id.0) }
 {
     if is_stale(cluster, id) {
         return Some(OwnTurn::Refresh);
@@ -227,8 +227,20 @@ fn next_turn(cluster: &Cluster, id: MemberId) -> Option<OwnTurn>
     if may_mark(cluster, id) {
         return Some(OwnTurn::Mark);
     }
-    if let Some(origin) = next_erasable(cluster, id) {
-        return Some(OwnTurn::Erase(origin));
+    let origin = next_erasable(cluster, id)?;
+    Some(OwnTurn::Erase(origin))
+}
+
+/// What a member that runs has to do: one that is up repairs first, where it has anything to; else the first step on
+/// its links that it may. One that waits may take its first packet, and nothing else. This only reads.
+fn next_turn(cluster: &Cluster, id: MemberId) -> Option<OwnTurn>
+    requires { (1 ≤ id.0) × (id.0 < size (state_of cluster.now)) }
+    ensures { MatchOption result (RestsAt (state_of cluster.now) id.0) (HasTurn (state_of cluster.now) id.0) }
+{
+    if cluster.is_up(id) {
+        if let Some(turn) = next_repair(cluster, id) {
+            return Some(turn);
+        }
     }
     let step = next_step(cluster, id)?;
     Some(OwnTurn::Step(step))
@@ -236,7 +248,7 @@ fn next_turn(cluster: &Cluster, id: MemberId) -> Option<OwnTurn>
 
 /// The event by which a member that runs does it.
 fn event_of(cluster: &Cluster, id: MemberId, turn: OwnTurn) -> Event
-    requires within { (1 ≤ id.0) × (id.0 ≤ length (cluster.now).names) }
+    requires within { (1 ≤ id.0) × (id.0 < size (state_of cluster.now)) }
     requires runs { runs_at (state_of cluster.now) id.0 ≡ true }
     requires turn { HasTurn (state_of cluster.now) id.0 turn }
     ensures { result ≡ turn_event (state_of cluster.now) id.0 turn }
@@ -262,12 +274,12 @@ fn event_of(cluster: &Cluster, id: MemberId, turn: OwnTurn) -> Event
 
 /// A member that runs does what it has to do.
 fn take_turn(cluster: &mut Cluster, id: MemberId, turn: OwnTurn) -> Result<(), OutOfMemory>
-    requires within { (1 ≤ id.0) × (id.0 ≤ length (cluster.old).names) }
+    requires within { (1 ≤ id.0) × (id.0 < size (state_of cluster.old)) }
     requires runs { runs_at (state_of cluster.old) id.0 ≡ true }
     requires turn { HasTurn (state_of cluster.old) id.0 turn }
     ensures works { Works cluster.old cluster.new }
     ensures falls { OnOk result (total (state_of cluster.new) < total (state_of cluster.old)) }
-    ensures once { DoesAtMost 1 (id.0 - 1) cluster.old cluster.new }
+    ensures once { DoesAtMost 1 (member_at (state_of cluster.old) id.0).name cluster.old cluster.new }
 {
     cluster.is_going();
     let event = event_of(cluster, id, turn);
@@ -280,10 +292,10 @@ fn take_turn(cluster: &mut Cluster, id: MemberId, turn: OwnTurn) -> Result<(), O
 
 /// A member that runs does what it has to do by itself: whether it had anything.
 fn own_turn(cluster: &mut Cluster, id: MemberId) -> Result<bool, OutOfMemory>
-    requires within { (1 ≤ id.0) × (id.0 ≤ length (cluster.old).names) }
+    requires within { (1 ≤ id.0) × (id.0 < size (state_of cluster.old)) }
     requires runs { runs_at (state_of cluster.old) id.0 ≡ true }
     ensures does { DoesOrRests cluster.old cluster.new (RestsAt (state_of cluster.old) id.0) result }
-    ensures once { DoesAtMost 1 (id.0 - 1) cluster.old cluster.new }
+    ensures once { DoesAtMost 1 (member_at (state_of cluster.old) id.0).name cluster.old cluster.new }
 {
     let Some(turn) = next_turn(cluster, id) else {
         return Ok(false);
@@ -295,9 +307,9 @@ fn own_turn(cluster: &mut Cluster, id: MemberId) -> Result<bool, OutOfMemory>
 /// The member at a place does a step of its own, where it runs and has any to do: whether it did.
 #[tactic(auto, using(crate::proofs::rounds::Turning::works_refl, crate::proofs::post::Owed::but_refl))]
 fn work_turn(cluster: &mut Cluster, place: usize) -> Result<bool, OutOfMemory>
-    requires { place < length (cluster.old).names }
+    requires { place + 1 < size (state_of cluster.old) }
     ensures does { DoesOrRests cluster.old cluster.new (RestsAt (state_of cluster.old) (place + 1)) result }
-    ensures once { DoesAtMost 1 place cluster.old cluster.new }
+    ensures once { DoesAtMost 1 (member_at (state_of cluster.old) (place + 1)).name cluster.old cluster.new }
 {
     cluster.is_going();
     let id = MemberId(place as u32 + 1);
@@ -308,17 +320,17 @@ fn work_turn(cluster: &mut Cluster, place: usize) -> Result<bool, OutOfMemory>
     Ok(did)
 }
 
-/// The member at a place takes a turn: it does the head of its agenda, or refuses it where it has stopped; else a step
-/// of its own. Whether it did any.
+/// The member at a place, which has this name, takes a turn: it does the head of its agenda, or refuses it where it has
+/// stopped; else a step of its own. Whether it did any.
 #[tactic(auto, using(crate::proofs::rounds::Turning::one_turn))]
-fn turn(cluster: &mut Cluster, place: usize) -> Result<bool, OutOfMemory>
-    requires { place < length (cluster.old).names }
-    ensures turns { TakesTurns place cluster.old cluster.new }
-    ensures once { DoesAtMost 1 place cluster.old cluster.new }
-    ensures begun { OnOk result (HasBegun place cluster.old cluster.new) }
+fn turn(cluster: &mut Cluster, place: usize, name: &Name) -> Result<bool, OutOfMemory>
+    requires { IsMemberAt cluster.old place name.now }
+    ensures round { TakesRound cluster.old cluster.new }
+    ensures once { DoesAtMost 1 name.now cluster.old cluster.new }
+    ensures begun { OnOk result (HasBegun name.now cluster.old cluster.new) }
 {
     cluster.is_going();
-    if cluster.perform(place)? {
+    if cluster.perform(place, name)? {
         return Ok(true);
     }
     let did = work_turn(cluster, place)?;
@@ -330,33 +342,34 @@ fn turn(cluster: &mut Cluster, place: usize) -> Result<bool, OutOfMemory>
 fn turns_of<G: Gate>(
     cluster: &mut Cluster,
     place: usize,
+    name: &Name,
     turns: u32,
     gate: &G,
 ) -> Result<(), OutOfMemory>
-    requires place { place < length (cluster.old).names }
+    requires at { IsMemberAt cluster.old place name.now }
     requires some { 1 ≤ turns }
-    ensures turns { TakesTurns place cluster.old cluster.new }
-    ensures few { DoesAtMost turns place cluster.old cluster.new }
-    ensures begun { OnOk result (HasBegun place cluster.old cluster.new) }
+    ensures round { TakesRound cluster.old cluster.new }
+    ensures few { DoesAtMost turns name.now cluster.old cluster.new }
+    ensures begun { OnOk result (HasBegun name.now cluster.old cluster.new) }
 {
     cluster.is_going();
-    if !has_turns(cluster, place) {
+    if !has_turns(cluster, place, name) {
         return Ok(());
     }
-    if gated_turn(cluster, place, gate)? {
-        more_turns(cluster, place, turns - 1, gate)?;
+    if gated_turn(cluster, place, name, gate)? {
+        more_turns(cluster, place, name, turns - 1, gate)?;
     }
     Ok(())
 }
 
 /// Whether the member at a place takes turns in a round: it runs, or has a task, which it refuses where it has stopped.
-fn has_turns(cluster: &Cluster, place: usize) -> bool
-    requires { place < length (cluster.now).names }
+fn has_turns(cluster: &Cluster, place: usize, name: &Name) -> bool
+    requires { place + 1 < size (state_of cluster.now) }
     ensures { result ≡ (runs_at (state_of cluster.now) (place + 1)
-        || not (is_empty (agenda_at (cluster.now).agendas place))) }
+        || not (is_empty (agenda_of cluster.now name.now))) }
 {
     cluster.is_going();
-    let has_task = cluster.has_task(place);
+    let has_task = cluster.has_task(name);
     either(cluster.runs(MemberId(place as u32 + 1)), has_task)
 }
 
@@ -365,15 +378,16 @@ fn has_turns(cluster: &Cluster, place: usize) -> bool
 fn more_turns<G: Gate>(
     cluster: &mut Cluster,
     place: usize,
+    name: &Name,
     turns: u32,
     gate: &G,
 ) -> Result<(), OutOfMemory>
-    requires { place < length (cluster.old).names }
-    ensures turns { TakesTurns place cluster.old cluster.new }
-    ensures few { DoesAtMost turns place cluster.old cluster.new }
+    requires { IsMemberAt cluster.old place name.now }
+    ensures round { TakesRound cluster.old cluster.new }
+    ensures few { DoesAtMost turns name.now cluster.old cluster.new }
 {
     for _turn in 0..turns {
-        if !gated_turn(cluster, place, gate)? {
+        if !gated_turn(cluster, place, name, gate)? {
             return Ok(());
         }
     }
@@ -381,16 +395,21 @@ fn more_turns<G: Gate>(
 }
 
 /// A turn, between the gate's two passes, whatever comes of it.
-fn gated_turn<G: Gate>(cluster: &mut Cluster, place: usize, gate: &G) -> Result<bool, OutOfMemory>
-    requires { place < length (cluster.old).names }
-    ensures turns { TakesTurns place cluster.old cluster.new }
-    ensures once { DoesAtMost 1 place cluster.old cluster.new }
-    ensures begun { OnOk result (HasBegun place cluster.old cluster.new) }
+fn gated_turn<G: Gate>(
+    cluster: &mut Cluster,
+    place: usize,
+    name: &Name,
+    gate: &G,
+) -> Result<bool, OutOfMemory>
+    requires { IsMemberAt cluster.old place name.now }
+    ensures round { TakesRound cluster.old cluster.new }
+    ensures once { DoesAtMost 1 name.now cluster.old cluster.new }
+    ensures begun { OnOk result (HasBegun name.now cluster.old cluster.new) }
 {
     cluster.is_going();
     let who = MemberId(place as u32 + 1);
     gate.pass(who, BEFORE);
-    let did = turn(cluster, place);
+    let did = turn(cluster, place, name);
     gate.pass(who, AFTER);
     did
 }
@@ -406,27 +425,27 @@ pub(crate) fn round<G: Gate>(cluster: &mut Cluster, turns: u32, gate: &G) -> Res
     requires { 1 ≤ turns }
     ensures round { TakesRound cluster.old cluster.new }
     ensures few { EachDoesAtMost turns cluster.old cluster.new }
-    ensures begun { OnOk result ((i : ℕ) → i < length (cluster.old).names
-        → HasBegun i cluster.old cluster.new) }
+    ensures begun { OnOk result ((name : List ℕ) → HasBegun name cluster.old cluster.new) }
 {
     cluster.is_going();
     let count = cluster.count();
     for place in 0..count {
-        turns_of(cluster, place, turns, gate)?;
+        let name = cluster.name_at(place);
+        turns_of(cluster, place, &name, turns, gate)?;
     }
     Ok(())
 }
 
 /// The member at a place does all its tasks, or refuses them where it has stopped.
 #[tactic(auto, using(crate::proofs::rounds::Turning::tasks))]
-fn finish(cluster: &mut Cluster, place: usize) -> Result<(), OutOfMemory>
-    requires { place < length (cluster.old).names }
-    ensures turns { TakesTurns place cluster.old cluster.new }
-    ensures done { OnOk result (IsDoneAt place cluster.new) }
+fn finish(cluster: &mut Cluster, place: usize, name: &Name) -> Result<(), OutOfMemory>
+    requires { IsMemberAt cluster.old place name.now }
+    ensures round { TakesRound cluster.old cluster.new }
+    ensures done { OnOk result (agenda_of cluster.new name.now ≡ []) }
 {
     'tasks: loop {
         cluster.is_going();
-        if !cluster.perform(place)? {
+        if !cluster.perform(place, name)? {
             return Ok(());
         }
     }
@@ -438,11 +457,12 @@ fn finish_all(cluster: &mut Cluster) -> Result<(), OutOfMemory>
     ensures round { TakesRound cluster.old cluster.new }
     ensures empty { OnOk result (AgendasAreEmpty cluster.new) }
 {
+    cluster.is_going();
     let count = cluster.count();
     for place in 0..count {
-        finish(cluster, place)?;
+        let name = cluster.name_at(place);
+        finish(cluster, place, &name)?;
     }
-    cluster.is_going();
     Ok(())
 }
 
@@ -455,7 +475,7 @@ fn either(one: bool, other: bool) -> bool
 /// Every member takes one turn of its own work: whether any did something.
 fn pass(cluster: &mut Cluster) -> Result<bool, OutOfMemory>
     ensures { DoesOrRests cluster.old cluster.new
-        ((i : ℕ) → i < length (cluster.old).names → RestsAt (state_of cluster.old) (i + 1)) result }
+        ((i : ℕ) → i + 1 < size (state_of cluster.old) → RestsAt (state_of cluster.old) (i + 1)) result }
 {
     let count = cluster.count();
     let mut moved = false;

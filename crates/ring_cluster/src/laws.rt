@@ -9,11 +9,13 @@ ghost use Rattle.ring_cluster.specs.Heard.{HasHeardAll};
 /// packet and no end, gain no credit and put no packet), can have its right neighbour marked dead, or can have anybody
 /// erased.
 pub fn an_idle_ring_is_at_rest()
-    ensures { InEachState (λ w. NobodySteps w → MarksNobody w → ErasesNobody w → IsQuiet w) }
+    ensures { InEachState (λ names w. NobodySteps w → MarksNobody w → ErasesNobody w → IsQuiet w) }
 {}
 
 /// Where a ring is quiet, in any state that it reaches, every message of the members that run is
-/// confirmed, and every member that is up has heard all of them.
+/// confirmed, and every member that is up has heard all of them from its base on: a member of the opening
+/// from the first one on. The base of one that joined isn't above the length that the log had at its admission
+/// (`every_state_is_lawful` of ring_world).
 pub fn a_quiet_ring_has_heard_all()
-    ensures { InEachState (λ w. IsQuiet w → HasHeardAll w) }
+    ensures { InEachState (λ names w. IsQuiet w → HasHeardAll names w) }
 {}

@@ -5,6 +5,7 @@
 #![tactic(auto)]
 
 mod acting;
+mod admitting;
 mod agenda;
 mod cluster;
 mod collecting;

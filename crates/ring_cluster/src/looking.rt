@@ -9,7 +9,6 @@ ghost use Rattle.registrar.specs.Registry.{AreHere};
 ghost use Rattle.registrar.specs.Handled.{with_view, handled, answered};
 ghost use Rattle.registrar.specs.Asked.{request_refusal};
 ghost use Rattle.group_view.specs.View.{Group};
-ghost use Rattle.group_view.specs.declared.request.Answer.TheVariants.{Viewed};
 ghost use Rattle.group_view.specs.Ring.{is_in};
 ghost use Rattle.ring_world.specs.View.{ids};
 ghost use Rattle.gm_member.specs.Held.{refresh_refused};
@@ -17,7 +16,7 @@ ghost use Rattle.ring_cluster.specs.Parties.{shown_of};
 ghost use Rattle.ring_cluster.specs.Tried.{IsJudged};
 ghost use Rattle.ring_cluster.specs.Acting.{IsReady};
 ghost use Rattle.ring_cluster.specs.Looking.{first_of, to_post, kept_post, loose_seen, tidied, without_question};
-ghost use Rattle.ring_cluster.specs.Looking.{HasLooked, makes_view, ask_refused, view_for};
+ghost use Rattle.ring_cluster.specs.Looking.{HasLooked, makes_view, ask_refused, view_for, brought};
 
 use crate::node::{Node, drop_old_ins};
 use crate::undelivered::Undelivered;
@@ -64,9 +63,10 @@ pub(crate) fn ask(
     requires ready { IsReady (shown_of node.old) }
     requires here { AreHere (registrar.old).links }
     ensures judged { IsJudged (ask_refused registrar.old (shown_of node.old) what) result }
-    ensures ok { IfOk result (λ l. HasLooked (view_for registrar.old what) (shown_of node.old) (shown_of node.new)
-        (kept_post l.opened) (loose_seen l.loose)) }
-    ensures registrar { OnOk result (registrar.new ≡ with_view registrar.old (view_for registrar.old what)) }
+    ensures ok { IfOk result (λ l. HasLooked (view_for registrar.old (shown_of node.old).held.id what)
+        (shown_of node.old) (shown_of node.new) (kept_post l.opened) (loose_seen l.loose)) }
+    ensures registrar { OnOk result (registrar.new
+        ≡ with_view registrar.old (view_for registrar.old (shown_of node.old).held.id what)) }
     ensures err { OnErr result ((shown_of node.new ≡ shown_of node.old) × (registrar.new ≡ registrar.old)) }
 {
     let request = node.ask(what)?;
@@ -85,9 +85,9 @@ fn ask_for_view(
     request: Request<PlainIn<Load>>,
 ) -> Result<View, Refused>
     requires here { AreHere (registrar.old).links }
-    requires view { (v : Group) × (answered registrar.old request ≡ Viewed v) }
+    requires view { (v : Group) × (brought (answered registrar.old request) ≡ Some v) }
     ensures judged { IsJudged (request_refusal registrar.old request) result }
-    ensures view { IfOk result (λ v. answered registrar.old request ≡ Viewed v) }
+    ensures view { IfOk result (λ v. brought (answered registrar.old request) ≡ Some v) }
     ensures registrar { OnOk result (registrar.new ≡ handled registrar.old request) }
     ensures err { OnErr result (registrar.new ≡ registrar.old) }
 {
@@ -96,6 +96,7 @@ fn ask_for_view(
     }
     match registrar.handle(request) {
         Ok(Answer::Viewed(view)) => Ok(view),
+        Ok(Answer::Admitted { view, id: _ }) => Ok(view),
         Ok(Answer::Links(_)) => unreachable!(),
         Ok(Answer::Noted) => unreachable!(),
         Ok(Answer::No(_)) => unreachable!(),

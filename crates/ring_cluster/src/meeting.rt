@@ -6,7 +6,7 @@ ghost use Rattle.ring_world.specs.Machine.{runs_phase};
 ghost use Rattle.registrar.specs.Registry.{name_in, end_in};
 ghost use Rattle.gm_member.specs.Shown.{in_name_of, out_name_of, in_end};
 ghost use Rattle.ring_cluster.specs.Ends.{Fits, Meets, InSeen};
-ghost use Rattle.ring_cluster.specs.Parties.{shown_of, shown_in, tasks_of, out_seen, in_seen};
+ghost use Rattle.ring_cluster.specs.Parties.{shown_of, shown_in, out_seen, in_seen};
 ghost use Rattle.ring_cluster.specs.Parties.{with_in, with_out, posted, no_shown};
 ghost use Rattle.ring_cluster.specs.Behind.{behind};
 ghost use Rattle.ring_cluster.specs.Meeting.{IsToMeet, MeetsEnd, HasNone, NodeMayMeet, NodeMeets, PostMayMeet};
@@ -191,7 +191,6 @@ fn meet_member(members: &mut [Party], out: &mut PlainOut<Load>, name: &LinkName)
     requires from_one { 1 ≤ name.now.to.0 }
     requires may { NodeMayMeet (slice_index_or (map shown_in members.old) (name.now.to.0 - 1) no_shown)
         name.now (out_seen out.old) }
-    ensures agendas { map tasks_of members.new ≡ map tasks_of members.old }
     ensures inside { result ≡ true → name.now.to.0 - 1 < length members.old }
     ensures met { result ≡ true → NodeMeets
         (slice_index_or (map shown_in members.old) (name.now.to.0 - 1) no_shown) name.now
@@ -250,9 +249,8 @@ impl Parties {
     /// Lets an out end meet the in end of the link of that name, wherever that stands. It takes no memory.
     pub(crate) fn meet_in(&mut self, out: &mut PlainOut<Load>, name: &LinkName)
         requires { MayMeet (self.old).all name.now (out_seen out.old) }
-        ensures meets { MeetsIn (self.old).all name.now (out_seen out.old)
+        ensures { MeetsIn (self.old).all name.now (out_seen out.old)
             (self.old).all (self.new).all (out_seen out.new) }
-        ensures agendas { (self.new).agendas ≡ (self.old).agendas }
     {
         if meet_member(&mut self.members, out, name) {
             return;
@@ -267,8 +265,7 @@ impl Parties {
     fn meet_out(&mut self, i: usize)
         requires within { i < length (self.old).all.nodes }
         requires may { MayMeetOut (self.old).all i }
-        ensures meets { MeetsOut i (self.old).all (self.new).all }
-        ensures agendas { (self.new).agendas ≡ (self.old).agendas }
+        ensures { MeetsOut i (self.old).all (self.new).all }
     {
         let Some((name, mut out)) = lend_out(&mut self.members[i].node) else {
             return;
@@ -289,8 +286,7 @@ impl Parties {
     fn meet_sender(&mut self, name: Option<LinkName>)
         requires from { IfSome name (λ n. IsMember n.from.0 (self.old).all) }
         requires between { SendersSomewhere (sender_in name) (self.old).all }
-        ensures meets { MeetsSenders (sender_in name) (self.old).all (self.new).all }
-        ensures agendas { (self.new).agendas ≡ (self.old).agendas }
+        ensures { MeetsSenders (sender_in name) (self.old).all (self.new).all }
     {
         let Some(name) = name else {
             return;
@@ -303,8 +299,7 @@ impl Parties {
     pub(crate) fn meet_moved(&mut self, i: usize)
         requires within { i < length (self.old).all.nodes }
         requires moved { MovedSomewhere i (self.old).all }
-        ensures meets { MeetsMoved i (self.old).all (self.new).all }
-        ensures agendas { (self.new).agendas ≡ (self.old).agendas }
+        ensures { MeetsMoved i (self.old).all (self.new).all }
     {
         let taken = self.taken_from(i);
         self.meet_out(i);

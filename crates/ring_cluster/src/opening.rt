@@ -1,16 +1,15 @@
 //! The opening of a cluster.
 ghost use Rattle.std.specs.Prelude.{◌≡◌, ◌+◌, ◌<◌, ◌≤◌, ◌++◌, ◌∷◌, IfOk, OnOk, [], true, length, map};
-ghost use Rattle.std.specs.Prelude.{replicate, slice_index_or};
+ghost use Rattle.std.specs.Prelude.{slice_index_or};
 ghost use Rattle.std.specs.List.{range_with_len};
 ghost use Rattle.group_view.specs.Change.{opening as opening_group};
 ghost use Rattle.group_view.specs.Ring.{is_in};
 ghost use Rattle.ring_world.specs.Rows.{most_members};
 ghost use Rattle.ring_world.specs.View.{ids};
 ghost use Rattle.gm_member.specs.Held.{founded};
-ghost use Rattle.ring_cluster.specs.Parties.{shown_of, shown_in, tasks_of};
+ghost use Rattle.ring_cluster.specs.Parties.{shown_of, shown_in};
 ghost use Rattle.ring_cluster.specs.Opened.{opened_ends, opened_at};
 
-use crate::agenda::Agenda;
 use crate::node::Node;
 use crate::parties::Parties;
 use crate::party::Party;
@@ -42,7 +41,7 @@ fn opening_node(
     Ok(node)
 }
 
-/// The members of the opening, in ring order, with nothing to do.
+/// The members of the opening, in ring order.
 fn opening_members(
     alloc: Global,
     names: &[Name],
@@ -53,18 +52,11 @@ fn opening_members(
     requires view { view.now ≡ opening_group names.now }
     ensures shown { IfOk result (λ v. map shown_in v.items
         ≡ map (opened_at credit names.now) (range_with_len 0 (length names.now))) }
-    ensures agendas { IfOk result (λ v. map tasks_of v.items ≡ replicate (length names.now) []) }
 {
     let mut members = Vec::new(alloc);
     for k in 0..names.len() {
         let node = opening_node(alloc, names[k], k, view, credit)?;
-        push_member(
-            &mut members,
-            Party {
-                node,
-                agenda: Agenda::new(alloc),
-            },
-        )?;
+        push_member(&mut members, Party { node })?;
     }
     Ok(members)
 }
@@ -91,7 +83,7 @@ pub(crate) fn copied(alloc: Global, names: &[Name]) -> Result<Vec<Name>, OutOfMe
 }
 
 impl Parties {
-    ghost use Rattle.std.specs.Prelude.{◌≡◌, [], false, IfOk, length, replicate};
+    ghost use Rattle.std.specs.Prelude.{◌≡◌, [], false, IfOk};
     ghost use Rattle.group_view.specs.Change.{AreOpeningNames};
     ghost use Rattle.ring_cluster.specs.Opened.{opened_parties};
     ghost use Rattle.ring_cluster.specs.Standing.{StandAfter};
@@ -106,7 +98,6 @@ impl Parties {
         ensures opened { IfOk result (λ p. p.all ≡ opened_parties credit names.now) }
         ensures standing { IfOk result (λ p. StandAfter credit names.now [] p.all) }
         ensures delivered { IfOk result (λ p. p.owes ≡ false) }
-        ensures agendas { IfOk result (λ p. p.agendas ≡ replicate (length names.now) []) }
     {
         let registrar: Registrar<PlainIn<Load>> = Registrar::opening(alloc, names)?;
         let members = opening_members(alloc, names, registrar.view(), credit)?;

@@ -1,12 +1,9 @@
 //! The parties of a cluster.
-ghost use Rattle.std.specs.Prelude.{◌≡◌, ◌-◌, ◌<◌, ◌≤◌, ◌↔◌, ◌∷◌, ◌++◌, [], List, IsSome, IfSome, OnOk, OnErr};
+ghost use Rattle.std.specs.Prelude.{◌≡◌, ◌-◌, ◌<◌, ◌≤◌, ◌↔◌, ◌∷◌, ◌++◌, [], List, IsSome, IfSome, IfOk};
 ghost use Rattle.std.specs.Prelude.{MatchOption, length, map, drop, slice_index_or, slice_set};
-ghost use Rattle.ring_cluster.specs.declared.agenda.Task.{Task};
-ghost use Rattle.ring_cluster.specs.Plays.{agenda_at};
-ghost use Rattle.ring_cluster.specs.Parties.{shown_of, shown_in, no_shown, node_at};
+ghost use Rattle.ring_cluster.specs.Parties.{shown_of, shown_in, no_shown, node_at, names_shown};
 ghost use Rattle.ring_cluster.specs.Acting.{newest_of};
 
-use crate::agenda::Task;
 use crate::node::Node;
 use crate::party::Party;
 use crate::undelivered::Undelivered;
@@ -14,11 +11,12 @@ use activity::Load;
 use group_view::View;
 use ordered_link::PlainIn;
 use registrar::Registrar;
-use ring_names::MemberId;
+use ring_names::{MemberId, Name, OutOfMemory};
+use std::alloc::Global;
 use std::marker::Model;
 
-/// The members of a ring over plain pairs, with what each has still to do, the registrar, and the link that hasn't
-/// reached it yet, where there is one.
+/// The members of a ring over plain pairs, the registrar, and the link that hasn't reached it yet, where there is
+/// one.
 #[derive(Drop)]
 pub(crate) struct Parties {
     pub(crate) members: Vec<Party>,
@@ -45,34 +43,24 @@ impl Parties {
         node_of(&self.members, id)
     }
 
-    /// The next task of the member at a place.
-    pub(crate) fn next_task(&self, i: usize) -> Option<&Task>
-        requires { i < length (self.now).agendas }
-        ensures { MatchOption result (agenda_at (self.now).agendas i ≡ [])
-            (λ task. (rest : List Task) × (agenda_at (self.now).agendas i ≡ task.now ∷ rest)) }
+    /// How many members there are.
+    pub(crate) fn count(&self) -> usize
+        ensures { result ≡ length (self.now).all.nodes }
     {
-        self.members[i].agenda.head()
+        self.members.len()
     }
 
-    /// The next task of the member at a place is done.
-    pub(crate) fn strike_off(&mut self, i: usize)
-        requires { i < length (self.old).agendas }
-        ensures { self.new ≡ record self.old {
-          agendas = slice_set (self.old).agendas i (drop 1 (agenda_at (self.old).agendas i));
-        } }
+    /// The names of the members, by places.
+    pub(crate) fn names(&self, alloc: Global) -> Result<Vec<Name>, OutOfMemory>
+        ensures { IfOk result (λ v. v.items ≡ names_shown (self.now).all) }
     {
-        self.members[i].agenda.pop();
-    }
-
-    /// A task joins the end of the agenda of the member at a place. Without memory for that nothing changes.
-    pub(crate) fn give_task(&mut self, i: usize, task: Task) -> Result<(), Task>
-        requires { i < length (self.old).agendas }
-        ensures ok { OnOk result (self.new ≡ record self.old {
-          agendas = slice_set (self.old).agendas i (agenda_at (self.old).agendas i ++ task ∷ []);
-        }) }
-        ensures err { OnErr result (self.new ≡ self.old) }
-    {
-        self.members[i].agenda.push(task)
+        let mut names = Vec::new(alloc);
+        for party in &self.members {
+            if names.push(*party.node.name()).is_err() {
+                return Err(OutOfMemory);
+            }
+        }
+        Ok(names)
     }
 
     /// The newest view of the group, as the registrar has it.

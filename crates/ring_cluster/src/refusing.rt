@@ -80,7 +80,7 @@ pub(crate) fn unknown(node: &Node) -> Reason
 }
 
 /// Why a member admits nobody under a name, where this is the newest view.
-fn admit_refusal(view: &View, node: &Node, name: &Name) -> Option<Reason>
+pub(crate) fn admit_refusal(view: &View, node: &Node, name: &Name) -> Option<Reason>
     requires { (shown_of node.now).held.asks ≡ false }
     ensures { result ≡ up_refused (shown_of node.now).held (admission_refused view.now name.now) }
 {
@@ -274,7 +274,7 @@ impl Parties {
     ghost use Rattle.std.specs.Prelude.{◌≡◌, ◌<◌, ℕ, List, None, length};
     ghost use Rattle.ring_names.specs.declared.reason.Reason.{Reason};
     ghost use Rattle.ring_world.specs.declared.event.Event.TheVariants.{Mark, Erase};
-    ghost use Rattle.ring_world.specs.Event.{is_plain, version_refusal};
+    ghost use Rattle.ring_world.specs.Event.{version_refusal};
     ghost use Rattle.gm_member.specs.Held.{on_some, up_refused, pick_refused};
     ghost use Rattle.gm_member.specs.Questions.{has_link};
     ghost use Rattle.ring_cluster.specs.Parties.{shown_of, node_at};
@@ -286,7 +286,6 @@ impl Parties {
     /// for the member count as if they had come to its door.
     pub(crate) fn refusal(&self, i: usize, event: &Event) -> Option<Reason>
         requires within { i < length (self.now).all.nodes }
-        requires plain { is_plain event.now ≡ true }
         requires standing { StandSomewhere (self.now).all }
         ensures { IsRefusalAt i event.now (self.now).all result }
     {
@@ -307,7 +306,7 @@ impl Parties {
             | Event::TakeEnd { by: _ }
             | Event::Gain { by: _ }
             | Event::Stop { by: _ } => alone_refusal(node, event),
-            Event::Admit { by: _, name: _ } => unreachable!(),
+            Event::Admit { by: _, name } => admit_refusal(self.registrar.view(), node, name),
         }
     }
 

@@ -71,8 +71,8 @@ impl Parties {
     ghost use Rattle.std.specs.Prelude.{Some, None, Err};
     ghost use Rattle.ring_names.specs.declared.reason.Reason.{Reason};
     ghost use Rattle.ring_world.specs.declared.phase.Phase.TheVariants.{Up};
-    ghost use Rattle.ring_world.specs.Event.{by_of, is_plain, refusal};
-    ghost use Rattle.ring_cluster.specs.Seen.{state, IsEventAt};
+    ghost use Rattle.ring_world.specs.Event.{by_of, refusal};
+    ghost use Rattle.ring_cluster.specs.Seen.{state, IsEventIn};
     ghost use Rattle.ring_cluster.specs.Parties.{node_at};
     ghost use Rattle.ring_cluster.specs.Tried.{IsJudged};
     ghost use Rattle.ring_cluster.specs.Standing.{StandAfter, StandSomewhere};
@@ -91,10 +91,9 @@ impl Parties {
         i: usize,
         event: &Event,
     ) -> Result<(), Refused>
-        requires at { IsEventAt names.now i event.now }
+        requires at { IsEventIn (state credit names.now journal.old.items) i event.now }
         requires standing { StandAfter credit names.now journal.old.items (self.old).all }
         ensures standing { StandAfter credit names.now journal.new.items (self.new).all }
-        ensures agendas { (self.new).agendas ≡ (self.old).agendas }
         ensures judged { IsJudged (refusal (state credit names.now journal.old.items) event.now) result }
         ensures ok { OnOk result (journal.new.items ≡ journal.old.items ++ event.now ∷ []) }
         ensures refused { (r : Reason) → refusal (state credit names.now journal.old.items) event.now ≡ Some r
@@ -120,11 +119,10 @@ impl Parties {
         i: usize,
         event: &Event,
     ) -> Result<(), OutOfMemory>
-        requires at { IsEventAt names.now i event.now }
+        requires at { IsEventIn (state credit names.now journal.old.items) i event.now }
         requires standing { StandAfter credit names.now journal.old.items (self.old).all }
         requires enabled { refusal (state credit names.now journal.old.items) event.now ≡ None }
         ensures standing { StandAfter credit names.now journal.new.items (self.new).all }
-        ensures agendas { (self.new).agendas ≡ (self.old).agendas }
         ensures ok { OnOk result (journal.new.items ≡ journal.old.items ++ event.now ∷ []) }
         ensures err { OnErr result (journal.new.items ≡ journal.old.items) }
         ensures owes { OnErr result ((self.new).owes ≡ true → (self.old).owes ≡ true) }
@@ -149,16 +147,14 @@ impl Parties {
         requires within { i < length (self.old).all.nodes }
         requires delivered { (self.old).owes ≡ false }
         requires named { id_named (self.old).all (by_of event.now) ≡ Some (i + 1) }
-        requires plain { is_plain event.now ≡ true }
         requires waits { (node_at (self.old).all i).held.phase ≡ Up → NothingWaits (i + 1) (self.old).all }
         requires few { length events.now + 1 < 2 ^ 59 }
         requires standing { StandAfter credit names.now events.now (self.old).all }
         requires enabled { refusal (state credit names.now events.now) event.now ≡ None }
         ensures standing { OnOk result (StandAfter credit names.now (events.now ++ event.now ∷ []) (self.new).all) }
-        ensures agendas { (self.new).agendas ≡ (self.old).agendas }
         ensures err { OnErr result (self.new ≡ self.old) }
     {
-        match self.act(i, event) {
+        match self.act(credit, i, event) {
             Ok(loose) => {
                 self.meet_loose(loose);
                 self.meet_moved(i);
@@ -172,8 +168,7 @@ impl Parties {
     /// An out end that was just replaced meets its other end for the last time, and is dropped.
     fn meet_loose(&mut self, loose: Option<Loose>)
         requires { BetweenSomewhere (self.old).all (loose_seen loose) }
-        ensures meets { MeetsLoose (self.old).all (loose_seen loose) (self.new).all }
-        ensures agendas { (self.new).agendas ≡ (self.old).agendas }
+        ensures { MeetsLoose (self.old).all (loose_seen loose) (self.new).all }
     {
         let Some((name, mut out)) = loose else {
             return;
@@ -184,7 +179,6 @@ impl Parties {
     /// Hands to the registrar what it is owed.
     pub(crate) fn hand_over(&mut self) -> Result<(), OutOfMemory>
         requires { StandSomewhere (self.old).all }
-        ensures agendas { (self.new).agendas ≡ (self.old).agendas }
         ensures same { (self.new).all ≡ (self.old).all }
         ensures ok { OnOk result ((self.new).owes ≡ false) }
         ensures owes { OnErr result (((self.old).owes ≡ true) × ((self.new).owes ≡ true)) }

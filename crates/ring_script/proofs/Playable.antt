@@ -1,5 +1,5 @@
 -- What a text spells as a script can be played, and a ring can open with the members of a step file.
-use Rattle.std.proofs.Common.{◌≡◌, ℕ, zero, suc, map, ◌+◌, ◌*◌, ◌≤◌, Bool, true, false, ◌&&◌, ◌==◌, not, nat_le, nat_lt, is_some, unwrap_or, List, [], ◌∷◌, Option, Some, None, length, get_or, refl, sym, subst, if◌then◌else◌, arith}
+use Rattle.std.proofs.Common.{◌≡◌, ℕ, ◌+◌, ◌*◌, ◌≤◌, Bool, true, false, ◌&&◌, ◌==◌, not, nat_le, nat_lt, is_some, unwrap_or, List, [], ◌∷◌, Option, Some, None, length, get_or, refl, sym, subst, if◌then◌else◌, arith}
 use Rattle.std.specs.Prelude.{⊤}
 use Rattle.std.specs.List.{list_all, All, Contains}
 use Rattle.std.specs.Str.Parse.{digits_value, digits_value_after}
@@ -14,15 +14,10 @@ use Rattle.ring_script.specs.declared.script.Keyword.{Keyword}
 use Rattle.ring_script.specs.declared.script.Keyword.TheVariants.{Cast, Kill, Go, Settle}
 use Rattle.ring_script.specs.declared.command.Command.{Command}
 use Rattle.ring_script.specs.declared.text.Text.{Text}
-use Rattle.ring_script.specs.Words.{lines_of, words_of, first_word, behind_word, is_text_byte, is_digit, is_number, number_of, has_byte}
-use Rattle.ring_script.specs.Line.{operand_in, body_in, is_among, one_word, name_fault, known_fault, number_fault, body_fault, cast_fault}
+use Rattle.ring_script.specs.Words.{lines_of, words_of, behind_word, is_text_byte, is_digit, is_number, number_of, has_byte}
+use Rattle.ring_script.specs.Line.{body_in, is_among, one_word, name_fault, known_fault, number_fault, body_fault, cast_fault}
 use Rattle.ring_script.specs.Script.{keyword_of, command_fault, script_grammar, command_by, command_of, most_turns}
-use Rattle.ring_script.specs.declared.steps.EventWord.{EventWord}
-use Rattle.ring_script.specs.declared.steps.EventWord.TheVariants as begins
-use Rattle.ring_script.specs.declared.steps.OwnStep.{OwnStep}
-use Rattle.ring_script.specs.declared.steps.OwnStep.TheVariants as own
-use Rattle.ring_script.specs.Steps.{step_grammar, event_word_of, own_event, event_by, event_of}
-use Rattle.ring_world.specs.Event.{is_plain}
+use Rattle.ring_script.specs.Steps.{step_grammar, event_of}
 use Rattle.ring_script.specs.Reading.{used_of, members_of, IsScriptOf, AreStepsOf, MayBeGiven, IsPlayable, CanOpen}
 use Rattle.ring_script.proofs.Bodies.{behind_word_text, behind_space_text, IsBody-from}
 use Rattle.ring_script.proofs.Names.{none_of_both, among_contains}
@@ -115,33 +110,6 @@ script_playable bytes script h =
     }
 
 -- ---- step files
-
-own_plain : (which : OwnStep) (by : List ℕ) → is_plain (own_event which by) ≡ true
-own_plain own.Put by = refl
-own_plain own.Take by = refl
-own_plain own.TakeEnd by = refl
-own_plain own.Gain by = refl
-own_plain own.Stop by = refl
-own_plain own.Pick by = refl
-
--- a line tells an event that the parties do so far
-event_plain : (word : Option EventWord) (rest : List ℕ) → is_plain (event_by word rest) ≡ true
-event_plain (Some begins.Cast) rest = refl
-event_plain (Some begins.Mark) rest = refl
-event_plain (Some begins.Erase) rest = refl
-event_plain (Some begins.Refresh) rest = refl
-event_plain (Some begins.Refuse) rest = refl
-event_plain (Some (begins.Own which)) rest = own_plain which (operand_in rest)
-event_plain None rest = refl
-
-told_plain : (lines : List (ℕ × List ℕ)) → All (λ (line : ℕ × Event). is_plain line.1 ≡ true) (map (λ (line : ℕ × List ℕ). (line.0, event_of (first_word line.1) (behind_word line.1))) lines)
-told_plain [] k d l = absurd (omega arith)
-told_plain (line ∷ lines) zero d l = event_plain (event_word_of (first_word line.1)) (behind_word line.1)
-told_plain (line ∷ lines) (suc k) d l = told_plain lines k d (omega arith)
-
--- so do all lines of a step file
-pub steps_plain : (bytes : List ℕ) (steps : Text Event) → AreStepsOf bytes steps → All (λ (line : ℕ × Event). is_plain line.1 ≡ true) steps.lines
-steps_plain bytes steps h = subst (All (λ (line : ℕ × Event). is_plain line.1 ≡ true)) (sym h.lines) (told_plain _)
 
 -- a ring can open with the members of a step file
 pub steps_open : (bytes : List ℕ) (steps : Text Event) → AreStepsOf bytes steps → CanOpen steps.members

@@ -35,8 +35,9 @@ event_word_of word =
     else (if bytes_eq word (codes "mark") then Some begins.Mark
     else (if bytes_eq word (codes "refresh") then Some begins.Refresh
     else (if bytes_eq word (codes "erase") then Some begins.Erase
+    else (if bytes_eq word (codes "admit") then Some begins.Admit
     else (if bytes_eq word (codes "refuse") then Some begins.Refuse
-    else option_map begins.Own (own_step_of word)))))
+    else option_map begins.Own (own_step_of word))))))
 
 -- what a client asks for that a word begins
 abbrev pub client_word_of : List ℕ → Option ClientWord
@@ -72,11 +73,12 @@ refuse_fault rest [] = Some MissingWord
 refuse_fault rest (code ∷ []) = Some MissingWord
 refuse_fault rest (code ∷ word ∷ words) = client_fault code (client_word_of word) (behind_word (behind_word rest))
 
--- `cast` has a name and a body; `mark` and `erase` have two names; `refresh` has a name and a version; each other has a name
+-- `cast` has a name and a body; `mark`, `erase` and `admit` have two names; `refresh` has a name and a version; each other has a name
 abbrev pub event_fault : Option EventWord → List ℕ → Option Kind
 event_fault (Some begins.Cast) rest = cast_fault name_fault (body_in rest) (words_of rest)
 event_fault (Some begins.Mark) rest = two_words names_fault (words_of rest)
 event_fault (Some begins.Erase) rest = two_words names_fault (words_of rest)
+event_fault (Some begins.Admit) rest = two_words names_fault (words_of rest)
 event_fault (Some begins.Refuse) rest = refuse_fault rest (words_of rest)
 event_fault (Some begins.Refresh) rest = two_words (λ by version. option_or (name_fault by) (number_fault most_version version)) (words_of rest)
 event_fault (Some (begins.Own which)) rest = one_word name_fault (words_of rest)
@@ -111,6 +113,7 @@ abbrev pub event_by : Option EventWord → List ℕ → Event
 event_by (Some begins.Cast) rest = event.Cast (operand_in rest) (body_in rest)
 event_by (Some begins.Mark) rest = event.Mark (operand_in rest) (second_in rest)
 event_by (Some begins.Erase) rest = event.Erase (operand_in rest) (second_in rest)
+event_by (Some begins.Admit) rest = event.Admit (operand_in rest) (second_in rest)
 event_by (Some begins.Refuse) rest = refused_by (operand_in rest) (client_word_of (second_in rest)) (behind_word (behind_word rest))
 event_by (Some begins.Refresh) rest = event.Refresh (operand_in rest) (unwrap_or (number_of most_version (second_in rest)) 0)
 event_by (Some (begins.Own which)) rest = own_event which (operand_in rest)

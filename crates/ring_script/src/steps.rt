@@ -1,12 +1,11 @@
 //! Step files.
-ghost use Rattle.std.specs.Prelude.{◌≡◌, ℕ, true, Err, IfOk};
+ghost use Rattle.std.specs.Prelude.{◌≡◌, ℕ, true, Some, None, Err, IfOk, OnOk, IfErr};
 ghost use Rattle.std.specs.List.{list_all};
 ghost use Rattle.ring_script.specs.Words.{is_text_byte};
 ghost use Rattle.ring_script.specs.Place.{left_in};
 ghost use Rattle.ring_script.specs.Fault.{Tells};
 ghost use Rattle.ring_script.specs.Steps.{own_step_of, event_word_of, client_word_of, step_grammar, event_fault};
-ghost use Rattle.ring_script.specs.Steps.{client_fault, own_event, event_by, refused_by};
-ghost use Rattle.ring_script.specs.Steps.{event_of};
+ghost use Rattle.ring_script.specs.Steps.{client_fault, names_fault, own_event, event_by, refused_by, event_of};
 ghost use Rattle.ring_script.specs.Reading.{AreStepsOf, IsFirstFault, CanOpen, JudgesEachText};
 
 use crate::arguments::{name_from, number_from, one_left, read_body, two_left};
@@ -33,6 +32,8 @@ pub(crate) enum EventWord {
     Erase,
     /// A member reads the view of a version.
     Refresh,
+    /// A member admits a newcomer.
+    Admit,
     /// What a client asked of a member is refused.
     Refuse,
     /// A member takes a step that nothing more is said of.
@@ -74,6 +75,7 @@ impl EventWord {
             b"mark" => Some(EventWord::Mark),
             b"refresh" => Some(EventWord::Refresh),
             b"erase" => Some(EventWord::Erase),
+            b"admit" => Some(EventWord::Admit),
             b"refuse" => Some(EventWord::Refuse),
             _ => Some(EventWord::Own(OwnStep::of(word)?))
         )
@@ -137,6 +139,7 @@ impl Statement for Event {
             Some(EventWord::Mark) => read_mark(rest),
             Some(EventWord::Erase) => read_erase(rest),
             Some(EventWord::Refresh) => read_refresh(rest),
+            Some(EventWord::Admit) => read_admit(rest),
             Some(EventWord::Refuse) => read_refuse(alloc, rest),
             Some(EventWord::Own(step)) => read_own(step, rest),
             None => Err(LineFault::Wrong(Kind::UnknownCommand)),
@@ -163,8 +166,7 @@ fn read_mark(rest: Words) -> Result<Event, LineFault>
     ensures mark { IfOk result (λ event. event ≡ event_by (Some EventWord.Mark) (left_in rest.entry)) }
 {
     let (by, dead) = two_left(rest)?;
-    let by = name_from(by)?;
-    let dead = name_from(dead)?;
+    let (by, dead) = both_names(by, dead)?;
     Ok(Event::Mark { by, dead })
 }
 
@@ -185,9 +187,18 @@ fn read_erase(rest: Words) -> Result<Event, LineFault>
     ensures erase { IfOk result (λ event. event ≡ event_by (Some EventWord.Erase) (left_in rest.entry)) }
 {
     let (by, origin) = two_left(rest)?;
-    let by = name_from(by)?;
-    let origin = name_from(origin)?;
+    let (by, origin) = both_names(by, origin)?;
     Ok(Event::Erase { by, origin })
+}
+
+/// The admission of what is left on a line.
+fn read_admit(rest: Words) -> Result<Event, LineFault>
+    ensures fault { Tells (event_fault (Some EventWord.Admit) (left_in rest.entry)) result }
+    ensures admit { IfOk result (λ event. event ≡ event_by (Some EventWord.Admit) (left_in rest.entry)) }
+{
+    let (by, name) = two_left(rest)?;
+    let (by, name) = both_names(by, name)?;
+    Ok(Event::Admit { by, name })
 }
 
 /// The refusal of what is left on a line.
@@ -245,12 +256,23 @@ fn read_refused_admit(code: &[u8], rest: Words) -> Result<Event, LineFault>
 {
     let (by, name) = two_left(rest)?;
     let code = number_from(code, MOST_CODE)?;
-    let by = name_from(by)?;
-    let name = name_from(name)?;
+    let (by, name) = both_names(by, name)?;
     Ok(Event::Refuse {
         code,
         inner: Client::Admit { by, name },
     })
+}
+
+/// The two words as names.
+fn both_names(by: &[u8], other: &[u8]) -> Result<(Name, Name), Kind>
+    ensures by { IfOk result (λ names. names.0 ≡ by.now) }
+    ensures other { IfOk result (λ names. names.1 ≡ other.now) }
+    ensures ok { OnOk result (names_fault by.now other.now ≡ None) }
+    ensures fault { IfErr result (λ kind. names_fault by.now other.now ≡ Some kind) }
+{
+    let by = name_from(by)?;
+    let other = name_from(other)?;
+    Ok((by, other))
 }
 
 /// The step of the one whose name is left on a line.

@@ -221,7 +221,9 @@ const EVENTS: &str = "\
 2 52 members a|settle
 2 52 members a|publish a x
 2 52 members a|get a
-2 52 members a|admit a n
+2 52 members a|join a n
+2 52 members a|Admit a n
+2 52 members a|admits a n
 -- Nor is what was refused what a client asks for.
 2 52 members a|refuse a n
 2 52 members a|refuse 12 put a
@@ -238,6 +240,9 @@ const EVENTS: &str = "\
 2 53 members a|mark A
 2 53 members a|erase
 2 53 members a|erase A
+2 53 members a|admit
+2 53 members a|admit A
+2 53 members a|admit a   |
 2 53 members a|refuse
 2 53 members a|refuse x   |
 2 53 members a|refuse x cast
@@ -253,6 +258,8 @@ const EVENTS: &str = "\
 2 54 members a|pick a b
 2 54 members a|mark A b c
 2 54 members a|erase A b c
+2 54 members a|admit a n n
+2 54 members a|admit A B c
 2 54 members a|refuse x stop A b
 2 54 members a|refuse x admit A b c
 2 54 members a|refresh A 0 1
@@ -272,6 +279,8 @@ good members a|refuse 1 stop a|refuse 99 stop a
 2 55 members a|refuse x stop a
 -- Names, whether the ring has them or not, and then what stands behind them.
 good members a|put z|mark abcdefghijklmnop 0|erase y z|refuse 6 admit y z
+good members a b|admit a n|admit a n|admit a b|admit z a|admit a a|admit abcdefghijklmnop 0
+good members@|admit a b0|admit b0 b1
 2 56 members a|put A
 2 56 members a|stop abcdefghijklmnopq
 2 56 members a|cast ~
@@ -281,6 +290,10 @@ good members a|put z|mark abcdefghijklmnop 0|erase y z|refuse 6 admit y z
 2 56 members a|mark a abcdefghijklmnopq
 2 56 members a|erase A b
 2 56 members a|erase a B
+2 56 members a|admit A n
+2 56 members a|admit A B
+2 56 members a|admit a B
+2 56 members a|admit a abcdefghijklmnopq
 2 56 members a|refuse 12 cast A x^x
 2 56 members a|refuse 12 stop B!
 2 56 members a|refuse 12 admit A b
@@ -427,11 +440,14 @@ mab2 members a b|mark a b
 rb72 members a b|refresh b 7
 kb-2 members a b|pick b
 xab2 members a b|erase a b
+nan2 members a b|admit a n
+nzb2 members a b|admit z b
 f2b- members a b|refuse 12 stop b
 f9bn members a b|refuse 9 admit b n
 f2b2 members a b|refuse 12 cast b hi
 -- Spaces round words.
 mab2 members a|  mark   a   b  |
+nbn2 members a|  admit   b   n  |
 f2b- members a b|  refuse   12   stop   b  |
 -- A body is all that follows one space.
 ca02 members a|cast a
@@ -576,8 +592,8 @@ fn last_event(lines: &[(u32, Event)]) -> [u8; 4] {
         Event::Refresh { by, view } => [b'r', letter(by), digit(u64::from(*view)), line],
         Event::Pick { by } => [b'k', letter(by), b'-', line],
         Event::Erase { by, origin } => [b'x', letter(by), letter(origin), line],
+        Event::Admit { by, name } => [b'n', letter(by), letter(name), line],
         Event::Refuse { code, inner } => refused(digit(u64::from(*code)), inner),
-        Event::Admit { .. } => *b"none",
     }
 }
 

@@ -6,6 +6,5 @@ pub mod First
 pub mod Leaves
 pub mod Names
 pub mod Parts
-pub mod Plain
 pub mod Refusals
 pub mod WhatRefuses

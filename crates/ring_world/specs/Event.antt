@@ -311,15 +311,6 @@ abbrev pub is_refusal : Event → Bool
 is_refusal (Refuse code inner) = true
 is_refusal e = false
 
--- whether the parties do such an event so far: it is no admission
-abbrev pub is_plain : Event → Bool
-is_plain (Admit by name) = false
-is_plain e = true
-
--- whether they do each of these so far
-abbrev pub ArePlain : List Event → Type 0
-ArePlain events = list_all is_plain events ≡ true
-
 -- the refusals among these events, in their order
 abbrev pub refusals_of : List Event → List Event
 refusals_of events = filter is_refusal events

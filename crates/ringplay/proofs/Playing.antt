@@ -1,8 +1,6 @@
 -- What the journal of a played script has.
 use Rattle.std.proofs.Common.{◌≡◌, ℕ, zero, suc, ◌<◌, ◌≤◌, ◌^◌, List, [], ◌∷◌, ◌++◌, length, take, drop, Some, IsSome, bytes_eq, refl, sym, ap, subst, ◌∙◌}
 use Rattle.std.specs.Prelude.{Contains}
-use Rattle.std.specs.List.{list_all}
-use Rattle.std.proofs.lemmas.Bool.{and_parts}
 use Rattle.std.proofs.lemmas.List.{take-take, take-append-drop}
 use Rattle.ring_names.specs.declared.numbers.CreditSpec.{CreditSpec}
 use Rattle.ring_script.specs.declared.command.Command.{Command}
@@ -11,22 +9,24 @@ use Rattle.group_view.specs.Change.{AreOpeningNames}
 use Rattle.ring_world.specs.declared.event.Event.{Event}
 use Rattle.ring_world.specs.Machine.{World}
 use Rattle.ring_world.specs.Step.{opening}
-use Rattle.ring_world.specs.Event.{is_plain, ArePlain, IsRun, effect, last, refusals_of}
+use Rattle.ring_world.specs.Event.{IsRun, effect, last, refusals_of}
 use Rattle.ring_world.specs.Laws.{IsLawful, GoesOn}
 use Rattle.ring_world.specs.Quiet.{IsQuiet}
 use Rattle.ring_world.proofs.events.Names.{own_bytes}
 use Rattle.ring_world.proofs.runs.InOrder.{last_append}
 use Rattle.ring_world.proofs.runs.AllRuns.{every_state_lawful, every_run_goes_on}
-use Rattle.gm_member.proofs.Plain.{reached_plain}
 use Rattle.ring_cluster.specs.Seen.{Seen, IsGoing, state_of, opening_seen}
-use Rattle.ring_cluster.specs.Plays.{Plays, HasGoneOn, AgendasAreEmpty, place_among}
+use Rattle.ring_cluster.specs.Agendas.{place_among}
+use Rattle.ring_cluster.specs.Plays.{Plays, HasGoneOn, AgendasAreEmpty}
 use Rattle.ring_cluster.specs.Plays as cluster
 use Rattle.ring_cluster.proofs.lists.Places.{position_there}
+use Rattle.ring_cluster.specs.Heard.{OpenersHaveNoBase}
+use Rattle.ring_cluster.proofs.work.Bases.{reached_bases}
 use Rattle.ring_cluster.proofs.work.Heard.{run_quiet_has_heard}
 use Rattle.ring_script.specs.declared.text.Text.{Text}
 use Rattle.ring_script.specs.Reading.{MayBeGiven}
 use Rattle.ringplay.specs.Report.{report_of}
-use Rattle.ringplay.specs.Call.{state_after, HearsFronts, IsLawfulRun, SameRing, commands_on, given_of, IsPlayedBy}
+use Rattle.ringplay.specs.Call.{state_after, IsLawfulRun, SameRing, commands_on, given_of, IsPlayedBy}
 
 -- ---- a name that the ring has, has a place
 
@@ -54,19 +54,13 @@ run_back w zero events r = r
 run_back w (suc k) [] r = tt
 run_back w (suc k) (e ∷ es) r = run_back (effect w e) k es r.1
 
--- its first events are plain where all are
-pub plain_front : (k : ℕ) (events : List Event) → ArePlain events → ArePlain (take k events)
-plain_front zero events p = refl
-plain_front (suc k) [] p = refl
-plain_front (suc k) (e ∷ es) p = let both = and_parts (is_plain e) (list_all is_plain es) p in rw (both.0, plain_front k es both.1) refl
-
 -- after both stands the whole
 whole_run : (w : World) (k : ℕ) (events : List Event) → last (last w (take k events)) (drop k events) ≡ last w events
 whole_run w k events = sym (last_append w (take k events) (drop k events)) ∙ ap (last w) (take-append-drop k events)
 
 -- ---- the laws after each prefix
 
-module _ (credit : CreditSpec) (names : List (List ℕ)) (journal : List Event) (are : AreOpeningNames names) (plain : ArePlain journal) (run : IsRun (opening credit names) journal) where
+module _ (credit : CreditSpec) (names : List (List ℕ)) (journal : List Event) (are : AreOpeningNames names) (run : IsRun (opening credit names) journal) where
   -- the ring as it opened
   abbrev opened : World
   opened = opening credit names
@@ -74,8 +68,8 @@ module _ (credit : CreditSpec) (names : List (List ℕ)) (journal : List Event) 
   lawful_after : (k : ℕ) → IsLawful credit.initial (state_after credit names journal k)
   lawful_after k = every_state_lawful credit names (take k journal) are (run_front opened k journal run)
 
-  fronts_after : (k : ℕ) → HearsFronts (state_after credit names journal k)
-  fronts_after k = (reached_plain credit names (take k journal) are (plain_front k journal plain) (run_front opened k journal run)).heard
+  bases_after : (k : ℕ) → OpenersHaveNoBase names (state_after credit names journal k)
+  bases_after k = reached_bases credit names (take k journal) are (run_front opened k journal run)
 
   goes_on_after : (j k : ℕ) → j ≤ k → GoesOn (state_after credit names journal j) (state_after credit names journal k)
   goes_on_after j k l =
@@ -88,7 +82,7 @@ module _ (credit : CreditSpec) (names : List (List ℕ)) (journal : List Event) 
 
   -- each run is lawful
   pub lawful_run : length journal < 2 ^ 59 → IsLawfulRun credit names journal
-  lawful_run few = record { plain = plain; run = run; few = few; lawful = lawful_after; fronts = fronts_after; goes_on = goes_on_after }
+  lawful_run few = record { run = run; few = few; lawful = lawful_after; bases = bases_after; goes_on = goes_on_after }
 
 -- ---- a cluster and what happened in it
 
@@ -102,8 +96,7 @@ pub has_run : (credit : CreditSpec) (names : List (List ℕ)) (journal : List Ev
 has_run credit names journal c ec en ej going =
     let are : AreOpeningNames names = subst AreOpeningNames en going.are in
     let run : IsRun (opening credit names) journal = rw (sym ec, sym en, ej) going.run in
-    let plain : ArePlain journal = rw ej going.plain in
-    record { are = are; run = lawful_run credit names journal are plain run (rw ej going.few); state = rw (ec, en, sym ej) refl }
+    record { are = are; run = lawful_run credit names journal are run (rw ej going.few); state = rw (ec, en, sym ej) refl }
 
 -- ---- a played script
 
@@ -119,7 +112,7 @@ played_by script c journal text ec en eg going quiet empty plays ej et =
         run = ran.run;
         plays = rw (sym ec, sym en, ej, sym eg) plays;
         quiet = quiet';
-        heard_all = run_quiet_has_heard script.credit script.members journal ran.are ran.run.plain ran.run.run quiet';
+        heard_all = run_quiet_has_heard script.credit script.members journal ran.are ran.run.run quiet';
         report = et ∙ ap (λ w. report_of w (refusals_of c.events)) ran.state ∙ ap (λ es. report_of (last (opening script.credit script.members) journal) (refusals_of es)) (sym ej);
       };
       by = record { seen = c; is = refl; names = en; credit = ec; events = sym ej; given = eg; empty = empty };

@@ -1,8 +1,8 @@
 -- What members that stand in a state, and what they have published, show of it.
-use Rattle.std.proofs.lemmas.List.{flat_map_more, map-id, take-map, length-map, length-take-le}
+use Rattle.std.proofs.lemmas.List.{flat_map_more, map-id, take-map, drop-map, length-map, length-take-le}
 use Rattle.std.proofs.lemmas.List.FromFn.{map-range_with_len_more, length-map-range_with_len, get_or-map-range_with_len}
 use Rattle.std.specs.List.{flat_map, range_with_len}
-use Rattle.std.proofs.Common.{◌≡◌, ℕ, ◌+◌, ◌-◌, ◌<◌, ◌≤◌, List, [], ◌∷◌, ◌++◌, length, take, get_or, refl, ap, sym, ◌∙◌, arith, append_assoc, Bor}
+use Rattle.std.proofs.Common.{◌≡◌, ℕ, ◌+◌, ◌-◌, ◌<◌, ◌≤◌, List, [], ◌∷◌, ◌++◌, length, take, drop, get_or, refl, ap, sym, ◌∙◌, arith, append_assoc, Bor}
 use Rattle.std.specs.Prelude.{count_by, cond}
 use Rattle.std.specs.declared.vec.Vec.{Vec}
 use Rattle.std.specs.declared.alloc.Global.{Global}
@@ -10,6 +10,7 @@ use Rattle.std.proofs.lemmas.List.Recursion.{is_count_by}
 use Rattle.ring_names.specs.declared.message.Message.{Message}
 use Rattle.ring_names.specs.declared.message.Message.TheVariants.{Cast}
 use Rattle.ring_world.specs.declared.shown.Counts.{Counts}
+use Rattle.ring_world.specs.Rows.{messages_between}
 use Rattle.ring_world.specs.declared.event.Event.{Event}
 use Rattle.ring_world.specs.Shown.{is_cast, is_publish, counts_in}
 use Rattle.group_view.specs.View.{Group, entry_in}
@@ -18,7 +19,6 @@ use Rattle.ring_world.specs.Step.{size, log_of}
 use Rattle.ring_world.specs.Asked.{counts_of}
 use Rattle.gm_member.specs.Held.{Held}
 use Rattle.gm_member.proofs.Fit.{IsFit}
-use Rattle.gm_member.proofs.Plain.{IsPlainFit}
 use Rattle.ring_cluster.specs.Holds.{HoldsOf}
 use Rattle.ring_cluster.specs.Published.{casts_with, logs_in, logs_of}
 use Rattle.ringplay.specs.Report.{name_of, newest_view, member_line, counts_lines, heard_line, heard_from, heard_lines, while_up, refusal_lines, lines_of_member}
@@ -73,13 +73,15 @@ counts_tell w x n forgot bodies f log many come =
     ∙ ap (λ k. record { casts = count_by is_cast own; casts_confirmed = count_by is_cast front; publishes = count_by is_publish own; publishes_confirmed = k }) (sym (no_publishes front))
     ∙ ap (λ k. counts_in k own) come
 
--- what was received of the origin p is the front of its log
-pub heard_tells : (w : World) (x p got : ℕ) (name : List ℕ) (bodies : List (Bor (List ℕ))) → IsPlainFit w → name ≡ name_of w p → casts_with bodies ≡ log_of w p → got ≡ (row_at (member_at w x) p).got
-    → flat_map (heard_line name) (casts_with (take got bodies)) ≡ heard_from w x p
-heard_tells w x p got name bodies f named log all =
-    ap (λ n. flat_map (heard_line n) (casts_with (take got bodies))) named
+-- what was received of the origin p is its log from the base up to what was got
+pub heard_tells : (w : World) (x p base got : ℕ) (name : List ℕ) (bodies : List (Bor (List ℕ))) → IsFit w → name ≡ name_of w p → casts_with bodies ≡ log_of w p → base ≡ (row_at (member_at w x) p).base
+    → got ≡ (row_at (member_at w x) p).got → flat_map (heard_line name) (casts_with (drop base (take got bodies))) ≡ heard_from w x p
+heard_tells w x p base got name bodies f named log from all =
+    let cast : Bor (List ℕ) → Message = λ b. Cast b.now in
+    ap (λ n. flat_map (heard_line n) (casts_with (drop base (take got bodies)))) named
     ∙ ap (flat_map (heard_line (name_of w p)))
-    (sym (take-map (λ (b : Bor (List ℕ)). Cast b.now) got bodies) ∙ ap (take got) log ∙ ap (λ k. take k (log_of w p)) all ∙ sym (f.heard x p))
+    (sym (drop-map cast base (take got bodies)) ∙ ap (drop base) (sym (take-map cast got bodies) ∙ ap (take got) log)
+    ∙ ap (λ k. drop k (take got (log_of w p))) from ∙ ap (λ k. messages_between (row_at (member_at w x) p).base k (log_of w p)) all ∙ sym (f.lawful.in_order x p))
 
 -- ---- one member
 

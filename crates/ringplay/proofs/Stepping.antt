@@ -1,5 +1,5 @@
 -- What has become of the lines of a step file, one more after another.
-use Rattle.std.proofs.Common.{◌≡◌, ℕ, zero, suc, ◌+◌, List, [], ◌∷◌, ◌++◌, length, drop, replicate, Some, refl, sym, ap, subst, ◌∙◌}
+use Rattle.std.proofs.Common.{◌≡◌, ℕ, zero, suc, ◌+◌, List, [], ◌∷◌, ◌++◌, drop, Some, refl, sym, ap, subst, ◌∙◌}
 use Rattle.std.proofs.lemmas.List.{append-nil, append_assoc}
 use Rattle.ring_script.specs.declared.text.Text.{Text}
 use Rattle.ring_world.specs.declared.event.Event.{Event}
@@ -7,7 +7,8 @@ use Rattle.ring_world.specs.Step.{opening}
 use Rattle.ring_world.specs.Event.{refusal, last, refusals_of}
 use Rattle.ring_world.proofs.runs.InOrder.{last_append}
 use Rattle.ring_cluster.specs.Seen.{Seen, IsGoing, state_of, opening_seen}
-use Rattle.ring_cluster.specs.Plays.{agenda_at}
+use Rattle.ring_cluster.specs.Agendas.{tasks_in}
+use Rattle.ring_cluster.proofs.lists.Plans.{opened_tasks}
 use Rattle.ringplay.specs.Report.{report_of}
 use Rattle.ringplay.specs.Step.{happens, enabled_of, if_refused, refused_lines, HasStepped}
 use Rattle.ringplay.specs.Call.{AreSteppedBy}
@@ -74,11 +75,6 @@ tried_all {c} {d} {before} {told} {lines} {k} h none =
 
 -- ---- a step file
 
-nothing_at : (n i : ℕ) → agenda_at (replicate n []) i ≡ []
-nothing_at zero i = refl
-nothing_at (suc n) zero = refl
-nothing_at (suc n) (suc i) = nothing_at n i
-
 -- a cluster that opened as a and in which the lines' events have happened to b
 pub stepped_all : (steps : Text Event) (a b : Seen) (journal : List Event) (text told : List ℕ) → a ≡ opening_seen steps.credit steps.members → IsGoing b
     → HasStepped a b (enabled_of (state_of a) steps.lines) → told ≡ refused_lines (state_of a) steps.lines → text ≡ told ++ report_of (state_of b) (refusals_of b.events) → journal ≡ b.events
@@ -103,6 +99,6 @@ stepped_all steps a b journal text told ea going h et er ej =
         credit = credit;
         events = sym ej;
         given = h.given ∙ ap (λ s. s.given) ea;
-        empty = λ i l. ap (λ all. agenda_at all i) (h.agendas ∙ ap (λ s. s.agendas) ea) ∙ nothing_at (length steps.members) i;
+        empty = λ name. ap (λ plans. tasks_in plans name) (h.agendas ∙ ap (λ s. s.agendas) ea) ∙ opened_tasks steps.members name;
       };
     }

@@ -12,13 +12,12 @@ use Rattle.ring_script.specs.Steps.{step_grammar}
 use Rattle.ring_script.specs.Reading.{IsScriptOf, AreStepsOf, IsFirstFault}
 use Rattle.ring_world.specs.declared.event.Event.{Event}
 use Rattle.ring_world.specs.Machine.{World}
-use Rattle.ring_world.specs.Step.{opening, log_of}
-use Rattle.ring_world.specs.Event.{ArePlain, IsRun, last, refusals_of}
-use Rattle.ring_world.specs.Lawful.{row_of}
+use Rattle.ring_world.specs.Step.{opening}
+use Rattle.ring_world.specs.Event.{IsRun, last, refusals_of}
 use Rattle.ring_world.specs.Laws.{IsLawful, GoesOn}
 use Rattle.ring_world.specs.Quiet.{IsQuiet}
 use Rattle.ring_cluster.specs.Seen.{Seen}
-use Rattle.ring_cluster.specs.Heard.{HasHeardAll}
+use Rattle.ring_cluster.specs.Heard.{OpenersHaveNoBase, HasHeardAll}
 use Rattle.ring_cluster.specs.Plays.{Plays, AgendasAreEmpty}
 use Rattle.ringplay.specs.declared.call.Cause.{Cause}
 use Rattle.ringplay.specs.declared.call.Cause.TheVariants as causes
@@ -35,18 +34,14 @@ use Rattle.ringplay.specs.Step.{enabled_of, refused_lines}
 abbrev pub state_after : CreditSpec → List (List ℕ) → List Event → ℕ → World
 state_after credit names journal k = last (opening credit names) (take k journal)
 
--- each member has heard, of each publisher, the front of its log: all that it got, from the first message on
-abbrev pub HearsFronts : World → Type 0
-HearsFronts w = (q p : ℕ) → (row_of w q p).heard ≡ take (row_of w q p).got (log_of w p)
-
--- The journal is a run of the ring from these members and this credit, in which nobody is admitted. The laws hold after each
--- of its prefixes, each member has heard the front of each log, and from each to each longer one nothing falls.
+-- The journal is a run of the ring from these members and this credit. The laws hold after each of its prefixes, among them
+-- that each member has heard, of each publisher, its log from the member's base up to what it got. The base of a member of the
+-- opening is 0, so it has heard the front of each log. And from each prefix to each longer one nothing falls.
 pub record IsLawfulRun (credit : CreditSpec) (names : List (List ℕ)) (journal : List Event) : Type 0 where
-  pub plain : ArePlain journal
   pub run : IsRun (opening credit names) journal
   pub few : length journal < 2 ^ 59
   pub lawful : (k : ℕ) → IsLawful credit.initial (state_after credit names journal k)
-  pub fronts : (k : ℕ) → HearsFronts (state_after credit names journal k)
+  pub bases : (k : ℕ) → OpenersHaveNoBase names (state_after credit names journal k)
   pub goes_on : (j k : ℕ) → j ≤ k → GoesOn (state_after credit names journal j) (state_after credit names journal k)
 
 -- It happened in this cluster: its ring opened with these members and this credit, it was given these commands and nothing
@@ -76,12 +71,13 @@ given_of script = commands_on script.lines ++ Settle ∷ []
 
 -- The journal is a lawful run. Each member's client events in it are its commands, and at each settling all earlier
 -- commands were done or refused and the ring was quiet. Its last state is quiet, each message of a running member is
--- confirmed there and every member that is up has heard all these, and the text is the report of it and of all refusals.
+-- confirmed there, and every member that is up has heard all these from its base on; and the text is the report of it
+-- and of all refusals.
 pub record IsPlayed (script : Text Command) (journal : List Event) (text : List ℕ) : Type 0 where
   pub run : IsLawfulRun script.credit script.members journal
   pub plays : Plays script.credit script.members journal (given_of script)
   pub quiet : IsQuiet (last (opening script.credit script.members) journal)
-  pub heard_all : HasHeardAll (last (opening script.credit script.members) journal)
+  pub heard_all : HasHeardAll script.members (last (opening script.credit script.members) journal)
   pub report : text ≡ report_of (last (opening script.credit script.members) journal) (refusals_of journal)
 
 -- the script was played, by this cluster

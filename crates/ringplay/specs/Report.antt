@@ -73,7 +73,7 @@ counts_lines c =
 abbrev pub heard_line : List ℕ → Message → List ℕ
 heard_line origin (Cast body) = codes "heard " ++ origin ++ codes " " ++ body ++ newline
 
--- what the member x has received of the origin p, in order
+-- what the member x has received of the origin p, in order: from its first message on, or from its base on where x joined
 abbrev pub heard_from : World → ℕ → ℕ → List ℕ
 heard_from w x p = flat_map (heard_line (name_of w p)) (row_at (member_at w x) p).heard
 

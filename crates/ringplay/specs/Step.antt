@@ -1,20 +1,16 @@
 -- What becomes of the events on the lines of a step file.
-use Rattle.std.specs.Prelude.{◌≡◌, ℕ, true, All, List, [], ◌∷◌, ◌++◌, codes, Option, Some, None}
+use Rattle.std.specs.Prelude.{◌≡◌, ℕ, List, [], ◌∷◌, ◌++◌, codes, Option, Some, None}
 use Rattle.std.specs.Fmt.{decimal}
 use Rattle.ring_names.specs.declared.reason.Reason.{Reason}
 use Rattle.ring_names.specs.declared.reason.Reason.TheVariants as reason
 use Rattle.ring_names.specs.Reason.{code_of}
 use Rattle.ring_world.specs.declared.event.Event.{Event}
 use Rattle.ring_world.specs.Machine.{World}
-use Rattle.ring_world.specs.Event.{is_plain, refusal, last}
+use Rattle.ring_world.specs.Event.{refusal, last}
 use Rattle.ring_cluster.specs.Seen.{Seen}
 use Rattle.ringplay.specs.Report.{newline}
 
 -- ---- the events that happen
-
--- each line's event is one that the parties do so far
-abbrev pub ArePlayed : List (ℕ × Event) → Type 0
-ArePlayed lines = All (λ (line : ℕ × Event). is_plain line.1 ≡ true) lines
 
 -- an event, where nothing refuses it
 abbrev pub if_enabled : Option Reason → Event → List Event

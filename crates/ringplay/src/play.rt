@@ -38,13 +38,13 @@ pub(crate) fn play<T: Threads, G: Gate>(
     } = script;
     let names = members.into_vec();
     let lines = lines.into_vec();
-    let heard = lines.len();
+    let heard = names.len().saturating_mul(lines.len());
     let mut cluster = Cluster::opening(alloc, &names, credit)?;
     perform(threads, &mut cluster, lines, gate)?;
     cluster.settle(threads, gate)?;
     cluster.is_going();
     let journal = cluster.journal()?;
-    let text = report(alloc, &names, &cluster, heard)?;
+    let text = report(alloc, &cluster, heard)?;
     Ok(Played {
         journal,
         text,

@@ -1,11 +1,11 @@
 //! The report: the ring, and of each member what it has published, what it has received and what was refused.
 ghost use Rattle.std.specs.Prelude.{◌≡◌, ℕ, ◌+◌, ◌<◌, ◌≤◌, ◌++◌, [], IfOk, OnOk, MatchOption, codes};
-ghost use Rattle.std.specs.Prelude.{length, nat_eq, take, slice_index_or};
+ghost use Rattle.std.specs.Prelude.{length, nat_eq, take, drop, slice_index_or};
 ghost use Rattle.std.specs.Fmt.{decimal};
 ghost use Rattle.std.specs.List.{flat_map};
 ghost use Rattle.ring_names.specs.declared.message.Message.TheVariants as message;
 ghost use Rattle.group_view.specs.View.{entry_in, no_entry};
-ghost use Rattle.ring_world.specs.Rows.{most_members};
+ghost use Rattle.ring_world.specs.Step.{size};
 ghost use Rattle.ring_world.specs.Machine.{member_at as at_id};
 ghost use Rattle.ring_world.specs.Event.{refusals_of};
 ghost use Rattle.ring_world.specs.Asked.{counts_of};
@@ -21,65 +21,50 @@ ghost use Rattle.ringplay.specs.Report.{counts_lines, heard_line, heard_from, he
 use crate::refusals::{push_refusals, refusals_in};
 use group_view::{Entry, Mark, View};
 use ring_cluster::{Cluster, Node};
-use ring_names::{Body, MemberId, Name, OutOfMemory};
+use ring_names::{Body, MemberId, OutOfMemory};
 use ring_world::{Counts, Event, Phase};
 use std::alloc::Global;
 
 /// The bytes of the shortest line of a message that was received, its line feed with it.
 const SHORTEST_HEARD: usize = 9;
 
-/// The report of the state in which the cluster's members stand, whose ring opened with these names, and of what they
-/// refused. At first it has room for `heard` short lines of each.
-pub(crate) fn report(
-    alloc: Global,
-    names: &[Name],
-    cluster: &Cluster,
-    heard: usize,
-) -> Result<Vec<u8>, OutOfMemory>
-    requires { names.now ≡ (cluster.now).names }
+/// The report of the state in which the cluster's members stand, and of what they refused. At first it has room for
+/// `heard` short lines.
+pub(crate) fn report(alloc: Global, cluster: &Cluster, heard: usize) -> Result<Vec<u8>, OutOfMemory>
     ensures { IfOk result (λ text. text.items
         ≡ report_of (state_of cluster.now) (refusals_of (cluster.now).events)) }
 {
-    let room = names
-        .len()
-        .saturating_mul(heard)
-        .saturating_mul(SHORTEST_HEARD);
+    let room = heard.saturating_mul(SHORTEST_HEARD);
     let mut text = Vec::with_capacity(alloc, room)?;
-    push_report(alloc, &mut text, names, cluster)?;
+    push_report(alloc, &mut text, cluster)?;
     Ok(text)
 }
 
-/// The report of the state in which the cluster's members stand, whose ring opened with these names, and of what they
-/// refused. The journal is read once for what was published, and once for the refusals.
+/// The report of the state in which the cluster's members stand, of the opening and joined, and of what they refused.
+/// The journal is read once for what was published, and once for the refusals.
 pub(crate) fn push_report(
     alloc: Global,
     out: &mut Vec<u8>,
-    names: &[Name],
     cluster: &Cluster,
 ) -> Result<(), OutOfMemory>
-    requires { names.now ≡ (cluster.now).names }
     ensures { OnOk result (out.new.items ≡ out.old.items
         ++ report_of (state_of cluster.now) (refusals_of (cluster.now).events)) }
 {
-    cluster.is_going();
-    let count = names.len();
     let published = cluster.published()?;
     let all = refusals_in(alloc, cluster.events())?;
     let refusals = all.as_slice();
     push_ring(alloc, out, cluster.view())?;
-    for place in 0..count {
+    for place in 0..published.len() {
         push_member(alloc, out, cluster, &published, refusals, place)?;
     }
     Ok(())
 }
 
-/// The member at a place, whose id is one more. The last state of the journal has as many as the ring opened with.
+/// The member at a place, whose id is one more.
 fn member_at(cluster: &Cluster, place: usize) -> &Node
-    requires { place < length (cluster.now).names }
-    ensures holds { HoldsOf (state_of cluster.now) (place + 1) (held_of result.now) }
-    ensures few { length (cluster.now).names ≤ most_members }
+    requires { place + 1 < size (state_of cluster.now) }
+    ensures { HoldsOf (state_of cluster.now) (place + 1) (held_of result.now) }
 {
-    cluster.is_going();
     let Some(member) = cluster.member(id_at(cluster, place)) else {
         unreachable!()
     };
@@ -88,7 +73,7 @@ fn member_at(cluster: &Cluster, place: usize) -> &Node
 
 /// The id of the member at a place.
 fn id_at(cluster: &Cluster, place: usize) -> MemberId
-    requires { place < length (cluster.now).names }
+    requires { place + 1 < size (state_of cluster.now) }
     ensures { result.0 ≡ place + 1 }
 {
     cluster.is_going();
@@ -172,12 +157,11 @@ fn push_member(
     refusals: &[&Event],
     place: usize,
 ) -> Result<(), OutOfMemory>
-    requires within { place < length (cluster.now).names }
+    requires within { place + 1 < size (state_of cluster.now) }
     requires logs { logs_in published.now ≡ logs_of (state_of cluster.now) }
     ensures { OnOk result (out.new.items ≡ out.old.items
         ++ lines_of_member (state_of cluster.now) (lent_in refusals.now) (place + 1)) }
 {
-    cluster.is_going();
     let member = member_at(cluster, place);
     push_state(out, member, cluster.view())?;
     push_counts(alloc, out, &counts(cluster, published, place))?;
@@ -209,7 +193,7 @@ fn state_text(phase: Phase, view: &View, id: MemberId) -> &'static [u8]
     }
 }
 
-/// Nobody joins yet, so each member is registered as synchronised.
+/// Of a member that is up, whether it is registered as synchronised: one that joined isn't.
 fn up_text(synced: bool) -> &'static [u8]
     ensures { result.now ≡ the_up_text synced }
 {
@@ -231,7 +215,7 @@ fn stopped_text(mark: Mark) -> &'static [u8]
 
 /// What the member at a place has published. Those of its messages that have come round to it are confirmed.
 fn counts(cluster: &Cluster, published: &[Vec<&Body>], place: usize) -> Counts
-    requires within { place < length (cluster.now).names }
+    requires within { place + 1 < size (state_of cluster.now) }
     requires logs { logs_in published.now ≡ logs_of (state_of cluster.now) }
     ensures { result ≡ counts_of (place + 1) (at_id (state_of cluster.now) (place + 1)) }
 {
@@ -290,12 +274,11 @@ fn push_heard(
     published: &[Vec<&Body>],
     member: &Node,
 ) -> Result<(), OutOfMemory>
-    requires member { (1 ≤ (held_of member.now).id) × ((held_of member.now).id ≤ length (cluster.now).names) }
+    requires member { (1 ≤ (held_of member.now).id) × ((held_of member.now).id < size (state_of cluster.now)) }
     requires logs { logs_in published.now ≡ logs_of (state_of cluster.now) }
     ensures { OnOk result (out.new.items ≡ out.old.items
         ++ while_up (held_of member.now).phase (heard_lines (state_of cluster.now) (held_of member.now).id)) }
 {
-    cluster.is_going();
     match member.phase() {
         Phase::Up => {}
         Phase::Waiting | Phase::Stopped => return Ok(()),
@@ -314,16 +297,17 @@ fn push_heard_of(
     id: MemberId,
     place: usize,
 ) -> Result<(), OutOfMemory>
-    requires member { (1 ≤ id.0) × (id.0 ≤ length (cluster.now).names) }
-    requires origin { place < length (cluster.now).names }
+    requires member { (1 ≤ id.0) × (id.0 < size (state_of cluster.now)) }
+    requires origin { place + 1 < size (state_of cluster.now) }
     requires logs { logs_in published.now ≡ logs_of (state_of cluster.now) }
     ensures { OnOk result (out.new.items ≡ out.old.items
         ++ heard_from (state_of cluster.now) id.0 (place + 1)) }
 {
     cluster.is_going();
     let origin = member_at(cluster, place);
+    let base = cluster.base(id, origin.id());
     let got = cluster.got(id, origin.id());
-    let bodies = first_of(bodies_at(published, place), got);
+    let bodies = behind(first_of(bodies_at(published, place), got), base);
     push_casts(out, origin.name().bytes(), bodies)?;
     Ok(())
 }
@@ -337,6 +321,17 @@ fn first_of<'a, 'b>(bodies: &'a [&'b Body], many: u64) -> &'a [&'b Body]
         return bodies;
     }
     &bodies[..many]
+}
+
+/// The bodies behind the first ones: none where there are fewer.
+fn behind<'a, 'b>(bodies: &'a [&'b Body], many: u64) -> &'a [&'b Body]
+    ensures { result.now ≡ drop many bodies.now }
+{
+    let many = many as usize;
+    if bodies.len() <= many {
+        return &[];
+    }
+    &bodies[many..]
 }
 
 fn push_casts(out: &mut Vec<u8>, origin: &[u8], bodies: &[&Body]) -> Result<(), OutOfMemory>

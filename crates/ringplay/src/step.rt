@@ -1,13 +1,13 @@
 //! Playing a step file.
-ghost use Rattle.std.specs.Prelude.{◌≡◌, ℕ, ◌∷◌, ◌++◌, [], true, Some, None, IfOk, OnOk, IfErr, codes, string_bytes};
+ghost use Rattle.std.specs.Prelude.{◌≡◌, ℕ, ◌∷◌, ◌++◌, [], Some, None, IfOk, OnOk, IfErr, codes, string_bytes};
 ghost use Rattle.std.specs.Fmt.{decimal};
 ghost use Rattle.ring_script.specs.Reading.{CanOpen};
-ghost use Rattle.ring_world.specs.Event.{is_plain, refusal};
+ghost use Rattle.ring_world.specs.Event.{refusal};
 ghost use Rattle.ring_cluster.specs.Seen.{state_of};
 ghost use Rattle.ringplay.specs.Report.{newline};
 ghost use Rattle.ringplay.specs.Step.{happens, enabled_of, kept_text as the_kept_text};
 ghost use Rattle.ringplay.specs.Step.{missing_text as the_missing_text, refused_line, if_refused, refused_lines};
-ghost use Rattle.ringplay.specs.Step.{ArePlayed, HasStepped};
+ghost use Rattle.ringplay.specs.Step.{HasStepped};
 ghost use Rattle.ringplay.specs.Call.{AreSteppedBy};
 
 use crate::play::Played;
@@ -22,7 +22,6 @@ use std::alloc::Global;
 /// line that is refused changes nothing and is told, and the next one follows.
 pub(crate) fn step(alloc: Global, steps: Steps) -> Result<Played, OutOfMemory>
     requires opens { CanOpen steps.members }
-    requires plain { ArePlayed steps.lines }
     ensures { IfOk result (λ played. AreSteppedBy steps played.journal.items played.text.items (Some played.cluster)) }
 {
     let Steps {
@@ -35,7 +34,7 @@ pub(crate) fn step(alloc: Global, steps: Steps) -> Result<Played, OutOfMemory>
     let mut text = Vec::new(alloc);
     try_lines(alloc, &mut cluster, lines.as_slice(), &mut text)?;
     cluster.is_going();
-    push_report(alloc, &mut text, &names, &cluster)?;
+    push_report(alloc, &mut text, &cluster)?;
     let journal = cluster.journal()?;
     Ok(Played {
         journal,
@@ -51,7 +50,6 @@ fn try_lines(
     lines: &[(u32, Event)],
     text: &mut Vec<u8>,
 ) -> Result<(), OutOfMemory>
-    requires { ArePlayed lines.now }
     ensures stepped { OnOk result (HasStepped cluster.old cluster.new (enabled_of (state_of cluster.old) lines.now)) }
     ensures told { OnOk result (text.new.items ≡ text.old.items ++ refused_lines (state_of cluster.old) lines.now) }
 {
@@ -69,7 +67,6 @@ fn try_line(
     event: &Event,
     text: &mut Vec<u8>,
 ) -> Result<(), OutOfMemory>
-    requires { is_plain event.now ≡ true }
     ensures stepped { OnOk result (HasStepped cluster.old cluster.new (happens (state_of cluster.old) event.now)) }
     ensures told { OnOk result (text.new.items ≡ text.old.items
         ++ if_refused number (refusal (state_of cluster.old) event.now)) }

@@ -732,6 +732,227 @@ publishes 0 confirmed 0
 refused 12 cast b  y
 refused 12 cast b 
 refused 12 stop b
+==== 19 events: The admitting member stops before the newcomer's first take
+step
+members a b
+cast a x
+admit a n
+stop a
+take n
+takeend n
+mark n a
+takeend b
+refresh b 3
+pick b
+take b
+pick n
+take n
+put b
+take n
+put n
+take b
+put b
+take n
+erase n a
+=> Done, status 0
+ring view=4 term=2 master=b
+member a erased
+casts 1 confirmed 0
+publishes 0 confirmed 0
+member b up synced
+casts 0 confirmed 0
+publishes 0 confirmed 0
+heard a x
+member n up missing=?
+casts 0 confirmed 0
+publishes 0 confirmed 0
+==== 12 events: A neighbour comes back
+step
+members a b
+cast a p
+put a
+cast a q
+put a
+take b
+admit a n
+stop n
+mark a n
+refresh b 3
+pick b
+take b
+erase a n
+erase b n
+=> Done, status 0
+line 13 refused 23
+ring view=4 term=1 master=a
+member a up synced
+casts 2 confirmed 0
+publishes 0 confirmed 0
+heard a p
+heard a q
+member b up synced
+casts 0 confirmed 0
+publishes 0 confirmed 0
+heard a p
+heard a q
+member n erased
+casts 0 confirmed 0
+publishes 0 confirmed 0
+==== 2 events: A newcomer waits for its first packet
+step
+members a
+cast a x
+admit a n
+=> Done, status 0
+ring view=2 term=1 master=a
+member a up synced
+casts 1 confirmed 0
+publishes 0 confirmed 0
+heard a x
+member n waiting
+casts 0 confirmed 0
+publishes 0 confirmed 0
+==== 13 events: A newcomer hears just what is published after its admission
+step
+members a b
+cast a x
+put a
+admit a b
+admit z n
+admit a n
+cast n y
+put n
+refresh n 2
+takeend n
+cast a z
+put a
+take n
+take n
+put n
+refresh n 2
+admit n n
+erase n a
+take b
+takeend b
+refresh b 2
+pick b
+take b
+put n
+=> Done, status 0
+line 4 refused 9
+line 5 refused 6
+line 7 refused 13
+line 8 refused 13
+line 9 refused 13
+line 10 refused 42
+line 15 refused 38
+line 17 refused 9
+line 18 refused 8
+line 24 refused 16
+ring view=2 term=1 master=a
+member a up synced
+casts 2 confirmed 0
+publishes 0 confirmed 0
+heard a x
+heard a z
+member b up synced
+casts 0 confirmed 0
+publishes 0 confirmed 0
+heard a x
+heard a z
+member n up missing=?
+casts 0 confirmed 0
+publishes 0 confirmed 0
+heard a z
+==== 16 events: examples/newcomer.steps
+step
+# A sole member admits another, and messages go round the two.
+members a
+cast a x
+
+# n stands right of a, and waits for its first packet, which says that x is received already.
+admit a n
+take n
+
+# n sends to a from now on, and a takes from it.
+refresh n 2
+pick a
+take a
+
+# y is published after the admission, so n hears it.
+cast a y
+put a
+take n
+put n
+take a
+
+cast n w
+put n
+take a
+put a
+take n
+=> Done, status 0
+ring view=2 term=1 master=a
+member a up synced
+casts 2 confirmed 2
+publishes 0 confirmed 0
+heard a x
+heard a y
+heard n w
+member n up missing=?
+casts 1 confirmed 1
+publishes 0 confirmed 0
+heard a y
+heard n w
+==== 9 events: Who has stopped refuses an admission, and another member admits
+step
+members a b
+refuse 12 cast b x
+refuse 6 cast z x
+refuse 9 admit a b
+stop b
+refuse 12 cast b x
+refuse 13 cast b x
+refuse 12 stop b
+refuse 12 admit b n
+takeend a
+mark a b
+admit a n
+refuse 13 cast n x
+refuse 9 admit a n
+=> Done, status 0
+line 2 refused 44
+line 3 refused 6
+line 7 refused 44
+line 13 refused 44
+ring view=3 term=1 master=a
+member a up synced
+casts 0 confirmed 0
+publishes 0 confirmed 0
+refused 9 admit a b
+refused 9 admit a n
+member b stopped
+casts 0 confirmed 0
+publishes 0 confirmed 0
+refused 12 cast b x
+refused 12 stop b
+refused 12 admit b n
+member n waiting
+casts 0 confirmed 0
+publishes 0 confirmed 0
+==== 2 events: Nobody is left to admit
+step
+members a
+stop a
+admit a n
+refuse 12 admit a n
+=> Done, status 0
+line 3 refused 12
+ring view=1 term=1 master=a
+member a stopped
+casts 0 confirmed 0
+publishes 0 confirmed 0
+refused 12 admit a n
 ==== 7 events: examples/no_credit.steps
 step
 # A link that takes one packet, and the next one when the grant for it has come back.
@@ -923,7 +1144,7 @@ script 3 52
 step
 members a b
 stop a
-admit b n
+join b n
 => Script { line: 3, kind: 52 }, status 2
 script 3 52
 ==== a missing word

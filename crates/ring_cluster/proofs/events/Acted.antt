@@ -1,6 +1,8 @@
 -- What a member has done, as an event of the parties.
 use Rattle.std.proofs.Common.{◌≡◌, ℕ, ◌+◌, true, List, [], ◌∷◌, ◌++◌, map, set, get_or, Option, Some, None, Result, Ok, Err, refl, sym, ap, subst, ◌∙◌, append-nil}
 use Rattle.std.specs.Prelude.{IfOk}
+use Rattle.std.proofs.lemmas.List.{map-append}
+use Rattle.ring_names.specs.declared.numbers.CreditSpec.{CreditSpec}
 use Rattle.ordered_link.specs.declared.plain.PlainIn.{PlainIn}
 use Rattle.group_view.specs.declared.link.LinkName.{LinkName}
 use Rattle.group_view.specs.View.{Group}
@@ -14,11 +16,11 @@ use Rattle.gm_member.specs.Held.{at_some}
 use Rattle.ring_cluster.specs.declared.undelivered.Undelivered.{Undelivered}
 use Rattle.ring_cluster.specs.Ends.{OutSeen}
 use Rattle.ring_cluster.specs.declared.party.Party.{Party}
-use Rattle.ring_cluster.specs.Parties.{Parties, parties, posted, with_node, shown_in, no_shown, in_seen}
+use Rattle.ring_cluster.specs.Parties.{Posted, Parties, parties, posted, with_node, shown_in, no_shown, in_seen}
 use Rattle.ring_cluster.specs.Behind.{behind}
 use Rattle.ring_cluster.specs.Looking.{HasLooked, kept_post}
 use Rattle.ring_cluster.specs.Acting.{is_alone, DoesAlone}
-use Rattle.ring_cluster.specs.Acting.{Stops, Acts, LooksAt, posting, newest_of, viewing, erasing}
+use Rattle.ring_cluster.specs.Acting.{Stops, Acts, LooksAt, posting, newest_of, viewing, erasing, joined, LetsIn}
 use Rattle.ring_cluster.specs.Refused.{marked_in, id_named}
 
 -- the member at a place is another
@@ -73,6 +75,21 @@ pub follow_acts : (v : Group) (i : ℕ) (nodes nodes' : List Party) (r r' : Regi
 follow_acts v i nodes nodes' r r' late loose h e k =
     subst (λ s. LooksAt v i (parties nodes (with_view r v) []) (parties nodes' s (behind late)) loose) (sym k)
     (looks_at v i nodes nodes' (with_view r v) late loose h e)
+
+-- a view follows, the member at a place has it, and another joins for whom the link is that it opens
+pub lets_in : (v : Group) (credit : CreditSpec) (name : List ℕ) (id i : ℕ) (nodes nodes' : List Party) (m : Party) (r r' : Registry (PlainIn Load)) (opened : Option Undelivered) (loose : Option (LinkName × OutSeen))
+    → HasLooked v (get_or (map shown_in nodes) i no_shown) (get_or (map shown_in nodes') i no_shown) (kept_post opened) loose
+    → map shown_in nodes' ≡ set (map shown_in nodes) i (get_or (map shown_in nodes') i no_shown)
+    → shown_in m ≡ joined credit name id v (at_some (kept_post opened) None (λ (d : Posted). d.end)) → r' ≡ with_view r v
+    → LetsIn v credit name id i (parties nodes r []) (parties (nodes' ++ m ∷ []) r' []) loose
+lets_in v credit name id i nodes nodes' m r r' opened loose h e is k = (
+  get_or (map shown_in nodes') i no_shown,
+  kept_post opened,
+  h.looks,
+  ap (λ s. parties (nodes' ++ m ∷ []) s []) k
+      ∙ ap (λ ns. record (parties nodes (with_view r v) []) { nodes = ns })
+      (map-append shown_in nodes' (m ∷ []) ∙ ap (λ ms. ms ++ shown_in m ∷ []) e ∙ ap (λ a. set (map shown_in nodes) i (get_or (map shown_in nodes') i no_shown) ++ a ∷ []) is),
+)
 
 -- what follows of what a call answers
 pub ok_also : {X E : Type 0} (r : Result X E) (P Q : X → Type 0) → ((x : X) → P x → Q x) → IfOk r P → IfOk r Q

@@ -1,5 +1,5 @@
 -- What holds of the parties that stand after a journal.
-use Rattle.std.proofs.Common.{◌≡◌, ℕ, ◌+◌, ◌-◌, ◌<◌, false, List, length, map, sym, ap, subst, arith}
+use Rattle.std.proofs.Common.{◌≡◌, ℕ, ◌+◌, ◌-◌, ◌<◌, false, List, length, map, sym, ap, subst, ◌∙◌, arith}
 use Rattle.std.proofs.lemmas.List.{length-map}
 use Rattle.ring_names.specs.declared.numbers.CreditSpec.{CreditSpec}
 use Rattle.ordered_link.specs.declared.plain.PlainIn.{PlainIn}
@@ -12,7 +12,7 @@ use Rattle.ring_cluster.specs.Seen.{state}
 use Rattle.ring_cluster.specs.declared.party.Party.{Party}
 use Rattle.ring_cluster.specs.Parties.{Posted, Parties, parties, node_at, shown_in}
 use Rattle.ring_cluster.specs.Standing.{MemberStands, StandAfter, IsJournal}
-use Rattle.ring_cluster.specs.Acting.{IsReady}
+use Rattle.ring_cluster.specs.Acting.{IsReady, HasCredit}
 use Rattle.ring_cluster.proofs.work.Lawful.{IsLawfulAt, lawful_at}
 use Rattle.ring_cluster.proofs.standing.Placing.{GoBetween}
 use Rattle.ring_cluster.proofs.work.Fresh.{reached_go}
@@ -26,7 +26,7 @@ shown_inside nodes i l = subst (λ n. i < n) (sym (length-map nodes shown_in)) l
 module _ (credit : CreditSpec) (names : List (List ℕ)) (events : List Event) where
   -- the state is lawful, and its links go from member to member
   pub lawful_after : IsJournal credit names events → IsLawfulAt credit (state credit names events)
-  lawful_after j = lawful_at credit names events j.are j.plain j.run
+  lawful_after j = lawful_at credit names events j.are j.run
 
   pub go_after : IsJournal credit names events → GoBetween (state credit names events)
   go_after j = reached_go credit names events j.are j.run
@@ -42,6 +42,13 @@ module _ (credit : CreditSpec) (names : List (List ℕ)) (events : List Event) w
 
   pub id_after : (q : Parties) (i : ℕ) → StandAfter credit names events q → i < length q.nodes → (node_at q i).held.id ≡ i + 1
   id_after q i s l = ap (λ (h : Held). h.id) (member_after q i s l).held
+
+  -- its links are of the ring's credit
+  pub credit_after : (q : Parties) (i : ℕ) → StandAfter credit names events q → i < length q.nodes → HasCredit credit (node_at q i).held
+  credit_after q i s l =
+      let held = (member_after q i s l).held in
+      let lawful = lawful_after s.journal in
+      (sym (ap (λ (h : Held). h.initial) held ∙ lawful.initial_is), sym (ap (λ (h : Held). h.more) held ∙ lawful.more_is))
 
   -- it has no open question, and its ends are ready
   pub free_after : (q : Parties) (i : ℕ) → StandAfter credit names events q → i < length q.nodes → (node_at q i).held.asks ≡ false

@@ -1,5 +1,5 @@
 -- One event of a cluster, from the parties that stand before it to those that stand after it.
-use Rattle.std.proofs.Common.{◌≡◌, ℕ, zero, suc, ◌+◌, ◌-◌, ◌<◌, ◌≤◌, ◌^◌, true, false, not, nat_lt, cond, List, [], ◌∷◌, ◌++◌, map, length, get_or, Option, Some, None, is_some, refl, sym, ap, subst, ◌∙◌, arith}
+use Rattle.std.proofs.Common.{◌≡◌, ℕ, zero, suc, ◌+◌, ◌-◌, ◌<◌, ◌≤◌, ◌^◌, true, false, not, nat_lt, cond, List, [], ◌∷◌, ◌++◌, map, length, get_or, set, Option, Some, None, is_some, refl, sym, ap, subst, ◌∙◌, arith}
 use Rattle.std.specs.Prelude.{◌||◌}
 use Rattle.std.proofs.lemmas.List.{length_push, length-set, length-map}
 use Rattle.std.proofs.lemmas.Bool.{false≢true, le-ltb}
@@ -21,13 +21,12 @@ use Rattle.ring_world.specs.View.{ids}
 use Rattle.ring_world.specs.Machine.{World, member_at, is_waiting, runs_phase}
 use Rattle.ring_world.specs.Machine as machine
 use Rattle.ring_world.specs.Step.{opening}
-use Rattle.ring_world.specs.Event.{by_of, id_of, of_member, is_plain, is_stopped, up_refusal, refresh_refusal, pick_refusal, refusal, effect}
+use Rattle.ring_world.specs.Event.{by_of, id_of, of_member, is_stopped, up_refusal, refresh_refusal, pick_refusal, refusal, effect}
 use Rattle.ring_world.specs.Event as event
 use Rattle.ring_world.proofs.runs.InOrder.{last_append, run_append}
 use Rattle.ring_world.proofs.events.WhatRefuses.{MayLook}
 use Rattle.ring_world.proofs.events.Refusals.{none_of}
 use Rattle.ring_world.proofs.events.Enabled.{up_none}
-use Rattle.ring_world.proofs.events.Plain.{plain_push}
 use Rattle.registrar.specs.Registry.{Registry, is_known, newest}
 use Rattle.registrar.specs.Asked.{mark_refusal, stop_refusal}
 use Rattle.registrar.specs.Stands.{StandsIn}
@@ -38,21 +37,20 @@ use Rattle.gm_member.proofs.Doors.{view_version}
 use Rattle.ring_cluster.specs.Ends.{OutSeen}
 use Rattle.ring_cluster.specs.declared.party.Party.{Party}
 use Rattle.ring_cluster.specs.Parties.{Shown, Posted, Parties, parties, posted, node_at, with_node, shown_in, in_seen}
-use Rattle.ring_cluster.specs.Seen.{state, IsEventAt}
+use Rattle.ring_cluster.specs.Seen.{state, IsEventIn}
 use Rattle.ring_cluster.specs.Standing.{MemberStands, StandAfter, IsJournal}
 use Rattle.ring_cluster.specs.Loose.{StandBetween, BetweenAfter, moved_by}
 use Rattle.ring_cluster.specs.Meeting.{MayMeet, MeetsIn}
-use Rattle.ring_cluster.specs.Acting.{alone_refused, stop_refused, look_refused, posting, newest_of, viewing, erasing, LooksAt, Acts}
-use Rattle.ring_cluster.specs.Refused.{id_named, NothingWaits, mark_refused, erase_refused, telling_refused, act_refused, marked_in, office_of}
+use Rattle.ring_cluster.specs.Acting.{alone_refused, stop_refused, look_refused, posting, newest_of, viewing, erasing, admitting, joining, LooksAt, Acts}
+use Rattle.ring_cluster.specs.Refused.{id_named, NothingWaits, mark_refused, erase_refused, telling_refused, admission_refused, act_refused, marked_in, office_of}
 use Rattle.ring_cluster.specs.Behind.{behind}
 use Rattle.ring_cluster.specs.declared.undelivered.Undelivered.{Undelivered}
 use Rattle.ring_cluster.proofs.work.Lawful.{IsLawfulAt}
 use Rattle.ring_cluster.proofs.events.After.{shown_inside, lawful_after, go_after, within_after, member_after, id_after}
-use Rattle.ring_cluster.proofs.rounds.Named.{run_many, run_found}
 use Rattle.ring_cluster.proofs.events.Found.{named_alike, found_within}
 use Rattle.ring_cluster.proofs.events.AloneRefusals.{alone_refusal_is}
 use Rattle.ring_cluster.proofs.events.AloneGoes.{IsAlone}
-use Rattle.ring_cluster.proofs.events.Refusing.{look_refuses, mark_asked_refuses, nobody_named, erase_refuses, telling_refuses}
+use Rattle.ring_cluster.proofs.events.Refusing.{look_refuses, admit_refuses, mark_asked_refuses, nobody_named, erase_refuses, telling_refuses}
 use Rattle.ring_cluster.proofs.events.EachGoes.{MayGo, each_goes}
 use Rattle.ring_cluster.proofs.events.Marking.{refresh_may}
 use Rattle.ring_cluster.proofs.meetings.Receivers.{GoesIn, loose_goes_in}
@@ -65,14 +63,24 @@ abbrev pub MayLookAt : Registry (PlainIn Load) → Shown → ℕ → Type 0
 MayLookAt r a version = look_refused (newest r).version a version ≡ None → ((1 ≤ version) × (version ≤ length r.views))
     × ((is_in a.held.id (ids (view_at r.views version)) ≡ true) × (refresh_refused a.held (view_at r.views version).version ≡ None))
 
+-- one condition more of a member that refuses nothing before
+pub up_later : (k : Held) (a b : Option Reason) → up_refused k a ≡ None → b ≡ None → up_refused k b ≡ None
+up_later k a b e n = by_parts (refuse_if (is_stopped k.phase) reason.Stopped) (refuse_if (is_waiting k.phase) reason.Waiting) (refuse_if k.asks reason.AwaitingAnswer) e
+  where
+    by_parts : (s w q : Option Reason) → or_else s (or_else w (or_else q a)) ≡ None → or_else s (or_else w (or_else q b)) ≡ None
+    by_parts None None None e = n
+    by_parts (Some x) w q e = cc
+    by_parts None (Some x) q e = cc
+    by_parts None None (Some x) e = cc
+
 module _ (credit : CreditSpec) (names : List (List ℕ)) (events : List Event) where
   -- the id that a name has among the parties is the ring's
   found : (q : Parties) (name : List ℕ) → StandAfter credit names events q → id_named q name ≡ id_of (state credit names events) name
   found q name s = named_alike credit.initial (state credit names events) q s.stand.places name s.stand.stand
 
   -- an event is one of the member at its place
-  pub found_at : (q : Parties) (e : Event) (i : ℕ) → StandAfter credit names events q → IsEventAt names i e → id_named q (by_of e) ≡ Some (i + 1)
-  found_at q e i s at = found q (by_of e) s ∙ ap (id_of (state credit names events)) at.1 ∙ run_found credit names events i s.journal.are s.journal.plain s.journal.run at.0
+  pub found_at : (q : Parties) (e : Event) (i : ℕ) → StandAfter credit names events q → IsEventIn (state credit names events) i e → id_named q (by_of e) ≡ Some (i + 1)
+  found_at q e i s at = found q (by_of e) s ∙ ap (id_of (state credit names events)) at.1 ∙ (lawful_after credit names events s.journal).fit.named (i + 1) (omega arith) at.0
 
   -- ---- refusals
 
@@ -99,9 +107,9 @@ module _ (credit : CreditSpec) (names : List (List ℕ)) (events : List Event) w
   found_place q name i e = omega (arith, (found_within q name (i + 1) e).1)
 
   -- a member refuses an event just where the ring does, for the same reason
-  pub refused_is : (q : Parties) (e : Event) (i : ℕ) → StandAfter credit names events q → is_plain e ≡ true → id_named q (by_of e) ≡ Some (i + 1) → ((node_at q i).held.phase ≡ Up → NothingWaits (i + 1) q)
+  pub refused_is : (q : Parties) (e : Event) (i : ℕ) → StandAfter credit names events q → id_named q (by_of e) ≡ Some (i + 1) → ((node_at q i).held.phase ≡ Up → NothingWaits (i + 1) q)
       → act_refused e i q ≡ refusal (state credit names events) e
-  refused_is q e i s plain named waits = by_event e plain (sym (found q (by_of e) s) ∙ named) (found_place q (by_of e) i named)
+  refused_is q e i s named waits = by_event e (sym (found q (by_of e) s) ∙ named) (found_place q (by_of e) i named)
     where
       w : World
       w = state credit names events
@@ -136,38 +144,45 @@ module _ (credit : CreditSpec) (names : List (List ℕ)) (events : List Event) w
       by_origin : (by origin : List ℕ) (o : Option ℕ) → id_of w by ≡ Some (i + 1) → id_of w origin ≡ o → erase_refused (office_of q) (node_at q i) o ≡ refusal w (Erase by origin)
       by_origin by origin None k p = subst (λ j. erase_refused (office_of q) (node_at q j) None ≡ refusal w (Erase by origin)) (place i) (nobody_named credit w q (i + 1) by origin (event.erase_refusal w) k p s.stand)
       by_origin by origin (Some p) k e = subst (λ j. erase_refused (office_of q) (node_at q j) (Some p) ≡ refusal w (Erase by origin)) (place i)
-          (erase_refuses credit w (office_of q) q (i + 1) p by origin (lawful_after credit names events s.journal) (record { views = s.stand.stand.views; stopped = s.stand.stand.stopped }) k e s.stand)
+          (erase_refuses credit w (office_of q) q (i + 1) p by origin (lawful_after credit names events s.journal) (record { views = s.stand.stand.views; stopped = s.stand.stand.stopped; nobody_else = s.stand.stand.nobody_else }) k e s.stand)
 
-      by_event : (f : Event) → is_plain f ≡ true → id_of w (by_of f) ≡ Some (i + 1) → i < length q.nodes → act_refused f i q ≡ refusal w f
-      by_event (Mark by dead) p k l = ap (mark_refused (office_of q) (node_at q i)) (found q dead s) ∙ by_dead by dead (id_of w dead) k refl l
-      by_event (Refresh by version) p k l = subst (λ j. look_refused (newest_of q).version (node_at q j) version ≡ refusal w (Refresh by version)) (place i) (look_refuses credit w q (i + 1) version by (lawful_after credit names events s.journal) k s.stand)
-      by_event (Admit by name) p k l = absurd (false≢true p)
-      by_event (Erase by origin) p k l = ap (erase_refused (office_of q) (node_at q i)) (found q origin s) ∙ by_origin by origin (id_of w origin) k refl
-      by_event (Refuse code inner) p k l = subst (λ j. telling_refused (newest_of q) code inner (node_at q j) ≡ refusal w (Refuse code inner)) (place i) (telling_refuses credit w q (i + 1) code inner k s.stand)
-      by_event (Pick by) p k l = pick_up by k l (node_at q i).held.phase refl
-      by_event f p k l = alone f k tt
+      by_event : (f : Event) → id_of w (by_of f) ≡ Some (i + 1) → i < length q.nodes → act_refused f i q ≡ refusal w f
+      by_event (Mark by dead) k l = ap (mark_refused (office_of q) (node_at q i)) (found q dead s) ∙ by_dead by dead (id_of w dead) k refl l
+      by_event (Refresh by version) k l = subst (λ j. look_refused (newest_of q).version (node_at q j) version ≡ refusal w (Refresh by version)) (place i) (look_refuses credit w q (i + 1) version by (lawful_after credit names events s.journal) k s.stand)
+      by_event (Admit by name) k l = subst (λ j. up_refused (node_at q j).held (admission_refused (newest_of q) name) ≡ refusal w (Admit by name)) (place i) (admit_refuses credit w q (i + 1) by name k s.stand)
+      by_event (Erase by origin) k l = ap (erase_refused (office_of q) (node_at q i)) (found q origin s) ∙ by_origin by origin (id_of w origin) k refl
+      by_event (Refuse code inner) k l = subst (λ j. telling_refused (newest_of q) code inner (node_at q j) ≡ refusal w (Refuse code inner)) (place i) (telling_refuses credit w q (i + 1) code inner k s.stand)
+      by_event (Pick by) k l = pick_up by k l (node_at q i).held.phase refl
+      by_event f k l = alone f k tt
 
   -- ---- the event happens
 
-  many_after : (q q' : Parties) (e : Event) (i d : ℕ) (loose : Option (LinkName × OutSeen)) → Acts e i d q q' loose → length q'.nodes ≡ length q.nodes
+  many_after : (q q' : Parties) (e : Event) (i d : ℕ) (loose : Option (LinkName × OutSeen)) → Acts e i d q q' loose → length q.nodes ≤ length q'.nodes
   many_after q q' e i d loose a = by_event e a
     where
-      one : (b : Shown) → q' ≡ with_node q i b → length q'.nodes ≡ length q.nodes
-      one b is = ap (λ (p : Parties). length p.nodes) is ∙ length-set q.nodes i b
+      as_many : length q'.nodes ≡ length q.nodes → length q.nodes ≤ length q'.nodes
+      as_many same = omega (arith, same)
+
+      one : (b : Shown) → q' ≡ with_node q i b → length q.nodes ≤ length q'.nodes
+      one b is = as_many (ap (λ (p : Parties). length p.nodes) is ∙ length-set q.nodes i b)
 
       posted_same : (new : Option Posted) (p : Parties) → (posting new p).nodes ≡ p.nodes
       posted_same None p = refl
       posted_same (Some d) p = refl
 
-      looks : (v : Group) (p : Parties) → p.nodes ≡ q.nodes → LooksAt v i p q' loose → length q'.nodes ≡ length q.nodes
-      looks v p same (b, new, _, is) = ap (λ (p : Parties). length p.nodes) is ∙ ap length (posted_same new (with_node p i b)) ∙ length-set p.nodes i b ∙ ap length same
+      looks : (v : Group) (p : Parties) → p.nodes ≡ q.nodes → LooksAt v i p q' loose → length q.nodes ≤ length q'.nodes
+      looks v p same (b, new, _, is) = as_many (ap (λ (p : Parties). length p.nodes) is ∙ ap length (posted_same new (with_node p i b)) ∙ length-set p.nodes i b ∙ ap length same)
 
-      by_event : (f : Event) → Acts f i d q q' loose → length q'.nodes ≡ length q.nodes
-      by_event (Stop by) (b, _, is, _) = ap (λ (p : Parties). length p.nodes) is ∙ length-set q.nodes i b
+      one_more : (b m : Shown) (v : Group) → q' ≡ joining m (viewing v (with_node q i b)) → length q.nodes ≤ length q'.nodes
+      one_more b m v is = omega (arith, ap (λ (p : Parties). length p.nodes) is ∙ length_push (set q.nodes i b) m, length-set q.nodes i b)
+
+      by_event : (f : Event) → Acts f i d q q' loose → length q.nodes ≤ length q'.nodes
+      by_event (Stop by) (b, _, is, _) = as_many (ap (λ (p : Parties). length p.nodes) is ∙ length-set q.nodes i b)
+      by_event (Admit by name) k = one_more k.2.0 _ (admitting q i name) k.2.3
       by_event (Mark by dead) k = looks (marked (newest_of q) d) (viewing (marked (newest_of q) d) q) refl k
       by_event (Refresh by version) k = looks (view_at q.views version) q refl k
       by_event (Erase by origin) k = looks (erasing q d) (viewing (erasing q d) q) refl k
-      by_event (Refuse code inner) k = ap (λ (p : Parties). length p.nodes) k.0
+      by_event (Refuse code inner) k = as_many (ap (λ (p : Parties). length p.nodes) k.0)
       by_event f (b, _, is, _) = one b is
 
   -- a loose end goes to a member
@@ -190,6 +205,7 @@ module _ (credit : CreditSpec) (names : List (List ℕ)) (events : List Event) w
       by_event (Mark by dead) (b, new, how, _) = looks_at (marked (newest_of q) d) (posting new (with_node q i b)) (b, new, how, refl)
       by_event (Refresh by version) k = looks_at (view_at q.views version) q' k
       by_event (Erase by origin) (b, new, how, _) = looks_at (erasing q d) (posting new (with_node q i b)) (b, new, how, refl)
+      by_event (Admit by name) k = looks_at (admitting q i name) (posting k.2.1 (with_node q i k.2.0)) (k.2.0, k.2.1, k.2.2, refl)
       by_event (Refuse code inner) k = never k.1
       by_event f k = never k.3
 
@@ -218,13 +234,14 @@ module _ (credit : CreditSpec) (names : List (List ℕ)) (events : List Event) w
       by_event (Mark by dead) e k l = (other_is by dead (event.mark_refusal w) (id_named q dead) refl k e, up (λ y. of_member (id_of w dead) (event.mark_refusal w y)) (id_of w by) k e l)
       by_event (Erase by origin) e k l = (other_is by origin (event.erase_refusal w) (id_named q origin) refl k e, up (λ y. of_member (id_of w origin) (event.erase_refusal w y)) (id_of w by) k e l)
       by_event (Refresh by version) e k l = up (λ y. refresh_refusal w y version) (id_of w by) k e l
+      by_event (Admit by name) e k l = up (λ _. event.admit_refusal w name) (id_of w by) k e l
       by_event (Pick by) e k l = up (λ y. or_else (refuse_if (is_some (member_at w y).current) reason.HasCurrentLink) (pick_refusal w y)) (id_of w by) k e l
       by_event f e k l = tt
 
-  pub acted : (q q' : Parties) (e : Event) (i : ℕ) (loose : Option (LinkName × OutSeen)) → StandAfter credit names events q → is_plain e ≡ true → act_refused e i q ≡ None → id_named q (by_of e) ≡ Some (i + 1)
+  pub acted : (q q' : Parties) (e : Event) (i : ℕ) (loose : Option (LinkName × OutSeen)) → StandAfter credit names events q → act_refused e i q ≡ None → id_named q (by_of e) ≡ Some (i + 1)
       → ((node_at q i).held.phase ≡ Up → NothingWaits (i + 1) q) → length events + 1 < 2 ^ 59 → Acts e i (marked_in e q) q q' loose
       → BetweenAfter credit names (events ++ e ∷ []) (moved_by (i + 1) (state credit names (events ++ e ∷ []))) q' loose
-  acted q q' e i loose s plain refused named waits few a = record {
+  acted q q' e i loose s refused named waits few a = record {
     journal = journal;
     stand = stand;
     goes = λ name o k. goes name o (subst (Acts e i (marked_in e q) q q') k a);
@@ -234,12 +251,11 @@ module _ (credit : CreditSpec) (names : List (List ℕ)) (events : List Event) w
       w = state credit names events
 
       enabled : refusal w e ≡ None
-      enabled = sym (refused_is q e i s plain named waits) ∙ refused
+      enabled = sym (refused_is q e i s named waits) ∙ refused
 
       journal : IsJournal credit names (events ++ e ∷ [])
       journal = record {
         are = s.journal.are;
-        plain = plain_push events e s.journal.plain plain;
         run = run_append (opening credit names) events (e ∷ []) s.journal.run (enabled, tt);
         few = subst (λ n. n < 2 ^ 59) (sym (length_push events e)) few;
       }
@@ -256,14 +272,14 @@ module _ (credit : CreditSpec) (names : List (List ℕ)) (events : List Event) w
       goes : (name : LinkName) (o : OutSeen) → Acts e i (marked_in e q) q q' (Some (name, o)) → GoesIn (state credit names (events ++ e ∷ [])) name
       goes name o k =
           let in_old = loose_goes q q' e i (marked_in e q) name o s (found_place q (by_of e) i named) k in
-          let many : length q'.nodes ≡ length q.nodes = many_after q q' e i (marked_in e q) loose a in
+          let many : length q.nodes ≤ length q'.nodes = many_after q q' e i (marked_in e q) loose a in
           (in_old.0, omega (arith, in_old.1, many, s.stand.stand.count, stand.stand.count))
 
   -- there are as many members then
   pub still_there : (q q' q'' : Parties) (e : Event) (i : ℕ) (loose : Option (LinkName × OutSeen)) (ids : List ℕ) → i < length q.nodes → Acts e i (marked_in e q) q q' loose
       → BetweenAfter credit names (events ++ e ∷ []) ids q' loose → BetweenAfter credit names (events ++ e ∷ []) ids q'' None → i < length q''.nodes
   still_there q q' q'' e i loose ids l a b later =
-      let many : length q'.nodes ≡ length q.nodes = many_after q q' e i (marked_in e q) loose a in
+      let many : length q.nodes ≤ length q'.nodes = many_after q q' e i (marked_in e q) loose a in
       omega (arith, l, many, b.stand.stand.count, later.stand.stand.count)
 
   -- ---- the loose end meets its other end
@@ -285,8 +301,7 @@ module _ (credit : CreditSpec) (names : List (List ℕ)) (events : List Event) w
 
   pub few_stand : (q : Parties) → StandAfter credit names events q → length q.nodes ≤ 64
   few_stand q s =
-      let many = run_many credit names events s.journal.are s.journal.plain s.journal.run in
-      omega (arith, many, s.stand.stand.count, s.journal.are.few)
+      omega (arith, (lawful_after credit names events s.journal).fit.few, s.stand.stand.count)
 
   pub few_after : (nodes : List Party) (r : Registry (PlainIn Load)) (behind : List Posted) → StandAfter credit names events (parties nodes r behind) → length nodes ≤ 64
   few_after nodes r behind s =
@@ -304,16 +319,6 @@ module _ (credit : CreditSpec) (names : List (List ℕ)) (events : List Event) w
       let known : is_known r (i + 1) ≡ true = knows w r (i + 1) (lawful_after credit names events s.journal).fit.good (registrar_stands credit.initial w nodes r [] s.stand.places s.stand.stand) (omega arith) (within_after credit names events q i s inside) in
       ap (λ b. or_else (refuse_if (not b) reason.UnknownMember) (refuse_if (is_in (i + 1) r.stopped) reason.Stopped)) known
       ∙ ap (λ b. refuse_if b reason.Stopped) heard
-
-  -- one condition more of a member that refuses nothing before
-  up_later : (k : Held) (a b : Option Reason) → up_refused k a ≡ None → b ≡ None → up_refused k b ≡ None
-  up_later k a b e n = by_parts (refuse_if (is_stopped k.phase) reason.Stopped) (refuse_if (is_waiting k.phase) reason.Waiting) (refuse_if k.asks reason.AwaitingAnswer) e
-    where
-      by_parts : (s w q : Option Reason) → or_else s (or_else w (or_else q a)) ≡ None → or_else s (or_else w (or_else q b)) ≡ None
-      by_parts None None None e = n
-      by_parts (Some x) w q e = cc
-      by_parts None (Some x) q e = cc
-      by_parts None None (Some x) e = cc
 
   -- a view that a member may read is published, and the member stands in it
   pub stands_after : (nodes : List Party) (r : Registry (PlainIn Load)) (i version : ℕ) → StandAfter credit names events (parties nodes r []) → i < length nodes → MayLookAt r (node_at (parties nodes r []) i) version

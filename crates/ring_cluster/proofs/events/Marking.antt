@@ -66,7 +66,7 @@ first_packet w x i m z n k f =
 -- ---- one of the two ways to look
 
 -- what holds where a test passes
-when_true : (c : Bool) (A : Type 0) → c ≡ true → When c A → A
+pub when_true : (c : Bool) (A : Type 0) → c ≡ true → When c A → A
 when_true true A e a = a
 when_true false A e a = absurd (false≢true e)
 
@@ -154,6 +154,7 @@ view_stands initial w g q h own st = record {
         (λ ds e. filter_agree (waits_for u z) (waits_for w z) 0 (length w.links) (λ s a b. waits_view w g z s h (omega arith)) ∙ e);
     views = ap (λ vs. vs ++ g ∷ []) st.stand.views;
     stopped = st.stand.stopped;
+    nobody_else = st.stand.nobody_else;
     post = st.stand.post;
     within = st.stand.within;
     carry = λ s l i. carries_logs initial w u (link_at w s) (p.outs s) (p.ins s) (λ y. refl) (st.stand.carry s l (had s l i));

@@ -9,7 +9,7 @@ use Rattle.ordered_link.specs.declared.plain.PlainIn.{PlainIn}
 use Rattle.group_view.specs.Since.{view_at}
 use Rattle.ring_world.specs.Refusal.{refuse_if, or_else}
 use Rattle.ring_world.specs.declared.event.Event.{Event}
-use Rattle.ring_world.specs.declared.event.Event.TheVariants.{Mark, Refresh, Pick, Erase, Refuse}
+use Rattle.ring_world.specs.declared.event.Event.TheVariants.{Mark, Refresh, Admit, Pick, Erase, Refuse}
 use Rattle.ring_world.specs.declared.event.Client.{Client}
 use Rattle.ring_world.specs.Machine.{World, member_at, view_in}
 use Rattle.ring_world.specs.Step.{size}
@@ -27,22 +27,20 @@ use Rattle.gm_member.specs.Stands.{held_in}
 use Rattle.gm_member.proofs.PickStands.{pick_refuses}
 use Rattle.ring_cluster.specs.declared.party.Party.{Party}
 use Rattle.ring_cluster.specs.Parties.{Shown, Posted, Parties, parties, posted, node_at}
-use Rattle.ring_cluster.specs.Seen.{state, IsEventAt}
+use Rattle.ring_cluster.specs.Seen.{state, IsEventIn}
 use Rattle.ring_cluster.specs.Standing.{Stand, StandIn, StandAfter}
 use Rattle.ring_cluster.specs.Acting.{waits_at, received, is_kept_by, alone_refused, look_refused, newest_of}
-use Rattle.ring_cluster.specs.Refused.{id_named, with_post, erase_refused, telling_refused}
+use Rattle.ring_cluster.specs.Refused.{id_named, with_post, erase_refused, admission_refused, telling_refused}
 use Rattle.ring_cluster.proofs.work.Fresh.{reached_fresh}
 use Rattle.ring_cluster.proofs.events.After.{lawful_after, within_after, member_after, id_after}
 use Rattle.ring_cluster.proofs.events.AloneGoes.{IsAlone}
 use Rattle.ring_cluster.proofs.events.AloneRefusals.{alone_refusal_is}
 use Rattle.ring_cluster.proofs.events.Found.{named_alike}
 use Rattle.ring_cluster.proofs.events.OneEvent.{held_but_door}
-use Rattle.ring_cluster.proofs.events.Refusing.{look_refuses, mark_refuses, nobody_named, erase_refuses, telling_refuses}
+use Rattle.ring_cluster.proofs.events.Refusing.{look_refuses, mark_refuses, nobody_named, erase_refuses, admit_refuses, telling_refuses}
 use Rattle.ring_cluster.proofs.post.Collections.{AreFresh, without_to, none_to, collected}
 use Rattle.ring_cluster.proofs.post.Handing.{registrar_stands}
 use Rattle.ring_cluster.proofs.post.Waiting.{registrar_waits}
-use Rattle.ring_cluster.proofs.rounds.Holding.{nodes_many}
-use Rattle.ring_cluster.proofs.rounds.Named.{run_found}
 use Rattle.ring_cluster.proofs.standing.Lookers.{whole_held}
 
 -- with what waits for it at its door a member holds what the state has for it
@@ -84,11 +82,11 @@ module _ (credit : CreditSpec) (names : List (List ℕ)) (events : List Event) (
   w = state credit names events
 
   -- the event is found at the place
-  inside : (e : Event) → IsEventAt names i e → i < length q.nodes
-  inside e at = omega (arith, at.0, nodes_many credit names events q s)
+  inside : (e : Event) → IsEventIn w i e → i < length q.nodes
+  inside e at = omega (arith, at.0, s.stand.stand.count)
 
-  named : (e : Event) → IsEventAt names i e → id_of w (by_of e) ≡ Some (i + 1)
-  named e at = ap (id_of w) at.1 ∙ run_found credit names events i s.journal.are s.journal.plain s.journal.run at.0
+  named : (e : Event) → IsEventIn w i e → id_of w (by_of e) ≡ Some (i + 1)
+  named e at = ap (id_of w) at.1 ∙ (lawful_after credit names events s.journal).fit.named (i + 1) (omega arith) at.0
 
   place : i + 1 - 1 ≡ i
   place = omega arith
@@ -97,23 +95,27 @@ module _ (credit : CreditSpec) (names : List (List ℕ)) (events : List Event) (
   whole l =
       ap (λ x. collected_held (node_at q i).held (map (received (node_at q i).held) (filter (waits_at x) q.post))) (id_after credit names events q i s l)
       ∙ subst (λ j. collected_held (node_at q j).held (map (received (node_at q j).held) (filter (waits_at (i + 1)) q.post)) ≡ held_in w (i + 1)) place
-      (whole_gathered credit.initial w q (i + 1) (lawful_after credit names events s.journal).fit.good (reached_fresh credit names events s.journal.are s.journal.plain s.journal.run) (omega arith) (within_after credit names events q i s l) s.stand)
+      (whole_gathered credit.initial w q (i + 1) (lawful_after credit names events s.journal).fit.good (reached_fresh credit names events s.journal.are s.journal.run) (omega arith) (within_after credit names events q i s l) s.stand)
 
   -- ---- each event
 
-  pub alone_reads : (e : Event) → IsEventAt names i e → IsAlone e (i + 1) q → alone_refused e (node_at q i) ≡ refusal w e
+  pub alone_reads : (e : Event) → IsEventIn w i e → IsAlone e (i + 1) q → alone_refused e (node_at q i) ≡ refusal w e
   alone_reads e at alone = subst (λ j. alone_refused e (node_at q j) ≡ refusal w e) place (alone_refusal_is credit w q e (i + 1) (lawful_after credit names events s.journal) s.stand (named e at) alone)
 
-  pub look_reads : (by : List ℕ) (version : ℕ) → IsEventAt names i (Refresh by version) → look_refused (newest_of q).version (node_at q i) version ≡ refusal w (Refresh by version)
+  pub look_reads : (by : List ℕ) (version : ℕ) → IsEventIn w i (Refresh by version) → look_refused (newest_of q).version (node_at q i) version ≡ refusal w (Refresh by version)
   look_reads by version at = subst (λ j. look_refused (newest_of q).version (node_at q j) version ≡ refusal w (Refresh by version)) place
       (look_refuses credit w q (i + 1) version by (lawful_after credit names events s.journal) (named (Refresh by version) at) s.stand)
 
-  pub pick_reads : (by : List ℕ) → IsEventAt names i (Pick by) → pick_refused (with_post (node_at q i).held q.post) ≡ refusal w (Pick by)
+  pub pick_reads : (by : List ℕ) → IsEventIn w i (Pick by) → pick_refused (with_post (node_at q i).held q.post) ≡ refusal w (Pick by)
   pick_reads by at =
       ap pick_refused (whole (inside (Pick by) at)) ∙ pick_refuses w (i + 1) (lawful_after credit names events s.journal).fit.good
       ∙ sym (ap (λ o. of_member o (λ y. up_refusal w y (or_else (refuse_if (is_some (member_at w y).current) reason.HasCurrentLink) (pick_refusal w y)))) (named (Pick by) at))
 
-  pub telling_reads : (code : ℕ) (inner : Client) → IsEventAt names i (Refuse code inner) → telling_refused (newest_of q) code inner (node_at q i) ≡ refusal w (Refuse code inner)
+  pub admit_reads : (by name : List ℕ) → IsEventIn w i (Admit by name) → up_refused (node_at q i).held (admission_refused (newest_of q) name) ≡ refusal w (Admit by name)
+  admit_reads by name at = subst (λ j. up_refused (node_at q j).held (admission_refused (newest_of q) name) ≡ refusal w (Admit by name)) place
+      (admit_refuses credit w q (i + 1) by name (named (Admit by name) at) s.stand)
+
+  pub telling_reads : (code : ℕ) (inner : Client) → IsEventIn w i (Refuse code inner) → telling_refused (newest_of q) code inner (node_at q i) ≡ refusal w (Refuse code inner)
   telling_reads code inner at = subst (λ j. telling_refused (newest_of q) code inner (node_at q j) ≡ refusal w (Refuse code inner)) place
       (telling_refuses credit w q (i + 1) code inner (named (Refuse code inner) at) s.stand)
 
@@ -122,24 +124,24 @@ module _ (credit : CreditSpec) (names : List (List ℕ)) (events : List Event) (
   other_named other = sym (named_alike credit.initial w q s.stand.places other s.stand.stand)
 
   -- where nobody has the name
-  nobody_reads : (e : Event) (other : List ℕ) (later : ℕ → ℕ → Option Reason) → IsEventAt names i e → id_named q other ≡ None → up_refused (node_at q i).held (Some reason.UnknownMember) ≡ of_member (id_of w (by_of e)) (λ y. up_refusal w y (of_member (id_of w other) (later y)))
+  nobody_reads : (e : Event) (other : List ℕ) (later : ℕ → ℕ → Option Reason) → IsEventIn w i e → id_named q other ≡ None → up_refused (node_at q i).held (Some reason.UnknownMember) ≡ of_member (id_of w (by_of e)) (λ y. up_refusal w y (of_member (id_of w other) (later y)))
   nobody_reads e other later at none = subst (λ j. up_refused (node_at q j).held (Some reason.UnknownMember) ≡ of_member (id_of w (by_of e)) (λ y. up_refusal w y (of_member (id_of w other) (later y)))) place
       (nobody_named credit w q (i + 1) (by_of e) other later (named e at) (other_named other ∙ none) s.stand)
 
-  pub mark_reads_unknown : (by dead : List ℕ) → IsEventAt names i (Mark by dead) → id_named q dead ≡ None → up_refused (node_at q i).held (Some reason.UnknownMember) ≡ refusal w (Mark by dead)
+  pub mark_reads_unknown : (by dead : List ℕ) → IsEventIn w i (Mark by dead) → id_named q dead ≡ None → up_refused (node_at q i).held (Some reason.UnknownMember) ≡ refusal w (Mark by dead)
   mark_reads_unknown by dead = nobody_reads (Mark by dead) dead (event.mark_refusal w)
 
-  pub erase_reads_unknown : (by origin : List ℕ) → IsEventAt names i (Erase by origin) → id_named q origin ≡ None → up_refused (node_at q i).held (Some reason.UnknownMember) ≡ refusal w (Erase by origin)
+  pub erase_reads_unknown : (by origin : List ℕ) → IsEventIn w i (Erase by origin) → id_named q origin ≡ None → up_refused (node_at q i).held (Some reason.UnknownMember) ≡ refusal w (Erase by origin)
   erase_reads_unknown by origin = nobody_reads (Erase by origin) origin (event.erase_refusal w)
 
-  pub erase_reads : (nodes : List Party) (r : Registry (PlainIn Load)) (behind : List Posted) → q ≡ parties nodes r behind → (by origin : List ℕ) (p : ℕ) → IsEventAt names i (Erase by origin) → id_named q origin ≡ Some p
+  pub erase_reads : (nodes : List Party) (r : Registry (PlainIn Load)) (behind : List Posted) → q ≡ parties nodes r behind → (by origin : List ℕ) (p : ℕ) → IsEventIn w i (Erase by origin) → id_named q origin ≡ Some p
       → erase_refused r (node_at q i) (Some p) ≡ refusal w (Erase by origin)
   erase_reads nodes r behind is by origin p at there = subst (λ j. erase_refused r (node_at q j) (Some p) ≡ refusal w (Erase by origin)) place
       (erase_refuses credit w r q (i + 1) p by origin (lawful_after credit names events s.journal)
       (registrar_stands credit.initial w nodes r behind s.stand.places (subst (λ z. StandIn credit.initial w z s.stand.places) is s.stand.stand))
       (named (Erase by origin) at) (other_named origin ∙ there) s.stand)
 
-  pub mark_reads : (nodes : List Party) (r : Registry (PlainIn Load)) (behind : List Posted) → q ≡ parties nodes r behind → (by dead : List ℕ) (d : ℕ) → IsEventAt names i (Mark by dead) → id_named q dead ≡ Some d
+  pub mark_reads : (nodes : List Party) (r : Registry (PlainIn Load)) (behind : List Posted) → q ≡ parties nodes r behind → (by dead : List ℕ) (d : ℕ) → IsEventIn w i (Mark by dead) → id_named q dead ≡ Some d
       → up_refused (node_at q i).held (mark_refusal r (node_at q i).held.id d (node_at q i).held.view.version (has_link (with_post (node_at q i).held q.post))) ≡ refusal w (Mark by dead)
   mark_reads nodes r behind is by dead d at dead_is =
       ap (λ k. up_refused (node_at q i).held (mark_refusal r (node_at q i).held.id d (node_at q i).held.view.version (has_link k))) now

@@ -13,7 +13,7 @@ use Rattle.group_view.specs.Since.{view_at}
 use Rattle.ring_world.specs.Refusal.{refuse_if, or_else}
 use Rattle.ring_world.specs.declared.phase.Phase.{Phase}
 use Rattle.ring_world.specs.declared.phase.Phase.TheVariants.{Waiting, Up, Stopped}
-use Rattle.ring_world.specs.declared.event.Event.TheVariants.{Mark, Refresh, Erase, Refuse}
+use Rattle.ring_world.specs.declared.event.Event.TheVariants.{Mark, Refresh, Admit, Erase, Refuse}
 use Rattle.ring_world.specs.declared.event.Client.{Client}
 use Rattle.ring_world.specs.declared.event.Client.TheVariants as client
 use Rattle.ring_world.specs.Machine.{World, member_at, newest, is_waiting}
@@ -143,7 +143,7 @@ pub mark_asked_refuses : (credit : CreditSpec) (w : World) (q : Parties) (x d : 
 mark_asked_refuses credit w q x d name dead m g named there st none is =
     let at : (1 ≤ x) × (x < size w) = id_within w name x named in
     let held : m.held ≡ held_in w x = ap (λ (k : Shown). k.held) is ∙ held_whole credit.initial w q x at.0 at.1 st none in
-    let office : StandsIn w (office_of q) = record { views = st.stand.views; stopped = st.stand.stopped } in
+    let office : StandsIn w (office_of q) = record { views = st.stand.views; stopped = st.stand.stopped; nobody_else = st.stand.nobody_else } in
     ap (λ (k : Held). up_refused k (mark_refusal (office_of q) x d k.view.version (is_some k.current || is_some (first_at_door k)))) held
     ∙ mark_refuses w (office_of q) x d name dead g.fit.good office named there
     (λ left. ap (λ b. has_link (held_in w x) || b) (none_from d x (since_in (view_at q.views (member_at w x).version) x) q.post none) ∙ or_nothing (has_link (held_in w x)))
@@ -193,7 +193,13 @@ client_refuses credit w q x inner some lt st = by_client inner
         ap (λ (k : Held). up_refused k (admission_refused (newest_of q) name)) same
         ∙ ap (λ g. up_refusal w x (admission_refused g name)) (newest_is w q st.stand.views)
 
--- so it tells the client so just where the ring does
+-- so it admits nobody just where the ring does
+pub admit_refuses : (credit : CreditSpec) (w : World) (q : Parties) (x : ℕ) (by name : List ℕ) → id_of w by ≡ Some x → Stand credit.initial w q → up_refused (node_at q (x - 1)).held (admission_refused (newest_of q) name) ≡ refusal w (Admit by name)
+admit_refuses credit w q x by name named st =
+    let at : (1 ≤ x) × (x < size w) = id_within w by x named in
+    client_refuses credit w q x (client.Admit by name) at.0 at.1 st ∙ sym (ap (λ o. of_member o (refused_at w (Admit by name))) named)
+
+-- and tells the client so just where the ring does
 pub telling_refuses : (credit : CreditSpec) (w : World) (q : Parties) (x code : ℕ) (inner : Client) → id_of w (asked_of inner) ≡ Some x → Stand credit.initial w q → telling_refused (newest_of q) code inner (node_at q (x - 1)) ≡ refusal w (Refuse code inner)
 telling_refuses credit w q x code inner named st =
     let at : (1 ≤ x) × (x < size w) = id_within w (asked_of inner) x named in
@@ -224,13 +230,15 @@ mark_same nodes r m d =
 -- and for any question for a view
 pub ask_same : (nodes : List Party) (r : Registry (PlainIn Load)) (m : Shown) (what : Ask) → ask_refused (office_of (parties nodes r [])) m what ≡ ask_refused r m what
 ask_same nodes r m (ask.Mark dead) = mark_same nodes r m dead.0
+ask_same nodes r m (ask.Admit name) = refl
 ask_same nodes r m (ask.Erase origin) = refl
 ask_same nodes r m ask.Refresh = refl
 ask_same nodes r m ask.Collect = refl
 
 -- and makes the same view
-pub view_for_same : (nodes : List Party) (r : Registry (PlainIn Load)) (what : Ask) → view_for (office_of (parties nodes r [])) what ≡ view_for r what
-view_for_same nodes r (ask.Mark dead) = refl
-view_for_same nodes r (ask.Erase origin) = refl
-view_for_same nodes r ask.Refresh = refl
-view_for_same nodes r ask.Collect = refl
+pub view_for_same : (nodes : List Party) (r : Registry (PlainIn Load)) (x : ℕ) (what : Ask) → view_for (office_of (parties nodes r [])) x what ≡ view_for r x what
+view_for_same nodes r x (ask.Mark dead) = refl
+view_for_same nodes r x (ask.Admit name) = refl
+view_for_same nodes r x (ask.Erase origin) = refl
+view_for_same nodes r x ask.Refresh = refl
+view_for_same nodes r x ask.Collect = refl

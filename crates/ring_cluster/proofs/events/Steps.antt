@@ -146,6 +146,7 @@ pub record Steps (initial : ℕ) (w w' : World) (q : Parties) (ids : List ℕ) (
   pub it : MemberStands w' p' x b
   pub held : (y : ℕ) → y ≢ x → held_in w y ≡ held_in w' y
   pub told : (y : ℕ) → is_in y q.stopped ≡ is_stopped (member_at w y).phase → is_in y ids ≡ is_stopped (member_at w' y).phase
+  pub none_told : (y : ℕ) → size w ≤ y → is_in y q.stopped ≡ false → is_in y ids ≡ false
   pub outs : (s : ℕ) → (member_at w x).out ≢ Some s → p'.outs s ≡ p.outs s
   pub ins : (s : ℕ) → (member_at w x).current ≢ Some s → p'.ins s ≡ p.ins s
   pub carry : (s : ℕ) → has_in w' s ≡ true → Carries w initial (link_at w s) (p.outs s) (p.ins s) → Carries w' initial (link_at w' s) (p'.outs s) (p'.ins s)
@@ -163,6 +164,7 @@ steps credit w w' q ids p' i b st h lt k = record {
         (each_set w w' q p p' x b st.stand.count some lt k.it others z c (omega (arith, left.size_is)));
     views = left.views ∙ st.stand.views;
     stopped = λ z c m. k.told z (st.stand.stopped z c (omega (arith, left.size_is)));
+    nobody_else = λ z ge. (let beyond : size w ≤ z = omega (arith, ge, left.size_is) in k.none_told z beyond (st.stand.nobody_else z beyond));
     post = st.stand.post ∙ map_agree (waiting_at w p) (waiting_at w' p') p.post waits_on ∙ ap (map (waiting_at w' p')) (sym k.post);
     within = λ s e. (let there : s < length w.links = st.stand.within s (ap (is_in s) (sym k.post) ∙ e) in omega (arith, left.many));
     carry = λ s l has. k.carry s has (st.stand.carry s (omega (arith, left.many)) (left.opens s has));
@@ -240,6 +242,7 @@ pub record SendsOnce (credit : CreditSpec) (w : World) (ms : List Member) (q : P
   pub does : Does w (sends_in w ms s l) (i + 1) (node_at q i) b (Some o) (node_at q i).ends.link
   pub held : (y : ℕ) → y ≢ i + 1 → held_in w y ≡ held_in (sends_in w ms s l) y
   pub told : (y : ℕ) → is_in y q.stopped ≡ is_stopped (member_at w y).phase → is_in y ids ≡ is_stopped (member_at (sends_in w ms s l) y).phase
+  pub none_told : (y : ℕ) → size w ≤ y → is_in y q.stopped ≡ false → is_in y ids ≡ false
   pub carries : Carries w credit.initial (link_at w s) (p.outs s) (p.ins s) → Carries w credit.initial l o (p.ins s)
 
 -- so all parties stand then, with all else as it was
@@ -261,6 +264,7 @@ sends_once credit w ms q ids i s l o b st h lt k =
       it = ways_stand w w' p p' x (node_at q i) b (Some o) (node_at q i).ends.link k.ways refl (λ j _. refl) k.does (ap Some (sym here) ∙ ap (option_map p'.outs) (sym k.out)) a.link a;
       held = k.held;
       told = k.told;
+      none_told = k.none_told;
       outs = λ j ne. other j (λ (same : j ≡ s). ne (k.out ∙ ap Some (sym same)));
       ins = λ j _. refl;
       carry = λ j _ c. carries_at credit.initial w w' p p' s l k.logs (get_or-set_same w.links s l no_link sl) (λ t ne. (other_link t ne, other t ne, refl))
@@ -285,5 +289,6 @@ goes_out credit w w' q q' i loose becomes o b st h on same is none held does car
       does = does;
       held = held;
       told = λ y r. r;
+      none_told = λ y _ r. r;
       carries = carries;
     }))

@@ -1,5 +1,5 @@
 -- Where a member has taken a packet, the parties stand in the state after the ring's take.
-use Rattle.std.proofs.Common.{◌≡◌, ◌≢◌, ℕ, ◌+◌, ◌<◌, Bool, true, false, cond, List, [], ◌∷◌, ◌++◌, length, drop, get_or, Option, Some, None, refl, sym, ap, subst, ◌∙◌, ⊎_elim, arith}
+use Rattle.std.proofs.Common.{◌≡◌, ◌≢◌, ℕ, ◌+◌, ◌<◌, ◌≤◌, Bool, true, false, cond, List, [], ◌∷◌, ◌++◌, length, drop, get_or, Option, Some, None, refl, sym, ap, subst, ◌∙◌, ⊎_elim, arith}
 use Rattle.std.specs.Prelude.{option_map}
 use Rattle.std.proofs.lemmas.Bool.{false≢true, cases_eq}
 use Rattle.std.proofs.lemmas.List.{get_or-set_same, get_or-set_other}
@@ -9,21 +9,23 @@ use Rattle.credit_flow.specs.Credit.{grant_due}
 use Rattle.credit_flow.specs.Link.{with_grant}
 use Rattle.group_view.specs.declared.link.LinkName.{LinkName}
 use Rattle.ring_world.specs.declared.event.Event.TheVariants.{Take}
-use Rattle.ring_world.specs.declared.phase.Phase.TheVariants.{Up}
+use Rattle.ring_world.specs.declared.phase.Phase.{Phase}
+use Rattle.ring_world.specs.declared.phase.Phase.TheVariants.{Waiting, Up, Stopped}
 use Rattle.ring_world.specs.Refusal.{is_empty}
-use Rattle.ring_world.specs.Machine.{World, Packet, Sending, Link, no_link, no_packet, member_at, link_at, is_waiting, oldest}
+use Rattle.ring_world.specs.Machine.{World, Member, Packet, Sending, Link, no_link, no_packet, member_at, link_at, is_waiting, oldest}
 use Rattle.ring_world.specs.Compact.{passed}
-use Rattle.ring_world.specs.Step.{size, with_member, taker, popped, take_from}
-use Rattle.ring_world.specs.Event.{id_of, running_refusal, on_link, take_refusal, holds_nothing, at_found, taken_by, refusal, effect}
-use Rattle.ring_world.proofs.events.Enabled.{running_phase, running_later, take_effect}
-use Rattle.ring_world.proofs.runs.OwnLogs.{take_log}
+use Rattle.ring_world.specs.Step.{size, with_member, with_link, taker, begun, popped}
+use Rattle.ring_world.specs.Event.{id_of, running_refusal, on_link, take_refusal, holds_nothing, at_found, taken_by, is_stopped, refusal, effect}
+use Rattle.ring_world.proofs.events.Enabled.{running_later, take_effect}
 use Rattle.ring_world.proofs.events.Refusals.{id_within, none_of, not_less}
 use Rattle.gm_member.specs.Parcels.{ByOrigin}
 use Rattle.gm_member.specs.Held.{Held, Incoming, at_some, took_from, began_from, took_held}
-use Rattle.gm_member.specs.Stands.{incoming_in, lines_in, waits_for}
+use Rattle.gm_member.specs.Stands.{incoming_in, held_in, lines_in, waits_for}
 use Rattle.gm_member.proofs.Parts.{current_waits_not}
+use Rattle.gm_member.proofs.Fit.{IsFit}
+use Rattle.gm_member.proofs.BeginStands.{BeginsFrom, begin_stands}
 use Rattle.gm_member.proofs.TakeStands.{TakesFrom, take_stands}
-use Rattle.gm_member.proofs.Others.{take_others}
+use Rattle.gm_member.proofs.Others.{take_others, begin_others}
 use Rattle.ring_cluster.specs.Ends.{Sent, OutSeen, InSeen, packet_in, packets_in, end_items, Carries, HasRested}
 use Rattle.ring_cluster.specs.Parties.{Shown, Parties, node_at, with_node}
 use Rattle.ring_cluster.specs.Standing.{Places, MemberStands, Stand}
@@ -33,7 +35,7 @@ use Rattle.ring_cluster.proofs.work.Lawful.{IsLawfulAt}
 use Rattle.ring_cluster.proofs.meetings.NamedLinks.{current_has}
 use Rattle.ring_cluster.proofs.standing.Writing.{placed_same, placed_other}
 use Rattle.ring_cluster.proofs.standing.Showing.{with_ins}
-use Rattle.ring_cluster.proofs.standing.Frames.{SameWays, link_ways, member_ways, ways_both, same_in, Does, StandMoved}
+use Rattle.ring_cluster.proofs.standing.Frames.{SameWays, link_ways, member_ways, ways_both, same_of, same_in, Does, StandMoved}
 use Rattle.ring_cluster.proofs.events.OneEvent.{found_later, found_does, link_there, made_of, stands_at, held_but_door}
 use Rattle.ring_cluster.proofs.meetings.Known.{not_left}
 use Rattle.ring_cluster.proofs.events.Steps.{goes_so, ways_leave, same_phases, carries_at, steps, ways_stand}
@@ -90,24 +92,38 @@ took_door g ds k = by_current g.current
 
 -- ---- the parties
 
-take_ways : (w : World) (x s : ℕ) → x < size w → s < length w.links → SameWays w (take_from w x s)
-take_ways w x s lt sl =
-    let w1 : World = with_member w x (taker w x s) in
-    ways_both w w1 (take_from w x s) (member_ways w x (taker w x s) lt refl refl refl) (link_ways w1 s (popped (link_at w s)) sl refl)
+-- x is y, and the oldest packet is gone from link s
+abbrev takes_in : World → ℕ → ℕ → Member → World
+takes_in w x s y = with_link (with_member w x y) s (popped (link_at w s))
+
+-- x takes from link s, and is y then.
+record TakesAs (w : World) (x s : ℕ) (k : ByOrigin) (y : Member) : Type 0 where
+  is_member : x < size w
+  current : (member_at w x).current ≡ Some s
+  has : is_empty (link_at w s).packets ≡ false
+  same : (y.version ≡ (member_at w x).version) × (y.current ≡ (member_at w x).current) × (y.out ≡ (member_at w x).out) × (y.log ≡ (member_at w x).log)
+  runs_on : is_stopped y.phase ≡ is_stopped (member_at w x).phase
+  stands : k.lines ≡ lines_in w (link_at w s).had (oldest (link_at w s)) → took_held (held_in w x) k ≡ held_in (takes_in w x s y) x
+  others : (z : ℕ) → z ≢ x → held_in w z ≡ held_in (takes_in w x s y) z
+
+take_ways : (w : World) (x s : ℕ) (k : ByOrigin) (y : Member) → s < length w.links → TakesAs w x s k y → SameWays w (takes_in w x s y)
+take_ways w x s k y sl t =
+    let w1 : World = with_member w x y in
+    ways_both w w1 (takes_in w x s y) (member_ways w x y t.is_member t.same.0 t.same.1 t.same.2) (link_ways w1 s (popped (link_at w s)) sl refl)
 
 -- the end of the link s from which x takes shows something else
-take_steps : (credit : CreditSpec) (w : World) (i s : ℕ) (q : Parties) (b : Shown) (n : InSeen) (k : ByOrigin) (st : Stand credit.initial w q) → IsLawfulAt credit w → TakesFrom w (i + 1) s
+take_steps : (credit : CreditSpec) (w : World) (i s : ℕ) (q : Parties) (b : Shown) (n : InSeen) (k : ByOrigin) (y : Member) (st : Stand credit.initial w q) → IsLawfulAt credit w → TakesAs w (i + 1) s k y
     → TakesIn (due_of (node_at q i).held) (st.places.ins s) (sent_of k) n → b ≡ record { held = took_held (node_at q i).held k; ends = record (node_at q i).ends { link = Some n } }
-    → StandMoved credit.initial (i + 1) (take_from w (i + 1) s) (with_node q i b) None
-take_steps credit w i s q b n k st h t takes e =
+    → StandMoved credit.initial (i + 1) (takes_in w (i + 1) s y) (with_node q i b) None
+take_steps credit w i s q b n k y st h t takes e =
     let x : ℕ = i + 1 in
-    let w' : World = take_from w x s in
+    let w' : World = takes_in w x s y in
     let p : Places = st.places in
     let p' : Places = with_ins p s n in
     let m : Shown = node_at q i in
     let sl : s < length w.links = (h.fit.own_ends.current x s t.current).0 in
     let l : Link = popped (link_at w s) in
-    let ways : SameWays w w' = take_ways w x s t.is_member sl in
+    let ways : SameWays w w' = take_ways w x s k y sl t in
     let a : MemberStands w p x m = stands_at credit.initial w q p i st.stand t.is_member in
     let due : Option ℕ = due_of m.held in
     let due_is : due ≡ grant_due (link_at w s).flow.receiver = ap due_of (held_but_door w p x m a) ∙ ap (λ c. at_some (option_map (incoming_in w) c) None (λ (g : Incoming). grant_due g.counted)) t.current in
@@ -115,7 +131,7 @@ take_steps credit w i s q b n k st h t takes e =
     let its : Does w w' x m b m.ends.out (Some n) = record {
       does = λ (g : Held). took_held g k;
       but_door = λ g ds. took_door g ds k;
-      stands = take_stands w x s k h.fit t lines;
+      stands = t.stands lines;
       is = e;
     } in
     let here : p'.ins s ≡ n = placed_same p.ins s n in
@@ -127,11 +143,12 @@ take_steps credit w i s q b n k st h t takes e =
       it = ways_stand w w' p p' x m b m.ends.out (Some n) ways refl
           (λ j waits. other j (λ (same : j ≡ s). false≢true (sym (current_waits_not w x s t.current) ∙ sym (ap (waits_for w x) same) ∙ waits)))
           its a.out (ap Some (sym here) ∙ ap (option_map p'.ins) (sym t.current)) a;
-      held = λ y ne. take_others w x s y h.fit t.current ne;
-      told = same_phases w x (taker w x s) q.stopped t.is_member refl;
+      held = t.others;
+      told = same_phases w x y q.stopped t.is_member t.runs_on;
+      none_told = λ z _ r. r;
       outs = λ j _. refl;
       ins = λ j ne. other j (λ (same : j ≡ s). ne (t.current ∙ ap Some (sym same)));
-      carry = λ j _ c. carries_at credit.initial w w' p p' s l (λ r. take_log w x s r t.is_member) (get_or-set_same w.links s l no_link sl) (λ j ne. (other_link j ne, refl, other j ne))
+      carry = λ j _ c. carries_at credit.initial w w' p p' s l (same_of (λ (a : Member). a.log) w x y t.is_member t.same.3) (get_or-set_same w.links s l no_link sl) (λ j ne. (other_link j ne, refl, other j ne))
           (λ before. subst (Carries w credit.initial l (p.outs s)) (sym here) (take_carries credit.initial w (link_at w s) (p.outs s) (p.ins s) n (sent_of k) due t.has due_is takes before)) j c;
       rests = λ j o r. ⊎_elim
           (λ (same : j ≡ s).
@@ -144,6 +161,39 @@ take_steps credit w i s q b n k st h t takes e =
           (refl, ap (λ (c : Link). c.flow.grants) (other_link j ne));
     })
 
+-- of who waits, and of who is up
+takes_as : (w : World) (x s : ℕ) (k : ByOrigin) (f : Phase) → IsFit w → (member_at w x).phase ≡ f → is_stopped f ≡ false → 1 ≤ x → x < size w → (member_at w x).current ≡ Some s → is_empty (link_at w s).packets ≡ false → (oldest (link_at w s)).version ≤ (member_at w x).version
+    → (y : Member) × TakesAs w x s k y × (at_found (member_at w x).current w (taken_by (member_at w x).phase w x) ≡ takes_in w x s y)
+takes_as w x s k Waiting f waits runs some lt current has version =
+    let t : BeginsFrom w x s = record { some = some; is_member = lt; waits = waits; current = current; has = has; version = version } in (
+      begun (size w) (member_at w x) (oldest (link_at w s)),
+      record {
+        is_member = lt;
+        current = current;
+        has = has;
+        same = (refl, refl, refl, refl);
+        runs_on = sym (ap is_stopped waits);
+        stands = λ e. begin_stands w x s k f t e;
+        others = λ z ne. begin_others w x s z f current ne;
+      },
+      ap (λ c. at_found c w (taken_by (member_at w x).phase w x)) current ∙ ap (λ g. taken_by g w x s) waits,
+    )
+takes_as w x s k Up f up runs some lt current has version =
+    let t : TakesFrom w x s = record { some = some; is_member = lt; up = up; current = current; has = has; version = version } in (
+      taker w x s,
+      record {
+        is_member = lt;
+        current = current;
+        has = has;
+        same = (refl, refl, refl, refl);
+        runs_on = refl;
+        stands = λ e. take_stands w x s k f t e;
+        others = λ z ne. take_others w x s z f current ne;
+      },
+      take_effect w x s (member_at w x).current (member_at w x).phase current up,
+    )
+takes_as w x s k Stopped f rests runs some lt current has version = absurd (false≢true (sym runs))
+
 pub take_goes : (credit : CreditSpec) (w : World) (by : List ℕ) (i d : ℕ) (q q' : Parties) (loose : Option (LinkName × OutSeen)) → IsLawfulAt credit w → refusal w (Take by) ≡ None → id_of w by ≡ Some (i + 1) → Stand credit.initial w q → Acts (Take by) i d q q' loose → StandMoved credit.initial (i + 1) (effect w (Take by)) q' loose
 take_goes credit w by i d q q' loose h enabled found st (b, (k, n, n', ends_link, takes, eb), is, none) =
     let x : ℕ = i + 1 in
@@ -151,21 +201,16 @@ take_goes credit w by i d q q' loose h enabled found st (b, (k, n, n', ends_link
     let p : Places = st.places in
     let a : MemberStands w p x (node_at q i) = stands_at credit.initial w q p i st.stand lt in
     let acts = found_later (id_of w by) x (λ y. running_refusal w y (on_link (member_at w y).current reason.NoCurrentLink (take_refusal w y))) found enabled in
-    let up : (member_at w x).phase ≡ Up = running_phase w x _ (h.none_waits x) acts in
+    let runs = none_of (is_stopped (member_at w x).phase) reason.Stopped _ acts in
     let there = link_there (member_at w x).current reason.NoCurrentLink (take_refusal w x) (running_later w x _ acts) in
     let s : ℕ = there.0 in
     let current : (member_at w x).current ≡ Some s = there.1 in
     let some = none_of (holds_nothing (link_at w s)) reason.NothingToTake _ there.2 in
     let packet = none_of (is_empty (link_at w s).packets) reason.EndNext _ some.1 in
-    let t : TakesFrom w x s = record {
-      some = omega arith;
-      is_member = lt;
-      up = up;
-      current = current;
-      has = packet.0;
-      version = not_less (member_at w x).version (oldest (link_at w s)).version _ packet.1;
-    } in
+    let version = not_less (member_at w x).version (oldest (link_at w s)).version _ packet.1 in
+    let t = takes_as w x s k (member_at w x).phase h.fit refl runs.0 (omega arith) lt current packet.0 version in
+    let y : Member = t.0 in
     let same_end : p.ins s ≡ n = made_of p.ins (member_at w x).current s n current (sym a.link ∙ ends_link) in
     let its : TakesIn (due_of (node_at q i).held) (p.ins s) (sent_of k) n' = subst (λ e. TakesIn (due_of (node_at q i).held) e (sent_of k) n') (sym same_end) takes in
-    let does : effect w (Take by) ≡ take_from w x s = found_does (id_of w by) x w (λ y. at_found (member_at w y).current w (taken_by (member_at w y).phase w y)) found ∙ take_effect w x s (member_at w x).current (member_at w x).phase current up in
-    goes_so credit.initial x (take_from w x s) (effect w (Take by)) (with_node q i b) q' loose does is none (take_steps credit w i s q b n' k st h t its eb)
+    let does : effect w (Take by) ≡ takes_in w x s y = found_does (id_of w by) x w (λ z. at_found (member_at w z).current w (taken_by (member_at w z).phase w z)) found ∙ t.2 in
+    goes_so credit.initial x (takes_in w x s y) (effect w (Take by)) (with_node q i b) q' loose does is none (take_steps credit w i s q b n' k y st h t.1 its eb)

@@ -167,6 +167,7 @@ collect_stands initial w q q' x g fresh a l c st =
             (λ z k m ne. not_collected w p x z (node_at q (z - 1)) ne (st.stand.each z k m));
         views = st.stand.views;
         stopped = st.stand.stopped;
+        nobody_else = st.stand.nobody_else;
         post = ap (filter (λ d. not (waits_at x d))) st.stand.post ∙ filter_map (λ d. not (waits_at x d)) (waiting_at w p) p.post;
         within = λ s e. st.stand.within s (and_parts (not (is_to w x s)) (is_in s p.post) (sym (in_filter (λ k. not (is_to w x k)) s p.post) ∙ e)).1;
         carry = st.stand.carry;

@@ -1,34 +1,34 @@
 -- Parties that owe the registrar nothing, and what holds of them where they stand.
 use Rattle.std.proofs.Common.{◌≡◌, ℕ, ◌+◌, ◌<◌, ◌≤◌, true, false, List, [], length, get_or, set, Option, Some, None, refl, sym, ap, subst, ◌∙◌, map}
 use Rattle.std.specs.Prelude.{is_some}
-use Rattle.std.proofs.lemmas.List.{length-map, map-set}
+use Rattle.std.proofs.lemmas.List.{length-map}
 use Rattle.ordered_link.specs.declared.plain.PlainIn.{PlainIn}
-use Rattle.ring_world.proofs.rings.Maps.{mapped_read, mapped_rewrite}
-use Rattle.registrar.specs.Registry.{Registry, AreHere, is_known}
+use Rattle.registrar.specs.Registry.{Registry, AreHere, is_known, newest}
+use Rattle.gm_member.specs.Held.{up_refused}
 use Rattle.registrar.specs.Asked.{stop_refusal}
 use Rattle.activity.specs.declared.packet.Load.{Load}
 use Rattle.ring_cluster.specs.declared.undelivered.Undelivered.{Undelivered}
 use Rattle.ring_cluster.specs.declared.parties.Parties.TheInside.{Inside}
 use Rattle.ring_cluster.specs.Behind.{behind}
 use Rattle.ring_cluster.specs.Gathered.{gathered}
-use Rattle.ring_cluster.specs.declared.agenda.Task.{Task}
 use Rattle.ring_cluster.specs.declared.party.Party.{Party}
-use Rattle.ring_cluster.specs.Parties.{ANode, Shown, PartiesSeen, parties, shown_of, shown_in, tasks_of, node_at}
+use Rattle.ring_cluster.specs.Parties.{ANode, Shown, PartiesSeen, parties, shown_of, shown_in, node_at}
 use Rattle.ring_cluster.specs.Standing.{StandSomewhere}
 use Rattle.ring_cluster.specs.Acting.{IsReady, stop_refused}
 use Rattle.ring_cluster.specs.Collecting.{AreOfRing}
-use Rattle.ring_cluster.specs.Refused.{office_of}
+use Rattle.ring_cluster.specs.Refused.{office_of, admission_refused}
 use Rattle.ring_cluster.specs.Looking.{ask_refused}
 use Rattle.gm_member.specs.declared.questions.Ask.{Ask}
-use Rattle.ring_cluster.proofs.events.After.{here_after, free_after, ready_after}
+use Rattle.ring_cluster.proofs.events.After.{here_after, id_after, free_after, ready_after}
 use Rattle.ring_cluster.proofs.events.Closing.{few_after, unheard_after, stands_after, MayLookAt}
+use Rattle.ring_cluster.proofs.events.Newcomers.{LetsJoin, joins_after}
 use Rattle.ring_cluster.proofs.post.Gathers.{all_ring, is_known_there}
 use Rattle.ring_cluster.proofs.standing.Nodes.{read_shown, same_shown, shown_at}
 use Rattle.ring_cluster.proofs.events.Refusing.{ask_same}
 
 -- members, a registrar and a link behind it, as the parties are seen of which they are the parts
 abbrev pub seen_as : List Party → Registry (PlainIn Load) → Option Undelivered → PartiesSeen
-seen_as ns r late = record { all = parties ns r (behind late); owes = is_some late; agendas = map tasks_of ns }
+seen_as ns r late = record { all = parties ns r (behind late); owes = is_some late }
 
 none_kept : (l : Option Undelivered) → is_some l ≡ false → l ≡ None
 none_kept None e = refl
@@ -43,28 +43,10 @@ module _ (a : Inside) (q : PartiesSeen) (is : gathered a ≡ q) where
   pub shown_is : (i : ℕ) → i < length q.all.nodes → (x : Party) → x ≡ get_or a.members.items i x → shown_in x ≡ node_at q.all i
   shown_is i l x e = sym (read_shown a.members.items i x (inside i l) e) ∙ ap (λ (y : PartiesSeen). node_at y.all i) is
 
-  -- each has still to do what it had, whatever becomes of the member at a place
-  pub tasks_kept : (i : ℕ) → i < length q.all.nodes → (x : Party) (y : ANode) → x ≡ get_or a.members.items i x → map tasks_of (set a.members.items i (record x { node = y })) ≡ q.agendas
-  tasks_kept i l x y e = mapped_rewrite tasks_of a.members.items i x (record x { node = y }) (inside i l) e refl ∙ ap (λ (z : PartiesSeen). z.agendas) is
-
-  -- what the member at a place has still to do, and that it has something else to do
-  tasked : (i : ℕ) → i < length q.agendas → i < length a.members.items
-  tasked i l = subst (λ n. i < n) (sym (ap (λ (z : PartiesSeen). length z.agendas) is) ∙ length-map a.members.items tasks_of) l
-
-  pub tasks_at : (i : ℕ) → i < length q.agendas → (x : Party) → x ≡ get_or a.members.items i x → x.agenda ≡ get_or q.agendas i []
-  tasks_at i l x e = mapped_read tasks_of a.members.items i x [] (tasked i l) e ∙ ap (λ (z : PartiesSeen). get_or z.agendas i []) is
-
-  pub tasks_set : (i : ℕ) → i < length q.agendas → (x : Party) (ts : List Task) → x ≡ get_or a.members.items i x → seen_as (set a.members.items i (record x { agenda = ts })) a.registrar a.late ≡ record q { agendas = set q.agendas i ts }
-  tasks_set i l x ts e =
-      ap (λ ms. record (seen_as (set a.members.items i (record x { agenda = ts })) a.registrar a.late) { all = record (parties a.members.items a.registrar (behind a.late)) { nodes = ms } }) (same_shown a.members.items i x (record x { agenda = ts }) (tasked i l) e refl)
-      ∙ ap (λ zs. record (gathered a) { agendas = zs }) (map-set tasks_of a.members.items i (record x { agenda = ts }))
-      ∙ ap (λ (z : PartiesSeen). record z { agendas = set z.agendas i ts }) is
-
   -- they show what they showed where the member at a place does
   pub unchanged : (i : ℕ) → i < length q.all.nodes → (x : Party) (y : ANode) → x ≡ get_or a.members.items i x → shown_of y ≡ shown_in x → seen_as (set a.members.items i (record x { node = y })) a.registrar a.late ≡ q
   unchanged i l x y e k =
       ap (λ ms. record (seen_as (set a.members.items i (record x { node = y })) a.registrar a.late) { all = record (parties a.members.items a.registrar (behind a.late)) { nodes = ms } }) (same_shown a.members.items i x (record x { node = y }) (inside i l) e k)
-      ∙ ap (λ ts. record (gathered a) { agendas = ts }) (mapped_rewrite tasks_of a.members.items i x (record x { node = y }) (inside i l) e refl)
       ∙ is
 
   -- where nothing is owed, nothing waits behind the links that stand at the registrar
@@ -90,6 +72,10 @@ module _ (a : Inside) (q : PartiesSeen) (is : gathered a ≡ q) where
       pub asks_nothing : (x : Party) → x ≡ get_or a.members.items i x → (shown_in x).held.asks ≡ false
       asks_nothing x e = subst (λ (m : Shown). m.held.asks ≡ false) (sym (shown_is i l x e)) (free_after s.0 s.1 s.2 q.all i s.3 l)
 
+      -- its id is that of its place
+      pub id_is : (x : Party) → x ≡ get_or a.members.items i x → (shown_in x).held.id ≡ i + 1
+      id_is x e = ap (λ (m : Shown). m.held.id) (shown_is i l x e) ∙ id_after s.0 s.1 s.2 q.all i s.3 l
+
       pub is_ready : (x : Party) → x ≡ get_or a.members.items i x → IsReady (shown_in x)
       is_ready x e = subst IsReady (sym (shown_is i l x e)) (ready_after s.0 s.1 s.2 q.all i s.3 l)
 
@@ -111,6 +97,12 @@ module _ (a : Inside) (q : PartiesSeen) (is : gathered a ≡ q) where
       may_look x e version =
           subst (λ m. MayLookAt a.registrar m version) (read_shown a.members.items i x (inside i l) e)
           (stands_after stand.0 stand.1 stand.2 a.members.items a.registrar i version stand.3 (inside i l))
+
+      -- whom it admits may join, where that isn't refused
+      pub may_join : (x : Party) → x ≡ get_or a.members.items i x → (name : List ℕ) → up_refused (shown_in x).held (admission_refused (newest a.registrar) name) ≡ None → LetsJoin (newest a.registrar) (i + 1) name
+      may_join x e name none =
+          joins_after stand.0 stand.1 stand.2 a.members.items a.registrar i name stand.3 (inside i l)
+          (ap (λ (m : Shown). up_refused m.held (admission_refused (newest a.registrar) name)) (read_shown a.members.items i x (inside i l) e) ∙ none)
 
       -- the registrar knows it
       pub known : (x : Party) → x ≡ get_or a.members.items i x → is_known a.registrar (shown_in x).held.id ≡ true

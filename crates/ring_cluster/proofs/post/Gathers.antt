@@ -87,7 +87,7 @@ module _ (credit : CreditSpec) (names : List (List ℕ)) (events : List Event) (
     pub stand_then : StandAfter credit names events (parties nodes' r' [])
     stand_then = record {
       journal = s.journal;
-      stand = collect_stands credit.initial (state credit names events) (parties nodes r []) (parties nodes' r' []) (i + 1) (lawful_after credit names events s.journal).fit.good (reached_fresh credit names events s.journal.are s.journal.plain s.journal.run) (omega arith) (within i l) gathers s.stand;
+      stand = collect_stands credit.initial (state credit names events) (parties nodes r []) (parties nodes' r' []) (i + 1) (lawful_after credit names events s.journal).fit.good (reached_fresh credit names events s.journal.are s.journal.run) (omega arith) (within i l) gathers s.stand;
     }
 
     pub nothing_waits : NothingWaits (i + 1) (parties nodes' r' [])

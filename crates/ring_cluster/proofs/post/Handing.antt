@@ -28,7 +28,7 @@ use Rattle.ring_cluster.proofs.meetings.Meetings.{waiting_at, posted_at}
 
 -- the registrar stands in the state
 pub registrar_stands : (initial : ℕ) (w : World) (nodes : List Party) (r : Registry (PlainIn Load)) (behind : List Posted) (p : Places) → StandIn initial w (parties nodes r behind) p → StandsIn w r
-registrar_stands initial w nodes r behind p st = record { views = st.views; stopped = st.stopped }
+registrar_stands initial w nodes r behind p st = record { views = st.views; stopped = st.stopped; nobody_else = st.nobody_else }
 
 -- no link is lent
 pub none_lent : (initial : ℕ) (w : World) (nodes : List Party) (r : Registry (PlainIn Load)) (behind : List Posted) (p : Places) → StandIn initial w (parties nodes r behind) p → AreHere r.links

@@ -1,6 +1,8 @@
 -- What a member that stands in a state, where members may stop, holds of it.
-use Rattle.std.proofs.Common.{◌≡◌, ℕ, ◌+◌, ◌-◌, ◌<◌, ◌≤◌, Bool, true, false, not, ◌||◌, nat_eq, List, length, refl, sym, ap, ◌∙◌, arith}
-use Rattle.std.specs.Prelude.{◌&&◌, Option, is_some}
+use Rattle.std.proofs.Common.{◌≡◌, ℕ, ◌+◌, ◌-◌, ◌<◌, ◌≤◌, Bool, true, false, not, ◌||◌, nat_eq, List, length, map, Some, None, refl, sym, ap, ◌∙◌, arith}
+use Rattle.std.specs.Prelude.{◌&&◌, Option, is_some, option_map, position, bytes_eq}
+use Rattle.std.proofs.lemmas.List.{same_lists, length-map, get_or-map}
+use Rattle.ring_world.proofs.rings.Maps.{position_map}
 use Rattle.group_view.specs.declared.link.LinkName.{LinkName}
 use Rattle.ring_names.specs.declared.numbers.CreditSpec.{CreditSpec}
 use Rattle.ring_world.specs.declared.event.Event.{Event}
@@ -18,9 +20,12 @@ use Rattle.gm_member.proofs.Facts.{held_known, right_row, version_of_view}
 use Rattle.ring_world.specs.Work.{is_stale}
 use Rattle.ring_cluster.specs.Holds.{HoldsOf}
 use Rattle.ring_cluster.specs.Seen.{state}
-use Rattle.ring_cluster.specs.Parties.{Parties, node_at}
+use Rattle.ring_cluster.specs.Parties.{Shown, Parties, no_shown, node_at, names_shown}
 use Rattle.ring_cluster.specs.Standing.{StandAfter, MemberStands}
-use Rattle.ring_cluster.proofs.rounds.Named.{run_many}
+use Rattle.ring_cluster.specs.Agendas.{place_among}
+use Rattle.ring_cluster.specs.Published.{names_in}
+use Rattle.ring_cluster.specs.Refused.{id_named}
+use Rattle.ring_cluster.proofs.work.Logged.{names_in_many, name_in_at}
 use Rattle.ring_cluster.proofs.lists.Truth.{made_some}
 
 -- what a member holds that stands at an id, but for its door
@@ -40,6 +45,7 @@ held_holds w x h f e = record {
   forgot = λ p some lt. ap (λ (k : Kept). k.forgot) (row p some lt);
   retired = λ p some lt. ap (λ (k : Kept). k.retired) (row p some lt);
   messages = λ p some lt. ap (λ (k : Kept). k.messages) (row p some lt);
+  base = λ p some lt. ap (λ (k : Kept). k.base) (row p some lt);
 }
   where
     row : (p : ℕ) → 1 ≤ p → p < size w → known_at h.known (p - 1) ≡ kept_by (log_of w p) (row_of w x p)
@@ -47,19 +53,49 @@ held_holds w x h f e = record {
         let back : p - 1 + 1 ≡ p = omega arith in
         ap (λ k. known_at k.known (p - 1)) e ∙ held_known w x (p - 1) (omega (arith, f.few)) ∙ ap (λ q. kept_by (log_of w q) (row_of w x q)) back
 
--- ---- a cluster
+-- ---- the member at a place, of the opening or joined
 
-pub nodes_many : (credit : CreditSpec) (names : List (List ℕ)) (events : List Event) (q : Parties) → StandAfter credit names events q → length q.nodes ≡ length names
-nodes_many credit names events q s = omega (arith, s.stand.stand.count, run_many credit names events s.journal.are s.journal.plain s.journal.run)
+-- there are as many parties as members
+pub parties_many : (credit : CreditSpec) (names : List (List ℕ)) (events : List Event) (q : Parties) → StandAfter credit names events q → length q.nodes + 1 ≡ size (state credit names events)
+parties_many credit names events q s = s.stand.stand.count
 
-pub node_stands : (credit : CreditSpec) (names : List (List ℕ)) (events : List Event) (q : Parties) (x : ℕ) → StandAfter credit names events q → 1 ≤ x → x ≤ length names → IsHeld (state credit names events) x (node_at q (x - 1)).held
-node_stands credit names events q x s some le =
-    let m : MemberStands (state credit names events) s.stand.places x (node_at q (x - 1)) = s.stand.stand.each x some (omega (arith, run_many credit names events s.journal.are s.journal.plain s.journal.run)) in
+pub member_stands : (credit : CreditSpec) (names : List (List ℕ)) (events : List Event) (q : Parties) (x : ℕ) → StandAfter credit names events q → 1 ≤ x → x < size (state credit names events) → IsHeld (state credit names events) x (node_at q (x - 1)).held
+member_stands credit names events q x s some lt =
+    let m : MemberStands (state credit names events) s.stand.places x (node_at q (x - 1)) = s.stand.stand.each x some lt in
     held_but_door (state credit names events) x (node_at q (x - 1)).held _ m.held
 
-pub node_holds : (credit : CreditSpec) (names : List (List ℕ)) (events : List Event) (q : Parties) (x : ℕ) → StandAfter credit names events q → 1 ≤ x → x ≤ length names → HoldsOf (state credit names events) x (node_at q (x - 1)).held
-node_holds credit names events q x s some le =
-    held_holds (state credit names events) x (node_at q (x - 1)).held (reached_fit credit names events s.journal.are s.journal.run) (node_stands credit names events q x s some le)
+pub member_holds : (credit : CreditSpec) (names : List (List ℕ)) (events : List Event) (q : Parties) (x : ℕ) → StandAfter credit names events q → 1 ≤ x → x < size (state credit names events) → HoldsOf (state credit names events) x (node_at q (x - 1)).held
+member_holds credit names events q x s some lt =
+    held_holds (state credit names events) x (node_at q (x - 1)).held (reached_fit credit names events s.journal.are s.journal.run) (member_stands credit names events q x s some lt)
+
+-- the names that they show are those of the members
+pub names_are : (credit : CreditSpec) (names : List (List ℕ)) (events : List Event) (q : Parties) → StandAfter credit names events q → names_shown q ≡ names_in (state credit names events)
+names_are credit names events q s = same_lists (names_shown q) (names_in w) many (λ k d l.
+    let lt : k < length q.nodes = omega (arith, l, length-map q.nodes (λ (m : Shown). m.held.name)) in
+    let back : k + 1 - 1 ≡ k = omega arith in
+    get_or-map (λ (m : Shown). m.held.name) q.nodes k no_shown d lt
+    ∙ ap (λ i. (node_at q i).held.name) (sym back)
+    ∙ ap (λ h. h.name) (member_stands credit names events q (k + 1) s (omega arith) (omega (arith, lt, parties_many credit names events q s)))
+    ∙ sym (name_in_at w k d (omega (arith, lt, parties_many credit names events q s))))
+  where
+    w : World
+    w = state credit names events
+
+    many : length (names_shown q) ≡ length (names_in w)
+    many = omega (arith, length-map q.nodes (λ (m : Shown). m.held.name), names_in_many w, parties_many credit names events q s)
+
+-- so a name that is found among them is found in the state
+one_less : (a b : Option ℕ) → option_map (λ i. i + 1) a ≡ option_map (λ i. i + 1) b → a ≡ b
+one_less None None e = refl
+one_less None (Some b) e = cc
+one_less (Some a) None e = cc
+one_less (Some a) (Some b) e = let both : a + 1 ≡ b + 1 = cc in ap Some (omega (arith, both))
+
+pub place_is : (credit : CreditSpec) (names : List (List ℕ)) (events : List Event) (q : Parties) (name : List ℕ) (o : Option ℕ) → StandAfter credit names events q → id_named q name ≡ option_map (λ i. i + 1) o → o ≡ place_among (names_in (state credit names events)) name
+place_is credit names events q name o s is =
+    one_less o (position (λ (m : Shown). bytes_eq m.held.name name) q.nodes) (sym is)
+    ∙ sym (position_map (λ n. bytes_eq n name) (λ (m : Shown). m.held.name) q.nodes)
+    ∙ ap (λ ns. place_among ns name) (names_are credit names events q s)
 
 -- ---- whether a member is stale
 

@@ -8,8 +8,10 @@ use Rattle.ring_names.specs.declared.numbers.CreditSpec.{CreditSpec}
 use Rattle.ring_world.specs.declared.event.Event.{Event}
 use Rattle.ring_world.specs.Quiet.{IsQuiet}
 use Rattle.ring_cluster.specs.Parties.{Parties}
-use Rattle.ring_cluster.specs.Seen.{Seen, state, showing, with_event}
-use Rattle.ring_cluster.specs.Plays.{client_event, client_events, asked_by, asked, todo, agenda_found, place_among, agenda_of, HasSettled, HasSettledEach, Plays, PlaysSoFar, GoesOn, HasGoneOn, AgendasAreEmpty}
+use Rattle.ring_cluster.specs.Seen.{Seen, state, showing, with_event, opening_seen}
+use Rattle.ring_cluster.proofs.lists.Plans.{opened_tasks}
+use Rattle.ring_cluster.specs.Agendas.{names_of, tasks_in}
+use Rattle.ring_cluster.specs.Plays.{client_event, client_events, asked_by, asked, todo, agenda_of, HasSettled, HasSettledEach, Plays, PlaysSoFar, GoesOn, HasGoneOn, AgendasAreEmpty}
 use Rattle.ring_cluster.proofs.lists.Lists.{flat_map-append, slice_get_within, slice_get_front, slice_get_last, some_injective}
 
 -- ---- going on
@@ -18,7 +20,7 @@ pub GoesOn-trans : (c d e : Seen) (xs ys : List Event) → GoesOn c d xs → Goe
 GoesOn-trans c d e xs ys a b = record {
   credit = b.credit ∙ a.credit;
   names = b.names ∙ a.names;
-  count = b.count ∙ a.count;
+  agendas = b.agendas ∙ a.agendas;
   events = b.events ∙ ap (λ zs. zs ++ ys) a.events ∙ append_assoc c.events xs ys;
   asked = λ name.
       ap (λ zs. zs ++ todo name (agenda_of e name)) (flat_map-append (client_event name) xs ys)
@@ -28,7 +30,7 @@ GoesOn-trans c d e xs ys a b = record {
 }
 
 pub HasGoneOn-showing : (c : Seen) (x : Bool × Parties) → HasGoneOn c (showing x c)
-HasGoneOn-showing c x = ([], record { credit = refl; names = refl; count = refl; events = sym (append-nil c.events); asked = λ name. refl })
+HasGoneOn-showing c x = ([], record { credit = refl; names = refl; agendas = refl; events = sym (append-nil c.events); asked = λ name. refl })
 
 pub HasGoneOn-refl : (c : Seen) → HasGoneOn c c
 HasGoneOn-refl c = HasGoneOn-showing c (c.owes, c.shows)
@@ -41,14 +43,14 @@ pub GoesOn-given : (c d e : Seen) (xs : List Event) → e.credit ≡ d.credit �
 GoesOn-given c d e xs ec en ee ea h = record {
   credit = ec ∙ h.credit;
   names = en ∙ h.names;
-  count = ap length ea ∙ h.count;
+  agendas = ap names_of ea ∙ h.agendas;
   events = ee ∙ h.events;
-  asked = λ name. ap (λ zs. client_events name xs ++ todo name zs) (ap (λ ags. agenda_found ags (place_among e.names name)) ea ∙ ap (λ ns. agenda_found d.agendas (place_among ns name)) en) ∙ h.asked name;
+  asked = λ name. ap (λ zs. client_events name xs ++ todo name zs) (ap (λ ags. tasks_in ags name) ea) ∙ h.asked name;
 }
 
 -- a step of a member of its own
 pub is_own : (e : Event) → ((name : List ℕ) → client_event name e ≡ []) → (c d : Seen) (x : Bool × Parties) → d ≡ showing x (with_event c e) → GoesOn c d (e ∷ [])
-is_own e own c d x is = subst (λ y. GoesOn c y (e ∷ [])) (sym is) (record { credit = refl; names = refl; count = refl; events = refl; asked = λ name. ap (λ zs. (zs ++ []) ++ todo name (agenda_of c name)) (own name) })
+is_own e own c d x is = subst (λ y. GoesOn c y (e ∷ [])) (sym is) (record { credit = refl; names = refl; agendas = refl; events = refl; asked = λ name. ap (λ zs. (zs ++ []) ++ todo name (agenda_of c name)) (own name) })
 
 -- ---- settling
 
@@ -112,7 +114,7 @@ pub plays_noted : (c d : Seen) (x : Command) → ((name : List ℕ) → asked_by
 plays_noted c d x none now ec en ee ea eg h = record {
   asked = λ name.
       ap (λ es. client_events name es ++ todo name (agenda_of d name)) ee
-      ∙ ap (λ zs. client_events name c.events ++ todo name zs) (ap (λ ags. agenda_found ags (place_among d.names name)) ea ∙ ap (λ ns. agenda_found c.agendas (place_among ns name)) en)
+      ∙ ap (λ zs. client_events name c.events ++ todo name zs) (ap (λ ags. tasks_in ags name) ea)
       ∙ h.asked name
       ∙ sym (append-nil (asked name c.given))
       ∙ ap (λ zs. asked name c.given ++ zs) (sym (none name))
@@ -125,14 +127,16 @@ plays_noted c d x none now ec en ee ea eg h = record {
 
 -- ---- when nobody has anything to do
 
-pub empty_found : (c : Seen) (o : Option ℕ) → AgendasAreEmpty c → agenda_found c.agendas o ≡ []
-empty_found c None h = refl
-empty_found c (Some i) h =
-    ⊎_elim (λ (lt : i < length c.agendas). h i lt) (λ (ge : length c.agendas ≤ i). get_or_past c.agendas i [] ge) (cases_lt i (length c.agendas))
-
 pub empty_is_done : (c : Seen) → AgendasAreEmpty c → PlaysSoFar c → (name : List ℕ) → client_events name c.events ≡ asked name c.given
 empty_is_done c empty h name =
-    sym (append-nil (client_events name c.events)) ∙ ap (λ zs. client_events name c.events ++ todo name zs) (sym (empty_found c (place_among c.names name) empty)) ∙ h.asked name
+    sym (append-nil (client_events name c.events)) ∙ ap (λ zs. client_events name c.events ++ todo name zs) (sym (empty name)) ∙ h.asked name
 
 pub settled_plays : (c : Seen) → AgendasAreEmpty c → PlaysSoFar c → Plays c.credit c.names c.events c.given
 settled_plays c empty h = record { done = empty_is_done c empty h; settled = h.settled }
+
+-- a cluster that has just opened
+pub opened_plays : (credit : CreditSpec) (names : List (List ℕ)) → PlaysSoFar (opening_seen credit names)
+opened_plays credit names = record {
+  asked = λ name. ap (todo name) (opened_tasks names name);
+  settled = λ k e. absurd (let l : k < 0 = slice_get_within [] k command.Settle e in omega (arith, l));
+}

@@ -22,13 +22,12 @@ use Rattle.ring_world.proofs.rests.Rests.{id_in, entry_at, run_worked_is_quiet}
 use Rattle.ring_cluster.specs.declared.driver.OwnStep.TheVariants as step
 use Rattle.ring_world.specs.Idle.{HasNoStep, NobodySteps, MarksNobody, ErasesNobody}
 use Rattle.ring_world.specs.Work.{is_stale}
-use Rattle.ring_world.proofs.events.Plain.{up_of}
 use Rattle.ring_world.proofs.work.Fit as ring
 use Rattle.ring_world.proofs.work.Nobody.{ring_members}
 use Rattle.ring_world.proofs.work.Settling.{no_step, no_mark, someone}
 use Rattle.ring_cluster.specs.Seen.{Seen, state_of, IsGoing, SameButOwed}
 use Rattle.ring_cluster.specs.Turns.{MayStepNowhere, ErasesNoneAt, RestsAt}
-use Rattle.ring_cluster.proofs.rounds.Named.{going_plain, going_ring, going_many}
+use Rattle.ring_cluster.proofs.rounds.Named.{going_ring}
 
 -- ---- the right neighbour of a member that runs
 
@@ -74,44 +73,6 @@ pub erases_none : (w : World) (y : ℕ) → All (λ (e : Entry). erase_refusal w
 erases_none w y h p lt none =
     let es : List Entry = (view_in w (newest w)).entries in
     at_id (λ k. erase_refusal w y k ≢ None) es p h (dead_in es p (erased_is_dead w y p none)) none
-
--- ---- who has nothing to do
-
--- a member that isn't stale and may do no step has none to do
-no_step_there : (w : World) (x : ℕ) → ring.IsFit w → runs w x ≡ true → is_stale (newest w) (member_at w x) ≡ false → MayStepNowhere w x → HasNoStep w x
-no_step_there w x f r fresh none = no_step w f x r (record {
-  put = none step.Put;
-  take = none step.Take;
-  take_end = none step.TakeEnd;
-  gain = none step.Gain;
-  pick = none step.Pick;
-  refresh = λ stale. absurd (false≢true (sym fresh ∙ stale));
-})
-
--- ---- all of them
-
--- a member that runs is at a place
-runner_at : (c : Seen) (y : ℕ) → IsGoing c → runs (state_of c) y ≡ true → (i : ℕ) × (i < length c.names) × (i + 1 ≡ y)
-runner_at c y g r =
-    let some : 1 ≤ y = someone (state_of c) (going_ring c g) y r in
-    (y - 1, omega (arith, some, runs_lt (state_of c) y r, going_many c g), omega arith)
-
-rests_at : (c : Seen) (y : ℕ) → IsGoing c → ((i : ℕ) → i < length c.names → RestsAt (state_of c) (i + 1)) → RestsAt (state_of c) y
-rests_at c y g h r =
-    let p = runner_at c y g r in
-    subst (RestsAt (state_of c)) p.2 (h p.0 p.1) r
-
--- after a pass in which nobody did anything
-pub steps_after : (c d : Seen) → IsGoing c → SameButOwed c d × ((i : ℕ) → i < length c.names → RestsAt (state_of c) (i + 1)) → NobodySteps (state_of d)
-steps_after c d g h = subst (λ x. NobodySteps (state_of x)) (sym h.0.1) (λ y r. let k = rests_at c y g h.1 r in no_step_there (state_of c) y (going_ring c g) r k.0 k.1)
-
-pub marks_after : (c d : Seen) → IsGoing c → SameButOwed c d × ((i : ℕ) → i < length c.names → RestsAt (state_of c) (i + 1)) → MarksNobody (state_of d)
-marks_after c d g h = subst (λ x. MarksNobody (state_of x)) (sym h.0.1) (λ y r.
-    let w : World = state_of c in
-    no_mark w (going_ring c g) y (right w (newest w) y) r (up_of w y (going_plain c g).none_waits r) (right_there w y (going_ring c g) r).1 (rests_at c y g h.1 r).2)
-
-pub erases_after : (c d : Seen) → IsGoing c → SameButOwed c d × ((i : ℕ) → i < length c.names → RestsAt (state_of c) (i + 1)) → ErasesNobody (state_of d)
-erases_after c d g h = subst (λ x. ErasesNobody (state_of x)) (sym h.0.1) (λ y r. (rests_at c y g h.1 r).3)
 
 -- where nobody has anything to do any more, it is quiet
 pub worked_is_quiet : (c : Seen) → IsGoing c → NobodySteps (state_of c) → MarksNobody (state_of c) → ErasesNobody (state_of c) → IsQuiet (state_of c)

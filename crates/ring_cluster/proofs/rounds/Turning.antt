@@ -1,16 +1,21 @@
 -- One turn after another, where members may stop.
-use Rattle.std.proofs.Common.{◌≡◌, ◌≢◌, ℕ, ◌+◌, ◌<◌, ◌≤◌, Bool, true, false, ◌||◌, [], length, refl, sym, ap, subst, ◌∙◌, ⊎_elim, arith}
-use Rattle.std.proofs.lemmas.Bool.{cases_eq, false≢true}
+use Rattle.std.proofs.Common.{◌≡◌, ◌≢◌, ℕ, ◌+◌, ◌<◌, ◌≤◌, Bool, true, false, ◌||◌, List, [], ◌∷◌, length, None, refl, sym, ap, subst, ◌∙◌, ⊎_elim, arith}
+use Rattle.std.proofs.lemmas.Bool.{cases_eq, cases_lt, false≢true}
 use Rattle.ring_world.specs.declared.event.Event.{Event}
-use Rattle.ring_world.specs.Event.{is_asked}
+use Rattle.ring_world.specs.Machine.{member_at}
+use Rattle.ring_world.specs.Step.{size}
+use Rattle.ring_world.specs.Event.{is_asked, refusal}
 use Rattle.ring_world.specs.Work.{total}
 use Rattle.ring_cluster.specs.Seen.{Seen, state_of, IsGoing, SameButOwed, with_event}
-use Rattle.ring_cluster.specs.Plays.{agenda_at, SameGiven, HasBegun, AgendasAreEmpty}
-use Rattle.ring_cluster.specs.Turns.{Works, TakesTurns, TakesRound, IsDoneAt, RestsAt}
+use Rattle.ring_cluster.specs.declared.agenda.Task.{Task}
+use Rattle.ring_cluster.specs.Agendas.{tasks_in}
+use Rattle.ring_cluster.specs.Plays.{agenda_of, SameGiven, HasBegun, AgendasAreEmpty}
+use Rattle.ring_cluster.specs.Turns.{Works, TakesRound, IsMemberAt, MembersStay, RestsAt}
 use Rattle.ring_cluster.proofs.post.Owed.{but_refl, but_trans}
 use Rattle.ring_cluster.proofs.rounds.Playing.{HasGoneOn-refl, HasGoneOn-showing, HasGoneOn-trans}
+use Rattle.ring_cluster.proofs.rounds.Members.{event_stay, agenda_member}
 use Rattle.ring_cluster.proofs.rounds.Counting.{did_none, did_fewer, did_later, did_more, few_none, few_more, few_each}
-use Rattle.ring_cluster.proofs.rounds.Doing.{Performs, own_falls, own_goes, performed_goes, performed_shrinks, performed_elsewhere, begun_on, begun_later}
+use Rattle.ring_cluster.proofs.rounds.Doing.{Performs, own_falls, own_goes, performed_goes, performed_shrinks, performed_less}
 
 pub given_refl : (c : Seen) → SameGiven c c
 given_refl c = (refl, refl)
@@ -21,15 +26,20 @@ given_trans c d e a b = (b.0 ∙ a.0, b.1 ∙ a.1)
 -- ---- rounds
 
 pub round_refl : (c : Seen) → TakesRound c c
-round_refl c = record { goes = HasGoneOn-refl c; given = given_refl c; names = refl }
+round_refl c = record { goes = HasGoneOn-refl c; given = given_refl c; stay = λ i name h. h; less = λ name. omega arith }
 
 pub round_trans : (c d e : Seen) → TakesRound c d → TakesRound d e → TakesRound c e
-round_trans c d e a b = record { goes = HasGoneOn-trans c d e a.goes b.goes; given = given_trans c d e a.given b.given; names = b.names ∙ a.names }
+round_trans c d e a b = record {
+  goes = HasGoneOn-trans c d e a.goes b.goes;
+  given = given_trans c d e a.given b.given;
+  stay = λ i name h. b.stay i name (a.stay i name h);
+  less = λ name. omega (arith, a.less name, b.less name);
+}
 
 -- ---- work
 
 pub works_same : (c d : Seen) → SameButOwed c d → Works c d
-works_same c d e = subst (Works c) (sym e.1) (record { round = record { goes = HasGoneOn-showing c e.0; given = (refl, refl); names = refl }; agendas = refl })
+works_same c d e = subst (Works c) (sym e.1) (record { round = record { goes = HasGoneOn-showing c e.0; given = (refl, refl); stay = λ i name h. h; less = λ name. omega arith }; agendas = refl })
 
 pub works_refl : (c : Seen) → Works c c
 works_refl c = works_same c c (but_refl c)
@@ -37,107 +47,122 @@ works_refl c = works_same c c (but_refl c)
 pub works_trans : (c d e : Seen) → Works c d → Works d e → Works c e
 works_trans c d e a b = record { round = round_trans c d e a.round b.round; agendas = b.agendas ∙ a.agendas }
 
-pub own_works : (c d : Seen) (e : Event) → is_asked e ≡ false → SameButOwed (with_event c e) d → Works c d
-own_works c d e l is = record {
-  round = record { goes = own_goes c d e l is; given = subst (SameGiven c) (sym is.1) (given_refl c); names = ap (λ x. x.names) is.1 };
-  agendas = ap (λ x. x.agendas) is.1;
-}
-
--- ---- turns
-
-pub works_turns : (i : ℕ) (c d : Seen) → Works c d → TakesTurns i c d
-works_turns i c d w = record {
-  round = w.round;
-  shrinks = omega (arith, ap (λ x. length (agenda_at x i)) w.agendas);
-  elsewhere = λ j ne. ap (λ x. agenda_at x j) w.agendas;
-}
-
-pub turns_same : (i : ℕ) (c d : Seen) → SameButOwed c d → TakesTurns i c d
-turns_same i c d e = works_turns i c d (works_same c d e)
-
-pub turns_refl : (i : ℕ) (c : Seen) → TakesTurns i c c
-turns_refl i c = turns_same i c c (but_refl c)
-
-pub turns_trans : (i : ℕ) (c d e : Seen) → TakesTurns i c d → TakesTurns i d e → TakesTurns i c e
-turns_trans i c d e a b = record {
-  round = round_trans c d e a.round b.round;
-  shrinks = omega (arith, a.shrinks, b.shrinks);
-  elsewhere = λ j ne. b.elsewhere j ne ∙ a.elsewhere j ne;
-}
-
-pub performed_turns : (i : ℕ) (c d : Seen) → IsGoing c → i < length c.names → Performs i c d → TakesTurns i c d
-performed_turns i c d g l p = record {
-  round = record {
-    goes = performed_goes i c d g l p;
-    given = subst (SameGiven c) (sym p.6.1) (given_refl c);
-    names = ap (λ x. x.names) p.6.1;
-  };
-  shrinks = omega (arith, performed_shrinks i c d g l p);
-  elsewhere = performed_elsewhere i c d p;
-}
-
-pub performed_begun : (i : ℕ) (c d : Seen) → IsGoing c → i < length c.names → Performs i c d → HasBegun i c d
-performed_begun i c d g l p some = performed_shrinks i c d g l p
-
--- who has no task
-pub done_begun : (i : ℕ) (c d : Seen) → agenda_at c.agendas i ≡ [] → HasBegun i c d
-done_begun i c d e some = absurd (omega (arith, ap length e))
-
-pub begun_still : (i : ℕ) (c d e : Seen) → HasBegun i c d → TakesTurns i d e → HasBegun i c e
-begun_still i c d e h t = begun_on i c d e h t.shrinks
-
--- ---- rounds of turns
-
-pub turns_round : (i : ℕ) (c d : Seen) → TakesTurns i c d → TakesRound c d
-turns_round i c d t = t.round
+pub own_works : (c d : Seen) (e : Event) → is_asked e ≡ false → refusal (state_of c) e ≡ None → SameButOwed (with_event c e) d → Works c d
+own_works c d e l none is =
+    let agendas : d.agendas ≡ c.agendas = ap (λ x. x.agendas) is.1 in
+    record {
+      round = record {
+        goes = own_goes c d e l is;
+        given = subst (SameGiven c) (sym is.1) (given_refl c);
+        stay = event_stay c d e none (ap (λ x. x.credit) is.1) (ap (λ x. x.names) is.1) (ap (λ x. x.events) is.1);
+        less = λ name. omega (arith, ap (λ ags. length (tasks_in ags name)) agendas);
+      };
+      agendas = agendas;
+    }
 
 pub works_round : (c d : Seen) → Works c d → TakesRound c d
 works_round c d w = w.round
 
--- the members below k have begun, and the agendas of the others are as they were
+-- ---- turns
+
+pub performed_round : (by : List ℕ) (c d : Seen) → Performs by c d → TakesRound c d
+performed_round by c d p = record {
+  goes = performed_goes by c d p;
+  given = subst (SameGiven c) (sym p.6.1) (given_refl c);
+  stay = event_stay c d p.2 p.5 (ap (λ x. x.credit) p.6.1) (ap (λ x. x.names) p.6.1) (ap (λ x. x.events) p.6.1);
+  less = performed_less by c d p;
+}
+
+pub performed_begun : (by : List ℕ) (c d : Seen) → Performs by c d → HasBegun by c d
+performed_begun by c d p some = performed_shrinks by c d p
+
+-- who has no task
+pub done_begun : (name : List ℕ) (c d : Seen) → agenda_of c name ≡ [] → HasBegun name c d
+done_begun name c d e some = absurd (omega (arith, ap length e))
+
+-- where there are turns after it, or were before
+pub begun_still : (name : List ℕ) (c d e : Seen) → HasBegun name c d → TakesRound d e → HasBegun name c e
+begun_still name c d e h t some = omega (arith, h some, t.less name)
+
+pub begun_later : (name : List ℕ) (c d e : Seen) → TakesRound c d → HasBegun name d e → TakesRound d e → HasBegun name c e
+begun_later name c d e before h after some =
+    ⊎_elim
+    (λ (has : 0 < length (agenda_of d name)). omega (arith, h has, before.less name))
+    (λ (none : length (agenda_of d name) ≤ 0). omega (arith, none, some, after.less name))
+    (cases_lt 0 (length (agenda_of d name)))
+
+-- ---- who takes turns
+
+-- whoever is at a place was there
+pub member_back : (c d : Seen) (i : ℕ) (name : List ℕ) → MembersStay c d → i + 1 < size (state_of c) → name ≡ (member_at (state_of d) (i + 1)).name → IsMemberAt c i name
+member_back c d i name stay lt is = (lt, sym (stay i (member_at (state_of c) (i + 1)).name (lt, refl)).1 ∙ sym is)
+
+-- and a place is still one
+pub place_still : (c d : Seen) (i : ℕ) → MembersStay c d → i + 1 < size (state_of c) → i + 1 < size (state_of d)
+place_still c d i stay lt = (stay i (member_at (state_of c) (i + 1)).name (lt, refl)).0
+
+-- ---- rounds of turns
+
+-- the members below k have begun
 pub record BegunBelow (k : ℕ) (c d : Seen) : Type 0 where
   pub round : TakesRound c d
-  pub begun : (i : ℕ) → i < k → HasBegun i c d
-  pub others : (i : ℕ) → k ≤ i → agenda_at d.agendas i ≡ agenda_at c.agendas i
+  pub begun : (i : ℕ) (name : List ℕ) → i < k → IsMemberAt c i name → HasBegun name c d
 
 pub begun_none : (c : Seen) → BegunBelow 0 c c
-begun_none c = record { round = round_refl c; begun = λ i l. absurd (omega arith); others = λ i l. refl }
+begun_none c = record { round = round_refl c; begun = λ i name l. absurd (omega arith) }
 
-pub begun_more : (k : ℕ) (c d e : Seen) → BegunBelow k c d → TakesTurns k d e → HasBegun k d e → BegunBelow (k + 1) c e
-begun_more k c d e b t h = record {
-  round = round_trans c d e b.round (turns_round k d e t);
-  begun = λ i l.
+pub begun_more : (k : ℕ) (at : List ℕ) (c d e : Seen) → BegunBelow k c d → IsMemberAt c k at → TakesRound d e → HasBegun at d e → BegunBelow (k + 1) c e
+begun_more k at c d e b m t h = record {
+  round = round_trans c d e b.round t;
+  begun = λ i name l is.
       ⊎_elim
-      (λ (same : i ≡ k). subst (λ j. HasBegun j c e) (sym same) (begun_later k c d e (b.others k (omega arith)) h))
-      (λ (ne : i ≢ k). begun_on i c d e (b.begun i (omega arith)) (omega (arith, ap length (t.elsewhere i ne))))
+      (λ (same : i ≡ k).
+      let named : name ≡ at = sym is.1 ∙ ap (λ j. (member_at (state_of c) (j + 1)).name) same ∙ m.1 in
+      subst (λ n. HasBegun n c e) (sym named) (begun_later at c d e b.round h t))
+      (λ (ne : i ≢ k). begun_still name c d e (b.begun i name (omega arith) is) t)
       (cases_eq i k);
-  others = λ i l. t.elsewhere i (λ same. omega arith) ∙ b.others i (omega arith);
 }
+
+-- so has everybody, once all have
+pub all_begun : (k : ℕ) (c d : Seen) → IsGoing c → k + 1 ≡ size (state_of c) → BegunBelow k c d → (name : List ℕ) → HasBegun name c d
+all_begun k c d g many b name some =
+    let at = agenda_member c name g (λ none. absurd (omega (arith, some, ap length none))) in
+    b.begun at.0 name (omega (arith, at.1.0)) at.1 some
 
 -- the members below k are done with their agendas
 pub record DoneBelow (k : ℕ) (c d : Seen) : Type 0 where
   pub round : TakesRound c d
-  pub done : (i : ℕ) → i < k → IsDoneAt i d
+  pub done : (i : ℕ) (name : List ℕ) → i < k → IsMemberAt c i name → agenda_of d name ≡ []
 
 pub done_none : (c : Seen) → DoneBelow 0 c c
-done_none c = record { round = round_refl c; done = λ i l. absurd (omega arith) }
+done_none c = record { round = round_refl c; done = λ i name l. absurd (omega arith) }
 
-pub done_more : (k : ℕ) (c d e : Seen) → DoneBelow k c d → TakesTurns k d e → IsDoneAt k e → DoneBelow (k + 1) c e
-done_more k c d e b t h = record {
-  round = round_trans c d e b.round (turns_round k d e t);
-  done = λ i l.
+nothing_left : (ts us : List Task) → length us ≤ length ts → ts ≡ [] → us ≡ []
+nothing_left ts [] l e = refl
+nothing_left ts (u ∷ us) l e = absurd (omega (arith, l, ap length e))
+
+pub done_more : (k : ℕ) (at : List ℕ) (c d e : Seen) → DoneBelow k c d → IsMemberAt c k at → TakesRound d e → agenda_of e at ≡ [] → DoneBelow (k + 1) c e
+done_more k at c d e b m t h = record {
+  round = round_trans c d e b.round t;
+  done = λ i name l is.
       ⊎_elim
-      (λ (same : i ≡ k). subst (λ j. IsDoneAt j e) (sym same) h)
-      (λ (ne : i ≢ k). t.elsewhere i ne ∙ b.done i (omega arith))
+      (λ (same : i ≡ k). ap (agenda_of e) (sym is.1 ∙ ap (λ j. (member_at (state_of c) (j + 1)).name) same ∙ m.1) ∙ h)
+      (λ (ne : i ≢ k). nothing_left (agenda_of d name) (agenda_of e name) (t.less name) (b.done i name (omega arith) is))
       (cases_eq i k);
 }
 
-pub all_done : (k : ℕ) (c d : Seen) → IsGoing d → k ≡ length d.names → DoneBelow k c d → AgendasAreEmpty d
-all_done k c d g e b i l = b.done i (omega (arith, g.agendas))
+pub all_done : (k : ℕ) (c d : Seen) → IsGoing c → k + 1 ≡ size (state_of c) → DoneBelow k c d → AgendasAreEmpty d
+all_done k c d g many b name = by_tasks (agenda_of d name) refl
+  where
+    by_tasks : (ts : List Task) → agenda_of d name ≡ ts → agenda_of d name ≡ []
+    by_tasks [] e = e
+    by_tasks (t ∷ ts) e =
+        let at = agenda_member c name g (λ none. absurd (omega (arith, b.round.less name, ap length e, ap length none))) in
+        b.done at.0 name (omega (arith, at.1.0)) at.1
 
 -- they are still, after members have worked
 pub done_still : (c d : Seen) → AgendasAreEmpty c → Works c d → AgendasAreEmpty d
-done_still c d h w i l = ap (λ ags. agenda_at ags i) w.agendas ∙ h i (omega (arith, ap length w.agendas))
+done_still c d h w name = ap (λ ags. tasks_in ags name) w.agendas ∙ h name
 
 -- ---- a pass
 
@@ -171,19 +196,19 @@ passed_more c d e false false k h w falls rests = record {
 pub ruleset own_step = (own_falls, own_works, works_same)
 
 -- what a turn does
-pub ruleset one_turn = (performed_turns, performed_begun, works_turns, done_begun, turns_same, did_none, did_later)
+pub ruleset one_turn = (performed_round, performed_begun, works_round, done_begun, works_same, did_none, did_later)
 
 -- what turns one after another do
-pub ruleset more_turns = (turns_trans, turns_refl, begun_still, did_none, did_fewer, did_more)
+pub ruleset more_turns = (round_trans, round_refl, begun_still, did_none, did_fewer, did_more)
 
 -- what a round does
-pub ruleset rounds = (begun_more, begun_none, round_trans, turns_round, few_none, few_more, few_each)
+pub ruleset rounds = (begun_more, begun_none, round_trans, all_begun, few_none, few_more, few_each)
 
 -- what it does that all tasks of one member are done
-pub ruleset tasks = (performed_turns, performed_shrinks, turns_trans, turns_same, turns_refl)
+pub ruleset tasks = (performed_round, performed_shrinks, round_trans, works_round, works_same, round_refl)
 
 -- and those of all members
-pub ruleset all_tasks = (done_more, done_none, round_trans, turns_round, all_done)
+pub ruleset all_tasks = (done_more, done_none, round_trans, all_done)
 
 -- what a drain does
 pub ruleset draining = (works_round, round_trans, done_still)

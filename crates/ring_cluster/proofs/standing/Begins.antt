@@ -155,7 +155,7 @@ module _ (credit : CreditSpec) (names : List (List ℕ)) (are : AreOpeningNames 
 
   pub opened_stand : StandAfter credit names [] (opened_parties credit names)
   opened_stand = record {
-    journal = record { are = are; plain = refl; run = tt; few = omega arith };
+    journal = record { are = are; run = tt; few = omega arith };
     stand = record {
       places = first_places;
       stand = record {
@@ -163,6 +163,7 @@ module _ (credit : CreditSpec) (names : List (List ℕ)) (are : AreOpeningNames 
         each = member_stands;
         views = refl;
         stopped = λ x a b. sym (ap (λ (m : Member). is_stopped m.phase) (first_member credit names x a b));
+        nobody_else = λ x _. refl;
         post = refl;
         within = λ s i. absurd (false≢true i);
         carry = λ s l _. carries_first s l;

@@ -61,14 +61,16 @@ whole_door u p x a h none = h.comes ∙ ap (λ ys. h.door ++ ys) none ∙ append
 pub whole_held : (u : World) (p : Places) (x : ℕ) (a : Shown) → MemberStands u p x a → filter (is_to u x) p.post ≡ [] → a.held ≡ held_in u x
 whole_held u p x a h none = h.held ∙ ap (λ d. record (held_in u x) { door = map (incoming_in u) d }) (sym (whole_door u p x a h none))
 
-pub looker : (u u' : World) (p p' : Places) (x v : ℕ) (a b : Shown) (out' : Option OutSeen) → MayLook u x v → IsGood u → (h : MemberStands u p x a) → filter (is_to u x) p.post ≡ []
-    → b.held ≡ refreshed_held a.held (view_in u v) → b.ends ≡ record (looked_ends (view_in u v) a) { out = out' } → out' ≡ option_map p'.outs (member_at u' x).out
-    → (member_at u' x).current ≡ kept_current (λ s. is_kept u (link_at u s) v) (member_at u x).current
-    → ((ds : List Incoming) → record (refreshed_held (held_in u x) (view_in u v)) { door = ds } ≡ record (held_in u' x) { door = ds })
+-- it has a view, of which a test says which link it may take from still
+pub looker : (u u' : World) (p p' : Places) (x : ℕ) (view : Group) (kept : ℕ → Bool) (a b : Shown) (out' : Option OutSeen) → OwnEnds u → ((s : ℕ) → (member_at u x).current ≡ Some s → is_for view x (incoming_in u s) ≡ kept s)
+    → (h : MemberStands u p x a) → filter (is_to u x) p.post ≡ []
+    → b.held ≡ refreshed_held a.held view → b.ends ≡ record (looked_ends view a) { out = out' } → out' ≡ option_map p'.outs (member_at u' x).out
+    → (member_at u' x).current ≡ kept_current kept (member_at u x).current
+    → ((ds : List Incoming) → record (refreshed_held (held_in u x) view) { door = ds } ≡ record (held_in u' x) { door = ds })
     → ((s : ℕ) → s < length u.links → p'.ins s ≡ p.ins s) → ((s : ℕ) → s < length u.links → incoming_in u' s ≡ incoming_in u s)
-    → door_links u' x ≡ filter (λ s. stays (view_in u v) x (incoming_in u s)) (door_links u x) ++ filter (is_to u' x) p'.post
+    → door_links u' x ≡ filter (λ s. stays view x (incoming_in u s)) (door_links u x) ++ filter (is_to u' x) p'.post
     → MemberStands u' p' x b
-looker u u' p p' x v a b out' m g h none eh ee eo ec stand ins inc comes = record {
+looker u u' p p' x view kept a b out' own test h none eh ee eo ec stand ins inc comes = record {
   door = filter keeps h.door;
   comes = comes ∙ ap (λ d. filter keeps d ++ filter (is_to u' x) p'.post) at;
   held = eh ∙ ap (λ k. refreshed_held k view) held_at ∙ stand (kept_door view x (door_in u x)) ∙ ap (λ ds. record (held_in u' x) { door = ds }) doors;
@@ -88,11 +90,8 @@ looker u u' p p' x v a b out' m g h none eh ee eo ec stand ins inc comes = recor
   old_ins = ap (λ (e : EndsSeen). e.old_ins) ee ∙ h.old_ins;
 }
   where
-    view : Group
-    view = view_in u v
-
     keeps : ℕ → Bool
-    keeps s = stays (view_in u v) x (incoming_in u s)
+    keeps s = stays view x (incoming_in u s)
 
     at : door_links u x ≡ h.door
     at = whole_door u p x a h none
@@ -113,11 +112,11 @@ looker u u' p p' x v a b out' m g h none eh ee eo ec stand ins inc comes = recor
     made true s e = ap Some (sym e)
     made false s e = refl
 
-    by_current : (c : Option ℕ) → (member_at u x).current ≡ c → kept_end view x (option_map (incoming_in u) c) (option_map p.ins c) ≡ option_map p'.ins (kept_current (λ s. is_kept u (link_at u s) v) c)
+    by_current : (c : Option ℕ) → (member_at u x).current ≡ c → kept_end view x (option_map (incoming_in u) c) (option_map p.ins c) ≡ option_map p'.ins (kept_current kept c)
     by_current None e = refl
     by_current (Some s) e =
-        ap (λ b. cond b (Some (p.ins s)) None) (for_kept u x v s m g e)
-        ∙ made (is_kept u (link_at u s) v) s (ins s (g.inv.current.lt x s (ap runs_phase m.up) e))
+        ap (λ b. cond b (Some (p.ins s)) None) (test s e)
+        ∙ made (kept s) s (ins s (own.current x s e).0)
 
 -- ---- another
 

@@ -23,7 +23,7 @@ use Rattle.ring_cluster.proofs.standing.Placing.{GoBetween, StandsAt, at_receive
 
 -- the parties show the state as they did, and ends carry their links
 pub stands_of : {C : ℕ → Type 0} (initial : ℕ) (w : World) (q : Parties) (p : Places) → Shows C w q p → ((s : ℕ) → s < length w.links → has_in w s ≡ true → Carries w initial (link_at w s) (p.outs s) (p.ins s)) → StandIn initial w q p
-stands_of initial w q p h c = record { count = h.count; each = h.each; views = h.views; stopped = h.stopped; post = h.post; within = h.within; carry = c }
+stands_of initial w q p h c = record { count = h.count; each = h.each; views = h.views; stopped = h.stopped; nobody_else = h.nobody_else; post = h.post; within = h.within; carry = c }
 
 -- another end is shown
 abbrev pub with_outs : Places → ℕ → OutSeen → Places
@@ -75,6 +75,7 @@ out_shows w q p x s o own a l e h = record {
       (λ z c m ne. out_other w p z s o (node_at q (z - 1)) (λ k. ne (sym (own.out z s k).1 ∙ (own.out x s e).1)) (h.each z c m));
   views = h.views;
   stopped = h.stopped;
+  nobody_else = h.nobody_else;
   post = h.post;
   within = h.within;
   carry = h.carry;
@@ -88,6 +89,7 @@ out_hidden w q p s o own none h = record {
       (λ k. false≢true (sym none ∙ ap (λ y. is_place (member_at w y).out s) (own.out z s k).1 ∙ ap (λ c. is_place c s) k ∙ nat_eq-same s)) (h.each z c m);
   views = h.views;
   stopped = h.stopped;
+  nobody_else = h.nobody_else;
   post = h.post;
   within = h.within;
   carry = h.carry;
@@ -169,6 +171,7 @@ in_shows w q p y place s n g own a l sl named h =
           (false_from_ne_true (is_in s (h.each z c m).door) (λ i. ne (sym (stood_is w p z s (node_at q (z - 1)) (h.each z c m) i).2 ∙ to))));
       views = h.views;
       stopped = h.stopped;
+      nobody_else = h.nobody_else;
       post = h.post ∙ sym (map_other (λ k. record { name = name_of w k; end = Some (p.ins k) }) (λ k. record { name = name_of w k; end = Some (placed p.ins s n k) }) p.post s gone
           (λ k ne. ap (λ i. record { name = name_of w k; end = Some i }) (placed_other p.ins s n k ne)));
       within = h.within;
@@ -189,6 +192,7 @@ in_posts w q p j s n own go jl e h =
           (false_from_ne_true (is_in s (h.each z c m).door) (λ i. false≢true (sym (stood_not_posted w p z s (node_at q (z - 1)) (h.each z c m) i) ∙ there)));
       views = h.views;
       stopped = h.stopped;
+      nobody_else = h.nobody_else;
       post = ap (λ xs. set xs j (record { name = name_of w s; end = Some n })) h.post
           ∙ set_made (λ k. record { name = name_of w k; end = Some (p.ins k) }) (λ k. record { name = name_of w k; end = Some (placed p.ins s n k) }) (is_to w y) p.post j s (record { name = name_of w s; end = Some n })
           (posted_once w p y (node_at q (y - 1)) (h.each y k.0 k.1)) (nat_eq-same y) jl e

@@ -1,5 +1,5 @@
 -- A quiet ring has heard all.
-use Rattle.std.proofs.Common.{◌≡◌, ℕ, ◌≤◌, true, false, List, [], ◌∷◌, ◌++◌, length, refl, sym, ap, subst, ◌∙◌, ⊎_elim, arith}
+use Rattle.std.proofs.Common.{◌≡◌, ℕ, ◌≤◌, true, false, drop, List, [], ◌∷◌, ◌++◌, length, refl, sym, ap, subst, ◌∙◌, ⊎_elim, arith}
 use Rattle.std.specs.List.{filter}
 use Rattle.std.proofs.lemmas.Bool.{false≢true}
 use Rattle.std.proofs.lemmas.List.{take_all}
@@ -8,25 +8,26 @@ use Rattle.group_view.specs.Ring.{is_in, others}
 use Rattle.group_view.specs.Change.{AreOpeningNames}
 use Rattle.group_view.proofs.Rings.{rotated_is}
 use Rattle.ring_world.specs.declared.event.Event.{Event}
-use Rattle.ring_world.specs.Machine.{World, numbers_at, ring, runs}
+use Rattle.ring_world.specs.declared.phase.Phase.TheVariants.{Up}
+use Rattle.ring_world.specs.Machine.{World, numbers_at, member_at, ring, runs}
 use Rattle.ring_world.specs.OpenLinks.{NeverRises, number}
 use Rattle.ring_world.proofs.walks.CountedWalk.{numbers, counted, only, no_but, is_early, round_of, retired_by, stopped_from, running_from}
 use Rattle.ring_world.specs.Step.{log_of, opening}
-use Rattle.ring_world.specs.Event.{ArePlain, IsRun, last}
+use Rattle.ring_world.specs.Event.{IsRun, last}
 use Rattle.ring_world.specs.Lawful.{row_of}
 use Rattle.ring_world.specs.Quiet.{IsAtRest, IsQuiet}
 use Rattle.ring_world.proofs.walks.Put.{number_up}
 use Rattle.ring_world.proofs.rings.Falling.{falls_across, each_in_round, in_head, rises_second}
 use Rattle.ring_world.proofs.invariants.Happens.{IsGood}
 use Rattle.ring_world.proofs.runs.Confirmed.{runs_in_walk}
-use Rattle.ring_world.proofs.events.Plain.{NoneWaits, up_of}
 use Rattle.ring_world.proofs.walks.Ended.{runs_lt}
-use Rattle.gm_member.proofs.Plain.{IsPlainFit, reached_plain}
-use Rattle.ring_cluster.specs.Heard.{HasHeardAll}
+use Rattle.gm_member.proofs.Fit.{IsFit, reached_fit}
+use Rattle.ring_cluster.specs.Heard.{HasHeardAll, OpenersHaveNoBase}
+use Rattle.ring_cluster.proofs.work.Bases.{reached_bases}
 
 -- ---- what has come round twice was forgotten by its publisher
 
-module _ (w : World) (p : ℕ) (g : IsGood w) (n : NoneWaits w) (some : 1 ≤ p) (rp : runs w p ≡ true) where
+module _ (w : World) (p : ℕ) (g : IsGood w) (up : (member_at w p).phase ≡ Up) (some : 1 ≤ p) (rp : runs w p ≡ true) where
   -- the round of what was forgotten
   abbrev second_round : List ℕ
   second_round = round_of (λ k. k.forgot) (λ r. r.forgot) w p (stopped_from w p) (running_from w p)
@@ -52,36 +53,39 @@ module _ (w : World) (p : ℕ) (g : IsGood w) (n : NoneWaits w) (some : 1 ≤ p)
   retired_is_forgotten =
       let first : List ℕ = round_of (λ k. k.got) (λ r. r.got) w p (stopped_from w p) (running_from w p) in
       let falls : NeverRises (second_round ++ retired_by w p (running_from w p)) = rises_second first (second_round ++ retired_by w p (running_from w p)) (g.inv.walks p some (runs_lt w p rp)) in
-      subst (λ a. (row_of w p p).retired ≤ a) (number_up (λ k. k.forgot) (λ r. r.forgot) w p p (up_of w p n rp))
+      subst (λ a. (row_of w p p).retired ≤ a) (number_up (λ k. k.forgot) (λ r. r.forgot) w p p up)
       (falls_across (number (λ k. k.forgot) (λ r. r.forgot) w p p) (row_of w p p).retired second_round (retired_by w p (running_from w p)) falls forgot_there retired_there)
 
 -- ---- a ring at rest
 
-module _ (w : World) (h : IsPlainFit w) (rest : IsAtRest w) where
+module _ (w : World) (names : List (List ℕ)) (f : IsFit w) (none : OpenersHaveNoBase names w) (rest : IsAtRest w) where
   -- all that a running member published was forgotten by it
   all_forgotten : (p : ℕ) → 1 ≤ p → runs w p ≡ true → length (log_of w p) ≤ (row_of w p p).forgot
-  all_forgotten p some rp = omega (arith, (rest.members p rp).come_round, retired_is_forgotten w p h.fit.good h.none_waits some rp)
+  all_forgotten p some rp = omega (arith, (rest.members p rp).come_round, retired_is_forgotten w p f.good (rest.members p rp).up some rp)
 
-  pub rest_has_heard : HasHeardAll w
+  pub rest_has_heard : HasHeardAll names w
   rest_has_heard = record {
-    confirmed = λ p some rp. omega (arith, all_forgotten p some rp, (h.fit.lawful.within.rows p p).forgot);
+    confirmed = λ p some rp. omega (arith, all_forgotten p some rp, (f.lawful.within.rows p p).forgot);
     heard = λ q p some rp up.
-        let all : length (log_of w p) ≤ (row_of w q p).got = omega (arith, all_forgotten p some rp, h.fit.lawful.confirmed.up q p some (runs_lt w p rp) up) in
-        h.heard q p ∙ take_all (row_of w q p).got (log_of w p) all;
+        let all : length (log_of w p) ≤ (row_of w q p).got = omega (arith, all_forgotten p some rp, f.lawful.confirmed.up q p some (runs_lt w p rp) up) in
+        f.lawful.in_order q p ∙ ap (drop (row_of w q p).base) (take_all (row_of w q p).got (log_of w p) all);
+    bases = none;
   }
 
--- ---- every state of every run of plain events
+-- ---- every state of every run
 
 -- where nobody runs, nothing has to be heard
-nobody_has : (w : World) → ((y : ℕ) → runs w y ≡ false) → HasHeardAll w
-nobody_has w none = record {
+nobody_has : (w : World) (names : List (List ℕ)) → OpenersHaveNoBase names w → ((y : ℕ) → runs w y ≡ false) → HasHeardAll names w
+nobody_has w names bases none = record {
   confirmed = λ p some rp. absurd (false≢true (sym (none p) ∙ rp));
   heard = λ q p some rp up. absurd (false≢true (sym (none p) ∙ rp));
+  bases = bases;
 }
 
 -- a quiet ring has heard all
-pub run_quiet_has_heard : (credit : CreditSpec) (names : List (List ℕ)) (events : List Event) → AreOpeningNames names → ArePlain events → IsRun (opening credit names) events → IsQuiet (last (opening credit names) events) → HasHeardAll (last (opening credit names) events)
-run_quiet_has_heard credit names events are plain r quiet =
+pub run_quiet_has_heard : (credit : CreditSpec) (names : List (List ℕ)) (events : List Event) → AreOpeningNames names → IsRun (opening credit names) events → IsQuiet (last (opening credit names) events) → HasHeardAll names (last (opening credit names) events)
+run_quiet_has_heard credit names events are r quiet =
     let w : World = last (opening credit names) events in
-    ⊎_elim (λ (none : (y : ℕ) → runs w y ≡ false). nobody_has w none)
-    (λ (rest : IsAtRest w). rest_has_heard w (reached_plain credit names events are plain r) rest) quiet
+    let bases : OpenersHaveNoBase names w = reached_bases credit names events are r in
+    ⊎_elim (λ (none : (y : ℕ) → runs w y ≡ false). nobody_has w names bases none)
+    (λ (rest : IsAtRest w). rest_has_heard w names (reached_fit credit names events are r) bases rest) quiet

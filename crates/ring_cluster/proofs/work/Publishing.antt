@@ -15,11 +15,9 @@ use Rattle.ring_world.specs.Machine.{World}
 use Rattle.ring_world.specs.Step.{size, log_of, opening}
 use Rattle.ring_world.proofs.events.Names.{same_bytes, own_bytes}
 use Rattle.ring_world.proofs.runs.Published.{run_publishes}
-use Rattle.gm_member.proofs.Names.{NamesAre, reached_names}
 use Rattle.ring_cluster.specs.Seen.{Seen, IsGoing, state_of}
 use Rattle.ring_cluster.specs.Published.{logs_of}
 use Rattle.ring_cluster.proofs.lists.Places.{position_there}
-use Rattle.ring_cluster.proofs.rounds.Named.{names_many, name_in, going_many}
 
 -- ---- lists alone
 
@@ -86,32 +84,3 @@ cast_of_one names before by body i differ found =
     (grows names before (Cast by body) (get_or names i []) (message.Cast body ∷ []) (by_test by body (get_or names i []) true (ap (bytes_eq by) is ∙ own_bytes by)))
     (λ j l ne. stays names before (Cast by body) (get_or names j [])
     (of_other by body (get_or names j []) _ refl (λ same. ne (differ j i l there.0 (sym same ∙ sym is)))))
-
--- ---- a cluster
-
--- the logs in the last state of a journal are what its events published of each name
-pub going_logs : (c : Seen) → IsGoing c → map (λ name. published_in name c.events) c.names ≡ logs_of (state_of c)
-going_logs c g = same_lists _ _ many each
-  where
-    w : World
-    w = state_of c
-
-    w0 : World
-    w0 = opening c.credit c.names
-
-    named : NamesAre c.names w0
-    named = reached_names c.credit c.names [] g.are refl tt
-
-    n : ℕ
-    n = size w - 1
-
-    many : length (map (λ name. published_in name c.events) c.names) ≡ length (logs_of w)
-    many = omega (arith, length-map c.names (λ name. published_in name c.events), length-map-range_with_len (log_of w) 1 n, going_many c g)
-
-    each : (k : ℕ) (d : List Message) → k < length (map (λ name. published_in name c.events) c.names) → get_or (map (λ name. published_in name c.events) c.names) k d ≡ get_or (logs_of w) k d
-    each k d l =
-        let lt : k < length c.names = omega (arith, length-map c.names (λ name. published_in name c.events)) in
-        get_or-map (λ name. published_in name c.events) c.names k [] d lt
-        ∙ ap (λ name. published_in name c.events) (sym (name_in c.names w0 k named lt))
-        ∙ sym (run_publishes c.credit c.names c.events (k + 1) g.are g.run (omega arith) (omega (arith, names_many c.names w0 named)))
-        ∙ sym (get_or-map-range_with_len (log_of w) 1 n k (k + 1) d (omega (arith, going_many c g)) (omega arith))

@@ -10,7 +10,7 @@ use Rattle.group_view.specs.View.{is_dead, is_alias}
 use Rattle.group_view.proofs.Rings.{nat_eq-is}
 use Rattle.ring_world.specs.Machine.{Waiting, Up, Halted, World, row_at, member_at, link_at, view_in, newest, runs, runs_phase}
 use Rattle.ring_world.specs.Step.{size, put_on, gain_on, publish_at, take_from, begin_from, come_to, current_is, leave_link, stop_at, end_out, with_view}
-use Rattle.ring_world.specs.Event.{Event, Cast, Put, Take, TakeEnd, Gain, Stop, Mark, Refresh, Admit, Pick, Erase, Refuse, is_plain, is_stopped, id_of, of_member, on_link, put_refusal, take_refusal, end_refusal, gain_refusal, version_refusal, refresh_refusal, at_door, mark_refusal, erase_refusal, not_retired, erased_view, admit_refusal, refreshed, by_of, is_for_up, phase_refusal, further_refusal, doing_refusal, refused_at, refusal, at_found, taken_by, done_at, effect}
+use Rattle.ring_world.specs.Event.{Event, Cast, Put, Take, TakeEnd, Gain, Stop, Mark, Refresh, Admit, Pick, Erase, Refuse, is_stopped, id_of, of_member, on_link, put_refusal, take_refusal, end_refusal, gain_refusal, version_refusal, refresh_refusal, at_door, mark_refusal, erase_refusal, not_retired, erased_view, admit_refusal, refreshed, by_of, is_for_up, phase_refusal, further_refusal, doing_refusal, refused_at, refusal, at_found, taken_by, done_at, effect}
 use Rattle.ring_world.proofs.events.WhatRefuses.{MayTake, MayBegin, MayLook, MayMark, MayErase}
 use Rattle.ring_world.proofs.events.Refusals.{none_of, refuse_none, none_there, id_within, not_less, not_false, up_or_waits}
 use Rattle.ring_world.proofs.events.Enabled.{up_none, take_some, take_version, end_empty, mark_lives, mark_stops, refresh_later, refresh_upto}
@@ -47,20 +47,6 @@ EachGain P w = (x o : ℕ) → IsUp w x → (member_at w x).out ≡ Some o → g
 abbrev pub EachPick : (World → Type 0) → World → Type 0
 EachPick P w = (y s : ℕ) → IsUp w y → (member_at w y).current ≡ None → at_door w y ≡ Some s → (link_at w s).opened ≤ (member_at w y).version → P (current_is w y (Some s))
 
--- the events that are no admission, each by itself, where all members that act are up
-pub record PlainCases (P : World → Type 0) (w : World) : Type 0 where
-  pub casts : (x : ℕ) (m : Message) → IsUp w x → P (publish_at w x m)
-  pub puts : EachPut P w
-  pub takes : (y s : ℕ) → IsUp w y → MayTake w y s → P (take_from w y s)
-  pub leaves : EachLeave P w
-  pub gains : EachGain P w
-  pub stops : (x : ℕ) → IsUp w x → P (end_out Halted (stop_at w x) (member_at w x).out)
-  pub marks : (x d : ℕ) → IsUp w x → MayMark w x d → P (refreshed (with_view w (marked (view_in w (newest w)) d)) x (newest w + 1))
-  pub erases : (x d : ℕ) → IsUp w x → MayErase w x d → P (refreshed (with_view w (erased_view w d)) x (newest w + 1))
-  pub refreshes : (x v : ℕ) → IsUp w x → MayLook w x v → P (refreshed w x v)
-  pub picks : EachPick P w
-  pub refuses : P w
-
 -- each event by itself, under its conditions; who waits takes its first packet, or stops
 pub record Cases (P : World → Type 0) (w : World) : Type 0 where
   pub casts : (x : ℕ) (m : Message) → IsUp w x → P (publish_at w x m)
@@ -76,21 +62,6 @@ pub record Cases (P : World → Type 0) (w : World) : Type 0 where
   pub refreshes : (x v : ℕ) → IsUp w x → MayLook w x v → P (refreshed w x v)
   pub picks : EachPick P w
   pub refuses : P w
-
-pub plain_of : (P : World → Type 0) (w : World) → Cases P w → PlainCases P w
-plain_of P w c = record {
-  casts = c.casts;
-  puts = c.puts;
-  takes = c.takes;
-  leaves = c.leaves;
-  gains = c.gains;
-  stops = λ x u. c.stops x (up_runs w x u);
-  marks = c.marks;
-  erases = c.erases;
-  refreshes = c.refreshes;
-  picks = c.picks;
-  refuses = c.refuses;
-}
 
 -- ---- conditions
 
@@ -146,31 +117,26 @@ at_named P w name later f h k = by_id (id_of w name) refl h
 
 -- ---- events
 
--- of a member that is up, but for admissions
-pub each_plain_up : (P : World → Type 0) (w : World) (e : Event) (x : ℕ) → is_plain e ≡ true → PlainCases P w → IsUp w x → further_refusal w e x ≡ None → P (done_at w e x)
-each_plain_up P w (Cast by body) x p c u h = c.casts x (message.Cast body) u
-each_plain_up P w (Put by) x p c u h = at_link P w reason.NoOutLink (put_refusal w x) (put_on w x) (member_at w x).out h (λ o out k. c.puts x o u out k)
-each_plain_up P w (Take by) x p c u h = at_link P w reason.NoCurrentLink (take_refusal w x) (taken_by (member_at w x).phase w x) (member_at w x).current h
+-- of a member that is up
+each_up : (P : World → Type 0) (w : World) (e : Event) (x : ℕ) → Cases P w → IsUp w x → further_refusal w e x ≡ None → P (done_at w e x)
+each_up P w (Cast by body) x c u h = c.casts x (message.Cast body) u
+each_up P w (Put by) x c u h = at_link P w reason.NoOutLink (put_refusal w x) (put_on w x) (member_at w x).out h (λ o out k. c.puts x o u out k)
+each_up P w (Take by) x c u h = at_link P w reason.NoCurrentLink (take_refusal w x) (taken_by (member_at w x).phase w x) (member_at w x).current h
     (λ s current k. subst (λ f. P (taken_by f w x s)) (sym u.up) (c.takes x s u (may_take w x s u.lt u.up current k)))
-each_plain_up P w (TakeEnd by) x p c u h = at_link P w reason.NoCurrentLink (end_refusal w) (leave_link w x) (member_at w x).current h (λ s current k. c.leaves x s u current k)
-each_plain_up P w (Gain by) x p c u h = at_link P w reason.NoOutLink (gain_refusal w) (gain_on w) (member_at w x).out h (λ o out k. c.gains x o u out k)
-each_plain_up P w (Stop by) x p c u h = c.stops x u
-each_plain_up P w (Mark by dead) x p c u h = at_named P w dead (mark_refusal w x) (λ d. refreshed (with_view w (marked (view_in w (newest w)) d)) x (newest w + 1)) h
+each_up P w (TakeEnd by) x c u h = at_link P w reason.NoCurrentLink (end_refusal w) (leave_link w x) (member_at w x).current h (λ s current k. c.leaves x s u current k)
+each_up P w (Gain by) x c u h = at_link P w reason.NoOutLink (gain_refusal w) (gain_on w) (member_at w x).out h (λ o out k. c.gains x o u out k)
+each_up P w (Stop by) x c u h = c.stops x (up_runs w x u)
+each_up P w (Mark by dead) x c u h = at_named P w dead (mark_refusal w x) (λ d. refreshed (with_view w (marked (view_in w (newest w)) d)) x (newest w + 1)) h
     (λ d some lt k. c.marks x d u (may_mark w x d u.lt u.up k))
-each_plain_up P w (Refresh by version) x p c u h = c.refreshes x version u (may_look w x version u.lt u.up h)
-each_plain_up P w (Pick by) x p c u h =
+each_up P w (Refresh by version) x c u h = c.refreshes x version u (may_look w x version u.lt u.up h)
+each_up P w (Pick by) x c u h =
     let a = none_of (is_some (member_at w x).current) reason.HasCurrentLink _ h in
     at_link P w reason.NoLinkAtDoor (λ s. version_refusal (link_at w s).opened (member_at w x).version) (λ s. current_is w x (Some s)) (at_door w x) a.1
     (λ s e k. c.picks x s u (none_there (member_at w x).current a.0) e (not_less (member_at w x).version (link_at w s).opened _ k))
-each_plain_up P w (Erase by origin) x p c u h = at_named P w origin (erase_refusal w x) (λ d. refreshed (with_view w (erased_view w d)) x (newest w + 1)) h
+each_up P w (Erase by origin) x c u h = at_named P w origin (erase_refusal w x) (λ d. refreshed (with_view w (erased_view w d)) x (newest w + 1)) h
     (λ d some lt k. c.erases x d u (may_erase w x d u.lt u.up k))
-each_plain_up P w (Refuse code inner) x p c u h = c.refuses
-each_plain_up P w (Admit by name) x p c u h = absurd (false≢true p)
-
--- of one that is up
-each_up : (P : World → Type 0) (w : World) (e : Event) (x : ℕ) → Cases P w → IsUp w x → further_refusal w e x ≡ None → P (done_at w e x)
+each_up P w (Refuse code inner) x c u h = c.refuses
 each_up P w (Admit by name) x c u h = c.admits x name u h
-each_up P w e x c u h = each_plain_up P w e x refl (plain_of P w c) u h
 
 -- of one that waits
 each_waiting : (P : World → Type 0) (w : World) (e : Event) (x : ℕ) → IsGood w → Cases P w → IsRunning w x → (member_at w x).phase ≡ Waiting → is_for_up e ≡ false → further_refusal w e x ≡ None → P (done_at w e x)

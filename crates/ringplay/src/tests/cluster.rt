@@ -1,7 +1,6 @@
-//! Clusters of which some members stop, also where an allocation fails: tables of what is asked of them, with what is
-//! wanted to be seen then. What changes a ring is tried once more where it wants memory, but for a plain round.
-ghost use Rattle.std.specs.Prelude.{◌≡◌};
-ghost use Rattle.ring_world.specs.Event.{is_plain};
+//! Clusters of which some members stop, and to which others come, also where an allocation fails: tables of what is
+//! asked of them, with what is wanted to be seen then. What changes a ring is tried once more where it wants memory, but
+//! for a plain round.
 
 use ring_cluster::Cluster;
 use ring_io::Gate;
@@ -114,18 +113,8 @@ fn happened(cluster: &Cluster) -> Result<usize, OutOfMemory> {
     }
 }
 
-/// Whether it is an event that members do.
-fn is_played(event: &Event) -> bool
-    ensures { result ≡ is_plain event.now }
-{
-    !matches!(event, Event::Admit { .. })
-}
-
 /// An event happens where the ring lets it.
 fn step(cluster: &mut Cluster, event: &Event) -> Result<(), OutOfMemory> {
-    if !is_played(event) {
-        return Ok(());
-    }
     match cluster.step(event) {
         Err(Refused::OutOfMemory) => Err(OutOfMemory),
         _ => Ok(()),
@@ -226,18 +215,19 @@ fn has_heard(cluster: &Cluster, by: u32, of: u32, bodies: &str) -> Result<bool, 
     if of == 0 {
         return Ok(false);
     }
+    let base = member.base(MemberId(of)) as usize;
     let got = member.got(MemberId(of)) as usize;
     let all = cluster.published()?;
     match all.get(of as usize - 1) {
-        Some(published) => Ok(are_bodies(published, got, bodies)),
+        Some(published) => Ok(are_bodies(published, base, got, bodies)),
         None => Ok(false),
     }
 }
 
-/// Whether the first of these are the bodies.
-fn are_bodies(published: &[&Body], got: usize, bodies: &str) -> bool {
+/// Whether those between two numbers are the bodies.
+fn are_bodies(published: &[&Body], base: usize, got: usize, bodies: &str) -> bool {
     let mut wanted = bodies.split_whitespace();
-    for body in published.iter().take(got) {
+    for body in published.iter().take(got).skip(base) {
         match wanted.next() {
             Some(text) if text.as_bytes() == body.bytes() => {}
             _ => return false,
@@ -417,6 +407,31 @@ const SETTLED_AGAIN: [Line; 15] = [
 #[test]
 fn who_is_left_settles_again(rt: HostRuntime) -> Result<(), Fail> {
     play(&rt, "members a b c\ncredit 2 1", &SETTLED_AGAIN)
+}
+
+const NEWCOMER_SETTLES: [Line; 16] = [
+    Line::Ask("a", "a1"),
+    Line::Settle,
+    Line::Steps("members a\nadmit a n", 1),
+    Line::View(2),
+    Line::Confirmed(3, Some(0)),
+    Line::Confirmed(4, None),
+    Line::Ask("b", "b1"),
+    Line::Ask("a", "a2"),
+    Line::Settle,
+    Line::View(2),
+    Line::Heard(1, 2, "b1"),
+    Line::Heard(2, 1, "a1 a2"),
+    Line::Heard(3, 1, "a2"),
+    Line::Heard(3, 2, "b1"),
+    Line::Confirmed(1, Some(2)),
+    Line::Confirmed(2, Some(1)),
+];
+
+/// Who is admitted takes its turns in rounds and in the drain as all others do.
+#[test]
+fn a_newcomer_settles_with_the_others(rt: HostRuntime) -> Result<(), Fail> {
+    play(&rt, "members a b", &NEWCOMER_SETTLES)
 }
 
 /// Two neighbours of five stop, the second once more.

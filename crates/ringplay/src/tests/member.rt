@@ -6,7 +6,7 @@
 ghost use Rattle.std.specs.Prelude.{◌≡◌, true, IfOk};
 ghost use Rattle.group_view.specs.Ring.{is_in};
 ghost use Rattle.ring_world.specs.View.{ids};
-ghost use Rattle.gm_member.specs.Shown.{held_of, OutIsBack};
+ghost use Rattle.gm_member.specs.Shown.{held_of, OutIsBack, InIsReady};
 ghost use Rattle.gm_member.specs.Questions.{OfView};
 
 use activity::Load;
@@ -88,6 +88,13 @@ ask collect -> refused 19 AwaitingAnswer
 pick -> refused 19 AwaitingAnswer
 make_room 2
 
+has another admitted: 2 of a b c
+admitted d -> deposit of 2 for 4 in 2
+version -> 2
+out_name -> Some(LinkName { from: MemberId(2), to: MemberId(4), view: 2, kind: Ring })
+old_out -> Some(LinkName { from: MemberId(2), to: MemberId(3), view: 1, kind: Ring })
+old_in -> None
+
 is answered no: 2 of a b c
 denied refresh -> nothing
 ask collect -> Collect { by: MemberId(2) }
@@ -108,6 +115,25 @@ pick
 in_name 0 -> Some(LinkName { from: MemberId(3), to: MemberId(2), view: 2, kind: Ring })
 in_name 1 -> None
 pick -> refused 43 HasCurrentLink
+";
+
+/// One that joins a ring of a, b, c as d, whom b has admitted: what it shows before the link to it has met its other
+/// end.
+const JOINS: &str = "
+take -> refused 17 NothingToTake
+phase -> Waiting
+version -> 2
+in_name 0 -> Some(LinkName { from: MemberId(2), to: MemberId(4), view: 2, kind: Ring })
+in_name 1 -> None
+out_name -> None
+keeps 2 -> None
+publish hi -> refused 13 Waiting
+put_refusal -> refused 13 Waiting
+pick -> refused 13 Waiting
+ask refresh -> refused 13 Waiting
+refresh_refusal 2 -> refused 13 Waiting
+lend_and_give -> true
+old_in -> None
 ";
 
 /// The word that a line begins with, and what follows it.
@@ -261,6 +287,27 @@ fn settle(
     }
 }
 
+/// The view that follows the member's own, in which it has admitted one of this name, and the id of that one.
+fn with_newcomer(node: &Node, newcomer: Name) -> Result<(View, MemberId), Fail> {
+    let mut view = node.view().copy()?;
+    let id = view.admit(node.id(), newcomer)?;
+    Ok((view, id))
+}
+
+/// The member asks to admit one of that name, and is answered the view in which it has.
+fn have_admitted(alloc: Global, node: &mut Node, line: &str) -> Result<String, Fail>
+    requires { OutIsBack node.old }
+{
+    let newcomer = name(line)?;
+    let (view, id) = with_newcomer(node, newcomer)?;
+    settle(
+        alloc,
+        node,
+        Ask::Admit(newcomer),
+        Answer::Admitted { view, id },
+    )
+}
+
 /// The member asks, and is answered the next view.
 fn be_answered(rt: &impl Abort, alloc: Global, node: &mut Node, line: &str) -> Result<String, Fail>
     requires { OutIsBack node.old }
@@ -280,6 +327,7 @@ fn begin(rt: &impl Abort, alloc: Global, node: &mut Node, line: &str) -> Result<
         ("stop", _) => told(alloc, node.stop()),
         ("refresh", dead) => refresh(rt, alloc, node, dead),
         ("viewed", line) => be_answered(rt, alloc, node, line),
+        ("admitted", newcomer) => have_admitted(alloc, node, newcomer),
         _ => show(rt, alloc, node, line),
     }
 }
@@ -402,6 +450,31 @@ fn keeps(node: &Node, of: MemberId) -> Option<(u64, u64)> {
     Some((table.store.forgot(), table.store.got()))
 }
 
+/// The member d that joins a ring of a, b, c, admitted by b, over an end of a pair of its own.
+fn joined(rt: &impl Abort, alloc: Global) -> Result<Node, Fail>
+    ensures { IfOk result (λ m. InIsReady m) }
+{
+    let me = name("d")?;
+    let mut view = opening(rt, alloc, "a b c")?;
+    let id = view.admit(MemberId(2), me)?;
+    let (_, link) = plain_pair(alloc, CREDIT)?;
+    assert!(rt; id.0 >= 1 && id.0 <= 64 && view.has_entry(id));
+    match Member::joining(alloc, me, id, view, CREDIT, link) {
+        Ok(node) => Ok(node),
+        Err((_, _, fault)) => Err(fault)?,
+    }
+}
+
+/// What is seen of its first line.
+fn enter(rt: &impl Abort, alloc: Global, node: &mut Node, line: &str) -> Result<String, Fail>
+    requires { InIsReady node.old }
+{
+    match first_word(line) {
+        ("take", _) => told(alloc, node.take()),
+        _ => show(rt, alloc, node, line),
+    }
+}
+
 /// What a line asks for, and what it wants to be seen.
 fn sides(line: &str) -> (&str, &str) {
     line.split_once(" -> ").unwrap_or((line, "()"))
@@ -425,6 +498,22 @@ fn play(rt: &impl Abort, alloc: Global, tale: &str) -> Result<(), Fail> {
         let (said, wanted) = sides(line);
         let told = show(rt, alloc, &mut node, said)?;
         expect(rt, &told, wanted, head, line);
+    }
+    Ok(())
+}
+
+#[test]
+fn joins_and_waits(rt: HostRuntime) -> Result<(), Fail> {
+    let alloc = rt.alloc();
+    let mut node = joined(&rt, alloc)?;
+    let (first, lines) = JOINS.trim().split_once('\n').ok_or("one line")?;
+    let (said, wanted) = sides(first);
+    let told = enter(&rt, alloc, &mut node, said)?;
+    expect(&rt, &told, wanted, "d", first);
+    for line in lines.lines() {
+        let (said, wanted) = sides(line);
+        let told = show(&rt, alloc, &mut node, said)?;
+        expect(&rt, &told, wanted, "d", line);
     }
     Ok(())
 }

@@ -11,7 +11,7 @@ returns-clause-kept c = λ p.
     let absent : lookup (same c.args.origin) c.args.rows.now.entries ≡ None = row_absent c.args.origin c.args.rows.now.entries c.requires.absent in
     ap (λ es. kept_of (kept_rows es) p) (c.in_ok-insert.ensures.entries ∙ insert_entry-new same c.args.rows.now c.args.origin _ absent)
     ∙ kept_push c.args.origin c.args.rows.now.entries _ absent p
-    ∙ ap (λ k. cond (nat_eq p c.args.origin.0) k (kept_of (kept_rows c.args.rows.now.entries) p)) (reserved_start c.args.lo c.starting-table.result c.reserve.new.self c.starting-table.ensures.store c.starting-table.ensures.retired c.reserve.ensures.kept)
+    ∙ ap (λ k. cond (nat_eq p c.args.origin.0) k (kept_of (kept_rows c.args.rows.now.entries) p)) (reserved_start c.args.lo c.args.base c.starting-table.result c.reserve.new.self c.starting-table.ensures.store c.starting-table.ensures.retired c.starting-table.ensures.base c.reserve.ensures.kept)
 
 pub returns-clause-room : goal.returns-clause-room
 returns-clause-room c =

@@ -15,7 +15,7 @@ pub returns-in_ok-insert-clause-kept : goal.returns-in_ok-insert-clause-kept
 returns-in_ok-insert-clause-kept c =
     let absent : lookup (same c.args.origin) c.args.rows.now.entries ≡ None = is_none (lookup (same c.args.origin) c.args.rows.now.entries) (sym c.contains_key.ensures ∙ c.if-not-contains_key.true) in
     subst (λ es. KeepsRows (kept_rows c.args.rows.now.entries) (kept_rows es)) (sym (c.in_ok-insert.ensures.entries ∙ insert_entry-new same c.args.rows.now c.args.origin _ absent))
-    (none_kept c.args.origin c.args.rows.now.entries _ absent (started 0 c.starting-table.result c.starting-table.ensures.store c.starting-table.ensures.retired))
+    (none_kept c.args.origin c.args.rows.now.entries _ absent (started 0 0 c.starting-table.result c.starting-table.ensures.store c.starting-table.ensures.retired c.starting-table.ensures.base))
 
 pub returns-else-not-contains_key-clause-ok : goal.returns-else-not-contains_key-clause-ok
 returns-else-not-contains_key-clause-ok c = room_there c.args.origin c.args.rows.now.entries (sym c.contains_key.ensures ∙ c.if-not-contains_key.false)

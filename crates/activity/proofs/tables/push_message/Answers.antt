@@ -14,6 +14,6 @@ pub push-requires-clause-below : goal.push-requires-clause-below
 push-requires-clause-below c = subst (λ k. got_of k < 2 ^ 63) (kept_found c.args.origin c.args.rows.now.entries c.in-Some.table.now (sym c.in-Some.ensures.value)) c.requires.below
 
 pub returns : goal.returns
-returns c = λ p. ap (λ es. kept_of (kept_rows es) p) (c.get_mut.follows.holds (record { store = c.push.new.self; retired = c.in-Some.table.now.retired })).0
-    ∙ kept_written c.args.origin c.args.rows.now.entries c.in-Some.table.now (record { store = c.push.new.self; retired = c.in-Some.table.now.retired }) (joined c.args.message) (sym c.in-Some.ensures.value)
-    (kept_joins c.args.message c.in-Some.table.now (record { store = c.push.new.self; retired = c.in-Some.table.now.retired }) c.push.ensures.gains refl) p
+returns c = λ p. ap (λ es. kept_of (kept_rows es) p) (c.get_mut.follows.holds (record { store = c.push.new.self; retired = c.in-Some.table.now.retired; base = c.in-Some.table.now.base })).0
+    ∙ kept_written c.args.origin c.args.rows.now.entries c.in-Some.table.now (record { store = c.push.new.self; retired = c.in-Some.table.now.retired; base = c.in-Some.table.now.base }) (joined c.args.message) (sym c.in-Some.ensures.value)
+    (kept_joins c.args.message c.in-Some.table.now (record { store = c.push.new.self; retired = c.in-Some.table.now.retired; base = c.in-Some.table.now.base }) c.push.ensures.gains refl refl) p

@@ -8,10 +8,10 @@ pub returns-in_default-clause-ok : goal.returns-in_default-clause-ok
 returns-in_default-clause-ok c = absurd (true≢false (sym c.requires ∙ room_none c.args.origin c.args.rows.now.entries 0 (sym c.in_default.ensures.value)))
 
 pub returns-clause-ok : goal.returns-clause-ok
-returns-clause-ok c = on_ok c.reserve.result (λ room. ap (λ es. has_room (kept_rows es) c.args.origin.0 c.args.n) (c.get_mut.follows.holds (record { store = c.reserve.new.self; retired = c.in-Some.table.now.retired })).0
-    ∙ row_reserved c.args.origin c.args.rows.now.entries c.args.n c.in-Some.table.now (record { store = c.reserve.new.self; retired = c.in-Some.table.now.retired }) (sym c.in-Some.ensures.value) room) c.reserve.ensures.ok
+returns-clause-ok c = on_ok c.reserve.result (λ room. ap (λ es. has_room (kept_rows es) c.args.origin.0 c.args.n) (c.get_mut.follows.holds (record { store = c.reserve.new.self; retired = c.in-Some.table.now.retired; base = c.in-Some.table.now.base })).0
+    ∙ row_reserved c.args.origin c.args.rows.now.entries c.args.n c.in-Some.table.now (record { store = c.reserve.new.self; retired = c.in-Some.table.now.retired; base = c.in-Some.table.now.base }) (sym c.in-Some.ensures.value) room) c.reserve.ensures.ok
 
 pub returns-clause-kept : goal.returns-clause-kept
-returns-clause-kept c = subst (λ es. KeepsRows (kept_rows c.args.rows.now.entries) (kept_rows es)) (sym (c.get_mut.follows.holds (record { store = c.reserve.new.self; retired = c.in-Some.table.now.retired })).0)
-    (keeps_reserved c.args.origin c.args.rows.now.entries c.in-Some.table.now (record { store = c.reserve.new.self; retired = c.in-Some.table.now.retired }) (sym c.in-Some.ensures.value)
-    (kept_again c.in-Some.table.now (record { store = c.reserve.new.self; retired = c.in-Some.table.now.retired }) c.reserve.ensures.kept refl) c.reserve.ensures.spare)
+returns-clause-kept c = subst (λ es. KeepsRows (kept_rows c.args.rows.now.entries) (kept_rows es)) (sym (c.get_mut.follows.holds (record { store = c.reserve.new.self; retired = c.in-Some.table.now.retired; base = c.in-Some.table.now.base })).0)
+    (keeps_reserved c.args.origin c.args.rows.now.entries c.in-Some.table.now (record { store = c.reserve.new.self; retired = c.in-Some.table.now.retired; base = c.in-Some.table.now.base }) (sym c.in-Some.ensures.value)
+    (kept_again c.in-Some.table.now (record { store = c.reserve.new.self; retired = c.in-Some.table.now.retired; base = c.in-Some.table.now.base }) c.reserve.ensures.kept refl refl) c.reserve.ensures.spare)

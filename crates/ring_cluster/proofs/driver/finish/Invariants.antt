@@ -1,10 +1,10 @@
 use Rattle.std.proofs.Common.{length}
-use Rattle.ring_cluster.specs.Plays.{agenda_at}
-use Rattle.ring_cluster.specs.Turns.{TakesTurns}
+use Rattle.ring_cluster.specs.Plays.{agenda_of}
+use Rattle.ring_cluster.specs.Turns.{TakesRound}
 use Rattle.ring_cluster.proofs.driver.finish.Given as goal
 
 abbrev pub invariant-tasks : goal.invariant-tasks
-invariant-tasks l = TakesTurns l.place l.initial.cluster l.cluster
+invariant-tasks l = TakesRound l.initial.cluster l.cluster
 
 abbrev pub decreases-tasks : goal.decreases-tasks
-decreases-tasks l = length (agenda_at (l.cluster).agendas l.place)
+decreases-tasks l = length (agenda_of l.cluster l.name)

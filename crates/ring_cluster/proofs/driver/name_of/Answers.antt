@@ -1,6 +1,9 @@
-use Rattle.std.proofs.Common.{◌∙◌}
-use Rattle.ring_cluster.proofs.rounds.Named.{name_before}
+use Rattle.std.proofs.Common.{◌≡◌, ◌+◌, ◌-◌, ap, arith, ◌∙◌}
+use Rattle.ring_world.specs.Machine.{member_at}
+use Rattle.ring_cluster.specs.Seen.{state_of}
 use Rattle.ring_cluster.proofs.driver.name_of.Goals as goal
 
 pub returns : goal.returns
-returns c = c.name_at.ensures ∙ name_before c.args.cluster.now c.args.id.0 c.is_going.ensures c.requires.0 c.requires.1
+returns c =
+    let back : c.args.id.0 - 1 + 1 ≡ c.args.id.0 = omega (arith, c.requires.0) in
+    c.name_at.ensures ∙ ap (λ x. (member_at (state_of c.args.cluster.now) x).name) back

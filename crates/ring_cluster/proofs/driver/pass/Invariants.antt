@@ -1,9 +1,11 @@
-use Rattle.std.proofs.Common.{◌≡◌, length}
+use Rattle.std.proofs.Common.{◌≡◌, ◌+◌}
+use Rattle.ring_world.specs.Step.{size}
+use Rattle.ring_cluster.specs.Seen.{state_of}
 use Rattle.ring_cluster.proofs.rounds.Turning.{PassedBelow}
 use Rattle.ring_cluster.proofs.driver.pass.Given as goal
 
 abbrev pub invariant-loop-place : goal.invariant-loop-place
 invariant-loop-place l = record {
-  count : l.count ≡ length (l.initial.cluster).names;
+  count : l.count + 1 ≡ size (state_of l.initial.cluster);
   passed : PassedBelow l.initial.cluster l.cluster l.moved l.place;
 }

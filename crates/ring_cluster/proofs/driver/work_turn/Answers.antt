@@ -1,5 +1,6 @@
-use Rattle.std.proofs.Common.{sym, ◌∙◌}
+use Rattle.std.proofs.Common.{sym, ◌∙◌, arith}
 use Rattle.ring_cluster.proofs.post.Owed.{but_refl}
+use Rattle.ring_cluster.proofs.rounds.Members.{members_few}
 use Rattle.ring_cluster.proofs.rounds.Turning.{works_refl}
 use Rattle.ring_cluster.proofs.driver.work_turn.Goals as goal
 
@@ -9,3 +10,9 @@ returns-then-not-runs-clause-does c = record {
   falls = λ x. cc;
   stays = λ _. (but_refl c.args.cluster.now, λ runs. let no = sym c.runs.ensures ∙ c.if-not-runs.true in cc);
 }
+
+pub overflow_cast-id : goal.overflow_cast-id
+overflow_cast-id c = omega (arith, c.requires, members_few c.args.cluster.now c.is_going.ensures)
+
+pub overflow_add-id : goal.overflow_add-id
+overflow_add-id c = omega (arith, c.requires, members_few c.args.cluster.now c.is_going.ensures)

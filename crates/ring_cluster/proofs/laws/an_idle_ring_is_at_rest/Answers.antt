@@ -2,4 +2,4 @@ use Rattle.ring_world.proofs.rests.Rests.{run_worked_is_quiet}
 use Rattle.ring_cluster.proofs.laws.an_idle_ring_is_at_rest.Goals as goal
 
 pub returns : goal.returns
-returns c credit names events are _ r = run_worked_is_quiet credit names events are r
+returns c credit names events are r = run_worked_is_quiet credit names events are r

@@ -3,7 +3,7 @@ use Rattle.std.proofs.lemmas.List.{get_or_default, map-append, replicate_more}
 use Rattle.group_view.specs.Ring.{is_in}
 use Rattle.ring_world.specs.View.{ids}
 use Rattle.gm_member.specs.Held.{founded}
-use Rattle.ring_cluster.specs.Parties.{shown_in, tasks_of}
+use Rattle.ring_cluster.specs.Parties.{shown_in}
 use Rattle.ring_cluster.specs.Opened.{opened_at, opened_ends}
 use Rattle.ring_cluster.proofs.lists.Lists.{grown}
 use Rattle.ring_cluster.proofs.standing.Begins.{opened_stands}
@@ -17,13 +17,8 @@ loop-k-preserved c =
     let kl : c.loop-k.k < length c.args.names.now = omega (arith, c.loop-k-test.true) in
     let name : c.index-names-k.result ≡ get_or c.args.names.now c.loop-k.k [] = c.index-names-k.is ∙ get_or_default c.args.names.now c.loop-k.k c.index-names-k.result [] kl in
     record {
-      shown = grown shown_in (opened_at c.args.credit c.args.names.now) c.loop-k.members.items _ (record { node = c.in_ok-node.node; agenda = c.new.result }) c.loop-k.k c.in_ok-push_member.ensures c.loop-k.invariant.shown
+      shown = grown shown_in (opened_at c.args.credit c.args.names.now) c.loop-k.members.items _ (record { node = c.in_ok-node.node }) c.loop-k.k c.in_ok-push_member.ensures c.loop-k.invariant.shown
           (c.in_ok-node.ensures
           ∙ ap (λ g. record { held = founded c.args.credit c.index-names-k.result (c.loop-k.k + 1) g; ends = opened_ends c.args.credit }) c.requires.view
           ∙ ap (λ n. record { held = founded c.args.credit n (c.loop-k.k + 1) (Rattle.group_view.specs.Change.opening c.args.names.now); ends = opened_ends c.args.credit }) name);
-      agendas = ap (map tasks_of) c.in_ok-push_member.ensures
-          ∙ map-append tasks_of c.loop-k.members.items (record { node = c.in_ok-node.node; agenda = c.new.result } ∷ [])
-          ∙ ap (λ ts. ts ++ c.new.result ∷ []) c.loop-k.invariant.agendas
-          ∙ ap (λ t. replicate c.loop-k.k [] ++ t ∷ []) c.new.ensures
-          ∙ replicate_more c.loop-k.k [];
     }

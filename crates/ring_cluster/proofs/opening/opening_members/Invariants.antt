@@ -1,11 +1,10 @@
-use Rattle.std.proofs.Common.{◌≡◌, [], map, replicate}
+use Rattle.std.proofs.Common.{◌≡◌, map}
 use Rattle.std.specs.List.{range_with_len}
-use Rattle.ring_cluster.specs.Parties.{shown_in, tasks_of}
+use Rattle.ring_cluster.specs.Parties.{shown_in}
 use Rattle.ring_cluster.specs.Opened.{opened_at}
 use Rattle.ring_cluster.proofs.opening.opening_members.Given as goal
 
 abbrev pub invariant-loop-k : goal.invariant-loop-k
 invariant-loop-k l = record {
   shown : map shown_in l.members.items ≡ map (opened_at l.credit l.names) (range_with_len 0 l.k);
-  agendas : map tasks_of l.members.items ≡ replicate l.k [];
 }

@@ -1,10 +1,6 @@
 use Rattle.std.proofs.Common.{subst, rules}
 use Rattle.ring_script.specs.Reading.{AreStepsOf}
-use Rattle.ring_script.proofs.Playable.{steps_plain}
 use Rattle.ringplay.proofs.call.done_by_steps.Goals as goal
-
-pub step-requires-clause-plain : goal.step-requires-clause-plain
-step-requires-clause-plain c = steps_plain _ c.in_ok-steps.steps c.in_ok-steps.ensures.steps
 
 pub returns : goal.returns
 returns c =

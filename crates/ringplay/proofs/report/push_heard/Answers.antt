@@ -4,7 +4,6 @@ use Rattle.ring_world.specs.declared.phase.Phase.TheVariants.{Up}
 use Rattle.ring_world.specs.Step.{size}
 use Rattle.gm_member.specs.Shown.{held_of}
 use Rattle.ring_cluster.specs.Seen.{state_of}
-use Rattle.ring_cluster.proofs.rounds.Named.{going_many}
 use Rattle.ringplay.specs.Report.{heard_from, heard_lines, while_up}
 use Rattle.ringplay.proofs.Reports.{ids_more, logs_many}
 use Rattle.ringplay.proofs.report.push_heard.Goals as goal
@@ -12,7 +11,7 @@ use Rattle.ringplay.proofs.report.push_heard.Goals as goal
 pub push_heard_of-requires-clause-origin : goal.push_heard_of-requires-clause-origin
 push_heard_of-requires-clause-origin c =
     let k = c.args.cluster.now in
-    omega (arith, c.loop-origin-test.true, logs_many (state_of k) c.args.published.now c.requires.logs, going_many k c.is_going.ensures)
+    omega (arith, c.loop-origin-test.true, logs_many (state_of k) c.args.published.now c.requires.logs)
 
 pub loop-origin-preserved : goal.loop-origin-preserved
 loop-origin-preserved c =

@@ -13,5 +13,5 @@ returns c =
     let refusals = lent_in c.args.refusals.now in
     lines_stand w refusals (c.args.place + 1) h c.view.result.now c.counts.result
     c.args.out.now.items c.push_state.new.out.items c.push_counts.new.out.items c.push_heard.new.out.items c.push_refusals.new.out.items
-    c.member_at-member.ensures.holds c.view.ensures c.in_ok-push_state.ensures c.counts.ensures c.in_ok-push_counts.ensures c.in_ok-push_heard.ensures
+    c.member_at-member.ensures c.view.ensures c.in_ok-push_state.ensures c.counts.ensures c.in_ok-push_counts.ensures c.in_ok-push_heard.ensures
     (c.in_ok-push_refusals.ensures ∙ ap (λ name. c.push_heard.new.out.items ++ refusal_lines name refusals) c.name.ensures)

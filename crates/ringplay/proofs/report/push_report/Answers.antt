@@ -1,13 +1,15 @@
-use Rattle.std.proofs.Common.{◌≡◌, ◌-◌, ◌+◌, ◌++◌, ◌∙◌, ap, length, arith, append_assoc}
+use Rattle.std.proofs.Common.{◌≡◌, ◌-◌, ◌+◌, ◌++◌, ◌∙◌, ap, arith, append_assoc}
 use Rattle.std.specs.List.{flat_map, range_with_len}
 use Rattle.ring_world.specs.Step.{size}
 use Rattle.ring_world.specs.Event.{refusals_of}
 use Rattle.ring_cluster.specs.Seen.{state_of}
-use Rattle.ring_cluster.proofs.rounds.Named.{going_many}
 use Rattle.ringplay.specs.Lent.{lent_in}
 use Rattle.ringplay.specs.Report.{ring_line, lines_of_member, report_of}
-use Rattle.ringplay.proofs.Reports.{ids_more}
+use Rattle.ringplay.proofs.Reports.{ids_more, logs_many}
 use Rattle.ringplay.proofs.report.push_report.Goals as goal
+
+pub push_member-requires-clause-within : goal.push_member-requires-clause-within
+push_member-requires-clause-within c = omega (arith, c.loop-place-test.true, logs_many (state_of c.args.cluster.now) c.in_ok-published.published.items c.in_ok-published.ensures)
 
 pub loop-place-preserved : goal.loop-place-preserved
 loop-place-preserved c =
@@ -20,8 +22,7 @@ pub returns : goal.returns
 returns c =
     let k = c.args.cluster.now in
     let w = state_of k in
-    let same : length c.args.names.now ≡ length k.names = ap length c.requires in
-    let all : c.loop-place.place ≡ size w - 1 = omega (arith, going_many k c.is_going.ensures) in
+    let all : c.loop-place.place ≡ size w - 1 = omega (arith, logs_many w c.in_ok-published.published.items c.in_ok-published.ensures) in
     let lines = lines_of_member w (lent_in c.as_slice-refusals.result.now) in
     let told = flat_map lines (range_with_len 1 (size w - 1)) in
     let refused : lent_in c.as_slice-refusals.result.now ≡ refusals_of k.events = ap lent_in c.as_slice-refusals.ensures.value ∙ c.in_ok-all.ensures ∙ ap refusals_of c.events.ensures in

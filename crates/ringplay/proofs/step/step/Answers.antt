@@ -1,11 +1,8 @@
 use Rattle.std.proofs.Common.{◌≡◌, ◌++◌, ◌∙◌, sym, ap, subst}
 use Rattle.ring_cluster.specs.Seen.{state_of, opening_seen}
-use Rattle.ringplay.specs.Step.{ArePlayed, enabled_of, refused_lines, HasStepped}
+use Rattle.ringplay.specs.Step.{enabled_of, refused_lines, HasStepped}
 use Rattle.ringplay.proofs.Stepping.{stepped_all}
 use Rattle.ringplay.proofs.step.step.Goals as goal
-
-pub try_lines-requires : goal.try_lines-requires
-try_lines-requires c = subst ArePlayed (sym c.as_slice.ensures) c.requires.plain
 
 pub returns : goal.returns
 returns c =

@@ -1,11 +1,6 @@
-use Rattle.std.proofs.Common.{◌≡◌, ℕ, true, subst, ◌+◌, ◌∷◌, ◌∙◌, suc, drop, drop-cons, refl, sym, ap, arith}
-use Rattle.ring_world.specs.declared.event.Event.{Event}
-use Rattle.ring_world.specs.Event.{is_plain}
+use Rattle.std.proofs.Common.{◌≡◌, ◌+◌, ◌∷◌, ◌∙◌, suc, drop, drop-cons, refl, sym, ap, arith}
 use Rattle.ringplay.proofs.Stepping.{tried_more}
 use Rattle.ringplay.proofs.step.try_lines.Goals as goal
-
-pub try_line-requires : goal.try_line-requires
-try_line-requires c = subst (λ (line : ℕ × Event). is_plain line.1 ≡ true) (sym c.loop-number-item.is) (c.requires c.loop-number.number-index c.loop-number-item.result c.loop-number-test.true)
 
 pub loop-number-preserved : goal.loop-number-preserved
 loop-number-preserved c =

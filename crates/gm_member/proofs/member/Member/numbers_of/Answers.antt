@@ -9,10 +9,10 @@ pub returns-then-of-gt-MOST_MEMBERS : goal.returns-then-of-gt-MOST_MEMBERS
 returns-then-of-gt-MOST_MEMBERS g c =
     let beyond = c.if-of-gt-MOST_MEMBERS.true in
     let none : known_at (held_of c.args.self.now).known (c.args.of.0 - 1) ≡ no_kept = kept_nowhere (c.args.self.now).tables (c.args.of.0 - 1) (omega (arith, beyond)) in
-    record { got = sym (ap got_of none); forgot = sym (ap (λ (k : Kept). k.forgot) none); retired = sym (ap (λ (k : Kept). k.retired) none) }
+    record { got = sym (ap got_of none); forgot = sym (ap (λ (k : Kept). k.forgot) none); retired = sym (ap (λ (k : Kept). k.retired) none); base = sym (ap (λ (k : Kept). k.base) none) }
 
 pub returns : goal.returns
 returns g c =
     let few = c.if-of-gt-MOST_MEMBERS.false in
     let same = sym (kept_by_id (c.args.self.now).tables c.args.of.0 c.requires (omega (arith, few))) in
-    record { got = c.numbers.ensures.got ∙ ap got_of same; forgot = c.numbers.ensures.forgot ∙ ap (λ (k : Kept). k.forgot) same; retired = c.numbers.ensures.retired ∙ ap (λ (k : Kept). k.retired) same }
+    record { got = c.numbers.ensures.got ∙ ap got_of same; forgot = c.numbers.ensures.forgot ∙ ap (λ (k : Kept). k.forgot) same; retired = c.numbers.ensures.retired ∙ ap (λ (k : Kept). k.retired) same; base = c.numbers.ensures.base ∙ ap (λ (k : Kept). k.base) same }

@@ -14,7 +14,7 @@ returns-clause-refused c = λ r e.
     (ap (λ ns. refusal (state c.self.inside.credit ns c.self.inside.journal.items) c.args.event.now) c.deref.ensures.value ∙ ap (λ x. refusal (state_of x) c.args.event.now) c.self.view_is ∙ e) in
     let journal = subst (λ x. OnErr x (c.step.new.journal.items ≡ c.self.inside.journal.items)) told.0 c.step.ensures.err in (
       told.0,
-      ap (λ (p : PartiesSeen). record (seen_of c.self.inside) { events = c.step.new.journal.items; agendas = p.agendas; owes = p.owes; shows = p.all }) told.1
+      ap (λ (p : PartiesSeen). record (seen_of c.self.inside) { events = c.step.new.journal.items; owes = p.owes; shows = p.all }) told.1
           ∙ ap (λ es. record (seen_of c.self.inside) { events = es }) journal
           ∙ c.self.view_is,
     )
@@ -25,8 +25,7 @@ returns-clause-ok c =
     on_ok_weaker c.step.result
     (λ is. (
       (q.owes, q.all),
-      ap (λ ts. showing (q.owes, q.all) (record (seen_of c.self.inside) { events = c.step.new.journal.items; agendas = ts })) c.step.ensures.agendas
-          ∙ ap (λ es. showing (q.owes, q.all) (record (seen_of c.self.inside) { events = es })) is
+      ap (λ es. showing (q.owes, q.all) (record (seen_of c.self.inside) { events = es })) is
           ∙ ap (λ x. showing (q.owes, q.all) (with_event x c.args.event.now)) c.self.view_is,
     ))
     c.step.ensures.ok
@@ -37,8 +36,7 @@ returns-clause-err c =
     on_err_both c.step.result
     (λ is mono. (
       (q.owes, q.all),
-      ap (λ ts. showing (q.owes, q.all) (record (seen_of c.self.inside) { events = c.step.new.journal.items; agendas = ts })) c.step.ensures.agendas
-          ∙ ap (λ es. showing (q.owes, q.all) (record (seen_of c.self.inside) { events = es })) is
+      ap (λ es. showing (q.owes, q.all) (record (seen_of c.self.inside) { events = es })) is
           ∙ ap (showing (q.owes, q.all)) c.self.view_is,
       λ e. sym (ap (λ x. x.owes) c.self.view_is) ∙ mono e,
     ))

@@ -3,34 +3,30 @@ use Rattle.ring_names.specs.declared.reason.Reason.{Reason}
 use Rattle.ring_world.specs.declared.event.Event.TheVariants.{Erase}
 use Rattle.ring_world.specs.Machine.{member_at}
 use Rattle.ring_world.specs.Event.{refusal}
-use Rattle.ring_cluster.specs.Seen.{Seen, state_of, IsGoing}
+use Rattle.ring_world.specs.Step.{size}
+use Rattle.ring_cluster.specs.Seen.{Seen, state_of}
 use Rattle.ring_cluster.specs.Standing.{StandAfter}
 use Rattle.ring_cluster.specs.Refused.{IsRefusalAt}
 use Rattle.ring_cluster.proofs.rounds.Asking.{none_told, some_told}
-use Rattle.ring_cluster.proofs.rounds.Holding.{nodes_many}
-use Rattle.ring_cluster.proofs.rounds.Named.{going_name}
+use Rattle.ring_cluster.proofs.rounds.Holding.{parties_many}
+use Rattle.ring_cluster.proofs.rounds.Resting.{erase_told}
 use Rattle.ring_cluster.proofs.cluster.Cluster.may_erase.Goals as goal
-
--- the refusal that the parties tell is the ring's
-told : (c : Seen) (i : ℕ) (origin : List ℕ) (r : Option Reason) → IsGoing c → i < length c.names → StandAfter c.credit c.names c.events c.shows → ((by : List ℕ) → IsRefusalAt i (Erase by origin) c.shows r)
-    → r ≡ refusal (state_of c) (Erase (member_at (state_of c) (i + 1)).name origin)
-told c i origin r g l st h = h (member_at (state_of c) (i + 1)).name c.credit c.names c.events st (l, going_name c i g l, refl)
 
 pub erase_refusal-refusal-requires-clause-within : goal.erase_refusal-refusal-requires-clause-within
 erase_refusal-refusal-requires-clause-within c =
-    let count : length (c.self.inside.parties).all.nodes ≡ length c.self.inside.names.items = nodes_many c.self.inside.credit c.self.inside.names.items c.self.inside.journal.items (c.self.inside.parties).all c.self.invariant.standing in
-    omega (arith, c.requires, count, ap (λ (x : Seen). length x.names) c.self.view_is)
+    let count = parties_many c.self.inside.credit c.self.inside.names.items c.self.inside.journal.items (c.self.inside.parties).all c.self.invariant.standing in
+    omega (arith, c.requires, count, ap (λ (x : Seen). size (state_of x)) c.self.view_is)
 
 pub returns-clause-may : goal.returns-clause-may
 returns-clause-may c =
     none_told c.erase_refusal-refusal.result _ c.is_none.result c.is_none.ensures
-    (told c.args.self.now c.args.place c.args.origin.now c.erase_refusal-refusal.result c.is_going.ensures c.requires
+    (erase_told c.args.self.now c.args.place c.args.origin.now c.erase_refusal-refusal.result c.requires
     (subst (λ (x : Seen). StandAfter x.credit x.names x.events x.shows) c.self.view_is c.self.invariant.standing)
     (subst (λ (x : Seen). (by : List ℕ) → IsRefusalAt c.args.place (Erase by c.args.origin.now) x.shows c.erase_refusal-refusal.result) c.self.view_is c.erase_refusal-refusal.ensures))
 
 pub returns-clause-may_not : goal.returns-clause-may_not
 returns-clause-may_not c =
     some_told c.erase_refusal-refusal.result _ c.is_none.result c.is_none.ensures
-    (told c.args.self.now c.args.place c.args.origin.now c.erase_refusal-refusal.result c.is_going.ensures c.requires
+    (erase_told c.args.self.now c.args.place c.args.origin.now c.erase_refusal-refusal.result c.requires
     (subst (λ (x : Seen). StandAfter x.credit x.names x.events x.shows) c.self.view_is c.self.invariant.standing)
     (subst (λ (x : Seen). (by : List ℕ) → IsRefusalAt c.args.place (Erase by c.args.origin.now) x.shows c.erase_refusal-refusal.result) c.self.view_is c.erase_refusal-refusal.ensures))

@@ -1,27 +1,29 @@
 use Rattle.std.proofs.Common.{◌≡◌, List, ℕ, length, ap, subst, arith}
 use Rattle.ring_world.specs.declared.event.Event.TheVariants.{Mark}
-use Rattle.ring_cluster.specs.Seen.{Seen}
+use Rattle.ring_world.specs.Step.{size}
+use Rattle.ring_cluster.specs.Seen.{Seen, state_of}
 use Rattle.ring_cluster.specs.Standing.{StandAfter}
 use Rattle.ring_cluster.specs.Refused.{IsRefusalAt}
-use Rattle.ring_cluster.proofs.rounds.Asking.{mark_judged, none_told, some_told}
-use Rattle.ring_cluster.proofs.rounds.Holding.{nodes_many}
+use Rattle.ring_cluster.proofs.rounds.Asking.{none_told, some_told}
+use Rattle.ring_cluster.proofs.rounds.Resting.{mark_told}
+use Rattle.ring_cluster.proofs.rounds.Holding.{parties_many}
 use Rattle.ring_cluster.proofs.cluster.Cluster.may_mark.Goals as goal
 
 pub mark_refusal-refusal-requires-clause-within : goal.mark_refusal-refusal-requires-clause-within
 mark_refusal-refusal-requires-clause-within c =
-    let count : length (c.self.inside.parties).all.nodes ≡ length c.self.inside.names.items = nodes_many c.self.inside.credit c.self.inside.names.items c.self.inside.journal.items (c.self.inside.parties).all c.self.invariant.standing in
-    omega (arith, c.requires, count, ap (λ (x : Seen). length x.names) c.self.view_is)
+    let count = parties_many c.self.inside.credit c.self.inside.names.items c.self.inside.journal.items (c.self.inside.parties).all c.self.invariant.standing in
+    omega (arith, c.requires, count, ap (λ (x : Seen). size (state_of x)) c.self.view_is)
 
 pub returns-clause-may : goal.returns-clause-may
 returns-clause-may c =
     none_told c.mark_refusal-refusal.result _ c.is_none.result c.is_none.ensures
-    (mark_judged c.args.self.now c.args.place c.args.dead.now c.mark_refusal-refusal.result c.is_going.ensures c.requires
+    (mark_told c.args.self.now c.args.place c.args.dead.now c.mark_refusal-refusal.result c.requires
     (subst (λ (x : Seen). StandAfter x.credit x.names x.events x.shows) c.self.view_is c.self.invariant.standing)
     (subst (λ (x : Seen). (by : List ℕ) → IsRefusalAt c.args.place (Mark by c.args.dead.now) x.shows c.mark_refusal-refusal.result) c.self.view_is c.mark_refusal-refusal.ensures))
 
 pub returns-clause-may_not : goal.returns-clause-may_not
 returns-clause-may_not c =
     some_told c.mark_refusal-refusal.result _ c.is_none.result c.is_none.ensures
-    (mark_judged c.args.self.now c.args.place c.args.dead.now c.mark_refusal-refusal.result c.is_going.ensures c.requires
+    (mark_told c.args.self.now c.args.place c.args.dead.now c.mark_refusal-refusal.result c.requires
     (subst (λ (x : Seen). StandAfter x.credit x.names x.events x.shows) c.self.view_is c.self.invariant.standing)
     (subst (λ (x : Seen). (by : List ℕ) → IsRefusalAt c.args.place (Mark by c.args.dead.now) x.shows c.mark_refusal-refusal.result) c.self.view_is c.mark_refusal-refusal.ensures))

@@ -18,3 +18,8 @@ pub returns-in_ok-act_erase-in-Erase-clause-ok : goal.returns-in_ok-act_erase-in
 returns-in_ok-act_erase-in-Erase-clause-ok c =
     subst (λ e. Acts e c.args.i (marked_in e (c.args.self.now).all) (c.args.self.now).all (c.act_erase.new.self).all (loose_seen c.in_ok-act_erase-in-Erase.field-0))
     (sym c.in-Erase.is) (c.in_ok-act_erase-in-Erase.ensures.ok c.in-Erase.by)
+
+pub returns-in_ok-act_admit-in-Admit-clause-ok : goal.returns-in_ok-act_admit-in-Admit-clause-ok
+returns-in_ok-act_admit-in-Admit-clause-ok c =
+    subst (λ e. Acts e c.args.i (marked_in e (c.args.self.now).all) (c.args.self.now).all (c.act_admit.new.self).all (loose_seen c.in_ok-act_admit-in-Admit.field-0))
+    (sym c.in-Admit.is) c.in_ok-act_admit-in-Admit.ensures.ok

@@ -3,7 +3,7 @@ use Rattle.ring_cluster.specs.Acting.{DoesAlone}
 use Rattle.ring_world.proofs.code.Taken.{OnErr_of}
 use Rattle.ring_cluster.proofs.standing.Nodes.{at_read, written_shown}
 use Rattle.ring_cluster.proofs.events.Acted.{alone_acts}
-use Rattle.ring_cluster.proofs.post.Delivered.{tasks_kept, inside, unchanged, none_behind, bare, is_ready}
+use Rattle.ring_cluster.proofs.post.Delivered.{inside, unchanged, none_behind, bare, is_ready}
 use Rattle.ring_cluster.proofs.parties.Parties.act_alone.Goals as goal
 
 pub do_alone-requires-clause-ready : goal.do_alone-requires-clause-ready
@@ -20,9 +20,3 @@ returns-clause-ok c = λ d.
     let does = at_read (DoesAlone c.args.event.now) c.self.inside.members.items c.args.i c.index_mut.result.now (record c.index_mut.result.now { node = c.do_alone.new.node }) l c.index_mut.ensures.value c.in_ok-do_alone.ensures.ok in
     rw (old, new)
     (alone_acts c.args.event.now c.args.i d c.self.inside.members.items (set c.self.inside.members.items c.args.i (record c.index_mut.result.now { node = c.do_alone.new.node })) c.self.inside.registrar c.requires.alone does (written_shown c.self.inside.members.items c.args.i (record c.index_mut.result.now { node = c.do_alone.new.node }) l))
-
-pub returns-in_err-do_alone-clause-agendas : goal.returns-in_err-do_alone-clause-agendas
-returns-in_err-do_alone-clause-agendas c = tasks_kept c.self.inside c.args.self.now c.self.view_is c.args.i c.requires.within c.index_mut.result.now c.do_alone.new.node c.index_mut.ensures.value
-
-pub returns-clause-agendas : goal.returns-clause-agendas
-returns-clause-agendas c = tasks_kept c.self.inside c.args.self.now c.self.view_is c.args.i c.requires.within c.index_mut.result.now c.do_alone.new.node c.index_mut.ensures.value

@@ -12,7 +12,7 @@ use Rattle.ring_cluster.specs.Acting.{look_refused, LooksAt}
 use Rattle.ring_cluster.specs.Looking.{HasLooked, kept_post, loose_seen}
 use Rattle.ring_cluster.proofs.standing.Nodes.{at_read, written_shown}
 use Rattle.ring_cluster.proofs.events.Acted.{looks_at}
-use Rattle.ring_cluster.proofs.post.Delivered.{tasks_kept, inside, shown_is, unchanged, bare, asks_nothing, is_ready, may_look}
+use Rattle.ring_cluster.proofs.post.Delivered.{inside, shown_is, unchanged, bare, asks_nothing, is_ready, may_look}
 use Rattle.ring_cluster.proofs.parties.Parties.act_refresh.Goals as goal
 
 pub look_refusal-requires : goal.look_refusal-requires
@@ -54,9 +54,3 @@ returns-clause-ok c =
     (looks_at v c.args.i c.self.inside.members.items (set c.self.inside.members.items c.args.i (record c.index_mut.result.now { node = c.look.new.node })) c.self.inside.registrar looked.opened (loose_seen looked.loose)
     (at_read (λ a b. HasLooked v a b (kept_post looked.opened) (loose_seen looked.loose)) c.self.inside.members.items c.args.i c.index_mut.result.now (record c.index_mut.result.now { node = c.look.new.node }) l c.index_mut.ensures.value has)
     (written_shown c.self.inside.members.items c.args.i (record c.index_mut.result.now { node = c.look.new.node }) l))
-
-pub returns-in_default-look-clause-agendas : goal.returns-in_default-look-clause-agendas
-returns-in_default-look-clause-agendas c = tasks_kept c.self.inside c.args.self.now c.self.view_is c.args.i c.requires.within c.index_mut.result.now c.look.new.node c.index_mut.ensures.value
-
-pub returns-clause-agendas : goal.returns-clause-agendas
-returns-clause-agendas c = tasks_kept c.self.inside c.args.self.now c.self.view_is c.args.i c.requires.within c.index_mut.result.now c.look.new.node c.index_mut.ensures.value

@@ -2,7 +2,7 @@ use Rattle.std.proofs.Common.{set, sym, ◌∙◌, arith}
 use Rattle.ring_cluster.specs.Acting.{Stops}
 use Rattle.ring_cluster.proofs.standing.Nodes.{at_read, written_shown}
 use Rattle.ring_cluster.proofs.events.Acted.{stop_acts}
-use Rattle.ring_cluster.proofs.post.Delivered.{tasks_kept, inside, none_behind, bare, here, few, asks_nothing, is_ready, unheard}
+use Rattle.ring_cluster.proofs.post.Delivered.{inside, none_behind, bare, here, few, asks_nothing, is_ready, unheard}
 use Rattle.ring_cluster.proofs.parties.Parties.act_stop.Goals as goal
 
 pub stop_refusal-requires : goal.stop_refusal-requires
@@ -31,6 +31,3 @@ returns-clause-ok c = λ by d.
     let new = none_behind c.self.inside c.args.self.now c.self.view_is c.requires.delivered (set c.self.inside.members.items c.args.i (record c.index_mut.result.now { node = c.stop.new.node })) c.notify.new.registrar in
     rw (old, new)
     (stop_acts by c.args.i d c.self.inside.members.items (set c.self.inside.members.items c.args.i (record c.index_mut.result.now { node = c.stop.new.node })) c.self.inside.registrar c.notify.new.registrar stops (written_shown c.self.inside.members.items c.args.i (record c.index_mut.result.now { node = c.stop.new.node }) l) c.in_ok-notify.ensures.ok)
-
-pub returns-clause-agendas : goal.returns-clause-agendas
-returns-clause-agendas c = tasks_kept c.self.inside c.args.self.now c.self.view_is c.args.i c.requires.within c.index_mut.result.now c.stop.new.node c.index_mut.ensures.value

@@ -8,7 +8,7 @@ use Rattle.ring_cluster.specs.Acting.{waits_at, Collects}
 use Rattle.ring_cluster.specs.Refused.{NothingWaits}
 use Rattle.ring_cluster.proofs.standing.Nodes.{read_shown, at_read, written_shown}
 use Rattle.ring_cluster.proofs.post.Gathers.{stand_then, nothing_waits}
-use Rattle.ring_cluster.proofs.post.Delivered.{tasks_kept, seen_as, inside, unchanged, none_behind, bare, here, of_ring, asks_nothing, is_ready, known}
+use Rattle.ring_cluster.proofs.post.Delivered.{seen_as, inside, unchanged, none_behind, bare, here, of_ring, asks_nothing, is_ready, known}
 use Rattle.ring_cluster.proofs.parties.Parties.collect.Goals as goal
 
 pub collect-requires-clause-free : goal.collect-requires-clause-free
@@ -50,9 +50,3 @@ returns-clause-none c = λ up.
     let others = written_shown c.self.inside.members.items c.args.i (record c.index_mut.result.now { node = c.collect.new.node }) l in
     subst (NothingWaits (c.args.i + 1)) (sym (none_behind c.self.inside c.args.self.now c.self.view_is c.requires.delivered (set c.self.inside.members.items c.args.i (record c.index_mut.result.now { node = c.collect.new.node })) c.collect.new.registrar))
     (nothing_waits h.0 h.1 h.2 c.self.inside.members.items c.self.inside.registrar (subst (StandAfter h.0 h.1 h.2) (bare c.self.inside c.args.self.now c.self.view_is c.requires.delivered) h.3) (set c.self.inside.members.items c.args.i (record c.index_mut.result.now { node = c.collect.new.node })) c.collect.new.registrar c.args.i l after others left)
-
-pub returns-in_err-collect-clause-agendas : goal.returns-in_err-collect-clause-agendas
-returns-in_err-collect-clause-agendas c = tasks_kept c.self.inside c.args.self.now c.self.view_is c.args.i c.requires.within c.index_mut.result.now c.collect.new.node c.index_mut.ensures.value
-
-pub returns-clause-agendas : goal.returns-clause-agendas
-returns-clause-agendas c = tasks_kept c.self.inside c.args.self.now c.self.view_is c.args.i c.requires.within c.index_mut.result.now c.collect.new.node c.index_mut.ensures.value

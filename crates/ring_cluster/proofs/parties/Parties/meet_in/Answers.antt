@@ -6,8 +6,8 @@ use Rattle.ring_cluster.specs.Meeting.{MayMeet, MeetsIn, HasNone}
 use Rattle.ring_cluster.proofs.meetings.Meets.{registrar_met, late_may, late_met}
 use Rattle.ring_cluster.proofs.parties.Parties.meet_in.Goals as goal
 
-pub returns-then-meet_posted-clause-meets : goal.returns-then-meet_posted-clause-meets
-returns-then-meet_posted-clause-meets c =
+pub returns-then-meet_posted : goal.returns-then-meet_posted
+returns-then-meet_posted c =
     let many : length c.meet_member.new.members ≡ c.self.inside.members.len = omega (arith, c.meet_member.auto.members, c.deref_mut.ensures.len, ap length c.deref_mut.ensures.value, c.self.inside.members.ok.0) in
     let still : map shown_in c.meet_member.new.members ≡ map shown_in c.self.inside.members.items = c.meet_member.ensures.still c.if-meet_member.false ∙ ap (map shown_in) c.deref_mut.ensures.value in
     rw (with_items_is c.self.inside.members c.meet_member.new.members many)
@@ -19,8 +19,8 @@ meet_late-requires c =
     late_may c.self.inside.members.items c.self.inside.registrar (behind c.self.inside.late) c.args.name.now (out_seen c.args.out.now) (out_seen c.meet_member.new.out) (out_seen c.meet_posted.new.out)
     (subst (λ q. MayMeet q.all c.args.name.now (out_seen c.args.out.now)) (sym c.self.view_is) c.requires) (c.meet_member.ensures.out c.if-meet_member.false) (c.meet_posted.ensures.out c.if-meet_posted.false)
 
-pub returns-clause-meets : goal.returns-clause-meets
-returns-clause-meets c =
+pub returns : goal.returns
+returns c =
     let many : length c.meet_member.new.members ≡ c.self.inside.members.len = omega (arith, c.meet_member.auto.members, c.deref_mut.ensures.len, ap length c.deref_mut.ensures.value, c.self.inside.members.ok.0) in
     let still : map shown_in c.meet_member.new.members ≡ map shown_in c.self.inside.members.items = c.meet_member.ensures.still c.if-meet_member.false ∙ ap (map shown_in) c.deref_mut.ensures.value in
     let none = subst (λ ns. HasNone (get_or (map shown_in ns) (c.args.name.now.to.0 - 1) no_shown).held c.args.name.now) c.deref_mut.ensures.value (c.meet_member.ensures.none c.if-meet_member.false) in

@@ -1,15 +1,14 @@
 use Rattle.std.proofs.Common.{◌≡◌, true, None, get_or, set, refl, sym, ap, subst, ◌∙◌}
 use Rattle.ring_world.specs.Machine.{runs_phase}
-use Rattle.ring_world.proofs.rings.Maps.{mapped_rewrite}
 use Rattle.ring_cluster.specs.Behind.{behind}
-use Rattle.ring_cluster.specs.Parties.{PartiesSeen, tasks_of, out_seen, parties, shown_in, with_out}
+use Rattle.ring_cluster.specs.Parties.{PartiesSeen, out_seen, parties, shown_in, with_out}
 use Rattle.ring_cluster.specs.Meeting.{MayMeetOut, MeetsIn, MeetsOut}
 use Rattle.ring_cluster.proofs.meetings.MeetsOut.{has_lent, out_may, out_away, out_sends, met_ended, out_met, out_none, still_inside}
-use Rattle.ring_cluster.proofs.post.Delivered.{inside, tasks_kept}
+use Rattle.ring_cluster.proofs.post.Delivered.{inside}
 use Rattle.ring_cluster.proofs.parties.Parties.meet_out.Goals as goal
 
-pub returns-in_default-clause-meets : goal.returns-in_default-clause-meets
-returns-in_default-clause-meets c =
+pub returns-in_default : goal.returns-in_default
+returns-in_default c =
     let l = inside c.self.inside c.args.self.now c.self.view_is c.args.i c.requires.within in
     let y = record c.index_mut.result.now { node = c.lend_out.new.node } in
     let none = subst (λ z. (shown_in z).ends.out ≡ None) c.index_mut.ensures.value c.in_default.ensures.none in
@@ -28,7 +27,7 @@ give_out-requires c =
     let l = inside c.self.inside c.args.self.now c.self.view_is c.args.i c.requires.within in
     let h = has_lent c.self.inside.members.items c.args.i c.index_mut.result.now (record c.index_mut.result.now { node = c.lend_out.new.node }) c.in-Some.name (out_seen c.in-Some.out) l c.index_mut.ensures.value c.in-Some.ensures.named c.in-Some.ensures.there c.in-Some.ensures.lent in
     let here = parties (set c.self.inside.members.items c.args.i (record c.index_mut.result.now { node = c.lend_out.new.node })) c.self.inside.registrar (behind c.self.inside.late) in
-    let met = subst (λ q. MeetsIn here c.in-Some.name (out_seen c.in-Some.out) here q.all (out_seen c.meet_in.new.out)) (sym c.self-2.view_is) c.meet_in.ensures.meets in
+    let met = subst (λ q. MeetsIn here c.in-Some.name (out_seen c.in-Some.out) here q.all (out_seen c.meet_in.new.out)) (sym c.self-2.view_is) c.meet_in.ensures in
     let away = out_away c.self.inside.members.items c.self-2.inside.members.items c.args.i c.index_mut.result.now (record c.index_mut.result.now { node = c.lend_out.new.node }) c.index_mut-2.result.now c.self.inside.registrar c.self-2.inside.registrar (behind c.self.inside.late) (behind c.self-2.inside.late) c.in-Some.name (out_seen c.in-Some.out) (out_seen c.meet_in.new.out) h met in
     let same = ap (λ z. (shown_in z).held) c.index_mut-2.ensures.value ∙ away.0 in
     record {
@@ -38,27 +37,12 @@ give_out-requires c =
           ∙ c.in-Some.ensures.unended (subst (λ k. runs_phase k.phase ≡ true) (same ∙ ap (λ z. (shown_in z).held) (sym c.index_mut.ensures.value)) runs);
     }
 
-pub returns-clause-meets : goal.returns-clause-meets
-returns-clause-meets c =
+pub returns : goal.returns
+returns c =
     let l = inside c.self.inside c.args.self.now c.self.view_is c.args.i c.requires.within in
     let h = has_lent c.self.inside.members.items c.args.i c.index_mut.result.now (record c.index_mut.result.now { node = c.lend_out.new.node }) c.in-Some.name (out_seen c.in-Some.out) l c.index_mut.ensures.value c.in-Some.ensures.named c.in-Some.ensures.there c.in-Some.ensures.lent in
     let here = parties (set c.self.inside.members.items c.args.i (record c.index_mut.result.now { node = c.lend_out.new.node })) c.self.inside.registrar (behind c.self.inside.late) in
-    let met = subst (λ q. MeetsIn here c.in-Some.name (out_seen c.in-Some.out) here q.all (out_seen c.meet_in.new.out)) (sym c.self-2.view_is) c.meet_in.ensures.meets in
+    let met = subst (λ q. MeetsIn here c.in-Some.name (out_seen c.in-Some.out) here q.all (out_seen c.meet_in.new.out)) (sym c.self-2.view_is) c.meet_in.ensures in
     let given = subst (λ z. shown_in (record c.index_mut-2.result.now { node = c.give_out.new.node }) ≡ with_out (shown_in z) (out_seen c.meet_in.new.out)) c.index_mut-2.ensures.value c.give_out.ensures in
     subst (λ q. MeetsOut c.args.i q.all (parties (set c.self-2.inside.members.items c.args.i (record c.index_mut-2.result.now { node = c.give_out.new.node })) c.self-2.inside.registrar (behind c.self-2.inside.late))) c.self.view_is
     (out_met c.self.inside.members.items c.self-2.inside.members.items c.args.i c.index_mut.result.now (record c.index_mut.result.now { node = c.lend_out.new.node }) c.index_mut-2.result.now (record c.index_mut-2.result.now { node = c.give_out.new.node }) c.self.inside.registrar c.self-2.inside.registrar (behind c.self.inside.late) (behind c.self-2.inside.late) c.in-Some.name (out_seen c.in-Some.out) (out_seen c.meet_in.new.out) h met given)
-
-pub returns-in_default-clause-agendas : goal.returns-in_default-clause-agendas
-returns-in_default-clause-agendas c = tasks_kept c.self.inside c.args.self.now c.self.view_is c.args.i c.requires.within c.index_mut.result.now c.lend_out.new.node c.index_mut.ensures.value
-
-pub returns-clause-agendas : goal.returns-clause-agendas
-returns-clause-agendas c =
-    let l = inside c.self.inside c.args.self.now c.self.view_is c.args.i c.requires.within in
-    let y = record c.index_mut.result.now { node = c.lend_out.new.node } in
-    let here = parties (set c.self.inside.members.items c.args.i y) c.self.inside.registrar (behind c.self.inside.late) in
-    let met = subst (λ q. MeetsIn here c.in-Some.name (out_seen c.in-Some.out) here q.all (out_seen c.meet_in.new.out)) (sym c.self-2.view_is) c.meet_in.ensures.meets in
-    let lm = still_inside c.self.inside.members.items c.self-2.inside.members.items c.args.i y c.self.inside.registrar c.self-2.inside.registrar (behind c.self.inside.late) (behind c.self-2.inside.late) c.in-Some.name (out_seen c.in-Some.out) (out_seen c.meet_in.new.out) l met in
-    mapped_rewrite tasks_of c.self-2.inside.members.items c.args.i c.index_mut-2.result.now (record c.index_mut-2.result.now { node = c.give_out.new.node }) lm c.index_mut-2.ensures.value refl
-    ∙ ap (λ (z : PartiesSeen). z.agendas) c.self-2.view_is
-    ∙ c.meet_in.ensures.agendas
-    ∙ tasks_kept c.self.inside c.args.self.now c.self.view_is c.args.i c.requires.within c.index_mut.result.now c.lend_out.new.node c.index_mut.ensures.value

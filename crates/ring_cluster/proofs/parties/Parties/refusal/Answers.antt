@@ -2,12 +2,13 @@ use Rattle.std.proofs.Common.{◌≡◌, ◌+◌, sym, ap, subst, ⊎_elim, ◌�
 use Rattle.ring_world.specs.declared.event.Event.{Event}
 use Rattle.ring_world.specs.declared.event.Event.TheVariants.{Cast, Put, Take, TakeEnd, Gain, Stop}
 use Rattle.ring_world.specs.Event.{refusal}
-use Rattle.ring_cluster.specs.Parties.{PartiesSeen, shown_in}
+use Rattle.gm_member.specs.Held.{up_refused}
+use Rattle.ring_cluster.specs.Parties.{PartiesSeen, Shown, shown_in}
 use Rattle.ring_cluster.specs.Acting.{alone_refused, look_refused, newest_of}
-use Rattle.ring_cluster.specs.Refused.{telling_refused}
-use Rattle.ring_cluster.specs.Seen.{state, IsEventAt}
+use Rattle.ring_cluster.specs.Refused.{admission_refused, telling_refused}
+use Rattle.ring_cluster.specs.Seen.{state, IsEventIn}
 use Rattle.ring_cluster.proofs.events.AloneGoes.{IsAlone}
-use Rattle.ring_cluster.proofs.events.Reads.{alone_reads, look_reads, telling_reads, pick_reads}
+use Rattle.ring_cluster.proofs.events.Reads.{alone_reads, look_reads, admit_reads, telling_reads, pick_reads}
 use Rattle.ring_cluster.proofs.post.Delivered.{shown_is, asks_nothing}
 use Rattle.ring_cluster.proofs.parties.Parties.refusal.Goals as goal
 
@@ -25,7 +26,7 @@ returns-in-Refresh c = λ credit names events s at.
     c.look_refusal.ensures
     ∙ ap (λ n. look_refused n (shown_in c.index.result.now) c.in-Refresh.view) version
     ∙ ap (λ m. look_refused (newest_of q).version m c.in-Refresh.view) shown
-    ∙ look_reads credit names events q s c.args.i c.in-Refresh.by c.in-Refresh.view (subst (IsEventAt names c.args.i) c.in-Refresh.is at)
+    ∙ look_reads credit names events q s c.args.i c.in-Refresh.by c.in-Refresh.view (subst (IsEventIn (state credit names events) c.args.i) c.in-Refresh.is at)
     ∙ ap (refusal (state credit names events)) (sym c.in-Refresh.is)
 
 pub telling_refusal-requires : goal.telling_refusal-requires
@@ -40,13 +41,13 @@ returns-in-Refuse c = λ credit names events s at.
     c.telling_refusal.ensures
     ∙ ap (λ g. telling_refused g code inner (shown_in c.index.result.now)) (c.view-in-Refuse.ensures.newest ∙ ap (λ (x : PartiesSeen). newest_of x.all) c.self.view_is)
     ∙ ap (telling_refused (newest_of q) code inner) shown
-    ∙ telling_reads credit names events q s c.args.i code inner (subst (IsEventAt names c.args.i) c.in-Refuse.is at)
+    ∙ telling_reads credit names events q s c.args.i code inner (subst (IsEventIn (state credit names events) c.args.i) c.in-Refuse.is at)
     ∙ ap (refusal (state credit names events)) (sym c.in-Refuse.is)
 
 pub returns-in-Pick : goal.returns-in-Pick
 returns-in-Pick c = λ credit names events s at.
     c.pick_refusal.ensures
-    ∙ pick_reads credit names events (c.args.self.now).all s c.args.i c.in-Pick.by (subst (IsEventAt names c.args.i) c.in-Pick.is at)
+    ∙ pick_reads credit names events (c.args.self.now).all s c.args.i c.in-Pick.by (subst (IsEventIn (state credit names events) c.args.i) c.in-Pick.is at)
     ∙ ap (refusal (state credit names events)) (sym c.in-Pick.is)
 
 pub returns-in-Cast : goal.returns-in-Cast
@@ -61,3 +62,17 @@ returns-in-Cast c = λ credit names events s at.
     c.alone_refusal.ensures
     ∙ ap (alone_refused c.args.event.now) shown
     ∙ alone_reads credit names events q s c.args.i c.args.event.now at alone
+
+pub admit_refusal-requires : goal.admit_refusal-requires
+admit_refusal-requires c = asks_nothing c.self.inside c.args.self.now c.self.view_is c.requires.standing c.args.i c.requires.within c.index.result.now c.index.ensures
+
+pub returns-in-Admit : goal.returns-in-Admit
+returns-in-Admit c = λ credit names events s at.
+    let q = (c.args.self.now).all in
+    let name = c.in-Admit.name in
+    let shown = shown_is c.self.inside c.args.self.now c.self.view_is c.args.i c.requires.within c.index.result.now c.index.ensures in
+    c.admit_refusal.ensures
+    ∙ ap (λ g. up_refused (shown_in c.index.result.now).held (admission_refused g name)) (c.view-in-Admit.ensures.newest ∙ ap (λ (x : PartiesSeen). newest_of x.all) c.self.view_is)
+    ∙ ap (λ (m : Shown). up_refused m.held (admission_refused (newest_of q) name)) shown
+    ∙ admit_reads credit names events q s c.args.i c.in-Admit.by name (subst (IsEventIn (state credit names events) c.args.i) c.in-Admit.is at)
+    ∙ ap (refusal (state credit names events)) (sym c.in-Admit.is)

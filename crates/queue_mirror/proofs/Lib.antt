@@ -1,0 +1,6 @@
+pub mod Mirrors
+pub mod Whole
+pub mod Places
+pub mod AllMirrors
+pub mod Masters
+pub mod Held

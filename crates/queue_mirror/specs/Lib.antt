@@ -1,0 +1,4 @@
+pub mod Mirror
+pub mod Placed
+pub mod Master
+pub mod Laws

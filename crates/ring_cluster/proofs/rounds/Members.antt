@@ -1,0 +1,362 @@
+-- The members of a cluster's state by their ids, those of the opening and those that joined, and what each may do.
+use Rattle.std.proofs.Common.{◌≡◌, ◌≢◌, ◌⊎◌, inl, inr, ⊎_elim, ℕ, suc, ◌+◌, ◌-◌, ◌<◌, ◌≤◌, Bool, true, false, List, [], ◌∷◌, ◌++◌, length, map, drop, take, get_or, option_map, Option, Some, None, is_some, refl, sym, ap, subst, ◌∙◌, arith}
+use Rattle.std.specs.Prelude.{IsSome, ◌&&◌, not, nat_eq, MatchOption, bytes_eq, position}
+use Rattle.std.proofs.lemmas.Bool.{false≢true, le-ltb, cases_lt}
+use Rattle.std.proofs.lemmas.List.{same_lists, length-take-le, get_or_default, length_push, get_or-take, get_or_append_left, get_or_push}
+use Rattle.std.proofs.lemmas.List.Quantifiers.{position-Some}
+use Rattle.ring_names.specs.declared.reason.Reason.{Reason}
+use Rattle.ring_names.specs.declared.reason.Reason.TheVariants as reason
+use Rattle.ring_names.specs.Reason.{code_of}
+use Rattle.ring_names.specs.declared.numbers.CreditSpec.{CreditSpec}
+use Rattle.group_view.specs.Change.{AreOpeningNames, AreDifferent}
+use Rattle.ring_world.specs.declared.event.Event.{Event}
+use Rattle.ring_world.specs.declared.event.Event.TheVariants.{Take, Mark, Refresh, Admit, Erase}
+use Rattle.ring_world.specs.declared.phase.Phase.{Phase}
+use Rattle.ring_world.specs.declared.phase.Phase.TheVariants.{Waiting, Up, Stopped}
+use Rattle.ring_world.specs.Refusal.{refuse_if, or_else, is_empty}
+use Rattle.ring_world.specs.Machine.{World, member_at, link_at, newest, runs, runs_phase, is_waiting, oldest}
+use Rattle.ring_world.specs.Step.{size, opening}
+use Rattle.ring_world.specs.Event.{by_of, id_of, of_member, on_link, is_told, refused_at, is_stopped, version_refusal, running_refusal, up_refusal, take_refusal, refresh_refusal, mark_refusal, erase_refusal, refusal, effect, IsRun, last}
+use Rattle.ring_world.specs.Work.{is_stale, LeavesLess}
+use Rattle.ring_world.specs.Settling.{is_repair, stale_one}
+use Rattle.ring_world.proofs.events.Names.{same_bytes}
+use Rattle.ring_world.proofs.events.Refusals.{id_within}
+use Rattle.ring_world.proofs.rests.Asked.{no_version}
+use Rattle.ring_world.proofs.rings.Rounds.{nat_eq-same}
+use Rattle.ring_world.proofs.runs.InOrder.{last_append}
+use Rattle.ring_world.proofs.invariants.FirstVersion.{reached_old}
+use Rattle.ring_world.proofs.walks.Ended.{runs_lt}
+use Rattle.ring_world.proofs.work.Settling.{repair_less, someone}
+use Rattle.ring_world.proofs.work.Fit as ring
+use Rattle.gm_member.proofs.Fit.{IsFit, reached_fit}
+use Rattle.ring_cluster.specs.declared.agenda.Task.{Task}
+use Rattle.ring_cluster.specs.declared.agenda.Task.TheVariants as task
+use Rattle.ring_cluster.specs.Seen.{Seen, state, state_of, IsGoing, IsEventIn, with_event}
+use Rattle.ring_cluster.specs.Agendas.{names_of, place_among}
+use Rattle.ring_cluster.specs.Plays.{task_event, refused_task, agenda_of}
+use Rattle.ring_cluster.specs.Turns.{IsMemberAt, MembersStay}
+use Rattle.ring_cluster.specs.Published.{names_in, logs_of}
+use Rattle.ring_world.specs.Published.{published_in}
+use Rattle.ring_cluster.proofs.lists.Plans.{tasked_there}
+use Rattle.ring_cluster.proofs.work.Bases.{openers_ready}
+use Rattle.ring_cluster.proofs.work.Staying.{SameNames, Joins, KeepsNames, event_same, event_keeps, admit_joins, run_keeps_names, run_behind, openers_many, openers_named}
+use Rattle.ring_cluster.proofs.work.Logged.{names_in_many, name_in_at, reached_different, id_in, run_all_logs}
+use Rattle.ring_cluster.proofs.rounds.Named.{going_fit, going_ring}
+
+-- they are few
+pub members_few : (c : Seen) → IsGoing c → size (state_of c) ≤ 65
+members_few c g = (going_fit c g).few
+
+-- ---- names
+
+-- the name of each member finds it
+pub found_in : (c : Seen) (i : ℕ) → IsGoing c → i + 1 < size (state_of c) → id_of (state_of c) (member_at (state_of c) (i + 1)).name ≡ Some (i + 1)
+found_in c i g l = (going_fit c g).named (i + 1) (omega arith) l
+
+-- the members of the opening keep their ids and their names, whoever joins them
+pub openers_there : (c : Seen) → IsGoing c → length c.names + 1 ≤ size (state_of c)
+openers_there c g = openers_many c.credit c.names c.events g.run
+
+pub opener_name : (c : Seen) (i : ℕ) → IsGoing c → i < length c.names → (member_at (state_of c) (i + 1)).name ≡ get_or c.names i []
+opener_name c i g l = openers_named c.credit c.names c.events i g.run l
+
+-- their names are the first
+pub openers_first : (c : Seen) → IsGoing c → take (length c.names) (names_in (state_of c)) ≡ c.names
+openers_first c g = same_lists _ _ many each
+  where
+    many : length (take (length c.names) (names_in (state_of c))) ≡ length c.names
+    many = length-take-le (length c.names) (names_in (state_of c)) (omega (arith, names_in_many (state_of c), openers_there c g))
+
+    each : (k : ℕ) (d : List ℕ) → k < length (take (length c.names) (names_in (state_of c))) → get_or (take (length c.names) (names_in (state_of c))) k d ≡ get_or c.names k d
+    each k d l =
+        let lt : k < length c.names = omega (arith, l, many) in
+        get_or-take (length c.names) (names_in (state_of c)) k d lt
+        ∙ name_in_at (state_of c) k d (omega (arith, lt, openers_there c g))
+        ∙ opener_name c k g lt
+        ∙ get_or_default c.names k [] d lt
+
+-- no two members have the same
+pub going_different : (c : Seen) → IsGoing c → AreDifferent (names_in (state_of c))
+going_different c g = reached_different c.credit c.names c.events g.are g.run
+
+-- the name of the member of an id, by its place
+pub name_at_place : (w : World) (x : ℕ) → 1 ≤ x → x < size w → get_or (names_in w) (x - 1) [] ≡ (member_at w x).name
+name_at_place w x some lt =
+    let back : x - 1 + 1 ≡ x = omega arith in
+    name_in_at w (x - 1) [] (omega arith) ∙ ap (λ k. (member_at w k).name) back
+
+-- ---- one event more
+
+pub after_event : (c : Seen) (e : Event) → state_of (with_event c e) ≡ effect (state_of c) e
+after_event c e = last_append (opening c.credit c.names) c.events (e ∷ [])
+
+-- who acts is there
+someone_asks : (w : World) (e : Event) → refusal w e ≡ None → 1 ≤ size w
+someone_asks w e r = by_id (id_of w (by_of e)) refl r
+  where
+    by_id : (o : Option ℕ) → id_of w (by_of e) ≡ o → of_member o (refused_at w e) ≡ None → 1 ≤ size w
+    by_id None is k = cc
+    by_id (Some x) is k = let i = id_within w (by_of e) x is in omega (arith, i.0, i.1)
+
+-- an event that is no admission leaves the names
+pub names_same : (w : World) (e : Event) → ((by name : List ℕ) → e ≡ Admit by name → ⊥) → names_in (effect w e) ≡ names_in w
+names_same w e none = same_lists _ _ many (λ k d l.
+    let lt : k + 1 < size w = omega (arith, l, many, names_in_many w) in
+    name_in_at (effect w e) k d (omega (arith, lt, h.many)) ∙ h.name (k + 1) ∙ sym (name_in_at w k d lt))
+  where
+    h : SameNames w (effect w e)
+    h = event_same w e none
+
+    many : length (names_in (effect w e)) ≡ length (names_in w)
+    many = names_in_many (effect w e) ∙ ap (λ n. n - 1) h.many ∙ sym (names_in_many w)
+
+-- and an admission adds one behind them
+pub names_joined : (w : World) (by name : List ℕ) → refusal w (Admit by name) ≡ None → names_in (effect w (Admit by name)) ≡ names_in w ++ name ∷ []
+names_joined w by name r = same_lists _ _ many (λ k d l. ⊎_elim
+    (λ (old : k + 1 < size w).
+    name_in_at w' k d (omega (arith, old, h.many)) ∙ h.name (k + 1) old ∙ sym (name_in_at w k d old) ∙ sym (get_or_append_left (names_in w) (name ∷ []) d k (omega (arith, old, names_in_many w))))
+    (λ (ge : size w ≤ k + 1).
+    let is : k + 1 ≡ size w = omega (arith, ge, l, some, names_in_many w', h.many) in
+    name_in_at w' k d (omega (arith, is, h.many)) ∙ ap (λ q. (member_at w' q).name) is ∙ h.new ∙ sym (get_or_push (names_in w) name d k (omega (arith, is, names_in_many w))))
+    (cases_lt (k + 1) (size w)))
+  where
+    w' : World
+    w' = effect w (Admit by name)
+
+    h : Joins w name w'
+    h = admit_joins w by name r
+
+    some : 1 ≤ size w
+    some = someone_asks w (Admit by name) r
+
+    many : length (names_in w') ≡ length (names_in w ++ name ∷ [])
+    many = omega (arith, names_in_many w', h.many, some, length_push (names_in w) name, names_in_many w)
+
+-- ---- more events
+
+-- the members that are there stay, with their names
+pub names_stay : (c d : Seen) (more : List Event) → IsGoing d → d.credit ≡ c.credit → d.names ≡ c.names → d.events ≡ c.events ++ more → KeepsNames (state_of c) (state_of d)
+names_stay c d more g credit names events = subst (KeepsNames (state_of c)) (sym is) (run_keeps_names (state_of c) more run)
+  where
+    same : state_of d ≡ state c.credit c.names (c.events ++ more)
+    same = ap (λ a. state a d.names d.events) credit ∙ ap (λ a. state c.credit a d.events) names ∙ ap (state c.credit c.names) events
+
+    is : state_of d ≡ last (state_of c) more
+    is = same ∙ last_append (opening c.credit c.names) c.events more
+
+    run : IsRun (state_of c) more
+    run = run_behind (opening c.credit c.names) c.events more
+        (subst (IsRun (opening c.credit c.names)) events (subst (λ a. IsRun (opening c.credit a) d.events) names (subst (λ a. IsRun (opening a d.names) d.events) credit g.run)))
+
+-- so an event of the member at a place is one of it later
+pub event_stays : (w w' : World) (i : ℕ) (e : Event) → KeepsNames w w' → IsEventIn w i e → IsEventIn w' i e
+event_stays w w' i e k at = (omega (arith, at.0, k.many), at.1 ∙ sym (k.name (i + 1) at.0))
+
+-- ---- who acts
+
+-- an event of the member at a place finds it
+pub event_found : (c : Seen) (i : ℕ) (e : Event) → IsGoing c → IsEventIn (state_of c) i e → id_of (state_of c) (by_of e) ≡ Some (i + 1)
+event_found c i e g at = ap (id_of (state_of c)) at.1 ∙ found_in c i g at.0
+
+pub run_event_found : (credit : CreditSpec) (names : List (List ℕ)) (events : List Event) (i : ℕ) (e : Event) → AreOpeningNames names → IsRun (opening credit names) events
+    → IsEventIn (state credit names events) i e → id_of (state credit names events) (by_of e) ≡ Some (i + 1)
+run_event_found credit names events i e are r at = ap (id_of (state credit names events)) at.1 ∙ (reached_fit credit names events are r).named (i + 1) (omega arith) at.0
+
+-- an event is one of the first member of its name; where there is none, it is refused
+pub event_place_in : (w : World) (e : Event) (o : Option ℕ) → o ≡ place_among (names_in w) (by_of e) → MatchOption o (refusal w e ≡ Some reason.UnknownMember) (λ i. IsEventIn w i e)
+event_place_in w e None is = ap (λ o. of_member o (refused_at w e)) (id_in w (by_of e) ∙ ap (option_map (λ i. i + 1)) (sym is))
+event_place_in w e (Some i) is =
+    let there = position-Some (λ n. bytes_eq n (by_of e)) (names_in w) i [] (sym is) in
+    let l : i + 1 < size w = omega (arith, there.0, names_in_many w) in
+    (l, sym (same_bytes (get_or (names_in w) i []) (by_of e) there.1) ∙ name_in_at w i [] l)
+
+-- an event of the member of an id is one of that at its place
+pub event_at_place : (w : World) (e : Event) (x : ℕ) → 1 ≤ x → x < size w → by_of e ≡ (member_at w x).name → IsEventIn w (x - 1) e
+event_at_place w e x some lt is =
+    let back : x - 1 + 1 ≡ x = omega arith in
+    (omega arith, is ∙ ap (λ k. (member_at w k).name) (sym back))
+
+-- ---- who may do a task, and who may refuse it
+
+up_may : (f : Phase) (later : Option Reason) → f ≡ Up → later ≡ None → or_else (refuse_if (is_stopped f) reason.Stopped) (or_else (refuse_if (is_waiting f) reason.Waiting) later) ≡ None
+up_may Waiting later e h = cc
+up_may Up later e h = h
+up_may Stopped later e h = cc
+
+running_may : (f : Phase) (later : Option Reason) → runs_phase f ≡ true → later ≡ None → or_else (refuse_if (is_stopped f) reason.Stopped) later ≡ None
+running_may Waiting later e h = h
+running_may Up later e h = h
+running_may Stopped later e h = absurd (false≢true e)
+
+-- what is asked of one that has stopped is refused as such
+stopped_told : (f : Phase) (later : Option Reason) → runs_phase f ≡ false
+    → refuse_if (not (is_told (code_of reason.Stopped) (or_else (refuse_if (is_stopped f) reason.Stopped) later))) reason.NotRefused ≡ None
+stopped_told Waiting later e = absurd (false≢true (sym e))
+stopped_told Up later e = absurd (false≢true (sym e))
+stopped_told Stopped later e = refl
+
+module _ (w : World) (x : ℕ) (f : IsFit w) (some : 1 ≤ x) (lt : x < size w) where
+  -- who is up may publish
+  pub cast_may : (body : List ℕ) → (member_at w x).phase ≡ Up → refusal w (task_event (member_at w x).name (task.Cast body)) ≡ None
+  cast_may body up =
+      ap (λ o. of_member o (λ y. up_refusal w y None)) (f.named x some lt) ∙ up_may (member_at w x).phase None up refl
+
+  -- who runs may stop, also one that waits
+  pub stop_may : runs w x ≡ true → refusal w (task_event (member_at w x).name task.Stop) ≡ None
+  stop_may r =
+      ap (λ o. of_member o (λ y. running_refusal w y None)) (f.named x some lt) ∙ running_may (member_at w x).phase None r refl
+
+  -- so who is up may do each task
+  pub task_may : (t : Task) → (member_at w x).phase ≡ Up → refusal w (task_event (member_at w x).name t) ≡ None
+  task_may (task.Cast body) up = cast_may body up
+  task_may task.Stop up = stop_may (ap runs_phase up)
+
+  -- and who has stopped refuses each
+  pub stopped_refuses : (t : Task) → runs w x ≡ false → refusal w (refused_task (member_at w x).name t) ≡ None
+  stopped_refuses (task.Cast body) r =
+      ap (λ o. of_member o (λ y. refuse_if (not (is_told (code_of reason.Stopped) (up_refusal w y None))) reason.NotRefused)) (f.named x some lt)
+      ∙ stopped_told (member_at w x).phase _ r
+  stopped_refuses task.Stop r =
+      ap (λ o. of_member o (λ y. refuse_if (not (is_told (code_of reason.Stopped) (running_refusal w y None))) reason.NotRefused)) (f.named x some lt)
+      ∙ stopped_told (member_at w x).phase None r
+
+  -- ---- what one that is up does by itself
+
+  -- it may read the newest view
+  pub refresh_may : (member_at w x).phase ≡ Up → refusal w (Refresh (member_at w x).name (newest w)) ≡ None
+  refresh_may up =
+      ap (λ o. of_member o (λ k. up_refusal w k (refresh_refusal w k (newest w)))) (f.named x some lt)
+      ∙ up_may (member_at w x).phase (refresh_refusal w x (newest w)) up
+      (rw (le-ltb (newest w) (member_at w x).version (f.good.inv.is_ring.held x), le-ltb (newest w) (newest w) (omega arith)) refl)
+
+  -- whom it may have marked or erased it may by that one's name
+  pub mark_may : (d : ℕ) → 1 ≤ d → d < size w → (member_at w x).phase ≡ Up → mark_refusal w x d ≡ None → refusal w (Mark (member_at w x).name (member_at w d).name) ≡ None
+  mark_may d sd ld up h =
+      ap (λ o. of_member o (λ k. up_refusal w k (of_member (id_of w (member_at w d).name) (mark_refusal w k)))) (f.named x some lt)
+      ∙ up_may (member_at w x).phase _ up (ap (λ o. of_member o (mark_refusal w x)) (f.named d sd ld) ∙ h)
+
+  pub erase_may : (p : ℕ) → 1 ≤ p → p < size w → (member_at w x).phase ≡ Up → erase_refusal w x p ≡ None → refusal w (Erase (member_at w x).name (member_at w p).name) ≡ None
+  erase_may p sp lp up h =
+      ap (λ o. of_member o (λ k. up_refusal w k (of_member (id_of w (member_at w p).name) (erase_refusal w k)))) (f.named x some lt)
+      ∙ up_may (member_at w x).phase _ up (ap (λ o. of_member o (erase_refusal w x)) (f.named p sp lp) ∙ h)
+
+-- ---- one that waits
+
+-- it may take: a first packet is on its link, of a version that it has
+pub waiting_takes : (credit : CreditSpec) (names : List (List ℕ)) (events : List Event) (x : ℕ) → AreOpeningNames names → IsRun (opening credit names) events
+    → (member_at (state credit names events) x).phase ≡ Waiting → refusal (state credit names events) (Take (member_at (state credit names events) x).name) ≡ None
+waiting_takes credit names events x are r waits =
+    ap (λ o. of_member o (λ y. running_refusal w y (on_link (member_at w y).current reason.NoCurrentLink (take_refusal w y)))) (f.named x some (runs_lt w x run))
+    ∙ running_may (member_at w x).phase (on_link (member_at w x).current reason.NoCurrentLink (take_refusal w x)) run (by_current (member_at w x).current refl)
+  where
+    w : World
+    w = state credit names events
+
+    f : IsFit w
+    f = reached_fit credit names events are r
+
+    run : runs w x ≡ true
+    run = ap runs_phase waits
+
+    some : 1 ≤ x
+    some = someone w (ring.reached_fit credit names events are r) x run
+
+    by_current : (o : Option ℕ) → (member_at w x).current ≡ o → on_link o reason.NoCurrentLink (take_refusal w x) ≡ None
+    by_current None e = absurd (false≢true (sym (ap is_some e) ∙ f.good.inv.joining.some x waits))
+    by_current (Some s) e =
+        let packet : is_empty (link_at w s).packets ≡ false = f.good.inv.waiting.first x s waits e in
+        let fits : version_refusal (oldest (link_at w s)).version (member_at w x).version ≡ None = no_version (oldest (link_at w s)).version (member_at w x).version (reached_old credit names events are r x s waits e) in
+        rw (packet, fits) refl
+
+pub waiting_takes_in : (c : Seen) (x : ℕ) → IsGoing c → (member_at (state_of c) x).phase ≡ Waiting → refusal (state_of c) (Take (member_at (state_of c) x).name) ≡ None
+waiting_takes_in c x g waits = waiting_takes c.credit c.names c.events x g.are g.run waits
+
+-- ---- the members by their places and names
+
+-- a member of the opening
+pub opening_at : (c : Seen) (i : ℕ) → IsGoing c → i < length c.names → IsMemberAt c i (get_or c.names i [])
+opening_at c i g l = (omega (arith, l, openers_there c g), opener_name c i g l)
+
+-- its name is that of the member
+pub member_found : (c : Seen) (i : ℕ) (name : List ℕ) → IsGoing c → IsMemberAt c i name → id_of (state_of c) name ≡ Some (i + 1)
+member_found c i name g m = ap (id_of (state_of c)) (sym m.1) ∙ found_in c i g m.0
+
+-- no two have one name
+pub names_differ : (c : Seen) (i j : ℕ) (name other : List ℕ) → IsGoing c → IsMemberAt c i name → IsMemberAt c j other → i < j → bytes_eq name other ≡ false
+names_differ c i j name other g m n lt = by_test (bytes_eq name other) refl
+  where
+    by_test : (b : Bool) → bytes_eq name other ≡ b → b ≡ false
+    by_test false e = refl
+    by_test true e =
+        let same : Some (i + 1) ≡ Some (j + 1) = sym (member_found c i name g m) ∙ ap (id_of (state_of c)) (same_bytes name other e) ∙ member_found c j other g n in
+        let is : i + 1 ≡ j + 1 = cc in
+        absurd (omega (arith, lt, is))
+
+-- who has a task is a member of the opening
+pub agenda_opener : (c : Seen) (name : List ℕ) → IsGoing c → agenda_of c name ≢ [] → (i : ℕ) × (i < length c.names) × IsMemberAt c i name
+agenda_opener c name g some = by_place (place_among (names_of c.agendas) name) refl (tasked_there c.agendas name some)
+  where
+    by_place : (o : Option ℕ) → place_among (names_of c.agendas) name ≡ o → IsSome o → (i : ℕ) × (i < length c.names) × IsMemberAt c i name
+    by_place None e k = absurd (false≢true k)
+    by_place (Some i) e k =
+        let there = position-Some (λ n. bytes_eq n name) c.names i [] (subst (λ ns. place_among ns name ≡ Some i) g.agendas e) in
+        (i, there.0, subst (IsMemberAt c i) (same_bytes (get_or c.names i []) name there.1) (opening_at c i g there.0))
+
+pub agenda_member : (c : Seen) (name : List ℕ) → IsGoing c → agenda_of c name ≢ [] → (i : ℕ) × IsMemberAt c i name
+agenda_member c name g some = let at = agenda_opener c name g some in (at.0, at.2)
+
+-- one that has a task doesn't wait
+runs_up : (f : Phase) → is_waiting f ≡ false → runs_phase f ≡ true → f ≡ Up
+runs_up Waiting e r = absurd (false≢true (sym e))
+runs_up Up e r = refl
+runs_up Stopped e r = absurd (false≢true r)
+
+same_place : (c : Seen) (i j : ℕ) (name : List ℕ) → IsGoing c → IsMemberAt c i name → IsMemberAt c j name → i ≡ j
+same_place c i j name g m n =
+    let same : Some (i + 1) ≡ Some (j + 1) = sym (member_found c i name g m) ∙ member_found c j name g n in
+    let is : i + 1 ≡ j + 1 = cc in
+    omega (arith, is)
+
+pub tasked_up : (c : Seen) (i : ℕ) (name : List ℕ) → IsGoing c → IsMemberAt c i name → agenda_of c name ≢ [] → runs (state_of c) (i + 1) ≡ true → (member_at (state_of c) (i + 1)).phase ≡ Up
+tasked_up c i name g m some r =
+    let at = agenda_opener c name g some in
+    let is : i ≡ at.0 = same_place c i at.0 name g m at.2 in
+    runs_up (member_at (state_of c) (i + 1)).phase (openers_ready c.credit c.names c.events (i + 1) g.are g.run (omega (arith, is, at.1))) r
+
+-- each stays at its place, with its name
+pub event_stay : (c d : Seen) (e : Event) → refusal (state_of c) e ≡ None → d.credit ≡ c.credit → d.names ≡ c.names → d.events ≡ c.events ++ e ∷ [] → MembersStay c d
+event_stay c d e none credit names events i name m =
+    let k : KeepsNames (state_of c) (effect (state_of c) e) = event_keeps (state_of c) e none in
+    let is : state_of d ≡ effect (state_of c) e = ap (λ x. state x d.names d.events) credit ∙ ap (λ x. state c.credit x d.events) names ∙ ap (state c.credit c.names) events ∙ after_event c e in
+    subst (λ w. (i + 1 < size w) × ((member_at w (i + 1)).name ≡ name)) (sym is) (omega (arith, k.many, m.0), k.name (i + 1) m.0 ∙ m.1)
+
+-- ---- who does a task of an agenda, and who refuses it
+
+pub done_enabled : (c : Seen) (i : ℕ) (t : Task) (name : List ℕ) (e : Event) → IsGoing c → IsMemberAt c i name → agenda_of c name ≢ [] → runs (state_of c) (i + 1) ≡ true → e ≡ task_event name t → refusal (state_of c) e ≡ None
+done_enabled c i t name e g m some r is =
+    ap (refusal (state_of c)) (is ∙ ap (λ n. task_event n t) (sym m.1)) ∙ task_may (state_of c) (i + 1) (going_fit c g) (omega arith) m.0 t (tasked_up c i name g m some r)
+
+pub stopped_enabled : (c : Seen) (i : ℕ) (t : Task) (name : List ℕ) (e : Event) → IsGoing c → IsMemberAt c i name → runs (state_of c) (i + 1) ≡ false → e ≡ refused_task name t → refusal (state_of c) e ≡ None
+stopped_enabled c i t name e g m r is =
+    ap (refusal (state_of c)) (is ∙ ap (λ n. refused_task n t) (sym m.1)) ∙ stopped_refuses (state_of c) (i + 1) (going_fit c g) (omega arith) m.0 t r
+
+-- ---- what leaves less to do
+
+-- the refresh of a stale member to the newest view
+pub stale_less : (c : Seen) (x : ℕ) (by : List ℕ) (version : ℕ) → IsGoing c → 1 ≤ x → x < size (state_of c) → by ≡ (member_at (state_of c) x).name → version ≡ newest (state_of c) → is_stale (newest (state_of c)) (member_at (state_of c) x) ≡ true → LeavesLess (state_of c) (Refresh by version)
+stale_less c x by version g some lt e v was = repair_less (state_of c) (going_ring c g) (Refresh by version) repairs
+  where
+    w : World
+    w = state_of c
+
+    named : id_of w by ≡ Some x
+    named = ap (id_of w) e ∙ (going_fit c g).named x some lt
+
+    repairs : is_repair w (Refresh by version) ≡ true
+    repairs = ap (λ n. nat_eq n (newest w) && stale_one w (id_of w by)) v ∙ ap (λ b. b && stale_one w (id_of w by)) (nat_eq-same (newest w)) ∙ ap (stale_one w) named ∙ was
+
+-- ---- what was published
+
+-- the logs of the last state are what the journal published of the names of all its members
+pub all_logs : (c : Seen) → IsGoing c → map (λ name. published_in name c.events) (names_in (state_of c)) ≡ logs_of (state_of c)
+all_logs c g = run_all_logs c.credit c.names c.events g.are g.run

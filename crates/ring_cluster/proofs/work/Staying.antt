@@ -1,0 +1,161 @@
+-- The members that are there stay, with their names; an admission alone adds one.
+use Rattle.std.proofs.Common.{◌≡◌, ◌⊎◌, inl, inr, ⊎_elim, ℕ, suc, ◌+◌, ◌<◌, ◌≤◌, List, [], ◌∷◌, ◌++◌, length, get_or, Option, Some, None, refl, sym, ap, subst, ◌∙◌, arith}
+use Rattle.std.proofs.lemmas.List.{length-set, length_push, get_or_append_left, get_or_push}
+use Rattle.ring_names.specs.declared.message.Message.TheVariants as message
+use Rattle.ring_names.specs.declared.numbers.CreditSpec.{CreditSpec}
+use Rattle.group_view.specs.View.{Group}
+use Rattle.group_view.specs.Change.{marked}
+use Rattle.ring_world.specs.View.{right_of}
+use Rattle.ring_world.specs.declared.phase.Phase.{Phase}
+use Rattle.ring_world.specs.declared.phase.Phase.TheVariants.{Waiting, Up, Stopped}
+use Rattle.ring_world.specs.declared.phase.Ending.TheVariants.{Halted}
+use Rattle.ring_world.specs.declared.event.Event.{Event}
+use Rattle.ring_world.specs.declared.event.Event.TheVariants.{Cast, Put, Take, TakeEnd, Gain, Stop, Mark, Refresh, Admit, Pick, Erase, Refuse}
+use Rattle.ring_world.specs.Machine.{Member, World, no_member, member_at, link_at, view_in, newest, oldest}
+use Rattle.ring_world.specs.Step.{size, log_of, with_member, with_view, published, taker, begun, with_current, stopped, stop_at, moved_to, opened_link, joiner, come_to, opening}
+use Rattle.ring_world.specs.Event.{id_of, of_member, at_found, at_door, taken_by, refreshed, erased_view, by_of, refused_at, done_at, refusal, effect, IsRun, last}
+use Rattle.ring_world.proofs.events.Composed.{end_composed, refresh_composed}
+use Rattle.ring_world.proofs.events.First.{first_at, first_size}
+use Rattle.ring_world.proofs.events.Leaves.{member_leaves, with_opened}
+
+-- ---- an event that admits nobody
+
+-- the same members are there, with the same names
+pub record SameNames (w w' : World) : Type 0 where
+  pub many : size w' ≡ size w
+  pub name : (q : ℕ) → (member_at w' q).name ≡ (member_at w q).name
+
+itself : (w : World) → SameNames w w
+itself w = record { many = refl; name = λ q. refl }
+
+-- one is written
+written : (w : World) (x : ℕ) (y : Member) → y.name ≡ (member_at w x).name → SameNames w (with_member w x y)
+written w x y e = record {
+  many = length-set w.members x y;
+  name = λ q. member_leaves (λ _ a b. b.name ≡ a.name) w x y e (λ _. refl) q;
+}
+
+found : (w : World) (o : Option ℕ) (f : ℕ → World) → ((x : ℕ) → SameNames w (f x)) → SameNames w (at_found o w f)
+found w None f k = itself w
+found w (Some x) f k = k x
+
+links_of : (w u v : World) → u.members ≡ v.members → SameNames w v → SameNames w u
+links_of w u v e h = record { many = ap length e ∙ h.many; name = λ q. ap (λ ms. (get_or ms q no_member).name) e ∙ h.name q }
+
+-- a refresh
+refresh_names : (w : World) (x v : ℕ) → SameNames w (refreshed w x v)
+refresh_names w x v = refresh_composed (SameNames w) w x v
+    (λ k e h. record { many = h.many; name = h.name })
+    (λ u e h.
+    let k = written (with_opened u (opened_link u x (right_of (view_in w v) x))) x (record (member_at u x) { out = Some (length u.links) }) refl in
+    record { many = k.many ∙ h.many; name = λ q. k.name q ∙ h.name q })
+    (written w x (moved_to w x v) refl)
+
+view_names : (w : World) (x : ℕ) (v : Group) → SameNames w (refreshed (with_view w v) x (newest w + 1))
+view_names w x v = let k = refresh_names (with_view w v) x (newest w + 1) in record { many = k.many; name = k.name }
+
+take_names : (phase : Phase) (w : World) (y s : ℕ) → SameNames w (taken_by phase w y s)
+take_names Waiting w y s = links_of w _ (with_member w y (begun (size w) (member_at w y) (oldest (link_at w s)))) refl (written w y (begun (size w) (member_at w y) (oldest (link_at w s))) refl)
+take_names Up w y s = links_of w _ (with_member w y (taker w y s)) refl (written w y (taker w y s) refl)
+take_names Stopped w y s = itself w
+
+-- what is done
+done_names : (w : World) (e : Event) (x : ℕ) → ((by name : List ℕ) → e ≡ Admit by name → ⊥) → SameNames w (done_at w e x)
+done_names w (Cast by body) x none = written w x (published x (message.Cast body) (member_at w x)) refl
+done_names w (Put by) x none = found w (member_at w x).out _ (λ o. links_of w _ w refl (itself w))
+done_names w (Take by) x none = found w (member_at w x).current (taken_by (member_at w x).phase w x) (λ s. take_names (member_at w x).phase w x s)
+done_names w (TakeEnd by) x none = found w (member_at w x).current _ (λ s. links_of w _ (with_member w x (with_current None (member_at w x))) refl (written w x (with_current None (member_at w x)) refl))
+done_names w (Gain by) x none = found w (member_at w x).out _ (λ o. links_of w _ w refl (itself w))
+done_names w (Stop by) x none = end_composed (SameNames w) Halted (stop_at w x) (member_at w x).out (λ o e h. record { many = h.many; name = h.name }) (written w x (stopped (member_at w x)) refl)
+done_names w (Mark by dead) x none = found w (id_of w dead) _ (λ d. view_names w x (marked (view_in w (newest w)) d))
+done_names w (Refresh by version) x none = refresh_names w x version
+done_names w (Admit by name) x none = absurd (none by name refl)
+done_names w (Pick by) x none = found w (at_door w x) _ (λ s. written w x (with_current (Some s) (member_at w x)) refl)
+done_names w (Erase by origin) x none = found w (id_of w origin) _ (λ d. view_names w x (erased_view w d))
+done_names w (Refuse code inner) x none = itself w
+
+-- an event that is no admission leaves the members, by their names
+pub event_same : (w : World) (e : Event) → ((by name : List ℕ) → e ≡ Admit by name → ⊥) → SameNames w (effect w e)
+event_same w e none = found w (id_of w (by_of e)) (done_at w e) (λ x. done_names w e x none)
+
+-- ---- an admission
+
+-- One more member is there, called so; it has published nothing, and the others have their names and logs.
+pub record Joins (w : World) (called : List ℕ) (w' : World) : Type 0 where
+  pub many : size w' ≡ size w + 1
+  pub name : (q : ℕ) → q < size w → (member_at w' q).name ≡ (member_at w q).name
+  pub new : (member_at w' (size w)).name ≡ called
+  pub nothing : log_of w' (size w) ≡ []
+
+refresh_log : (w : World) (x v q : ℕ) → log_of (refreshed w x v) q ≡ log_of w q
+refresh_log w x v q = refresh_composed (λ u. log_of u q ≡ log_of w q) w x v
+    (λ k e h. h)
+    (λ u e h. member_leaves (λ _ a b. b.log ≡ a.log) (with_opened u (opened_link u x (right_of (view_in w v) x))) x (record (member_at u x) { out = Some (length u.links) }) refl (λ _. refl) q ∙ h)
+    (member_leaves (λ _ a b. b.log ≡ a.log) w x (moved_to w x v) refl (λ _. refl) q)
+
+come_joins : (w : World) (x : ℕ) (name : List ℕ) → Joins w name (refreshed (come_to w x name) x (newest w + 1))
+come_joins w x name = record {
+  many = k.many ∙ length_push w.members (joiner w name);
+  name = λ q lt. k.name q ∙ ap (λ (y : Member). y.name) (get_or_append_left w.members (joiner w name ∷ []) no_member q lt);
+  new = k.name (size w) ∙ ap (λ (y : Member). y.name) here;
+  nothing = refresh_log (come_to w x name) x (newest w + 1) (size w) ∙ ap (λ (y : Member). y.log) here;
+}
+  where
+    k : SameNames (come_to w x name) (refreshed (come_to w x name) x (newest w + 1))
+    k = refresh_names (come_to w x name) x (newest w + 1)
+
+    here : member_at (come_to w x name) (size w) ≡ joiner w name
+    here = get_or_push w.members (joiner w name) no_member (size w) refl
+
+pub admit_joins : (w : World) (by name : List ℕ) → refusal w (Admit by name) ≡ None → Joins w name (effect w (Admit by name))
+admit_joins w by name r = by_id (id_of w by) r
+  where
+    by_id : (o : Option ℕ) → of_member o (refused_at w (Admit by name)) ≡ None → Joins w name (at_found o w (done_at w (Admit by name)))
+    by_id None k = cc
+    by_id (Some x) k = come_joins w x name
+
+-- ---- each event
+
+-- members that are there keep their names
+pub record KeepsNames (w w' : World) : Type 0 where
+  pub many : size w ≤ size w'
+  pub name : (q : ℕ) → q < size w → (member_at w' q).name ≡ (member_at w q).name
+
+-- whether an event is an admission is known
+pub is_admission : (e : Event) → ((by : List ℕ) × (name : List ℕ) × (e ≡ Admit by name)) ⊎ ((by name : List ℕ) → e ≡ Admit by name → ⊥)
+is_admission (Admit by name) = inl (by, name, refl)
+is_admission e = inr (λ by name is. cc)
+
+pub event_keeps : (w : World) (e : Event) → refusal w e ≡ None → KeepsNames w (effect w e)
+event_keeps w e r = ⊎_elim
+    (λ (a : (by : List ℕ) × (name : List ℕ) × (e ≡ Admit by name)).
+    let k : Joins w a.1 (effect w (Admit a.0 a.1)) = admit_joins w a.0 a.1 (subst (λ x. refusal w x ≡ None) a.2 r) in
+    subst (λ x. KeepsNames w (effect w x)) (sym a.2) (record { many = omega (arith, k.many); name = k.name }))
+    (λ (none : (by name : List ℕ) → e ≡ Admit by name → ⊥).
+    let k : SameNames w (effect w e) = event_same w e none in
+    record { many = omega (arith, k.many); name = λ q _. k.name q })
+    (is_admission e)
+
+-- and do so in every run
+pub run_keeps_names : (w : World) (events : List Event) → IsRun w events → KeepsNames w (last w events)
+run_keeps_names w [] r = record { many = omega arith; name = λ q _. refl }
+run_keeps_names w (e ∷ es) r =
+    let h : KeepsNames w (effect w e) = event_keeps w e r.0 in
+    let k : KeepsNames (effect w e) (last (effect w e) es) = run_keeps_names (effect w e) es r.1 in
+    record { many = omega (arith, h.many, k.many); name = λ q lt. k.name q (omega (arith, lt, h.many)) ∙ h.name q lt }
+
+-- what follows in a run is a run
+pub run_behind : (w : World) (before more : List Event) → IsRun w (before ++ more) → IsRun (last w before) more
+run_behind w [] more r = r
+run_behind w (e ∷ before) more r = run_behind (effect w e) before more r.1
+
+-- the members of the opening are there, with the ids that they had
+pub openers_many : (credit : CreditSpec) (names : List (List ℕ)) (events : List Event) → IsRun (opening credit names) events → length names + 1 ≤ size (last (opening credit names) events)
+openers_many credit names events r = omega (arith, first_size credit names, (run_keeps_names (opening credit names) events r).many)
+
+pub openers_named : (credit : CreditSpec) (names : List (List ℕ)) (events : List Event) (i : ℕ) → IsRun (opening credit names) events → i < length names → (member_at (last (opening credit names) events) (i + 1)).name ≡ get_or names i []
+openers_named credit names events i r l =
+    let next : i + 1 ≡ suc i = omega arith in
+    (run_keeps_names (opening credit names) events r).name (i + 1) (omega (arith, l, first_size credit names))
+    ∙ ap (λ (y : Member). y.name) (first_at credit names (i + 1) (omega arith) (omega arith))
+    ∙ ap (λ k. get_or ([] ∷ names) k []) next
