@@ -18,7 +18,7 @@ mod tests;
 pub use change::Change;
 pub use laws::{a_packet_and_its_plan_give_the_numbers, no_more_is_sent_than_is_kept};
 pub use packet::{Line, Load, Packet};
-pub use saying::says_all;
+pub use saying::{is_new, says_all};
 pub use sending::diff;
 pub use sent::{Sent, SentRow};
 pub use table::Table;

@@ -35,8 +35,8 @@ fn row_is_new(sent: &Sent, tables: &Tables, ids: u32, place: usize) -> bool
     }
 }
 
-/// Whether an origin is one of the first ids, and its numbers aren't those last sent.
-fn is_new(sent: &Sent, tables: &Tables, ids: u32, origin: MemberId) -> bool
+/// Whether an origin is one of the first ids, and its numbers aren't those last sent. It takes no memory.
+pub fn is_new(sent: &Sent, tables: &Tables, ids: u32, origin: MemberId) -> bool
     ensures { result ≡ tells_new sent.now tables.now ids origin.0 }
 {
     let kept = tables.numbers(origin);

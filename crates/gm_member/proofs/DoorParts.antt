@@ -1,5 +1,5 @@
 -- Links that wait for a member, members that are written, and a member's conditions.
-use Rattle.std.proofs.Common.{◌≡◌, ◌≢◌, ℕ, ◌+◌, ◌<◌, Bool, false, not, nat_eq, List, map, max, Option, None, refl}
+use Rattle.std.proofs.Common.{◌≡◌, ◌≢◌, ℕ, ◌+◌, ◌<◌, Bool, false, not, nat_eq, List, map, max, Option, None, refl, ap, ◌∙◌}
 use Rattle.std.specs.Prelude.{◌&&◌}
 use Rattle.std.proofs.lemmas.List.{get_or-set_same, get_or-set_other, map-append, take-map, drop-map}
 use Rattle.ring_names.specs.declared.reason.Reason.{Reason}
@@ -40,3 +40,10 @@ up_refused_none h later e =
     let b = none_of (is_waiting h.phase) reason.Waiting (or_else (refuse_if h.asks reason.AwaitingAnswer) later) a.1 in
     let c = none_of h.asks reason.AwaitingAnswer later b.1 in
     (up_from h.phase a.0 b.0, c.0, c.1)
+
+-- only those later ones refuse such a member
+pub up_past : (h : Held) (later : Option Reason) → up_refused h None ≡ None → up_refused h later ≡ later
+up_past h later e =
+    let u = up_refused_none h None e in
+    ap (λ s. or_else (refuse_if (is_stopped s) reason.Stopped) (or_else (refuse_if (is_waiting s) reason.Waiting) (or_else (refuse_if h.asks reason.AwaitingAnswer) later))) u.0
+    ∙ ap (λ b. or_else (refuse_if b reason.AwaitingAnswer) later) u.1

@@ -39,6 +39,7 @@ pub mod Same
 pub mod StopStands
 pub mod TakeStands
 pub mod TakenWithin
+pub mod ToldRight
 pub mod Waiters
 pub mod Within
 pub mod WithinLinks

@@ -10,5 +10,6 @@ pub mod Questions
 pub mod Shown
 pub mod Spares
 pub mod Stands
+pub mod Telling
 pub mod View
 pub mod Within

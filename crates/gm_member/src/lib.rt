@@ -16,6 +16,7 @@ mod numbers;
 mod questions;
 mod spare;
 mod taken;
+mod telling;
 mod views;
 
 pub use fault::MemberFault;

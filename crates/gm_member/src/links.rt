@@ -7,15 +7,12 @@ ghost use Rattle.gm_member.specs.Parcels.{emptied};
 use crate::fault::MemberFault;
 use crate::news::{arrivals, view_refusal};
 use crate::taken::Taken;
-use activity::{Change, Line, Load, Packet, Sent, Tables, diff, says_all};
+use activity::{Change, Line, Load, Packet, Sent, Tables, diff};
 use credit_flow::{CreditIn, CreditOut};
 use group_view::{LinkKind, LinkName, View};
 use ordered_link::{EndReason, Item, LinkIn, LinkOut};
 use ring_names::{Items, MemberId, OutOfMemory, Reason};
 use std::alloc::Global;
-
-/// How many origins a ring may have.
-const MOST_ORIGINS: u32 = 64;
 
 /// The link on which a member sends: to whom, from which version of its view on, the numbers last sent on it, and
 /// the credit that is left (the right neighbour in the state of `gm`, and its `credit_flow`). `kept` is a grant that
@@ -43,14 +40,14 @@ pub struct InLink<I> {
 }
 
 impl<O> OutLink<O> {
-    ghost use Rattle.std.specs.Prelude.{◌≡◌, ℕ, ◌+◌, map, IfOk, Option};
+    ghost use Rattle.std.specs.Prelude.{◌≡◌, ℕ, ◌+◌, map, IfOk, List, Option};
     ghost use Rattle.ring_names.specs.declared.reason.Reason.{Reason};
-    ghost use Rattle.activity.specs.Kept.{kept_of};
+    ghost use Rattle.activity.specs.Kept.{Kept, kept_of};
     ghost use Rattle.activity.specs.Told.{sent_of};
     ghost use Rattle.activity.specs.Parcels.{line_of};
     ghost use Rattle.activity.specs.Diff.{IsNotAbove, next_line};
     ghost use Rattle.gm_member.specs.Parcels.{by_origin};
-    ghost use Rattle.gm_member.specs.Held.{out_refused, parcel_on};
+    ghost use Rattle.gm_member.specs.Held.{has_nothing_new, out_refused, parcel_on};
     ghost use Rattle.gm_member.specs.View.{out_of, all_kept};
 
     /// What names the link, whose sender is given.
@@ -65,15 +62,15 @@ impl<O> OutLink<O> {
         }
     }
 
-    /// Why nothing can be put, of these tables: the link has no credit, or all numbers equal those last sent.
-    pub(crate) fn put_refusal(&self, tables: &Tables) -> Option<Reason>
-        requires { IsNotAbove (self.now).sent tables.now }
-        ensures { result ≡ out_refused (all_kept tables.now) (out_of self.now) }
+    /// Why nothing can be put: the link has no credit, or all numbers equal those last sent, as is told.
+    pub(crate) fn put_refusal(&self, told: bool) -> Option<Reason>
+        ensures { (known : List Kept) → told ≡ has_nothing_new known (out_of self.now)
+            → result ≡ out_refused known (out_of self.now) }
     {
         if self.credit.blocked() {
             return Some(Reason::NoCredit);
         }
-        if says_all(&self.sent, tables, MOST_ORIGINS) {
+        if told {
             return Some(Reason::NothingNew);
         }
         None

@@ -6,6 +6,7 @@ ghost use Rattle.ring_world.specs.View.{ids};
 ghost use Rattle.ring_world.specs.Machine.{is_waiting, runs_phase};
 ghost use Rattle.gm_member.specs.View.{count_of, has_ended, is_up_where, told_on};
 ghost use Rattle.gm_member.specs.Spares.{told_by_spare};
+ghost use Rattle.gm_member.specs.Telling.{IsToldRight};
 ghost use Rattle.gm_member.specs.Within.{IsWithin, one_within};
 
 use crate::door::{first_for, is_for, prune};
@@ -13,8 +14,9 @@ use crate::fault::MemberFault;
 use crate::links::{InLink, OutLink};
 use crate::spare::Spare;
 use crate::taken::Taken;
+use crate::telling::{MOST_ORIGINS, still_told};
 use crate::views::{left, right, version};
-use activity::{Load, Sent, Tables};
+use activity::{Load, Sent, Tables, says_all};
 use credit_flow::{CreditIn, CreditOut};
 use group_view::{LinkName, Request, View};
 use ordered_link::{EndReason, LinkIn, LinkOut, LinkPair};
@@ -29,7 +31,8 @@ const MOST_MESSAGES: u64 = 1 << 63;
 /// itself among them, the messages that it has received and not forgotten. It sends on one link and takes from one, and
 /// further links may stand at its door. One that waits for its first packet sends on none. While its question for a
 /// view is open it has a link ready, with which the answer wants no memory. Until it stops, the link on which it
-/// sends hasn't ended.
+/// sends hasn't ended. `told` says whether of every origin the numbers are those last sent there, so that it needn't
+/// look at each.
 #[derive(Drop)]
 pub struct Member<O: LinkOut<Load>, I> {
     pub(crate) alloc: Global,
@@ -40,6 +43,7 @@ pub struct Member<O: LinkOut<Load>, I> {
     pub(crate) tables: Tables,
     pub(crate) credit: CreditSpec,
     pub(crate) out: Option<OutLink<O>>,
+    pub(crate) told: bool,
     pub(crate) current: Option<InLink<I>>,
     pub(crate) door: Vec<InLink<I>>,
     pub(crate) asked: bool,
@@ -50,6 +54,7 @@ pub struct Member<O: LinkOut<Load>, I> {
     ghost stands: { is_in id.0 (ids view) ≡ true },
     ghost up: { is_up_where asked phase ≡ true },
     ghost sent: { IsWithin (told_on out) tables } by { one_within (told_on out) tables },
+    ghost told_right: { IsToldRight told out tables },
     ghost spared: { IsWithin (told_by_spare spare) tables } by { one_within (told_by_spare spare) tables },
     ghost unended: { runs_phase phase ≡ true → has_ended O.ended out ≡ false },
     ghost silent: { is_waiting phase ≡ true → count_of out ≡ 0 },
@@ -134,6 +139,7 @@ impl<O: LinkPair<Load, In = I>, I: LinkIn<Load> + Drop> Member<O, I> {
                 kept: None,
                 end: Some(out),
             }),
+            told: true,
             current: Some(InLink {
                 from,
                 opened,
@@ -186,6 +192,7 @@ impl<O: LinkPair<Load, In = I>, I: LinkIn<Load> + Drop> Member<O, I> {
             tables: Tables::new(alloc),
             credit,
             out: None,
+            told: true,
             current: Some(InLink {
                 from,
                 opened,
@@ -302,6 +309,7 @@ impl<O: LinkPair<Load, In = I>, I: LinkIn<Load> + Drop> Member<O, I> {
             return Err((message, MemberFault::OutOfMemory));
         }
         self.tables.push(self.id, message);
+        self.told = false;
         Ok(self.tables.numbers(self.id).got)
     }
 
@@ -350,7 +358,7 @@ impl<O: LinkPair<Load, In = I>, I: LinkIn<Load> + Drop> Member<O, I> {
         }
         match &self.out {
             None => Some(Reason::NoOutLink),
-            Some(link) => link.put_refusal(&self.tables),
+            Some(link) => link.put_refusal(self.told),
         }
     }
 
@@ -385,7 +393,10 @@ impl<O: LinkPair<Load, In = I>, I: LinkIn<Load> + Drop> Member<O, I> {
         let Some(link) = &mut self.out else {
             unreachable!()
         };
-        link.put(self.alloc, version, &self.tables)
+        // Something is new, and stays so where the packet isn't put.
+        let put = link.put(self.alloc, version, &self.tables);
+        self.told = put.is_ok();
+        put
     }
 
     /// Why the member may take nothing, before its link is looked at: `Stopped`, `AwaitingAnswer`; `NoCurrentLink`
@@ -461,6 +472,7 @@ impl<O: LinkPair<Load, In = I>, I: LinkIn<Load> + Drop> Member<O, I> {
         };
         let (news, changes, packet) = link.take(self.alloc, &mut self.tables, &self.view, self.id)?;
         self.tables.apply(packet, &changes);
+        self.told = still_told(self.told, &self.out, &self.tables, &changes);
         Ok(news)
     }
 
@@ -766,6 +778,7 @@ impl<O: LinkPair<Load, In = I>, I: LinkIn<Load> + Drop> Member<O, I> {
         };
         self.move_on();
         let (link, requests) = spare.open(self.id, to, version(&self.view), self.credit);
+        self.told = says_all(&link.sent, &self.tables, MOST_ORIGINS);
         self.out = Some(link);
         requests
     }

@@ -2,11 +2,13 @@
 pub mod Asking
 pub mod Counting
 pub mod Doing
+pub mod Heirs
 pub mod Holding
 pub mod Members
 pub mod Named
 pub mod Numbers
 pub mod Playing
 pub mod Resting
+pub mod Serving
 pub mod Settling
 pub mod Turning

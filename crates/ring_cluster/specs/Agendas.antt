@@ -1,5 +1,6 @@
--- What each member has still to do, by its name.
-use Rattle.std.specs.Prelude.{ℕ, List, [], ◌∷◌, ◌++◌, map, position, bytes_eq, slice_set, slice_index_or, Option, Some, None}
+-- What is still to be done, by the name of the member that was asked. One that nobody has yet may have an agenda too.
+use Rattle.std.specs.Prelude.{ℕ, List, [], ◌∷◌, ◌++◌, length, map, position, bytes_eq, slice_set, slice_index_or, Option, Some, None}
+use Rattle.std.specs.List.{sum_by}
 use Rattle.ring_cluster.specs.declared.agenda.Task.{Task}
 
 -- An agenda: whose it is, and what is on it, the next task first.
@@ -37,10 +38,15 @@ with_found plans (Some i) ts = slice_set plans i (record (plan_at plans i) { tas
 abbrev pub with_tasks : List Plan → List ℕ → List Task → List Plan
 with_tasks plans name ts = with_found plans (place_among (names_of plans) name) ts
 
--- one more task at its end
-abbrev pub with_task : List Plan → List ℕ → Task → List Plan
-with_task plans name t = with_tasks plans name (tasks_in plans name ++ t ∷ [])
+-- the agendas, with one more task at the end of the one of that name, at a place that was found; where there is none it begins one
+abbrev pub with_more : List Plan → Option ℕ → List ℕ → Task → List Plan
+with_more plans None name t = plans ++ record { name = name; tasks = t ∷ [] } ∷ []
+with_more plans (Some i) name t = with_found plans (Some i) ((plan_at plans i).tasks ++ t ∷ [])
 
--- an agenda of each of these names, with nothing on it
-abbrev pub opened_plans : List (List ℕ) → List Plan
-opened_plans names = map (λ name. record { name = name; tasks = [] }) names
+-- with one more task at its end
+abbrev pub with_task : List Plan → List ℕ → Task → List Plan
+with_task plans name t = with_more plans (place_among (names_of plans) name) name t
+
+-- how many tasks are on all of them
+abbrev pub tasks_on_all : List Plan → ℕ
+tasks_on_all plans = sum_by (λ a. length a.tasks) plans

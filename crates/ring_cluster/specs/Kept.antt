@@ -1,15 +1,12 @@
 -- What a cluster shows and keeps.
-use Rattle.std.specs.Prelude.{◌≡◌}
 use Rattle.ring_cluster.specs.declared.cluster.Cluster.TheInside.{Inside}
-use Rattle.ring_cluster.specs.Agendas.{names_of}
 use Rattle.ring_cluster.specs.Seen.{Seen}
 use Rattle.ring_cluster.specs.Standing.{StandAfter}
 
 -- what is seen of a cluster: it owes what its parties owe, and shows what they show
 abbrev pub seen_of : Inside → Seen
-seen_of a = record { credit = a.credit; names = a.names.items; events = a.journal.items; agendas = a.agendas.items; rounds = a.rounds; given = a.given.items; owes = a.parties.owes; shows = a.parties.all }
+seen_of a = record { credit = a.credit; names = a.names.items; events = a.journal.items; agendas = a.agendas; rounds = a.rounds; given = a.given.items; owes = a.parties.owes; shows = a.parties.all }
 
--- its parties stand in the last state of its journal, and each member of the opening has an agenda
+-- its parties stand in the last state of its journal
 pub record IsStanding (a : Inside) : Type 0 where
   pub standing : StandAfter a.credit a.names.items a.journal.items a.parties.all
-  pub agendas : names_of a.agendas.items ≡ a.names.items

@@ -1,10 +1,12 @@
 pub mod Acting
 pub mod Agendas
+pub mod Backlog
 pub mod Behind
 pub mod Collecting
 pub mod EachState
 pub mod Ends
 pub mod Gathered
+pub mod Handed
 pub mod Heard
 pub mod Holds
 pub mod Kept

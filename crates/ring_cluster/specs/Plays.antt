@@ -1,21 +1,26 @@
 -- When a journal plays what a cluster was given.
-use Rattle.std.specs.Prelude.{◌≡◌, ◌⊎◌, ℕ, ◌&&◌, ◌<◌, ◌≤◌, List, [], ◌∷◌, ◌++◌, length, map, take, slice_get, IsSome, bytes_eq, Option, Some, None, if◌then◌else◌, Contains}
-use Rattle.std.specs.List.{flat_map}
+use Rattle.std.specs.Prelude.{◌≡◌, ℕ, ◌+◌, ◌&&◌, ◌<◌, ◌≤◌, Bool, true, false, not, List, [], ◌∷◌, ◌++◌, length, map, take, slice_get, bytes_eq, Option, Some, None, if◌then◌else◌, Contains, ⊤}
+use Rattle.std.specs.List.{flat_map, filter}
 use Rattle.ring_names.specs.declared.numbers.CreditSpec.{CreditSpec}
-use Rattle.ring_names.specs.declared.reason.Reason.TheVariants as reason
+use Rattle.ring_names.specs.declared.reason.Reason.{Reason}
 use Rattle.ring_names.specs.Reason.{code_of}
 use Rattle.ring_script.specs.declared.command.Command.{Command}
 use Rattle.ring_script.specs.declared.command.Command.TheVariants as command
 use Rattle.ring_world.specs.declared.event.Event.{Event}
-use Rattle.ring_world.specs.declared.event.Event.TheVariants.{Cast, Stop, Refuse}
+use Rattle.ring_world.specs.declared.event.Event.TheVariants.{Cast, Stop, Admit, Refuse}
 use Rattle.ring_world.specs.declared.event.Client.{Client}
 use Rattle.ring_world.specs.declared.event.Client.TheVariants as client
-use Rattle.ring_world.specs.Event.{by_of, is_asked, event_of}
+use Rattle.ring_world.specs.declared.phase.Phase.{Phase}
+use Rattle.ring_world.specs.declared.phase.Phase.TheVariants.{Waiting, Up, Stopped}
+use Rattle.ring_world.specs.Machine.{World, member_at}
+use Rattle.ring_world.specs.Step.{opening}
+use Rattle.ring_world.specs.Event.{by_of, is_asked, event_of, refusal, last}
 use Rattle.ring_world.specs.Quiet.{IsQuiet}
 use Rattle.ring_cluster.specs.declared.agenda.Task.{Task}
 use Rattle.ring_cluster.specs.declared.agenda.Task.TheVariants as task
-use Rattle.ring_cluster.specs.Agendas.{Plan, names_of, place_among, tasks_in, with_tasks, with_task}
-use Rattle.ring_cluster.specs.Seen.{Seen, state}
+use Rattle.ring_cluster.specs.Agendas.{Plan, tasks_in, with_tasks, with_task}
+use Rattle.ring_cluster.specs.Handed.{handing, handed}
+use Rattle.ring_cluster.specs.Seen.{Seen, state, state_of, IsMemberIn}
 
 -- ---- what clients asked for
 
@@ -35,6 +40,7 @@ client_events name events = flat_map (client_event name) events
 -- what a command asks of this member
 abbrev pub asked_by : List ℕ → Command → List Event
 asked_by name (command.Cast by body) = if bytes_eq by name then Cast by body ∷ [] else []
+asked_by name (command.Join by newcomer) = if bytes_eq by name then Admit by newcomer ∷ [] else []
 asked_by name (command.Kill by) = if bytes_eq by name then Stop by ∷ [] else []
 asked_by name (command.Go turns) = []
 asked_by name command.Settle = []
@@ -49,19 +55,22 @@ asked name commands = flat_map (asked_by name) commands
 abbrev pub task_event : List ℕ → Task → Event
 task_event name (task.Cast body) = Cast name body
 task_event name task.Stop = Stop name
+task_event name (task.Admit newcomer) = Admit name newcomer
 
 -- what a client asks of this member by it
 abbrev pub task_client : List ℕ → Task → Client
 task_client name (task.Cast body) = client.Cast name body
 task_client name task.Stop = client.Stop name
+task_client name (task.Admit newcomer) = client.Admit name newcomer
 
--- the refusal of a task, as one that has stopped refuses it
-abbrev pub refused_task : List ℕ → Task → Event
-refused_task name t = Refuse (code_of reason.Stopped) (task_client name t)
+-- the event by which its member does a task, where the ring doesn't refuse it, and else tells that it does, and why
+abbrev pub answer_by : List ℕ → Task → Option Reason → Event
+answer_by name t None = task_event name t
+answer_by name t (Some r) = Refuse (code_of r) (task_client name t)
 
--- by this event the member of that name has done the task, or has refused it since it has stopped
-abbrev pub IsDoneBy : List ℕ → Task → Event → Type 0
-IsDoneBy name t e = (e ≡ task_event name t) ⊎ (e ≡ refused_task name t)
+-- the same in a state of the ring
+abbrev pub answer_to : World → List ℕ → Task → Event
+answer_to w name t = answer_by name t (refusal w (task_event name t))
 
 -- the events of an agenda
 abbrev pub todo : List ℕ → List Task → List Event
@@ -71,18 +80,40 @@ todo name tasks = map (task_event name) tasks
 abbrev pub agenda_of : Seen → List ℕ → List Task
 agenda_of c name = tasks_in c.agendas name
 
+-- whether it is to stop
+abbrev pub is_stop : Task → Bool
+is_stop task.Stop = true
+is_stop t = false
+
+-- whether a member does a task at once: one that waits for its state leaves all but its stop
+abbrev pub takes_up : Phase → Task → Bool
+takes_up Waiting t = is_stop t
+takes_up Up t = true
+takes_up Stopped t = true
+
+-- whether it has something on its agenda that it does at once
+abbrev pub is_due : Phase → List Task → Bool
+is_due phase [] = false
+is_due phase (t ∷ ts) = takes_up phase t
+
+-- the member at a place, which has this name, has something to do at once
+abbrev pub IsDue : Seen → ℕ → List ℕ → Type 0
+IsDue c i name = is_due (member_at (state_of c) (i + 1)).phase (agenda_of c name) ≡ true
+
 -- ---- commands
 
--- a command that a member of these names is asked for
-abbrev pub IsCommandTo : List (List ℕ) → Command → Type 0
-IsCommandTo names (command.Cast by body) = IsSome (place_among names by)
-IsCommandTo names (command.Kill by) = IsSome (place_among names by)
-IsCommandTo names (command.Go turns) = ⊥
-IsCommandTo names command.Settle = ⊥
+-- a command of a member, not of the whole ring
+abbrev pub IsOfMember : Command → Type 0
+IsOfMember (command.Cast by body) = ⊤
+IsOfMember (command.Join by newcomer) = ⊤
+IsOfMember (command.Kill by) = ⊤
+IsOfMember (command.Go turns) = ⊥
+IsOfMember command.Settle = ⊥
 
 -- the agendas after a command was taken
 abbrev pub tasked : List Plan → Command → List Plan
 tasked plans (command.Cast by body) = with_task plans by (task.Cast body)
+tasked plans (command.Join by newcomer) = with_task plans by (task.Admit newcomer)
 tasked plans (command.Kill by) = with_task plans by task.Stop
 tasked plans (command.Go turns) = plans
 tasked plans command.Settle = plans
@@ -90,6 +121,7 @@ tasked plans command.Settle = plans
 -- whom a command asks, and for which task
 abbrev pub IsTaskOf : Command → List ℕ → Task → Type 0
 IsTaskOf (command.Cast by body) name t = (name ≡ by) × (t ≡ task.Cast body)
+IsTaskOf (command.Join by newcomer) name t = (name ≡ by) × (t ≡ task.Admit newcomer)
 IsTaskOf (command.Kill by) name t = (name ≡ by) × (t ≡ task.Stop)
 IsTaskOf (command.Go turns) name t = ⊥
 IsTaskOf command.Settle name t = ⊥
@@ -100,64 +132,88 @@ commanded c x = record c { agendas = tasked c.agendas x; given = c.given ++ x �
 
 -- ---- playing
 
--- these commands were done or refused, and the ring was quiet, after some of the events
+-- those of marked events that are marked, and the others
+abbrev pub marked_of : List (Bool × Event) → List Event
+marked_of events = map (λ e. e.1) (filter (λ e. e.0) events)
+
+abbrev pub unmarked_of : List (Bool × Event) → List Event
+unmarked_of events = map (λ e. e.1) (filter (λ e. not e.0) events)
+
+-- What clients asked of the member of that name and these events have done or refused, followed by what is left: each is
+-- a command of its own, and these are its commands in their order; or it was handed on to it, and is marked here, and these
+-- are what was handed on to it, in that order, none done before it was handed on. So none is there twice, and none is lacking.
+pub record Serves (w : World) (name : List ℕ) (events : List Event) (commands : List Command) (left : List Event) : Type 0 where
+  pub marked : List (Bool × Event)
+  pub all : map (λ e. e.1) marked ≡ client_events name events ++ left
+  pub own : unmarked_of marked ≡ asked name commands
+  pub handed_on : marked_of marked ≡ handed w name events
+  pub later : (count : ℕ) → count ≤ length events → length (marked_of (take (length (client_events name (take count events))) marked)) ≤ length (handed w name (take count events))
+
+-- Each member that is there after the events has done or refused its commands, and what was handed on to it; and nobody else has
+-- done or refused any.
+pub record HaveServed (w : World) (events : List Event) (commands : List Command) : Type 0 where
+  pub members : (i : ℕ) (name : List ℕ) → IsMemberIn (last w events) i name → Serves w name events commands []
+  pub nobody_else : (name : List ℕ) → ((i : ℕ) → IsMemberIn (last w events) i name → ⊥) → client_events name events ≡ []
+
+-- the members had done so with these commands, and the ring was quiet, after some of the events
 pub record HasSettled (credit : CreditSpec) (names : List (List ℕ)) (events : List Event) (commands : List Command) : Type 0 where
   pub count : ℕ
   pub within : count ≤ length events
   pub quiet : IsQuiet (state credit names (take count events))
-  pub done : (name : List ℕ) → client_events name (take count events) ≡ asked name commands
+  pub served : HaveServed (opening credit names) (take count events) commands
 
--- at each settling all earlier commands were done or refused, and the ring was quiet
+-- at each settling they had, with all earlier commands
 abbrev pub HasSettledEach : CreditSpec → List (List ℕ) → List Event → List Command → Type 0
 HasSettledEach credit names events given = (k : ℕ) → slice_get given k ≡ Some command.Settle → HasSettled credit names events (take k given)
 
--- The journal plays what was given: what each member has done and refused of what clients asked is its commands in their
--- order and nothing else, and at each settling all earlier commands were done or refused, and the ring was quiet.
+-- The journal plays what was given: what each member has done and refused of what clients asked is its commands, with what was
+-- handed on to it, and nothing else; and at each settling all earlier commands were done or refused, and the ring was quiet.
 pub record Plays (credit : CreditSpec) (names : List (List ℕ)) (events : List Event) (given : List Command) : Type 0 where
-  pub done : (name : List ℕ) → client_events name events ≡ asked name given
+  pub served : HaveServed (opening credit names) events given
   pub settled : HasSettledEach credit names events given
 
 -- The journal of a cluster plays what it was given so far: what each member has done and refused, followed by what it has
--- still to do, is what it was asked. A cluster on which `step` was never called does so.
+-- still to do, is what it was asked, and what was handed on to it. A cluster on which `step` was never called does so.
 pub record PlaysSoFar (c : Seen) : Type 0 where
-  pub asked : (name : List ℕ) → client_events name c.events ++ todo name (agenda_of c name) ≡ asked name c.given
+  pub serves : (name : List ℕ) → Serves (opening c.credit c.names) name c.events c.given (todo name (agenda_of c name))
   pub settled : HasSettledEach c.credit c.names c.events c.given
 
 -- ---- going on
 
--- The members have gone on: the journal has these events more, and what each member has done and refused in them, followed
--- by what it has still to do, is what it had to do.
+-- The members have gone on: the journal has these events more. What each has done and refused in them, followed by what it has
+-- still to do, is what it had to do, followed by what was handed on to it; none of that was done before it was handed on.
 pub record GoesOn (c d : Seen) (more : List Event) : Type 0 where
   pub credit : d.credit ≡ c.credit
   pub names : d.names ≡ c.names
-  pub agendas : names_of d.agendas ≡ names_of c.agendas
   pub events : d.events ≡ c.events ++ more
-  pub asked : (name : List ℕ) → client_events name more ++ todo name (agenda_of d name) ≡ todo name (agenda_of c name)
+  pub serves : (name : List ℕ) → client_events name more ++ todo name (agenda_of d name) ≡ todo name (agenda_of c name) ++ handed (state_of c) name more
+  pub later : (name : List ℕ) (count : ℕ) → count ≤ length more → length (client_events name (take count more)) ≤ length (agenda_of c name) + length (handed (state_of c) name (take count more))
 
 -- they have, by some events
 abbrev pub HasGoneOn : Seen → Seen → Type 0
 HasGoneOn c d = (more : List Event) × GoesOn c d more
 
--- this event has happened, and these tasks are left to the member of that name
+-- the agendas with what is handed on
+abbrev pub with_handed : List Plan → Option (List ℕ × List ℕ) → List Plan
+with_handed plans None = plans
+with_handed plans (Some h) = with_task plans h.0 (task.Admit h.1)
+
+-- this event has happened, what it hands on joins its agenda, and these tasks are left to the member of that name
 abbrev pub performed : Seen → List ℕ → Event → List Task → Seen
-performed c name e ts = record c { events = c.events ++ e ∷ []; agendas = with_tasks c.agendas name ts }
+performed c name e ts = record c { events = c.events ++ e ∷ []; agendas = with_tasks (with_handed c.agendas (handing (state_of c) e)) name ts }
 
 -- what was given and how many rounds were given a number stay
 abbrev pub SameGiven : Seen → Seen → Type 0
 SameGiven c d = (d.given ≡ c.given) × (d.rounds ≡ c.rounds)
 
--- the member of that name has begun with its agenda, where it had one
-abbrev pub HasBegun : List ℕ → Seen → Seen → Type 0
-HasBegun name c d = 0 < length (agenda_of c name) → length (agenda_of d name) < length (agenda_of c name)
+-- the member at a place, which has this name, has begun with its agenda, where it had something to do at once
+abbrev pub HasBegun : ℕ → List ℕ → Seen → Seen → Type 0
+HasBegun i name c d = IsDue c i name → length (client_events name c.events) < length (client_events name d.events)
 
--- no agenda has more on it
-abbrev pub NoneGrows : Seen → Seen → Type 0
-NoneGrows c d = (name : List ℕ) → length (agenda_of d name) ≤ length (agenda_of c name)
-
--- the head of the agenda of each member is among what was done or refused by these events
+-- of each member that had something to do at once these events have done or refused the head of its agenda
 abbrev pub HeadsAre : Seen → List Event → Type 0
-HeadsAre c more = (name : List ℕ) (t : Task) (ts : List Task) → agenda_of c name ≡ t ∷ ts → Contains (client_events name more) (task_event name t)
+HeadsAre c more = (i : ℕ) (name : List ℕ) (t : Task) (ts : List Task) → IsMemberIn (state_of c) i name → agenda_of c name ≡ t ∷ ts → IsDue c i name → Contains (client_events name more) (task_event name t)
 
--- nobody has anything left to do that it was asked
+-- no member has anything left to do that it was asked
 abbrev pub AgendasAreEmpty : Seen → Type 0
-AgendasAreEmpty c = (name : List ℕ) → agenda_of c name ≡ []
+AgendasAreEmpty c = (i : ℕ) (name : List ℕ) → IsMemberIn (state_of c) i name → agenda_of c name ≡ []

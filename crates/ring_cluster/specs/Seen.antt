@@ -7,7 +7,7 @@ use Rattle.ring_world.specs.declared.event.Event.{Event}
 use Rattle.ring_world.specs.Machine.{World, member_at}
 use Rattle.ring_world.specs.Step.{size, opening}
 use Rattle.ring_world.specs.Event.{IsRun, last, by_of}
-use Rattle.ring_cluster.specs.Agendas.{Plan, names_of, opened_plans}
+use Rattle.ring_cluster.specs.Agendas.{Plan}
 use Rattle.ring_cluster.specs.Parties.{Parties}
 use Rattle.ring_cluster.specs.Opened.{opened_parties}
 
@@ -18,6 +18,10 @@ state credit names events = last (opening credit names) events
 -- it is an event of the member at this place of a state, of the opening or joined
 abbrev pub IsEventIn : World → ℕ → Event → Type 0
 IsEventIn w i e = (i + 1 < size w) × (by_of e ≡ (member_at w (i + 1)).name)
+
+-- the member at this place of a state has this name
+abbrev pub IsMemberIn : World → ℕ → List ℕ → Type 0
+IsMemberIn w i name = (i + 1 < size w) × ((member_at w (i + 1)).name ≡ name)
 
 -- A cluster is seen as the names and the credit with which its ring opened, its journal, what each member has
 -- still to do, how many rounds were given a number, what it was given: the commands that it took
@@ -39,15 +43,13 @@ state_of c = state c.credit c.names c.events
 
 -- a cluster that has just opened: nothing has happened, and nobody has anything to do
 abbrev pub opening_seen : CreditSpec → List (List ℕ) → Seen
-opening_seen credit names = record { credit = credit; names = names; events = []; agendas = opened_plans names; rounds = 0; given = []; owes = false; shows = opened_parties credit names }
+opening_seen credit names = record { credit = credit; names = names; events = []; agendas = []; rounds = 0; given = []; owes = false; shows = opened_parties credit names }
 
--- what every cluster keeps of this: its journal is a run of the ring of fewer than 2^59 events, each member of the opening has an
--- agenda, and the count of rounds is a u32
+-- what every cluster keeps of this: its journal is a run of the ring of fewer than 2^59 events, and the count of rounds is a u32
 pub record IsGoing (c : Seen) : Type 0 where
   pub are : AreOpeningNames c.names
   pub run : IsRun (opening c.credit c.names) c.events
   pub few : length c.events < 2 ^ 59
-  pub agendas : names_of c.agendas ≡ c.names
   pub rounds : c.rounds < 2 ^ 32
 
 -- c, but that it owes a link or nothing

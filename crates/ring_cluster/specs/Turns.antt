@@ -4,7 +4,7 @@ use Rattle.std.specs.List.{All, filter}
 use Rattle.ring_names.specs.declared.memory.OutOfMemory.{OutOfMemory}
 use Rattle.ring_world.specs.declared.event.Event.{Event}
 use Rattle.ring_world.specs.declared.event.Event.TheVariants.{Put, Take, TakeEnd, Gain, Mark, Refresh, Pick, Erase}
-use Rattle.ring_world.specs.declared.phase.Phase.TheVariants.{Up}
+use Rattle.ring_world.specs.declared.phase.Phase.TheVariants.{Waiting, Up}
 use Rattle.ring_world.specs.Machine.{World, member_at, newest, right, runs}
 use Rattle.ring_world.specs.Step.{size}
 use Rattle.ring_world.specs.Event.{by_of, erase_refusal, refusal}
@@ -12,9 +12,10 @@ use Rattle.ring_cluster.specs.declared.driver.OwnStep.{OwnStep}
 use Rattle.ring_cluster.specs.declared.driver.OwnStep.TheVariants as step
 use Rattle.ring_cluster.specs.declared.driver.OwnTurn.{OwnTurn}
 use Rattle.ring_cluster.specs.declared.driver.OwnTurn.TheVariants as turn
-use Rattle.ring_cluster.specs.Seen.{Seen, state_of, SameButOwed}
+use Rattle.ring_cluster.specs.Seen.{Seen, state_of, IsMemberIn, SameButOwed}
 use Rattle.ring_world.specs.Work.{is_stale, total}
-use Rattle.ring_cluster.specs.Plays.{HasGoneOn, SameGiven, NoneGrows}
+use Rattle.ring_cluster.specs.Plays.{HasGoneOn, SameGiven, IsDue}
+use Rattle.ring_cluster.specs.Backlog.{backlog_of}
 
 -- the event of a step on its links, by the member of this name
 abbrev pub step_event : OwnStep → List ℕ → Event
@@ -26,18 +27,23 @@ step_event step.Put by = Put by
 
 -- the member at place i has this name
 abbrev pub IsMemberAt : Seen → ℕ → List ℕ → Type 0
-IsMemberAt c i name = (i + 1 < size (state_of c)) × ((member_at (state_of c) (i + 1)).name ≡ name)
+IsMemberAt c i name = IsMemberIn (state_of c) i name
 
 -- each member stays at its place, with its name
 abbrev pub MembersStay : Seen → Seen → Type 0
 MembersStay c d = (i : ℕ) (name : List ℕ) → IsMemberAt c i name → IsMemberAt d i name
 
--- members have taken turns: nobody has more to do than before that it was asked
+-- and none waits again that has ceased to wait
+abbrev pub NoneWaitsAgain : Seen → Seen → Type 0
+NoneWaitsAgain c d = (i : ℕ) → i + 1 < size (state_of c) → (member_at (state_of c) (i + 1)).phase ≢ Waiting → (member_at (state_of d) (i + 1)).phase ≢ Waiting
+
+-- members have taken turns: what is left of what clients asked isn't more than before
 pub record TakesRound (c d : Seen) : Type 0 where
   pub goes : HasGoneOn c d
   pub given : SameGiven c d
   pub stay : MembersStay c d
-  pub less : NoneGrows c d
+  pub begun : NoneWaitsAgain c d
+  pub less : backlog_of d ≤ backlog_of c
 
 -- they have done steps of their own, and their agendas stay
 pub record Works (c d : Seen) : Type 0 where
@@ -49,6 +55,17 @@ pub record DoesOrRests (c d : Seen) (rests : Type 0) (result : Result Bool OutOf
   pub works : Works c d
   pub falls : IfOk result (λ b. b ≡ true → total (state_of d) < total (state_of c))
   pub stays : IfOk result (λ b. b ≡ false → SameButOwed c d × rests)
+
+-- Members do or refuse what clients asked, or there is nothing that they do at once. Where any was done less is left; where none
+-- was, all stays and this holds.
+pub record FinishesOrRests (c d : Seen) (rests : Type 0) (result : Result Bool OutOfMemory) : Type 0 where
+  pub round : TakesRound c d
+  pub falls : IfOk result (λ b. b ≡ true → backlog_of d < backlog_of c)
+  pub stays : IfOk result (λ b. b ≡ false → SameButOwed c d × rests)
+
+-- no member has anything on its agenda that it does at once
+abbrev pub NothingIsDue : Seen → Type 0
+NothingIsDue c = (i : ℕ) (name : List ℕ) → IsMemberAt c i name → IsDue c i name → ⊥
 
 -- at most so many events have happened since, each of the member of that name
 abbrev pub DoesAtMost : ℕ → List ℕ → Seen → Seen → Type 0

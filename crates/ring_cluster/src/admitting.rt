@@ -1,5 +1,6 @@
 //! A member of the cluster admits another.
-ghost use Rattle.std.specs.Prelude.{◌≡◌, ◌≤◌, ◌<◌, ◌∷◌, ◌++◌, [], true, IsSome, IfOk, OnOk, None, vec_len, vec_capacity};
+ghost use Rattle.std.specs.Prelude.{◌≡◌, ◌≤◌, ◌<◌, ◌∷◌, ◌++◌, [], true, IsSome, IfOk, OnOk, None};
+ghost use Rattle.std.specs.Vec.{vec_len, vec_capacity};
 ghost use Rattle.group_view.specs.Change.{admitted, admit_refusal as group_refusal};
 ghost use Rattle.group_view.specs.Ring.{is_in};
 ghost use Rattle.ring_world.specs.Rows.{most_members};

@@ -1,10 +1,8 @@
 //! The cluster.
-ghost use Rattle.std.specs.Prelude.{◌≡◌, ℕ, ◌<◌, ◌∷◌, ◌++◌, [], List, IfOk, IfSome};
-ghost use Rattle.std.specs.Prelude.{bytes_eq, length, vec_len, vec_capacity};
-ghost use Rattle.ring_cluster.specs.Agendas.{place_among as the_place};
-ghost use Rattle.ring_cluster.specs.Plays.{IsCommandTo, IsTaskOf};
+ghost use Rattle.std.specs.Prelude.{◌≡◌, ℕ, ◌<◌, ◌∷◌, ◌++◌, [], List, IfOk, vec_len, vec_capacity};
+ghost use Rattle.ring_cluster.specs.Plays.{IsOfMember, IsTaskOf};
 
-use crate::agenda::{self, Agenda, Task};
+use crate::agenda::{Agendas, Task};
 use crate::driver::{OwnStep, drain, round};
 use crate::node::Node;
 use crate::numbering::Rounds;
@@ -15,7 +13,7 @@ use group_view::View;
 use ring_io::Gate;
 use ring_names::{Body, CreditSpec, MemberId, Name, OutOfMemory, Reason};
 use ring_script::Command;
-use ring_world::{Event, Phase, Refused};
+use ring_world::{Client, Event, Phase, Refused};
 use std::alloc::Global;
 use std::marker::Model;
 use std::thread::Threads;
@@ -35,7 +33,7 @@ pub struct Cluster {
     credit: CreditSpec,
     names: Vec<Name>,
     parties: Parties,
-    agendas: Vec<Agenda>,
+    agendas: Agendas,
     journal: Vec<Event>,
     rounds: Rounds,
     given: Vec<Command>,
@@ -55,7 +53,7 @@ impl Model for Cluster {
 
 impl Cluster {
     ghost use Rattle.std.specs.Prelude.{◌≡◌, ◌↔◌, ◌≢◌, ◌⊎◌, ℕ, ◌+◌, ◌-◌, ◌<◌, ◌≤◌, ◌^◌, ◌∷◌, ◌++◌, [], List, true};
-    ghost use Rattle.std.specs.Prelude.{false, Some, None, Err, IsTrue, IsSome, MatchOption, IfSome, IfOk, IfErr};
+    ghost use Rattle.std.specs.Prelude.{false, Some, None, Err, IsSome, is_some, MatchOption, IfSome, IfOk, IfErr};
     ghost use Rattle.std.specs.Prelude.{OnOk, OnErr, length, map, replicate, min, not, drop, slice_set, slice_index_or};
     ghost use Rattle.ring_names.specs.declared.reason.Reason.{Reason};
     ghost use Rattle.ring_script.specs.declared.command.Command.{Command};
@@ -77,10 +75,11 @@ impl Cluster {
     ghost use Rattle.ring_cluster.specs.Seen.{Seen, IsGoing, IsEventIn, SameButOwed, MayHandOver, state_of};
     ghost use Rattle.ring_cluster.specs.Seen.{IsStepped, opening_seen, with_event, owing};
     ghost use Rattle.ring_cluster.specs.declared.agenda.Task.{Task};
-    ghost use Rattle.ring_cluster.specs.Plays.{PlaysSoFar, Plays, IsDoneBy, IsCommandTo, commanded};
-    ghost use Rattle.ring_cluster.specs.Agendas.{place_among, with_tasks};
-    ghost use Rattle.ring_cluster.specs.Plays.{performed, agenda_of, GoesOn, HasGoneOn, HasBegun, HeadsAre};
-    ghost use Rattle.ring_cluster.specs.Plays.{AgendasAreEmpty};
+    ghost use Rattle.ring_cluster.specs.Plays.{PlaysSoFar, Plays, IsOfMember, commanded, takes_up as is_taken_up};
+    ghost use Rattle.ring_cluster.specs.Agendas.{Plan, names_of, place_among, with_tasks, with_task};
+    ghost use Rattle.ring_cluster.specs.Plays.{performed, with_handed, answer_to, agenda_of, GoesOn, HasGoneOn};
+    ghost use Rattle.ring_cluster.specs.Plays.{HasBegun, HeadsAre, IsDue, AgendasAreEmpty};
+    ghost use Rattle.ring_cluster.specs.Handed.{handing as is_handed, heir as the_heir};
     ghost use Rattle.ring_cluster.specs.Turns.{MayStep, TakesRound, EachDoesAtMost, IsMemberAt};
     ghost use Rattle.ring_cluster.specs.Rounds.{more_rounds, GivesNumbers};
 
@@ -105,38 +104,30 @@ impl Cluster {
     {
         let parties = Parties::opening(alloc, members, credit)?;
         let names = copied(alloc, members)?;
-        let agendas = agenda::opening(alloc, members)?;
         Ok(Cluster {
             alloc,
             credit,
             names,
             parties,
-            agendas,
+            agendas: Agendas::none(alloc),
             journal: Vec::new(alloc),
             rounds: Rounds::none(),
             given: Vec::new(alloc),
         })
     }
 
-    /// A law of every cluster: its journal is a run of the ring from its opening, and each member of the opening has
-    /// an agenda.
+    /// A law of every cluster: its journal is a run of the ring from its opening.
     pub fn is_going(&self)
         ensures { IsGoing self.now }
     {
         let _ = self.rounds.count();
     }
 
-    /// Whether the ring has a member of that name.
-    pub fn has_member(&self, name: &Name) -> bool
-        ensures { IsTrue result ↔ IsSome (place_among (self.now).names name.now) }
-    {
-        the_place_among(&self.names, name).is_some()
-    }
-
-    /// A command of a member joins the end of its agenda. Want of memory hands the command back. The
-    /// caller gives a command of a member of the ring.
+    /// A command of a member joins the end of its agenda, also of one that is still to join: its commands wait until
+    /// it has its state, and are never done where it never joins. Want of memory hands the command back. The caller
+    /// gives a command of a member, not of the whole ring.
     pub fn command(&mut self, command: Command) -> Result<(), (Command, OutOfMemory)>
-        requires { IsCommandTo (self.old).names command }
+        requires { IsOfMember command }
         ensures ok { OnOk result (self.new ≡ commanded self.old command) }
         ensures plays { OnOk result (PlaysSoFar self.old → PlaysSoFar self.new) }
         ensures err { OnErr result (self.new ≡ self.old) }
@@ -148,7 +139,7 @@ impl Cluster {
     }
 
     fn take_command(&mut self, command: Command) -> Result<(), (Command, OutOfMemory)>
-        requires { IsCommandTo (self.old).names command }
+        requires { IsOfMember command }
         ensures ok { OnOk result (self.new ≡ commanded self.old command) }
         ensures err { OnErr result (self.new ≡ self.old) }
         ensures back { IfErr result (λ e. e.0 ≡ command) }
@@ -159,7 +150,7 @@ impl Cluster {
         if self.given.reserve(1).is_err() {
             return Err((command, OutOfMemory));
         }
-        if agenda::give_task(&mut self.agendas, &name, task).is_err() {
+        if self.agendas.give(self.alloc, &name, task).is_err() {
             return Err((command, OutOfMemory));
         }
         push_reserved(&mut self.given, command);
@@ -264,60 +255,169 @@ impl Cluster {
         self.parties.hand_over()
     }
 
-    /// The member at a place, which has this name, does the first of its tasks, or refuses it where it has stopped:
-    /// whether it had one.
+    /// The member at a place, which has this name, does the first of its tasks, or refuses it where the ring does:
+    /// whether it had one that it does at once. A join that it refuses since it has stopped is handed on.
     #[tactic(auto, using(crate::proofs::post::Owed::but_refl, crate::proofs::post::Owed::but_handed))]
     pub(crate) fn perform(&mut self, place: usize, name: &Name) -> Result<bool, OutOfMemory>
         requires { IsMemberAt self.old place name.now }
-        ensures done { IfOk result (λ b. b ≡ true → (t : Task) × (ts : List Task) × (e : Event)
+        ensures done { IfOk result (λ b. b ≡ true → (t : Task) × (ts : List Task)
             × (agenda_of self.old name.now ≡ t ∷ ts)
-            × IsDoneBy name.now t e × (refusal (state_of self.old) e ≡ None)
-            × SameButOwed (performed self.old name.now e ts) self.new) }
+            × (refusal (state_of self.old) (answer_to (state_of self.old) name.now t) ≡ None)
+            × SameButOwed (performed self.old name.now (answer_to (state_of self.old) name.now t) ts) self.new) }
         ensures none { IfOk result (λ b. b ≡ false → SameButOwed self.old self.new
-            × (agenda_of self.old name.now ≡ [])) }
+            × (IsDue self.old place name.now → ⊥)) }
         ensures err { OnErr result (SameButOwed self.old self.new) }
     {
         self.is_going();
         let Some(event) = self.next_event(place, name)? else {
             return Ok(false);
         };
-        match self.happen(place, &event) {
-            Ok(()) => {
-                self.strike_off(name);
-                Ok(true)
+        self.answer(place, &event)?;
+        self.strike_off(name);
+        Ok(true)
+    }
+
+    /// A member answers a client: this event happens, and what it hands on joins its agenda.
+    fn answer(&mut self, place: usize, event: &Event) -> Result<(), OutOfMemory>
+        requires at { IsEventIn (state_of self.old) place event.now }
+        requires enabled { refusal (state_of self.old) event.now ≡ None }
+        ensures ok { OnOk result (SameButOwed (record (with_event self.old event.now) {
+          agendas = with_handed (self.old).agendas (is_handed (state_of self.old) event.now);
+        }) self.new) }
+        ensures err { OnErr result (SameButOwed self.old self.new) }
+    {
+        let Some((heir, newcomer)) = self.handing(event) else {
+            self.happen_enabled(place, event)?;
+            return Ok(());
+        };
+        let had_one = self.agendas.has(&heir);
+        self.give(&heir, Task::Admit(newcomer))?;
+        match self.happen_enabled(place, event) {
+            Ok(()) => Ok(()),
+            Err(OutOfMemory) => {
+                self.take_back(&heir, had_one);
+                Err(OutOfMemory)
             }
+        }
+    }
+
+    /// An event happens that is enabled.
+    fn happen_enabled(&mut self, place: usize, event: &Event) -> Result<(), OutOfMemory>
+        requires at { IsEventIn (state_of self.old) place event.now }
+        requires enabled { refusal (state_of self.old) event.now ≡ None }
+        ensures ok { OnOk result (SameButOwed (with_event self.old event.now) self.new) }
+        ensures err { OnErr result (SameButOwed self.old self.new) }
+    {
+        match self.happen(place, event) {
+            Ok(()) => Ok(()),
             Err(Refused::NotEnabled(_)) => unreachable!(),
             Err(Refused::OutOfMemory) => Err(OutOfMemory),
         }
     }
 
-    /// The event by which the member at a place does or refuses the first of its tasks, where it has one.
+    /// A task joins the end of the agenda of that name.
+    fn give(&mut self, name: &Name, task: Task) -> Result<(), OutOfMemory>
+        ensures ok { OnOk result (self.new ≡ record self.old { agendas = with_task (self.old).agendas name.now task }) }
+        ensures err { OnErr result (self.new ≡ self.old) }
+    {
+        self.agendas.give(self.alloc, name, task)
+    }
+
+    /// The task is taken back that was given last, to the agenda of that name, which it had before or not.
+    fn take_back(&mut self, name: &Name, had_one: bool)
+        ensures { (plans : List Plan) (t : Task) → (self.old).agendas ≡ with_task plans name.now t
+            → had_one ≡ is_some (place_among (names_of plans) name.now)
+            → self.new ≡ record self.old { agendas = plans } }
+    {
+        self.agendas.take_back(name, had_one);
+    }
+
+    /// To whom an event hands a join on, and the name that is to join.
+    fn handing(&self, event: &Event) -> Option<(Name, Name)>
+        ensures { result ≡ is_handed (state_of self.now) event.now }
+    {
+        match event {
+            Event::Refuse {
+                code,
+                inner: Client::Admit { by: _, name },
+            } if *code == Reason::Stopped.code() => {
+                let heir = self.heir()?;
+                Some((heir, *name))
+            }
+            _ => None,
+        }
+    }
+
+    /// The running member of least id.
+    fn heir(&self) -> Option<Name>
+        ensures { result ≡ the_heir (state_of self.now) }
+    {
+        self.is_going();
+        let count = self.count();
+        for place in 0..count {
+            if self.runs(MemberId(place as u32 + 1)) {
+                return Some(self.name_at(place));
+            }
+        }
+        None
+    }
+
+    /// The event by which the member at a place does or refuses the first of its tasks, where it has one that it does
+    /// at once.
     fn next_event(&self, place: usize, name: &Name) -> Result<Option<Event>, OutOfMemory>
         requires { IsMemberAt self.now place name.now }
-        ensures { IfOk result (λ next. MatchOption next (agenda_of self.now name.now ≡ [])
+        ensures { IfOk result (λ next. MatchOption next (IsDue self.now place name.now → ⊥)
             (λ event. (t : Task) × (ts : List Task) × (agenda_of self.now name.now ≡ t ∷ ts)
-            × IsDoneBy name.now t event × (refusal (state_of self.now) event ≡ None))) }
+            × (event ≡ answer_to (state_of self.now) name.now t) × (refusal (state_of self.now) event ≡ None))) }
     {
-        let Some(task) = agenda::next_task(&self.agendas, name) else {
+        let Some(task) = self.agendas.next_task(name) else {
             return Ok(None);
         };
+        if !self.takes_up(place, task) {
+            return Ok(None);
+        }
         let event = self.event_of(place, name, task)?;
         Ok(Some(event))
     }
 
-    /// The event by which the member at a place, which has an agenda, does a task, or refuses it where it has stopped.
+    /// Whether the member at a place does a task at once: one that waits leaves all but its stop.
+    fn takes_up(&self, place: usize, task: &Task) -> bool
+        requires { place + 1 < size (state_of self.now) }
+        ensures { result ≡ is_taken_up (member_at (state_of self.now) (place + 1)).phase task.now }
+    {
+        self.is_going();
+        let Some(member) = self.member(MemberId(place as u32 + 1)) else {
+            unreachable!()
+        };
+        match member.phase() {
+            Phase::Waiting => task.is_stop(),
+            Phase::Up => true,
+            Phase::Stopped => true,
+        }
+    }
+
+    /// The event by which the member at a place, which has this name, does a task that it takes up, or refuses it.
     fn event_of(&self, place: usize, name: &Name, task: &Task) -> Result<Event, OutOfMemory>
         requires at { IsMemberAt self.now place name.now }
-        requires agenda { agenda_of self.now name.now ≢ [] }
-        ensures does { IfOk result (λ event. IsDoneBy name.now task.now event) }
+        requires takes { is_taken_up (member_at (state_of self.now) (place + 1)).phase task.now ≡ true }
+        ensures does { IfOk result (λ event. event ≡ answer_to (state_of self.now) name.now task.now) }
         ensures enabled { IfOk result (λ event. refusal (state_of self.now) event ≡ None) }
     {
         self.is_going();
-        if self.runs(MemberId(place as u32 + 1)) {
-            task.event(name)
-        } else {
-            task.refused(name)
+        let event = task.event(name)?;
+        match self.refusal(place, &event) {
+            None => Ok(event),
+            Some(reason) => task.refused(name, reason),
         }
+    }
+
+    /// Why the ring refuses an event of the member at a place.
+    fn refusal(&self, place: usize, event: &Event) -> Option<Reason>
+        requires { IsEventIn (state_of self.now) place event.now }
+        ensures { result ≡ refusal (state_of self.now) event.now }
+    {
+        self.is_going();
+        self.parties.refusal(place, event)
     }
 
     /// Whether the member of an id runs.
@@ -350,7 +450,7 @@ impl Cluster {
     pub(crate) fn has_task(&self, name: &Name) -> bool
         ensures { result ≡ not (is_empty (agenda_of self.now name.now)) }
     {
-        agenda::next_task(&self.agendas, name).is_some()
+        self.agendas.next_task(name).is_some()
     }
 
     /// The first task of the member of that name is done.
@@ -359,7 +459,7 @@ impl Cluster {
           agendas = with_tasks (self.old).agendas name.now (drop 1 (agenda_of self.old name.now));
         } }
     {
-        agenda::strike_off(&mut self.agendas, name);
+        self.agendas.strike_off(name);
     }
 
     /// The name of the member at a place.
@@ -390,8 +490,11 @@ impl Cluster {
     }
 
     /// One round: each member that runs or has a task takes at least one and at most so many turns, the first of which
-    /// does the head of its agenda, where it has one, or refuses it where the member has stopped; after it nothing is
-    /// owed. Before and after each turn the gate is passed. Want of memory leaves what has happened.
+    /// does the head of its agenda, where it has one, or refuses it where the ring does; one that waits for its state
+    /// leaves its agenda, but stops at once where that is to be done next. A join that a member refuses since it has
+    /// stopped goes to the end of the agenda of the running member of least id. Who joins in a round takes turns from
+    /// the next one on. After it nothing is owed. Before and after each turn the gate is passed. Want of memory leaves
+    /// what has happened.
     pub fn go<T: Threads, G: Gate>(
         &mut self,
         threads: &T,
@@ -427,7 +530,8 @@ impl Cluster {
         requires { 1 ≤ turns }
         ensures round { TakesRound self.old self.new }
         ensures few { EachDoesAtMost turns self.old self.new }
-        ensures begun { OnOk result ((name : List ℕ) → HasBegun name self.old self.new) }
+        ensures begun { OnOk result ((i : ℕ) (name : List ℕ) → IsMemberAt self.old i name
+            → HasBegun i name self.old self.new) }
         ensures delivered { OnOk result ((self.new).owes ≡ false) }
     {
         round(self, turns, gate)?;
@@ -435,10 +539,10 @@ impl Cluster {
         Ok(())
     }
 
-    /// Rounds of 16 turns until one does nothing, 64 at most, and then a drain: each member does all of its agenda, or
-    /// refuses it where it has stopped, and the ring works and repairs itself until no member has anything left to do.
-    /// Then it is quiet: who has died is erased, where anybody runs. Each round has a number, and so has the drain.
-    /// After it nothing is owed. Want of memory leaves what has happened.
+    /// Rounds of 16 turns until one does nothing, 64 at most, and then a drain: the ring works and repairs itself, and
+    /// each member does all of its agenda, or refuses it, who joins too, until no member has anything left to do. Then
+    /// it is quiet: where anybody runs, nobody waits, and who has died is erased. Each round has a number, and so has
+    /// the drain. After it nothing is owed. Want of memory leaves what has happened.
     pub fn settle<T: Threads, G: Gate>(&mut self, threads: &T, gate: &G) -> Result<(), OutOfMemory>
         ensures goes { HasGoneOn self.old self.new }
         ensures empty { OnOk result (AgendasAreEmpty self.new) }
@@ -478,6 +582,7 @@ impl Cluster {
         ensures rounds { OnOk result (GivesNumbers 2 65 self.old self.new) }
         ensures rounds_begun { OnErr result (GivesNumbers 1 65 self.old self.new) }
         ensures delivered { OnOk result ((self.new).owes ≡ false) }
+        ensures going { OnOk result (IsGoing self.new) }
     {
         self.work_rounds(gate)?;
         self.number_round();
@@ -639,28 +744,15 @@ fn copied_events(alloc: Global, events: &[Event]) -> Result<Vec<Event>, OutOfMem
 
 /// Whom a command asks, and for which task.
 fn task_of(command: &Command) -> Result<(Name, Task), OutOfMemory>
-    requires { (names : List (List ℕ)) × IsCommandTo names command.now }
+    requires { IsOfMember command.now }
     ensures { IfOk result (λ r. IsTaskOf command.now r.0 r.1) }
 {
     match command {
         Command::Cast { by, body } => Ok((*by, Task::Cast(body.copy()?))),
+        Command::Join { by, name } => Ok((*by, Task::Admit(*name))),
         Command::Kill { by } => Ok((*by, Task::Stop)),
         Command::Go { .. } | Command::Settle => unreachable!(),
     }
-}
-
-/// The place of a name.
-pub(crate) fn the_place_among(names: &[Name], name: &Name) -> Option<usize>
-    ensures place { result ≡ the_place names.now name.now }
-    ensures within { IfSome result (λ place. place < length names.now) }
-{
-    names.iter().position(|other| is_same(other, name))
-}
-
-fn is_same(one: &Name, other: &Name) -> bool
-    ensures { result ≡ bytes_eq one.now other.now }
-{
-    one.bytes() == other.bytes()
 }
 
 /// A push for which there is room.

@@ -13,6 +13,7 @@ ghost use Rattle.ring_cluster.specs.Plays.{agenda_of, HasBegun, AgendasAreEmpty}
 ghost use Rattle.ring_cluster.specs.Turns.{step_event, Works, DoesOrRests, TakesRound, IsMemberAt};
 ghost use Rattle.ring_cluster.specs.Turns.{MayStep, MayStepNowhere, MarksNoneAt, ErasesNoneAt, RestsAt, DoesAtMost};
 ghost use Rattle.ring_cluster.specs.Turns.{EachDoesAtMost, HasTurn, turn_event, RepairsNothing};
+ghost use Rattle.ring_cluster.specs.Turns.{FinishesOrRests, NothingIsDue};
 
 use crate::cluster::Cluster;
 use group_view::{Entry, Mark};
@@ -320,14 +321,14 @@ fn work_turn(cluster: &mut Cluster, place: usize) -> Result<bool, OutOfMemory>
     Ok(did)
 }
 
-/// The member at a place, which has this name, takes a turn: it does the head of its agenda, or refuses it where it has
-/// stopped; else a step of its own. Whether it did any.
+/// The member at a place, which has this name, takes a turn: it does the head of its agenda, or refuses it, where it
+/// has one that it does at once; else a step of its own. Whether it did any.
 #[tactic(auto, using(crate::proofs::rounds::Turning::one_turn))]
 fn turn(cluster: &mut Cluster, place: usize, name: &Name) -> Result<bool, OutOfMemory>
     requires { IsMemberAt cluster.old place name.now }
     ensures round { TakesRound cluster.old cluster.new }
     ensures once { DoesAtMost 1 name.now cluster.old cluster.new }
-    ensures begun { OnOk result (HasBegun name.now cluster.old cluster.new) }
+    ensures begun { OnOk result (HasBegun place name.now cluster.old cluster.new) }
 {
     cluster.is_going();
     if cluster.perform(place, name)? {
@@ -350,7 +351,7 @@ fn turns_of<G: Gate>(
     requires some { 1 ≤ turns }
     ensures round { TakesRound cluster.old cluster.new }
     ensures few { DoesAtMost turns name.now cluster.old cluster.new }
-    ensures begun { OnOk result (HasBegun name.now cluster.old cluster.new) }
+    ensures begun { OnOk result (HasBegun place name.now cluster.old cluster.new) }
 {
     cluster.is_going();
     if !has_turns(cluster, place, name) {
@@ -404,7 +405,7 @@ fn gated_turn<G: Gate>(
     requires { IsMemberAt cluster.old place name.now }
     ensures round { TakesRound cluster.old cluster.new }
     ensures once { DoesAtMost 1 name.now cluster.old cluster.new }
-    ensures begun { OnOk result (HasBegun name.now cluster.old cluster.new) }
+    ensures begun { OnOk result (HasBegun place name.now cluster.old cluster.new) }
 {
     cluster.is_going();
     let who = MemberId(place as u32 + 1);
@@ -425,7 +426,8 @@ pub(crate) fn round<G: Gate>(cluster: &mut Cluster, turns: u32, gate: &G) -> Res
     requires { 1 ≤ turns }
     ensures round { TakesRound cluster.old cluster.new }
     ensures few { EachDoesAtMost turns cluster.old cluster.new }
-    ensures begun { OnOk result ((name : List ℕ) → HasBegun name cluster.old cluster.new) }
+    ensures begun { OnOk result ((i : ℕ) (name : List ℕ) → IsMemberAt cluster.old i name
+        → HasBegun i name cluster.old cluster.new) }
 {
     cluster.is_going();
     let count = cluster.count();
@@ -436,34 +438,33 @@ pub(crate) fn round<G: Gate>(cluster: &mut Cluster, turns: u32, gate: &G) -> Res
     Ok(())
 }
 
-/// The member at a place does all its tasks, or refuses them where it has stopped.
-#[tactic(auto, using(crate::proofs::rounds::Turning::tasks))]
-fn finish(cluster: &mut Cluster, place: usize, name: &Name) -> Result<(), OutOfMemory>
-    requires { IsMemberAt cluster.old place name.now }
-    ensures round { TakesRound cluster.old cluster.new }
-    ensures done { OnOk result (agenda_of cluster.new name.now ≡ []) }
+/// Every member does the first of its tasks, or refuses it, where it has one that it does at once: whether any did.
+fn perform_each(cluster: &mut Cluster) -> Result<bool, OutOfMemory>
+    ensures { FinishesOrRests cluster.old cluster.new (NothingIsDue cluster.old) result }
 {
-    'tasks: loop {
+    let count = cluster.count();
+    let mut moved = false;
+    for place in 0..count {
         cluster.is_going();
-        if !cluster.perform(place, name)? {
-            return Ok(());
-        }
+        let name = cluster.name_at(place);
+        let did = cluster.perform(place, &name)?;
+        moved = either(moved, did);
     }
+    Ok(moved)
 }
 
-/// Every member does all its tasks, or refuses them.
-#[tactic(auto, using(crate::proofs::rounds::Turning::all_tasks))]
-fn finish_all(cluster: &mut Cluster) -> Result<(), OutOfMemory>
-    ensures round { TakesRound cluster.old cluster.new }
-    ensures empty { OnOk result (AgendasAreEmpty cluster.new) }
+/// Every member does all its tasks, or refuses them, but those that one leaves that waits: whether there were any.
+fn finish_all(cluster: &mut Cluster) -> Result<bool, OutOfMemory>
+    ensures { FinishesOrRests cluster.old cluster.new (NothingIsDue cluster.old) result }
 {
-    cluster.is_going();
-    let count = cluster.count();
-    for place in 0..count {
-        let name = cluster.name_at(place);
-        finish(cluster, place, &name)?;
+    if !perform_each(cluster)? {
+        return Ok(false);
     }
-    Ok(())
+    'tasks: loop {
+        if !perform_each(cluster)? {
+            return Ok(true);
+        }
+    }
 }
 
 fn either(one: bool, other: bool) -> bool
@@ -502,7 +503,8 @@ fn work_out(cluster: &mut Cluster) -> Result<(), OutOfMemory>
     }
 }
 
-/// All tasks are done or refused, and then all members work.
+/// The members work, and all tasks are done or refused, in turns until there are none: who joins takes up its state
+/// while the others work.
 #[tactic(auto, using(crate::proofs::rounds::Turning::draining))]
 pub(crate) fn drain(cluster: &mut Cluster) -> Result<(), OutOfMemory>
     ensures round { TakesRound cluster.old cluster.new }
@@ -511,7 +513,11 @@ pub(crate) fn drain(cluster: &mut Cluster) -> Result<(), OutOfMemory>
     ensures marks { OnOk result (MarksNobody (state_of cluster.new)) }
     ensures erases { OnOk result (ErasesNobody (state_of cluster.new)) }
 {
-    finish_all(cluster)?;
-    work_out(cluster)?;
-    Ok(())
+    'drains: loop {
+        work_out(cluster)?;
+        cluster.is_going();
+        if !finish_all(cluster)? {
+            return Ok(());
+        }
+    }
 }

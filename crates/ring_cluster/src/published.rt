@@ -1,13 +1,13 @@
 //! What each member has published, read of the journal.
 ghost use Rattle.std.specs.Prelude.{◌≡◌, ◌<◌, ◌∷◌, ◌++◌, [], List, length, map, IfOk, OnOk};
-ghost use Rattle.std.specs.Prelude.{slice_set, slice_index_or};
+ghost use Rattle.std.specs.Prelude.{slice_set, slice_index_or, bytes_eq, IfSome};
 ghost use Rattle.ring_names.specs.declared.message.Message.TheVariants as message;
 ghost use Rattle.group_view.specs.Change.{AreDifferent};
 ghost use Rattle.ring_world.specs.declared.event.Event.{Event};
 ghost use Rattle.ring_world.specs.Published.{published_in};
+ghost use Rattle.ring_cluster.specs.Agendas.{place_among};
 ghost use Rattle.ring_cluster.specs.Published.{logs_in};
 
-use crate::cluster::the_place_among;
 use ring_names::{Body, Name, OutOfMemory};
 use ring_world::Event;
 use std::alloc::Global;
@@ -75,4 +75,18 @@ fn push_at<'a>(
     let bodies = &mut all[place];
     bodies.push(body)?;
     Ok(())
+}
+
+/// The place of a name.
+fn the_place_among(names: &[Name], name: &Name) -> Option<usize>
+    ensures place { result ≡ place_among names.now name.now }
+    ensures within { IfSome result (λ place. place < length names.now) }
+{
+    names.iter().position(|other| is_same(other, name))
+}
+
+fn is_same(one: &Name, other: &Name) -> bool
+    ensures { result ≡ bytes_eq one.now other.now }
+{
+    one.bytes() == other.bytes()
 }

@@ -46,7 +46,7 @@ pub record AreNames (names : List (List ℕ)) : Type 0 where
   pub different : AreDifferent names
   pub all : All IsName names
 
-further_by : (n a f : Bool) → (if not n then Some BadName else (if a then Some NameTaken else (if f then Some TooManyMembers else None))) ≡ None → (n ≡ true) × (a ≡ false) × (f ≡ false)
+pub further_by : (n a f : Bool) → (if not n then Some BadName else (if a then Some NameTaken else (if f then Some TooManyMembers else None))) ≡ None → (n ≡ true) × (a ≡ false) × (f ≡ false)
 further_by false a f h = cc
 further_by true true f h = cc
 further_by true false true h = cc
@@ -54,6 +54,10 @@ further_by true false false h = (refl, refl, refl)
 
 different_from : (names : List (List ℕ)) (word : List ℕ) (j : ℕ) → is_among names word ≡ false → j < length names → get_or names j [] ≡ word → ⊥
 different_from names word j new l e = both_ways _ new (list_any_at (λ other. bytes_eq other word) names j [] l (equal_bytes (get_or names j []) word e))
+
+-- it is none of them
+pub new_name : (names : List (List ℕ)) (word : List ℕ) → is_among names word ≡ false → Contains names word → ⊥
+new_name names word new there = both_ways _ new (list_any_at (λ other. bytes_eq other word) names there.0 word there.1 (equal_bytes (get_or names there.0 word) word there.2))
 
 different_push : (names : List (List ℕ)) (word : List ℕ) → AreDifferent names → is_among names word ≡ false → AreDifferent (names ++ word ∷ [])
 different_push names word d new j k a b e =
@@ -70,7 +74,7 @@ different_push names word d new j k a b e =
     (cases_lt j (length names))
 
 -- a right further name
-further_right : (names : List (List ℕ)) (word : List ℕ) → AreNames names → further_fault names word ≡ None → AreNames (names ++ word ∷ [])
+pub further_right : (names : List (List ℕ)) (word : List ℕ) → AreNames names → further_fault names word ≡ None → AreNames (names ++ word ∷ [])
 further_right names word h e =
     let is = further_by (is_name word) (is_among names word) (nat_le 64 (length names)) e in
     let room : length names < 64 = (let full = is.2 in grind (arith, nat_tests)) in

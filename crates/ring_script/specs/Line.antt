@@ -153,18 +153,20 @@ credit_in rest = (unwrap_or (number_of most_credit (operand_in rest)) 0, unwrap_
 
 -- ---- a line
 
--- what is wrong with a statement, by the members named before it, its first word and its rest
-abbrev pub Grammar : Type 0
-Grammar = List (List ℕ) → List ℕ → List ℕ → Option Kind
+-- What is wrong with a statement, by the names that are known before it, its first word and its rest; and the names that such
+-- a line has join, which are known behind it.
+pub record Grammar : Type 0 where
+  pub fault : List (List ℕ) → List ℕ → List ℕ → Option Kind
+  pub joins : List ℕ → List ℕ → List (List ℕ)
 
 -- what is wrong with a line that has a word: the first used one names the members, the next may give a credit, and each
 -- further one is a statement
 abbrev pub fault_by : Grammar → Next → Head → List (List ℕ) → List ℕ → List ℕ → Option Kind
-fault_by grammar next.Opening head.Members members word rest = members_fault (words_of rest)
-fault_by grammar next.Opening _ members word rest = Some NoMembers
-fault_by grammar next.Credit head.Credit members word rest = credit_fault (words_of rest)
-fault_by grammar _ head.Statement members word rest = grammar members word rest
-fault_by grammar _ _ members word rest = Some Misplaced
+fault_by grammar next.Opening head.Members known word rest = members_fault (words_of rest)
+fault_by grammar next.Opening _ known word rest = Some NoMembers
+fault_by grammar next.Credit head.Credit known word rest = credit_fault (words_of rest)
+fault_by grammar _ head.Statement known word rest = grammar.fault known word rest
+fault_by grammar _ _ known word rest = Some Misplaced
 
 -- what is wrong with a line before its words are read
 abbrev pub text_fault : List ℕ → Option Kind
@@ -175,8 +177,8 @@ text_fault line =
 
 -- what is wrong with a line: its length is judged, then its bytes, and then what it says, if it isn't skipped
 abbrev pub fault_of : Grammar → Next → List (List ℕ) → List ℕ → Option Kind
-fault_of grammar next members line =
-    option_or (text_fault line) (if is_skipped line then None else fault_by grammar next (head_in line) members (first_word line) (behind_word line))
+fault_of grammar next known line =
+    option_or (text_fault line) (if is_skipped line then None else fault_by grammar next (head_in line) known (first_word line) (behind_word line))
 
 -- ---- what is read of a line
 

@@ -1,6 +1,6 @@
 -- What a text says as a script or a step file, or the first fault in it.
-use Rattle.std.specs.Prelude.{◌≡◌, ◌⊎◌, ℕ, ◌+◌, ◌<◌, ◌≤◌, not, Option, Some, None, List, [], ◌∷◌, length, take, map, All, Contains, ⊤}
-use Rattle.std.specs.List.{filter, enumerate_from, slice_index_or}
+use Rattle.std.specs.Prelude.{◌≡◌, ◌⊎◌, ℕ, ◌+◌, ◌<◌, ◌≤◌, not, Option, Some, None, List, [], ◌∷◌, ◌++◌, length, take, map, All, Contains, ⊤}
+use Rattle.std.specs.List.{filter, flat_map, enumerate_from, slice_index_or}
 use Rattle.ring_names.specs.Name.{IsName}
 use Rattle.ring_names.specs.Body.{IsBody}
 use Rattle.ring_world.specs.declared.event.Event.{Event}
@@ -16,8 +16,8 @@ use Rattle.ring_script.specs.declared.line.Next.TheVariants as next
 use Rattle.ring_script.specs.declared.text.Text.{Text}
 use Rattle.ring_script.specs.Words.{lines_of, words_of, first_word, behind_word}
 use Rattle.ring_script.specs.Fault.{code_of}
-use Rattle.ring_script.specs.Line.{Grammar, is_skipped, head_in, is_statement, credit_in, fault_of}
-use Rattle.ring_script.specs.Script.{script_grammar, command_of, most_turns}
+use Rattle.ring_script.specs.Line.{Grammar, is_skipped, head_in, is_statement, credit_in, most_names, fault_of}
+use Rattle.ring_script.specs.Script.{script_grammar, command_of, joined_by, joined, most_turns}
 use Rattle.ring_script.specs.Steps.{step_grammar, event_of}
 
 -- ---- the used lines
@@ -52,15 +52,27 @@ credit_of [] = usual_credit
 credit_of (opening ∷ []) = usual_credit
 credit_of (opening ∷ second ∷ further) = credit_by (head_in second.1) (behind_word second.1)
 
+-- those that are statements
+abbrev pub said_in : List (ℕ × List ℕ) → List (ℕ × List ℕ)
+said_in used = filter (λ line. is_statement (head_in line.1)) used
+
 -- the statements, each behind the number of its line
 abbrev pub statements_of : {X : Type 0} → (List ℕ → List ℕ → X) → List (ℕ × List ℕ) → List (ℕ × X)
-statements_of says used = map (λ line. (line.0, says (first_word line.1) (behind_word line.1))) (filter (λ line. is_statement (head_in line.1)) used)
+statements_of says used = map (λ line. (line.0, says (first_word line.1) (behind_word line.1))) (said_in used)
+
+-- the names that the statements have join
+abbrev pub joined_in : Grammar → List (ℕ × List ℕ) → List (List ℕ)
+joined_in grammar used = flat_map (λ line. grammar.joins (first_word line.1) (behind_word line.1)) (said_in used)
+
+-- the names that are known behind these lines: those of the members, and those that joined
+abbrev pub known_of : Grammar → List (ℕ × List ℕ) → List (List ℕ)
+known_of grammar used = members_of used ++ joined_in grammar used
 
 -- ---- faults
 
 -- what is wrong with a line behind these used ones
 abbrev pub fault_behind : Grammar → List (ℕ × List ℕ) → List ℕ → Option Kind
-fault_behind grammar used line = fault_of grammar (next_of used) (members_of used) line
+fault_behind grammar used line = fault_of grammar (next_of used) (known_of grammar used) line
 
 -- what is wrong with the line at a place, from 0, behind those before it
 abbrev pub fault_at : Grammar → List (List ℕ) → ℕ → Option Kind
@@ -129,14 +141,26 @@ AreStepsOf = Spells step_grammar event_of
 abbrev pub CanOpen : List (List ℕ) → Type 0
 CanOpen names = AreOpeningNames names × All IsName names
 
--- a command that the members of these names may be given
+-- a command that may be given where these names are known
 abbrev pub MayBeGiven : List (List ℕ) → Command → Type 0
 MayBeGiven names (command.Cast by body) = Contains names by × IsBody body
+MayBeGiven names (command.Join by name) = Contains names by × (Contains names name → ⊥) × IsName name
 MayBeGiven names (command.Kill by) = Contains names by
 MayBeGiven names (command.Go turns) = (1 ≤ turns) × (turns ≤ most_turns)
 MayBeGiven names command.Settle = ⊤
 
--- a ring can open with the members, each of a fitting name, and be given the commands
+-- each command may be given where these names are known, and those that earlier ones had join
+abbrev pub MayEachBeGiven : List (List ℕ) → List Command → Type 0
+MayEachBeGiven names [] = ⊤
+MayEachBeGiven names (x ∷ xs) = MayBeGiven names x × MayEachBeGiven (names ++ joined_by x) xs
+
+-- the commands of a script, in order
+abbrev pub commands_of : Text Command → List Command
+commands_of script = map (λ line. line.1) script.lines
+
+-- A ring can open with the members, each of a fitting name, and be given the commands, one after another. With those who
+-- join there are never more members than a ring has at most.
 pub record IsPlayable (script : Text Command) : Type 0 where
   pub opens : CanOpen script.members
-  pub commands : All (λ line. MayBeGiven script.members line.1) script.lines
+  pub commands : MayEachBeGiven script.members (commands_of script)
+  pub few : length (script.members ++ joined (commands_of script)) ≤ most_names

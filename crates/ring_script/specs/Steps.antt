@@ -84,9 +84,9 @@ event_fault (Some begins.Refresh) rest = two_words (λ by version. option_or (na
 event_fault (Some (begins.Own which)) rest = one_word name_fault (words_of rest)
 event_fault None rest = Some UnknownCommand
 
--- what is wrong with an event, by its first word and its rest
+-- what is wrong with an event, by its first word and its rest; no line asks whether a name is known
 abbrev pub step_grammar : Grammar
-step_grammar members word rest = event_fault (event_word_of word) rest
+step_grammar = record { fault = λ known word rest. event_fault (event_word_of word) rest; joins = λ word rest. [] }
 
 -- such a step of the member of this name
 abbrev pub own_event : OwnStep → List ℕ → Event

@@ -1,5 +1,7 @@
 //! Commands.
 ghost use Rattle.std.specs.Prelude.{◌≡◌, IfOk};
+ghost use Rattle.std.specs.Option.{option_to_list};
+ghost use Rattle.ring_script.specs.Script.{joined_by};
 
 use ring_names::{Body, Name, OutOfMemory};
 
@@ -8,6 +10,8 @@ use ring_names::{Body, Name, OutOfMemory};
 pub enum Command {
     /// The member multicasts a message.
     Cast { by: Name, body: Body },
+    /// The member has a newcomer of this name join the ring.
+    Join { by: Name, name: Name },
     /// The member stops.
     Kill { by: Name },
     /// The members take so many turns each.
@@ -26,9 +30,24 @@ impl Command {
                 by: *by,
                 body: body.copy()?,
             }),
+            Command::Join { by, name } => Ok(Command::Join {
+                by: *by,
+                name: *name,
+            }),
             Command::Kill { by } => Ok(Command::Kill { by: *by }),
             Command::Go { turns } => Ok(Command::Go { turns: *turns }),
             Command::Settle => Ok(Command::Settle),
+        }
+    }
+
+    /// The name that it has join, if it has one.
+    pub(crate) fn joined(&self) -> Option<Name>
+        ensures { option_to_list result ≡ joined_by self.now }
+    {
+        match self {
+            Command::Join { by: _, name } => Some(*name),
+            Command::Cast { .. } | Command::Kill { .. } => None,
+            Command::Go { .. } | Command::Settle => None,
         }
     }
 }

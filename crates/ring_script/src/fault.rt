@@ -24,7 +24,7 @@ pub enum Kind {
     BadNumber,
     /// A word is no name.
     BadName,
-    /// No member has the name.
+    /// The name is neither a member's nor that of one who joined by an earlier line.
     UnknownName,
     /// The name stands before.
     NameTaken,

@@ -103,33 +103,33 @@ fn is_comment(line: &[u8]) -> bool
     }
 }
 
-/// What a line says that isn't skipped.
+/// What a line says that isn't skipped, behind those that make these names known.
 pub(crate) fn read_said<S: Statement>(
     alloc: Global,
     next: Next,
-    members: &[Name],
+    known: &[Name],
     line: &[u8],
 ) -> Result<Said<S>, LineFault>
     requires text { list_all is_text_byte line.now ≡ true }
-    ensures fault { Tells (fault_by S.grammar next (head_in line.now) members.now (first_word line.now)
+    ensures fault { Tells (fault_by S.grammar next (head_in line.now) known.now (first_word line.now)
         (behind_word line.now)) result }
     ensures says { IfOk result (Says S.says (first_word line.now) (behind_word line.now)) }
 {
     let mut words = Words::of(line);
     let word = words.first();
-    read_by(alloc, next, members, word, words)
+    read_by(alloc, next, known, word, words)
 }
 
 /// What a line says that has this first word and this rest.
 fn read_by<S: Statement>(
     alloc: Global,
     next: Next,
-    members: &[Name],
+    known: &[Name],
     word: &[u8],
     rest: Words,
 ) -> Result<Said<S>, LineFault>
     requires text { list_all is_text_byte (left_in rest) ≡ true }
-    ensures fault { Tells (fault_by S.grammar next (head_of word.now) members.now word.now
+    ensures fault { Tells (fault_by S.grammar next (head_of word.now) known.now word.now
         (left_in rest.entry)) result }
     ensures says { IfOk result (Says S.says word.now (left_in rest.entry)) }
 {
@@ -138,7 +138,7 @@ fn read_by<S: Statement>(
         (Next::Opening, Head::Credit | Head::Statement) => Err(LineFault::Wrong(Kind::NoMembers)),
         (Next::Credit, Head::Credit) => Ok(Said::Credit(read_credit(rest)?)),
         (Next::Credit | Next::Further, Head::Statement) => Ok(Said::Statement(S::read(
-            alloc, members, word, rest,
+            alloc, known, word, rest,
         )?)),
         (Next::Credit | Next::Further, Head::Members) => Err(LineFault::Wrong(Kind::Misplaced)),
         (Next::Further, Head::Credit) => Err(LineFault::Wrong(Kind::Misplaced)),

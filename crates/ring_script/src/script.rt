@@ -9,7 +9,9 @@ ghost use Rattle.ring_script.specs.Script.{most_turns, keyword_of, script_gramma
 ghost use Rattle.ring_script.specs.Script.{command_of};
 ghost use Rattle.ring_script.specs.Reading.{IsScriptOf, IsFirstFault, IsPlayable, JudgesEachText};
 
-use crate::arguments::{known_name, nothing_left, number_from, one_left, read_body};
+use crate::arguments::{
+    further_name, known_name, nothing_left, number_from, one_left, read_body, two_left,
+};
 use crate::command::Command;
 use crate::fault::{Kind, LineFault, ScriptFault};
 use crate::statement::Statement;
@@ -25,6 +27,7 @@ pub type Script = Text<Command>;
 #[derive(Clone, Copy, PartialEq, Eq, Debug)]
 pub(crate) enum Keyword {
     Cast,
+    Join,
     Kill,
     Go,
     Settle,
@@ -40,6 +43,7 @@ impl Keyword {
     {
         by_word!(word;
             b"cast" => Some(Keyword::Cast),
+            b"join" => Some(Keyword::Join),
             b"kill" => Some(Keyword::Kill),
             b"go" => Some(Keyword::Go),
             b"settle" => Some(Keyword::Settle),
@@ -53,41 +57,52 @@ impl Statement for Command {
 
     ghost says = { command_of };
 
-    fn read(
-        alloc: Global,
-        members: &[Name],
-        word: &[u8],
-        rest: Words,
-    ) -> Result<Command, LineFault> {
+    fn read(alloc: Global, known: &[Name], word: &[u8], rest: Words) -> Result<Command, LineFault> {
         match Keyword::of(word) {
-            Some(Keyword::Cast) => read_cast(alloc, members, rest),
-            Some(Keyword::Kill) => read_kill(members, rest),
+            Some(Keyword::Cast) => read_cast(alloc, known, rest),
+            Some(Keyword::Join) => read_join(known, rest),
+            Some(Keyword::Kill) => read_kill(known, rest),
             Some(Keyword::Go) => read_go(rest),
             Some(Keyword::Settle) => read_settle(rest),
             None => Err(LineFault::Wrong(Kind::UnknownCommand)),
         }
     }
+
+    fn joined(&self) -> Option<Name> {
+        Command::joined(self)
+    }
 }
 
 /// The cast of what is left on a line.
-fn read_cast(alloc: Global, members: &[Name], rest: Words) -> Result<Command, LineFault>
+fn read_cast(alloc: Global, known: &[Name], rest: Words) -> Result<Command, LineFault>
     requires text { list_all is_text_byte (left_in rest) ≡ true }
-    ensures fault { Tells (command_fault members.now (Some Keyword.Cast) (left_in rest.entry)) result }
+    ensures fault { Tells (command_fault known.now (Some Keyword.Cast) (left_in rest.entry)) result }
     ensures cast { IfOk result (λ command. command ≡ command_by (Some Keyword.Cast) (left_in rest.entry)) }
 {
     let mut words = rest;
     let word = words.next_word().ok_or(Kind::MissingWord)?;
-    let by = known_name(members, word)?;
+    let by = known_name(known, word)?;
     let body = read_body(alloc, words.body())?;
     Ok(Command::Cast { by, body })
 }
 
+/// The joining of what is left on a line.
+fn read_join(known: &[Name], rest: Words) -> Result<Command, LineFault>
+    ensures fault { Tells (command_fault known.now (Some Keyword.Join) (left_in rest.entry)) result }
+    ensures join { IfOk result (λ command. command ≡ command_by (Some Keyword.Join) (left_in rest.entry)) }
+{
+    let (by, name) = two_left(rest)?;
+    let by = known_name(known, by)?;
+    let name = further_name(known, name)?;
+    Ok(Command::Join { by, name })
+}
+
 /// The kill of what is left on a line.
-fn read_kill(members: &[Name], rest: Words) -> Result<Command, LineFault>
-    ensures fault { Tells (command_fault members.now (Some Keyword.Kill) (left_in rest.entry)) result }
+fn read_kill(known: &[Name], rest: Words) -> Result<Command, LineFault>
+    ensures fault { Tells (command_fault known.now (Some Keyword.Kill) (left_in rest.entry)) result }
     ensures kill { IfOk result (λ command. command ≡ command_by (Some Keyword.Kill) (left_in rest.entry)) }
 {
-    let by = known_name(members, one_left(rest)?)?;
+    let by = known_name(known, one_left(rest)?)?;
     Ok(Command::Kill { by })
 }
 

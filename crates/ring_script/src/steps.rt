@@ -132,8 +132,8 @@ impl Statement for Event {
 
     ghost says = { event_of };
 
-    fn read(alloc: Global, members: &[Name], word: &[u8], rest: Words) -> Result<Event, LineFault> {
-        let _ = members;
+    fn read(alloc: Global, known: &[Name], word: &[u8], rest: Words) -> Result<Event, LineFault> {
+        let _ = known;
         match EventWord::of(word) {
             Some(EventWord::Cast) => read_cast(alloc, rest),
             Some(EventWord::Mark) => read_mark(rest),
@@ -144,6 +144,11 @@ impl Statement for Event {
             Some(EventWord::Own(step)) => read_own(step, rest),
             None => Err(LineFault::Wrong(Kind::UnknownCommand)),
         }
+    }
+
+    /// No line of a step file asks whether a name is known, so that none makes one known.
+    fn joined(&self) -> Option<Name> {
+        None
     }
 }
 

@@ -1,7 +1,7 @@
 //! Texts and what is told of them. Each row of a table has what is told of one text, in four bytes, and behind a
 //! space the text. Rows of remarks begin with `--`. In a text `|` is a line feed, `$` is nothing, `@` is 64 names,
-//! each behind a space, and `&` is 20,000 lines `cast a x`. The byte before a `^` stands there 256 times, and the one
-//! before a `%` fills its line up to 2,000 bytes.
+//! each behind a space, `&` is 20,000 lines `cast a x`, and `;` is 63 lines, by which `a` has the other 63 names join.
+//! The byte before a `^` stands there 256 times, and the one before a `%` fills its line up to 2,000 bytes.
 use crate::*;
 use ring_names::{Body, CreditSpec, Name};
 use ring_world::{Client, Event};
@@ -40,6 +40,7 @@ good members a|  credit   5   3  |
 3 61 |# x|cast a x|members a|
 1 61 credit 8 4|members a|
 1 61 cast|
+1 61 join a n|
 1 61 go 0 1|
 1 61 fly|
 1 61 member a|
@@ -147,7 +148,9 @@ const COMMANDS: &str = "\
 2 52 members a|pop a
 2 52 members a|ack a 1
 2 52 members a|requeue a 1
-2 52 members a|join a n
+2 52 members a|joins a n
+2 52 members a|Join a n
+2 52 members a|admit a n
 2 52 members a|kills a
 2 52 members a|stop a
 2 52 members a|sync a b
@@ -156,10 +159,15 @@ const COMMANDS: &str = "\
 -- Words are missing, or too many, before what stands there is judged.
 2 53 members a|cast
 2 53 members a|cast   |
+2 53 members a|join
+2 53 members a|join A
+2 53 members a|join a   |
 2 53 members a|kill
 2 53 members a|kill   |
 2 53 members a|go
 2 53 members a| go |
+2 54 members a|join a n n
+2 54 members a|join z A !
 2 54 members a|kill a a
 2 54 members a|kill B! z
 2 54 members a|go 5 5
@@ -189,6 +197,42 @@ good members a b|kill b|kill b|cast b x|
 3 57 members@|cast a1 x|cast b0 x
 2 56 members a|cast A x^x
 2 57 members a|cast z x^x
+-- Who has someone join is known, and who joins is new; then it is known too.
+good members a|join a n|cast n x|join n o|kill n|join n p|kill o
+good members a|join a 0|join 0 abcdefghijklmnop|cast abcdefghijklmnop x
+2 56 members a|join A n
+2 56 members a|join A N
+2 57 members a|join z n
+2 57 members a|join n n
+2 57 members a|join z a
+2 57 members a|join z N
+2 56 members a|join a N
+2 56 members a|join a abcdefghijklmnopq
+2 58 members a|join a a
+2 58 members a b|join a b
+3 58 members a b|kill b|join a b
+3 58 members a|join a n|join a n
+3 58 members a|join a n|join n a
+3 58 members a|join a n|join n n
+2 57 members a|cast n x|join a n
+2 57 members a|kill n
+3 57 members a|# join a n|kill n
+3 57 members a|join a n|kill o
+3 57 members a|join a n|cast nn x
+3 57 members a|join a n|join o p
+3 62 members a|join a n|credit 8 4
+-- The 65th name, of the members or of those who join.
+2 59 members@|join a b0
+2 59 members@|join a1 b0
+2 56 members@|join a B
+2 57 members@|join b0 b1
+2 58 members@|join a b
+good members a|;
+good members a|;kill a1|cast z x
+5 59 members a|;join a b0
+5 59 members a|;join a1 b0
+5 58 members a|;join a a1
+5 57 members a|;cast b0 x
 -- A body of 256 bytes, and of 257.
 good members a|cast a x^|
 2 60 members a|cast a x^x|
@@ -400,6 +444,8 @@ const SCRIPT_OPENINGS: &str = "\
 4z84 members b a 0 z9|
 4b84 members a aa ab b|settle
 4a84 members@|
+2b84 members a b|join a n|join n o
+1a93 members a|credit 9 3|;
 1a92 members a||  |# x|credit 9 2|
 1a41 members a|credit 64 1
 ";
@@ -414,8 +460,14 @@ const LAST_COMMANDS: &str = "\
 cb25 # x||members a b|   |cast b hi|#
 g-77 # x||members a b|   |cast b hi|#|go 7|
 s--0 # x||members a b|   |cast b hi|#|go 7|||settle
+jan2 members a|join a n
+jno3 members a|join a n|join n o
+jaa4 members a|;
+cn23 members a|join a n|cast n hi
+kn-4 members a|join a n|join n o|kill n
 kb-2 members a b|kill b
 -- Spaces round words.
+jan2 members a|  join   a   n  |
 kb-2 members a b|  kill   b  |
 g-22 members a|  go   12  |
 s--2 members a|  settle  |
@@ -459,7 +511,7 @@ f2b0 members a b|refuse 12 cast b |
 f2b8 members a b|  refuse  12  cast   b hi  you |
 ";
 
-const NAMES: &[u8] = b" a b c d e f g h i j k l m n o p q r s t u v w x y z 0 1 2 3 4 5 6 7 8 9 \
+const NAMES: &str = " a b c d e f g h i j k l m n o p q r s t u v w x y z 0 1 2 3 4 5 6 7 8 9 \
     aa ab ac ad ae af ag ah ai aj ak al am an ao ap aq ar as at au av aw ax ay az a0 a1";
 
 /// What is told of a text.
@@ -570,6 +622,7 @@ fn last_command(lines: &[(u32, Command)]) -> [u8; 4] {
 fn command_on(line: u8, command: &Command) -> [u8; 4] {
     match command {
         Command::Cast { by, body } => [b'c', letter(by), length(body), line],
+        Command::Join { by, name } => [b'j', letter(by), letter(name), line],
         Command::Kill { by } => [b'k', letter(by), b'-', line],
         Command::Go { turns } => [b'g', b'-', digit(u64::from(*turns)), line],
         Command::Settle => [b's', b'-', b'-', line],
@@ -653,7 +706,8 @@ fn spelt(alloc: Global, text: &[u8]) -> Result<Vec<u8>, Fail> {
                 start = bytes.len();
             }
             b'$' => {}
-            b'@' => bytes.extend_from_slice(NAMES)?,
+            b'@' => bytes.extend_from_slice(NAMES.as_bytes())?,
+            b';' => push_joins(&mut bytes)?,
             b'&' => push_times(&mut bytes, 20_000, b"cast a x\n")?,
             b'^' => push_times(&mut bytes, 255, &[before])?,
             b'%' => {
@@ -665,6 +719,15 @@ fn spelt(alloc: Global, text: &[u8]) -> Result<Vec<u8>, Fail> {
         before = *byte;
     }
     Ok(bytes)
+}
+
+fn push_joins(bytes: &mut Vec<u8>) -> Result<(), Fail> {
+    for name in NAMES.split_whitespace().skip(1) {
+        bytes.extend_from_slice(b"join a ")?;
+        bytes.extend_from_slice(name.as_bytes())?;
+        bytes.push(b'\n')?;
+    }
+    Ok(())
 }
 
 fn push_times(bytes: &mut Vec<u8>, times: usize, piece: &[u8]) -> Result<(), Fail> {

@@ -1,6 +1,5 @@
 -- What the journal of a played script has.
-use Rattle.std.proofs.Common.{◌≡◌, ℕ, zero, suc, ◌<◌, ◌≤◌, ◌^◌, List, [], ◌∷◌, ◌++◌, length, take, drop, Some, IsSome, bytes_eq, refl, sym, ap, subst, ◌∙◌}
-use Rattle.std.specs.Prelude.{Contains}
+use Rattle.std.proofs.Common.{◌≡◌, ℕ, zero, suc, ◌<◌, ◌≤◌, ◌^◌, List, [], ◌∷◌, ◌++◌, length, take, drop, Some, refl, sym, ap, subst, ◌∙◌, arith}
 use Rattle.std.proofs.lemmas.List.{take-take, take-append-drop}
 use Rattle.ring_names.specs.declared.numbers.CreditSpec.{CreditSpec}
 use Rattle.ring_script.specs.declared.command.Command.{Command}
@@ -12,33 +11,43 @@ use Rattle.ring_world.specs.Step.{opening}
 use Rattle.ring_world.specs.Event.{IsRun, effect, last, refusals_of}
 use Rattle.ring_world.specs.Laws.{IsLawful, GoesOn}
 use Rattle.ring_world.specs.Quiet.{IsQuiet}
-use Rattle.ring_world.proofs.events.Names.{own_bytes}
 use Rattle.ring_world.proofs.runs.InOrder.{last_append}
 use Rattle.ring_world.proofs.runs.AllRuns.{every_state_lawful, every_run_goes_on}
 use Rattle.ring_cluster.specs.Seen.{Seen, IsGoing, state_of, opening_seen}
-use Rattle.ring_cluster.specs.Agendas.{place_among}
-use Rattle.ring_cluster.specs.Plays.{Plays, HasGoneOn, AgendasAreEmpty}
-use Rattle.ring_cluster.specs.Plays as cluster
-use Rattle.ring_cluster.proofs.lists.Places.{position_there}
+use Rattle.ring_cluster.specs.Plays.{IsOfMember, Plays, HasGoneOn, AgendasAreEmpty}
 use Rattle.ring_cluster.specs.Heard.{OpenersHaveNoBase}
 use Rattle.ring_cluster.proofs.work.Bases.{reached_bases}
 use Rattle.ring_cluster.proofs.work.Heard.{run_quiet_has_heard}
+use Rattle.std.specs.List.{All}
 use Rattle.ring_script.specs.declared.text.Text.{Text}
-use Rattle.ring_script.specs.Reading.{MayBeGiven}
+use Rattle.ring_script.specs.Script.{joined_by}
+use Rattle.ring_script.specs.Reading.{MayBeGiven, MayEachBeGiven}
 use Rattle.ringplay.specs.Report.{report_of}
-use Rattle.ringplay.specs.Call.{state_after, IsLawfulRun, SameRing, commands_on, given_of, IsPlayedBy}
+use Rattle.ringplay.specs.Call.{state_after, IsLawfulRun, SameRing, HasTurns, commands_on, given_of, IsPlayedBy}
 
--- ---- a name that the ring has, has a place
+-- ---- commands
 
-pub known_place : (names : List (List ℕ)) (by : List ℕ) → Contains names by → IsSome (place_among names by)
-known_place names by (k, l, e) = position_there (λ n. bytes_eq n by) names k by l (ap (λ n. bytes_eq n by) e ∙ own_bytes by)
+-- a command of a script, but for rounds and settlings, is one of a member
+pub member_command : (x : Command) → ((turns : ℕ) → x ≡ command.Go turns → ⊥) → (x ≡ command.Settle → ⊥) → IsOfMember x
+member_command (command.Cast by body) ng ns = tt
+member_command (command.Join by newcomer) ng ns = tt
+member_command (command.Kill by) ng ns = tt
+member_command (command.Go turns) ng ns = ng turns refl
+member_command command.Settle ng ns = ns refl
 
--- a command of a script, but for rounds and settlings, is one to a member
-pub known_command_of : (names : List (List ℕ)) (x : Command) → ((turns : ℕ) → x ≡ command.Go turns → ⊥) → (x ≡ command.Settle → ⊥) → MayBeGiven names x → cluster.IsCommandTo names x
-known_command_of names (command.Cast by body) ng ns h = known_place names by h.0
-known_command_of names (command.Kill by) ng ns h = known_place names by h
-known_command_of names (command.Go turns) ng ns h = ng turns refl
-known_command_of names command.Settle ng ns h = ns refl
+-- a round of a script has turns
+one_turns : (names : List (List ℕ)) (x : Command) → MayBeGiven names x → HasTurns x
+one_turns names (command.Cast by body) may = tt
+one_turns names (command.Join by newcomer) may = tt
+one_turns names (command.Kill by) may = tt
+one_turns names (command.Go turns) may = may
+one_turns names command.Settle may = tt
+
+-- and so has each
+pub all_turns : (names : List (List ℕ)) (lines : List (ℕ × Command)) → MayEachBeGiven names (commands_on lines) → All (λ line. HasTurns line.1) lines
+all_turns names [] may k d l = absurd (omega (arith, l))
+all_turns names (line ∷ lines) may zero d l = one_turns names line.1 may.0
+all_turns names (line ∷ lines) may (suc k) d l = all_turns (names ++ joined_by line.1) lines may.1 k d (omega (arith, l))
 
 -- ---- runs in two parts
 

@@ -8,7 +8,6 @@ use Rattle.ring_world.specs.Event.{refusal, last, refusals_of}
 use Rattle.ring_world.proofs.runs.InOrder.{last_append}
 use Rattle.ring_cluster.specs.Seen.{Seen, IsGoing, state_of, opening_seen}
 use Rattle.ring_cluster.specs.Agendas.{tasks_in}
-use Rattle.ring_cluster.proofs.lists.Plans.{opened_tasks}
 use Rattle.ringplay.specs.Report.{report_of}
 use Rattle.ringplay.specs.Step.{happens, enabled_of, if_refused, refused_lines, HasStepped}
 use Rattle.ringplay.specs.Call.{AreSteppedBy}
@@ -99,6 +98,6 @@ stepped_all steps a b journal text told ea going h et er ej =
         credit = credit;
         events = sym ej;
         given = h.given ∙ ap (λ s. s.given) ea;
-        empty = λ name. ap (λ plans. tasks_in plans name) (h.agendas ∙ ap (λ s. s.agendas) ea) ∙ opened_tasks steps.members name;
+        empty = λ i name at. ap (λ plans. tasks_in plans name) (h.agendas ∙ ap (λ s. s.agendas) ea);
       };
     }

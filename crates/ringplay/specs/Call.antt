@@ -1,13 +1,13 @@
 -- What the top call answers, and why.
-use Rattle.std.specs.Prelude.{◌≡◌, ◌⊎◌, ℕ, ◌<◌, ◌≤◌, ◌^◌, List, [], ◌∷◌, ◌++◌, length, take, map, codes, Option, Some, None, IfSome}
+use Rattle.std.specs.Prelude.{◌≡◌, ◌⊎◌, ℕ, ◌<◌, ◌≤◌, ◌^◌, List, [], ◌∷◌, ◌++◌, length, take, map, codes, Option, Some, None, IfSome, ⊤}
 use Rattle.std.specs.Fmt.{decimal}
 use Rattle.ring_script.specs.declared.command.Command.{Command}
-use Rattle.ring_script.specs.declared.command.Command.TheVariants.{Settle}
+use Rattle.ring_script.specs.declared.command.Command.TheVariants.{Go, Settle}
 use Rattle.ring_names.specs.declared.numbers.CreditSpec.{CreditSpec}
 use Rattle.ring_script.specs.declared.text.Text.{Text}
 use Rattle.ring_script.specs.Words.{lines_of}
 use Rattle.ring_script.specs.Line.{Grammar}
-use Rattle.ring_script.specs.Script.{script_grammar}
+use Rattle.ring_script.specs.Script.{script_grammar, most_turns}
 use Rattle.ring_script.specs.Steps.{step_grammar}
 use Rattle.ring_script.specs.Reading.{IsScriptOf, AreStepsOf, IsFirstFault}
 use Rattle.ring_world.specs.declared.event.Event.{Event}
@@ -60,6 +60,11 @@ abbrev pub SameRing : Seen → Seen → Type 0
 SameRing c d = (d.names ≡ c.names) × (d.credit ≡ c.credit)
 
 -- ---- what is played
+
+-- a round has as many turns as one may have
+abbrev pub HasTurns : Command → Type 0
+HasTurns (Go turns) = (1 ≤ turns) × (turns ≤ most_turns)
+HasTurns x = ⊤
 
 -- the commands of lines, each behind its number
 abbrev pub commands_on : List (ℕ × Command) → List Command

@@ -1,8 +1,8 @@
 //! Playing a script.
 ghost use Rattle.std.specs.Prelude.{◌≡◌, ◌∷◌, ◌++◌, [], Some, All, IfOk, OnOk};
-ghost use Rattle.ring_script.specs.Reading.{IsPlayable, MayBeGiven};
+ghost use Rattle.ring_script.specs.Reading.{IsPlayable};
 ghost use Rattle.ring_cluster.specs.Plays.{PlaysSoFar};
-ghost use Rattle.ringplay.specs.Call.{SameRing, IsPlayedBy, commands_on};
+ghost use Rattle.ringplay.specs.Call.{SameRing, HasTurns, IsPlayedBy, commands_on};
 
 use crate::report::report;
 use ring_cluster::Cluster;
@@ -59,7 +59,7 @@ fn perform<T: Threads, G: Gate>(
     lines: Vec<(u32, Command)>,
     gate: &G,
 ) -> Result<(), OutOfMemory>
-    requires known { All (λ line. MayBeGiven (cluster.old).names line.1) lines.items }
+    requires turns { All (λ line. HasTurns line.1) lines.items }
     requires plays { PlaysSoFar cluster.old }
     ensures ring { SameRing cluster.old cluster.new }
     ensures given { OnOk result ((cluster.new).given ≡ (cluster.old).given ++ commands_on lines.items) }
@@ -78,7 +78,7 @@ fn perform_one<T: Threads, G: Gate>(
     command: Command,
     gate: &G,
 ) -> Result<(), OutOfMemory>
-    requires known { MayBeGiven (cluster.old).names command }
+    requires turns { HasTurns command }
     requires plays { PlaysSoFar cluster.old }
     ensures ring { SameRing cluster.old cluster.new }
     ensures given { OnOk result ((cluster.new).given ≡ (cluster.old).given ++ command ∷ []) }

@@ -117,6 +117,52 @@ member a stopped
 casts 0 confirmed 0
 publishes 0 confirmed 0
 refused 12 cast a 
+==== Nobody is left to mark the last one, nor to admit anybody
+play
+members a
+kill a
+join a n
+settle
+=> Done, status 0
+ring view=1 term=1 master=a
+member a stopped
+casts 0 confirmed 0
+publishes 0 confirmed 0
+refused 12 admit a n
+==== Nobody does what was asked of a name that nobody has
+play
+members a
+kill a
+join a n
+cast n x
+join n m
+kill m
+settle
+=> Done, status 0
+ring view=1 term=1 master=a
+member a stopped
+casts 0 confirmed 0
+publishes 0 confirmed 0
+refused 12 admit a n
+==== Who waits stops at once, and refuses what is left on its agenda
+play
+members a b
+join a n
+kill n
+cast n x
+settle
+=> Done, status 0
+ring view=4 term=1 master=a
+member a up synced
+casts 0 confirmed 0
+publishes 0 confirmed 0
+member b up synced
+casts 0 confirmed 0
+publishes 0 confirmed 0
+member n erased
+casts 0 confirmed 0
+publishes 0 confirmed 0
+refused 12 cast n x
 ==== Links of credit 1, rounds, a comment, and a body with spaces
 play
 # two members
@@ -278,6 +324,128 @@ publishes 0 confirmed 0
 heard a a1
 heard c c1
 heard d d1
+==== examples/join_under_load.script
+play
+# A newcomer joins while others publish.
+members a b c
+
+cast a a1
+cast b b1
+go 3
+
+join b n
+cast a a2
+cast b b2
+# What is asked of n waits until it has its state.
+cast n n1
+go 3
+
+cast c c1
+# The next newcomer is admitted by the first.
+join n o
+cast o o1
+settle
+=> Done, status 0
+ring view=3 term=1 master=a
+member a up synced
+casts 2 confirmed 2
+publishes 0 confirmed 0
+heard a a1
+heard a a2
+heard b b1
+heard b b2
+heard c c1
+heard n n1
+heard o o1
+member b up synced
+casts 2 confirmed 2
+publishes 0 confirmed 0
+heard a a1
+heard a a2
+heard b b1
+heard b b2
+heard c c1
+heard n n1
+heard o o1
+member c up synced
+casts 1 confirmed 1
+publishes 0 confirmed 0
+heard a a1
+heard a a2
+heard b b1
+heard b b2
+heard c c1
+heard n n1
+heard o o1
+member n up missing=?
+casts 1 confirmed 1
+publishes 0 confirmed 0
+heard a a2
+heard b b2
+heard c c1
+heard n n1
+heard o o1
+member o up missing=?
+casts 1 confirmed 1
+publishes 0 confirmed 0
+heard a a2
+heard b b2
+heard c c1
+heard o o1
+==== examples/admitter_killed.script
+play
+# A member admits a newcomer, and is killed before that one has its state.
+members a b c
+
+cast a a1
+cast b b1
+settle
+
+join b n
+kill b
+# b has stopped by then: it refuses this, and the running member of least id has o join.
+join b o
+cast n n1
+cast o o1
+cast c c1
+# b refuses this too.
+cast b b2
+settle
+=> Done, status 0
+ring view=5 term=1 master=a
+member a up synced
+casts 1 confirmed 1
+publishes 0 confirmed 0
+heard a a1
+heard b b1
+heard c c1
+heard n n1
+heard o o1
+member b erased
+casts 1 confirmed 1
+publishes 0 confirmed 0
+refused 12 admit b o
+refused 12 cast b b2
+member c up synced
+casts 1 confirmed 1
+publishes 0 confirmed 0
+heard a a1
+heard b b1
+heard c c1
+heard n n1
+heard o o1
+member n up missing=?
+casts 1 confirmed 1
+publishes 0 confirmed 0
+heard c c1
+heard n n1
+heard o o1
+member o up missing=?
+casts 1 confirmed 1
+publishes 0 confirmed 0
+heard c c1
+heard n n1
+heard o o1
 ";
 
 /// What is written of step files. A title begins with the number of the events that happen.

@@ -1,15 +1,16 @@
 -- Agendas by their names.
-use Rattle.std.proofs.Common.{◌≡◌, ◌≢◌, ℕ, zero, suc, ◌+◌, ◌<◌, Bool, true, false, List, [], ◌∷◌, ◌++◌, length, get_or, set, map, Option, Some, None, IsSome, bytes_eq, refl, sym, ap, subst, ◌∙◌, arith}
+use Rattle.std.proofs.Common.{◌≡◌, ◌≢◌, ℕ, zero, suc, ◌+◌, ◌<◌, ◌≤◌, Bool, true, false, List, [], ◌∷◌, ◌++◌, length, drop, get_or, set, map, Option, Some, None, IsSome, is_some, bytes_eq, refl, sym, ap, subst, ◌∙◌, arith}
 use Rattle.std.specs.List.{position}
-use Rattle.std.specs.Prelude.{Result, Ok, Err, OnOk, OnErr}
+use Rattle.std.specs.Option.{option_to_list}
 use Rattle.std.proofs.lemmas.Bool.{false≢true}
-use Rattle.std.proofs.lemmas.List.{length-map, get_or-map, map-set, get_or-set_same, get_or-set_other, set-get_or, get_or_default}
+use Rattle.std.proofs.lemmas.List.{length-map, length-append, map-append, get_or-map, map-set, get_or-set_same, get_or-set_other, set-get_or, get_or_default, get_or_append_left, get_or_push}
 use Rattle.std.proofs.lemmas.List.Quantifiers.{position-Some}
+use Rattle.std.proofs.lemmas.List.Sums.{sum_by_push, sum_by-set}
 use Rattle.ring_world.proofs.rings.Maps.{position_map}
 use Rattle.ring_world.proofs.events.Names.{same_bytes, own_bytes}
 use Rattle.ring_cluster.specs.declared.agenda.Task.{Task}
-use Rattle.ring_cluster.specs.Agendas.{Plan, names_of, place_among, plan_at, tasks_found, tasks_in, with_found, with_tasks, with_task, opened_plans}
-use Rattle.ring_cluster.proofs.lists.Places.{position_there}
+use Rattle.ring_cluster.specs.Agendas.{Plan, names_of, place_among, plan_at, tasks_found, tasks_in, tasks_on_all, with_found, with_tasks, with_more, with_task}
+use Rattle.ring_cluster.proofs.lists.Places.{position_before, position_behind, position_still}
 
 -- ---- where they stand
 
@@ -71,10 +72,11 @@ names_stay plans name ts = by_place (place_among (names_of plans) name) refl
         ∙ ap (set (names_of plans) i) (sym (get_or-map (λ (a : Plan). a.name) plans i (plan_at [] 0) [] l))
         ∙ set-get_or (names_of plans) i []
 
--- so they do where a task was given, and where memory was wanting for it
-pub names_either : {X E : Type 0} (r : Result X E) (plans new : List Plan) (name : List ℕ) (t : Task) → OnOk r (new ≡ with_task plans name t) → OnErr r (new ≡ plans) → names_of new ≡ names_of plans
-names_either (Ok x) plans new name t ok err = ap names_of ok ∙ names_stay plans name (tasks_in plans name ++ t ∷ [])
-names_either (Err e) plans new name t ok err = ap names_of err
+-- written twice
+set_twice : {X : Type 0} (xs : List X) (i : ℕ) (y z : X) → set (set xs i y) i z ≡ set xs i z
+set_twice [] i y z = refl
+set_twice (x ∷ xs) zero y z = refl
+set_twice (x ∷ xs) (suc i) y z = ap (λ zs. x ∷ zs) (set_twice xs i y z)
 
 -- these tasks stand there then
 pub tasks_new : (plans : List Plan) (name : List ℕ) (ts : List Task) → IsSome (place_among (names_of plans) name) → tasks_in (with_tasks plans name ts) name ≡ ts
@@ -97,20 +99,146 @@ tasks_other plans name other ts differ =
         ap (λ (a : Plan). a.tasks) (get_or-set_other plans i j (record (plan_at plans i) { tasks = ts }) (plan_at [] 0)
         (λ (same : j ≡ i). differ (sym (found_at plans name i e).1 ∙ ap (λ k. (plan_at plans k).name) (sym same) ∙ (found_at plans other j f).1)))
 
--- ---- agendas with nothing on them
+-- ---- one more task
 
-pub opened_names : (names : List (List ℕ)) → names_of (opened_plans names) ≡ names
-opened_names [] = refl
-opened_names (n ∷ names) = ap (λ ns. n ∷ ns) (opened_names names)
+-- an agenda of no other name is found behind them
+behind_names : (plans : List Plan) (a : Plan) → names_of (plans ++ a ∷ []) ≡ names_of plans ++ a.name ∷ []
+behind_names plans a = map-append (λ (b : Plan). b.name) plans (a ∷ [])
 
-pub opened_tasks : (names : List (List ℕ)) (name : List ℕ) → tasks_in (opened_plans names) name ≡ []
-opened_tasks names name = by_place (place_among (names_of (opened_plans names)) name)
+-- where there is one it has the task behind the others
+pub given_with : (plans : List Plan) (name : List ℕ) (t : Task) → IsSome (place_among (names_of plans) name) → with_task plans name t ≡ with_tasks plans name (tasks_in plans name ++ t ∷ [])
+given_with plans name t there = by_place (place_among (names_of plans) name) there
   where
-    nothing : (names : List (List ℕ)) (i : ℕ) → (plan_at (opened_plans names) i).tasks ≡ []
-    nothing [] i = refl
-    nothing (n ∷ names) zero = refl
-    nothing (n ∷ names) (suc i) = nothing names i
+    by_place : (o : Option ℕ) → IsSome o → with_more plans o name t ≡ with_found plans o (tasks_found plans o ++ t ∷ [])
+    by_place None k = absurd (false≢true k)
+    by_place (Some i) k = refl
 
-    by_place : (o : Option ℕ) → tasks_found (opened_plans names) o ≡ []
-    by_place None = refl
-    by_place (Some i) = nothing names i
+-- where there is none it begins one
+pub given_begins : (plans : List Plan) (name : List ℕ) (t : Task) → place_among (names_of plans) name ≡ None → with_task plans name t ≡ plans ++ record { name = name; tasks = t ∷ [] } ∷ []
+given_begins plans name t none = ap (λ o. with_more plans o name t) none
+
+-- it stands at the end of the agenda of that name
+pub given_new : (plans : List Plan) (name : List ℕ) (t : Task) → tasks_in (with_task plans name t) name ≡ tasks_in plans name ++ t ∷ []
+given_new plans name t = by_place (place_among (names_of plans) name) refl
+  where
+    by_place : (o : Option ℕ) → place_among (names_of plans) name ≡ o → tasks_in (with_more plans o name t) name ≡ tasks_found plans o ++ t ∷ []
+    by_place None e =
+        let a : Plan = record { name = name; tasks = t ∷ [] } in
+        let is : place_among (names_of (plans ++ a ∷ [])) name ≡ Some (length plans) =
+        ap (λ ns. place_among ns name) (behind_names plans a)
+        ∙ position_behind (λ n. bytes_eq n name) (names_of plans) name e (own_bytes name)
+        ∙ ap Some (length-map plans (λ (b : Plan). b.name)) in
+        ap (tasks_found (plans ++ a ∷ [])) is ∙ ap (λ (b : Plan). b.tasks) (get_or_push plans a (plan_at [] 0) (length plans) refl)
+    by_place (Some i) e =
+        ap (λ o. tasks_in (with_found plans o ((plan_at plans i).tasks ++ t ∷ [])) name) (sym e)
+        ∙ tasks_new plans name ((plan_at plans i).tasks ++ t ∷ []) (ap is_some e)
+
+-- another name
+pub other_name : (name other : List ℕ) → name ≢ other → bytes_eq name other ≡ false
+other_name name other differ = by_test (bytes_eq name other) refl
+  where
+    by_test : (b : Bool) → bytes_eq name other ≡ b → bytes_eq name other ≡ false
+    by_test false e = e
+    by_test true e = absurd (differ (same_bytes name other e))
+
+-- and on the agenda of every other name stands what stood there
+pub given_other : (plans : List Plan) (name other : List ℕ) (t : Task) → name ≢ other → tasks_in (with_task plans name t) other ≡ tasks_in plans other
+given_other plans name other t differ = by_place (place_among (names_of plans) name) refl
+  where
+    behind : (a : Plan) → a.name ≡ name → (o : Option ℕ) → place_among (names_of plans) other ≡ o → tasks_found (plans ++ a ∷ []) (place_among (names_of plans ++ a.name ∷ []) other) ≡ tasks_found plans o
+    behind a is None f = ap (tasks_found (plans ++ a ∷ [])) (position_still (λ n. bytes_eq n other) (names_of plans) a.name f (ap (λ n. bytes_eq n other) is ∙ other_name name other differ))
+    behind a is (Some j) f =
+        ap (tasks_found (plans ++ a ∷ [])) (position_before (λ n. bytes_eq n other) (names_of plans) a.name j f)
+        ∙ ap (λ (b : Plan). b.tasks) (get_or_append_left plans (a ∷ []) (plan_at [] 0) j (found_at plans other j f).0)
+
+    by_place : (o : Option ℕ) → place_among (names_of plans) name ≡ o → tasks_in (with_more plans o name t) other ≡ tasks_in plans other
+    by_place None e =
+        let a : Plan = record { name = name; tasks = t ∷ [] } in
+        ap (λ ns. tasks_found (plans ++ a ∷ []) (place_among ns other)) (behind_names plans a) ∙ behind a refl (place_among (names_of plans) other) refl
+    by_place (Some i) e =
+        ap (λ o. tasks_in (with_found plans o ((plan_at plans i).tasks ++ t ∷ [])) other) (sym e)
+        ∙ tasks_other plans name other ((plan_at plans i).tasks ++ t ∷ []) differ
+
+-- ---- a task that is taken back
+
+-- the agenda to which it was given is again what it was
+pub taken_back : (plans all : List Plan) (name : List ℕ) (t : Task) (j : ℕ) (a b : Plan) → all ≡ with_task plans name t → IsSome (place_among (names_of plans) name) → Some j ≡ position (λ (p : Plan). bytes_eq p.name name) all → a ≡ get_or all j a
+    → ((ts : List Task) (u : Task) → a.tasks ≡ ts ++ u ∷ [] → b ≡ record a { tasks = ts }) → set all j b ≡ plans
+taken_back plans all name t j a b is there at read back = by_place (place_among (names_of plans) name) refl there
+  where
+    by_place : (o : Option ℕ) → place_among (names_of plans) name ≡ o → IsSome o → set all j b ≡ plans
+    by_place None e k = absurd (false≢true k)
+    by_place (Some i) e k =
+        let p : Plan = plan_at plans i in
+        let x : Plan = record p { tasks = p.tasks ++ t ∷ [] } in
+        let within : i < length plans = (found_at plans name i e).0 in
+        let same : all ≡ set plans i x = is ∙ ap (λ o. with_more plans o name t) e in
+        let names : names_of all ≡ names_of plans = ap names_of is ∙ ap names_of (given_with plans name t there) ∙ names_stay plans name (tasks_in plans name ++ t ∷ []) in
+        let places : Some j ≡ Some i = sym (place_is all name (Some j) at) ∙ ap (λ ns. place_among ns name) names ∙ e in
+        let place : j ≡ i = cc in
+        let here : a ≡ x = read ∙ ap (λ k. get_or all k a) place ∙ ap (λ ps. get_or ps i a) same ∙ get_or-set_same plans i x a within in
+        let old : b ≡ p = back p.tasks t (ap (λ (q : Plan). q.tasks) here) ∙ ap (λ (q : Plan). record q { tasks = p.tasks }) here in
+        ap (λ k. set all k b) place
+        ∙ ap (λ ps. set ps i b) same
+        ∙ ap (set (set plans i x) i) old
+        ∙ set_twice plans i x p
+        ∙ set-get_or plans i (plan_at [] 0)
+
+-- where there was one, it is found
+pub given_found : (plans all : List Plan) (name : List ℕ) (t : Task) → all ≡ with_task plans name t → IsSome (place_among (names_of plans) name) → None ≡ position (λ (p : Plan). bytes_eq p.name name) all → ⊥
+given_found plans all name t is there at =
+    let names : names_of all ≡ names_of plans = ap names_of is ∙ ap names_of (given_with plans name t there) ∙ names_stay plans name (tasks_in plans name ++ t ∷ []) in
+    false≢true (subst IsSome (sym (ap (λ ns. place_among ns name) names) ∙ place_is all name None at) there)
+
+-- ---- how many tasks are left
+
+-- with other tasks on the agenda of a name
+pub left_with : (plans : List Plan) (name : List ℕ) (ts : List Task) → IsSome (place_among (names_of plans) name) → tasks_on_all (with_tasks plans name ts) + length (tasks_in plans name) ≡ tasks_on_all plans + length ts
+left_with plans name ts there = by_place (place_among (names_of plans) name) refl there
+  where
+    by_place : (o : Option ℕ) → place_among (names_of plans) name ≡ o → IsSome o → tasks_on_all (with_found plans o ts) + length (tasks_found plans o) ≡ tasks_on_all plans + length ts
+    by_place None e k = absurd (false≢true k)
+    by_place (Some i) e k = sum_by-set (λ (a : Plan). length a.tasks) plans i (record (plan_at plans i) { tasks = ts }) (plan_at [] 0) (found_at plans name i e).0
+
+-- an agenda has no more than all
+pub left_at : (plans : List Plan) (name : List ℕ) → length (tasks_in plans name) ≤ tasks_on_all plans
+left_at plans name = by_place (place_among (names_of plans) name) refl
+  where
+    by_place : (o : Option ℕ) → place_among (names_of plans) name ≡ o → length (tasks_found plans o) ≤ tasks_on_all plans
+    by_place None e = omega arith
+    by_place (Some i) e = omega (arith, sum_by-set (λ (a : Plan). length a.tasks) plans i (record (plan_at plans i) { tasks = [] }) (plan_at [] 0) (found_at plans name i e).0)
+
+-- where there are none on all, there are none on any
+pub none_left : (plans : List Plan) (name : List ℕ) (most : ℕ) → tasks_on_all plans ≤ most → most ≡ 0 → tasks_in plans name ≡ []
+none_left plans name most few none = by_tasks (tasks_in plans name) (omega (arith, left_at plans name, few, none))
+  where
+    by_tasks : (ts : List Task) → length ts ≤ 0 → ts ≡ []
+    by_tasks [] l = refl
+    by_tasks (t ∷ ts) l = absurd (omega (arith, l))
+
+-- with the first task of an agenda done there is one less, where it had any
+pub struck_left : (plans : List Plan) (name : List ℕ) (ts : List Task) → tasks_in plans name ≡ ts → tasks_on_all (with_tasks plans name (drop 1 ts)) + length ts ≡ tasks_on_all plans + length (drop 1 ts)
+struck_left plans name ts e = by_place (place_among (names_of plans) name) refl
+  where
+    by_place : (o : Option ℕ) → place_among (names_of plans) name ≡ o → tasks_on_all (with_tasks plans name (drop 1 ts)) + length ts ≡ tasks_on_all plans + length (drop 1 ts)
+    by_place None k =
+        let none : ts ≡ [] = sym e ∙ ap (tasks_found plans) k in
+        let same : with_tasks plans name (drop 1 ts) ≡ plans = ap (λ o. with_found plans o (drop 1 ts)) k in
+        omega (arith, ap tasks_on_all same, ap length none, ap (λ us. length (drop 1 us)) none)
+    by_place (Some i) k = omega (arith, left_with plans name (drop 1 ts) (ap is_some k), ap length e)
+
+-- with one task given there is one more
+pub given_left : (plans : List Plan) (name : List ℕ) (t : Task) → tasks_on_all (with_task plans name t) ≡ tasks_on_all plans + 1
+given_left plans name t = by_place (place_among (names_of plans) name) refl
+  where
+    by_place : (o : Option ℕ) → place_among (names_of plans) name ≡ o → tasks_on_all (with_task plans name t) ≡ tasks_on_all plans + 1
+    by_place None e =
+        omega (arith, ap tasks_on_all (given_begins plans name t e), sum_by_push (λ (a : Plan). length a.tasks) plans (record { name = name; tasks = t ∷ [] }))
+    by_place (Some i) e =
+        let there : IsSome (place_among (names_of plans) name) = ap is_some e in
+        omega (arith, ap tasks_on_all (given_with plans name t there), left_with plans name (tasks_in plans name ++ t ∷ []) there, length-append (tasks_in plans name) (t ∷ []))
+
+-- with no more on the agenda at a place there are no more on all
+pub set_left : (all : List Plan) (j : ℕ) (a b : Plan) (name : List ℕ) → Some j ≡ position (λ (p : Plan). bytes_eq p.name name) all → a ≡ get_or all j a → length b.tasks ≤ length a.tasks → tasks_on_all (set all j b) ≤ tasks_on_all all
+set_left all j a b name at read few =
+    omega (arith, sum_by-set (λ (p : Plan). length p.tasks) all j b a (found_at all name j (place_is all name (Some j) at)).0, ap (λ (p : Plan). length p.tasks) read, few)

@@ -7,6 +7,9 @@ use Rattle.ring_cluster.specs.Seen.{Seen, SameButOwed, MayHandOver, IsStepped, o
 pub but_refl : (c : Seen) → SameButOwed c c
 but_refl c = ((c.owes, c.shows), refl)
 
+pub but_same : (c d : Seen) → d ≡ c → SameButOwed c d
+but_same c d e = ((c.owes, c.shows), e)
+
 pub but_trans : (c d e : Seen) → SameButOwed c d → SameButOwed d e → SameButOwed c e
 but_trans c d e a b = (b.0, b.1 ∙ ap (showing b.0) a.1)
 

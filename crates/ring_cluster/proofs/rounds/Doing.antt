@@ -1,26 +1,38 @@
 -- What the turns of a cluster do.
-use Rattle.std.proofs.Common.{◌≡◌, ◌≢◌, ℕ, ◌+◌, ◌<◌, ◌≤◌, Bool, true, false, List, [], ◌∷◌, ◌++◌, length, get_or, set, Option, Some, None, inl, inr, refl, sym, ap, subst, ◌∙◌, arith, bytes_eq, append-nil, append_assoc, if◌then◌else◌}
-use Rattle.std.specs.Prelude.{◌&&◌, Contains, IsSome}
+use Rattle.std.proofs.Common.{◌≡◌, ◌≢◌, ℕ, ◌+◌, ◌<◌, ◌≤◌, Bool, true, false, List, [], ◌∷◌, ◌++◌, length, take, drop, Option, Some, None, IsSome, refl, sym, ap, subst, ◌∙◌, arith, bytes_eq, append-nil, if◌then◌else◌}
+use Rattle.std.specs.Prelude.{◌&&◌, Contains}
 use Rattle.std.proofs.lemmas.Bool.{false≢true}
-use Rattle.std.proofs.lemmas.List.{length-map, map-append}
+use Rattle.std.proofs.lemmas.List.{length-append, map-append}
+use Rattle.ring_names.specs.declared.reason.Reason.{Reason}
+use Rattle.ring_names.specs.Reason.{code_of}
 use Rattle.ring_script.specs.declared.command.Command.{Command}
 use Rattle.ring_script.specs.declared.command.Command.TheVariants as command
 use Rattle.ring_world.specs.declared.event.Event.{Event}
-use Rattle.ring_world.specs.declared.event.Event.TheVariants.{Cast, Stop}
-use Rattle.ring_world.specs.Step.{opening}
-use Rattle.ring_world.specs.Event.{refusal, by_of, is_asked}
+use Rattle.ring_world.specs.declared.event.Event.TheVariants.{Cast, Stop, Admit, Refuse}
+use Rattle.ring_world.specs.declared.phase.Phase.{Phase}
+use Rattle.ring_world.specs.declared.phase.Phase.TheVariants.{Waiting, Up, Stopped}
+use Rattle.ring_world.specs.Machine.{World, member_at}
+use Rattle.ring_world.specs.Step.{size, opening}
+use Rattle.ring_world.specs.Event.{refusal, effect, by_of, id_of, is_asked}
 use Rattle.ring_world.specs.Quiet.{IsQuiet}
+use Rattle.ring_world.specs.Work.{total, LeavesLess}
 use Rattle.ring_world.proofs.events.Names.{same_bytes, own_bytes}
+use Rattle.ring_world.proofs.runs.InOrder.{last_append}
 use Rattle.ring_cluster.specs.declared.agenda.Task.{Task}
 use Rattle.ring_cluster.specs.declared.agenda.Task.TheVariants as task
-use Rattle.ring_world.specs.Work.{total, LeavesLess}
-use Rattle.ring_cluster.specs.Seen.{Seen, state_of, IsGoing, SameButOwed, with_event}
-use Rattle.ring_cluster.specs.Agendas.{names_of, place_among, tasks_in, with_tasks, with_task}
-use Rattle.ring_cluster.specs.Plays.{IsCommandTo, tasked, commanded, asked_event, asked, asked_by, Plays, PlaysSoFar, client_event, client_events, task_event, refused_task, IsDoneBy, todo, agenda_of, performed, GoesOn, HasGoneOn, HasBegun, NoneGrows, HeadsAre, AgendasAreEmpty}
-use Rattle.ring_cluster.proofs.lists.Plans.{tasked_there, names_stay, tasks_new, tasks_other}
-use Rattle.ring_cluster.proofs.rounds.Named.{done_by}
-use Rattle.ring_world.proofs.runs.InOrder.{last_append}
-use Rattle.ring_cluster.proofs.rounds.Playing.{is_own, GoesOn-given, plays_on, plays_noted, settled_each_more, settled_now, empty_is_done, settled_plays, asked_push}
+use Rattle.ring_cluster.specs.Agendas.{Plan, names_of, place_among, tasks_in, with_tasks, with_task}
+use Rattle.ring_cluster.specs.Backlog.{backlog, backlog_of}
+use Rattle.ring_cluster.specs.Handed.{handing, given_to, handed}
+use Rattle.ring_cluster.specs.Seen.{Seen, state, state_of, IsGoing, SameButOwed, showing, with_event}
+use Rattle.ring_cluster.specs.Plays.{IsOfMember, tasked, commanded, asked_event, asked, asked_by, Serves, Plays, PlaysSoFar, client_event, client_events, task_event, task_client, answer_by, answer_to, todo, agenda_of, is_stop, takes_up, is_due, IsDue, with_handed, performed, GoesOn, HasGoneOn, HasBegun, HeadsAre, AgendasAreEmpty}
+use Rattle.ring_cluster.specs.Turns.{IsMemberAt}
+use Rattle.ring_cluster.proofs.lists.Lists.{flat_map-append}
+use Rattle.ring_cluster.proofs.lists.Plans.{tasked_there, tasks_new, tasks_other, other_name, given_new, given_other}
+use Rattle.ring_cluster.proofs.rounds.Heirs.{own_hands_none, answer_differs, answered_less}
+use Rattle.ring_cluster.proofs.rounds.Members.{found_in, left_in}
+use Rattle.ring_cluster.proofs.rounds.Named.{answered_by}
+use Rattle.ring_cluster.proofs.rounds.Playing.{by_one, is_own, GoesOn-given, plays_on, plays_noted, settled_each_more, settled_now, all_served, settled_plays, asked_push}
+use Rattle.ring_cluster.proofs.rounds.Serving.{serves_more, serves_still}
 
 -- ---- a member's own steps
 
@@ -28,10 +40,16 @@ pub own_event : (e : Event) → is_asked e ≡ false → (name : List ℕ) → c
 own_event e own name = ap (λ b. if b && bytes_eq (by_of e) name then asked_event e ∷ [] else []) own
 
 pub own_goes : (c d : Seen) (e : Event) → is_asked e ≡ false → SameButOwed (with_event c e) d → HasGoneOn c d
-own_goes c d e l is = (e ∷ [], is_own e (own_event e l) c d is.0 is.1)
+own_goes c d e l is = (e ∷ [], is_own e (own_event e l) c d (own_hands_none (state_of c) e l) is.0 is.1)
 
 pub own_falls : (c d : Seen) (e : Event) → LeavesLess (state_of c) e → refusal (state_of c) e ≡ None → SameButOwed (with_event c e) d → total (state_of d) < total (state_of c)
 own_falls c d e less r is = subst (λ w. total w < total (state_of c)) (sym (ap state_of is.1 ∙ last_append (opening c.credit c.names) c.events (e ∷ []))) (less.less r)
+
+-- no more is left of what clients asked
+pub own_left : (c d : Seen) (e : Event) → IsGoing c → refusal (state_of c) e ≡ None → SameButOwed (with_event c e) d → backlog_of d ≤ backlog_of c
+own_left c d e g r is =
+    subst (λ x. backlog_of x ≤ backlog_of c) (sym is.1)
+    (subst (λ w. backlog w c.agendas ≤ backlog_of c) (sym (last_append (opening c.credit c.names) c.events (e ∷ []))) (left_in c e c.agendas g r))
 
 -- ---- tasks
 
@@ -39,82 +57,183 @@ own_falls c d e less r is = subst (λ w. total w < total (state_of c)) (sym (ap 
 task_asked : (name by : List ℕ) (t : Task) → bytes_eq by name ≡ true → by ≡ name → client_event name (task_event by t) ≡ task_event name t ∷ []
 task_asked name by (task.Cast body) b e = rw b (ap (λ n. Cast n body ∷ []) e)
 task_asked name by task.Stop b e = rw b (ap (λ n. Stop n ∷ []) e)
+task_asked name by (task.Admit newcomer) b e = rw b (ap (λ n. Admit n newcomer ∷ []) e)
 
-client_asked : (name by : List ℕ) (t : Task) → bytes_eq by name ≡ true → by ≡ name → client_event name (refused_task by t) ≡ task_event name t ∷ []
-client_asked name by (task.Cast body) b e = rw b (ap (λ n. Cast n body ∷ []) e)
-client_asked name by task.Stop b e = rw b (ap (λ n. Stop n ∷ []) e)
+client_asked : (name by : List ℕ) (t : Task) (code : ℕ) → bytes_eq by name ≡ true → by ≡ name → client_event name (Refuse code (task_client by t)) ≡ task_event name t ∷ []
+client_asked name by (task.Cast body) code b e = rw b (ap (λ n. Cast n body ∷ []) e)
+client_asked name by task.Stop code b e = rw b (ap (λ n. Stop n ∷ []) e)
+client_asked name by (task.Admit newcomer) code b e = rw b (ap (λ n. Admit n newcomer ∷ []) e)
 
-done_of_name : (name by : List ℕ) (t : Task) (e : Event) → IsDoneBy by t e → bytes_eq by name ≡ true → by ≡ name → client_event name e ≡ task_event name t ∷ []
-done_of_name name by t e (inl is) b same = ap (client_event name) is ∙ task_asked name by t b same
-done_of_name name by t e (inr is) b same = ap (client_event name) is ∙ client_asked name by t b same
+answer_asked : (name by : List ℕ) (t : Task) (o : Option Reason) → bytes_eq by name ≡ true → by ≡ name → client_event name (answer_by by t o) ≡ task_event name t ∷ []
+answer_asked name by t None b same = task_asked name by t b same
+answer_asked name by t (Some r) b same = client_asked name by t (code_of r) b same
 
 -- and of nobody else
 is_other : (e : Event) (a b : Bool) → b ≡ false → (if a && b then asked_event e ∷ [] else []) ≡ []
 is_other e true b h = rw h refl
 is_other e false b h = refl
 
-done_of_other : (name by : List ℕ) (t : Task) (e : Event) → IsDoneBy by t e → bytes_eq by name ≡ false → client_event name e ≡ []
-done_of_other name by t e k b = is_other e (is_asked e) (bytes_eq (by_of e) name) (ap (λ n. bytes_eq n name) (done_by by t e k) ∙ b)
+answer_of_other : (name by : List ℕ) (t : Task) (o : Option Reason) → bytes_eq by name ≡ false → client_event name (answer_by by t o) ≡ []
+answer_of_other name by t o b = let e : Event = answer_by by t o in is_other e (is_asked e) (bytes_eq (by_of e) name) (ap (λ n. bytes_eq n name) (answered_by by t o) ∙ b)
 
 differ : (by name : List ℕ) → bytes_eq by name ≡ false → by ≢ name
 differ by name b same = false≢true (sym b ∙ ap (bytes_eq by) (sym same) ∙ own_bytes by)
 
--- what is left of an agenda whose head is done
-left_tasks : (c : Seen) (by : List ℕ) (t : Task) (ts : List Task) → agenda_of c by ≡ t ∷ ts → tasks_in (with_tasks c.agendas by ts) by ≡ ts
-left_tasks c by t ts a = tasks_new c.agendas by ts (tasked_there c.agendas by (λ none. let both : t ∷ ts ≡ [] = sym a ∙ none in cc))
+-- ---- a task that is answered
 
-pub performed_asked : (c : Seen) (by : List ℕ) (t : Task) (ts : List Task) (e : Event) (name : List ℕ) (b : Bool) → bytes_eq by name ≡ b → agenda_of c by ≡ t ∷ ts → IsDoneBy by t e → client_events name (e ∷ []) ++ todo name (agenda_of (performed c by e ts) name) ≡ todo name (agenda_of c name)
-performed_asked c by t ts e name true n a k =
-    let same : by ≡ name = same_bytes by name n in
-    ap (λ zs. (zs ++ []) ++ todo name (agenda_of (performed c by e ts) name)) (done_of_name name by t e k n same)
-    ∙ ap (λ x. task_event name t ∷ todo name (tasks_in (with_tasks c.agendas by ts) x)) (sym same)
-    ∙ ap (λ zs. task_event name t ∷ todo name zs) (left_tasks c by t ts a)
-    ∙ ap (todo name) (sym a)
-    ∙ ap (λ x. todo name (agenda_of c x)) same
-performed_asked c by t ts e name false n a k =
-    ap (λ zs. (zs ++ []) ++ todo name (agenda_of (performed c by e ts) name)) (done_of_other name by t e k n)
-    ∙ ap (todo name) (tasks_other c.agendas by name ts (differ by name n))
+-- the member at a place, of that name, has done the first of its tasks, or refused it
+abbrev pub Performs : ℕ → List ℕ → Seen → Seen → Type 0
+Performs i by c d = (t : Task) × (ts : List Task) × (agenda_of c by ≡ t ∷ ts) × (refusal (state_of c) (answer_to (state_of c) by t) ≡ None) × SameButOwed (performed c by (answer_to (state_of c) by t) ts) d
 
--- the member of that name has done the first of its tasks, or refused it
-abbrev pub Performs : List ℕ → Seen → Seen → Type 0
-Performs by c d = (t : Task) × (ts : List Task) × (e : Event) × (agenda_of c by ≡ t ∷ ts) × IsDoneBy by t e × (refusal (state_of c) e ≡ None) × SameButOwed (performed c by e ts) d
+-- by this event, of a task t before the others
+module _ (c : Seen) (i : ℕ) (by : List ℕ) (t : Task) (ts : List Task) (g : IsGoing c) (at : IsMemberAt c i by) (a : agenda_of c by ≡ t ∷ ts) where
+  abbrev w : World
+  w = state_of c
 
-pub performed_goes : (by : List ℕ) (c d : Seen) → Performs by c d → HasGoneOn c d
-performed_goes by c d p = subst (HasGoneOn c) (sym p.6.1) (
-  p.2 ∷ [],
-  record {
-    credit = refl;
-    names = refl;
-    agendas = names_stay c.agendas by p.1;
-    events = refl;
-    asked = λ name. performed_asked c by p.0 p.1 p.2 name (bytes_eq by name) refl p.3 p.4;
-  },
-)
+  abbrev e : Event
+  e = answer_to w by t
 
-pub performed_shrinks : (by : List ℕ) (c d : Seen) → Performs by c d → length (agenda_of d by) < length (agenda_of c by)
-performed_shrinks by c d p =
-    let new : agenda_of d by ≡ p.1 = ap (λ x. agenda_of x by) p.6.1 ∙ left_tasks c by p.0 p.1 p.3 in
-    omega (arith, ap length new, ap length p.3)
+  named : (k : ℕ) → k + 1 < size w → id_of w (member_at w (k + 1)).name ≡ Some (k + 1)
+  named k lt = found_in c k g lt
 
-pub performed_less : (by : List ℕ) (c d : Seen) → Performs by c d → NoneGrows c d
-performed_less by c d p name = by_name (bytes_eq by name) refl
-  where
-    by_name : (b : Bool) → bytes_eq by name ≡ b → length (agenda_of d name) ≤ length (agenda_of c name)
-    by_name true e = subst (λ n. length (agenda_of d n) ≤ length (agenda_of c n)) (same_bytes by name e) (omega (arith, performed_shrinks by c d p))
-    by_name false e = omega (arith, ap length (ap (λ x. agenda_of x name) p.6.1 ∙ tasks_other c.agendas by name p.1 (differ by name e)))
+  -- the agendas, with what it hands on
+  abbrev plans : List Plan
+  plans = with_handed c.agendas (handing w e)
+
+  mine_stay : (o : Option (List ℕ × List ℕ)) → handing w e ≡ o → tasks_in (with_handed c.agendas o) by ≡ t ∷ ts
+  mine_stay None h = a
+  mine_stay (Some k) h = given_other c.agendas k.0 by (task.Admit k.1) (answer_differs w i by named at t k h) ∙ a
+
+  mine : tasks_in plans by ≡ t ∷ ts
+  mine = mine_stay (handing w e) refl
+
+  there : IsSome (place_among (names_of plans) by)
+  there = tasked_there plans by (λ none. let both : t ∷ ts ≡ [] = sym mine ∙ none in cc)
+
+  left_mine : tasks_in (with_tasks plans by ts) by ≡ ts
+  left_mine = tasks_new plans by ts there
+
+  -- nothing is handed on to itself
+  none_mine : (o : Option (List ℕ × List ℕ)) → handing w e ≡ o → given_to by o ≡ []
+  none_mine None h = refl
+  none_mine (Some k) h = ap (λ b. if b then Admit by k.1 ∷ [] else []) (other_name k.0 by (answer_differs w i by named at t k h))
+
+  -- to each other what is handed on joins its agenda
+  theirs : (name : List ℕ) (o : Option (List ℕ × List ℕ)) → todo name (tasks_in (with_handed c.agendas o) name) ≡ todo name (agenda_of c name) ++ given_to name o
+  theirs name None = sym (append-nil (todo name (agenda_of c name)))
+  theirs name (Some k) = by_name (bytes_eq k.0 name) refl
+    where
+      by_name : (b : Bool) → bytes_eq k.0 name ≡ b → todo name (tasks_in (with_task c.agendas k.0 (task.Admit k.1)) name) ≡ todo name (agenda_of c name) ++ (if b then Admit name k.1 ∷ [] else [])
+      by_name true h =
+          let same : k.0 ≡ name = same_bytes k.0 name h in
+          ap (λ n. todo name (tasks_in (with_task c.agendas n (task.Admit k.1)) name)) same
+          ∙ ap (todo name) (given_new c.agendas name (task.Admit k.1))
+          ∙ map-append (task_event name) (agenda_of c name) (task.Admit k.1 ∷ [])
+      by_name false h =
+          ap (todo name) (given_other c.agendas k.0 name (task.Admit k.1) (differ k.0 name h)) ∙ sym (append-nil (todo name (agenda_of c name)))
+
+  performed_serves : (name : List ℕ) (b : Bool) → bytes_eq by name ≡ b → client_events name (e ∷ []) ++ todo name (agenda_of (performed c by e ts) name) ≡ todo name (agenda_of c name) ++ handed w name (e ∷ [])
+  performed_serves name true n =
+      let same : by ≡ name = same_bytes by name n in
+      subst (λ k. client_events k (e ∷ []) ++ todo k (agenda_of (performed c by e ts) k) ≡ todo k (agenda_of c k) ++ handed w k (e ∷ [])) same (
+      ap (λ zs. (zs ++ []) ++ todo by (agenda_of (performed c by e ts) by)) (answer_asked by by t (refusal w (task_event by t)) (own_bytes by) refl)
+      ∙ ap (λ us. task_event by t ∷ todo by us) left_mine
+      ∙ ap (todo by) (sym a)
+      ∙ sym (append-nil (todo by (agenda_of c by)))
+      ∙ ap (λ zs. todo by (agenda_of c by) ++ (zs ++ [])) (sym (none_mine (handing w e) refl))
+      )
+  performed_serves name false n =
+      ap (λ zs. (zs ++ []) ++ todo name (agenda_of (performed c by e ts) name)) (answer_of_other name by t (refusal w (task_event by t)) n)
+      ∙ ap (todo name) (tasks_other plans by name ts (differ by name n))
+      ∙ theirs name (handing w e)
+      ∙ ap (λ zs. todo name (agenda_of c name) ++ zs) (sym (append-nil (given_to name (handing w e))))
+
+  performed_on : GoesOn c (performed c by e ts) (e ∷ [])
+  performed_on = by_one c (performed c by e ts) e refl refl refl (λ name. performed_serves name (bytes_eq by name) refl)
+
+  performed_left : refusal w e ≡ None → backlog_of (performed c by e ts) < backlog_of c
+  performed_left none =
+      let after : backlog_of (performed c by e ts) ≡ backlog (effect w e) (with_tasks plans by ts) = ap (λ u. backlog u (with_tasks plans by ts)) (last_append (opening c.credit c.names) c.events (e ∷ [])) in
+      omega (arith, after, left_in c e (with_tasks plans by ts) g none, answered_less w i by named at c.agendas t ts a)
+
+-- the first of its tasks is struck off behind that
+pub performed_is : (i : ℕ) (by : List ℕ) (t : Task) (ts : List Task) (c c1 d : Seen) (e : Event) → IsGoing c → IsMemberAt c i by → agenda_of c by ≡ t ∷ ts → e ≡ answer_to (state_of c) by t
+    → SameButOwed (record (with_event c e) { agendas = with_handed c.agendas (handing (state_of c) e) }) c1
+    → d ≡ record c1 { agendas = with_tasks c1.agendas by (drop 1 (agenda_of c1 by)) }
+    → SameButOwed (performed c by (answer_to (state_of c) by t) ts) d
+performed_is i by t ts c c1 d e g at a answer s is =
+    subst (λ x. SameButOwed (performed c by x ts) d) answer (
+      s.0,
+      is
+          ∙ ap (λ (y : Seen). record y { agendas = with_tasks y.agendas by (drop 1 (agenda_of y by)) }) s.1
+          ∙ ap (λ us. showing s.0 (record (with_event c e) { agendas = with_tasks (with_handed c.agendas (handing (state_of c) e)) by (drop 1 us) }))
+          (ap (λ x. tasks_in (with_handed c.agendas (handing (state_of c) x)) by) answer ∙ mine c i by t ts g at a),
+    )
+
+pub performed_goes : (i : ℕ) (by : List ℕ) (c d : Seen) → IsGoing c → IsMemberAt c i by → Performs i by c d → HasGoneOn c d
+performed_goes i by c d g at p =
+    let e : Event = answer_to (state_of c) by p.0 in
+    let k : Seen = performed c by e p.1 in
+    subst (HasGoneOn c) (sym p.4.1) (e ∷ [], GoesOn-given c k (showing p.4.0 k) (e ∷ []) refl refl refl refl (performed_on c i by p.0 p.1 g at p.2))
+
+-- it has done or refused one thing more that clients asked of it
+pub performed_more : (i : ℕ) (by : List ℕ) (c d : Seen) → Performs i by c d → length (client_events by c.events) < length (client_events by d.events)
+performed_more i by c d p =
+    let e : Event = answer_to (state_of c) by p.0 in
+    omega (arith, ap (λ x. length (client_events by x.events)) p.4.1, ap length (flat_map-append (client_event by) c.events (e ∷ [])), length-append (client_events by c.events) (client_events by (e ∷ [])), ap (λ zs. length (zs ++ [])) (answer_asked by by p.0 (refusal (state_of c) (task_event by p.0)) (own_bytes by) refl))
+
+pub performed_less : (i : ℕ) (by : List ℕ) (c d : Seen) → IsGoing c → IsMemberAt c i by → Performs i by c d → backlog_of d < backlog_of c
+performed_less i by c d g at p = subst (λ x. backlog_of x < backlog_of c) (sym p.4.1) (performed_left c i by p.0 p.1 g at p.2 p.3)
 
 -- ---- heads
 
-pub first_of : (xs ys zs : List Event) (e : Event) → xs ++ ys ≡ e ∷ zs → length ys < length zs + 1 → Contains xs e
-first_of [] ys zs e is l = absurd (omega (arith, ap length is))
+pub first_of : (xs ys zs : List Event) (e : Event) → xs ++ ys ≡ e ∷ zs → 0 < length xs → Contains xs e
+first_of [] ys zs e is l = absurd (omega (arith, l))
 first_of (x ∷ xs) ys zs e is l = (0, omega arith, cc)
 
--- each member that had an agenda has begun with its head
-pub heads_are : (c d : Seen) (more : List Event) → GoesOn c d more → ((name : List ℕ) → HasBegun name c d) → HeadsAre c more
-heads_are c d more g begun name t ts a =
-    let less : length (agenda_of d name) < length (agenda_of c name) = begun name (omega (arith, ap length a)) in
-    first_of (client_events name more) (todo name (agenda_of d name)) (todo name ts) (task_event name t) (g.asked name ∙ ap (todo name) a)
-    (omega (arith, less, ap length a, length-map (agenda_of d name) (task_event name), length-map ts (task_event name)))
+-- how much clients have asked for that was done or refused by more events
+pub asked_more : (c d : Seen) (name : List ℕ) (more : List Event) → d.events ≡ c.events ++ more → length (client_events name d.events) ≡ length (client_events name c.events) + length (client_events name more)
+asked_more c d name more e = ap (λ es. length (client_events name es)) e ∙ ap length (flat_map-append (client_event name) c.events more) ∙ length-append (client_events name c.events) (client_events name more)
+
+-- each member that had something to do at once has begun with its head
+pub heads_are : (c d : Seen) (more : List Event) → GoesOn c d more → ((i : ℕ) (name : List ℕ) → IsMemberAt c i name → HasBegun i name c d) → HeadsAre c more
+heads_are c d more g begun i name t ts at a due =
+    first_of (client_events name more) (todo name (agenda_of d name)) (todo name ts ++ handed (state_of c) name more) (task_event name t)
+    (g.serves name ∙ ap (λ us. todo name us ++ handed (state_of c) name more) a)
+    (omega (arith, begun i name at due, asked_more c d name more g.events))
+
+-- what was due is so still, where nothing was done of it
+same_stop : (name : List ℕ) (t u : Task) → task_event name t ≡ task_event name u → is_stop t ≡ is_stop u
+same_stop name (task.Cast body) (task.Cast other) e = refl
+same_stop name (task.Cast body) task.Stop e = cc
+same_stop name (task.Cast body) (task.Admit other) e = cc
+same_stop name task.Stop (task.Cast other) e = cc
+same_stop name task.Stop task.Stop e = refl
+same_stop name task.Stop (task.Admit other) e = cc
+same_stop name (task.Admit newcomer) (task.Cast other) e = cc
+same_stop name (task.Admit newcomer) task.Stop e = cc
+same_stop name (task.Admit newcomer) (task.Admit other) e = refl
+
+takes_up_still : (f g : Phase) (t u : Task) → (f ≢ Waiting → g ≢ Waiting) → is_stop t ≡ is_stop u → takes_up f t ≡ true → takes_up g u ≡ true
+takes_up_still f Up t u on same due = refl
+takes_up_still f Stopped t u on same due = refl
+takes_up_still Waiting Waiting t u on same due = sym same ∙ due
+takes_up_still Up Waiting t u on same due = absurd (on (λ e. cc) refl)
+takes_up_still Stopped Waiting t u on same due = absurd (on (λ e. cc) refl)
+
+due_by : (name : List ℕ) (f g : Phase) (old new : List Task) (behind : List Event) → (f ≢ Waiting → g ≢ Waiting) → todo name new ≡ todo name old ++ behind → is_due f old ≡ true → is_due g new ≡ true
+due_by name f g [] new behind on e due = absurd (false≢true due)
+due_by name f g (t ∷ ts) [] behind on e due = let both : [] ≡ task_event name t ∷ (todo name ts ++ behind) = e in cc
+due_by name f g (t ∷ ts) (u ∷ us) behind on e due = let same : task_event name u ≡ task_event name t = cc in takes_up_still f g t u on (sym (same_stop name u t same)) due
+
+pub due_still : (c d : Seen) (i : ℕ) (name : List ℕ) (more : List Event) → GoesOn c d more → ((member_at (state_of c) (i + 1)).phase ≢ Waiting → (member_at (state_of d) (i + 1)).phase ≢ Waiting) → length (client_events name more) ≡ 0 → IsDue c i name → IsDue d i name
+due_still c d i name more g on none due =
+    due_by name (member_at (state_of c) (i + 1)).phase (member_at (state_of d) (i + 1)).phase (agenda_of c name) (agenda_of d name) (handed (state_of c) name more) on
+    (sym (ap (λ zs. zs ++ todo name (agenda_of d name)) (nothing (client_events name more) none)) ∙ g.serves name) due
+  where
+    nothing : (xs : List Event) → length xs ≡ 0 → xs ≡ []
+    nothing [] e = refl
+    nothing (x ∷ xs) e = absurd (omega (arith, e))
 
 -- ---- commands
 
@@ -123,43 +242,38 @@ module _ (c : Seen) (by : List ℕ) (t : Task) (x : Command) (asks : (name : Lis
   abbrev d : Seen
   d = commanded c x
 
-  given_asked : (name : List ℕ) (b : Bool) → bytes_eq by name ≡ b → IsSome (place_among (names_of c.agendas) by) → PlaysSoFar c
-      → client_events name c.events ++ todo name (agenda_of d name) ≡ asked name (c.given ++ x ∷ [])
-  given_asked name true e there h =
+  given_serves : (name : List ℕ) (b : Bool) → bytes_eq by name ≡ b → PlaysSoFar c → Serves (opening c.credit c.names) name c.events (c.given ++ x ∷ []) (todo name (agenda_of d name))
+  given_serves name true e h =
       let same : by ≡ name = same_bytes by name e in
-      let agenda : agenda_of d name ≡ agenda_of c name ++ t ∷ [] =
-      ap (λ ags. tasks_in ags name) gives
-      ∙ ap (tasks_in (with_task c.agendas by t)) (sym same)
-      ∙ tasks_new c.agendas by (tasks_in c.agendas by ++ t ∷ []) there
-      ∙ ap (λ n. tasks_in c.agendas n ++ t ∷ []) same in
+      let agenda : todo name (agenda_of d name) ≡ todo name (agenda_of c name) ++ task_event name t ∷ [] =
+      ap (λ ags. todo name (tasks_in ags name)) gives
+      ∙ ap (λ n. todo name (tasks_in (with_task c.agendas n t) name)) same
+      ∙ ap (todo name) (given_new c.agendas name t)
+      ∙ map-append (task_event name) (agenda_of c name) (t ∷ []) in
       let one : asked_by name x ≡ task_event name t ∷ [] = asks name ∙ ap (λ b. if b then task_event by t ∷ [] else []) e ∙ ap (λ n. task_event n t ∷ []) same in
-      ap (λ ts. client_events name c.events ++ todo name ts) agenda
-      ∙ ap (λ es. client_events name c.events ++ es) (map-append (task_event name) (agenda_of c name) (t ∷ []))
-      ∙ sym (append_assoc (client_events name c.events) (todo name (agenda_of c name)) (task_event name t ∷ []))
-      ∙ ap (λ es. es ++ task_event name t ∷ []) (h.asked name)
-      ∙ ap (λ es. asked name c.given ++ es) (sym one)
-      ∙ sym (asked_push name c.given x)
-  given_asked name false e there h =
-      let agenda : agenda_of d name ≡ agenda_of c name = ap (λ ags. tasks_in ags name) gives ∙ tasks_other c.agendas by name (tasks_in c.agendas by ++ t ∷ []) (differ by name e) in
+      subst (Serves (opening c.credit c.names) name c.events (c.given ++ x ∷ [])) (sym agenda)
+      (serves_more (opening c.credit c.names) name c.events c.given (todo name (agenda_of c name)) (h.serves name) (c.given ++ x ∷ []) (task_event name t ∷ [])
+      (asked_push name c.given x ∙ ap (λ zs. asked name c.given ++ zs) one))
+  given_serves name false e h =
+      let agenda : agenda_of d name ≡ agenda_of c name = ap (λ ags. tasks_in ags name) gives ∙ given_other c.agendas by name t (differ by name e) in
       let none : asked_by name x ≡ [] = asks name ∙ ap (λ b. if b then task_event by t ∷ [] else []) e in
-      ap (λ ts. client_events name c.events ++ todo name ts) agenda
-      ∙ h.asked name
-      ∙ sym (append-nil (asked name c.given))
-      ∙ ap (λ es. asked name c.given ++ es) (sym none)
-      ∙ sym (asked_push name c.given x)
+      subst (λ ts. Serves (opening c.credit c.names) name c.events (c.given ++ x ∷ []) (todo name ts)) (sym agenda)
+      (serves_still (opening c.credit c.names) name c.events c.given (todo name (agenda_of c name)) (h.serves name) (c.given ++ x ∷ [])
+      (asked_push name c.given x ∙ ap (λ zs. asked name c.given ++ zs) none ∙ append-nil (asked name c.given)))
 
-  given_plays : (x ≡ command.Settle → ⊥) → IsGoing c → IsSome (place_among c.names by) → PlaysSoFar c → PlaysSoFar d
-  given_plays differs g k h = record {
-    asked = λ name. given_asked name (bytes_eq by name) refl (subst (λ ns. IsSome (place_among ns by)) (sym g.agendas) k) h;
+  given_plays : (x ≡ command.Settle → ⊥) → PlaysSoFar c → PlaysSoFar d
+  given_plays differs h = record {
+    serves = λ name. given_serves name (bytes_eq by name) refl h;
     settled = settled_each_more c.credit c.names c.events c.given x h.settled (λ e. absurd (differs e));
   }
 
 -- a command that was taken keeps what is played
-pub commanded_plays : (c d : Seen) (x : Command) → IsGoing c → IsCommandTo c.names x → d ≡ commanded c x → PlaysSoFar c → PlaysSoFar d
-commanded_plays c d (command.Cast by body) g k is h = subst PlaysSoFar (sym is) (given_plays c by (task.Cast body) (command.Cast by body) (λ name. refl) refl (λ e. cc) g k h)
-commanded_plays c d (command.Kill by) g k is h = subst PlaysSoFar (sym is) (given_plays c by task.Stop (command.Kill by) (λ name. refl) refl (λ e. cc) g k h)
-commanded_plays c d (command.Go turns) g k is h = absurd k
-commanded_plays c d command.Settle g k is h = absurd k
+pub commanded_plays : (c d : Seen) (x : Command) → IsOfMember x → d ≡ commanded c x → PlaysSoFar c → PlaysSoFar d
+commanded_plays c d (command.Cast by body) k is h = subst PlaysSoFar (sym is) (given_plays c by (task.Cast body) (command.Cast by body) (λ name. refl) refl (λ e. cc) h)
+commanded_plays c d (command.Join by newcomer) k is h = subst PlaysSoFar (sym is) (given_plays c by (task.Admit newcomer) (command.Join by newcomer) (λ name. refl) refl (λ e. cc) h)
+commanded_plays c d (command.Kill by) k is h = subst PlaysSoFar (sym is) (given_plays c by task.Stop (command.Kill by) (λ name. refl) refl (λ e. cc) h)
+commanded_plays c d (command.Go turns) k is h = absurd k
+commanded_plays c d command.Settle k is h = absurd k
 
 -- ---- rounds and settling
 
@@ -172,14 +286,15 @@ go_plays c d turns goes eg h =
 pub same_plays : (c d : Seen) → HasGoneOn c d → d.given ≡ c.given → PlaysSoFar c → PlaysSoFar d
 same_plays c d goes eg h = plays_on c d goes.0 goes.1 eg h
 
-pub settle_plays : (c d : Seen) → HasGoneOn c d → AgendasAreEmpty d → IsQuiet (state_of d) → d.given ≡ c.given ++ command.Settle ∷ [] → PlaysSoFar c → PlaysSoFar d
-settle_plays c d goes empty quiet eg h =
+pub settle_plays : (c d : Seen) → IsGoing d → HasGoneOn c d → AgendasAreEmpty d → IsQuiet (state_of d) → d.given ≡ c.given ++ command.Settle ∷ [] → PlaysSoFar c → PlaysSoFar d
+settle_plays c d g goes empty quiet eg h =
     let e : Seen = record d { given = c.given } in
     let on : PlaysSoFar e = plays_on c e goes.0 (GoesOn-given c d e goes.0 refl refl refl refl goes.1) refl h in
-    plays_noted e d command.Settle (λ name. refl) (λ _. settled_now d.credit d.names d.events c.given quiet (empty_is_done e empty on)) refl refl refl refl eg on
+    let going : IsGoing e = record { are = g.are; run = g.run; few = g.few; rounds = g.rounds } in
+    plays_noted e d command.Settle (λ name. refl) (λ _. settled_now d.credit d.names d.events c.given quiet (all_served e going empty on)) refl refl refl refl eg on
 
-pub settle_played : (c d : Seen) → HasGoneOn c d → AgendasAreEmpty d → IsQuiet (state_of d) → d.given ≡ c.given ++ command.Settle ∷ [] → PlaysSoFar c → Plays d.credit d.names d.events d.given
-settle_played c d goes empty quiet eg h = settled_plays d empty (settle_plays c d goes empty quiet eg h)
+pub settle_played : (c d : Seen) → IsGoing d → HasGoneOn c d → AgendasAreEmpty d → IsQuiet (state_of d) → d.given ≡ c.given ++ command.Settle ∷ [] → PlaysSoFar c → Plays d.credit d.names d.events d.given
+settle_played c d g goes empty quiet eg h = settled_plays d g empty (settle_plays c d g goes empty quiet eg h)
 
 -- only what was given and the rounds differ
 pub gone_beside : (c c1 d d1 : Seen) → c1.credit ≡ c.credit → c1.names ≡ c.names → c1.events ≡ c.events → c1.agendas ≡ c.agendas → d.credit ≡ d1.credit → d.names ≡ d1.names → d.events ≡ d1.events → d.agendas ≡ d1.agendas → HasGoneOn c1 d1 → HasGoneOn c d
@@ -188,14 +303,20 @@ gone_beside c c1 d d1 c1c c1n c1e c1a dc dn de da h = (
   record {
     credit = dc ∙ h.1.credit ∙ c1c;
     names = dn ∙ h.1.names ∙ c1n;
-    agendas = ap names_of da ∙ h.1.agendas ∙ ap names_of c1a;
     events = de ∙ h.1.events ∙ ap (λ es. es ++ h.0) c1e;
-    asked = λ name.
+    serves = λ name.
         ap (λ ags. client_events name h.0 ++ todo name (tasks_in ags name)) da
-        ∙ h.1.asked name
-        ∙ ap (λ ags. todo name (tasks_in ags name)) c1a;
+        ∙ h.1.serves name
+        ∙ ap (λ ags. todo name (tasks_in ags name) ++ handed (state_of c1) name h.0) c1a
+        ∙ ap (λ w. todo name (agenda_of c name) ++ handed w name h.0) same;
+    later = λ name count le.
+        subst (λ w. length (client_events name (take count h.0)) ≤ length (agenda_of c name) + length (handed w name (take count h.0))) same
+        (subst (λ ags. length (client_events name (take count h.0)) ≤ length (tasks_in ags name) + length (handed (state_of c1) name (take count h.0))) c1a (h.1.later name count le));
   },
 )
+  where
+    same : state_of c1 ≡ state_of c
+    same = ap (λ x. state x c1.names c1.events) c1c ∙ ap (λ x. state c.credit x c1.events) c1n ∙ ap (state c.credit c.names) c1e
 
 -- c1 has another count of rounds than c, and c2 another list of what was given than c1
 pub gone_from : (c c1 c2 d : Seen) (rounds : ℕ) (given : List Command) → c1 ≡ record c { rounds = rounds } → c2 ≡ record c1 { given = given } → HasGoneOn c2 d → HasGoneOn c d
@@ -205,11 +326,11 @@ gone_from c c1 c2 d rounds given e1 e2 h =
 pub gone_into : (c d e : Seen) (given : List Command) → e ≡ record d { given = given } → HasGoneOn c d → HasGoneOn c e
 gone_into c d e given is h = gone_beside c c e d refl refl refl refl (ap (λ x. x.credit) is) (ap (λ x. x.names) is) (ap (λ x. x.events) is) (ap (λ x. x.agendas) is) h
 
-pub round_heads : (c c1 c2 d : Seen) (rounds : ℕ) (given : List Command) → c1 ≡ record c { rounds = rounds } → c2 ≡ record c1 { given = given } → HasGoneOn c2 d → ((name : List ℕ) → HasBegun name c2 d) → (more : List Event) × GoesOn c d more × HeadsAre c more
+pub round_heads : (c c1 c2 d : Seen) (rounds : ℕ) (given : List Command) → c1 ≡ record c { rounds = rounds } → c2 ≡ record c1 { given = given } → HasGoneOn c2 d → ((i : ℕ) (name : List ℕ) → IsMemberAt c2 i name → HasBegun i name c2 d) → (more : List Event) × GoesOn c d more × HeadsAre c more
 round_heads c c1 c2 d rounds given e1 e2 h begun =
-    let agendas : c2.agendas ≡ c.agendas = ap (λ x. x.agendas) e2 ∙ ap (λ x. x.agendas) e1 in
+    let is : c2 ≡ record (record c { rounds = rounds }) { given = given } = e2 ∙ ap (λ (x : Seen). record x { given = given }) e1 in
     let gone : HasGoneOn c d = gone_from c c1 c2 d rounds given e1 e2 h in
-    (gone.0, gone.1, heads_are c d gone.0 gone.1 (λ name. subst (λ ags. 0 < length (tasks_in ags name) → length (agenda_of d name) < length (tasks_in ags name)) agendas (begun name)))
+    (gone.0, gone.1, heads_are c d gone.0 gone.1 (λ i name. subst (λ x. IsMemberAt x i name → HasBegun i name x d) is (begun i name)))
 
 pub given_after : (c c1 c2 d : Seen) (rounds : ℕ) (x : Command) → c1 ≡ record c { rounds = rounds } → c2 ≡ record c1 { given = c1.given ++ x ∷ [] } → d.given ≡ c2.given → d.given ≡ c.given ++ x ∷ []
 given_after c c1 c2 d rounds x e1 e2 e = e ∙ ap (λ y. y.given) e2 ∙ ap (λ y. y.given ++ x ∷ []) e1

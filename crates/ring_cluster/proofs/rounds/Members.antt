@@ -1,5 +1,5 @@
 -- The members of a cluster's state by their ids, those of the opening and those that joined, and what each may do.
-use Rattle.std.proofs.Common.{◌≡◌, ◌≢◌, ◌⊎◌, inl, inr, ⊎_elim, ℕ, suc, ◌+◌, ◌-◌, ◌<◌, ◌≤◌, Bool, true, false, List, [], ◌∷◌, ◌++◌, length, map, drop, take, get_or, option_map, Option, Some, None, is_some, refl, sym, ap, subst, ◌∙◌, arith}
+use Rattle.std.proofs.Common.{◌≡◌, ◌≢◌, ◌⊎◌, inl, inr, ⊎_elim, ℕ, suc, ◌+◌, ◌-◌, ◌<◌, ◌≤◌, Bool, true, false, List, [], ◌∷◌, ◌++◌, length, map, drop, take, get_or, option_map, Option, Some, None, is_some, if◌then◌else◌, refl, sym, ap, subst, ◌∙◌, arith}
 use Rattle.std.specs.Prelude.{IsSome, ◌&&◌, not, nat_eq, MatchOption, bytes_eq, position}
 use Rattle.std.proofs.lemmas.Bool.{false≢true, le-ltb, cases_lt}
 use Rattle.std.proofs.lemmas.List.{same_lists, length-take-le, get_or_default, length_push, get_or-take, get_or_append_left, get_or_push}
@@ -8,22 +8,23 @@ use Rattle.ring_names.specs.declared.reason.Reason.{Reason}
 use Rattle.ring_names.specs.declared.reason.Reason.TheVariants as reason
 use Rattle.ring_names.specs.Reason.{code_of}
 use Rattle.ring_names.specs.declared.numbers.CreditSpec.{CreditSpec}
-use Rattle.group_view.specs.Change.{AreOpeningNames, AreDifferent}
+use Rattle.group_view.specs.Change.{AreOpeningNames, AreDifferent, is_taken}
 use Rattle.ring_world.specs.declared.event.Event.{Event}
 use Rattle.ring_world.specs.declared.event.Event.TheVariants.{Take, Mark, Refresh, Admit, Erase}
 use Rattle.ring_world.specs.declared.phase.Phase.{Phase}
 use Rattle.ring_world.specs.declared.phase.Phase.TheVariants.{Waiting, Up, Stopped}
 use Rattle.ring_world.specs.Refusal.{refuse_if, or_else, is_empty}
-use Rattle.ring_world.specs.Machine.{World, member_at, link_at, newest, runs, runs_phase, is_waiting, oldest}
+use Rattle.ring_world.specs.Machine.{World, member_at, link_at, view_in, newest, runs, runs_phase, is_waiting, oldest}
 use Rattle.ring_world.specs.Step.{size, opening}
-use Rattle.ring_world.specs.Event.{by_of, id_of, of_member, on_link, is_told, refused_at, is_stopped, version_refusal, running_refusal, up_refusal, take_refusal, refresh_refusal, mark_refusal, erase_refusal, refusal, effect, IsRun, last}
+use Rattle.ring_world.specs.Event.{by_of, id_of, of_member, on_link, is_asked, is_told, is_passing, doing_refusal, refused_at, is_stopped, version_refusal, running_refusal, up_refusal, take_refusal, refresh_refusal, mark_refusal, erase_refusal, admit_refusal, refusal, effect, IsRun, last}
 use Rattle.ring_world.specs.Work.{is_stale, LeavesLess}
 use Rattle.ring_world.specs.Settling.{is_repair, stale_one}
 use Rattle.ring_world.proofs.events.Names.{same_bytes}
+use Rattle.ring_world.proofs.events.Enabled.{up_none}
 use Rattle.ring_world.proofs.events.Refusals.{id_within}
 use Rattle.ring_world.proofs.rests.Asked.{no_version}
 use Rattle.ring_world.proofs.rings.Rounds.{nat_eq-same}
-use Rattle.ring_world.proofs.runs.InOrder.{last_append}
+use Rattle.ring_world.proofs.runs.InOrder.{last_append, run_append}
 use Rattle.ring_world.proofs.invariants.FirstVersion.{reached_old}
 use Rattle.ring_world.proofs.walks.Ended.{runs_lt}
 use Rattle.ring_world.proofs.work.Settling.{repair_less, someone}
@@ -31,16 +32,17 @@ use Rattle.ring_world.proofs.work.Fit as ring
 use Rattle.gm_member.proofs.Fit.{IsFit, reached_fit}
 use Rattle.ring_cluster.specs.declared.agenda.Task.{Task}
 use Rattle.ring_cluster.specs.declared.agenda.Task.TheVariants as task
-use Rattle.ring_cluster.specs.Seen.{Seen, state, state_of, IsGoing, IsEventIn, with_event}
-use Rattle.ring_cluster.specs.Agendas.{names_of, place_among}
-use Rattle.ring_cluster.specs.Plays.{task_event, refused_task, agenda_of}
-use Rattle.ring_cluster.specs.Turns.{IsMemberAt, MembersStay}
+use Rattle.ring_cluster.specs.Seen.{Seen, state, state_of, IsGoing, IsEventIn, IsMemberIn, with_event}
+use Rattle.ring_cluster.specs.Agendas.{Plan, place_among}
+use Rattle.ring_cluster.specs.Backlog.{backlog}
+use Rattle.ring_cluster.specs.Handed.{least_running}
+use Rattle.ring_cluster.specs.Plays.{asked_event, client_event, client_events, task_event, answer_by, answer_to, is_stop, takes_up}
+use Rattle.ring_cluster.specs.Turns.{IsMemberAt, MembersStay, NoneWaitsAgain}
 use Rattle.ring_cluster.specs.Published.{names_in, logs_of}
 use Rattle.ring_world.specs.Published.{published_in}
-use Rattle.ring_cluster.proofs.lists.Plans.{tasked_there}
-use Rattle.ring_cluster.proofs.work.Bases.{openers_ready}
-use Rattle.ring_cluster.proofs.work.Staying.{SameNames, Joins, KeepsNames, event_same, event_keeps, admit_joins, run_keeps_names, run_behind, openers_many, openers_named}
-use Rattle.ring_cluster.proofs.work.Logged.{names_in_many, name_in_at, reached_different, id_in, run_all_logs}
+use Rattle.ring_cluster.proofs.work.Staying.{SameNames, Joins, KeepsNames, waits_not_again, is_admission, event_same, event_keeps, admit_joins, run_keeps_names, run_behind, openers_many, openers_named}
+use Rattle.ring_cluster.proofs.work.Logged.{names_in_many, name_in_at, reached_different, id_in, found_name, run_all_logs}
+use Rattle.ring_cluster.proofs.rounds.Heirs.{IsNext, next_heir, backlog_later}
 use Rattle.ring_cluster.proofs.rounds.Named.{going_fit, going_ring}
 
 -- they are few
@@ -176,7 +178,7 @@ event_at_place w e x some lt is =
     let back : x - 1 + 1 ≡ x = omega arith in
     (omega arith, is ∙ ap (λ k. (member_at w k).name) (sym back))
 
--- ---- who may do a task, and who may refuse it
+-- ---- who does or refuses a task
 
 up_may : (f : Phase) (later : Option Reason) → f ≡ Up → later ≡ None → or_else (refuse_if (is_stopped f) reason.Stopped) (or_else (refuse_if (is_waiting f) reason.Waiting) later) ≡ None
 up_may Waiting later e h = cc
@@ -188,37 +190,58 @@ running_may Waiting later e h = h
 running_may Up later e h = h
 running_may Stopped later e h = absurd (false≢true e)
 
--- what is asked of one that has stopped is refused as such
-stopped_told : (f : Phase) (later : Option Reason) → runs_phase f ≡ false
-    → refuse_if (not (is_told (code_of reason.Stopped) (or_else (refuse_if (is_stopped f) reason.Stopped) later))) reason.NotRefused ≡ None
-stopped_told Waiting later e = absurd (false≢true (sym e))
-stopped_told Up later e = absurd (false≢true (sym e))
-stopped_told Stopped later e = refl
+-- the reason why one that takes a task up doesn't do it is told
+up_told : (f : Phase) (later : Option Reason) (r : Reason) → f ≢ Waiting → (later ≡ Some r → is_passing r ≡ false) → or_else (refuse_if (is_stopped f) reason.Stopped) (or_else (refuse_if (is_waiting f) reason.Waiting) later) ≡ Some r → is_passing r ≡ false
+up_told Waiting later r differs told e = absurd (differs refl)
+up_told Up later r differs told e = told e
+up_told Stopped later r differs told e = let same : reason.Stopped ≡ r = cc in ap is_passing (sym same)
+
+running_told : (f : Phase) (r : Reason) → or_else (refuse_if (is_stopped f) reason.Stopped) None ≡ Some r → is_passing r ≡ false
+running_told Waiting r e = cc
+running_told Up r e = cc
+running_told Stopped r e = let same : reason.Stopped ≡ r = cc in ap is_passing (sym same)
+
+admit_told : (a b : Bool) (r : Reason) → or_else (refuse_if a reason.NameTaken) (refuse_if b reason.TooManyMembers) ≡ Some r → is_passing r ≡ false
+admit_told true b r e = let same : reason.NameTaken ≡ r = cc in ap is_passing (sym same)
+admit_told false true r e = let same : reason.TooManyMembers ≡ r = cc in ap is_passing (sym same)
+admit_told false false r e = cc
+
+-- one that waits takes up its stop alone
+no_waiter : (f : Phase) (t : Task) → is_stop t ≡ false → takes_up f t ≡ true → f ≢ Waiting
+no_waiter f t other takes e = false≢true (sym other ∙ sym (ap (λ g. takes_up g t) e) ∙ takes)
 
 module _ (w : World) (x : ℕ) (f : IsFit w) (some : 1 ≤ x) (lt : x < size w) where
-  -- who is up may publish
-  pub cast_may : (body : List ℕ) → (member_at w x).phase ≡ Up → refusal w (task_event (member_at w x).name (task.Cast body)) ≡ None
-  cast_may body up =
-      ap (λ o. of_member o (λ y. up_refusal w y None)) (f.named x some lt) ∙ up_may (member_at w x).phase None up refl
+  task_told : (t : Task) (r : Reason) → takes_up (member_at w x).phase t ≡ true → doing_refusal w (task_event (member_at w x).name t) x ≡ Some r → is_passing r ≡ false
+  task_told (task.Cast body) r takes e = up_told (member_at w x).phase None r (no_waiter (member_at w x).phase (task.Cast body) refl takes) (λ h. cc) e
+  task_told task.Stop r takes e = running_told (member_at w x).phase r e
+  task_told (task.Admit newcomer) r takes e = up_told (member_at w x).phase (admit_refusal w newcomer) r (no_waiter (member_at w x).phase (task.Admit newcomer) refl takes) (admit_told (is_taken (view_in w (newest w)).entries newcomer) _ r) e
 
-  -- who runs may stop, also one that waits
-  pub stop_may : runs w x ≡ true → refusal w (task_event (member_at w x).name task.Stop) ≡ None
-  stop_may r =
-      ap (λ o. of_member o (λ y. running_refusal w y None)) (f.named x some lt) ∙ running_may (member_at w x).phase None r refl
+  -- what is told is told with its number
+  told_as : (r : Reason) → is_passing r ≡ false → refuse_if (not (is_told (code_of r) (Some r))) reason.NotRefused ≡ None
+  told_as r h = ap (λ b. refuse_if (not (b && not (is_passing r))) reason.NotRefused) (nat_eq-same (code_of r)) ∙ ap (λ b. refuse_if (not (not b)) reason.NotRefused) h
 
-  -- so who is up may do each task
-  pub task_may : (t : Task) → (member_at w x).phase ≡ Up → refusal w (task_event (member_at w x).name t) ≡ None
-  task_may (task.Cast body) up = cast_may body up
-  task_may task.Stop up = stop_may (ap runs_phase up)
+  refusing : (t : Task) (r : Reason) → takes_up (member_at w x).phase t ≡ true → doing_refusal w (task_event (member_at w x).name t) x ≡ Some r
+      → of_member (id_of w (member_at w x).name) (λ k. refuse_if (not (is_told (code_of r) (doing_refusal w (task_event (member_at w x).name t) k))) reason.NotRefused) ≡ None
+  refusing t r takes e =
+      ap (λ o. of_member o (λ k. refuse_if (not (is_told (code_of r) (doing_refusal w (task_event (member_at w x).name t) k))) reason.NotRefused)) (f.named x some lt)
+      ∙ ap (λ o. refuse_if (not (is_told (code_of r) o)) reason.NotRefused) e
+      ∙ told_as r (task_told t r takes e)
 
-  -- and who has stopped refuses each
-  pub stopped_refuses : (t : Task) → runs w x ≡ false → refusal w (refused_task (member_at w x).name t) ≡ None
-  stopped_refuses (task.Cast body) r =
-      ap (λ o. of_member o (λ y. refuse_if (not (is_told (code_of reason.Stopped) (up_refusal w y None))) reason.NotRefused)) (f.named x some lt)
-      ∙ stopped_told (member_at w x).phase _ r
-  stopped_refuses task.Stop r =
-      ap (λ o. of_member o (λ y. refuse_if (not (is_told (code_of reason.Stopped) (running_refusal w y None))) reason.NotRefused)) (f.named x some lt)
-      ∙ stopped_told (member_at w x).phase None r
+  -- what is refused is so by the member's own conditions
+  by_doing : (t : Task) (o : Option Reason) → refusal w (task_event (member_at w x).name t) ≡ o → doing_refusal w (task_event (member_at w x).name t) x ≡ o
+  by_doing (task.Cast body) o e = sym (ap (λ k. of_member k (doing_refusal w (task_event (member_at w x).name (task.Cast body)))) (f.named x some lt)) ∙ e
+  by_doing task.Stop o e = sym (ap (λ k. of_member k (doing_refusal w (task_event (member_at w x).name task.Stop))) (f.named x some lt)) ∙ e
+  by_doing (task.Admit newcomer) o e = sym (ap (λ k. of_member k (doing_refusal w (task_event (member_at w x).name (task.Admit newcomer)))) (f.named x some lt)) ∙ e
+
+  -- so it may answer each task that it takes up
+  pub answer_may : (t : Task) → takes_up (member_at w x).phase t ≡ true → refusal w (answer_to w (member_at w x).name t) ≡ None
+  answer_may t takes = by_refusal t (refusal w (task_event (member_at w x).name t)) refl takes
+    where
+      by_refusal : (t : Task) (o : Option Reason) → refusal w (task_event (member_at w x).name t) ≡ o → takes_up (member_at w x).phase t ≡ true → refusal w (answer_by (member_at w x).name t o) ≡ None
+      by_refusal t None e takes = e
+      by_refusal (task.Cast body) (Some r) e takes = refusing (task.Cast body) r takes (by_doing (task.Cast body) (Some r) e)
+      by_refusal task.Stop (Some r) e takes = refusing task.Stop r takes (by_doing task.Stop (Some r) e)
+      by_refusal (task.Admit newcomer) (Some r) e takes = refusing (task.Admit newcomer) r takes (by_doing (task.Admit newcomer) (Some r) e)
 
   -- ---- what one that is up does by itself
 
@@ -273,10 +296,6 @@ waiting_takes_in c x g waits = waiting_takes c.credit c.names c.events x g.are g
 
 -- ---- the members by their places and names
 
--- a member of the opening
-pub opening_at : (c : Seen) (i : ℕ) → IsGoing c → i < length c.names → IsMemberAt c i (get_or c.names i [])
-opening_at c i g l = (omega (arith, l, openers_there c g), opener_name c i g l)
-
 -- its name is that of the member
 pub member_found : (c : Seen) (i : ℕ) (name : List ℕ) → IsGoing c → IsMemberAt c i name → id_of (state_of c) name ≡ Some (i + 1)
 member_found c i name g m = ap (id_of (state_of c)) (sym m.1) ∙ found_in c i g m.0
@@ -292,37 +311,6 @@ names_differ c i j name other g m n lt = by_test (bytes_eq name other) refl
         let is : i + 1 ≡ j + 1 = cc in
         absurd (omega (arith, lt, is))
 
--- who has a task is a member of the opening
-pub agenda_opener : (c : Seen) (name : List ℕ) → IsGoing c → agenda_of c name ≢ [] → (i : ℕ) × (i < length c.names) × IsMemberAt c i name
-agenda_opener c name g some = by_place (place_among (names_of c.agendas) name) refl (tasked_there c.agendas name some)
-  where
-    by_place : (o : Option ℕ) → place_among (names_of c.agendas) name ≡ o → IsSome o → (i : ℕ) × (i < length c.names) × IsMemberAt c i name
-    by_place None e k = absurd (false≢true k)
-    by_place (Some i) e k =
-        let there = position-Some (λ n. bytes_eq n name) c.names i [] (subst (λ ns. place_among ns name ≡ Some i) g.agendas e) in
-        (i, there.0, subst (IsMemberAt c i) (same_bytes (get_or c.names i []) name there.1) (opening_at c i g there.0))
-
-pub agenda_member : (c : Seen) (name : List ℕ) → IsGoing c → agenda_of c name ≢ [] → (i : ℕ) × IsMemberAt c i name
-agenda_member c name g some = let at = agenda_opener c name g some in (at.0, at.2)
-
--- one that has a task doesn't wait
-runs_up : (f : Phase) → is_waiting f ≡ false → runs_phase f ≡ true → f ≡ Up
-runs_up Waiting e r = absurd (false≢true (sym e))
-runs_up Up e r = refl
-runs_up Stopped e r = absurd (false≢true r)
-
-same_place : (c : Seen) (i j : ℕ) (name : List ℕ) → IsGoing c → IsMemberAt c i name → IsMemberAt c j name → i ≡ j
-same_place c i j name g m n =
-    let same : Some (i + 1) ≡ Some (j + 1) = sym (member_found c i name g m) ∙ member_found c j name g n in
-    let is : i + 1 ≡ j + 1 = cc in
-    omega (arith, is)
-
-pub tasked_up : (c : Seen) (i : ℕ) (name : List ℕ) → IsGoing c → IsMemberAt c i name → agenda_of c name ≢ [] → runs (state_of c) (i + 1) ≡ true → (member_at (state_of c) (i + 1)).phase ≡ Up
-tasked_up c i name g m some r =
-    let at = agenda_opener c name g some in
-    let is : i ≡ at.0 = same_place c i at.0 name g m at.2 in
-    runs_up (member_at (state_of c) (i + 1)).phase (openers_ready c.credit c.names c.events (i + 1) g.are g.run (omega (arith, is, at.1))) r
-
 -- each stays at its place, with its name
 pub event_stay : (c d : Seen) (e : Event) → refusal (state_of c) e ≡ None → d.credit ≡ c.credit → d.names ≡ c.names → d.events ≡ c.events ++ e ∷ [] → MembersStay c d
 event_stay c d e none credit names events i name m =
@@ -330,15 +318,82 @@ event_stay c d e none credit names events i name m =
     let is : state_of d ≡ effect (state_of c) e = ap (λ x. state x d.names d.events) credit ∙ ap (λ x. state c.credit x d.events) names ∙ ap (state c.credit c.names) events ∙ after_event c e in
     subst (λ w. (i + 1 < size w) × ((member_at w (i + 1)).name ≡ name)) (sym is) (omega (arith, k.many, m.0), k.name (i + 1) m.0 ∙ m.1)
 
--- ---- who does a task of an agenda, and who refuses it
+-- and one that has ceased to wait doesn't wait again
+pub event_begun : (c d : Seen) (e : Event) → refusal (state_of c) e ≡ None → d.credit ≡ c.credit → d.names ≡ c.names → d.events ≡ c.events ++ e ∷ [] → NoneWaitsAgain c d
+event_begun c d e none credit names events i lt differs =
+    let k : KeepsNames (state_of c) (effect (state_of c) e) = event_keeps (state_of c) e none in
+    let is : state_of d ≡ effect (state_of c) e = ap (λ x. state x d.names d.events) credit ∙ ap (λ x. state c.credit x d.events) names ∙ ap (state c.credit c.names) events ∙ after_event c e in
+    subst (λ w. (member_at w (i + 1)).phase ≢ Waiting) (sym is)
+    (waits_not_again (member_at (state_of c) (i + 1)).phase (member_at (effect (state_of c) e) (i + 1)).phase (k.phase (i + 1) lt) differs)
 
-pub done_enabled : (c : Seen) (i : ℕ) (t : Task) (name : List ℕ) (e : Event) → IsGoing c → IsMemberAt c i name → agenda_of c name ≢ [] → runs (state_of c) (i + 1) ≡ true → e ≡ task_event name t → refusal (state_of c) e ≡ None
-done_enabled c i t name e g m some r is =
-    ap (refusal (state_of c)) (is ∙ ap (λ n. task_event n t) (sym m.1)) ∙ task_may (state_of c) (i + 1) (going_fit c g) (omega arith) m.0 t (tasked_up c i name g m some r)
+-- ---- who answers a task of an agenda
 
-pub stopped_enabled : (c : Seen) (i : ℕ) (t : Task) (name : List ℕ) (e : Event) → IsGoing c → IsMemberAt c i name → runs (state_of c) (i + 1) ≡ false → e ≡ refused_task name t → refusal (state_of c) e ≡ None
-stopped_enabled c i t name e g m r is =
-    ap (refusal (state_of c)) (is ∙ ap (λ n. refused_task n t) (sym m.1)) ∙ stopped_refuses (state_of c) (i + 1) (going_fit c g) (omega arith) m.0 t r
+pub answer_enabled : (c : Seen) (i : ℕ) (t : Task) (name : List ℕ) → IsGoing c → IsMemberAt c i name → takes_up (member_at (state_of c) (i + 1)).phase t ≡ true → refusal (state_of c) (answer_to (state_of c) name t) ≡ None
+answer_enabled c i t name g m takes =
+    ap (λ n. refusal (state_of c) (answer_to (state_of c) n t)) (sym m.1) ∙ answer_may (state_of c) (i + 1) (going_fit c g) (omega arith) m.0 t takes
+
+-- so it may refuse it for the ring's reason
+pub refused_enabled : (c : Seen) (i : ℕ) (t : Task) (name : List ℕ) (r : Reason) (e : Event) → IsGoing c → IsMemberAt c i name → takes_up (member_at (state_of c) (i + 1)).phase t ≡ true → refusal (state_of c) (task_event name t) ≡ Some r → e ≡ answer_by name t (Some r) → refusal (state_of c) e ≡ None
+refused_enabled c i t name r e g m takes told is =
+    subst (λ x. refusal (state_of c) x ≡ None) (sym is) (subst (λ o. refusal (state_of c) (answer_by name t o) ≡ None) told (answer_enabled c i t name g m takes))
+
+-- ---- those who are no members
+
+-- of nobody else clients ask anything
+pub strangers_ask_nothing : (w : World) (events : List Event) → IsRun w events → (name : List ℕ) → ((i : ℕ) → IsMemberIn (last w events) i name → ⊥) → client_events name events ≡ []
+strangers_ask_nothing w [] r name none = refl
+strangers_ask_nothing w (e ∷ es) r name none =
+    ap (λ zs. zs ++ client_events name es) (by_name (bytes_eq (by_of e) name) refl) ∙ strangers_ask_nothing (effect w e) es r.1 name none
+  where
+    by_asked : (a b : Bool) → b ≡ false → (if a && b then asked_event e ∷ [] else []) ≡ []
+    by_asked true b f = rw f refl
+    by_asked false b f = refl
+
+    by_id : (o : Option ℕ) → id_of w (by_of e) ≡ o → of_member o (refused_at w e) ≡ None → by_of e ≡ name → ⊥
+    by_id None is k same = cc
+    by_id (Some x) is k same =
+        let at = id_within w (by_of e) x is in
+        let keeps : KeepsNames w (last w (e ∷ es)) = run_keeps_names w (e ∷ es) r in
+        let back : x - 1 + 1 ≡ x = omega (arith, at.0) in
+        none (x - 1) (omega (arith, at.0, at.1, keeps.many), ap (λ j. (member_at (last w (e ∷ es)) j).name) back ∙ keeps.name x at.1 ∙ found_name w (by_of e) x is ∙ same)
+
+    by_name : (b : Bool) → bytes_eq (by_of e) name ≡ b → client_event name e ≡ []
+    by_name false f = by_asked (is_asked e) (bytes_eq (by_of e) name) f
+    by_name true f = absurd (by_id (id_of w (by_of e)) refl r.0 (same_bytes (by_of e) name f))
+
+-- ---- who joins
+
+-- one that runs has it join
+pub grows_by : (w : World) (e : Event) → refusal w e ≡ None → size w < size (effect w e) → (i : ℕ) × (i + 1 < size w) × (runs w (i + 1) ≡ true)
+grows_by w e none more = ⊎_elim
+    (λ (a : (by : List ℕ) × (name : List ℕ) × (e ≡ Admit by name)). by_id a.0 (id_of w a.0) refl a.1 (subst (λ x. refusal w x ≡ None) a.2 none))
+    (λ (no : (by name : List ℕ) → e ≡ Admit by name → ⊥). absurd (omega (arith, more, (event_same w e no).many)))
+    (is_admission e)
+  where
+    by_id : (by : List ℕ) (o : Option ℕ) → id_of w by ≡ o → (name : List ℕ) → of_member o (refused_at w (Admit by name)) ≡ None → (i : ℕ) × (i + 1 < size w) × (runs w (i + 1) ≡ true)
+    by_id by None is name k = cc
+    by_id by (Some x) is name k =
+        let at = id_within w by x is in
+        let back : x - 1 + 1 ≡ x = omega (arith, at.0) in
+        (x - 1, omega (arith, at.0, at.1), ap (runs w) back ∙ ap runs_phase (up_none w x (admit_refusal w name) k).0)
+
+-- after an event the running member of least id is the same, or a later one, or nobody
+pub next_in : (c : Seen) (e : Event) → IsGoing c → refusal (state_of c) e ≡ None → IsNext (least_running (state_of c)) (least_running (effect (state_of c) e))
+next_in c e g none = next_heir w (effect w e) (event_keeps w e none) (members_few c g) few' (grows_by w e none)
+  where
+    w : World
+    w = state_of c
+
+    fit' : IsFit (effect w e)
+    fit' = subst IsFit (last_append (opening c.credit c.names) c.events (e ∷ []))
+        (reached_fit c.credit c.names (c.events ++ e ∷ []) g.are (run_append (opening c.credit c.names) c.events (e ∷ []) g.run (none, tt)))
+
+    few' : size (effect w e) ≤ 65
+    few' = fit'.few
+
+-- so no more is left of what clients asked
+pub left_in : (c : Seen) (e : Event) (plans : List Plan) → IsGoing c → refusal (state_of c) e ≡ None → backlog (effect (state_of c) e) plans ≤ backlog (state_of c) plans
+left_in c e plans g none = backlog_later (state_of c) (effect (state_of c) e) plans (event_keeps (state_of c) e none) (next_in c e g none)
 
 -- ---- what leaves less to do
 

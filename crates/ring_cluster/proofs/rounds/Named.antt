@@ -2,7 +2,7 @@
 use Rattle.std.proofs.Common.{◌≡◌, Bool, true, false, ℕ, List, [], ◌∷◌, Option, Some, None, inl, inr, refl, sym, ap, subst, ◌∙◌}
 use Rattle.std.specs.Prelude.{◌||◌, not, is_some, MatchOption}
 use Rattle.std.proofs.lemmas.Bool.{false≢true}
-use Rattle.ring_world.specs.declared.event.Event.{Event}
+use Rattle.ring_names.specs.declared.reason.Reason.{Reason}
 use Rattle.ring_world.specs.declared.event.Event.TheVariants.{Mark, Erase}
 use Rattle.ring_world.specs.Refusal.{is_empty}
 use Rattle.ring_world.specs.Event.{by_of, asked_of}
@@ -16,7 +16,7 @@ use Rattle.ring_cluster.specs.declared.agenda.Task.TheVariants as task
 use Rattle.ring_cluster.specs.declared.driver.OwnStep.{OwnStep}
 use Rattle.ring_cluster.specs.declared.driver.OwnStep.TheVariants as step
 use Rattle.ring_cluster.specs.Seen.{Seen, state_of, IsGoing}
-use Rattle.ring_cluster.specs.Plays.{task_event, task_client, IsDoneBy}
+use Rattle.ring_cluster.specs.Plays.{task_event, task_client, answer_by}
 use Rattle.ring_cluster.specs.Turns.{step_event}
 
 -- what holds of a value that is there
@@ -48,15 +48,17 @@ going_ring c g = ring.reached_fit c.credit c.names c.events g.are g.run
 task_by : (name : List ℕ) (t : Task) → by_of (task_event name t) ≡ name
 task_by name (task.Cast body) = refl
 task_by name task.Stop = refl
+task_by name (task.Admit newcomer) = refl
 
 client_by : (name : List ℕ) (t : Task) → asked_of (task_client name t) ≡ name
 client_by name (task.Cast body) = refl
 client_by name task.Stop = refl
+client_by name (task.Admit newcomer) = refl
 
--- by whose event a task is done or refused
-pub done_by : (name : List ℕ) (t : Task) (e : Event) → IsDoneBy name t e → by_of e ≡ name
-done_by name t e (inl is) = ap by_of is ∙ task_by name t
-done_by name t e (inr is) = ap by_of is ∙ client_by name t
+-- by whose event a task is answered
+pub answered_by : (name : List ℕ) (t : Task) (o : Option Reason) → by_of (answer_by name t o) ≡ name
+answered_by name t None = task_by name t
+answered_by name t (Some r) = client_by name t
 
 -- ---- what leaves less to do
 

@@ -1,5 +1,7 @@
--- The members that are there stay, with their names; an admission alone adds one.
-use Rattle.std.proofs.Common.{◌≡◌, ◌⊎◌, inl, inr, ⊎_elim, ℕ, suc, ◌+◌, ◌<◌, ◌≤◌, List, [], ◌∷◌, ◌++◌, length, get_or, Option, Some, None, refl, sym, ap, subst, ◌∙◌, arith}
+-- The members that are there stay, with their names, and their phases only go on; an admission alone adds one.
+use Rattle.std.proofs.Common.{◌≡◌, ◌≢◌, ◌⊎◌, inl, inr, ⊎_elim, ℕ, suc, ◌+◌, ◌<◌, ◌≤◌, List, [], ◌∷◌, ◌++◌, length, get_or, Option, Some, None, true, refl, sym, ap, subst, ◌∙◌, arith}
+use Rattle.std.specs.Prelude.{⊤}
+use Rattle.std.proofs.lemmas.Bool.{false≢true}
 use Rattle.std.proofs.lemmas.List.{length-set, length_push, get_or_append_left, get_or_push}
 use Rattle.ring_names.specs.declared.message.Message.TheVariants as message
 use Rattle.ring_names.specs.declared.numbers.CreditSpec.{CreditSpec}
@@ -11,12 +13,49 @@ use Rattle.ring_world.specs.declared.phase.Phase.TheVariants.{Waiting, Up, Stopp
 use Rattle.ring_world.specs.declared.phase.Ending.TheVariants.{Halted}
 use Rattle.ring_world.specs.declared.event.Event.{Event}
 use Rattle.ring_world.specs.declared.event.Event.TheVariants.{Cast, Put, Take, TakeEnd, Gain, Stop, Mark, Refresh, Admit, Pick, Erase, Refuse}
-use Rattle.ring_world.specs.Machine.{Member, World, no_member, member_at, link_at, view_in, newest, oldest}
+use Rattle.ring_world.specs.Machine.{Member, World, runs_phase, no_member, member_at, link_at, view_in, newest, oldest}
 use Rattle.ring_world.specs.Step.{size, log_of, with_member, with_view, published, taker, begun, with_current, stopped, stop_at, moved_to, opened_link, joiner, come_to, opening}
 use Rattle.ring_world.specs.Event.{id_of, of_member, at_found, at_door, taken_by, refreshed, erased_view, by_of, refused_at, done_at, refusal, effect, IsRun, last}
 use Rattle.ring_world.proofs.events.Composed.{end_composed, refresh_composed}
 use Rattle.ring_world.proofs.events.First.{first_at, first_size}
 use Rattle.ring_world.proofs.events.Leaves.{member_leaves, with_opened}
+
+-- ---- phases
+
+-- a member waits, is up, and stops: so its phase goes on
+abbrev pub GoesOnTo : Phase → Phase → Type 0
+GoesOnTo Waiting g = ⊤
+GoesOnTo Up g = g ≢ Waiting
+GoesOnTo Stopped g = g ≡ Stopped
+
+pub on_refl : (f : Phase) → GoesOnTo f f
+on_refl Waiting = tt
+on_refl Up = λ e. cc
+on_refl Stopped = refl
+
+pub on_trans : (f g h : Phase) → GoesOnTo f g → GoesOnTo g h → GoesOnTo f h
+on_trans Waiting g h a b = tt
+on_trans Up Waiting h a b = absurd (a refl)
+on_trans Up Up h a b = b
+on_trans Up Stopped h a b = λ e. let both : Stopped ≡ Waiting = sym b ∙ e in cc
+on_trans Stopped g h a b = subst (λ k. GoesOnTo k h) a b
+
+to_stopped : (f : Phase) → GoesOnTo f Stopped
+to_stopped Waiting = tt
+to_stopped Up = λ e. cc
+to_stopped Stopped = refl
+
+-- one that has ceased to wait doesn't wait again
+pub waits_not_again : (f g : Phase) → GoesOnTo f g → f ≢ Waiting → g ≢ Waiting
+waits_not_again Waiting g h differs = absurd (differs refl)
+waits_not_again Up g h differs = h
+waits_not_again Stopped g h differs = λ e. let both : Stopped ≡ Waiting = sym h ∙ e in cc
+
+-- and who runs has run before
+pub ran_before : (f g : Phase) → GoesOnTo f g → runs_phase g ≡ true → runs_phase f ≡ true
+ran_before Waiting g h r = refl
+ran_before Up g h r = refl
+ran_before Stopped g h r = absurd (false≢true (sym (ap runs_phase h) ∙ r))
 
 -- ---- an event that admits nobody
 
@@ -24,53 +63,66 @@ use Rattle.ring_world.proofs.events.Leaves.{member_leaves, with_opened}
 pub record SameNames (w w' : World) : Type 0 where
   pub many : size w' ≡ size w
   pub name : (q : ℕ) → (member_at w' q).name ≡ (member_at w q).name
+  pub phase : (q : ℕ) → GoesOnTo (member_at w q).phase (member_at w' q).phase
 
 itself : (w : World) → SameNames w w
-itself w = record { many = refl; name = λ q. refl }
+itself w = record { many = refl; name = λ q. refl; phase = λ q. on_refl (member_at w q).phase }
 
 -- one is written
-written : (w : World) (x : ℕ) (y : Member) → y.name ≡ (member_at w x).name → SameNames w (with_member w x y)
-written w x y e = record {
+written : (w : World) (x : ℕ) (y : Member) → y.name ≡ (member_at w x).name → GoesOnTo (member_at w x).phase y.phase → SameNames w (with_member w x y)
+written w x y e on = record {
   many = length-set w.members x y;
   name = λ q. member_leaves (λ _ a b. b.name ≡ a.name) w x y e (λ _. refl) q;
+  phase = λ q. member_leaves (λ _ a b. GoesOnTo a.phase b.phase) w x y on (λ k. on_refl (member_at w k).phase) q;
 }
+
+-- in the phase that it had
+kept : (w : World) (x : ℕ) (y : Member) → y.name ≡ (member_at w x).name → y.phase ≡ (member_at w x).phase → SameNames w (with_member w x y)
+kept w x y e same = written w x y e (subst (GoesOnTo (member_at w x).phase) (sym same) (on_refl (member_at w x).phase))
 
 found : (w : World) (o : Option ℕ) (f : ℕ → World) → ((x : ℕ) → SameNames w (f x)) → SameNames w (at_found o w f)
 found w None f k = itself w
 found w (Some x) f k = k x
 
 links_of : (w u v : World) → u.members ≡ v.members → SameNames w v → SameNames w u
-links_of w u v e h = record { many = ap length e ∙ h.many; name = λ q. ap (λ ms. (get_or ms q no_member).name) e ∙ h.name q }
+links_of w u v e h = record {
+  many = ap length e ∙ h.many;
+  name = λ q. ap (λ ms. (get_or ms q no_member).name) e ∙ h.name q;
+  phase = λ q. subst (λ ms. GoesOnTo (member_at w q).phase (get_or ms q no_member).phase) (sym e) (h.phase q);
+}
 
 -- a refresh
 refresh_names : (w : World) (x v : ℕ) → SameNames w (refreshed w x v)
 refresh_names w x v = refresh_composed (SameNames w) w x v
-    (λ k e h. record { many = h.many; name = h.name })
+    (λ k e h. record { many = h.many; name = h.name; phase = h.phase })
     (λ u e h.
-    let k = written (with_opened u (opened_link u x (right_of (view_in w v) x))) x (record (member_at u x) { out = Some (length u.links) }) refl in
-    record { many = k.many ∙ h.many; name = λ q. k.name q ∙ h.name q })
-    (written w x (moved_to w x v) refl)
+    let k = kept (with_opened u (opened_link u x (right_of (view_in w v) x))) x (record (member_at u x) { out = Some (length u.links) }) refl refl in
+    record { many = k.many ∙ h.many; name = λ q. k.name q ∙ h.name q; phase = λ q. on_trans (member_at w q).phase (member_at u q).phase _ (h.phase q) (k.phase q) })
+    (kept w x (moved_to w x v) refl refl)
 
 view_names : (w : World) (x : ℕ) (v : Group) → SameNames w (refreshed (with_view w v) x (newest w + 1))
-view_names w x v = let k = refresh_names (with_view w v) x (newest w + 1) in record { many = k.many; name = k.name }
+view_names w x v = let k = refresh_names (with_view w v) x (newest w + 1) in record { many = k.many; name = k.name; phase = k.phase }
 
-take_names : (phase : Phase) (w : World) (y s : ℕ) → SameNames w (taken_by phase w y s)
-take_names Waiting w y s = links_of w _ (with_member w y (begun (size w) (member_at w y) (oldest (link_at w s)))) refl (written w y (begun (size w) (member_at w y) (oldest (link_at w s))) refl)
-take_names Up w y s = links_of w _ (with_member w y (taker w y s)) refl (written w y (taker w y s) refl)
-take_names Stopped w y s = itself w
+take_names : (phase : Phase) (w : World) (y s : ℕ) → (member_at w y).phase ≡ phase → SameNames w (taken_by phase w y s)
+take_names Waiting w y s e =
+    let begins : SameNames w (with_member w y (begun (size w) (member_at w y) (oldest (link_at w s)))) =
+    written w y (begun (size w) (member_at w y) (oldest (link_at w s))) refl (subst (λ f. GoesOnTo f Up) (sym e) tt) in
+    links_of w _ (with_member w y (begun (size w) (member_at w y) (oldest (link_at w s)))) refl begins
+take_names Up w y s e = links_of w _ (with_member w y (taker w y s)) refl (kept w y (taker w y s) refl refl)
+take_names Stopped w y s e = itself w
 
 -- what is done
 done_names : (w : World) (e : Event) (x : ℕ) → ((by name : List ℕ) → e ≡ Admit by name → ⊥) → SameNames w (done_at w e x)
-done_names w (Cast by body) x none = written w x (published x (message.Cast body) (member_at w x)) refl
+done_names w (Cast by body) x none = kept w x (published x (message.Cast body) (member_at w x)) refl refl
 done_names w (Put by) x none = found w (member_at w x).out _ (λ o. links_of w _ w refl (itself w))
-done_names w (Take by) x none = found w (member_at w x).current (taken_by (member_at w x).phase w x) (λ s. take_names (member_at w x).phase w x s)
-done_names w (TakeEnd by) x none = found w (member_at w x).current _ (λ s. links_of w _ (with_member w x (with_current None (member_at w x))) refl (written w x (with_current None (member_at w x)) refl))
+done_names w (Take by) x none = found w (member_at w x).current (taken_by (member_at w x).phase w x) (λ s. take_names (member_at w x).phase w x s refl)
+done_names w (TakeEnd by) x none = found w (member_at w x).current _ (λ s. links_of w _ (with_member w x (with_current None (member_at w x))) refl (kept w x (with_current None (member_at w x)) refl refl))
 done_names w (Gain by) x none = found w (member_at w x).out _ (λ o. links_of w _ w refl (itself w))
-done_names w (Stop by) x none = end_composed (SameNames w) Halted (stop_at w x) (member_at w x).out (λ o e h. record { many = h.many; name = h.name }) (written w x (stopped (member_at w x)) refl)
+done_names w (Stop by) x none = end_composed (SameNames w) Halted (stop_at w x) (member_at w x).out (λ o e h. record { many = h.many; name = h.name; phase = h.phase }) (written w x (stopped (member_at w x)) refl (to_stopped (member_at w x).phase))
 done_names w (Mark by dead) x none = found w (id_of w dead) _ (λ d. view_names w x (marked (view_in w (newest w)) d))
 done_names w (Refresh by version) x none = refresh_names w x version
 done_names w (Admit by name) x none = absurd (none by name refl)
-done_names w (Pick by) x none = found w (at_door w x) _ (λ s. written w x (with_current (Some s) (member_at w x)) refl)
+done_names w (Pick by) x none = found w (at_door w x) _ (λ s. kept w x (with_current (Some s) (member_at w x)) refl refl)
 done_names w (Erase by origin) x none = found w (id_of w origin) _ (λ d. view_names w x (erased_view w d))
 done_names w (Refuse code inner) x none = itself w
 
@@ -86,6 +138,7 @@ pub record Joins (w : World) (called : List ℕ) (w' : World) : Type 0 where
   pub name : (q : ℕ) → q < size w → (member_at w' q).name ≡ (member_at w q).name
   pub new : (member_at w' (size w)).name ≡ called
   pub nothing : log_of w' (size w) ≡ []
+  pub phase : (q : ℕ) → q < size w → GoesOnTo (member_at w q).phase (member_at w' q).phase
 
 refresh_log : (w : World) (x v q : ℕ) → log_of (refreshed w x v) q ≡ log_of w q
 refresh_log w x v q = refresh_composed (λ u. log_of u q ≡ log_of w q) w x v
@@ -99,6 +152,7 @@ come_joins w x name = record {
   name = λ q lt. k.name q ∙ ap (λ (y : Member). y.name) (get_or_append_left w.members (joiner w name ∷ []) no_member q lt);
   new = k.name (size w) ∙ ap (λ (y : Member). y.name) here;
   nothing = refresh_log (come_to w x name) x (newest w + 1) (size w) ∙ ap (λ (y : Member). y.log) here;
+  phase = λ q lt. subst (λ (y : Member). GoesOnTo y.phase (member_at (refreshed (come_to w x name) x (newest w + 1)) q).phase) (get_or_append_left w.members (joiner w name ∷ []) no_member q lt) (k.phase q);
 }
   where
     k : SameNames (come_to w x name) (refreshed (come_to w x name) x (newest w + 1))
@@ -116,10 +170,11 @@ admit_joins w by name r = by_id (id_of w by) r
 
 -- ---- each event
 
--- members that are there keep their names
+-- members that are there keep their names, and their phases only go on
 pub record KeepsNames (w w' : World) : Type 0 where
   pub many : size w ≤ size w'
   pub name : (q : ℕ) → q < size w → (member_at w' q).name ≡ (member_at w q).name
+  pub phase : (q : ℕ) → q < size w → GoesOnTo (member_at w q).phase (member_at w' q).phase
 
 -- whether an event is an admission is known
 pub is_admission : (e : Event) → ((by : List ℕ) × (name : List ℕ) × (e ≡ Admit by name)) ⊎ ((by name : List ℕ) → e ≡ Admit by name → ⊥)
@@ -130,19 +185,23 @@ pub event_keeps : (w : World) (e : Event) → refusal w e ≡ None → KeepsName
 event_keeps w e r = ⊎_elim
     (λ (a : (by : List ℕ) × (name : List ℕ) × (e ≡ Admit by name)).
     let k : Joins w a.1 (effect w (Admit a.0 a.1)) = admit_joins w a.0 a.1 (subst (λ x. refusal w x ≡ None) a.2 r) in
-    subst (λ x. KeepsNames w (effect w x)) (sym a.2) (record { many = omega (arith, k.many); name = k.name }))
+    subst (λ x. KeepsNames w (effect w x)) (sym a.2) (record { many = omega (arith, k.many); name = k.name; phase = k.phase }))
     (λ (none : (by name : List ℕ) → e ≡ Admit by name → ⊥).
     let k : SameNames w (effect w e) = event_same w e none in
-    record { many = omega (arith, k.many); name = λ q _. k.name q })
+    record { many = omega (arith, k.many); name = λ q _. k.name q; phase = λ q _. k.phase q })
     (is_admission e)
 
 -- and do so in every run
 pub run_keeps_names : (w : World) (events : List Event) → IsRun w events → KeepsNames w (last w events)
-run_keeps_names w [] r = record { many = omega arith; name = λ q _. refl }
+run_keeps_names w [] r = record { many = omega arith; name = λ q _. refl; phase = λ q _. on_refl (member_at w q).phase }
 run_keeps_names w (e ∷ es) r =
     let h : KeepsNames w (effect w e) = event_keeps w e r.0 in
     let k : KeepsNames (effect w e) (last (effect w e) es) = run_keeps_names (effect w e) es r.1 in
-    record { many = omega (arith, h.many, k.many); name = λ q lt. k.name q (omega (arith, lt, h.many)) ∙ h.name q lt }
+    record {
+      many = omega (arith, h.many, k.many);
+      name = λ q lt. k.name q (omega (arith, lt, h.many)) ∙ h.name q lt;
+      phase = λ q lt. on_trans (member_at w q).phase (member_at (effect w e) q).phase (member_at (last (effect w e) es) q).phase (h.phase q lt) (k.phase q (omega (arith, lt, h.many)));
+    }
 
 -- what follows in a run is a run
 pub run_behind : (w : World) (before more : List Event) → IsRun w (before ++ more) → IsRun (last w before) more

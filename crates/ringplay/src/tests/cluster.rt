@@ -25,8 +25,6 @@ enum Line {
     /// A round of so many turns, and another where it wants memory.
     GoAgain(u32),
     Settle,
-    /// Whether the ring has a member of that name.
-    Has(&'static str, bool),
     /// The member of the first id, where there is one, has heard these bodies of that of the second.
     Heard(u32, u32, &'static str),
     /// So many messages of the member of that id have come round, where there is one.
@@ -163,7 +161,6 @@ fn ask(
 ) -> Result<(), Fail> {
     let by = Name::read(by.as_bytes())?;
     let body = Body::read(rt.alloc(), text.as_bytes())?;
-    assert!(rt; cluster.has_member(&by));
     let Err((command, _)) = cluster.command(Command::Cast { by, body }) else {
         return Ok(());
     };
@@ -254,9 +251,6 @@ fn is_so<R: Threads + Abort + AllocGlobal>(
         Line::Go(turns) => go(rt, cluster, turns, gate)?,
         Line::GoAgain(turns) => go_again(rt, cluster, turns, gate)?,
         Line::Settle => settle(rt, cluster, gate)?,
-        Line::Has(name, has) => {
-            return Ok(cluster.has_member(&Name::read(name.as_bytes())?) == has);
-        }
         Line::Heard(by, of, bodies) => return Ok(has_heard(cluster, by, of, bodies)?),
         Line::Confirmed(by, count) => return Ok(confirmed(cluster, by) == count),
         Line::View(version) => return Ok(cluster.view().version == version),
@@ -277,12 +271,10 @@ fn play<R: Threads + Abort + AllocGlobal>(rt: &R, text: &str, lines: &[Line]) ->
     Ok(())
 }
 
-const THREE_SETTLE: [Line; 20] = [
+const THREE_SETTLE: [Line; 18] = [
     Line::Ask("a", "a1"),
     Line::Ask("b", "b1"),
     Line::Ask("a", "a2"),
-    Line::Has("c", true),
-    Line::Has("d", false),
     Line::Settle,
     Line::Heard(1, 1, "a1 a2"),
     Line::Heard(1, 2, "b1"),

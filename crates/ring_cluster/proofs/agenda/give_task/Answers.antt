@@ -1,20 +1,21 @@
-use Rattle.std.proofs.Common.{◌≡◌, None, false, ◌∷◌, ◌++◌, [], bytes_eq, sym, ap, subst, ◌∙◌}
-use Rattle.std.specs.Prelude.{IsSome}
+use Rattle.std.proofs.Common.{◌≡◌, None, ◌∷◌, ◌++◌, [], bytes_eq, is_some, sym, ap, ◌∙◌}
 use Rattle.std.specs.List.{position}
-use Rattle.std.proofs.lemmas.Bool.{false≢true}
 use Rattle.std.proofs.lemmas.Result.{on_ok_weaker}
 use Rattle.ring_cluster.specs.Agendas.{Plan}
-use Rattle.ring_cluster.proofs.lists.Plans.{place_is, found_written}
+use Rattle.ring_cluster.proofs.lists.Plans.{place_is, found_written, given_with, given_begins}
 use Rattle.ring_cluster.proofs.agenda.give_task.Goals as goal
 
-pub unreachable-requires : goal.unreachable-requires
-unreachable-requires c =
+pub returns-in_default-clause-ok : goal.returns-in_default-clause-ok
+returns-in_default-clause-ok c =
     let at : c.place_of.result ≡ position (λ (a : Plan). bytes_eq a.name c.args.name.now) c.args.agendas.now.items = c.place_of.ensures.place ∙ ap (position (λ (a : Plan). bytes_eq a.name c.args.name.now)) c.deref.ensures.value in
-    false≢true (subst IsSome (place_is c.args.agendas.now.items c.args.name.now None (sym c.in-None.is ∙ at)) c.requires)
+    on_ok_weaker c.begin.result
+    (λ is. is ∙ sym (given_begins c.args.agendas.now.items c.args.name.now c.args.task (place_is c.args.agendas.now.items c.args.name.now None (sym c.in_default.is ∙ at))))
+    c.begin.ensures.ok
 
 pub returns-clause-ok : goal.returns-clause-ok
 returns-clause-ok c =
     let at : c.place_of.result ≡ position (λ (a : Plan). bytes_eq a.name c.args.name.now) c.args.agendas.now.items = c.place_of.ensures.place ∙ ap (position (λ (a : Plan). bytes_eq a.name c.args.name.now)) c.deref.ensures.value in
     on_ok_weaker c.push.result
-    (λ is. found_written c.args.agendas.now.items c.args.name.now c.in-Some.place c.index_mut.result.now (sym c.in-Some.is ∙ at) c.index_mut.ensures.value c.push.new.self (λ ts. ts ++ c.args.task ∷ []) is)
+    (λ is. found_written c.args.agendas.now.items c.args.name.now c.in-Some.place c.index_mut.result.now (sym c.in-Some.is ∙ at) c.index_mut.ensures.value c.push.new.self (λ ts. ts ++ c.args.task ∷ []) is
+    ∙ sym (given_with c.args.agendas.now.items c.args.name.now c.args.task (ap is_some (place_is c.args.agendas.now.items c.args.name.now _ (sym c.in-Some.is ∙ at)))))
     c.push.ensures.ok

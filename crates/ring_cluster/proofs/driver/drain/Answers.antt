@@ -1,8 +1,21 @@
-use Rattle.ring_cluster.proofs.rounds.Turning.{round_trans, works_round}
+use Rattle.std.proofs.Common.{rules}
+use Rattle.ring_cluster.proofs.rounds.Turning.{round_trans, works_round, drained_empty}
 use Rattle.ring_cluster.proofs.driver.drain.Goals as goal
 
 pub returns-in_err-work_out-clause-round : goal.returns-in_err-work_out-clause-round
-returns-in_err-work_out-clause-round c = round_trans c.args.cluster.now c.finish_all.new.cluster c.work_out.new.cluster c.finish_all.ensures.round (works_round c.finish_all.new.cluster c.work_out.new.cluster c.work_out.ensures.works)
+returns-in_err-work_out-clause-round c = round_trans c.args.cluster.now c.drains.cluster c.work_out.new.cluster c.drains.invariant (works_round c.drains.cluster c.work_out.new.cluster c.work_out.ensures.works)
 
-pub returns-clause-round : goal.returns-clause-round
-returns-clause-round c = round_trans c.args.cluster.now c.finish_all.new.cluster c.work_out.new.cluster c.finish_all.ensures.round (works_round c.finish_all.new.cluster c.work_out.new.cluster c.work_out.ensures.works)
+pub returns-in_err-finish_all-clause-round : goal.returns-in_err-finish_all-clause-round
+returns-in_err-finish_all-clause-round c = round_trans c.args.cluster.now c.drains.cluster c.finish_all.new.cluster c.drains.invariant
+    (round_trans c.drains.cluster c.work_out.new.cluster c.finish_all.new.cluster (works_round c.drains.cluster c.work_out.new.cluster c.work_out.ensures.works) c.finish_all.ensures.round)
+
+pub returns-then-not-branch-clause-round : goal.returns-then-not-branch-clause-round
+returns-then-not-branch-clause-round c = round_trans c.args.cluster.now c.drains.cluster c.finish_all.new.cluster c.drains.invariant
+    (round_trans c.drains.cluster c.work_out.new.cluster c.finish_all.new.cluster (works_round c.drains.cluster c.work_out.new.cluster c.work_out.ensures.works) c.finish_all.ensures.round)
+
+pub returns-then-not-branch-clause-empty : goal.returns-then-not-branch-clause-empty
+returns-then-not-branch-clause-empty c = drained_empty c.work_out.new.cluster c.finish_all.new.cluster c.is_going.ensures c.in_ok-work_out.ensures.idle (c.in_ok-finish_all.ensures.stays (search (rules, c.if-not-branch.true)))
+
+pub drains-preserved : goal.drains-preserved
+drains-preserved c = round_trans c.args.cluster.now c.drains.cluster c.finish_all.new.cluster c.drains.invariant
+    (round_trans c.drains.cluster c.work_out.new.cluster c.finish_all.new.cluster (works_round c.drains.cluster c.work_out.new.cluster c.work_out.ensures.works) c.finish_all.ensures.round)

@@ -1,11 +1,9 @@
-use Rattle.std.proofs.Common.{◌≡◌, ◌+◌}
-use Rattle.ring_world.specs.Step.{size}
-use Rattle.ring_cluster.specs.Seen.{state_of}
-use Rattle.ring_cluster.proofs.rounds.Turning.{DoneBelow}
+use Rattle.ring_cluster.specs.Backlog.{backlog_of}
+use Rattle.ring_cluster.specs.Turns.{TakesRound}
 use Rattle.ring_cluster.proofs.driver.finish_all.Given as goal
 
-abbrev pub invariant-loop-place : goal.invariant-loop-place
-invariant-loop-place l = record {
-  count : l.count + 1 ≡ size (state_of l.initial.cluster);
-  done : DoneBelow l.place l.initial.cluster l.cluster;
-}
+abbrev pub invariant-tasks : goal.invariant-tasks
+invariant-tasks l = TakesRound l.initial.cluster l.cluster
+
+abbrev pub decreases-tasks : goal.decreases-tasks
+decreases-tasks l = backlog_of l.cluster

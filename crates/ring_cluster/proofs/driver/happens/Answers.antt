@@ -12,7 +12,7 @@ happen-requires c = event_at_place (state_of c.args.cluster.now) c.args.event.no
 
 pub returns-in-Ok-clause-does : goal.returns-in-Ok-clause-does
 returns-in-Ok-clause-does c = record {
-  works = own_works c.args.cluster.now c.happen.new.self c.args.event.now c.requires.own c.in-Ok.ensures.enabled c.in-Ok.ensures.ok;
+  works = own_works c.args.cluster.now c.happen.new.self c.args.event.now c.is_going.ensures c.requires.own c.in-Ok.ensures.enabled c.in-Ok.ensures.ok;
   falls = λ _. own_falls c.args.cluster.now c.happen.new.self c.args.event.now c.requires.less c.in-Ok.ensures.enabled c.in-Ok.ensures.ok;
   stays = λ x. cc;
 }

@@ -13,11 +13,11 @@ loop-place-preserved c = record {
 }
 
 pub work_turn-requires : goal.work_turn-requires
-work_turn-requires c = place_still c.args.cluster.now c.loop-place.cluster c.loop-place.place c.loop-place.invariant.passed.works.round.stay (omega (arith, c.loop-place-test.true, c.loop-place.invariant.count))
+work_turn-requires c = place_still c.args.cluster.now c.loop-place.cluster c.loop-place.place c.loop-place.invariant.passed.does.round.stay (omega (arith, c.loop-place-test.true, c.loop-place.invariant.count))
 
 pub returns-in_err-did : goal.returns-in_err-did
 returns-in_err-did c = record {
-  works = works_trans c.args.cluster.now c.loop-place.cluster c.work_turn.new.cluster c.loop-place.invariant.passed.works c.work_turn.ensures.does.works;
+  works = works_trans c.args.cluster.now c.loop-place.cluster c.work_turn.new.cluster c.loop-place.invariant.passed.does c.work_turn.ensures.does.works;
   falls = search rules;
   stays = search rules;
 }

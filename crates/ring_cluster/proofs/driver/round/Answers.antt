@@ -30,4 +30,4 @@ pub returns-in_err-turns_of-clause-round : goal.returns-in_err-turns_of-clause-r
 returns-in_err-turns_of-clause-round g c = round_trans c.args.cluster.now c.loop-place.cluster c.turns_of.new.cluster c.loop-place.invariant.begun.round c.turns_of.ensures.round
 
 pub returns-clause-begun : goal.returns-clause-begun
-returns-clause-begun g c = all_begun c.loop-place.place c.args.cluster.now c.loop-place.cluster c.is_going.ensures (omega (arith, c.loop-place.invariant.count, c.loop-place-test.false, c.loop-place.auto.place-end)) c.loop-place.invariant.begun
+returns-clause-begun g c = all_begun c.loop-place.place c.args.cluster.now c.loop-place.cluster (omega (arith, c.loop-place.invariant.count, c.loop-place-test.false, c.loop-place.auto.place-end)) c.loop-place.invariant.begun

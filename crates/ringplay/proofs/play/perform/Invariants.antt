@@ -1,8 +1,7 @@
 use Rattle.std.proofs.Common.{◌≡◌, ◌++◌, length}
 use Rattle.std.specs.List.{All}
 use Rattle.ring_cluster.specs.Plays.{PlaysSoFar}
-use Rattle.ring_script.specs.Reading.{MayBeGiven}
-use Rattle.ringplay.specs.Call.{SameRing, commands_on}
+use Rattle.ringplay.specs.Call.{SameRing, HasTurns, commands_on}
 use Rattle.ringplay.proofs.play.perform.Given as goal
 
 abbrev pub invariant-loop-command : goal.invariant-loop-command
@@ -10,7 +9,7 @@ invariant-loop-command g l = record {
   ring : SameRing l.initial.cluster l.cluster;
   all : l.fn.lines.items ≡ l.yielded ++ l.command-iterator.rest.items;
   len : l.command-iterator.rest.len ≡ length l.command-iterator.rest.items;
-  known : All (λ line. MayBeGiven l.initial.cluster.names line.1) l.command-iterator.rest.items;
+  turns : All (λ line. HasTurns line.1) l.command-iterator.rest.items;
   given : l.cluster.given ≡ l.initial.cluster.given ++ commands_on l.yielded;
   plays : PlaysSoFar l.cluster;
 }

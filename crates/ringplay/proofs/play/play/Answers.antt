@@ -1,17 +1,13 @@
 use Rattle.std.proofs.Common.{◌≡◌, ◌++◌, ◌∙◌, sym, ap, subst}
 use Rattle.std.specs.List.{All}
-use Rattle.ring_script.specs.Reading.{MayBeGiven}
 use Rattle.ring_cluster.specs.Seen.{opening_seen}
-use Rattle.ringplay.specs.Call.{commands_on}
-use Rattle.ringplay.proofs.Playing.{played_all}
+use Rattle.ringplay.specs.Call.{HasTurns, commands_on}
+use Rattle.ringplay.proofs.Playing.{all_turns, played_all}
 use Rattle.ringplay.proofs.play.play.Goals as goal
 
-pub perform-requires-clause-known : goal.perform-requires-clause-known
-perform-requires-clause-known g c κs within =
-    let opens : c.in_ok-cluster.cluster ≡ opening_seen c.args.script.credit c.args.script.members =
-    c.in_ok-cluster.ensures.opens ∙ ap (opening_seen c.args.script.credit) (c.deref.ensures.value ∙ c.into_vec-names.ensures) in
-    subst (λ names. All (λ line. MayBeGiven names line.1) c.into_vec-lines.result.items) (sym (ap (λ s. s.names) opens))
-    (subst (All (λ line. MayBeGiven c.args.script.members line.1)) (sym c.into_vec-lines.ensures) c.requires.commands)
+pub perform-requires-clause-turns : goal.perform-requires-clause-turns
+perform-requires-clause-turns g c κs within =
+    subst (All (λ line. HasTurns line.1)) (sym c.into_vec-lines.ensures) (all_turns c.args.script.members c.args.script.lines c.requires.commands)
 
 pub returns : goal.returns
 returns g c =

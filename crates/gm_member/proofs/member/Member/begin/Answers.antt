@@ -8,6 +8,7 @@ use Rattle.gm_member.specs.View.{in_of}
 use Rattle.gm_member.specs.Shown.{held_of}
 use Rattle.gm_member.proofs.Accepting.{all_filled}
 use Rattle.gm_member.proofs.Beginning.{silent_within, silent_unended, up_where}
+use Rattle.gm_member.proofs.ToldRight.{silent_right}
 use Rattle.gm_member.proofs.Within.{none_within}
 use Rattle.gm_member.proofs.member.Member.begin.Goals as goal
 
@@ -40,6 +41,9 @@ invariant_of-self-2-clause-up g c = up_where c.args.self.now.asked
 
 pub invariant_of-self-2-clause-sent : goal.invariant_of-self-2-clause-sent
 invariant_of-self-2-clause-sent g c = silent_within c.args.self.now.out c.fill.new.self (c.args.self.now.silent c.requires.waits)
+
+pub invariant_of-self-2-clause-told_right : goal.invariant_of-self-2-clause-told_right
+invariant_of-self-2-clause-told_right g c = silent_right c.args.self.now.told c.args.self.now.out c.fill.new.self (c.args.self.now.silent c.requires.waits)
 
 pub invariant_of-self-2-clause-spared : goal.invariant_of-self-2-clause-spared
 invariant_of-self-2-clause-spared g c = none_within c.fill.new.self

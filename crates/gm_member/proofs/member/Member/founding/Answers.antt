@@ -9,6 +9,7 @@ use Rattle.activity.specs.Told.{ToldRow, sent_of}
 use Rattle.gm_member.specs.View.{all_kept, all_sent}
 use Rattle.gm_member.specs.Held.{Held, Incoming, founded}
 use Rattle.gm_member.specs.Within.{IsWithin}
+use Rattle.gm_member.proofs.ToldRight.{nothing_told}
 use Rattle.gm_member.proofs.Within.{none_within}
 use Rattle.gm_member.proofs.member.Member.founding.Goals as goal
 
@@ -32,6 +33,9 @@ founded_of credit name id view rows sent to from version left counted door r s t
 
 pub invariant_of-result-2-clause-sent : goal.invariant_of-result-2-clause-sent
 invariant_of-result-2-clause-sent g c = subst (λ s. IsWithin (λ p. sent_of s p) c.new.result) (sym c.new-2.ensures) (none_within c.new.result)
+
+pub invariant_of-result-2-clause-told_right : goal.invariant_of-result-2-clause-told_right
+invariant_of-result-2-clause-told_right g c = nothing_told c.new.result c.new-2.result c.new.ensures c.new-2.ensures
 
 pub invariant_of-result-2-clause-spared : goal.invariant_of-result-2-clause-spared
 invariant_of-result-2-clause-spared g c = none_within c.new.result

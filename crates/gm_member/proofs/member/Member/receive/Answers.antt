@@ -9,9 +9,11 @@ use Rattle.gm_member.specs.News.{news_below}
 use Rattle.gm_member.specs.View.{in_of, told_on, count_of}
 use Rattle.gm_member.specs.Spares.{told_by_spare}
 use Rattle.gm_member.specs.Shown.{held_of}
+use Rattle.gm_member.specs.Telling.{IsToldRight}
 use Rattle.gm_member.proofs.Accepting.{keeps_all, all_applied}
 use Rattle.gm_member.proofs.Calls.{on_err, on_fault}
 use Rattle.gm_member.proofs.TakenWithin.{taken_within}
+use Rattle.gm_member.proofs.ToldRight.{keeps_right, still_right}
 use Rattle.gm_member.proofs.Within.{keeps_within}
 use Rattle.gm_member.proofs.member.Member.receive.Goals as goal
 
@@ -48,6 +50,7 @@ invariant_of-self g c =
       stands = m.stands;
       up = m.up;
       sent = keeps_within (told_on m.out) m.tables c.take.new.tables c.take.ensures.kept m.sent;
+      told_right = keeps_right m.told m.out m.tables c.take.new.tables c.take.ensures.kept m.told_right;
       spared = keeps_within (told_by_spare m.spare) m.tables c.take.new.tables c.take.ensures.kept m.spared;
       unended = m.unended;
       silent = m.silent;
@@ -60,6 +63,14 @@ invariant_of-self-2-clause-sent g c =
     let m = c.args.self.now in
     let own = owned m.view m.id.0 c.in-Some.link.from.0 in
     taken_within (told_on m.out) own m.tables c.take.new.tables c.apply.new.self c.in_ok-news.packet.lines c.take.ensures.kept (c.apply.ensures own (c.deref.ensures.value ∙ c.in_ok-news.ensures.plan)) m.sent
+
+pub invariant_of-self-2-clause-told_right : goal.invariant_of-self-2-clause-told_right
+invariant_of-self-2-clause-told_right g c =
+    let m = c.args.self.now in
+    let own = owned m.view m.id.0 c.in-Some.link.from.0 in
+    subst (λ b. IsToldRight b m.out c.apply.new.self) (sym c.still_told-self.ensures)
+    (still_right m.told m.out own m.tables c.take.new.tables c.apply.new.self c.in_ok-news.packet.lines c.deref-2.result.now c.take.ensures.kept (c.deref-2.ensures.value ∙ c.in_ok-news.ensures.plan)
+    (c.apply.ensures own (c.deref.ensures.value ∙ c.in_ok-news.ensures.plan)) m.sent m.told_right)
 
 pub invariant_of-self-2-clause-spared : goal.invariant_of-self-2-clause-spared
 invariant_of-self-2-clause-spared g c =

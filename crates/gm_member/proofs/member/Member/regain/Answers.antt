@@ -17,5 +17,5 @@ returns-in-None-clause-acts g c = record {
   ok = tt;
   ends = tt;
   fault = search rules;
-  err = same_facts c.args.self.now _ _ _ _ _ _ _ _ _;
+  err = same_facts c.args.self.now _ _ _ _ _ _ _ _ _ _;
 }

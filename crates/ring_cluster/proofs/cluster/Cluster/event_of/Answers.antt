@@ -1,24 +1,14 @@
-use Rattle.std.proofs.Common.{inl, inr, sym, ◌∙◌, arith}
+use Rattle.std.proofs.Common.{◌≡◌, Some, sym, ap, ◌∙◌}
 use Rattle.std.proofs.lemmas.Result.{IfOk-weaker}
-use Rattle.ring_cluster.proofs.rounds.Members.{members_few, done_enabled, stopped_enabled}
+use Rattle.ring_world.specs.Event.{refusal}
+use Rattle.ring_cluster.specs.Plays.{task_event}
+use Rattle.ring_cluster.specs.Seen.{state_of}
+use Rattle.ring_cluster.proofs.rounds.Members.{refused_enabled}
 use Rattle.ring_cluster.proofs.cluster.Cluster.event_of.Goals as goal
 
-pub overflow_cast-place : goal.overflow_cast-place
-overflow_cast-place c = omega (arith, c.requires.at.0, members_few c.args.self.now c.is_going.ensures)
-
-pub overflow_add-place : goal.overflow_add-place
-overflow_add-place c = omega (arith, c.requires.at.0, members_few c.args.self.now c.is_going.ensures)
-
-pub returns-then-runs-clause-does : goal.returns-then-runs-clause-does
-returns-then-runs-clause-does c = IfOk-weaker c.event.result _ _ (λ e is. inl is) c.event.ensures
-
-pub returns-then-runs-clause-enabled : goal.returns-then-runs-clause-enabled
-returns-then-runs-clause-enabled c = IfOk-weaker c.event.result _ _
-    (λ e is. done_enabled c.args.self.now c.args.place c.args.task.now c.args.name.now e c.is_going.ensures c.requires.at c.requires.agenda (sym c.runs.ensures ∙ c.if-runs.true) is) c.event.ensures
-
-pub returns-else-runs-clause-does : goal.returns-else-runs-clause-does
-returns-else-runs-clause-does c = IfOk-weaker c.refused.result _ _ (λ e is. inr is) c.refused.ensures
-
-pub returns-else-runs-clause-enabled : goal.returns-else-runs-clause-enabled
-returns-else-runs-clause-enabled c = IfOk-weaker c.refused.result _ _
-    (λ e is. stopped_enabled c.args.self.now c.args.place c.args.task.now c.args.name.now e c.is_going.ensures c.requires.at (sym c.runs.ensures ∙ c.if-runs.false) is) c.refused.ensures
+pub returns-in-Some-clause-enabled : goal.returns-in-Some-clause-enabled
+returns-in-Some-clause-enabled c =
+    let told : refusal (state_of c.args.self.now) (task_event c.args.name.now c.args.task.now) ≡ Some c.in-Some.reason = sym (ap (refusal (state_of c.args.self.now)) c.in_ok-event.ensures) ∙ sym c.refusal.ensures ∙ c.in-Some.is in
+    IfOk-weaker c.refused.result _ _
+    (λ e is. refused_enabled c.args.self.now c.args.place c.args.task.now c.args.name.now c.in-Some.reason e c.is_going.ensures c.requires.at c.requires.takes told is)
+    c.refused.ensures

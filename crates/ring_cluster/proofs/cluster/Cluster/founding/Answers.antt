@@ -1,7 +1,5 @@
-use Rattle.std.proofs.Common.{sym, ap, subst, ◌∙◌}
-use Rattle.ring_cluster.specs.Agendas.{names_of}
+use Rattle.std.proofs.Common.{sym, subst}
 use Rattle.ring_cluster.specs.Standing.{StandAfter}
-use Rattle.ring_cluster.proofs.lists.Plans.{opened_names}
 use Rattle.ring_cluster.proofs.cluster.Cluster.founding.Goals as goal
 
 pub invariant_of-result : goal.invariant_of-result
@@ -10,5 +8,4 @@ invariant_of-result c =
     record {
       standing = subst (λ names. StandAfter c.args.credit names c.new.result.items q) (sym c.in_ok-names.ensures)
           (subst (λ events. StandAfter c.args.credit c.args.members.now events q) (sym c.new.ensures.items) c.in_ok-parties.ensures.standing);
-      agendas = ap names_of c.in_ok-agendas.ensures ∙ opened_names c.args.members.now ∙ sym c.in_ok-names.ensures;
     }

@@ -1,7 +1,9 @@
 use Rattle.std.proofs.Common.{◌≡◌, refl, ap, ◌∙◌}
 use Rattle.ring_script.specs.declared.command.Command.TheVariants as command
+use Rattle.ring_cluster.proofs.post.Owed.{but_same}
 use Rattle.ring_cluster.proofs.rounds.Counting.{each_none, each_beside}
 use Rattle.ring_cluster.proofs.rounds.Doing.{gone_from, gone_into, round_heads, given_after, go_plays, same_plays}
+use Rattle.ring_cluster.proofs.rounds.Turning.{works_same}
 use Rattle.ring_cluster.proofs.cluster.Cluster.go.Goals as goal
 
 pub returns-in-Ok-clause-heads : goal.returns-in-Ok-clause-heads
@@ -30,3 +32,17 @@ returns-in-Err-clause-few g c =
 
 pub returns-in_err-note-clause-few : goal.returns-in_err-note-clause-few
 returns-in_err-note-clause-few g c = each_none c.args.turns c.args.self.now c.note.new.self (ap (λ x. x.events) c.in_err-note.ensures.err ∙ ap (λ x. x.events) c.number_round.ensures)
+
+pub returns-in_err-note-clause-goes : goal.returns-in_err-note-clause-goes
+returns-in_err-note-clause-goes g c =
+    gone_from c.args.self.now c.number_round.new.self c.number_round.new.self c.note.new.self _ _ c.number_round.ensures refl
+    (works_same c.number_round.new.self c.note.new.self (but_same c.number_round.new.self c.note.new.self c.in_err-note.ensures.err)).round.goes
+
+pub returns-in-Ok-clause-goes : goal.returns-in-Ok-clause-goes
+returns-in-Ok-clause-goes g c = gone_from c.args.self.now c.number_round.new.self c.note.new.self c.take_round.new.self _ _ c.number_round.ensures c.in_ok-note.ensures.ok c.in-Ok.ensures.round.goes
+
+pub returns-in-Err-clause-goes : goal.returns-in-Err-clause-goes
+returns-in-Err-clause-goes g c =
+    let is : c.forget_note.new.self ≡ record c.take_round.new.self { given = c.number_round.new.self.given } = c.forget_note.ensures c.number_round.new.self.given (command.Go c.args.turns) (c.in-Err.ensures.round.given.0 ∙ ap (λ y. y.given) c.in_ok-note.ensures.ok) in
+    gone_into c.args.self.now c.take_round.new.self c.forget_note.new.self _ is
+    (gone_from c.args.self.now c.number_round.new.self c.note.new.self c.take_round.new.self _ _ c.number_round.ensures c.in_ok-note.ensures.ok c.in-Err.ensures.round.goes)

@@ -1,6 +1,5 @@
 use Rattle.std.proofs.Common.{ap, not, ◌∙◌}
 use Rattle.ring_world.specs.Refusal.{is_empty}
-use Rattle.ring_cluster.specs.Agendas.{tasks_in}
 use Rattle.ring_cluster.specs.Plays.{agenda_of}
 use Rattle.ring_cluster.proofs.rounds.Named.{first_task}
 use Rattle.ring_cluster.proofs.cluster.Cluster.has_task.Goals as goal
@@ -9,5 +8,4 @@ pub returns : goal.returns
 returns c =
     c.is_some.ensures
     ∙ first_task (λ x. x.now) _ _ c.next_task.ensures
-    ∙ ap (λ ags. not (is_empty (tasks_in ags c.args.name.now))) c.deref.ensures.value
     ∙ ap (λ x. not (is_empty (agenda_of x c.args.name.now))) c.self.view_is

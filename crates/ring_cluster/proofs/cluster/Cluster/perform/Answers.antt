@@ -1,13 +1,22 @@
-use Rattle.std.proofs.Common.{sym, ◌∙◌}
-use Rattle.ring_cluster.proofs.rounds.Named.{done_by, from_some}
+use Rattle.std.proofs.Common.{◌≡◌, None, ap, sym, subst, ◌∙◌}
+use Rattle.ring_world.specs.Event.{by_of, refusal}
+use Rattle.ring_cluster.specs.Plays.{task_event}
+use Rattle.ring_cluster.specs.Seen.{state_of}
+use Rattle.ring_cluster.proofs.rounds.Doing.{performed_is}
+use Rattle.ring_cluster.proofs.rounds.Named.{answered_by, from_some}
 use Rattle.ring_cluster.proofs.cluster.Cluster.perform.Goals as goal
 
-pub happen-requires : goal.happen-requires
-happen-requires c = let f = from_some _ _ _ _ c.in-Some.is c.in_ok-event.ensures in (c.requires.0, done_by _ f.0 _ f.3 ∙ sym c.requires.1)
-
-pub unreachable-requires : goal.unreachable-requires
-unreachable-requires c =
+pub answer-requires-clause-at : goal.answer-requires-clause-at
+answer-requires-clause-at c =
     let f = from_some _ _ _ _ c.in-Some.is c.in_ok-event.ensures in
-    let refused = c.in-Err-NotEnabled.ensures.reason c.in-Err-NotEnabled.field-0-0 c.in-Err-NotEnabled.field-0-is in
-    let both = sym f.4 ∙ refused in
-    cc
+    (c.requires.0, ap by_of f.3 ∙ answered_by c.args.name.now f.0 (refusal (state_of c.args.self.now) (task_event c.args.name.now f.0)) ∙ sym c.requires.1)
+
+pub returns-clause-done : goal.returns-clause-done
+returns-clause-done c = λ _.
+    let f = from_some _ _ _ _ c.in-Some.is c.in_ok-event.ensures in (
+      f.0,
+      f.1,
+      f.2,
+      subst (λ x. refusal (state_of c.args.self.now) x ≡ None) f.3 f.4,
+      performed_is c.args.place c.args.name.now f.0 f.1 c.args.self.now c.answer.new.self c.strike_off.new.self _ c.is_going.ensures c.requires f.2 f.3 c.in_ok-answer.ensures.ok c.strike_off.ensures,
+    )

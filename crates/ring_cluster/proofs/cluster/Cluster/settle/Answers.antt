@@ -6,13 +6,13 @@ use Rattle.ring_cluster.proofs.cluster.Cluster.settle.Goals as goal
 
 pub returns-in-Ok-clause-plays : goal.returns-in-Ok-clause-plays
 returns-in-Ok-clause-plays g c =
-    settle_plays c.args.self.now c.work_out.new.self
+    settle_plays c.args.self.now c.work_out.new.self c.in-Ok.ensures.going
     (gone_noted c.args.self.now c.note.new.self c.work_out.new.self _ c.in_ok-note.ensures.ok c.in-Ok.ensures.goes) c.in-Ok.ensures.empty c.in-Ok.ensures.quiet
     (noted c.args.self.now c.note.new.self c.work_out.new.self command.Settle c.in_ok-note.ensures.ok c.in-Ok.ensures.given)
 
 pub returns-in-Ok-clause-played : goal.returns-in-Ok-clause-played
 returns-in-Ok-clause-played g c =
-    settle_played c.args.self.now c.work_out.new.self
+    settle_played c.args.self.now c.work_out.new.self c.in-Ok.ensures.going
     (gone_noted c.args.self.now c.note.new.self c.work_out.new.self _ c.in_ok-note.ensures.ok c.in-Ok.ensures.goes) c.in-Ok.ensures.empty c.in-Ok.ensures.quiet
     (noted c.args.self.now c.note.new.self c.work_out.new.self command.Settle c.in_ok-note.ensures.ok c.in-Ok.ensures.given)
 

@@ -1,0 +1,10 @@
+use Rattle.std.proofs.Common.{sym, ap, ◌∙◌}
+use Rattle.ring_cluster.specs.Plays.{agenda_of}
+use Rattle.ring_cluster.proofs.rounds.Named.{from_some}
+use Rattle.ring_cluster.proofs.cluster.Cluster.next_event.Goals as goal
+
+pub returns : goal.returns
+returns c =
+    let f = from_some _ _ _ _ c.in-Some.is c.next_task.ensures in
+    let same = ap (λ x. agenda_of x c.args.name.now) c.self.view_is in
+    (c.in-Some.task.now, f.0, sym same ∙ f.1, c.in_ok-event.ensures.does, c.in_ok-event.ensures.enabled)
