@@ -485,6 +485,22 @@ fn expect(rt: &impl Abort, told: &String, wanted: &str, head: &str, line: &str) 
     assert_eq!(rt; told.as_str(), wanted, "{head}, at {line}");
 }
 
+/// That a member is seen as the further lines of a tale want.
+fn go_on(
+    rt: &impl Abort,
+    alloc: Global,
+    node: &mut Node,
+    head: &str,
+    lines: &str,
+) -> Result<(), Fail> {
+    for line in lines.lines() {
+        let (said, wanted) = sides(line);
+        let told = show(rt, alloc, node, said)?;
+        expect(rt, &told, wanted, head, line);
+    }
+    Ok(())
+}
+
 /// That a member is seen as the tale wants, first and then line by line.
 fn play(rt: &impl Abort, alloc: Global, tale: &str) -> Result<(), Fail> {
     let (head, lines) = tale.trim().split_once('\n').ok_or("no line")?;
@@ -494,12 +510,7 @@ fn play(rt: &impl Abort, alloc: Global, tale: &str) -> Result<(), Fail> {
     let (said, wanted) = sides(first);
     let told = begin(rt, alloc, &mut node, said)?;
     expect(rt, &told, wanted, head, first);
-    for line in lines.lines() {
-        let (said, wanted) = sides(line);
-        let told = show(rt, alloc, &mut node, said)?;
-        expect(rt, &told, wanted, head, line);
-    }
-    Ok(())
+    go_on(rt, alloc, &mut node, head, lines)
 }
 
 #[test]
@@ -510,12 +521,7 @@ fn joins_and_waits(rt: HostRuntime) -> Result<(), Fail> {
     let (said, wanted) = sides(first);
     let told = enter(&rt, alloc, &mut node, said)?;
     expect(&rt, &told, wanted, "d", first);
-    for line in lines.lines() {
-        let (said, wanted) = sides(line);
-        let told = show(&rt, alloc, &mut node, said)?;
-        expect(&rt, &told, wanted, "d", line);
-    }
-    Ok(())
+    go_on(&rt, alloc, &mut node, "d", lines)
 }
 
 #[test]
