@@ -46,26 +46,34 @@ abbrev pub line_marks : Bool → Kept → Carried → Marks
 line_marks true k c = record { got = got_of k; forgot = got_in c; retired = c.forgot }
 line_marks false k c = record { got = got_in c; forgot = c.forgot; retired = k.retired }
 
-pub marks_kept : (own : Bool) (k : Kept) (c : Carried) → fits own k c ≡ true → marks_of (accepted own k (Some c)) ≡ line_marks own k c
-marks_kept true k c h =
+-- what is left of the messages ends with the last number: where a line comes round
+left_round : (k : Kept) (c : Carried) → fits true k c ≡ true → WentRound k c (got_in c) c.forgot × (got_in c + length (drop (got_in c - k.forgot) k.messages) ≡ got_of k)
+left_round k c h =
     let r : WentRound k c (got_in c) c.forgot = went_round true k c c.origin (got_in c) c.forgot (planned true k c h) in
-    let n : got_in c + length (drop (got_in c - k.forgot) k.messages) ≡ got_of k = omega (arith, r.forgot, r.got, length-drop (got_in c - k.forgot) k.messages) in
-    ap marks_of (accepted_used true k c h) ∙ ap (λ m. record { got = m; forgot = got_in c; retired = c.forgot }) n
-marks_kept false k c h =
-    let r : IsReceived k c (max c.lo (got_of k)) (got_in c) c.forgot = received false k c c.origin (max c.lo (got_of k)) (got_in c) c.forgot (planned false k c h) in
-    let n : c.forgot + length (drop (c.forgot - k.forgot) (k.messages ++ drop (max c.lo (got_of k) - c.lo) c.messages)) ≡ got_in c =
-    omega (
-      arith,
-      r.lo,
-      r.from,
-      r.got,
-      r.forgot,
-      r.within,
-      length-drop (c.forgot - k.forgot) (k.messages ++ drop (max c.lo (got_of k) - c.lo) c.messages),
-      length-append k.messages (drop (max c.lo (got_of k) - c.lo) c.messages),
-      length-drop (max c.lo (got_of k) - c.lo) c.messages,
-    ) in
-    ap marks_of (accepted_used false k c h) ∙ ap (λ m. record { got = m; forgot = c.forgot; retired = k.retired }) n
+    (r, omega (arith, r.forgot, r.got, length-drop (got_in c - k.forgot) k.messages))
+
+-- and where it is received
+left_received : (k : Kept) (c : Carried) → fits false k c ≡ true
+    → IsReceived k c (max c.lo (got_of k)) (got_in c) c.forgot × (c.forgot + length (drop (c.forgot - k.forgot) (k.messages ++ drop (max c.lo (got_of k) - c.lo) c.messages)) ≡ got_in c)
+left_received k c h =
+    let r : IsReceived k c (max c.lo (got_of k)) (got_in c) c.forgot = received false k c c.origin (max c.lo (got_of k)) (got_in c) c.forgot (planned false k c h) in (
+      r,
+      omega (
+        arith,
+        r.lo,
+        r.from,
+        r.got,
+        r.forgot,
+        r.within,
+        length-drop (c.forgot - k.forgot) (k.messages ++ drop (max c.lo (got_of k) - c.lo) c.messages),
+        length-append k.messages (drop (max c.lo (got_of k) - c.lo) c.messages),
+        length-drop (max c.lo (got_of k) - c.lo) c.messages,
+      ),
+    )
+
+pub marks_kept : (own : Bool) (k : Kept) (c : Carried) → fits own k c ≡ true → marks_of (accepted own k (Some c)) ≡ line_marks own k c
+marks_kept true k c h = ap marks_of (accepted_used true k c h) ∙ ap (λ m. record { got = m; forgot = got_in c; retired = c.forgot }) (left_round k c h).1
+marks_kept false k c h = ap marks_of (accepted_used false k c h) ∙ ap (λ m. record { got = m; forgot = c.forgot; retired = k.retired }) (left_received k c h).1
 
 -- against the sender whose numbers it carries
 pub marks_taken : (own : Bool) (k : Kept) (c : Carried) (s : Kept) → fits own k c ≡ true → got_in c ≡ got_of s → c.forgot ≡ s.forgot → marks_of (accepted own k (Some c)) ≡ taken_marks own (marks_of k) s
@@ -112,32 +120,20 @@ part_taken log own k c line part = by own (fits own k c) refl
     by : (own b : Bool) → fits own k c ≡ b → IsPartOf log (accepted own k (Some c))
     by own false h = subst (IsPartOf log) (sym (accepted_passed own k c h)) part
     by true true h =
-        let r : WentRound k c (got_in c) c.forgot = went_round true k c c.origin (got_in c) c.forgot (planned true k c h) in
-        let n : got_in c + length (drop (got_in c - k.forgot) k.messages) ≡ got_of k = omega (arith, r.forgot, r.got, length-drop (got_in c - k.forgot) k.messages) in
+        let left = left_round k c h in
         subst (IsPartOf log) (sym (accepted_used true k c h)) (record {
-          reached = subst (λ m. m ≤ length log) (sym n) part.reached;
-          messages = ap (drop (got_in c - k.forgot)) part.messages ∙ drop_between k.forgot (got_in c) (got_of k) log r.forgot ∙ ap (λ m. messages_between (got_in c) m log) (sym n);
+          reached = subst (λ m. m ≤ length log) (sym left.1) part.reached;
+          messages = ap (drop (got_in c - k.forgot)) part.messages ∙ drop_between k.forgot (got_in c) (got_of k) log left.0.forgot ∙ ap (λ m. messages_between (got_in c) m log) (sym left.1);
         })
     by false true h =
-        let r : IsReceived k c (max c.lo (got_of k)) (got_in c) c.forgot = received false k c c.origin (max c.lo (got_of k)) (got_in c) c.forgot (planned false k c h) in
+        let left = left_received k c h in
+        let r : IsReceived k c (max c.lo (got_of k)) (got_in c) c.forgot = left.0 in
         let all : k.messages ++ drop (max c.lo (got_of k) - c.lo) c.messages ≡ messages_between k.forgot (got_in c) log =
         ap (λ m. k.messages ++ drop (m - c.lo) c.messages) r.from
         ∙ ap (λ xs. k.messages ++ xs) (ap (drop (got_of k - c.lo)) line.messages ∙ drop_between c.lo (got_of k) (got_in c) log r.lo)
         ∙ ap (λ xs. xs ++ messages_between (got_of k) (got_in c) log) part.messages
         ∙ between_joined k.forgot (got_of k) (got_in c) log (omega arith) r.got line.reached in
-        let n : c.forgot + length (drop (c.forgot - k.forgot) (k.messages ++ drop (max c.lo (got_of k) - c.lo) c.messages)) ≡ got_in c =
-        omega (
-          arith,
-          r.lo,
-          r.from,
-          r.got,
-          r.forgot,
-          r.within,
-          length-drop (c.forgot - k.forgot) (k.messages ++ drop (max c.lo (got_of k) - c.lo) c.messages),
-          length-append k.messages (drop (max c.lo (got_of k) - c.lo) c.messages),
-          length-drop (max c.lo (got_of k) - c.lo) c.messages,
-        ) in
         subst (IsPartOf log) (sym (accepted_used false k c h)) (record {
-          reached = subst (λ m. m ≤ length log) (sym n) line.reached;
-          messages = ap (drop (c.forgot - k.forgot)) all ∙ drop_between k.forgot c.forgot (got_in c) log r.forgot ∙ ap (λ m. messages_between c.forgot m log) (sym n);
+          reached = subst (λ m. m ≤ length log) (sym left.1) line.reached;
+          messages = ap (drop (c.forgot - k.forgot)) all ∙ drop_between k.forgot c.forgot (got_in c) log r.forgot ∙ ap (λ m. messages_between c.forgot m log) (sym left.1);
         })

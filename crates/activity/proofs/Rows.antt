@@ -21,6 +21,32 @@ use Rattle.activity.specs.Shown.{kept_in, kept_rows, told_of, told_rows}
 abbrev pub same : MemberId → MemberId → Bool
 same a b = nat_eq a.0 b.0
 
+-- of two tests for different numbers either may come first
+either_order : {B : Type 0} (k e p : ℕ) (x y z : B) → nat_eq k e ≡ false → cond (nat_eq p e) x (cond (nat_eq p k) y z) ≡ cond (nat_eq p k) y (cond (nat_eq p e) x z)
+either_order k e p x y z ne = by (nat_eq p e) refl
+  where
+    by : (b : Bool) → nat_eq p e ≡ b → cond b x (cond (nat_eq p k) y z) ≡ cond (nat_eq p k) y (cond b x z)
+    by false g = refl
+    by true g =
+        let apart : nat_eq p k ≡ false = subst (λ n. nat_eq n k ≡ false) (sym (nat_eq-is p e g)) (sym_test k e false ne) in
+        sym (ap (λ b. cond b y x) apart)
+
+-- what a number has already is written to it
+pub same_written : {B : Type 0} (g : ℕ → B) (k : ℕ) (x : B) → x ≡ g k → (p : ℕ) → cond (nat_eq p k) x (g p) ≡ g p
+same_written g k x e p = by (nat_eq p k) refl
+  where
+    by : (b : Bool) → nat_eq p k ≡ b → cond b x (g p) ≡ g p
+    by false h = refl
+    by true h = e ∙ ap g (sym (nat_eq-is p k h))
+
+-- a number's test is written over, and passes if it did
+passes_written : (t : ℕ → Bool) (k : ℕ) (c : Bool) → (t k ≡ true → c ≡ true) → (p : ℕ) → t p ≡ true → cond (nat_eq p k) c (t p) ≡ true
+passes_written t k c h p there = by (nat_eq p k) refl
+  where
+    by : (b : Bool) → nat_eq p k ≡ b → cond b c (t p) ≡ true
+    by false e = there
+    by true e = h (ap t (sym (nat_eq-is p k e)) ∙ there)
+
 module _ {X B : Type 0} (f : X → B) (d : B) where
   -- what is seen of the origin of an id
   abbrev pub seen : List (MemberId × X) → ℕ → B
@@ -51,34 +77,22 @@ module _ {X B : Type 0} (f : X → B) (d : B) where
       found true g = refl
       found false g = refl
 
-      other : (b : Bool) → nat_eq p e.0.0 ≡ b → nat_eq k.0 e.0.0 ≡ false → cond b (f e.1) (cond (nat_eq p k.0) (f w) (seen es p)) ≡ cond (nat_eq p k.0) (f w) (cond b (f e.1) (seen es p))
-      other false g ne = refl
-      other true g ne =
-          let apart : nat_eq p k.0 ≡ false = subst (λ n. nat_eq n k.0 ≡ false) (sym (nat_eq-is p e.0.0 g)) (sym_test k.0 e.0.0 false ne) in
-          sym (ap (λ b. cond b (f w) (f e.1)) apart)
-
       by : (lookup (same k) es ≡ Some v → seen (set_value (same k) es w) p ≡ cond (nat_eq p k.0) (f w) (seen es p)) → (b : Bool) → nat_eq k.0 e.0.0 ≡ b → cond b (Some e.1) (lookup (same k) es) ≡ Some v
           → seen (cond b ((e.0, w) ∷ es) (e ∷ set_value (same k) es w)) p ≡ cond (nat_eq p k.0) (f w) (cond (nat_eq p e.0.0) (f e.1) (seen es p))
       by later true g l =
           let at : nat_eq p e.0.0 ≡ nat_eq p k.0 = ap (nat_eq p) (sym (nat_eq-is k.0 e.0.0 g)) in
           ap (λ b. cond b (f w) (seen es p)) at ∙ found (nat_eq p k.0) refl ∙ ap (λ b. cond (nat_eq p k.0) (f w) (cond b (f e.1) (seen es p))) (sym at)
-      by later false g l = ap (cond (nat_eq p e.0.0) (f e.1)) (later l) ∙ other (nat_eq p e.0.0) refl g
+      by later false g l = ap (cond (nat_eq p e.0.0) (f e.1)) (later l) ∙ either_order k.0 e.0.0 p (f e.1) (f w) (seen es p) g
 
   -- an origin that has no entry gets one
   pub seen_push : (k : MemberId) (es : List (MemberId × X)) (w : X) → lookup (same k) es ≡ None → (p : ℕ) → seen (es ++ (k, w) ∷ []) p ≡ cond (nat_eq p k.0) (f w) (seen es p)
   seen_push k [] w h p = refl
   seen_push k (e ∷ es) w h p = by (λ l. seen_push k es w l p) (nat_eq k.0 e.0.0) refl h
     where
-      other : (b : Bool) → nat_eq p e.0.0 ≡ b → nat_eq k.0 e.0.0 ≡ false → cond b (f e.1) (cond (nat_eq p k.0) (f w) (seen es p)) ≡ cond (nat_eq p k.0) (f w) (cond b (f e.1) (seen es p))
-      other false g ne = refl
-      other true g ne =
-          let apart : nat_eq p k.0 ≡ false = subst (λ n. nat_eq n k.0 ≡ false) (sym (nat_eq-is p e.0.0 g)) (sym_test k.0 e.0.0 false ne) in
-          sym (ap (λ b. cond b (f w) (f e.1)) apart)
-
       by : (lookup (same k) es ≡ None → seen (es ++ (k, w) ∷ []) p ≡ cond (nat_eq p k.0) (f w) (seen es p)) → (b : Bool) → nat_eq k.0 e.0.0 ≡ b → cond b (Some e.1) (lookup (same k) es) ≡ None
           → cond (nat_eq p e.0.0) (f e.1) (seen (es ++ (k, w) ∷ []) p) ≡ cond (nat_eq p k.0) (f w) (cond (nat_eq p e.0.0) (f e.1) (seen es p))
       by later true g l = absurd (true≢false (ap is_some l))
-      by later false g l = ap (cond (nat_eq p e.0.0) (f e.1)) (later l) ∙ other (nat_eq p e.0.0) refl g
+      by later false g l = ap (cond (nat_eq p e.0.0) (f e.1)) (later l) ∙ either_order k.0 e.0.0 p (f e.1) (f w) (seen es p) g
 
 -- ---- the rows that entries show
 
@@ -182,27 +196,15 @@ row_added k es w h = row_push k es w h k.0 ∙ ap (λ b. cond b true (has_row (t
 
 pub none_sent : (k : MemberId) (es : List (MemberId × SentRow)) (w : SentRow) → lookup (same k) es ≡ None → told_of w ≡ none_told → KeepsSent (told_rows es) (told_rows (es ++ (k, w) ∷ []))
 none_sent k es w h zero = record {
-  sent = λ p. sent_push k es w h p ∙ by p (nat_eq p k.0) refl;
+  sent = λ p. sent_push k es w h p ∙ same_written (sent_of (told_rows es)) k.0 (told_of w) (zero ∙ sym (sent_none k es h)) p;
   rows = λ p there. row_push k es w h p ∙ later_true (nat_eq p k.0) there;
 }
-  where
-    by : (p : ℕ) (b : Bool) → nat_eq p k.0 ≡ b → cond b (told_of w) (sent_of (told_rows es) p) ≡ sent_of (told_rows es) p
-    by p false e = refl
-    by p true e = zero ∙ sym (sent_none k es h) ∙ ap (sent_of (told_rows es)) (sym (nat_eq-is p k.0 e))
 
 pub none_kept : (k : MemberId) (es : List (MemberId × Table)) (w : Table) → lookup (same k) es ≡ None → kept_in w ≡ no_kept → KeepsRows (kept_rows es) (kept_rows (es ++ (k, w) ∷ []))
 none_kept k es w h zero = record {
-  kept = λ p. kept_push k es w h p ∙ by p (nat_eq p k.0) refl;
-  room = λ p n there. room_push k es w h p n ∙ apart p n (nat_eq p k.0) refl there;
+  kept = λ p. kept_push k es w h p ∙ same_written (kept_of (kept_rows es)) k.0 (kept_in w) (zero ∙ sym (kept_none k es h)) p;
+  room = λ p n there. room_push k es w h p n ∙ passes_written (λ q. has_room (kept_rows es) q n) k.0 (nat_le n w.store.spare) (λ at. absurd (true≢false (sym at ∙ room_none k es n h))) p there;
 }
-  where
-    by : (p : ℕ) (b : Bool) → nat_eq p k.0 ≡ b → cond b (kept_in w) (kept_of (kept_rows es) p) ≡ kept_of (kept_rows es) p
-    by p false e = refl
-    by p true e = zero ∙ sym (kept_none k es h) ∙ ap (kept_of (kept_rows es)) (sym (nat_eq-is p k.0 e))
-
-    apart : (p n : ℕ) (b : Bool) → nat_eq p k.0 ≡ b → has_room (kept_rows es) p n ≡ true → cond b (nat_le n w.store.spare) (has_room (kept_rows es) p n) ≡ true
-    apart p n false e there = there
-    apart p n true e there = absurd (true≢false (sym there ∙ ap (λ q. has_room (kept_rows es) q n) (nat_eq-is p k.0 e) ∙ room_none k es n h))
 
 -- a table that starts
 pub started : (at base : ℕ) (t : Table) → StartsAt at t.store → t.retired ≡ 0 → t.base ≡ base → kept_in t ≡ record { forgot = at; messages = []; retired = 0; base = base }
@@ -227,19 +229,10 @@ row_reserved k es n v w h room = room_set k es v w h k.0 n ∙ ap (λ b. cond b 
 
 pub keeps_reserved : (k : MemberId) (es : List (MemberId × Table)) (v w : Table) → lookup (same k) es ≡ Some v → kept_in w ≡ kept_in v → v.store.spare ≤ w.store.spare → KeepsRows (kept_rows es) (kept_rows (set_value (same k) es w))
 keeps_reserved k es v w h same_kept more = record {
-  kept = λ p. kept_set k es v w h p ∙ by p (nat_eq p k.0) refl;
-  room = λ p n there. room_set k es v w h p n ∙ room p n (nat_eq p k.0) refl there;
+  kept = λ p. kept_set k es v w h p ∙ same_written (kept_of (kept_rows es)) k.0 (kept_in w) (same_kept ∙ sym (kept_found k es v h)) p;
+  room = λ p n there. room_set k es v w h p n
+      ∙ passes_written (λ q. has_room (kept_rows es) q n) k.0 (nat_le n w.store.spare) (λ at. le-leb n w.store.spare (omega (arith, more, room_spare k es n v h at))) p there;
 }
-  where
-    by : (p : ℕ) (b : Bool) → nat_eq p k.0 ≡ b → cond b (kept_in w) (kept_of (kept_rows es) p) ≡ kept_of (kept_rows es) p
-    by p false e = refl
-    by p true e = same_kept ∙ sym (kept_found k es v h) ∙ ap (kept_of (kept_rows es)) (sym (nat_eq-is p k.0 e))
-
-    room : (p n : ℕ) (b : Bool) → nat_eq p k.0 ≡ b → has_room (kept_rows es) p n ≡ true → cond b (nat_le n w.store.spare) (has_room (kept_rows es) p n) ≡ true
-    room p n false e there = there
-    room p n true e there =
-        let was : n ≤ v.store.spare = room_spare k es n v h (ap (λ q. has_room (kept_rows es) q n) (sym (nat_eq-is p k.0 e)) ∙ there) in
-        le-leb n w.store.spare (omega arith)
 
 -- what a store keeps, with the same number beside it
 pub kept_again : (v w : Table) → KeepsAll v.store w.store → w.retired ≡ v.retired → w.base ≡ v.base → kept_in w ≡ kept_in v

@@ -1,10 +1,10 @@
 -- Whether anything is new, by the rows that are there.
-use Rattle.std.proofs.Common.{◌≡◌, ◌⊎◌, inl, inr, ℕ, zero, suc, ◌+◌, ◌-◌, ◌<◌, ◌≤◌, Bool, true, false, cond, not, nat_eq, nat_le, List, [], ◌∷◌, ◌++◌, length, take, Some, refl, sym, ap, subst, ◌∙◌, ⊎_elim, arith}
+use Rattle.std.proofs.Common.{◌≡◌, ◌⊎◌, inl, inr, ℕ, zero, suc, ◌+◌, ◌-◌, ◌<◌, ◌≤◌, Bool, true, false, cond, not, nat_eq, nat_le, List, [], ◌∷◌, refl, sym, ap, ◌∙◌, ⊎_elim, arith}
 use Rattle.std.specs.Prelude.{◌&&◌}
-use Rattle.std.specs.List.{list_all, range_with_len, slice_get}
-use Rattle.std.proofs.lemmas.Bool.{and_parts, false≢true}
+use Rattle.std.specs.List.{list_all, range_with_len}
+use Rattle.std.proofs.lemmas.Bool.{and_parts, and_left, and_right, not-true, false≢true}
 use Rattle.std.proofs.lemmas.Bool.Decides.{nat_tests}
-use Rattle.std.proofs.lemmas.List.Folds.{list_all-append}
+use Rattle.group_view.proofs.Lists.{all_range}
 use Rattle.activity.specs.Kept.{Kept, KeptRow, got_of, no_kept, kept_of}
 use Rattle.activity.specs.Told.{Told, ToldRow, sent_of}
 use Rattle.activity.specs.Diff.{is_told, tells_new, IsNotAbove}
@@ -24,21 +24,13 @@ row_or_none test (r ∷ rows) p h =
 abbrev pub none_new : List ToldRow → List KeptRow → ℕ → List KeptRow → Bool
 none_new sent rows ids some = list_all (λ r. not (tells_new sent rows ids r.origin.0)) some
 
-all_of : (t : ℕ → Bool) (a n : ℕ) → ((p : ℕ) → a ≤ p → p < a + n → t p ≡ true) → list_all t (range_with_len a n) ≡ true
-all_of t a zero h = refl
-all_of t a (suc n) h = let here : t a ≡ true = h a (omega arith) (omega arith) in rw here (all_of t (a + 1) n (λ p l u. h p (omega arith) (omega arith)))
-
 one_fails : (t : ℕ → Bool) (a n p : ℕ) → a ≤ p → p < a + n → t p ≡ false → list_all t (range_with_len a n) ≡ false
 one_fails t a zero p l u e = absurd (omega arith)
 one_fails t a (suc n) p l u e = by_here (nat_eq a p) refl (λ ne. one_fails t (a + 1) n p ne (omega arith) e)
   where
-    no : (b : Bool) → (b && false) ≡ false
-    no true = refl
-    no false = refl
-
     by_here : (b : Bool) → nat_eq a p ≡ b → (a + 1 ≤ p → list_all t (range_with_len (a + 1) n) ≡ false) → (t a && list_all t (range_with_len (a + 1) n)) ≡ false
-    by_here true k later = let is : a ≡ p = grind (arith, nat_tests) in ap (λ q. t q && list_all t (range_with_len (a + 1) n)) is ∙ ap (λ c. c && list_all t (range_with_len (a + 1) n)) e
-    by_here false k later = let ne : a + 1 ≤ p = grind (arith, nat_tests) in ap (λ c. t a && c) (later ne) ∙ no (t a)
+    by_here true k later = let is : a ≡ p = grind (arith, nat_tests) in and_left (t a) (list_all t (range_with_len (a + 1) n)) (ap t is ∙ e)
+    by_here false k later = let ne : a + 1 ≤ p = grind (arith, nat_tests) in and_right (t a) (list_all t (range_with_len (a + 1) n)) (later ne)
 
 -- ---- what was asked
 
@@ -57,7 +49,7 @@ not_new true false c ea eb h = absurd (false≢true eb)
 not_new false b c ea eb h = absurd (false≢true ea)
 
 pub says_nothing_new : (sent : List ToldRow) (rows : List KeptRow) (ids : ℕ) → IsNotAbove sent rows → none_new sent rows ids rows ≡ true → list_all (λ p. is_told (kept_of rows (p + 1)) (sent_of sent (p + 1))) (range_with_len 0 ids) ≡ true
-says_nothing_new sent rows ids h e = all_of (λ p. is_told (kept_of rows (p + 1)) (sent_of sent (p + 1))) 0 ids
+says_nothing_new sent rows ids h e = all_range (λ p. is_told (kept_of rows (p + 1)) (sent_of sent (p + 1))) 0 ids
     (λ p _ u. ⊎_elim
     (λ (none : kept_of rows (p + 1) ≡ no_kept). nothing_told (kept_of rows (p + 1)) (sent_of sent (p + 1)) none (h.got (p + 1)) (h.forgot (p + 1)))
     (λ (told : not (tells_new sent rows ids (p + 1)) ≡ true).
@@ -65,10 +57,6 @@ says_nothing_new sent rows ids h e = all_of (λ p. is_told (kept_of rows (p + 1)
     let hi : nat_le (p + 1) ids ≡ true = grind (arith, nat_tests) in
     not_new (nat_le 1 (p + 1)) (nat_le (p + 1) ids) (is_told (kept_of rows (p + 1)) (sent_of sent (p + 1))) lo hi told)
     (row_or_none (λ q. not (tells_new sent rows ids q)) rows (p + 1) e))
-
-is_false : (b : Bool) → not b ≡ true → b ≡ false
-is_false true e = absurd (false≢true e)
-is_false false e = refl
 
 pub says_something : (sent : List ToldRow) (rows : List KeptRow) (ids p : ℕ) → tells_new sent rows ids p ≡ true → list_all (λ q. is_told (kept_of rows (q + 1)) (sent_of sent (q + 1))) (range_with_len 0 ids) ≡ false
 says_something sent rows ids p e =
@@ -78,4 +66,4 @@ says_something sent rows ids p e =
     let hi : p ≤ ids = let x : nat_le p ids ≡ true = b.1 in grind (arith, nat_tests) in
     let back : p - 1 + 1 ≡ p = omega arith in
     one_fails (λ q. is_told (kept_of rows (q + 1)) (sent_of sent (q + 1))) 0 ids (p - 1) (omega arith) (omega arith)
-    (ap (λ q. is_told (kept_of rows q) (sent_of sent q)) back ∙ is_false (is_told (kept_of rows p) (sent_of sent p)) a.1)
+    (ap (λ q. is_told (kept_of rows q) (sent_of sent q)) back ∙ not-true (is_told (kept_of rows p) (sent_of sent p)) a.1)

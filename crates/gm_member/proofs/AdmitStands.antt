@@ -13,10 +13,11 @@ use Rattle.ring_world.proofs.events.Leaves.{come_member}
 use Rattle.ring_world.proofs.rings.Rounds.{nat_eq-is}
 use Rattle.ring_world.proofs.invariants.KeptAdmit.{CanJoin, joined_state}
 use Rattle.ring_world.proofs.invariants.Happens.{IsGood, can_join, join_good, joined_links, right_in_come}
+pub use Rattle.ring_world.proofs.runs.OwnLogs.{come_log}
 use Rattle.gm_member.specs.Held.{Held, stays}
 use Rattle.gm_member.specs.Stands.{held_in}
 use Rattle.gm_member.proofs.Fit.{IsFit}
-use Rattle.gm_member.proofs.Facts.{log_past, refused_there}
+use Rattle.gm_member.proofs.Facts.{refused_there}
 use Rattle.gm_member.proofs.Knowing.{IsRight}
 use Rattle.gm_member.proofs.Doors.{view_version, arrived, stays_kept, comes_stays}
 use Rattle.gm_member.proofs.Parts.{known_same, held_is, door_still}
@@ -31,10 +32,7 @@ admit_can w x newcomer f some lt r =
     let a = up_none w x (admit_refusal w newcomer) (sym (refused_there w x e (f.named x some lt)) ∙ r) in
     can_join w x newcomer lt a.0 a.1 f.good
 
--- ---- one more member, which has published nothing
-
-pub come_log : (w : World) (m : ℕ) (name : List ℕ) (p : ℕ) → log_of (come_to w m name) p ≡ log_of w p
-come_log w m name p = come_member w m name p (λ q y. y.log ≡ log_of w q) (sym (log_past w (size w) (omega arith))) refl
+-- ---- one more member
 
 -- the others are as they were
 pub come_same : (w : World) (m : ℕ) (name : List ℕ) (x : ℕ) → x < size w → member_at (come_to w m name) x ≡ member_at w x

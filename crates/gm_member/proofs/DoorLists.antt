@@ -5,6 +5,7 @@ use Rattle.std.specs.List.{filter, find, range_with_len, position_or_len}
 use Rattle.std.proofs.lemmas.Bool.{cases_eq, cases_lt, lt-ltb, le-ltb}
 use Rattle.std.proofs.lemmas.List.Quantifiers.{position-Some}
 use Rattle.std.proofs.lemmas.List.FromFn.{fill_by_all, get_or-range_with_len, length-range_with_len}
+use Rattle.std.proofs.Math.Bool.{and-true}
 use Rattle.group_view.specs.Ring.{is_in}
 use Rattle.ring_world.proofs.rings.Maps.{position_map}
 use Rattle.ring_world.proofs.rings.Rounds.{nat_eq-same, nat_eq-not}
@@ -160,14 +161,10 @@ filter_without t k a (suc n) i l e = by_case (λ j m q. filter_without t k (a + 
     kept : List ℕ
     kept = filter (λ s. t s && not (nat_eq k s)) (range_with_len (a + 1) n)
 
-    and_true : (b : Bool) → (b && true) ≡ b
-    and_true true = refl
-    and_true false = refl
-
     by_case : ((j : ℕ) → j < length rest → get_or rest j 0 ≡ k → kept ≡ without j rest) → (b : Bool) (i : ℕ) → i < length (cond b (a ∷ rest) rest) → get_or (cond b (a ∷ rest) rest) i 0 ≡ k → cond (b && not (nat_eq k a)) (a ∷ kept) kept ≡ without i (cond b (a ∷ rest) rest)
     by_case ih true zero l e =
         ap (λ c. cond (not c) (a ∷ kept) kept) (ap (λ j. nat_eq j a) (sym e) ∙ nat_eq-same a)
-        ∙ filter_agree (λ s. t s && not (nat_eq k s)) t (a + 1) n (λ s l m. ap (λ c. t s && not c) (nat_eq-not k s (λ (same : k ≡ s). omega arith)) ∙ and_true (t s))
+        ∙ filter_agree (λ s. t s && not (nat_eq k s)) t (a + 1) n (λ s l m. ap (λ c. t s && not c) (nat_eq-not k s (λ (same : k ≡ s). omega arith)) ∙ and-true (t s))
     by_case ih true (suc i) l e =
         let there : i < length rest = omega arith in
         let apart : k ≢ a = λ (same : k ≡ a). omega (arith, filter_above t (a + 1) n i there) in

@@ -2,6 +2,7 @@
 use Rattle.std.proofs.Common.{◌≡◌, ℕ, zero, suc, ◌+◌, ◌-◌, ◌<◌, ◌≤◌, Bool, true, false, cond, not, nat_eq, nat_le, List, [], ◌∷◌, ◌++◌, length, take, drop, get_or, map, max, Some, None, refl, sym, ap, ◌∙◌, arith}
 use Rattle.std.specs.Prelude.{◌&&◌}
 use Rattle.std.specs.List.{range_with_len}
+use Rattle.std.proofs.lemmas.Bool.{and_from}
 use Rattle.std.proofs.lemmas.Bool.Decides.{nat_tests}
 use Rattle.std.proofs.lemmas.Grind.{common_steps}
 use Rattle.std.proofs.lemmas.List.{length-drop, length-take-le, drop-append-le}
@@ -167,10 +168,7 @@ pub record BeginsFirst (log : List Message) (k : Numbers) : Type 0 where
 first_begins : (log : List Message) (p : ℕ) (k : Numbers) → BeginsFirst log k → begins (whole_line log p k) ≡ true
 first_begins log p k f =
     ap (λ n. nat_le k.lo k.forgot && nat_le k.forgot n) (got_is log p k (omega (arith, f.lo, f.forgot)) f.within)
-    ∙ two (nat_le k.lo k.forgot) (nat_le k.forgot k.got) (not_above k.lo k.forgot f.lo) (not_above k.forgot k.got f.forgot)
-  where
-    two : (a b : Bool) → a ≡ true → b ≡ true → (a && b) ≡ true
-    two a b ea eb = rw (ea, eb) refl
+    ∙ and_from (nat_le k.lo k.forgot) (nat_le k.forgot k.got) (not_above k.lo k.forgot f.lo) (not_above k.forgot k.got f.forgot)
 
 -- a member that has retired nothing begins with the messages of its line
 pub begun_first : (log : List Message) (p : ℕ) (r : Row) (k : Numbers) → r.retired ≡ 0 → BeginsFirst log k → begun (Some (whole_line log p k)) ≡ kept_by log (begun_row r k)

@@ -69,10 +69,6 @@ mark_view w d = marked (view_in w (newest w)) d
 abbrev pub mark_world : World → ℕ → World
 mark_world w d = with_view w (mark_view w d)
 
--- the newest view is the one that the mark makes
-pub mark_newest : (w : World) (d : ℕ) → IsGood w → view_in (mark_world w d) (newest w + 1) ≡ mark_view w d
-mark_newest w d h = view_newest w (mark_view w d) h
-
 -- who was found may mark
 pub mark_may : (w : World) (x d : ℕ) (by dead : List ℕ) → id_of w by ≡ Some x → id_of w dead ≡ Some d → refusal w (Mark by dead) ≡ None → MayMark w x d
 mark_may w x d by dead named there r =

@@ -3,14 +3,9 @@ use Rattle.std.proofs.Common.{◌≡◌, ℕ, ◌+◌, ◌<◌, Bool, true, fals
 use Rattle.std.specs.List.{find}
 use Rattle.std.proofs.lemmas.Bool.{false≢true}
 use Rattle.activity.specs.Parcels.{Carried, Parcel, line_of}
-use Rattle.ring_world.specs.Rows.{no_row, no_numbers, next_numbers}
 use Rattle.ring_world.proofs.rings.Rounds.{nat_eq-is, nat_eq-same, nat_eq-not}
 use Rattle.gm_member.specs.Parcels.{places, line_at, by_origin}
 use Rattle.gm_member.proofs.Places.{tabled_at}
-
-pub next_numbers-nothing : (b : Bool) → next_numbers b no_row no_numbers ≡ no_numbers
-next_numbers-nothing true = refl
-next_numbers-nothing false = refl
 
 -- the line at the place of an origin is the packet's
 pub line_there : (k : Parcel) (p : ℕ) → p < 64 → line_at (by_origin k).lines p ≡ line_of k.lines (p + 1)

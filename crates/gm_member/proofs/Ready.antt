@@ -15,7 +15,7 @@ use Rattle.gm_member.specs.Ends.{EndIsOpen}
 use Rattle.gm_member.specs.Spares.{IsSpareFor}
 use Rattle.gm_member.specs.Calls.{SameSelf, KeepsOuts}
 use Rattle.gm_member.specs.Within.{IsWithin}
-use Rattle.gm_member.specs.Shown.{When, OutIsReady, OutIsBack, IsReadyToMove, SpareIsReady, SpareIsSound, KeepsSpare, StaysReady}
+use Rattle.gm_member.specs.Shown.{When, OutIsReady, OutIsBack, IsReadyToMove, SpareIsReady, SpareIsSound, KeepsSpare}
 use Rattle.gm_member.proofs.Within.{within_above}
 
 -- what holds of that which is there
@@ -66,18 +66,10 @@ module _ {O I : Type 0} {g : Ghosts O Load} where
     room = omega (arith, k.3, k.4, r.room);
   }
 
-  -- the member has the link that it had, or none
-  pub stays_sound : (are_fresh : ℕ → O → I → Type 0) (free : O → ℕ) (ended : O → Bool) (m n : Member O I g) → StaysReady m n → SpareIsSound are_fresh free ended m → SpareIsSound are_fresh free ended n
-  stays_sound are_fresh free ended m n k p =
-      subst (λ o. MatchOption o ⊤ (IsReadyToMove are_fresh free ended n)) (sym k.0.0) (if_there ⊤ _ _ m.spare (λ s. still_moves are_fresh free ended m n s k.0) p)
-
   -- it still has one
   pub keeps_ready : (are_fresh : ℕ → O → I → Type 0) (free : O → ℕ) (ended : O → Bool) (m n : Member O I g) → KeepsSpare m n → SpareIsReady are_fresh free ended m → SpareIsReady are_fresh free ended n
   keeps_ready are_fresh free ended m n k p =
       subst (λ o. MatchOption o ⊥ (IsReadyToMove are_fresh free ended n)) (sym k.0) (if_there ⊥ _ _ m.spare (λ s. still_moves are_fresh free ended m n s k) p)
-
-  pub stays_ready : (are_fresh : ℕ → O → I → Type 0) (free : O → ℕ) (ended : O → Bool) (m n : Member O I g) → StaysReady m n → SpareIsReady are_fresh free ended m → SpareIsReady are_fresh free ended n
-  stays_ready are_fresh free ended m n k = keeps_ready are_fresh free ended m n k.0
 
   -- the end on which a running member sends hasn't ended, where it isn't lent
   pub is_ready : (m : Member O I g) → OutIsBack m → OutIsReady g.ended m

@@ -2,15 +2,14 @@
 use Rattle.std.proofs.Common.{◌≡◌, ◌⊎◌, inl, inr, ℕ, ◌+◌, ◌≤◌, Bool, true, false, cond, not, nat_eq, nat_le, List, [], ◌∷◌, Option, Some, None, refl, sym, ap, subst, ◌∙◌, ⊎_elim, arith, length-append, map}
 use Rattle.std.specs.Prelude.{◌&&◌, Result, Ok, Err, OnOk, OnErr, is_ok}
 use Rattle.std.specs.List.{list_all, range_with_len, cons_option}
-use Rattle.std.proofs.lemmas.Bool.{and_parts, true≢false, not-false}
+use Rattle.std.proofs.lemmas.Bool.{and_parts, true≢false, not-true, not-false}
 use Rattle.std.proofs.lemmas.Bool.Decides.{nat_tests}
 use Rattle.group_view.proofs.Lists.{all_range}
 use Rattle.ring_names.specs.declared.message.Message.{Message}
-use Rattle.ring_names.specs.declared.reason.Reason.{Reason}
 use Rattle.ring_names.specs.declared.reason.Reason.TheVariants.{NoCredit, NothingNew}
 use Rattle.credit_flow.specs.Credit.{is_blocked}
 use Rattle.ring_world.specs.Refusal.{refuse_if}
-use Rattle.ring_world.proofs.events.Refusals.{none_of}
+use Rattle.ring_world.proofs.events.Refusals.{none_of, refuse_none}
 use Rattle.ring_world.proofs.rings.Rounds.{nat_eq-is, nat_eq-same, nat_eq-not}
 use Rattle.activity.specs.declared.change.Change.{Change}
 use Rattle.activity.specs.Kept.{Kept, KeptRow, no_kept, got_of, kept_of, joined, KeepsRows}
@@ -124,10 +123,6 @@ both_ways true b f g = sym (f refl)
 both_ways false true f g = g refl
 both_ways false false f g = refl
 
-is_false : (b : Bool) → not b ≡ true → b ≡ false
-is_false true e = cc
-is_false false e = refl
-
 -- all is told then exactly where all was told before, and of the changes nothing is new
 still_all : (told : Bool) (sent : List ToldRow) (own : ℕ → Bool) (old mid new : List KeptRow) (lines : List Carried) (changes : List Change) → KeepsRows old mid → changes ≡ changes_of own mid lines
     → ((p : ℕ) → kept_of new p ≡ accepted (own p) (kept_of mid p) (line_of lines p)) → IsNotAbove sent old
@@ -145,7 +140,7 @@ still_all told sent own old mid new lines changes kept plan made above right = b
         none_new_told sent new 64 (λ id. ⊎_elim
         (λ (same : accepted (own id) (kept_of mid id) (line_of lines id) ≡ kept_of mid id).
         ap (λ k. nat_le 1 id && nat_le id 64 && not (is_told k (sent_of sent id))) (made id ∙ same ∙ kept.kept id) ∙ none_new sent old 64 (sym right ∙ parts.0) id)
-        (λ (passes : not (tells_new sent new 64 id) ≡ true). is_false (tells_new sent new 64 id) passes)
+        (λ (passes : not (tells_new sent new 64 id) ≡ true). not-true (tells_new sent new 64 id) passes)
         (stays_or_passes (λ q. not (tells_new sent new 64 q)) own mid lines id (ap (says_changed sent new) (sym plan) ∙ parts.1)))
 
     before : list_all (λ p. is_told (kept_of new (p + 1)) (sent_of sent (p + 1))) (range_with_len 0 64) ≡ true → (told && says_changed sent new changes) ≡ true
@@ -165,15 +160,11 @@ unfolding places
 put_told known o = all_range (λ p. is_told (known_at known p) (told_at (all_told known) p)) 0 64
     (λ p _ l. ap (is_told (known_at known p)) (tabled_at (λ q. told_now (known_at known q)) 64 p none_told (omega (arith, l))) ∙ told_now_told (known_at known p))
 
-not_refused : (b : Bool) (q : Reason) → refuse_if b q ≡ None → b ≡ false
-not_refused true q e = cc
-not_refused false q e = refl
-
 -- and only where something was, one may be put
 pub put_right : {A E : Type 0} (r : Result A E) (known : List Kept) (o o' : Outgoing) → OnOk r (o' ≡ put_on known o) → OnErr r (o' ≡ o) → out_refused known o ≡ None → is_ok r ≡ has_nothing_new known o'
 put_right (Ok a) known o o' ok err enabled = sym (ap (has_nothing_new known) ok ∙ put_told known o)
 put_right (Err e) known o o' ok err enabled =
-    sym (ap (has_nothing_new known) err ∙ not_refused (has_nothing_new known o) NothingNew (none_of (is_blocked o.credit) NoCredit (refuse_if (has_nothing_new known o) NothingNew) enabled).1)
+    sym (ap (has_nothing_new known) err ∙ refuse_none (has_nothing_new known o) NothingNew (none_of (is_blocked o.credit) NoCredit (refuse_if (has_nothing_new known o) NothingNew) enabled).1)
 
 -- ---- at first
 

@@ -6,6 +6,7 @@ use Rattle.std.specs.Ordering.{nat_cmp}
 use Rattle.std.specs.Map.{remove_entry}
 use Rattle.std.specs.BTreeMap.{BTreeMap, get, Updates, is_at as is_key}
 use Rattle.std.proofs.lemmas.Bool.{cases_Bool, eqb-true, and_parts, lt-ltb, false≢true}
+use Rattle.std.proofs.Math.Bool.{and-true, and-false}
 use Rattle.ring_names.specs.declared.numbers.Position.{Position}
 use Rattle.queue_core.specs.declared.op.Op.{Op}
 use Rattle.queue_core.specs.declared.op.Op.TheVariants.{Publish, Deliver, Drop, Ack, Requeue, Start}
@@ -67,11 +68,7 @@ acknowledged at a bodies h none entries off = is_done (Ack at) a (record a { bod
 
 -- nothing is handed out at a position that is ready
 pub not_acknowledged : (at : Position) (a : Inside) → is_some (get nat_cmp a.ready at.0) ≡ true → queue_in a ≡ apply (Ack at) (queue_in a)
-not_acknowledged at a has = sym (ack_nothing at (queue_in a) (handed_at (get nat_cmp a.ready) at.0 a.bodies.entries ∙ rw has (and_false (is_some (get nat_cmp a.bodies at.0)))))
-  where
-    and_false : (b : Bool) → (b && false) ≡ false
-    and_false true = refl
-    and_false false = refl
+not_acknowledged at a has = sym (ack_nothing at (queue_in a) (handed_at (get nat_cmp a.ready) at.0 a.bodies.entries ∙ rw has (and-false (is_some (get nat_cmp a.bodies at.0)))))
 
 -- what was handed out is ready again
 pub requeued : (at : Position) (a : Inside) (ready : BTreeMap ℕ Bool) → KeepsQueue a → is_some (get nat_cmp a.bodies at.0) ≡ true → is_some (get nat_cmp a.ready at.0) ≡ false → Updates nat_cmp a.ready ready at.0 (Some true) → IsDone (Requeue at) a (record a { ready = ready })
@@ -97,11 +94,7 @@ restarted d a ready h all = is_done (Start d) a (record a { ready = ready }) h
 
 -- whether a message may join, by the keys
 pub takes_is : (n : ℕ) (a : Inside) → n < greatest → takes n (queue_in a).items ≡ is_above_keys n a.bodies.entries
-takes_is n a lt = rw (above_items (get nat_cmp a.ready) n a.bodies.entries, lt-ltb n greatest lt) (and_true (is_above_keys n a.bodies.entries))
-  where
-    and_true : (b : Bool) → (b && true) ≡ b
-    and_true true = refl
-    and_true false = refl
+takes_is n a lt = rw (above_items (get nat_cmp a.ready) n a.bodies.entries, lt-ltb n greatest lt) (and-true (is_above_keys n a.bodies.entries))
 
 -- where it may join, it stands above all keys
 pub above_keys : (n : ℕ) (a : Inside) → takes n (queue_in a).items ≡ true → is_above_keys n a.bodies.entries ≡ true

@@ -9,6 +9,7 @@ use Rattle.std.specs.BTreeMap.Range.{range_contains, entries_between}
 use Rattle.std.specs.declared.ops.Bound.TheVariants.{Included, Unbounded}
 use Rattle.std.proofs.lemmas.Bool.{cases_Bool, and_parts, eqb-true, ltb-true, false≢true, false_from_ne_true}
 use Rattle.std.proofs.lemmas.Bool.Decides.{nat_tests}
+use Rattle.std.proofs.Math.Bool.{and-true}
 use Rattle.ring_names.specs.declared.reason.Reason.TheVariants.{UnknownPosition, NotDelivered}
 use Rattle.queue_core.specs.Queue.{Item, is_at, is_handed, is_unacked_at, is_ready_at, rises}
 use Rattle.queue_core.specs.Legal.{least_ready}
@@ -81,11 +82,7 @@ find_first f p q h (e ∷ es) = ⊎_elim
 
 -- the first entry at a position or above it is the first item there
 pub from_first : (f : ℕ → Option Bool) (a : ℕ) (es : List (ℕ × List ℕ)) → first_from a (items_by f es) ≡ option_map (item_by f) (slice_get (entries_between nat_cmp (Included a) Unbounded es) 0)
-from_first f a es = find_first f (λ i. nat_le a i.at) (λ e. range_contains nat_cmp (Included a) Unbounded e.0) (λ e. sym (and_true (is_le (nat_cmp a e.0)) ∙ same_place a e.0)) es
-  where
-    and_true : (b : Bool) → (b && true) ≡ b
-    and_true true = refl
-    and_true false = refl
+from_first f a es = find_first f (λ i. nat_le a i.at) (λ e. range_contains nat_cmp (Included a) Unbounded e.0) (λ e. sym (and-true (is_le (nat_cmp a e.0)) ∙ same_place a e.0)) es
 
 -- ---- the least ready position
 

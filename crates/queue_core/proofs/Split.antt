@@ -63,9 +63,6 @@ legal_front l m h = (and_parts (are_legal [] l) (are_legal (queue_of l) m) (sym 
 pub legal_back : (l m : List Op) → are_legal [] (l ++ m) ≡ true → are_legal (queue_of l) m ≡ true
 legal_back l m h = (and_parts (are_legal [] l) (are_legal (queue_of l) m) (sym (legal-append [] l m) ∙ h)).1
 
-pub legal_push : (l m : List Op) → are_legal [] l ≡ true → are_legal (queue_of l) m ≡ true → are_legal [] (l ++ m) ≡ true
-legal_push l m h k = legal-append [] l m ∙ and_from (are_legal [] l) (are_legal (queue_of l) m) h k
-
 -- nothing stays of nothing
 pub remains_nothing : (l : List Op) → remains l [] ≡ []
 remains_nothing [] = refl

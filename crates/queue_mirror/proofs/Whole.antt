@@ -1,15 +1,13 @@
 -- A member that leaves nothing out holds the queue.
-use Rattle.std.proofs.Common.{◌≡◌, ℕ, ◌≤◌, true, false, List, [], ◌++◌, length, take, drop, refl, sym, ap, ◌∙◌, arith, ⊎_elim, Option, Some, None}
-use Rattle.std.specs.List.{list_any}
+use Rattle.std.proofs.Common.{◌≡◌, ℕ, true, false, List, [], ◌++◌, length, refl, sym, ap, ◌∙◌, arith, ⊎_elim, Option, Some, None}
 use Rattle.std.proofs.lemmas.Bool.{cases_Bool}
-use Rattle.std.proofs.lemmas.List.{nil_from_length, drop_all, drop-append-le, take-append-le}
-use Rattle.std.proofs.lemmas.List.Folds.{list_any-append}
+use Rattle.std.proofs.lemmas.List.{nil_from_length, drop_all}
 use Rattle.std.proofs.lemmas.Option.{none-some, same_Some}
 use Rattle.queue_core.specs.declared.op.Op.{Op}
 use Rattle.queue_core.specs.Queue.{Item}
-use Rattle.queue_core.specs.Legal.{run, remains, queue_of, are_legal}
-use Rattle.queue_mirror.specs.Mirror.{MirrorState, content, left_out, from, is_tell, is_told, lacks, founding}
-use Rattle.queue_core.proofs.Split.{remains_nothing, remains-append}
+use Rattle.queue_core.specs.Legal.{run, queue_of, are_legal}
+use Rattle.queue_mirror.specs.Mirror.{MirrorState, content, left_out, from, is_told, lacks, founding}
+use Rattle.queue_core.proofs.Split.{remains_nothing}
 use Rattle.queue_mirror.proofs.Mirrors.{IsMirrorOf, queue-split}
 
 -- who is known to lack nothing leaves nothing out
@@ -41,16 +39,3 @@ joining_is l m none unknown = record {
   where
     queue_of_ : List Op → List Item
     queue_of_ l = run [] l
-
--- who knows that nothing is missing stays so
-pub told_stays : (since : Option ℕ) (l m : List Op) → from since ≤ length l → lacks since l ≡ Some 0 → lacks since (l ++ m) ≡ Some 0
-told_stays None l m le h = lacks_founding (l ++ m)
-told_stays (Some f) l m le h =
-    let none : left_out f l ≡ [] = nothing_left (Some f) l h in
-    let more : left_out f (l ++ m) ≡ [] = rw (drop-append-le f l m le, take-append-le f l m le) (remains-append (queue_of (take f l)) (drop f l) m ∙ ap (remains m) none ∙ remains_nothing m) in
-    ⊎_elim
-    (λ (yes : list_any is_tell (drop f l) ≡ true).
-    let told : is_told (Some f) (l ++ m) ≡ true = rw (drop-append-le f l m le, list_any-append is_tell (drop f l) m, yes) in
-    rw told (ap (λ xs. Some (length xs)) more))
-    (λ (no : list_any is_tell (drop f l) ≡ false). absurd (none-some 0 (rw no at h)))
-    (cases_Bool (list_any is_tell (drop f l)))

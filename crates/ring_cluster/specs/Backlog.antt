@@ -33,5 +33,6 @@ left_on w a = sum_by (cost w a.name) a.tasks
 abbrev pub backlog : World → List Plan → ℕ
 backlog w plans = sum_by (left_on w) plans
 
+-- what is left by all agendas of a cluster, in the last state of its journal
 abbrev pub backlog_of : Seen → ℕ
 backlog_of c = backlog (state_of c) c.agendas

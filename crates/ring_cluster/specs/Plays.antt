@@ -132,10 +132,11 @@ commanded c x = record c { agendas = tasked c.agendas x; given = c.given ++ x �
 
 -- ---- playing
 
--- those of marked events that are marked, and the others
+-- those of marked events that are marked
 abbrev pub marked_of : List (Bool × Event) → List Event
 marked_of events = map (λ e. e.1) (filter (λ e. e.0) events)
 
+-- those that aren't
 abbrev pub unmarked_of : List (Bool × Event) → List Event
 unmarked_of events = map (λ e. e.1) (filter (λ e. not e.0) events)
 

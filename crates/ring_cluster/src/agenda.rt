@@ -1,6 +1,6 @@
 //! What each member has still to do.
 ghost use Rattle.std.specs.Prelude.{◌≡◌, ◌<◌, ◌≤◌, ◌∷◌, ◌++◌, [], List, drop, length, is_some, Some, MatchOption, IfOk};
-ghost use Rattle.std.specs.Prelude.{IfSome, OnOk, OnErr, bytes_eq, position};
+ghost use Rattle.std.specs.Prelude.{IfSome, OnOk, OnErr, bytes_eq, nat_lt, position};
 ghost use Rattle.ring_cluster.specs.Agendas.{Plan, names_of, place_among, tasks_in, tasks_on_all, with_tasks, with_task};
 ghost use Rattle.ring_cluster.specs.Plays.{task_event, task_client, answer_by, is_stop as the_stop};
 ghost use Rattle.ring_cluster.specs.declared.agenda.Task.{Task};
@@ -96,7 +96,7 @@ impl Task {
 }
 
 impl Agenda {
-    ghost use Rattle.std.specs.Prelude.{◌≡◌, ◌≤◌, ◌∷◌, ◌++◌, [], List, drop, length, OnOk, OnErr};
+    ghost use Rattle.std.specs.Prelude.{◌≡◌, ◌≤◌, ◌∷◌, ◌++◌, [], List, drop, length, nat_lt, OnOk, OnErr};
 
     /// An agenda with nothing on it.
     fn new(alloc: Global, name: Name) -> Agenda
@@ -134,11 +134,12 @@ impl Agenda {
         self.tasks.front()
     }
 
-    /// The next task is done.
-    fn pop(&mut self)
-        ensures { self.new ≡ record self.old { tasks = drop 1 (self.old).tasks } }
+    /// The next task is done: whether there was one.
+    fn pop(&mut self) -> bool
+        ensures done { self.new ≡ record self.old { tasks = drop 1 (self.old).tasks } }
+        ensures had { result ≡ nat_lt 0 (length (self.old).tasks) }
     {
-        let _ = self.tasks.pop_front();
+        self.tasks.pop_front().is_some()
     }
 
     /// The last task is taken back.
@@ -199,10 +200,9 @@ impl Agendas {
     pub(crate) fn strike_off(&mut self, name: &Name)
         ensures { self.new ≡ with_tasks self.old name.now (drop 1 (tasks_in self.old name.now)) }
     {
-        if next_task(&self.list, name).is_some() {
+        if strike_off(&mut self.list, name) {
             self.most -= 1;
         }
-        strike_off(&mut self.list, name);
     }
 
     /// Whether that name has an agenda.
@@ -253,13 +253,15 @@ fn next_task<'a>(agendas: &'a [Agenda], name: &Name) -> Option<&'a Task>
     }
 }
 
-/// The next task of the member of that name is done.
-fn strike_off(agendas: &mut Vec<Agenda>, name: &Name)
-    ensures { agendas.new.items
+/// The next task of the member of that name is done: whether there was one.
+fn strike_off(agendas: &mut Vec<Agenda>, name: &Name) -> bool
+    ensures done { agendas.new.items
         ≡ with_tasks agendas.old.items name.now (drop 1 (tasks_in agendas.old.items name.now)) }
+    ensures had { result ≡ nat_lt 0 (length (tasks_in agendas.old.items name.now)) }
 {
-    if let Some(place) = place_of(agendas, name) {
-        agendas[place].pop();
+    match place_of(agendas, name) {
+        Some(place) => agendas[place].pop(),
+        None => false,
     }
 }
 

@@ -5,7 +5,6 @@ pub mod Aliases
 pub mod Back
 pub mod Begin
 pub mod Cast
-pub mod Chain
 pub mod Comes
 pub mod CountedWalk
 pub mod Edits

@@ -1,6 +1,6 @@
 -- What has become of the lines of a step file, one more after another.
-use Rattle.std.proofs.Common.{◌≡◌, ℕ, zero, suc, ◌+◌, List, [], ◌∷◌, ◌++◌, drop, Some, refl, sym, ap, subst, ◌∙◌}
-use Rattle.std.proofs.lemmas.List.{append-nil, append_assoc}
+use Rattle.std.proofs.Common.{◌≡◌, ℕ, ◌+◌, List, ◌∷◌, ◌++◌, drop, Some, refl, sym, ap, ◌∙◌}
+use Rattle.std.proofs.lemmas.List.{append_assoc}
 use Rattle.ring_script.specs.declared.text.Text.{Text}
 use Rattle.ring_world.specs.declared.event.Event.{Event}
 use Rattle.ring_world.specs.Step.{opening}
@@ -14,9 +14,6 @@ use Rattle.ringplay.specs.Call.{AreSteppedBy}
 use Rattle.ringplay.proofs.Playing.{has_run}
 
 -- ---- events that have happened
-
-stepped_none : (c : Seen) → HasStepped c c []
-stepped_none c = record { credit = refl; names = refl; events = sym (append-nil c.events); agendas = refl; given = refl }
 
 stepped_on : {c d e : Seen} {first second : List Event} → HasStepped c d first → HasStepped d e second → HasStepped c e (first ++ second)
 stepped_on {c} {d} {e} {first} {second} f s = record {
@@ -43,10 +40,6 @@ pub record HasTried (c d : Seen) (before told : List ℕ) (lines : List (ℕ × 
   pub left : enabled_of (state_of c) lines ≡ events ++ enabled_of (state_of d) (drop k lines)
   pub says : before ++ refused_lines (state_of c) lines ≡ told ++ refused_lines (state_of d) (drop k lines)
 
--- none was
-pub tried_none : (c : Seen) (before : List ℕ) (lines : List (ℕ × Event)) → HasTried c c before before lines 0
-tried_none c before lines = record { events = []; stepped = stepped_none c; left = refl; says = refl }
-
 -- one more
 pub tried_more : {c d e : Seen} {before told : List ℕ} {lines : List (ℕ × Event)} {k : ℕ} → HasTried c d before told lines k
     → (line : ℕ × Event) (rest : List (ℕ × Event)) (more : List ℕ) → drop k lines ≡ line ∷ rest → drop (k + 1) lines ≡ rest
@@ -64,13 +57,6 @@ tried_more {c} {d} {e} {before} {told} {lines} {k} h line rest more here after s
           ∙ sym (append_assoc told (if_refused line.0 (refusal w line.1)) (refused_lines (state_of e) rest))
           ∙ ap (λ t. t ++ refused_lines (state_of e) rest) (sym says) ∙ ap (λ ls. more ++ refused_lines (state_of e) ls) (sym after);
     }
-
--- all were
-pub tried_all : {c d : Seen} {before told : List ℕ} {lines : List (ℕ × Event)} {k : ℕ} → HasTried c d before told lines k → drop k lines ≡ []
-    → HasStepped c d (enabled_of (state_of c) lines) × (told ≡ before ++ refused_lines (state_of c) lines)
-tried_all {c} {d} {before} {told} {lines} {k} h none =
-    let events : enabled_of (state_of c) lines ≡ h.events = h.left ∙ ap (λ ls. h.events ++ enabled_of (state_of d) ls) none ∙ append-nil h.events in
-    (subst (HasStepped c d) (sym events) h.stepped, sym (h.says ∙ ap (λ ls. told ++ refused_lines (state_of d) ls) none ∙ append-nil told))
 
 -- ---- a step file
 

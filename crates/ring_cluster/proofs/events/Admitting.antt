@@ -1,8 +1,8 @@
 -- An admission, as a step of the ring: the parties stand in the state after it, and who is admitted has the link that opened to it.
-use Rattle.std.proofs.Common.{◌≡◌, ◌≢◌, ℕ, ◌+◌, ◌-◌, ◌<◌, ◌≤◌, Bool, true, false, cond, not, nat_eq, nat_le, List, [], ◌∷◌, ◌++◌, length, get_or, set, map, max, Option, Some, None, refl, sym, ap, subst, ◌∙◌, arith, ⊎_elim, append-nil}
+use Rattle.std.proofs.Common.{◌≡◌, ◌≢◌, ℕ, ◌+◌, ◌-◌, ◌<◌, ◌≤◌, true, false, cond, not, nat_eq, List, [], ◌∷◌, ◌++◌, length, get_or, set, map, Option, Some, None, refl, sym, ap, subst, ◌∙◌, arith, ⊎_elim, append-nil}
 use Rattle.std.specs.Prelude.{◌&&◌, option_map}
-use Rattle.std.specs.List.{filter, range_with_len}
-use Rattle.std.proofs.lemmas.Bool.{false≢true, cases_eq, cases_lt}
+use Rattle.std.specs.List.{filter}
+use Rattle.std.proofs.lemmas.Bool.{cases_eq, cases_lt}
 use Rattle.std.proofs.lemmas.List.{length-set, length_push, get_or_append_left, get_or_push}
 use Rattle.ring_names.specs.declared.numbers.CreditSpec.{CreditSpec}
 use Rattle.group_view.specs.declared.link.LinkName.{LinkName}
@@ -10,13 +10,10 @@ use Rattle.group_view.specs.View.{Group}
 use Rattle.group_view.specs.Ring.{is_in}
 use Rattle.group_view.specs.Change.{admitted}
 use Rattle.group_view.specs.Since.{no_group}
-use Rattle.group_view.proofs.Rings.{nat_eq-same, nat_eq-not}
-use Rattle.group_view.proofs.Neighbours.{filter_agree_in}
-use Rattle.ring_world.specs.declared.phase.Phase.TheVariants.{Waiting, Up}
-use Rattle.ring_world.specs.declared.phase.Ending.TheVariants.{Moved}
+use Rattle.group_view.proofs.Rings.{nat_eq-not}
+use Rattle.group_view.proofs.Neighbours.{filter_none}
 use Rattle.ring_world.specs.View.{right_of}
-use Rattle.ring_world.specs.Machine.{World, Member, Link, Packet, no_member, no_sending, member_at, link_at, view_in, newest, runs_phase, is_kept}
-use Rattle.ring_world.specs.OpenLinks.{is_place, is_current, passes}
+use Rattle.ring_world.specs.Machine.{World, Member, Link, Packet, no_member, no_sending, member_at, link_at, view_in, newest, runs_phase}
 use Rattle.ring_world.specs.Step.{size, log_of, ended, next_packet, next_lines, moved_to, kept_current, joiner, admitted_view, come_to}
 use Rattle.ring_world.specs.declared.event.Event.TheVariants.{Admit}
 use Rattle.ring_world.specs.Event.{id_of, of_member, at_found, admit_refusal, refused_at, refusal, refreshed, done_at, effect, is_stopped}
@@ -24,34 +21,34 @@ use Rattle.ring_world.proofs.events.Enabled.{up_none}
 use Rattle.ring_world.proofs.events.Refusals.{id_within}
 use Rattle.ring_world.proofs.rings.Lists.{get_or_beyond}
 use Rattle.ring_world.proofs.walks.Views.{view_new}
-use Rattle.ring_world.proofs.invariants.KeptAdmit.{CanJoin, receivers, right_of_m}
+use Rattle.ring_world.proofs.invariants.KeptAdmit.{CanJoin, receivers}
 use Rattle.ring_world.proofs.invariants.Happens.{IsGood, can_join, right_in_come}
 use Rattle.ring_world.proofs.walks.Ended.{EndsRight}
 use Rattle.registrar.proofs.Members.{told_refreshed, stopped_same}
-use Rattle.gm_member.specs.Held.{Held, joining_held, Incoming, Outgoing, at_some, sends_to, stays, is_for, refreshed_held, fresh_out as unsent_on, lines_on}
+use Rattle.gm_member.specs.Held.{Held, joining_held, Incoming, at_some, sends_to, stays, refreshed_held}
 use Rattle.gm_member.specs.View.{ring_link}
 use Rattle.gm_member.specs.Stands.{incoming_in, outgoing_in, waits_for, door_links, known_in, held_in, lines_in, WaitsThere}
 use Rattle.gm_member.proofs.Facts.{right_row}
 use Rattle.gm_member.proofs.Fit.{IsFit}
-use Rattle.gm_member.proofs.Parts.{known_by, known_same, held_by, held_same}
-use Rattle.gm_member.proofs.DoorLists.{filter_agree}
+use Rattle.gm_member.proofs.Parts.{known_by, known_same, held_by, held_same, current_waits_not, other_waits_not}
 use Rattle.gm_member.proofs.DoorParts.{waits_by, member_same, member_other}
-use Rattle.gm_member.proofs.OpenDoors.{SeesLinks, sends_right, new_link, sending_member, opened_world, old_links, refresh_opens, link_old, link_new, links_more, waits_old, incoming_old, outgoing_old}
+use Rattle.gm_member.proofs.OpenDoors.{SeesLinks, sends_right, sending_member, opened_world, old_links, refresh_opens, link_old, link_new, links_more, waits_old, incoming_old, outgoing_old}
 use Rattle.gm_member.proofs.Doors.{stays_older}
 use Rattle.gm_member.proofs.RefreshStands.{door_sees, looks_at}
 use Rattle.gm_member.proofs.AdmitStands.{come_log, come_same, come_held, come_sees, come_right}
 use Rattle.ring_world.proofs.work.OwnEnds.{OwnEnds}
-use Rattle.ring_cluster.specs.Ends.{OutSeen, InSeen, opened_out, fresh_in}
+use Rattle.ring_cluster.specs.Ends.{OutSeen, opened_out, fresh_in}
 use Rattle.ring_cluster.specs.Parties.{Shown, Posted, Parties, no_shown, node_at, with_node}
-use Rattle.ring_cluster.specs.Standing.{Places, MemberStands, Stand, name_of, is_to}
-use Rattle.ring_cluster.specs.Acting.{Looks, Loosens, looked_ends, first_sent, newest_of, viewing, waits_at, HasCredit, admitting, joined, joining, LetsIn, Acts}
+use Rattle.ring_cluster.specs.Standing.{MemberStands, Stand, is_to}
+use Rattle.ring_cluster.specs.Acting.{Loosens, looked_ends, first_sent, newest_of, viewing, waits_at, admitting, joined, joining, LetsIn, Acts}
+use Rattle.ring_cluster.proofs.lists.Lists.{none_of_range}
 use Rattle.ring_cluster.proofs.work.Lawful.{IsLawfulAt}
 use Rattle.ring_cluster.proofs.events.OneEvent.{held_but_door, stands_at}
 use Rattle.ring_cluster.proofs.meetings.Meetings.{waiting_at}
 use Rattle.ring_cluster.proofs.standing.Frames.{StandMoved}
 use Rattle.ring_cluster.proofs.events.Marking.{first_packet, waits_view, newest_is, held_whole, when_true}
 use Rattle.ring_cluster.proofs.events.Refreshing.{AfterLook, kept_to, logs_set}
-use Rattle.ring_cluster.proofs.events.Opens.{HasOpened, StandOpened, link_to, link_ended, link_was, opens_parts}
+use Rattle.ring_cluster.proofs.events.Opens.{HasOpened, StandOpened, opened_moves, link_to, link_ended, link_was, opens_parts}
 
 module _ (w : World) (x : ℕ) (name : List ℕ) (j : CanJoin w x) (f : IsFit w) (own : OwnEnds w) where
   -- the version of that view
@@ -149,17 +146,6 @@ module _ (w : World) (x : ℕ) (name : List ℕ) (j : CanJoin w x) (f : IsFit w)
   new_to : (link_at then (length w.links)).receiver ≡ size w
   new_to = ap (λ (k : Link). k.receiver) (link_new (come_to w x name) x next) ∙ right_in_come w x name j
 
-  no_first : (a b c d : Bool) → a ≡ false → ((a && (b && c)) && d) ≡ false
-  no_first a b c d e = rw e refl
-
-  no_second : (a b c d : Bool) → b ≡ true → ((a && (not b && c)) && d) ≡ false
-  no_second true b c d e = rw e refl
-  no_second false b c d e = refl
-
-  -- none but its receiver finds a link at its door
-  not_for : (u : World) (z s : ℕ) → ((link_at u s).receiver ≡ z → ⊥) → waits_for u z s ≡ false
-  not_for u z s ne = no_first (nat_eq (link_at u s).receiver z) (not (is_current u z s)) (not (link_at u s).over) (passes u z (link_at u s)) (nat_eq-not (link_at u s).receiver z ne)
-
   -- the new view changes no door
   waits_come : (z s : ℕ) → z < size w → s < length w.links → waits_for (come_to w x name) z s ≡ waits_for w z s
   waits_come z s m l = ap (λ (k : Member). waits_by (come_to w x name) z k.current k.version s) (come_same w x name z m) ∙ waits_view w (admitted_view w x name) z s f.good l
@@ -172,8 +158,8 @@ module _ (w : World) (x : ℕ) (name : List ℕ) (j : CanJoin w x) (f : IsFit w)
       ∙ waits_come z s m l)
       (λ (ge : size w ≤ z).
       let less : (link_at w s).receiver < size w = receivers w x name j s l in
-      not_for then z s (λ (e : (link_at then s).receiver ≡ z). omega (arith, e, receiver_then s l, less, ge))
-      ∙ sym (not_for w z s (λ (e : (link_at w s).receiver ≡ z). omega (arith, e, less, ge))))
+      other_waits_not then z s (λ (e : (link_at then s).receiver ≡ z). omega (arith, e, receiver_then s l, less, ge))
+      ∙ sym (other_waits_not w z s (λ (e : (link_at w s).receiver ≡ z). omega (arith, e, less, ge))))
       (cases_lt z (size w))
 
   waits_here : (s : ℕ) → s < length w.links → waits_for then x s ≡ (waits_for w x s && stays (admitted_view w x name) x (incoming_in w s))
@@ -265,7 +251,7 @@ module _ (w : World) (x : ℕ) (name : List ℕ) (j : CanJoin w x) (f : IsFit w)
     goes_on = λ s o. (ends.sends x s (ap runs_phase j.up) o).goes_on;
     first_is = refl;
     lines = first_packet w x w.initial w.more (right_of (admitted_view w x name) x) next next f ∙ ap (λ (k : Member). lines_in w no_sending (record { version = next; numbers = next_lines true k.rows [] })) (sym was_x);
-    new_waits = λ z m. ap (λ b. cond b (length w.links ∷ []) []) (not_for then z (length w.links) (λ (e : (link_at then (length w.links)).receiver ≡ z). omega (arith, e, new_to, m)));
+    new_waits = λ z m. ap (λ b. cond b (length w.links ∷ []) []) (other_waits_not then z (length w.links) (λ (e : (link_at then (length w.links)).receiver ≡ z). omega (arith, e, new_to, m)));
   }
     where
       numbered : (admitted_view w x name).version ≡ next
@@ -279,18 +265,11 @@ module _ (w : World) (x : ℕ) (name : List ℕ) (j : CanJoin w x) (f : IsFit w)
   -- no link stands at its door
   waits_nowhere : (s : ℕ) → s < length w.links + 1 → waits_for then (size w) s ≡ false
   waits_nowhere s l = ⊎_elim
-      (λ (lt : s < length w.links). not_for then (size w) s (λ (e : (link_at then s).receiver ≡ size w). let less : (link_at w s).receiver < size w = receivers w x name j s lt in omega (arith, e, receiver_then s lt, less)))
+      (λ (lt : s < length w.links). other_waits_not then (size w) s (λ (e : (link_at then s).receiver ≡ size w). let less : (link_at w s).receiver < size w = receivers w x name j s lt in omega (arith, e, receiver_then s lt, less)))
       (λ (ge : length w.links ≤ s).
       let is : s ≡ length w.links = omega (arith, ge, l) in
-      no_second (nat_eq (link_at then s).receiver (size w)) (is_current then (size w) s) (not (link_at then s).over) (passes then (size w) (link_at then s)) (ap (λ (k : Member). is_place k.current s) came ∙ ap (λ t. is_place (Some (length w.links)) t) is ∙ nat_eq-same (length w.links)))
+      current_waits_not then (size w) s (ap (λ (k : Member). k.current) came ∙ ap Some (sym is)))
       (cases_lt s (length w.links))
-
-  none_of_range : (t : ℕ → Bool) (a n : ℕ) → ((s : ℕ) → a ≤ s → s < a + n → t s ≡ false) → filter t (range_with_len a n) ≡ []
-  none_of_range t a n h = filter_agree t (λ _. false) a n h ∙ nothing (range_with_len a n)
-    where
-      nothing : (xs : List ℕ) → filter (λ (_ : ℕ). false) xs ≡ []
-      nothing [] = refl
-      nothing (y ∷ ys) = nothing ys
 
   pub no_door : door_links then (size w) ≡ []
   no_door = none_of_range (waits_for then (size w)) 0 (length then.links) (λ s _ b. waits_nowhere s (omega (arith, b, links_more (come_to w x name) x next)))
@@ -304,13 +283,8 @@ module _ (w : World) (x : ℕ) (name : List ℕ) (j : CanJoin w x) (f : IsFit w)
   }
 
   none_to : (ps : List ℕ) → ((s : ℕ) → is_in s ps ≡ true → s < length w.links) → filter (is_to w (size w)) ps ≡ []
-  none_to ps l = filter_agree_in (is_to w (size w)) (λ _. false) ps
+  none_to ps l = filter_none (is_to w (size w)) ps
       (λ s e. nat_eq-not (link_at w s).receiver (size w) (λ (same : (link_at w s).receiver ≡ size w). let less : (link_at w s).receiver < size w = receivers w x name j s (l s e) in omega (arith, same, less)))
-      ∙ nothing ps
-    where
-      nothing : (xs : List ℕ) → filter (λ (_ : ℕ). false) xs ≡ []
-      nothing [] = refl
-      nothing (y ∷ ys) = nothing ys
 
 -- ---- the parties
 
@@ -325,23 +299,16 @@ record MayLetIn (credit : CreditSpec) (w : World) (x : ℕ) (name : List ℕ) (q
 lets_in : (credit : CreditSpec) (w : World) (x : ℕ) (name : List ℕ) (q q' : Parties) (loose : Option (LinkName × OutSeen)) → MayLetIn credit w x name q → Stand credit.initial w q → filter (waits_at x) q.post ≡ []
     → LetsIn (admitted_view w x name) credit name (size w) (x - 1) q q' loose → StandMoved credit.initial x (refreshed (come_to w x name) x (newest w + 1)) q' loose
 lets_in credit w x name q q' loose k st none (b, new, how, is) =
-    subst (λ u. StandMoved credit.initial x u q' loose) (sym then_is) (subst (λ t. StandMoved credit.initial x u' t loose) (sym is) (record {
-      places = d.places;
-      stand = record {
-        count = omega (arith, members_are, many_then w x name j f own, st.stand.count);
-        each = each;
-        views = ap (λ vs. vs ++ g ∷ []) st.stand.views;
-        stopped = stopped;
-        nobody_else = λ z ge. st.stand.nobody_else z (omega (arith, ge, many_then w x name j f own));
-        post = d.post ∙ ap (map (waiting_at u' d.places)) (sym places_are);
-        within = λ s i. let l : s < length w.links = d.within s (ap (is_in s) (sym places_are) ∙ i) in omega (arith, l, more);
-        carry = d.carry;
-      };
-      dropped = d.dropped;
-      fits = d.fits;
-      met = d.met;
-      known = d.known;
-    }))
+    subst (λ u. StandMoved credit.initial x u q' loose) (sym then_is) (subst (λ t. StandMoved credit.initial x u' t loose) (sym is) (opened_moves d (record {
+      count = omega (arith, members_are, many_then w x name j f own, st.stand.count);
+      each = each;
+      views = ap (λ vs. vs ++ g ∷ []) st.stand.views;
+      stopped = stopped;
+      nobody_else = λ z ge. st.stand.nobody_else z (omega (arith, ge, many_then w x name j f own));
+      post = d.post ∙ ap (map (waiting_at u' d.places)) (sym places_are);
+      within = λ s i. let l : s < length w.links = d.within s (ap (is_in s) (sym places_are) ∙ i) in omega (arith, l, more);
+      carry = d.carry;
+    })))
   where
     j : CanJoin w x
     j = k.can
@@ -437,6 +404,12 @@ lets_in credit w x name q q' loose k st none (b, new, how, is) =
 
 -- ---- the event
 
+-- nothing refuses the name where it may happen, and its member can let in one more
+pub can_admit : (w : World) (x : ℕ) (by name : List ℕ) → IsGood w → id_of w by ≡ Some x → refusal w (Admit by name) ≡ None → (admit_refusal w name ≡ None) × CanJoin w x
+can_admit w x by name g named r =
+    let up = up_none w x (admit_refusal w name) (sym (ap (λ o. of_member o (refused_at w (Admit by name))) named) ∙ r) in
+    (up.1, can_join w x name (id_within w by x named).1 up.0 up.1 g)
+
 -- there is one member more then
 pub admit_many : (w : World) (x : ℕ) (by name : List ℕ) → CanJoin w x → IsFit w → id_of w by ≡ Some x → size (effect w (Admit by name)) ≡ size w + 1
 admit_many w x by name can f named =
@@ -465,11 +438,8 @@ admit_between credit w q q' i d by name loose h h' r named st none (other, (init
     lt : x < size w
     lt = (id_within w by x named).1
 
-    up : ((member_at w x).phase ≡ Up) × (admit_refusal w name ≡ None)
-    up = up_none w x (admit_refusal w name) (sym (ap (λ o. of_member o (refused_at w (Admit by name))) named) ∙ r)
-
     can : CanJoin w x
-    can = can_join w x name lt up.0 up.1 h.fit.good
+    can = (can_admit w x by name h.fit.good named r).1
 
     newest_then : newest_of q ≡ view_in w (newest w)
     newest_then = newest_is w q st.stand.views

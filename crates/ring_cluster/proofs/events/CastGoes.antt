@@ -71,8 +71,7 @@ cast_goes credit w by body i d q q' loose h found st (b, casts, is, none) =
       post = refl;
       it = ways_stand w w' p p x (node_at q i) b (node_at q i).ends.out (node_at q i).ends.link ways refl (λ s _. refl) its a.out a.link a;
       held = λ y ne. publish_others w x y m h.fit lt ne;
-      told = same_phases w x (published x m (member_at w x)) q.stopped lt refl;
-      none_told = λ y _ r. r;
+      notices = record { told = same_phases w x (published x m (member_at w x)) q.stopped lt refl; none_told = λ y _ r. r };
       outs = λ s _. refl;
       ins = λ s _. refl;
       carry = λ s _ c. carries_still credit.initial w w' (link_at w s) (link_at w s) (p.outs s) (p.ins s) (cast_packets w x m (link_at w s).had (link_at w s).packets lt (λ r. h.fit.lawful.within.packets s r)) refl refl c;

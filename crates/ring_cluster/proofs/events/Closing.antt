@@ -126,9 +126,6 @@ module _ (credit : CreditSpec) (names : List (List ℕ)) (events : List Event) w
       pick_up by k l Waiting e = not_up Waiting (λ n. cc) e l _ _ ∙ sym (ap (λ o. of_member o (λ y. up_refusal w y (or_else (refuse_if (is_some (member_at w y).current) reason.HasCurrentLink) (pick_refusal w y)))) k)
       pick_up by k l Stopped e = not_up Stopped (λ n. cc) e l _ _ ∙ sym (ap (λ o. of_member o (λ y. up_refusal w y (or_else (refuse_if (is_some (member_at w y).current) reason.HasCurrentLink) (pick_refusal w y)))) k)
 
-      marked_later : ℕ → Option Reason
-      marked_later d = mark_refusal (office_of q) (node_at q i).held.id d (node_at q i).held.view.version (is_some (node_at q i).held.current || is_some (first_at_door (node_at q i).held))
-
       mark_up : (by dead : List ℕ) (d : ℕ) → id_of w by ≡ Some (i + 1) → id_of w dead ≡ Some d → i < length q.nodes → (f : Phase) → (node_at q i).held.phase ≡ f → mark_refused (office_of q) (node_at q i) (Some d) ≡ refusal w (Mark by dead)
       mark_up by dead d k e l Up f =
           let id : (node_at q i).held.id ≡ i + 1 = id_after credit names events q i s l in

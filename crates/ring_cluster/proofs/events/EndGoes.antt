@@ -143,8 +143,7 @@ end_goes credit w by i d q q' loose h enabled found st (b, (n, rest, ends_link, 
       post = refl;
       it = end_it credit w x s h lt current p (node_at q i) b eb (stands_at credit.initial w q p i st.stand lt);
       held = λ y ne. end_others w x s y h.fit current ne;
-      told = same_phases w x (with_current None (member_at w x)) q.stopped lt refl;
-      none_told = λ y _ r. r;
+      notices = record { told = same_phases w x (with_current None (member_at w x)) q.stopped lt refl; none_told = λ y _ r. r };
       outs = λ j _. refl;
       ins = λ j _. refl;
       carry = λ j has c. carries_same credit.initial w w' j (p.outs j) (p.ins j) (same_of (λ (z : Member). z.log) w x (with_current None (member_at w x)) lt refl) (end_other w x s j (end_apart credit w x s h lt current j has)) c;

@@ -1,5 +1,5 @@
 -- What lets one join whom a member admits.
-use Rattle.std.proofs.Common.{◌≡◌, ℕ, ◌+◌, ◌-◌, ◌<◌, ◌≤◌, true, List, [], ◌∷◌, ◌++◌, length, Some, None, refl, sym, ap, subst, ◌∙◌, arith}
+use Rattle.std.proofs.Common.{◌≡◌, ℕ, ◌+◌, ◌-◌, ◌<◌, ◌≤◌, true, List, [], ◌∷◌, ◌++◌, length, Some, None, sym, subst, ◌∙◌, arith}
 use Rattle.ring_names.specs.declared.numbers.CreditSpec.{CreditSpec}
 use Rattle.ordered_link.specs.declared.plain.PlainIn.{PlainIn}
 use Rattle.group_view.specs.Ring.{is_in}
@@ -8,16 +8,13 @@ use Rattle.group_view.specs.Change.{admitted, admit_refusal as group_refusal}
 use Rattle.group_view.proofs.Joining.{comes_in}
 use Rattle.ring_world.specs.declared.event.Event.{Event}
 use Rattle.ring_world.specs.declared.event.Event.TheVariants.{Admit}
-use Rattle.ring_world.specs.declared.phase.Phase.TheVariants.{Up}
 use Rattle.ring_world.specs.Rows.{most_members}
 use Rattle.ring_world.specs.View.{ids}
 use Rattle.ring_world.specs.Machine.{World, member_at, newest as newest_version, view_in}
 use Rattle.ring_world.specs.Step.{size, opening}
-use Rattle.ring_world.specs.Event.{id_of, of_member, refused_at, admit_refusal, refusal, effect}
-use Rattle.ring_world.proofs.events.Enabled.{up_none}
+use Rattle.ring_world.specs.Event.{id_of, admit_refusal, refusal, effect}
 use Rattle.ring_world.proofs.runs.InOrder.{last_append, run_append}
 use Rattle.ring_world.proofs.invariants.KeptAdmit.{CanJoin}
-use Rattle.ring_world.proofs.invariants.Happens.{can_join}
 use Rattle.ring_world.proofs.code.Looks.{nobody_refuses_admitting}
 use Rattle.registrar.specs.Registry.{Registry, newest}
 use Rattle.registrar.proofs.Judged.{newest_same}
@@ -33,7 +30,7 @@ use Rattle.ring_cluster.proofs.post.Handing.{registrar_stands}
 use Rattle.ring_cluster.proofs.events.After.{shown_inside, within_after, lawful_after}
 use Rattle.ring_cluster.proofs.events.Refusing.{admit_refuses}
 use Rattle.ring_cluster.proofs.events.Marking.{newest_is}
-use Rattle.ring_cluster.proofs.events.Admitting.{admit_many}
+use Rattle.ring_cluster.proofs.events.Admitting.{can_admit, admit_many}
 
 -- A group lets x admit one of a name, who has an id then that is one of the ring's, and stands in the view that is made.
 pub record LetsJoin (g : Group) (x : ℕ) (name : List ℕ) : Type 0 where
@@ -47,7 +44,7 @@ module _ (credit : CreditSpec) (names : List (List ℕ)) (events : List Event) w
   pub joins_after : (nodes : List Party) (r : Registry (PlainIn Load)) (i : ℕ) (name : List ℕ) → StandAfter credit names events (parties nodes r []) → i < length nodes
       → up_refused (node_at (parties nodes r []) i).held (admission_refused (newest r) name) ≡ None → LetsJoin (newest r) (i + 1) name
   joins_after nodes r i name s l e = subst (λ g. LetsJoin g x name) (sym same) (record {
-    allowed = nobody_refuses_admitting w x name can.may.lives up.1;
+    allowed = nobody_refuses_admitting w x name can.may.lives enters.0;
     from_one = omega (arith, can.new_id, lt);
     few = omega (arith, can.new_id, after_fit.few, then_many);
     stands = comes_in (view_in w (newest_version w)) x name can.may;
@@ -84,11 +81,11 @@ module _ (credit : CreditSpec) (names : List (List ℕ)) (events : List Event) w
       enabled = sym (subst (λ k. up_refused (node_at q k).held (admission_refused (newest r) name) ≡ refusal w (Admit by name)) place
           (subst (λ g. up_refused (node_at q (x - 1)).held (admission_refused g name) ≡ refusal w (Admit by name)) (newest_is w q s.stand.stand.views ∙ sym same) (admit_refuses credit w q x by name named s.stand))) ∙ e
 
-      up : ((member_at w x).phase ≡ Up) × (admit_refusal w name ≡ None)
-      up = up_none w x (admit_refusal w name) (sym (ap (λ o. of_member o (refused_at w (Admit by name))) named) ∙ enabled)
+      enters : (admit_refusal w name ≡ None) × CanJoin w x
+      enters = can_admit w x by name f.good named enabled
 
       can : CanJoin w x
-      can = can_join w x name lt up.0 up.1 f.good
+      can = enters.1
 
       after_fit : IsFit (effect w (Admit by name))
       after_fit = subst IsFit (last_append (opening credit names) events (Admit by name ∷ []))

@@ -36,7 +36,7 @@ use Rattle.ring_world.proofs.work.OwnEnds.{OwnEnds}
 use Rattle.gm_member.proofs.RefreshStands.{current_lt, kept_lt, door_stays, refresh_stands}
 use Rattle.ring_cluster.specs.Ends.{OutSeen, InSeen, Sent, Carries, HasRested, opened_out, fresh_in, HaveMet}
 use Rattle.ring_cluster.specs.Parties.{Shown, Posted, Parties, node_at, with_node}
-use Rattle.ring_cluster.specs.Standing.{Places, MemberStands, Stand, HaveDone, SendersKnow, name_of, is_to, has_out, has_in}
+use Rattle.ring_cluster.specs.Standing.{Places, MemberStands, StandIn, Stand, HaveDone, SendersKnow, name_of, is_to, has_out, has_in}
 use Rattle.ring_cluster.specs.Loose.{LooseFits, DroppedHaveMet, OthersHaveMet, moved_by, sender_to}
 use Rattle.ring_cluster.specs.Acting.{Loosens, looked_ends, first_sent, sent_of, waits_at, ActsOut}
 use Rattle.ring_cluster.proofs.standing.Writing.{placed, placed_same, placed_other, map_agree}
@@ -163,6 +163,10 @@ pub record StandOpened (initial : ℕ) (u u' : World) (x v : ℕ) (view : Group)
   pub fits : LooseFits u' places loose
   pub met : OthersHaveMet u' places (moved_by x u')
   pub known : SendersKnow u' places
+
+-- so they have moved where they stand at these places
+pub opened_moves : {initial : ℕ} {u u' : World} {x v : ℕ} {view : Group} {waits : List ℕ} {q q' : Parties} {b : Shown} {loose : Option (LinkName × OutSeen)} → (d : StandOpened initial u u' x v view waits q b loose) → StandIn initial u' q' d.places → StandMoved initial x u' q' loose
+opened_moves d stand = record { places = d.places; stand = stand; dropped = d.dropped; fits = d.fits; met = d.met; known = d.known }
 
 -- the replaced link holds its end
 ended_carries : (w : World) (initial : ℕ) (l : Link) (o o' : OutSeen) (n : InSeen) → l.ending ≡ None → ActsOut (None ∷ []) [] true o o' → Carries w initial l o n → Carries w initial (ended Moved l) o' n
@@ -488,26 +492,19 @@ pub opens_on : (initial : ℕ) (u : World) (x v : ℕ) (q : Parties) (b : Shown)
     → new ≡ record { name = ring_link (node_at q (x - 1)).held.id (right_of (view_in u v) (node_at q (x - 1)).held.id) (view_in u v).version; end = Some (fresh_in (node_at q (x - 1)).held.initial) }
     → Loosens (node_at q (x - 1)).held.id (node_at q (x - 1)).held.out (node_at q (x - 1)).ends.out loose
     → StandMoved initial x (refreshed u x v) (record (with_node q (x - 1) b) { post = q.post ++ new ∷ [] }) loose
-opens_on initial u x v q b new loose k e st none eb en el = subst (λ w. StandMoved initial x w (record (with_node q (x - 1) b) { post = q.post ++ new ∷ [] }) loose) (sym is_opened) (record {
-  places = d.places;
-  stand = record {
-    count = (let same : length (set q.nodes (x - 1) b) ≡ length q.nodes = length-set q.nodes (x - 1) b in omega (arith, same, many, st.stand.count));
-    each = λ z c m. d.each z c (omega (arith, m, many));
-    views = st.stand.views;
-    stopped = λ z c m. st.stand.stopped z c (omega (arith, m, many)) ∙ sym (sym (ap (λ w. is_stopped (member_at w z).phase) is_opened) ∙ stopped_same u (refreshed u x v) z (told_refreshed u x v));
-    nobody_else = λ z ge. st.stand.nobody_else z (omega (arith, ge, many));
-    post = ap (λ xs. xs ++ new ∷ []) d.post ∙ ap (λ i. map (waiting_at u' d.places) d.before ++ i ∷ []) new_is ∙ sym (map-append (waiting_at u' d.places) d.before (n ∷ [])) ∙ ap (map (waiting_at u' d.places)) (sym d.waiting);
-    within = λ s i. ⊎_elim
-        (λ (j : is_in s d.before ≡ true). let l : s < n = d.within s j in omega (arith, l, more))
-        (λ (j : s ≡ n). omega (arith, j, more))
-        (in_push s n d.before (ap (is_in s) (sym d.waiting) ∙ i));
-    carry = d.carry;
-  };
-  dropped = d.dropped;
-  fits = d.fits;
-  met = d.met;
-  known = d.known;
-})
+opens_on initial u x v q b new loose k e st none eb en el = subst (λ w. StandMoved initial x w (record (with_node q (x - 1) b) { post = q.post ++ new ∷ [] }) loose) (sym is_opened) (opened_moves d (record {
+  count = (let same : length (set q.nodes (x - 1) b) ≡ length q.nodes = length-set q.nodes (x - 1) b in omega (arith, same, many, st.stand.count));
+  each = λ z c m. d.each z c (omega (arith, m, many));
+  views = st.stand.views;
+  stopped = λ z c m. st.stand.stopped z c (omega (arith, m, many)) ∙ sym (sym (ap (λ w. is_stopped (member_at w z).phase) is_opened) ∙ stopped_same u (refreshed u x v) z (told_refreshed u x v));
+  nobody_else = λ z ge. st.stand.nobody_else z (omega (arith, ge, many));
+  post = ap (λ xs. xs ++ new ∷ []) d.post ∙ ap (λ i. map (waiting_at u' d.places) d.before ++ i ∷ []) new_is ∙ sym (map-append (waiting_at u' d.places) d.before (n ∷ [])) ∙ ap (map (waiting_at u' d.places)) (sym d.waiting);
+  within = λ s i. ⊎_elim
+      (λ (j : is_in s d.before ≡ true). let l : s < n = d.within s j in omega (arith, l, more))
+      (λ (j : s ≡ n). omega (arith, j, more))
+      (in_push s n d.before (ap (is_in s) (sym d.waiting) ∙ i));
+  carry = d.carry;
+}))
   where
     n : ℕ
     n = length u.links

@@ -159,8 +159,7 @@ pick_goes credit w by i d q q' loose h enabled found nobody st (b, (j, first, eb
       post = refl;
       it = pick_it w p x j (node_at q i) b credit h lt none first_in empty a eb;
       held = λ y ne. sym (member_others w x y (with_current (Some s) (member_at w x)) refl ne);
-      told = same_phases w x (with_current (Some s) (member_at w x)) q.stopped lt refl;
-      none_told = λ y _ r. r;
+      notices = record { told = same_phases w x (with_current (Some s) (member_at w x)) q.stopped lt refl; none_told = λ y _ r. r };
       outs = λ t _. refl;
       ins = λ t _. refl;
       carry = λ t _ c. carries_logs credit.initial w w' (link_at w t) (p.outs t) (p.ins t) (same_of (λ (z : Member). z.log) w x (with_current (Some s) (member_at w x)) lt refl) c;

@@ -68,15 +68,6 @@ up_first h later r e = by_parts (refuse_if _ reason.Stopped) (refuse_if _ reason
     by_parts None None (Some x) k = k
     by_parts None None None k = cc
 
-pub up_then : (h : Held) (later : Option Reason) → up_refused h None ≡ None → up_refused h later ≡ later
-up_then h later e = by_parts (refuse_if _ reason.Stopped) (refuse_if _ reason.Waiting) (refuse_if h.asks reason.AwaitingAnswer) e
-  where
-    by_parts : (s w q : Option Reason) → or_else s (or_else w (or_else q None)) ≡ None → or_else s (or_else w (or_else q later)) ≡ later
-    by_parts (Some x) w q k = cc
-    by_parts None (Some x) q k = cc
-    by_parts None None (Some x) k = cc
-    by_parts None None None k = refl
-
 module _ (credit : CreditSpec) (names : List (List ℕ)) (events : List Event) (q : Parties) (s : StandAfter credit names events q) (i : ℕ) where
   abbrev w : World
   w = state credit names events

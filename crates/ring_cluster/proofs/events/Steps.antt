@@ -103,6 +103,11 @@ ways_leave w w' x h = record {
   keeps = λ s _ e. h.currents x ∙ e;
 }
 
+-- Where those in before gave notice in w, those in ids did in w': just those that have stopped there, and nobody beyond the members.
+pub record Notices (w w' : World) (before ids : List ℕ) : Type 0 where
+  pub told : (y : ℕ) → is_in y before ≡ is_stopped (member_at w y).phase → is_in y ids ≡ is_stopped (member_at w' y).phase
+  pub none_told : (y : ℕ) → size w ≤ y → is_in y before ≡ false → is_in y ids ≡ false
+
 -- notices are as they were where a member is written that has stopped no more than before
 pub same_phases : (w : World) (x : ℕ) (m : Member) (ids : List ℕ) → x < size w → is_stopped m.phase ≡ is_stopped (member_at w x).phase → (y : ℕ) → is_in y ids ≡ is_stopped (member_at w y).phase → is_in y ids ≡ is_stopped (member_at (with_member w x m) y).phase
 same_phases w x m ids lt e y r = r ∙ sym (same_of (λ (a : Member). is_stopped a.phase) w x m lt e y)
@@ -145,8 +150,7 @@ pub record Steps (initial : ℕ) (w w' : World) (q : Parties) (ids : List ℕ) (
   pub post : p'.post ≡ p.post
   pub it : MemberStands w' p' x b
   pub held : (y : ℕ) → y ≢ x → held_in w y ≡ held_in w' y
-  pub told : (y : ℕ) → is_in y q.stopped ≡ is_stopped (member_at w y).phase → is_in y ids ≡ is_stopped (member_at w' y).phase
-  pub none_told : (y : ℕ) → size w ≤ y → is_in y q.stopped ≡ false → is_in y ids ≡ false
+  pub notices : Notices w w' q.stopped ids
   pub outs : (s : ℕ) → (member_at w x).out ≢ Some s → p'.outs s ≡ p.outs s
   pub ins : (s : ℕ) → (member_at w x).current ≢ Some s → p'.ins s ≡ p.ins s
   pub carry : (s : ℕ) → has_in w' s ≡ true → Carries w initial (link_at w s) (p.outs s) (p.ins s) → Carries w' initial (link_at w' s) (p'.outs s) (p'.ins s)
@@ -163,8 +167,8 @@ steps credit w w' q ids p' i b st h lt k = record {
     each = λ z c m. subst (λ j. MemberStands w' p' z (node_at (with_node q j b) (z - 1))) place
         (each_set w w' q p p' x b st.stand.count some lt k.it others z c (omega (arith, left.size_is)));
     views = left.views ∙ st.stand.views;
-    stopped = λ z c m. k.told z (st.stand.stopped z c (omega (arith, left.size_is)));
-    nobody_else = λ z ge. (let beyond : size w ≤ z = omega (arith, ge, left.size_is) in k.none_told z beyond (st.stand.nobody_else z beyond));
+    stopped = λ z c m. k.notices.told z (st.stand.stopped z c (omega (arith, left.size_is)));
+    nobody_else = λ z ge. (let beyond : size w ≤ z = omega (arith, ge, left.size_is) in k.notices.none_told z beyond (st.stand.nobody_else z beyond));
     post = st.stand.post ∙ map_agree (waiting_at w p) (waiting_at w' p') p.post waits_on ∙ ap (map (waiting_at w' p')) (sym k.post);
     within = λ s e. (let there : s < length w.links = st.stand.within s (ap (is_in s) (sym k.post) ∙ e) in omega (arith, left.many));
     carry = λ s l has. k.carry s has (st.stand.carry s (omega (arith, left.many)) (left.opens s has));
@@ -241,8 +245,7 @@ pub record SendsOnce (credit : CreditSpec) (w : World) (ms : List Member) (q : P
   pub logs : (r : ℕ) → log_of (sends_in w ms s l) r ≡ log_of w r
   pub does : Does w (sends_in w ms s l) (i + 1) (node_at q i) b (Some o) (node_at q i).ends.link
   pub held : (y : ℕ) → y ≢ i + 1 → held_in w y ≡ held_in (sends_in w ms s l) y
-  pub told : (y : ℕ) → is_in y q.stopped ≡ is_stopped (member_at w y).phase → is_in y ids ≡ is_stopped (member_at (sends_in w ms s l) y).phase
-  pub none_told : (y : ℕ) → size w ≤ y → is_in y q.stopped ≡ false → is_in y ids ≡ false
+  pub notices : Notices w (sends_in w ms s l) q.stopped ids
   pub carries : Carries w credit.initial (link_at w s) (p.outs s) (p.ins s) → Carries w credit.initial l o (p.ins s)
 
 -- so all parties stand then, with all else as it was
@@ -263,8 +266,7 @@ sends_once credit w ms q ids i s l o b st h lt k =
       post = refl;
       it = ways_stand w w' p p' x (node_at q i) b (Some o) (node_at q i).ends.link k.ways refl (λ j _. refl) k.does (ap Some (sym here) ∙ ap (option_map p'.outs) (sym k.out)) a.link a;
       held = k.held;
-      told = k.told;
-      none_told = k.none_told;
+      notices = k.notices;
       outs = λ j ne. other j (λ (same : j ≡ s). ne (k.out ∙ ap Some (sym same)));
       ins = λ j _. refl;
       carry = λ j _ c. carries_at credit.initial w w' p p' s l k.logs (get_or-set_same w.links s l no_link sl) (λ t ne. (other_link t ne, other t ne, refl))
@@ -288,7 +290,6 @@ goes_out credit w w' q q' i loose becomes o b st h on same is none held does car
       logs = λ r. refl;
       does = does;
       held = held;
-      told = λ y r. r;
-      none_told = λ y _ r. r;
+      notices = record { told = λ y r. r; none_told = λ y _ r. r };
       carries = carries;
     }))

@@ -1,22 +1,20 @@
 -- Where a member has stopped, the parties stand in the state after the ring's stop.
 use Rattle.std.proofs.Common.{◌≡◌, ◌≢◌, nat_eq, ℕ, ◌+◌, ◌<◌, ◌≤◌, arith, Bool, true, false, cond, List, [], ◌∷◌, ◌++◌, length, Option, Some, None, is_some, refl, sym, ap, subst, ◌∙◌, ⊎_elim}
 use Rattle.std.specs.Prelude.{option_map}
-use Rattle.std.proofs.lemmas.Bool.{false≢true, cases_eq}
+use Rattle.std.proofs.lemmas.Bool.{cases_eq}
 use Rattle.ring_names.specs.declared.numbers.CreditSpec.{CreditSpec}
-use Rattle.ring_names.specs.declared.reason.Reason.TheVariants as reason
 use Rattle.group_view.specs.declared.link.LinkName.{LinkName}
 use Rattle.group_view.specs.Ring.{is_in}
 use Rattle.group_view.proofs.Rings.{is_in-append}
 use Rattle.ring_world.specs.declared.event.Event.TheVariants.{Stop}
-use Rattle.ring_world.specs.declared.phase.Phase.{Phase}
-use Rattle.ring_world.specs.declared.phase.Phase.TheVariants.{Waiting, Up, Stopped}
 use Rattle.ring_world.specs.declared.phase.Ending.TheVariants.{Halted}
-use Rattle.ring_world.specs.Machine.{World, Link, Member, member_at, link_at, runs, runs_phase}
+use Rattle.ring_world.specs.Machine.{World, Link, Member, member_at, link_at, runs}
 use Rattle.ring_world.specs.Step.{size, stopped, stop_at, ended, ended_so, end_out}
 use Rattle.ring_world.specs.Event.{id_of, running_refusal, refusal, effect, is_stopped}
 use Rattle.ring_world.proofs.rings.Rounds.{nat_eq-same, nat_eq-not}
 use Rattle.group_view.proofs.Truth.{later_true, cond_itself}
-use Rattle.ring_world.proofs.events.Refusals.{id_within, none_of}
+use Rattle.ring_world.proofs.code.Enables.{running_runs}
+use Rattle.ring_world.proofs.events.Refusals.{id_within}
 use Rattle.gm_member.specs.Held.{Held, stopped_held}
 use Rattle.gm_member.specs.Stands.{held_in}
 use Rattle.gm_member.proofs.Fit.{IsFit}
@@ -57,12 +55,6 @@ stop_none_told w x ids lt y ge e =
     is_in-append y ids (x ∷ []) ∙ ap (λ k. cond k true (is_in y (x ∷ []))) e
     ∙ ap (λ k. cond k true false) (nat_eq-not y x (λ (is : y ≡ x). omega (arith, is, lt, ge)))
 
--- who hasn't stopped runs
-running_runs : (f : Phase) → is_stopped f ≡ false → runs_phase f ≡ true
-running_runs Waiting e = refl
-running_runs Up e = refl
-running_runs Stopped e = absurd (false≢true (sym e))
-
 -- ---- the parties
 
 -- the state in which x has stopped, and its out link has ended
@@ -97,8 +89,7 @@ stop_steps credit w i q b None st h lt run e none eb =
       post = refl;
       it = ways_stand w (stop_at w x) p p x m b b.ends.out m.ends.link ways refl (λ j _. refl) (stop_does w x None m b b.ends.out h.fit lt e eb) (none ∙ ap (option_map p.outs) (sym e)) a.link a;
       held = λ y ne. stop_leaves w x y None h.fit e ne;
-      told = stop_told w x q.stopped lt;
-      none_told = stop_none_told w x q.stopped lt;
+      notices = record { told = stop_told w x q.stopped lt; none_told = stop_none_told w x q.stopped lt };
       outs = λ j _. refl;
       ins = λ j _. refl;
       carry = λ j _ c. carries_logs credit.initial w (stop_at w x) (link_at w j) (p.outs j) (p.ins j) (same_of (λ (z : Member). z.log) w x (stopped (member_at w x)) lt refl) c;
@@ -121,8 +112,7 @@ stop_steps credit w i q b (Some s) st h lt run e (o', ends, now) eb =
       logs = same_of (λ (z : Member). z.log) w x (stopped (member_at w x)) lt refl;
       does = stop_does w x (Some s) m b (Some o') h.fit lt e (eb ∙ ap (λ c. record m { held = stopped_held m.held; ends = record m.ends { out = c } }) now);
       held = λ y ne. stop_leaves w x y (Some s) h.fit e ne;
-      told = stop_told w x q.stopped lt;
-      none_told = stop_none_told w x q.stopped lt;
+      notices = record { told = stop_told w x q.stopped lt; none_told = stop_none_told w x q.stopped lt };
       carries = end_carries credit.initial w (link_at w s) l (p.outs s) o' (p.ins s) goes_on refl ended_now refl ends;
     })
 
@@ -132,7 +122,7 @@ stop_goes credit w by i d q q' loose h enabled found st (b, (ends, eb), is, none
     let lt : i + 1 < size w = (id_within w by x found).1 in
     let a : MemberStands w st.places x (node_at q i) = stands_at credit.initial w q st.places i st.stand lt in
     let acts = found_later (id_of w by) x (λ y. running_refusal w y None) found enabled in
-    let run : runs w x ≡ true = running_runs (member_at w x).phase (none_of (is_stopped (member_at w x).phase) reason.Stopped _ acts).0 in
+    let run : runs w x ≡ true = running_runs w x None acts in
     let w' : World = stopped_in w x (member_at w x).out in
     let does : effect w (Stop by) ≡ w' = found_does (id_of w by) x w (λ y. end_out Halted (stop_at w y) (member_at w y).out) found in
     goes_so credit.initial x w' (effect w (Stop by)) (record (with_node q i b) { stopped = q.stopped ++ x ∷ [] }) q' loose does is none

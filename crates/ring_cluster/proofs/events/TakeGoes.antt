@@ -144,8 +144,7 @@ take_steps credit w i s q b n k y st h t takes e =
           (λ j waits. other j (λ (same : j ≡ s). false≢true (sym (current_waits_not w x s t.current) ∙ sym (ap (waits_for w x) same) ∙ waits)))
           its a.out (ap Some (sym here) ∙ ap (option_map p'.ins) (sym t.current)) a;
       held = t.others;
-      told = same_phases w x y q.stopped t.is_member t.runs_on;
-      none_told = λ z _ r. r;
+      notices = record { told = same_phases w x y q.stopped t.is_member t.runs_on; none_told = λ z _ r. r };
       outs = λ j _. refl;
       ins = λ j ne. other j (λ (same : j ≡ s). ne (t.current ∙ ap Some (sym same)));
       carry = λ j _ c. carries_at credit.initial w w' p p' s l (same_of (λ (a : Member). a.log) w x y t.is_member t.same.3) (get_or-set_same w.links s l no_link sl) (λ j ne. (other_link j ne, refl, other j ne))

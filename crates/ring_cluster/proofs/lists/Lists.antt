@@ -1,9 +1,11 @@
--- Lists: what stands at their places, and what is made of each element.
-use Rattle.std.proofs.Common.{◌≡◌, ℕ, ◌+◌, ◌<◌, List, [], ◌∷◌, length, sym, ◌∙◌, arith, refl, zero, suc, ◌++◌, slice_get, Some, ap, map, get_or, set}
-use Rattle.std.specs.Prelude.{IsSome, IfSome, Option, None, Some}
-use Rattle.std.specs.List.{range_with_len}
+-- Lists: what stands at their places, what is made of each element, and what passes a test.
+use Rattle.std.proofs.Common.{◌≡◌, ℕ, ◌+◌, ◌<◌, ◌≤◌, Bool, false, List, [], ◌∷◌, length, sym, ◌∙◌, arith, refl, zero, suc, ◌++◌, slice_get, Some, ap, map, get_or, set}
+use Rattle.std.specs.Prelude.{IsSome, IfSome, Option, None}
+use Rattle.std.specs.List.{filter, range_with_len}
 use Rattle.std.proofs.lemmas.List.FromFn.{map-range_with_len_more}
 use Rattle.std.proofs.lemmas.List.{length-map, get_or-map, map-set, get_or-set_same, map-append}
+use Rattle.group_view.proofs.Neighbours.{filter_none}
+use Rattle.gm_member.proofs.DoorLists.{filter_agree}
 pub use Rattle.std.proofs.lemmas.Grind.{flat_map-append}
 pub use Rattle.std.proofs.lemmas.Option.{slice_get_within}
 pub use Rattle.ring_world.proofs.work.Rows.{length-rest}
@@ -43,3 +45,7 @@ mapped_new f xs i y d l = ap (λ zs. get_or zs i d) (map-set f xs i y) ∙ get_o
 -- a tabled list that gains an element
 pub grown : {A B : Type 0} (f : A → B) (g : ℕ → B) (xs ys : List A) (y : A) (k : ℕ) → ys ≡ xs ++ y ∷ [] → map f xs ≡ map g (range_with_len 0 k) → f y ≡ g k → map f ys ≡ map g (range_with_len 0 (k + 1))
 grown f g xs ys y k e h here = ap (map f) e ∙ map-append f xs (y ∷ []) ∙ ap (λ zs. zs ++ f y ∷ []) h ∙ ap (λ z. map g (range_with_len 0 k) ++ z ∷ []) here ∙ sym (map-range_with_len_more g 0 k k (omega arith))
+
+-- a test that is false of each number of a range passes none
+pub none_of_range : (t : ℕ → Bool) (a n : ℕ) → ((s : ℕ) → a ≤ s → s < a + n → t s ≡ false) → filter t (range_with_len a n) ≡ []
+none_of_range t a n h = filter_agree t (λ _. false) a n h ∙ filter_none (λ _. false) (range_with_len a n) (λ _ _. refl)

@@ -1,11 +1,10 @@
 -- Agendas by their names.
-use Rattle.std.proofs.Common.{◌≡◌, ◌≢◌, ℕ, zero, suc, ◌+◌, ◌<◌, ◌≤◌, Bool, true, false, List, [], ◌∷◌, ◌++◌, length, drop, get_or, set, map, Option, Some, None, IsSome, is_some, bytes_eq, refl, sym, ap, subst, ◌∙◌, arith}
+use Rattle.std.proofs.Common.{◌≡◌, ◌≢◌, ℕ, zero, suc, ◌+◌, ◌<◌, ◌≤◌, Bool, true, false, List, [], ◌∷◌, ◌++◌, length, get_or, set, Option, Some, None, IsSome, is_some, bytes_eq, refl, sym, ap, subst, ◌∙◌, arith}
 use Rattle.std.specs.List.{position}
-use Rattle.std.specs.Option.{option_to_list}
 use Rattle.std.proofs.lemmas.Bool.{false≢true}
-use Rattle.std.proofs.lemmas.List.{length-map, length-append, map-append, get_or-map, map-set, get_or-set_same, get_or-set_other, set-get_or, get_or_default, get_or_append_left, get_or_push}
+use Rattle.std.proofs.lemmas.List.{length-map, map-append, get_or-map, map-set, get_or-set_same, get_or-set_other, set-get_or, get_or_default, get_or_append_left, get_or_push}
 use Rattle.std.proofs.lemmas.List.Quantifiers.{position-Some}
-use Rattle.std.proofs.lemmas.List.Sums.{sum_by_push, sum_by-set}
+use Rattle.std.proofs.lemmas.List.Sums.{sum_by-set}
 use Rattle.ring_world.proofs.rings.Maps.{position_map}
 use Rattle.ring_world.proofs.events.Names.{same_bytes, own_bytes}
 use Rattle.ring_cluster.specs.declared.agenda.Task.{Task}
@@ -191,52 +190,6 @@ given_found plans all name t is there at =
     false≢true (subst IsSome (sym (ap (λ ns. place_among ns name) names) ∙ place_is all name None at) there)
 
 -- ---- how many tasks are left
-
--- with other tasks on the agenda of a name
-pub left_with : (plans : List Plan) (name : List ℕ) (ts : List Task) → IsSome (place_among (names_of plans) name) → tasks_on_all (with_tasks plans name ts) + length (tasks_in plans name) ≡ tasks_on_all plans + length ts
-left_with plans name ts there = by_place (place_among (names_of plans) name) refl there
-  where
-    by_place : (o : Option ℕ) → place_among (names_of plans) name ≡ o → IsSome o → tasks_on_all (with_found plans o ts) + length (tasks_found plans o) ≡ tasks_on_all plans + length ts
-    by_place None e k = absurd (false≢true k)
-    by_place (Some i) e k = sum_by-set (λ (a : Plan). length a.tasks) plans i (record (plan_at plans i) { tasks = ts }) (plan_at [] 0) (found_at plans name i e).0
-
--- an agenda has no more than all
-pub left_at : (plans : List Plan) (name : List ℕ) → length (tasks_in plans name) ≤ tasks_on_all plans
-left_at plans name = by_place (place_among (names_of plans) name) refl
-  where
-    by_place : (o : Option ℕ) → place_among (names_of plans) name ≡ o → length (tasks_found plans o) ≤ tasks_on_all plans
-    by_place None e = omega arith
-    by_place (Some i) e = omega (arith, sum_by-set (λ (a : Plan). length a.tasks) plans i (record (plan_at plans i) { tasks = [] }) (plan_at [] 0) (found_at plans name i e).0)
-
--- where there are none on all, there are none on any
-pub none_left : (plans : List Plan) (name : List ℕ) (most : ℕ) → tasks_on_all plans ≤ most → most ≡ 0 → tasks_in plans name ≡ []
-none_left plans name most few none = by_tasks (tasks_in plans name) (omega (arith, left_at plans name, few, none))
-  where
-    by_tasks : (ts : List Task) → length ts ≤ 0 → ts ≡ []
-    by_tasks [] l = refl
-    by_tasks (t ∷ ts) l = absurd (omega (arith, l))
-
--- with the first task of an agenda done there is one less, where it had any
-pub struck_left : (plans : List Plan) (name : List ℕ) (ts : List Task) → tasks_in plans name ≡ ts → tasks_on_all (with_tasks plans name (drop 1 ts)) + length ts ≡ tasks_on_all plans + length (drop 1 ts)
-struck_left plans name ts e = by_place (place_among (names_of plans) name) refl
-  where
-    by_place : (o : Option ℕ) → place_among (names_of plans) name ≡ o → tasks_on_all (with_tasks plans name (drop 1 ts)) + length ts ≡ tasks_on_all plans + length (drop 1 ts)
-    by_place None k =
-        let none : ts ≡ [] = sym e ∙ ap (tasks_found plans) k in
-        let same : with_tasks plans name (drop 1 ts) ≡ plans = ap (λ o. with_found plans o (drop 1 ts)) k in
-        omega (arith, ap tasks_on_all same, ap length none, ap (λ us. length (drop 1 us)) none)
-    by_place (Some i) k = omega (arith, left_with plans name (drop 1 ts) (ap is_some k), ap length e)
-
--- with one task given there is one more
-pub given_left : (plans : List Plan) (name : List ℕ) (t : Task) → tasks_on_all (with_task plans name t) ≡ tasks_on_all plans + 1
-given_left plans name t = by_place (place_among (names_of plans) name) refl
-  where
-    by_place : (o : Option ℕ) → place_among (names_of plans) name ≡ o → tasks_on_all (with_task plans name t) ≡ tasks_on_all plans + 1
-    by_place None e =
-        omega (arith, ap tasks_on_all (given_begins plans name t e), sum_by_push (λ (a : Plan). length a.tasks) plans (record { name = name; tasks = t ∷ [] }))
-    by_place (Some i) e =
-        let there : IsSome (place_among (names_of plans) name) = ap is_some e in
-        omega (arith, ap tasks_on_all (given_with plans name t there), left_with plans name (tasks_in plans name ++ t ∷ []) there, length-append (tasks_in plans name) (t ∷ []))
 
 -- with no more on the agenda at a place there are no more on all
 pub set_left : (all : List Plan) (j : ℕ) (a b : Plan) (name : List ℕ) → Some j ≡ position (λ (p : Plan). bytes_eq p.name name) all → a ≡ get_or all j a → length b.tasks ≤ length a.tasks → tasks_on_all (set all j b) ≤ tasks_on_all all

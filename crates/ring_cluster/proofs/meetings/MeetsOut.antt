@@ -295,23 +295,3 @@ out_none ns i x y r back l none same = inl (
   ap (λ (m : Shown). m.ends.out) (shown_at ns i x l) ∙ none,
   ap (λ ms. record (parties ns r back) { nodes = ms }) (map-set shown_in ns i y ∙ ap (set (map shown_in ns) i) (same ∙ sym (shown_at ns i x l)) ∙ set-get_or (map shown_in ns) i no_shown),
 )
-
--- there are as many members where one of them has met the other end of its link
-pub out_many : (i : ℕ) (q q' : Parties) → MeetsOut i q q' → length q'.nodes ≡ length q.nodes
-out_many i q q' m = ⊎_elim
-    (λ (a : ((node_at q i).ends.out ≡ None) × (q' ≡ q)). ap (λ (x : Parties). length x.nodes) a.1)
-    (λ (b : (name : LinkName) × (o : OutSeen) × (o' : OutSeen) × (out_name_of (node_at q i).held ≡ Some name) × ((node_at q i).ends.out ≡ Some o) × MeetsIn q name o (with_node q i (with_out (node_at q i) o')) q' o').
-    by_place b.0 b.1 b.2 b.5)
-    m
-  where
-    by_place : (name : LinkName) (o o' : OutSeen) → MeetsIn q name o (with_node q i (with_out (node_at q i) o')) q' o' → length q'.nodes ≡ length q.nodes
-    by_place name o o' k =
-        let other : Parties = with_node q i (with_out (node_at q i) o') in
-        let same : length other.nodes ≡ length q.nodes = length-set q.nodes i (with_out (node_at q i) o') in
-        ⊎_elim
-        (λ (a : MeetsAt q name o other q' o'). ap (λ (p : Parties). length p.nodes) a.parties ∙ length-set other.nodes (name.to.0 - 1) a.receiver ∙ same)
-        (λ (b : MeetsPosted q name o other q' o' ⊎ MeetsNone q name o other q' o'). ⊎_elim
-        (λ (p : MeetsPosted q name o other q' o'). ap (λ (x : Parties). length x.nodes) p.parties ∙ same)
-        (λ (n : MeetsNone q name o other q' o'). ap (λ (x : Parties). length x.nodes) n.parties ∙ same)
-        b)
-        k

@@ -1,23 +1,15 @@
 -- What a member has to do by itself, as it is asked.
-use Rattle.std.proofs.Common.{◌≡◌, ◌≢◌, ℕ, ◌+◌, ◌-◌, ◌<◌, ◌≤◌, Bool, true, false, not, List, length, Option, Some, None, is_some, refl, sym, ap, ◌∙◌, arith}
+use Rattle.std.proofs.Common.{◌≡◌, ◌≢◌, ℕ, ◌-◌, ◌<◌, ◌≤◌, Bool, true, false, not, Option, Some, None, is_some, sym, ap, ◌∙◌}
 use Rattle.ring_names.specs.declared.reason.Reason.{Reason}
-use Rattle.ring_world.specs.declared.event.Event.TheVariants.{Mark, Erase}
+use Rattle.ring_world.specs.declared.event.Event.TheVariants.{Mark}
 use Rattle.ring_world.specs.declared.phase.Phase.TheVariants.{Stopped}
-use Rattle.ring_world.specs.Machine.{World, member_at, newest, runs}
+use Rattle.ring_world.specs.Machine.{World, member_at}
 use Rattle.ring_world.specs.Step.{size}
-use Rattle.ring_world.specs.Event.{id_of, of_member, up_refusal, mark_refusal, erase_refusal, refusal}
-use Rattle.ring_world.specs.Work.{LeavesLess}
+use Rattle.ring_world.specs.Event.{id_of, of_member, up_refusal, mark_refusal, refusal}
 use Rattle.ring_world.proofs.events.Enabled.{up_none, mark_stops}
-use Rattle.ring_names.specs.declared.numbers.MemberId.{MemberId}
 use Rattle.gm_member.proofs.Fit.{IsFit}
-use Rattle.ring_cluster.specs.declared.driver.OwnStep.{OwnStep}
 use Rattle.ring_cluster.specs.declared.driver.OwnStep.TheVariants as step
-use Rattle.ring_cluster.specs.declared.driver.OwnTurn.{OwnTurn}
-use Rattle.ring_cluster.specs.declared.driver.OwnTurn.TheVariants as turn
-use Rattle.ring_cluster.specs.Seen.{Seen, state_of, IsGoing}
-use Rattle.ring_cluster.specs.Standing.{StandAfter}
-use Rattle.ring_cluster.specs.Refused.{IsRefusalAt}
-use Rattle.ring_cluster.specs.Turns.{step_event, turn_event, HasTurn, MayStep, MayStepNowhere}
+use Rattle.ring_cluster.specs.Turns.{MayStep, MayStepNowhere}
 
 -- whether there is none
 pub none_told : (r o : Option Reason) (b : Bool) → is_some r ≡ not b → r ≡ o → b ≡ true → o ≡ None

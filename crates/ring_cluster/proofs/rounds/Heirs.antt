@@ -1,30 +1,27 @@
 -- Who is the running member of least id, what is handed on to it, and that by this less is left of what clients asked.
-use Rattle.std.proofs.Common.{◌≡◌, ◌≢◌, ◌⊎◌, inl, inr, ⊎_elim, ℕ, ◌+◌, ◌-◌, ◌*◌, ◌<◌, ◌≤◌, Bool, true, false, List, [], ◌∷◌, ◌++◌, length, get_or, set, option_map, Option, Some, None, IsSome, is_some, bytes_eq, nat_eq, nat_le, if◌then◌else◌, refl, sym, ap, subst, ◌∙◌, arith, append_assoc}
-use Rattle.std.specs.Prelude.{position}
+use Rattle.std.proofs.Common.{◌≡◌, ◌≢◌, ◌⊎◌, inl, inr, ⊎_elim, ℕ, ◌+◌, ◌-◌, ◌*◌, ◌<◌, ◌≤◌, Bool, true, false, List, [], ◌∷◌, ◌++◌, length, get_or, option_map, Option, Some, None, bytes_eq, nat_eq, nat_le, if◌then◌else◌, refl, sym, ap, subst, ◌∙◌, arith, append_assoc}
 use Rattle.std.specs.List.{range_with_len, sum_by}
 use Rattle.std.proofs.lemmas.Bool.{false≢true, cases_lt, cases_eq}
 use Rattle.std.proofs.lemmas.List.FromFn.{length-range_with_len, get_or-range_with_len}
 use Rattle.std.proofs.lemmas.List.Quantifiers.{position-Some}
-use Rattle.std.proofs.lemmas.List.Sums.{sum_by-cons, sum_by-append, sum_by_push, sum_by-set}
+use Rattle.std.proofs.lemmas.List.Sums.{sum_by-cons, sum_by_push, sum_by-set}
 use Rattle.ring_names.specs.declared.reason.Reason.{Reason}
 use Rattle.ring_names.specs.declared.reason.Reason.TheVariants as reason
 use Rattle.ring_names.specs.Reason.{code_of}
 use Rattle.group_view.specs.Change.{is_taken, most_entries}
 use Rattle.ring_world.specs.declared.event.Event.{Event}
 use Rattle.ring_world.specs.declared.event.Event.TheVariants.{Admit, Refuse}
-use Rattle.ring_world.specs.declared.event.Client.TheVariants as client
 use Rattle.ring_world.specs.declared.phase.Phase.{Phase}
 use Rattle.ring_world.specs.declared.phase.Phase.TheVariants.{Waiting, Up, Stopped}
 use Rattle.ring_world.specs.Refusal.{refuse_if, or_else}
 use Rattle.ring_world.specs.Machine.{World, member_at, view_in, newest, runs, runs_phase, is_waiting}
 use Rattle.ring_world.specs.Step.{size}
-use Rattle.ring_world.specs.Event.{by_of, id_of, of_member, is_asked, is_stopped, admit_refusal, up_refusal, refused_at, refusal, effect, last}
-use Rattle.ring_world.proofs.events.Names.{same_bytes, own_bytes}
-use Rattle.ring_world.proofs.events.Refusals.{id_within}
+use Rattle.ring_world.specs.Event.{id_of, of_member, is_asked, is_stopped, admit_refusal, up_refusal, refused_at, refusal, effect, last}
+use Rattle.ring_world.proofs.events.Names.{own_bytes}
 use Rattle.ring_cluster.specs.declared.agenda.Task.{Task}
 use Rattle.ring_cluster.specs.declared.agenda.Task.TheVariants as task
 use Rattle.ring_cluster.specs.Agendas.{Plan, names_of, place_among, plan_at, tasks_found, tasks_in, with_found, with_tasks, with_more, with_task}
-use Rattle.ring_cluster.specs.Handed.{least_running, heir, handing, given_to, handed}
+use Rattle.ring_cluster.specs.Handed.{least_running, handing, given_to, handed}
 use Rattle.ring_cluster.specs.Plays.{task_event, answer_by, answer_to, with_handed}
 use Rattle.ring_cluster.specs.Seen.{IsMemberIn}
 use Rattle.ring_cluster.specs.Backlog.{heirs_from, is_no_heir, cost, left_on, backlog}

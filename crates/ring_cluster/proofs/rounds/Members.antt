@@ -1,8 +1,7 @@
 -- The members of a cluster's state by their ids, those of the opening and those that joined, and what each may do.
-use Rattle.std.proofs.Common.{◌≡◌, ◌≢◌, ◌⊎◌, inl, inr, ⊎_elim, ℕ, suc, ◌+◌, ◌-◌, ◌<◌, ◌≤◌, Bool, true, false, List, [], ◌∷◌, ◌++◌, length, map, drop, take, get_or, option_map, Option, Some, None, is_some, if◌then◌else◌, refl, sym, ap, subst, ◌∙◌, arith}
-use Rattle.std.specs.Prelude.{IsSome, ◌&&◌, not, nat_eq, MatchOption, bytes_eq, position}
-use Rattle.std.proofs.lemmas.Bool.{false≢true, le-ltb, cases_lt}
-use Rattle.std.proofs.lemmas.List.{same_lists, length-take-le, get_or_default, length_push, get_or-take, get_or_append_left, get_or_push}
+use Rattle.std.proofs.Common.{◌≡◌, ◌≢◌, ◌⊎◌, ⊎_elim, ℕ, ◌+◌, ◌-◌, ◌<◌, ◌≤◌, Bool, true, false, List, [], ◌∷◌, ◌++◌, map, take, get_or, option_map, Option, Some, None, is_some, if◌then◌else◌, refl, sym, ap, subst, ◌∙◌, arith}
+use Rattle.std.specs.Prelude.{◌&&◌, not, nat_eq, MatchOption, bytes_eq}
+use Rattle.std.proofs.lemmas.Bool.{false≢true, le-ltb}
 use Rattle.std.proofs.lemmas.List.Quantifiers.{position-Some}
 use Rattle.ring_names.specs.declared.reason.Reason.{Reason}
 use Rattle.ring_names.specs.declared.reason.Reason.TheVariants as reason
@@ -25,6 +24,7 @@ use Rattle.ring_world.proofs.events.Refusals.{id_within}
 use Rattle.ring_world.proofs.rests.Asked.{no_version}
 use Rattle.ring_world.proofs.rings.Rounds.{nat_eq-same}
 use Rattle.ring_world.proofs.runs.InOrder.{last_append, run_append}
+use Rattle.ring_world.proofs.runs.Published.{found_name}
 use Rattle.ring_world.proofs.invariants.FirstVersion.{reached_old}
 use Rattle.ring_world.proofs.walks.Ended.{runs_lt}
 use Rattle.ring_world.proofs.work.Settling.{repair_less, someone}
@@ -40,8 +40,8 @@ use Rattle.ring_cluster.specs.Plays.{asked_event, client_event, client_events, t
 use Rattle.ring_cluster.specs.Turns.{IsMemberAt, MembersStay, NoneWaitsAgain}
 use Rattle.ring_cluster.specs.Published.{names_in, logs_of}
 use Rattle.ring_world.specs.Published.{published_in}
-use Rattle.ring_cluster.proofs.work.Staying.{SameNames, Joins, KeepsNames, waits_not_again, is_admission, event_same, event_keeps, admit_joins, run_keeps_names, run_behind, openers_many, openers_named}
-use Rattle.ring_cluster.proofs.work.Logged.{names_in_many, name_in_at, reached_different, id_in, found_name, run_all_logs}
+use Rattle.ring_cluster.proofs.work.Staying.{KeepsNames, waits_not_again, is_admission, event_same, event_keeps, run_keeps_names, run_behind}
+use Rattle.ring_cluster.proofs.work.Logged.{names_in_many, name_in_at, reached_different, id_in, run_all_logs}
 use Rattle.ring_cluster.proofs.rounds.Heirs.{IsNext, next_heir, backlog_later}
 use Rattle.ring_cluster.proofs.rounds.Named.{going_fit, going_ring}
 
@@ -55,84 +55,14 @@ members_few c g = (going_fit c g).few
 pub found_in : (c : Seen) (i : ℕ) → IsGoing c → i + 1 < size (state_of c) → id_of (state_of c) (member_at (state_of c) (i + 1)).name ≡ Some (i + 1)
 found_in c i g l = (going_fit c g).named (i + 1) (omega arith) l
 
--- the members of the opening keep their ids and their names, whoever joins them
-pub openers_there : (c : Seen) → IsGoing c → length c.names + 1 ≤ size (state_of c)
-openers_there c g = openers_many c.credit c.names c.events g.run
-
-pub opener_name : (c : Seen) (i : ℕ) → IsGoing c → i < length c.names → (member_at (state_of c) (i + 1)).name ≡ get_or c.names i []
-opener_name c i g l = openers_named c.credit c.names c.events i g.run l
-
--- their names are the first
-pub openers_first : (c : Seen) → IsGoing c → take (length c.names) (names_in (state_of c)) ≡ c.names
-openers_first c g = same_lists _ _ many each
-  where
-    many : length (take (length c.names) (names_in (state_of c))) ≡ length c.names
-    many = length-take-le (length c.names) (names_in (state_of c)) (omega (arith, names_in_many (state_of c), openers_there c g))
-
-    each : (k : ℕ) (d : List ℕ) → k < length (take (length c.names) (names_in (state_of c))) → get_or (take (length c.names) (names_in (state_of c))) k d ≡ get_or c.names k d
-    each k d l =
-        let lt : k < length c.names = omega (arith, l, many) in
-        get_or-take (length c.names) (names_in (state_of c)) k d lt
-        ∙ name_in_at (state_of c) k d (omega (arith, lt, openers_there c g))
-        ∙ opener_name c k g lt
-        ∙ get_or_default c.names k [] d lt
-
 -- no two members have the same
 pub going_different : (c : Seen) → IsGoing c → AreDifferent (names_in (state_of c))
 going_different c g = reached_different c.credit c.names c.events g.are g.run
-
--- the name of the member of an id, by its place
-pub name_at_place : (w : World) (x : ℕ) → 1 ≤ x → x < size w → get_or (names_in w) (x - 1) [] ≡ (member_at w x).name
-name_at_place w x some lt =
-    let back : x - 1 + 1 ≡ x = omega arith in
-    name_in_at w (x - 1) [] (omega arith) ∙ ap (λ k. (member_at w k).name) back
 
 -- ---- one event more
 
 pub after_event : (c : Seen) (e : Event) → state_of (with_event c e) ≡ effect (state_of c) e
 after_event c e = last_append (opening c.credit c.names) c.events (e ∷ [])
-
--- who acts is there
-someone_asks : (w : World) (e : Event) → refusal w e ≡ None → 1 ≤ size w
-someone_asks w e r = by_id (id_of w (by_of e)) refl r
-  where
-    by_id : (o : Option ℕ) → id_of w (by_of e) ≡ o → of_member o (refused_at w e) ≡ None → 1 ≤ size w
-    by_id None is k = cc
-    by_id (Some x) is k = let i = id_within w (by_of e) x is in omega (arith, i.0, i.1)
-
--- an event that is no admission leaves the names
-pub names_same : (w : World) (e : Event) → ((by name : List ℕ) → e ≡ Admit by name → ⊥) → names_in (effect w e) ≡ names_in w
-names_same w e none = same_lists _ _ many (λ k d l.
-    let lt : k + 1 < size w = omega (arith, l, many, names_in_many w) in
-    name_in_at (effect w e) k d (omega (arith, lt, h.many)) ∙ h.name (k + 1) ∙ sym (name_in_at w k d lt))
-  where
-    h : SameNames w (effect w e)
-    h = event_same w e none
-
-    many : length (names_in (effect w e)) ≡ length (names_in w)
-    many = names_in_many (effect w e) ∙ ap (λ n. n - 1) h.many ∙ sym (names_in_many w)
-
--- and an admission adds one behind them
-pub names_joined : (w : World) (by name : List ℕ) → refusal w (Admit by name) ≡ None → names_in (effect w (Admit by name)) ≡ names_in w ++ name ∷ []
-names_joined w by name r = same_lists _ _ many (λ k d l. ⊎_elim
-    (λ (old : k + 1 < size w).
-    name_in_at w' k d (omega (arith, old, h.many)) ∙ h.name (k + 1) old ∙ sym (name_in_at w k d old) ∙ sym (get_or_append_left (names_in w) (name ∷ []) d k (omega (arith, old, names_in_many w))))
-    (λ (ge : size w ≤ k + 1).
-    let is : k + 1 ≡ size w = omega (arith, ge, l, some, names_in_many w', h.many) in
-    name_in_at w' k d (omega (arith, is, h.many)) ∙ ap (λ q. (member_at w' q).name) is ∙ h.new ∙ sym (get_or_push (names_in w) name d k (omega (arith, is, names_in_many w))))
-    (cases_lt (k + 1) (size w)))
-  where
-    w' : World
-    w' = effect w (Admit by name)
-
-    h : Joins w name w'
-    h = admit_joins w by name r
-
-    some : 1 ≤ size w
-    some = someone_asks w (Admit by name) r
-
-    many : length (names_in w') ≡ length (names_in w ++ name ∷ [])
-    many = omega (arith, names_in_many w', h.many, some, length_push (names_in w) name, names_in_many w)
 
 -- ---- more events
 
@@ -150,19 +80,7 @@ names_stay c d more g credit names events = subst (KeepsNames (state_of c)) (sym
     run = run_behind (opening c.credit c.names) c.events more
         (subst (IsRun (opening c.credit c.names)) events (subst (λ a. IsRun (opening c.credit a) d.events) names (subst (λ a. IsRun (opening a d.names) d.events) credit g.run)))
 
--- so an event of the member at a place is one of it later
-pub event_stays : (w w' : World) (i : ℕ) (e : Event) → KeepsNames w w' → IsEventIn w i e → IsEventIn w' i e
-event_stays w w' i e k at = (omega (arith, at.0, k.many), at.1 ∙ sym (k.name (i + 1) at.0))
-
 -- ---- who acts
-
--- an event of the member at a place finds it
-pub event_found : (c : Seen) (i : ℕ) (e : Event) → IsGoing c → IsEventIn (state_of c) i e → id_of (state_of c) (by_of e) ≡ Some (i + 1)
-event_found c i e g at = ap (id_of (state_of c)) at.1 ∙ found_in c i g at.0
-
-pub run_event_found : (credit : CreditSpec) (names : List (List ℕ)) (events : List Event) (i : ℕ) (e : Event) → AreOpeningNames names → IsRun (opening credit names) events
-    → IsEventIn (state credit names events) i e → id_of (state credit names events) (by_of e) ≡ Some (i + 1)
-run_event_found credit names events i e are r at = ap (id_of (state credit names events)) at.1 ∙ (reached_fit credit names events are r).named (i + 1) (omega arith) at.0
 
 -- an event is one of the first member of its name; where there is none, it is refused
 pub event_place_in : (w : World) (e : Event) (o : Option ℕ) → o ≡ place_among (names_in w) (by_of e) → MatchOption o (refusal w e ≡ Some reason.UnknownMember) (λ i. IsEventIn w i e)

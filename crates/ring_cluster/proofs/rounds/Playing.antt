@@ -1,5 +1,5 @@
 -- Playing what was given: how it goes on.
-use Rattle.std.proofs.Common.{◌≡◌, ℕ, zero, suc, ◌+◌, ◌-◌, ◌<◌, ◌≤◌, Bool, List, [], ◌∷◌, ◌++◌, length, take, Option, Some, None, refl, sym, ap, subst, ◌∙◌, ⊎_elim, arith, append_assoc, append-nil}
+use Rattle.std.proofs.Common.{◌≡◌, ℕ, zero, suc, ◌+◌, ◌-◌, ◌<◌, ◌≤◌, Bool, List, [], ◌∷◌, ◌++◌, length, take, None, refl, sym, ap, subst, ◌∙◌, ⊎_elim, arith, append_assoc, append-nil}
 use Rattle.std.proofs.lemmas.Bool.{cases_lt}
 use Rattle.std.proofs.lemmas.List.{length-append, length-map, take-append-le, take_all}
 use Rattle.ring_script.specs.declared.command.Command.{Command}
@@ -12,7 +12,7 @@ use Rattle.ring_world.specs.Step.{opening}
 use Rattle.ring_world.specs.Event.{last}
 use Rattle.ring_world.proofs.runs.InOrder.{last_append}
 use Rattle.ring_cluster.specs.Parties.{Parties}
-use Rattle.ring_cluster.specs.Seen.{Seen, state, state_of, IsGoing, IsMemberIn, showing, with_event, opening_seen}
+use Rattle.ring_cluster.specs.Seen.{Seen, state, state_of, IsGoing, showing, with_event, opening_seen}
 use Rattle.ring_cluster.specs.Agendas.{tasks_in}
 use Rattle.ring_cluster.specs.Handed.{handing, given_to, handed}
 use Rattle.ring_cluster.specs.Plays.{client_event, client_events, asked_by, asked, task_event, todo, agenda_of, Serves, HaveServed, HasSettled, HasSettledEach, Plays, PlaysSoFar, GoesOn, HasGoneOn, AgendasAreEmpty}

@@ -2,9 +2,7 @@
 use Rattle.std.proofs.Common.{◌≡◌, ◌≢◌, ℕ, ◌+◌, ◌-◌, ◌<◌, ◌≤◌, true, false, List, Option, None, refl, sym, ap, subst, ◌∙◌, arith}
 use Rattle.std.proofs.lemmas.Bool.{false≢true}
 use Rattle.ring_names.specs.declared.numbers.MemberId.{MemberId}
-use Rattle.ring_names.specs.declared.numbers.CreditSpec.{CreditSpec}
 use Rattle.ring_names.specs.declared.reason.Reason.{Reason}
-use Rattle.ring_world.specs.declared.event.Event.{Event}
 use Rattle.ring_world.specs.declared.event.Event.TheVariants.{Mark, Erase}
 use Rattle.ring_world.specs.declared.phase.Phase.{Phase}
 use Rattle.ring_world.specs.declared.phase.Phase.TheVariants.{Waiting, Up, Stopped}
@@ -12,7 +10,7 @@ use Rattle.ring_world.specs.Machine.{World, member_at, newest, right, runs, runs
 use Rattle.ring_world.specs.Step.{size}
 use Rattle.ring_world.specs.Event.{erase_refusal, refusal}
 use Rattle.ring_world.specs.Idle.{NobodySteps, MarksNobody, ErasesNobody}
-use Rattle.ring_world.specs.Work.{is_stale, LeavesLess}
+use Rattle.ring_world.specs.Work.{LeavesLess}
 use Rattle.ring_world.proofs.walks.Ended.{runs_lt}
 use Rattle.ring_world.proofs.work.Settling.{no_step, no_mark, someone}
 use Rattle.gm_member.proofs.Fit.{IsFit}
@@ -20,9 +18,8 @@ use Rattle.ring_cluster.specs.declared.driver.OwnStep.{OwnStep}
 use Rattle.ring_cluster.specs.declared.driver.OwnStep.TheVariants as step
 use Rattle.ring_cluster.specs.declared.driver.OwnTurn.{OwnTurn}
 use Rattle.ring_cluster.specs.declared.driver.OwnTurn.TheVariants as turn
-use Rattle.ring_cluster.specs.Parties.{Parties}
 use Rattle.ring_cluster.specs.Standing.{StandAfter}
-use Rattle.ring_cluster.specs.Seen.{Seen, state, state_of, IsGoing, IsEventIn, SameButOwed}
+use Rattle.ring_cluster.specs.Seen.{Seen, state, state_of, IsGoing, SameButOwed}
 use Rattle.ring_cluster.specs.Turns.{step_event, turn_event, HasTurn, RestsAt}
 use Rattle.ring_cluster.specs.Refused.{IsRefusalAt}
 use Rattle.ring_cluster.proofs.rounds.Named.{going_fit, going_ring, step_by, step_less, mark_less, erase_less}

@@ -1,33 +1,27 @@
 -- When a cluster has nothing left to do.
-use Rattle.std.proofs.Common.{◌≡◌, ◌≢◌, ℕ, suc, ◌+◌, ◌-◌, ◌<◌, ◌≤◌, Bool, true, false, cond, not, nat_eq, List, [], ◌∷◌, length, get_or, None, refl, sym, ap, subst, ◌∙◌, arith}
+use Rattle.std.proofs.Common.{◌≡◌, ◌≢◌, ℕ, suc, ◌-◌, ◌<◌, ◌≤◌, Bool, true, false, cond, nat_eq, List, [], ◌∷◌, get_or, None, refl, sym, ap, subst, ◌∙◌, arith}
 use Rattle.std.specs.Prelude.{All, Contains}
 use Rattle.std.proofs.lemmas.List.Elements.{All-contains}
 use Rattle.std.proofs.lemmas.Bool.{false≢true}
-use Rattle.ring_names.specs.declared.reason.Reason.TheVariants as reason
 use Rattle.group_view.specs.declared.entry.Entry.{Entry}
 use Rattle.group_view.specs.Ring.{is_in}
-use Rattle.group_view.specs.View.{entry_in, is_dead, is_dead_mark, ids as ids_of, right_of as right_of_entries}
+use Rattle.group_view.specs.View.{entry_in, is_dead_mark, ids as ids_of, right_of as right_of_entries}
 use Rattle.group_view.proofs.Passing.{live_in, dead_in}
 use Rattle.group_view.proofs.Rings.{nat_eq-is}
 use Rattle.ring_world.specs.View.{is_live}
-use Rattle.ring_world.specs.Machine.{World, member_at, view_in, newest, right, runs}
+use Rattle.ring_world.specs.Machine.{World, view_in, newest, right, runs}
 use Rattle.ring_world.specs.Step.{size}
 use Rattle.ring_world.specs.Quiet.{IsQuiet}
 use Rattle.ring_world.proofs.invariants.Period.{right_lives}
 use Rattle.ring_world.proofs.walks.Views.{right_is}
-use Rattle.ring_world.proofs.walks.Ended.{runs_lt}
 use Rattle.ring_world.specs.Event.{erase_refusal}
-use Rattle.ring_world.proofs.events.Refusals.{none_of, not_false}
+use Rattle.ring_world.proofs.code.Enables.{erase_dead}
 use Rattle.ring_world.proofs.rests.Rests.{id_in, entry_at, run_worked_is_quiet}
-use Rattle.ring_cluster.specs.declared.driver.OwnStep.TheVariants as step
-use Rattle.ring_world.specs.Idle.{HasNoStep, NobodySteps, MarksNobody, ErasesNobody}
-use Rattle.ring_world.specs.Work.{is_stale}
+use Rattle.ring_world.specs.Idle.{NobodySteps, MarksNobody, ErasesNobody}
 use Rattle.ring_world.proofs.work.Fit as ring
 use Rattle.ring_world.proofs.work.Nobody.{ring_members}
-use Rattle.ring_world.proofs.work.Settling.{no_step, no_mark, someone}
-use Rattle.ring_cluster.specs.Seen.{Seen, state_of, IsGoing, SameButOwed}
-use Rattle.ring_cluster.specs.Turns.{MayStepNowhere, ErasesNoneAt, RestsAt}
-use Rattle.ring_cluster.proofs.rounds.Named.{going_ring}
+use Rattle.ring_cluster.specs.Seen.{Seen, state_of, IsGoing}
+use Rattle.ring_cluster.specs.Turns.{ErasesNoneAt}
 
 -- ---- the right neighbour of a member that runs
 
@@ -49,15 +43,12 @@ entry_there w e f h =
     let es : List Entry = (view_in w (newest w)).entries in
     All-contains (λ (x : Entry). (1 ≤ x.id.0) × (x.id.0 < size w)) es e (λ k d l. ring_members w f.good f.nobody (get_or es k d).id.0 (id_in es k d l)) h
 
--- only the dead are erased
-erased_is_dead : (w : World) (y p : ℕ) → erase_refusal w y p ≡ None → is_dead (view_in w (newest w)).entries p ≡ true
-erased_is_dead w y p h = not_false _ (none_of (not (is_dead (view_in w (newest w)).entries p)) reason.NotDead _ h).0
-
+-- only the dead are erased, and so no other entry
 pub not_dead_stays : (w : World) (y : ℕ) (e : Entry) → ring.IsFit w → Contains (view_in w (newest w)).entries e → is_dead_mark e.mark ≡ false → erase_refusal w y e.id.0 ≢ None
 not_dead_stays w y e f h lives none =
     let es : List Entry = (view_in w (newest w)).entries in
     let is : entry_in es e.id.0 ≡ e = All-contains (λ (x : Entry). entry_in es x.id.0 ≡ x) es e (λ k d l. entry_at es k d (f.good.inv.is_ring.distinct (newest w) (omega arith)) l) h in
-    false≢true (sym lives ∙ ap (λ (x : Entry). is_dead_mark x.mark) (sym is) ∙ erased_is_dead w y e.id.0 none)
+    false≢true (sym lives ∙ ap (λ (x : Entry). is_dead_mark x.mark) (sym is) ∙ erase_dead w y e.id.0 none)
 
 -- what holds of each entry's id holds of the id of any
 at_id : (P : ℕ → Type 0) (es : List Entry) (p : ℕ) → All (λ (e : Entry). P e.id.0) es → is_in p (ids_of es) ≡ true → P p
@@ -72,7 +63,7 @@ at_id P (e ∷ es) p h i = by_test (nat_eq p e.id.0) refl i (λ k. at_id P es p 
 pub erases_none : (w : World) (y : ℕ) → All (λ (e : Entry). erase_refusal w y e.id.0 ≢ None) (view_in w (newest w)).entries → ErasesNoneAt w y
 erases_none w y h p lt none =
     let es : List Entry = (view_in w (newest w)).entries in
-    at_id (λ k. erase_refusal w y k ≢ None) es p h (dead_in es p (erased_is_dead w y p none)) none
+    at_id (λ k. erase_refusal w y k ≢ None) es p h (dead_in es p (erase_dead w y p none)) none
 
 -- where nobody has anything to do any more, it is quiet
 pub worked_is_quiet : (c : Seen) → IsGoing c → NobodySteps (state_of c) → MarksNobody (state_of c) → ErasesNobody (state_of c) → IsQuiet (state_of c)

@@ -211,10 +211,6 @@ performed_or i by c d false g at does rests = works_round c d (works_same c d (r
 pub rests_named : (i : ℕ) (by : List ℕ) (c d : Seen) → IsMemberAt c i by → SameButOwed c d × (IsDue c i by → ⊥) → SameButOwed c d × RestsFrom c i
 rests_named i by c d at h = (h.0, λ name m due. h.1 (subst (IsDue c i) (sym m.1 ∙ at.1) due))
 
--- so nothing is due, once all have been asked
-pub nothing_due : (k : ℕ) (c d : Seen) (moved : Bool) → k + 1 ≡ size (state_of c) → FinishedBelow c d moved k → moved ≡ false → NothingIsDue c
-nothing_due k c d moved many h none i name at = h.rests none i (omega (arith, many, at.0)) name at
-
 -- ---- a drain
 
 -- a waiting member could take its first packet, so nobody waits where nobody has a step to do

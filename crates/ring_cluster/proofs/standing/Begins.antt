@@ -1,7 +1,7 @@
 -- The parties of an opening stand in it.
 use Rattle.std.proofs.Common.{◌≡◌, ℕ, zero, suc, ◌+◌, ◌-◌, ◌<◌, ◌≤◌, Bool, true, false, nat_eq, List, [], ◌∷◌, length, map, Some, refl, sym, ap, subst, ◌∙◌, arith}
 use Rattle.std.specs.Prelude.{slice_index_or, option_map}
-use Rattle.std.specs.List.{filter, range_with_len}
+use Rattle.std.specs.List.{range_with_len}
 use Rattle.std.proofs.lemmas.Bool.{false≢true}
 use Rattle.std.proofs.lemmas.List.FromFn.{get_or-map-range_with_len, length-map-range_with_len}
 use Rattle.ring_names.specs.declared.numbers.CreditSpec.{CreditSpec}
@@ -24,20 +24,12 @@ use Rattle.gm_member.specs.Held.{Held, founded, fresh_in as fresh_incoming, fres
 use Rattle.gm_member.specs.Stands.{kept_by, told_in, held_in, outgoing_in, incoming_in, waits_for, door_links}
 use Rattle.gm_member.proofs.Fit.{IsFit, reached_fit}
 use Rattle.gm_member.proofs.Parts.{held_is, known_by, current_waits_not, other_waits_not}
-use Rattle.gm_member.proofs.DoorLists.{filter_agree}
 use Rattle.ring_cluster.specs.Ends.{Carries, fresh_out, fresh_in}
 use Rattle.ring_cluster.specs.Parties.{node_at, no_shown}
 use Rattle.ring_cluster.specs.Opened.{opened_at, opened_parties}
 use Rattle.ring_cluster.specs.Standing.{Places, MemberStands, StandAfter, has_out, HaveDone}
+use Rattle.ring_cluster.proofs.lists.Lists.{none_of_range}
 use Rattle.ring_cluster.proofs.standing.Frames.{opened_carries}
-
--- no link passes the test
-nothing_passes : (t : ℕ → Bool) (a n : ℕ) → ((s : ℕ) → a ≤ s → s < a + n → t s ≡ false) → filter t (range_with_len a n) ≡ []
-nothing_passes t a n h = filter_agree t (λ _. false) a n h ∙ none (range_with_len a n)
-  where
-    none : (xs : List ℕ) → filter (λ (_ : ℕ). false) xs ≡ []
-    none [] = refl
-    none (x ∷ xs) = none xs
 
 module _ (credit : CreditSpec) (names : List (List ℕ)) (are : AreOpeningNames names) where
   fit : IsFit (opening credit names)
@@ -88,7 +80,7 @@ module _ (credit : CreditSpec) (names : List (List ℕ)) (are : AreOpeningNames 
       by_test false e = other_waits_not (opening credit names) x s (λ (is : (link_at (opening credit names) s).receiver ≡ x). false≢true (sym e ∙ ap (λ k. nat_eq k x) is ∙ nat_eq-same x))
 
   no_door : (x : ℕ) → 1 ≤ x → x < size (opening credit names) → door_links (opening credit names) x ≡ []
-  no_door x a b = nothing_passes (waits_for (opening credit names) x) 0 (length (opening credit names).links) (λ s _ l. none_waits x s a b (omega (arith, l)))
+  no_door x a b = none_of_range (waits_for (opening credit names) x) 0 (length (opening credit names).links) (λ s _ l. none_waits x s a b (omega (arith, l)))
 
   known_are : (x : ℕ) → known_by (opening credit names) (opening_member names x) ≡ map (λ (_ : ℕ). no_kept) places
   known_are x = each places

@@ -1,5 +1,5 @@
 -- The members of the opening receive each origin from its first message on, whoever joins them.
-use Rattle.std.proofs.Common.{◌≡◌, ℕ, zero, suc, ◌<◌, ◌≤◌, Bool, true, false, List, [], ◌∷◌, length, map, set, take, get_or, Some, refl, sym, ap, subst, ◌∙◌, ⊎_elim, arith}
+use Rattle.std.proofs.Common.{◌≡◌, ℕ, zero, suc, ◌<◌, ◌≤◌, Bool, true, false, List, [], ◌∷◌, length, map, set, get_or, Some, refl, sym, ap, subst, ◌∙◌, ⊎_elim, arith}
 use Rattle.std.specs.List.{range_with_len}
 use Rattle.std.proofs.lemmas.Bool.{false≢true, cases_lt}
 use Rattle.std.proofs.lemmas.List.{length-set, length_push, set_past}
@@ -8,18 +8,16 @@ use Rattle.ring_names.specs.declared.numbers.CreditSpec.{CreditSpec}
 use Rattle.group_view.specs.Change.{AreOpeningNames}
 use Rattle.ring_world.specs.declared.event.Event.{Event}
 use Rattle.ring_world.specs.declared.numbers.Numbers.{Numbers}
-use Rattle.ring_world.specs.Rows.{Row, no_row, published_row, taken_row, messages_between}
+use Rattle.ring_world.specs.Rows.{Row, no_row, published_row, taken_row}
 use Rattle.ring_world.specs.Machine.{Member, Link, World, row_at, numbers_at, member_at, link_at, view_in, is_waiting, oldest}
 use Rattle.ring_world.specs.Step.{size, log_of, is_owned, published, taker, begun, stopped, with_member, opened_link, joiner, opening}
 use Rattle.ring_world.specs.Event.{IsRun, last}
-use Rattle.ring_world.specs.Lawful.{row_of}
 use Rattle.ring_world.proofs.rings.Lists.{at_set}
 use Rattle.ring_world.proofs.events.First.{first_row, first_size}
 use Rattle.ring_world.proofs.events.Leaves.{member_leaves, come_member, with_opened}
 use Rattle.ring_world.proofs.events.Parts.{Part, cast_part, put_part, take_part, begin_part, come_part, gain_part, stop_part, open_part, still_part, run_keeps}
 use Rattle.ring_world.proofs.invariants.Opening.{opening_phase}
 use Rattle.ring_world.proofs.invariants.Happens.{IsGood, opening_good}
-use Rattle.gm_member.proofs.Fit.{reached_fit}
 use Rattle.ring_cluster.specs.Heard.{OpenersHaveNoBase}
 
 -- a member doesn't wait, and receives from the first message on
@@ -113,14 +111,3 @@ reached_whole credit names events are r = run_keeps (AreWhole (length names)) (p
 
 pub reached_bases : (credit : CreditSpec) (names : List (List ℕ)) (events : List Event) → AreOpeningNames names → IsRun (opening credit names) events → OpenersHaveNoBase names (last (opening credit names) events)
 reached_bases credit names events are r q p some le = ((reached_whole credit names events are r).each q le).bases p
-
--- and none of them ever waits
-pub openers_ready : (credit : CreditSpec) (names : List (List ℕ)) (events : List Event) (q : ℕ) → AreOpeningNames names → IsRun (opening credit names) events → q ≤ length names → is_waiting (member_at (last (opening credit names) events) q).phase ≡ false
-openers_ready credit names events q are r le = ((reached_whole credit names events are r).each q le).ready
-
--- so they have heard the front of each log
-pub reached_fronts : (credit : CreditSpec) (names : List (List ℕ)) (events : List Event) (q p : ℕ) → AreOpeningNames names → IsRun (opening credit names) events → 1 ≤ q → q ≤ length names
-    → (row_of (last (opening credit names) events) q p).heard ≡ take (row_of (last (opening credit names) events) q p).got (log_of (last (opening credit names) events) p)
-reached_fronts credit names events q p are r some le =
-    let w : World = last (opening credit names) events in
-    (reached_fit credit names events are r).lawful.in_order q p ∙ ap (λ n. messages_between n (row_of w q p).got (log_of w p)) (reached_bases credit names events are r q p some le)

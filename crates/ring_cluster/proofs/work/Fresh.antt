@@ -1,5 +1,5 @@
 -- In every state of every run nobody has taken from a link at a door.
-use Rattle.std.proofs.Common.{◌≡◌, ◌≢◌, ℕ, ◌+◌, ◌<◌, ◌≤◌, Bool, true, false, cond, not, nat_eq, List, length, set, [], ◌∷◌, ◌++◌, Option, Some, None, refl, sym, ap, subst, ◌∙◌, arith, ⊎_elim}
+use Rattle.std.proofs.Common.{◌≡◌, ◌≢◌, ℕ, ◌+◌, ◌<◌, ◌≤◌, Bool, true, false, not, nat_eq, List, length, set, [], ◌∷◌, ◌++◌, Option, Some, None, refl, sym, ap, ◌∙◌, arith, ⊎_elim}
 use Rattle.std.specs.Prelude.{◌&&◌}
 use Rattle.std.proofs.lemmas.Bool.{false≢true, and_parts, and_from, not-true, cases_lt, cases_eq, false_from_ne_true, true_from_ne_false}
 use Rattle.std.proofs.lemmas.List.{length-set, length_push, get_or_append_left, get_or-set_same, get_or-set_other}
@@ -10,7 +10,7 @@ use Rattle.group_view.specs.Change.{AreOpeningNames, marked}
 use Rattle.ring_world.specs.declared.event.Event.{Event}
 use Rattle.ring_world.specs.declared.phase.Ending.TheVariants.{Halted}
 use Rattle.ring_world.specs.Machine.{Member, Link, World, no_link, no_member, member_at, link_at, view_in, newest, runs_phase, is_kept, is_kept_of, oldest}
-use Rattle.ring_world.specs.OpenLinks.{version_of, is_place, is_current, is_door_link, passes}
+use Rattle.ring_world.specs.OpenLinks.{is_place, is_current, is_door_link, passes}
 use Rattle.ring_world.specs.Step.{size, published, publish_at, put_on, gain_on, taker, take_from, begun, begin_from, joiner, come_to, pushed, popped, next_packet, finished, stopped, stop_at, ended, end_out, kept_current, moved_to, look_at, opening}
 use Rattle.ring_world.specs.Event.{erased_view, refreshed, refusal, effect, IsRun, last}
 use Rattle.ring_world.proofs.rings.Lists.{get_or_beyond}
@@ -23,9 +23,8 @@ use Rattle.ring_world.proofs.invariants.Happens.{IsGood, event_good, opening_goo
 use Rattle.ring_world.proofs.invariants.Shape.{SameEnds}
 use Rattle.ring_world.specs.Work.{place_by, place_at}
 use Rattle.ring_world.proofs.walks.LeftLinks.{IsLater, event_later, fails_later}
-use Rattle.ring_world.proofs.walks.OpenWalk.{passes_is}
 use Rattle.ring_world.proofs.work.Nobody.{reached_nobody}
-use Rattle.ring_world.proofs.work.Places.{IsWritten, KeepsPlaces, written, unwritten, written_places, leave_places, refresh_places, pick_places}
+use Rattle.ring_world.proofs.work.Places.{IsWritten, KeepsPlaces, left_fails, written, unwritten, written_places, leave_places, refresh_places, pick_places}
 use Rattle.ring_world.proofs.work.Refreshed.{opened_world, old_links, sending_member, link_old, link_new, links_more, refresh_cases}
 use Rattle.gm_member.specs.Stands.{waits_for}
 use Rattle.ring_cluster.proofs.standing.Placing.{GoBetween, go_between}
@@ -135,15 +134,6 @@ KeepsDoors w w' = IsGood w' → IsLater w w' → NoneComes w w'
 doors_of : (w w' : World) → KeepsPlaces w w' → KeepsDoors w w'
 doors_of w w' h g' k t tl high = let falls : place_at w' t ≤ place_at w t = h g' k t tl in omega (arith, falls, high)
 
--- what doesn't stay of the current link isn't kept
-left_unkept : (kept : ℕ → Bool) (c : Option ℕ) (t : ℕ) → is_place c t ≡ true → is_place (kept_current kept c) t ≡ false → kept t ≡ false
-left_unkept kept None t e n = absurd (false≢true e)
-left_unkept kept (Some s) t e n = subst (λ q. kept q ≡ false) (nat_eq-is s t e) (by_test (kept s) refl n)
-  where
-    by_test : (b : Bool) → kept s ≡ b → is_place (cond b (Some s) None) t ≡ false → kept s ≡ false
-    by_test true q k = absurd (false≢true (sym k ∙ e))
-    by_test false q k = q
-
 -- where x reads a view and becomes y, and the others that were there take from the same links, whoever joins them
 module _ (w w' : World) (x t : ℕ) (y : Member) (h : IsGood w) (h' : IsGood w') (k : IsLater w w') (tl : t < length w.links) (here : member_at w' x ≡ y) (others : (q : ℕ) → q ≢ x → q < size w → member_at w' q ≡ member_at w q)
     (reads : y.current ≡ kept_current (λ s. is_kept_of w'.views (link_at w s).receiver (link_at w s).sender (link_at w s).opened y.version) (member_at w x).current) where
@@ -177,21 +167,11 @@ module _ (w w' : World) (x t : ℕ) (y : Member) (h : IsGood w) (h' : IsGood w')
       passes_now : passes w r l ≡ true
       passes_now = true_from_ne_false (passes w r l) (λ e. false≢true (sym (fails_later w w' r t h h' k tl refl e) ∙ passes_then))
 
-      kept : ℕ → Bool
-      kept s = is_kept_of w'.views (link_at w s).receiver (link_at w s).sender (link_at w s).opened y.version
-
       -- x leaves only a link that fails the test
       mine : r ≡ x → is_current w r t ≡ true → ⊥
       mine same e =
           let gone : is_place y.current t ≡ false = ap (λ (z : Member). is_place z.current t) (sym here) ∙ ap (λ q. is_current w' q t) (sym same) ∙ free_then in
-          false≢true
-          (sym (passes_is w' r t h' (omega (arith, k.links, tl)) ends.receiver
-          ∙ ap (is_kept w' l') (ap (version_of w') same ∙ ap (λ (z : Member). z.version) here)
-          ∙ ap (λ q. is_kept_of w'.views q l'.sender l'.opened y.version) ends.receiver
-          ∙ ap (λ q. is_kept_of w'.views r q l'.opened y.version) ends.sender
-          ∙ ap (λ q. is_kept_of w'.views r l.sender q y.version) ends.opened
-          ∙ left_unkept kept (member_at w x).current t (ap (λ q. is_current w q t) (sym same) ∙ e) (ap (λ c. is_place c t) (sym reads) ∙ gone))
-          ∙ passes_then)
+          false≢true (sym (left_fails w w' x t y h' k tl here reads (ap (λ q. is_current w q t) (sym same) ∙ e) gone same) ∙ passes_then)
 
       -- and another none
       other : r ≢ x → is_current w r t ≡ true → ⊥

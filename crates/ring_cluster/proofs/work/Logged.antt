@@ -1,10 +1,8 @@
 -- The names of the members of a state, and that their logs are what the events published of these.
 use Rattle.std.proofs.Common.{◌≡◌, ⊎_elim, ℕ, ◌+◌, ◌-◌, ◌<◌, ◌≤◌, Bool, true, false, List, [], ◌∷◌, ◌++◌, length, map, drop, get_or, bytes_eq, option_map, Option, Some, None, if◌then◌else◌, refl, sym, ap, subst, ◌∙◌, arith}
-use Rattle.std.specs.List.{position}
 use Rattle.std.proofs.lemmas.Bool.{cases_lt}
 use Rattle.std.proofs.lemmas.List.{append-nil, append_assoc, flat_map_more, same_lists, length-map, length-drop, get_or-map, get_or-drop}
 use Rattle.std.proofs.lemmas.List.FromFn.{length-map-range_with_len, get_or-map-range_with_len}
-use Rattle.std.proofs.lemmas.List.Quantifiers.{position-Some}
 use Rattle.ring_names.specs.declared.message.Message.{Message}
 use Rattle.ring_names.specs.declared.message.Message.TheVariants as message
 use Rattle.ring_names.specs.declared.numbers.CreditSpec.{CreditSpec}
@@ -21,7 +19,7 @@ use Rattle.ring_world.proofs.events.Refusals.{id_within}
 use Rattle.ring_world.proofs.rings.Maps.{position_map}
 use Rattle.ring_world.proofs.invariants.Happens.{IsGood, event_good, opening_good}
 use Rattle.ring_world.proofs.invariants.Named.{AreNamed, event_named, reached_named}
-use Rattle.ring_world.proofs.runs.Published.{run_grows}
+use Rattle.ring_world.proofs.runs.Published.{run_grows, found_name}
 use Rattle.ring_cluster.specs.Agendas.{place_among}
 use Rattle.ring_cluster.specs.Published.{names_in, logs_of}
 use Rattle.ring_cluster.proofs.work.Staying.{Joins, KeepsNames, is_admission, event_same, admit_joins, event_keeps}
@@ -53,18 +51,6 @@ reached_different credit names events are r = names_in_different (last (opening 
 -- a name has the id of its place among them
 pub id_in : (w : World) (name : List ℕ) → id_of w name ≡ option_map (λ i. i + 1) (place_among (names_in w) name)
 id_in w name = ap (option_map (λ i. i + 1)) (sym (position_map (λ n. bytes_eq n name) (λ (y : Member). y.name) (drop 1 w.members)))
-
--- who is found by a name is a member that has it
-pub found_name : (w : World) (name : List ℕ) (x : ℕ) → id_of w name ≡ Some x → (member_at w x).name ≡ name
-found_name w name x h = by_place _ refl h
-  where
-    by_place : (o : Option ℕ) → position (λ (y : Member). bytes_eq y.name name) (drop 1 w.members) ≡ o → option_map (λ i. i + 1) o ≡ Some x → (member_at w x).name ≡ name
-    by_place None e k = cc
-    by_place (Some i) e k =
-        let is : i + 1 ≡ x = cc in
-        let next : 1 + i ≡ x = omega arith in
-        ap (λ (y : Member). y.name) (sym (get_or-drop 1 w.members i no_member ∙ ap (member_at w) next))
-        ∙ same_bytes _ _ (position-Some (λ (y : Member). bytes_eq y.name name) (drop 1 w.members) i no_member e).1
 
 -- ---- logs
 
@@ -139,7 +125,7 @@ module _ (w : World) (before : List Event) (e : Event) (g : IsGood w) (n : AreNa
   known_new name k x is some =
       ap (log_of w') is ∙ k.nothing
       ∙ sym (nothing_of name (λ y first lt same.
-      let both : y ≡ size w = (event_named w e g r n).different y (size w) first (omega (arith, lt, k.many)) (omega (arith, is, some)) (omega (arith, k.many)) (k.name y lt ∙ same ∙ sym k.new) in
+      let both : y ≡ size w = (event_named w e g r n).different y (size w) first (omega (arith, lt, k.many)) (omega (arith, is, some)) (omega (arith, k.many)) (k.keeps.name y lt ∙ same ∙ sym k.new) in
       absurd (omega (arith, both, lt))))
       ∙ ap (λ a. published_in a (before ++ e ∷ [])) (sym k.new ∙ ap (λ y. (member_at w' y).name) (sym is))
 
@@ -166,9 +152,9 @@ run_logs w before (e ∷ es) g n r h =
     (run_logs (effect w e) (before ++ e ∷ []) es (event_good w e g r.0) (event_named w e g r.0 n) r.1 (event_logs w before e g n r.0 h))
 
 -- each member's log, of the opening or joined, is what the events have published of its name
-pub run_publishes_all : (credit : CreditSpec) (names : List (List ℕ)) (events : List Event) (x : ℕ) → AreOpeningNames names → IsRun (opening credit names) events → 1 ≤ x → x < size (last (opening credit names) events)
+pub run_publishes : (credit : CreditSpec) (names : List (List ℕ)) (events : List Event) (x : ℕ) → AreOpeningNames names → IsRun (opening credit names) events → 1 ≤ x → x < size (last (opening credit names) events)
     → log_of (last (opening credit names) events) x ≡ published_in (member_at (last (opening credit names) events) x).name events
-run_publishes_all credit names events x are r some lt =
+run_publishes credit names events x are r some lt =
     (run_logs (opening credit names) [] events (opening_good credit names are) (reached_named credit names [] are tt) r (record { known = λ y _ _. first_log credit names y; unknown = λ name _. refl })).known x some lt
 
 -- so the logs of a state, by places, are what was published of its members' names
@@ -188,5 +174,5 @@ run_all_logs credit names events are r = same_lists _ _ many each
         let inside : k + 1 < size w = omega (arith, lt, names_in_many w) in
         get_or-map (λ name. published_in name events) (names_in w) k [] d lt
         ∙ ap (λ name. published_in name events) (name_in_at w k [] inside)
-        ∙ sym (run_publishes_all credit names events (k + 1) are r (omega arith) inside)
+        ∙ sym (run_publishes credit names events (k + 1) are r (omega arith) inside)
         ∙ sym (get_or-map-range_with_len (log_of w) 1 (size w - 1) k (k + 1) d (omega (arith, inside)) (omega arith))

@@ -2,8 +2,7 @@
 use Rattle.std.proofs.Common.{◌≡◌, ◌≢◌, ℕ, zero, suc, ◌+◌, ◌<◌, Bool, true, false, List, [], ◌∷◌, ◌++◌, length, map, set, get_or, bytes_eq, Some, None, if◌then◌else◌, refl, sym, ap, ◌∙◌, ◌-◌, IsSome, subst, arith}
 use Rattle.std.specs.List.{position}
 use Rattle.std.proofs.lemmas.Bool.{false≢true}
-use Rattle.std.proofs.lemmas.List.{append-nil, flat_map_more, same_lists, length-map, get_or-map}
-use Rattle.std.proofs.lemmas.List.FromFn.{length-map-range_with_len, get_or-map-range_with_len}
+use Rattle.std.proofs.lemmas.List.{append-nil, flat_map_more}
 use Rattle.std.proofs.lemmas.List.Quantifiers.{position-Some}
 use Rattle.ring_names.specs.declared.message.Message.{Message}
 use Rattle.ring_names.specs.declared.message.Message.TheVariants as message
@@ -11,12 +10,7 @@ use Rattle.group_view.specs.Change.{AreDifferent}
 use Rattle.ring_world.specs.declared.event.Event.{Event}
 use Rattle.ring_world.specs.declared.event.Event.TheVariants.{Cast}
 use Rattle.ring_world.specs.Published.{published_by, published_in}
-use Rattle.ring_world.specs.Machine.{World}
-use Rattle.ring_world.specs.Step.{size, log_of, opening}
 use Rattle.ring_world.proofs.events.Names.{same_bytes, own_bytes}
-use Rattle.ring_world.proofs.runs.Published.{run_publishes}
-use Rattle.ring_cluster.specs.Seen.{Seen, IsGoing, state_of}
-use Rattle.ring_cluster.specs.Published.{logs_of}
 use Rattle.ring_cluster.proofs.lists.Places.{position_there}
 
 -- ---- lists alone
@@ -53,10 +47,6 @@ module _ (names : List (List ℕ)) (before : List Event) (e : Event) where
 
   stays : (name : List ℕ) → published_by name e ≡ [] → then_published name ≡ published_in name before
   stays name is = grows name [] is ∙ append-nil (published_in name before)
-
-  -- an event that publishes of nobody
-  pub nothing_more : ((name : List ℕ) → published_by name e ≡ []) → map (λ name. published_in name before) names ≡ map then_published names
-  nothing_more none = same_each (λ name. published_in name before) then_published names [] (λ j l. stays (get_or names j []) (none (get_or names j [])))
 
 by_test : (by body name : List ℕ) (b : Bool) → bytes_eq by name ≡ b → published_by name (Cast by body) ≡ (if b then message.Cast body ∷ [] else [])
 by_test by body name b e = ap (λ t. if t then message.Cast body ∷ [] else []) e

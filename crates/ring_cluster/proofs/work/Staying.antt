@@ -1,10 +1,9 @@
 -- The members that are there stay, with their names, and their phases only go on; an admission alone adds one.
-use Rattle.std.proofs.Common.{◌≡◌, ◌≢◌, ◌⊎◌, inl, inr, ⊎_elim, ℕ, suc, ◌+◌, ◌<◌, ◌≤◌, List, [], ◌∷◌, ◌++◌, length, get_or, Option, Some, None, true, refl, sym, ap, subst, ◌∙◌, arith}
+use Rattle.std.proofs.Common.{◌≡◌, ◌≢◌, ◌⊎◌, inl, inr, ⊎_elim, ℕ, ◌+◌, ◌<◌, ◌≤◌, List, [], ◌∷◌, ◌++◌, length, get_or, Option, Some, None, true, refl, sym, ap, subst, ◌∙◌, arith}
 use Rattle.std.specs.Prelude.{⊤}
 use Rattle.std.proofs.lemmas.Bool.{false≢true}
 use Rattle.std.proofs.lemmas.List.{length-set, length_push, get_or_append_left, get_or_push}
 use Rattle.ring_names.specs.declared.message.Message.TheVariants as message
-use Rattle.ring_names.specs.declared.numbers.CreditSpec.{CreditSpec}
 use Rattle.group_view.specs.View.{Group}
 use Rattle.group_view.specs.Change.{marked}
 use Rattle.ring_world.specs.View.{right_of}
@@ -14,10 +13,9 @@ use Rattle.ring_world.specs.declared.phase.Ending.TheVariants.{Halted}
 use Rattle.ring_world.specs.declared.event.Event.{Event}
 use Rattle.ring_world.specs.declared.event.Event.TheVariants.{Cast, Put, Take, TakeEnd, Gain, Stop, Mark, Refresh, Admit, Pick, Erase, Refuse}
 use Rattle.ring_world.specs.Machine.{Member, World, runs_phase, no_member, member_at, link_at, view_in, newest, oldest}
-use Rattle.ring_world.specs.Step.{size, log_of, with_member, with_view, published, taker, begun, with_current, stopped, stop_at, moved_to, opened_link, joiner, come_to, opening}
+use Rattle.ring_world.specs.Step.{size, log_of, with_member, with_view, published, taker, begun, with_current, stopped, stop_at, moved_to, opened_link, joiner, come_to}
 use Rattle.ring_world.specs.Event.{id_of, of_member, at_found, at_door, taken_by, refreshed, erased_view, by_of, refused_at, done_at, refusal, effect, IsRun, last}
 use Rattle.ring_world.proofs.events.Composed.{end_composed, refresh_composed}
-use Rattle.ring_world.proofs.events.First.{first_at, first_size}
 use Rattle.ring_world.proofs.events.Leaves.{member_leaves, with_opened}
 
 -- ---- phases
@@ -132,13 +130,18 @@ event_same w e none = found w (id_of w (by_of e)) (done_at w e) (λ x. done_name
 
 -- ---- an admission
 
--- One more member is there, called so; it has published nothing, and the others have their names and logs.
+-- members that are there keep their names, and their phases only go on
+pub record KeepsNames (w w' : World) : Type 0 where
+  pub many : size w ≤ size w'
+  pub name : (q : ℕ) → q < size w → (member_at w' q).name ≡ (member_at w q).name
+  pub phase : (q : ℕ) → q < size w → GoesOnTo (member_at w q).phase (member_at w' q).phase
+
+-- One more member is there, called so; it has published nothing, and the others stay with their names.
 pub record Joins (w : World) (called : List ℕ) (w' : World) : Type 0 where
   pub many : size w' ≡ size w + 1
-  pub name : (q : ℕ) → q < size w → (member_at w' q).name ≡ (member_at w q).name
+  pub keeps : KeepsNames w w'
   pub new : (member_at w' (size w)).name ≡ called
   pub nothing : log_of w' (size w) ≡ []
-  pub phase : (q : ℕ) → q < size w → GoesOnTo (member_at w q).phase (member_at w' q).phase
 
 refresh_log : (w : World) (x v q : ℕ) → log_of (refreshed w x v) q ≡ log_of w q
 refresh_log w x v q = refresh_composed (λ u. log_of u q ≡ log_of w q) w x v
@@ -148,15 +151,21 @@ refresh_log w x v q = refresh_composed (λ u. log_of u q ≡ log_of w q) w x v
 
 come_joins : (w : World) (x : ℕ) (name : List ℕ) → Joins w name (refreshed (come_to w x name) x (newest w + 1))
 come_joins w x name = record {
-  many = k.many ∙ length_push w.members (joiner w name);
-  name = λ q lt. k.name q ∙ ap (λ (y : Member). y.name) (get_or_append_left w.members (joiner w name ∷ []) no_member q lt);
+  many = more;
+  keeps = record {
+    many = omega (arith, more);
+    name = λ q lt. k.name q ∙ ap (λ (y : Member). y.name) (get_or_append_left w.members (joiner w name ∷ []) no_member q lt);
+    phase = λ q lt. subst (λ (y : Member). GoesOnTo y.phase (member_at (refreshed (come_to w x name) x (newest w + 1)) q).phase) (get_or_append_left w.members (joiner w name ∷ []) no_member q lt) (k.phase q);
+  };
   new = k.name (size w) ∙ ap (λ (y : Member). y.name) here;
   nothing = refresh_log (come_to w x name) x (newest w + 1) (size w) ∙ ap (λ (y : Member). y.log) here;
-  phase = λ q lt. subst (λ (y : Member). GoesOnTo y.phase (member_at (refreshed (come_to w x name) x (newest w + 1)) q).phase) (get_or_append_left w.members (joiner w name ∷ []) no_member q lt) (k.phase q);
 }
   where
     k : SameNames (come_to w x name) (refreshed (come_to w x name) x (newest w + 1))
     k = refresh_names (come_to w x name) x (newest w + 1)
+
+    more : size (refreshed (come_to w x name) x (newest w + 1)) ≡ size w + 1
+    more = k.many ∙ length_push w.members (joiner w name)
 
     here : member_at (come_to w x name) (size w) ≡ joiner w name
     here = get_or_push w.members (joiner w name) no_member (size w) refl
@@ -170,12 +179,6 @@ admit_joins w by name r = by_id (id_of w by) r
 
 -- ---- each event
 
--- members that are there keep their names, and their phases only go on
-pub record KeepsNames (w w' : World) : Type 0 where
-  pub many : size w ≤ size w'
-  pub name : (q : ℕ) → q < size w → (member_at w' q).name ≡ (member_at w q).name
-  pub phase : (q : ℕ) → q < size w → GoesOnTo (member_at w q).phase (member_at w' q).phase
-
 -- whether an event is an admission is known
 pub is_admission : (e : Event) → ((by : List ℕ) × (name : List ℕ) × (e ≡ Admit by name)) ⊎ ((by name : List ℕ) → e ≡ Admit by name → ⊥)
 is_admission (Admit by name) = inl (by, name, refl)
@@ -185,7 +188,7 @@ pub event_keeps : (w : World) (e : Event) → refusal w e ≡ None → KeepsName
 event_keeps w e r = ⊎_elim
     (λ (a : (by : List ℕ) × (name : List ℕ) × (e ≡ Admit by name)).
     let k : Joins w a.1 (effect w (Admit a.0 a.1)) = admit_joins w a.0 a.1 (subst (λ x. refusal w x ≡ None) a.2 r) in
-    subst (λ x. KeepsNames w (effect w x)) (sym a.2) (record { many = omega (arith, k.many); name = k.name; phase = k.phase }))
+    subst (λ x. KeepsNames w (effect w x)) (sym a.2) k.keeps)
     (λ (none : (by name : List ℕ) → e ≡ Admit by name → ⊥).
     let k : SameNames w (effect w e) = event_same w e none in
     record { many = omega (arith, k.many); name = λ q _. k.name q; phase = λ q _. k.phase q })
@@ -207,14 +210,3 @@ run_keeps_names w (e ∷ es) r =
 pub run_behind : (w : World) (before more : List Event) → IsRun w (before ++ more) → IsRun (last w before) more
 run_behind w [] more r = r
 run_behind w (e ∷ before) more r = run_behind (effect w e) before more r.1
-
--- the members of the opening are there, with the ids that they had
-pub openers_many : (credit : CreditSpec) (names : List (List ℕ)) (events : List Event) → IsRun (opening credit names) events → length names + 1 ≤ size (last (opening credit names) events)
-openers_many credit names events r = omega (arith, first_size credit names, (run_keeps_names (opening credit names) events r).many)
-
-pub openers_named : (credit : CreditSpec) (names : List (List ℕ)) (events : List Event) (i : ℕ) → IsRun (opening credit names) events → i < length names → (member_at (last (opening credit names) events) (i + 1)).name ≡ get_or names i []
-openers_named credit names events i r l =
-    let next : i + 1 ≡ suc i = omega arith in
-    (run_keeps_names (opening credit names) events r).name (i + 1) (omega (arith, l, first_size credit names))
-    ∙ ap (λ (y : Member). y.name) (first_at credit names (i + 1) (omega arith) (omega arith))
-    ∙ ap (λ k. get_or ([] ∷ names) k []) next

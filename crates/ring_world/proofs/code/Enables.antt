@@ -1,19 +1,14 @@
 -- What an enabled event has, for the code.
-use Rattle.std.proofs.Common.{◌≡◌, ℕ, true, not, Option, Some, None, ap, ◌∙◌}
+use Rattle.std.proofs.Common.{◌≡◌, ℕ, true, not, Option, None}
 use Rattle.ring_names.specs.declared.reason.Reason.{Reason}
 use Rattle.ring_names.specs.declared.reason.Reason.TheVariants as reason
 use Rattle.group_view.specs.View.{is_dead}
-use Rattle.ring_world.specs.Machine.{Phase, Waiting, World, member_at, view_in, newest, runs}
-use Rattle.ring_world.specs.Step.{begin_from}
-use Rattle.ring_world.specs.Event.{is_stopped, running_refusal, erase_refusal, at_found, taken_by}
+use Rattle.ring_world.specs.Machine.{World, member_at, view_in, newest, runs}
+use Rattle.ring_world.specs.Event.{is_stopped, running_refusal, erase_refusal}
 use Rattle.ring_world.proofs.events.Refusals.{none_of, not_false, runs_from}
 
 pub running_runs : (w : World) (x : ℕ) (later : Option Reason) → running_refusal w x later ≡ None → runs w x ≡ true
 running_runs w x later h = runs_from (member_at w x).phase (none_of (is_stopped (member_at w x).phase) reason.Stopped later h).0
-
--- a first take
-pub begin_effect : (w : World) (x s : ℕ) (o : Option ℕ) (f : Phase) → o ≡ Some s → f ≡ Waiting → at_found o w (taken_by f w x) ≡ begin_from w x s
-begin_effect w x s o f e waits = ap (λ k. at_found k w (taken_by f w x)) e ∙ ap (λ g. taken_by g w x s) waits
 
 -- an origin that may be erased
 pub erase_dead : (w : World) (x p : ℕ) → erase_refusal w x p ≡ None → is_dead (view_in w (newest w)).entries p ≡ true

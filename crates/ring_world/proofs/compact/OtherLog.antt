@@ -10,7 +10,7 @@ use Rattle.ring_world.specs.Step.{size, with_member}
 use Rattle.ring_world.proofs.rings.Writes.{at_set}
 use Rattle.ring_world.proofs.invariants.Good.{never_rises_still}
 use Rattle.ring_world.proofs.invariants.Standing.{knows}
-use Rattle.ring_world.proofs.invariants.Shape.{IsShaped}
+use Rattle.ring_world.proofs.invariants.Shape.{IsShaped, member_shaped}
 use Rattle.ring_world.proofs.walks.Back.{closes_walk}
 use Rattle.ring_world.proofs.walks.Refresh.{blind}
 use Rattle.ring_world.proofs.invariants.Kept.{Inv, shaped_packed, shaped_current, shaped_keeps, set_alike, waits_alike}
@@ -30,13 +30,7 @@ log_keeps w y l lt up h =
     let runs_same : (q : ℕ) → runs w' q ≡ runs w q = λ q. at_set (λ i a. runs_phase a.phase ≡ runs w i) w.members y q m no_member lt refl (λ _. refl) in
     let phase : (q : ℕ) → (member_at w' q).phase ≡ (member_at w q).phase = λ q. at_set (λ i a. a.phase ≡ (member_at w i).phase) w.members y q m no_member lt refl (λ _. refl) in
     let current : (q : ℕ) → (member_at w' q).current ≡ (member_at w q).current = λ q. at_set (λ i a. a.current ≡ (member_at w i).current) w.members y q m no_member lt refl (λ _. refl) in
-    let sh : IsShaped w w'.members w.links = record {
-      many = refl;
-      ends = λ j. record { sender = refl; receiver = refl; opened = refl };
-      runs_less = λ q r. sym (runs_same q) ∙ r;
-      version = λ q. at_set (λ i a. a.version ≡ (member_at w i).version) w.members y q m no_member lt refl (λ _. refl);
-      out = λ q. at_set (λ i a. a.out ≡ (member_at w i).out) w.members y q m no_member lt refl (λ _. refl);
-    } in
+    let sh : IsShaped w w'.members w.links = member_shaped w y m lt (λ q r. sym (runs_same q) ∙ r) refl refl in
     shaped_keeps w w'.members w.links sh (record {
       many = many;
       packed = shaped_packed w w'.members w.links sh h.packed.packets;

@@ -24,15 +24,6 @@ up_phase w x later h = (up_none w x later h).0
 pub up_later : (w : World) (x : ℕ) (later : Option Reason) → up_refusal w x later ≡ None → later ≡ None
 up_later w x later h = (up_none w x later h).1
 
--- a member that runs and doesn't wait
-pub running_none : (w : World) (x : ℕ) (later : Option Reason) → is_waiting (member_at w x).phase ≡ false → running_refusal w x later ≡ None → ((member_at w x).phase ≡ Up) × (later ≡ None)
-running_none w x later n h =
-    let a = none_of (is_stopped (member_at w x).phase) reason.Stopped later h in
-    (up_from (member_at w x).phase a.0 n, a.1)
-
-pub running_phase : (w : World) (x : ℕ) (later : Option Reason) → is_waiting (member_at w x).phase ≡ false → running_refusal w x later ≡ None → (member_at w x).phase ≡ Up
-running_phase w x later n h = (running_none w x later n h).0
-
 pub running_later : (w : World) (x : ℕ) (later : Option Reason) → running_refusal w x later ≡ None → later ≡ None
 running_later w x later h = (none_of (is_stopped (member_at w x).phase) reason.Stopped later h).1
 

@@ -14,7 +14,7 @@ use Rattle.ring_world.proofs.rings.Lists.{at_set, get_or_beyond}
 use Rattle.ring_world.proofs.invariants.Good.{IsLinked, kept_true, never_rises_still}
 use Rattle.ring_world.proofs.invariants.Standing.{knows}
 use Rattle.ring_world.proofs.walks.OwnerStops.{AllPackets, IsPacket}
-use Rattle.ring_world.proofs.invariants.Shape.{SameEnds, IsShaped, shaped_ring, shaped_history, shaped_ordered, shaped_linked}
+use Rattle.ring_world.proofs.invariants.Shape.{IsShaped, taker_shaped, shaped_ring, shaped_history, shaped_ordered, shaped_linked}
 use Rattle.ring_world.proofs.walks.Begin.{CanBegin, begin_walk}
 use Rattle.ring_world.proofs.invariants.Kept.{Inv, AllPackets-first, AllPackets-drop, shaped_packed, shaped_current, set_alike, waits_alike}
 use Rattle.ring_world.proofs.walks.CountedWalk.{walk}
@@ -64,14 +64,7 @@ begin_can w y s h m =
         omega arith
 
 pub begin_shape : (w : World) (y s : ℕ) → CanBegin w y s → IsShaped w (begin_from w y s).members (begin_from w y s).links
-begin_shape w y s c = record {
-  many = length-set w.links s (popped (link_at w s));
-  ends = λ j. at_set (λ i l. SameEnds (link_at w i) l) w.links s j (popped (link_at w s)) no_link c.is_link
-      (record { sender = refl; receiver = refl; opened = refl }) (λ _. record { sender = refl; receiver = refl; opened = refl });
-  runs_less = λ q r. sym (begin_runs w y s q c) ∙ r;
-  version = λ q. at_set (λ i m. m.version ≡ (member_at w i).version) w.members y q (begun (size w) (member_at w y) (oldest (link_at w s))) no_member c.is_member refl (λ _. refl);
-  out = λ q. at_set (λ i m. m.out ≡ (member_at w i).out) w.members y q (begun (size w) (member_at w y) (oldest (link_at w s))) no_member c.is_member refl (λ _. refl);
-}
+begin_shape w y s c = taker_shaped w y s (begun (size w) (member_at w y) (oldest (link_at w s))) c.is_member c.is_link (λ q r. sym (begin_runs w y s q c) ∙ r) refl refl
 
 pub begin_row : (w : World) (y s p : ℕ) → p < size w → row_at (begun (size w) (member_at w y) (oldest (link_at w s))) p ≡ begun_row (row_at (member_at w y) p) (numbers_at (oldest (link_at w s)) p)
 begin_row w y s p lt = get_or-map-range_with_len (λ p. begun_row (row_at (member_at w y) p) (numbers_at (oldest (link_at w s)) p)) 0 (size w) p p no_row lt (omega arith)

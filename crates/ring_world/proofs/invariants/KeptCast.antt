@@ -16,7 +16,7 @@ use Rattle.group_view.proofs.Rings.{rotated_is}
 use Rattle.ring_world.proofs.walks.Links.{numbers_none, numbers_agree}
 use Rattle.ring_world.proofs.invariants.Good.{IsRing, never_rises_still}
 use Rattle.ring_world.proofs.invariants.Standing.{knows}
-use Rattle.ring_world.proofs.invariants.Shape.{IsShaped}
+use Rattle.ring_world.proofs.invariants.Shape.{IsShaped, member_shaped}
 use Rattle.ring_world.proofs.walks.Put.{runs_phase-Up, number_up}
 use Rattle.ring_world.proofs.walks.Take.{blocks_same, head_once}
 use Rattle.ring_world.proofs.walks.Back.{same_runners}
@@ -115,13 +115,7 @@ module _ (m : Message) where
       let rx : runs w x ≡ true = runs_phase-Up w x up in
       let phase : (q : ℕ) → (member_at w' q).phase ≡ (member_at w q).phase = λ q. cast_member w x q (λ i a. a.phase ≡ (member_at w i).phase) lt refl (λ _. refl) in
       let current : (q : ℕ) → (member_at w' q).current ≡ (member_at w q).current = λ q. cast_member w x q (λ i a. a.current ≡ (member_at w i).current) lt refl (λ _. refl) in
-      let sh : IsShaped w w'.members w.links = record {
-        many = refl;
-        ends = λ j. record { sender = refl; receiver = refl; opened = refl };
-        runs_less = λ q r. sym (cast_runs w x q lt) ∙ r;
-        version = λ q. cast_member w x q (λ i a. a.version ≡ (member_at w i).version) lt refl (λ _. refl);
-        out = λ q. cast_member w x q (λ i a. a.out ≡ (member_at w i).out) lt refl (λ _. refl);
-      } in
+      let sh : IsShaped w w'.members w.links = member_shaped w x (published x m (member_at w x)) lt (λ q r. sym (cast_runs w x q lt) ∙ r) refl refl in
       shaped_keeps w w'.members w.links sh
       (record {
         many = length-set w.members x (published x m (member_at w x));

@@ -20,7 +20,7 @@ use Rattle.ring_world.proofs.invariants.Good.{never_rises_still}
 use Rattle.ring_world.proofs.invariants.Standing.{knows}
 use Rattle.ring_world.proofs.walks.OwnerStops.{AllPackets, IsPacket, IsRetiredRight, stop_falls}
 use Rattle.ring_world.proofs.walks.Stop.{is_not, stop_runs, stop_running, stop_retired}
-use Rattle.ring_world.proofs.invariants.Shape.{SameEnds, IsShaped}
+use Rattle.ring_world.proofs.invariants.Shape.{SameEnds, IsShaped, member_shaped}
 use Rattle.ring_world.proofs.walks.Views.{ring_more, mark_follows, mark_walk, view_old, newest_view, kept_old, left_old, IsMarked}
 use Rattle.ring_world.proofs.invariants.Marked.{linked_more, history_more, mark_ages}
 use Rattle.ring_world.proofs.invariants.Ordered.{ordered_more, mark_order}
@@ -34,13 +34,7 @@ use Rattle.ring_world.proofs.invariants.Kept.{Inv, AllPackets-map, shaped_packed
 -- ---- a stop
 
 pub stop_shape : (w : World) (x : ℕ) → x < size w → IsShaped w (stop_at w x).members w.links
-stop_shape w x lt = record {
-  many = refl;
-  ends = λ j. record { sender = refl; receiver = refl; opened = refl };
-  runs_less = λ q r. other_true (nat_eq q x) (runs w q) (sym (stop_runs w x q lt) ∙ r);
-  version = λ q. at_set (λ i m. m.version ≡ (member_at w i).version) w.members x q (stopped (member_at w x)) no_member lt refl (λ _. refl);
-  out = λ q. at_set (λ i m. m.out ≡ (member_at w i).out) w.members x q (stopped (member_at w x)) no_member lt refl (λ _. refl);
-}
+stop_shape w x lt = member_shaped w x (stopped (member_at w x)) lt (λ q r. other_true (nat_eq q x) (runs w q) (sym (stop_runs w x q lt) ∙ r)) refl refl
 
 pub stop_retires : (w : World) (x : ℕ) → x < size w → IsRetiredRight w → IsRetiredRight (stop_at w x)
 stop_retires w x lt h = record { none = λ p a b us r e i. stop_retired w x p b lt ∙ by_old p a b us (running_from w p) r refl (sym (stop_running w x p lt) ∙ e) i }
@@ -89,13 +83,7 @@ current_keeps w y c lt up k h =
     let w' : World = with_member w y m in
     let rows : (q p : ℕ) → row_at (member_at w' q) p ≡ row_at (member_at w q) p = λ q p. at_set (λ i a. row_at a p ≡ row_at (member_at w i) p) w.members y q m no_member lt refl (λ _. refl) in
     let runs_same : (q : ℕ) → runs w' q ≡ runs w q = λ q. at_set (λ i a. runs_phase a.phase ≡ runs w i) w.members y q m no_member lt refl (λ _. refl) in
-    let sh : IsShaped w w'.members w.links = record {
-      many = refl;
-      ends = λ j. record { sender = refl; receiver = refl; opened = refl };
-      runs_less = λ q r. sym (runs_same q) ∙ r;
-      version = λ q. at_set (λ i a. a.version ≡ (member_at w i).version) w.members y q m no_member lt refl (λ _. refl);
-      out = λ q. at_set (λ i a. a.out ≡ (member_at w i).out) w.members y q m no_member lt refl (λ _. refl);
-    } in
+    let sh : IsShaped w w'.members w.links = member_shaped w y m lt (λ q r. sym (runs_same q) ∙ r) refl refl in
     shaped_keeps w w'.members w.links sh
     (record {
       many = length-set w.members y m;

@@ -16,7 +16,7 @@ use Rattle.ring_world.proofs.rings.Lists.{at_set, get_or_beyond}
 use Rattle.ring_world.proofs.invariants.Good.{never_rises_still}
 use Rattle.ring_world.proofs.invariants.Standing.{knows, standing}
 use Rattle.ring_world.proofs.walks.OwnerStops.{AllPackets, IsPacket, IsRetiredRight}
-use Rattle.ring_world.proofs.invariants.Shape.{SameEnds, IsShaped}
+use Rattle.ring_world.proofs.invariants.Shape.{IsShaped, taker_shaped}
 use Rattle.ring_world.proofs.walks.Put.{runs_phase-Up, counted_not_kept, counted_other}
 use Rattle.ring_world.proofs.walks.Take.{CanTake, Standing, elsewhere, first_time, unknown, come_round, taken_packet, take_walk, take_runs, row_at-taker, take_retired_other, take_retired, head_once}
 use Rattle.ring_world.proofs.walks.Refresh.{kept_less}
@@ -51,14 +51,7 @@ can_take w y s h m =
         absurd (false≢true (sym (h.linked.period j s l (h.current.lt y s ry m.current) (is ∙ sym (h.current.receiver y s ry m.current))) ∙ kept_less w (link_at w j) (link_at w s).opened (member_at w (link_at w j).receiver).version late e))
 
 pub take_shape : (w : World) (y s : ℕ) → CanTake w y s → IsShaped w (take_from w y s).members (take_from w y s).links
-take_shape w y s c = record {
-  many = length-set w.links s (popped (link_at w s));
-  ends = λ j. at_set (λ i l. SameEnds (link_at w i) l) w.links s j (popped (link_at w s)) no_link c.is_link
-      (record { sender = refl; receiver = refl; opened = refl }) (λ _. record { sender = refl; receiver = refl; opened = refl });
-  runs_less = λ q r. sym (take_runs w y s q c.is_member) ∙ r;
-  version = λ q. at_set (λ i m. m.version ≡ (member_at w i).version) w.members y q (taker w y s) no_member c.is_member refl (λ _. refl);
-  out = λ q. at_set (λ i m. m.out ≡ (member_at w i).out) w.members y q (taker w y s) no_member c.is_member refl (λ _. refl);
-}
+take_shape w y s c = taker_shaped w y s (taker w y s) c.is_member c.is_link (λ q r. sym (take_runs w y s q c.is_member) ∙ r) refl refl
 
 pub packet_zero : (w : World) (s : ℕ) → Inv w → s < length w.links → is_empty (link_at w s).packets ≡ false → IsPacket w (link_at w s) (taken_packet w s)
 packet_zero w s h l e = AllPackets-first (IsPacket w (link_at w s)) (link_at w s).packets no_packet e (h.packed.packets s l)

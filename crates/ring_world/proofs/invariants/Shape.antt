@@ -1,12 +1,15 @@
 -- Events that change no view, no link's ends and no member's view and out link.
 use Rattle.std.proofs.Common.{◌≡◌, ℕ, ◌<◌, ◌≤◌, true, List, length, refl, sym, ap, subst, ◌∙◌, arith}
 use Rattle.ring_world.specs.View.{ids, is_live}
-use Rattle.ring_world.specs.Machine.{World, Member, Link, member_at, link_at, view_in, left, right, runs, is_kept}
+use Rattle.ring_world.specs.Machine.{World, Member, Link, no_member, no_link, member_at, link_at, view_in, left, right, runs, is_kept}
 use Rattle.group_view.specs.Ring.{is_in}
 use Rattle.ring_world.proofs.invariants.Good.{Kept, IsRing, IsLinked}
 use Rattle.ring_world.proofs.invariants.Period.{IsHistory}
 use Rattle.ring_world.proofs.walks.Views.{ring_less}
 use Rattle.ring_world.proofs.invariants.Standing.{IsOrdered}
+use Rattle.std.proofs.lemmas.List.{length-set}
+use Rattle.ring_world.specs.Step.{size, with_member, with_link, popped}
+use Rattle.ring_world.proofs.rings.Lists.{at_set}
 
 -- the ends and version of a link
 pub record SameEnds (l l' : Link) : Type 0 where
@@ -24,6 +27,30 @@ pub record IsShaped (w : World) (ms : List Member) (ls : List Link) : Type 0 whe
 
 abbrev pub shaped : World → List Member → List Link → World
 shaped w ms ls = record w { members = ms; links = ls }
+
+-- where one member changes, and has its view and its out link as before
+pub member_shaped : (w : World) (y : ℕ) (m : Member) → y < size w → ((q : ℕ) → runs (with_member w y m) q ≡ true → runs w q ≡ true) → m.version ≡ (member_at w y).version → m.out ≡ (member_at w y).out → IsShaped w (with_member w y m).members w.links
+member_shaped w y m lt runs_less version out = record {
+  many = refl;
+  ends = λ j. record { sender = refl; receiver = refl; opened = refl };
+  runs_less = runs_less;
+  version = λ q. at_set (λ i a. a.version ≡ (member_at w i).version) w.members y q m no_member lt version (λ _. refl);
+  out = λ q. at_set (λ i a. a.out ≡ (member_at w i).out) w.members y q m no_member lt out (λ _. refl);
+}
+
+-- and where it takes a packet besides
+pub taker_shaped : (w : World) (y s : ℕ) (m : Member) → y < size w → s < length w.links → ((q : ℕ) → runs (with_member w y m) q ≡ true → runs w q ≡ true) → m.version ≡ (member_at w y).version → m.out ≡ (member_at w y).out
+    → IsShaped w (with_member w y m).members (with_link w s (popped (link_at w s))).links
+taker_shaped w y s m lt there runs_less version out =
+    let sh : IsShaped w (with_member w y m).members w.links = member_shaped w y m lt runs_less version out in
+    record {
+      many = length-set w.links s (popped (link_at w s));
+      ends = λ j. at_set (λ i l. SameEnds (link_at w i) l) w.links s j (popped (link_at w s)) no_link there
+          (record { sender = refl; receiver = refl; opened = refl }) (λ _. record { sender = refl; receiver = refl; opened = refl });
+      runs_less = sh.runs_less;
+      version = sh.version;
+      out = sh.out;
+    }
 
 pub shaped_ring : (w : World) (ms : List Member) (ls : List Link) → IsShaped w ms ls → IsRing w → IsRing (shaped w ms ls)
 shaped_ring w ms ls h hr = ring_less w (shaped w ms ls) refl h.runs_less (λ q r. omega (arith, h.version q)) (λ q. omega (arith, h.version q, hr.held q)) hr

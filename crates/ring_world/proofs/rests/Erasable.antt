@@ -9,7 +9,6 @@ use Rattle.group_view.specs.Ring.{is_in, AreDistinct, first, rotated, left_in}
 use Rattle.group_view.specs.View.{is_dead, is_alias, owns, owner_of, found_is}
 use Rattle.group_view.proofs.Rings.{is_in-rotated, distinct_others}
 use Rattle.group_view.proofs.Neighbours.{IsLeft, itself, other, left_is_left}
-use Rattle.group_view.proofs.Passing.{dead_in}
 use Rattle.group_view.proofs.Arcs.{owner_is}
 use Rattle.ring_world.specs.View.{is_live, between}
 use Rattle.ring_world.specs.Machine.{Up, World, member_at, view_in, newest, ring, left, runs}
@@ -151,18 +150,3 @@ pub record IsErasable (w : World) (p : ℕ) : Type 0 where
   pub owner : ℕ
   pub runs_on : runs w owner ≡ true
   pub may : (by dead : List ℕ) → id_of w by ≡ Some owner → id_of w dead ≡ Some p → refusal w (Erase by dead) ≡ None
-
-pub calm_erases : (w : World) (y p : ℕ) → Inv w → HasCalmed w → runs w y ≡ true → p < size w → is_dead (view_in w (newest w)).entries p ≡ true → IsErasable w p
-calm_erases w y p h calm ry pl dead = record { owner = o.one; runs_on = o.runs_on; may = may }
-  where
-    ip : is_in p (ring w) ≡ true
-    ip = dead_in (view_in w (newest w)).entries p dead
-
-    o : HasOwner w h calm p
-    o = owner_there w h calm y p ry
-
-    up : (member_at w o.one).phase ≡ Up
-    up = calm.up o.one o.runs_on
-
-    may : (by d : List ℕ) → id_of w by ≡ Some o.one → id_of w d ≡ Some p → refusal w (Erase by d) ≡ None
-    may by d eb ed = rw (eb, ed, up, may_erase w h calm p pl ip o dead) refl

@@ -3,7 +3,7 @@ use Rattle.ring_world.proofs.events.Refusals.{none_there}
 use Rattle.group_view.proofs.Lists.{at_range}
 use Rattle.std.proofs.Common.{◌≡◌, ◌≢◌, ℕ, ◌<◌, Bool, true, false, not, nat_eq, nat_le, max, [], length, sum, Option, Some, None, is_some, refl, sym, ap, subst, ◌∙◌, arith}
 use Rattle.std.specs.Prelude.{◌&&◌, ◌||◌}
-use Rattle.std.proofs.lemmas.Bool.{false≢true, and_parts, not-true, false_from_ne_true}
+use Rattle.std.proofs.lemmas.Bool.{false≢true, and_parts, and_from, not-true, false_from_ne_true}
 use Rattle.std.proofs.lemmas.Bool.Decides.{nat_tests}
 use Rattle.ring_names.specs.declared.numbers.CreditSpec.{CreditSpec}
 use Rattle.ring_names.specs.declared.reason.Reason.TheVariants as reason
@@ -40,10 +40,6 @@ use Rattle.ring_world.proofs.rests.Asked.{is_refused, later_refused, takes_nothi
 some_of : {A : Type 0} (o : Option A) → o ≢ None → (a : A) × (o ≡ Some a)
 some_of None h = absurd (h refl)
 some_of (Some a) h = (a, refl)
-
--- two tests that pass
-both : (a b : Bool) → a ≡ true → b ≡ true → (a && b) ≡ true
-both a b e k = rw e k
 
 -- where the first of two fails, the second passes
 or_second : (a b : Bool) → a ≡ false → (a || b) ≡ true → b ≡ true
@@ -124,8 +120,8 @@ module _ (w : World) (h : IsReached w) (idle : NobodySteps w) where
       let late : max v l.opened ≡ v = omega (arith, good.inv.linked.opened s sl) in
       let comes : comes_from_left w y l v ≡ true = ap (comes_from_left w y l) (sym late) ∙ test in
       let passed : (nat_eq l.sender (left_neighbour w y) && nat_le (since w y) l.opened) ≡ true = ap (λ q. nat_eq l.sender q && nat_le (since w y) l.opened) (sym (left_is w v y (view_in w v) refl)) ∙ comes in
-      both (nat_eq l.receiver y) (not l.over && (nat_eq l.sender (left_neighbour w y) && nat_le (since w y) l.opened)) (ap (λ q. nat_eq q y) to ∙ nat_eq-same y)
-      (both (not l.over) (nat_eq l.sender (left_neighbour w y) && nat_le (since w y) l.opened) (ap not goes_on) passed)
+      and_from (nat_eq l.receiver y) (not l.over && (nat_eq l.sender (left_neighbour w y) && nat_le (since w y) l.opened)) (ap (λ q. nat_eq q y) to ∙ nat_eq-same y)
+      (and_from (not l.over) (nat_eq l.sender (left_neighbour w y) && nat_le (since w y) l.opened) (ap not goes_on) passed)
 
   -- the sender of a link that is kept is its receiver's left neighbour
   pub kept_from_left : (y s : ℕ) → s < length w.links → (link_at w s).receiver ≡ y → is_kept w (link_at w s) (newest w) ≡ true → left w (newest w) y ≡ (link_at w s).sender

@@ -66,21 +66,11 @@ gathered_more g packets sel opn s n before walk l e =
     ∙ append_assoc before (gathered g packets sel opn rest) (gathered g packets sel opn (s ∷ []))
     ∙ ap (λ zs. before ++ zs) (sym (gathered_head g packets sel opn s rest) ∙ sym (ap (gathered g packets sel opn) (range_first s n l)))
 
--- a link that isn't open says nothing
-pub shut : {B : Type 0} (g : B → ℕ) (packets : ℕ → List B) (sel opn : ℕ → Bool) (s : ℕ) (walk : List ℕ) → opn s ≡ false → walk ≡ walk ++ gathered g packets sel opn (s ∷ [])
-shut g packets sel opn s walk shuts = sym (ap (λ b. walk ++ map g (reverse (flat_map packets (filter sel (cond b (s ∷ []) []))))) shuts ∙ append-nil walk)
-
 -- nor one that is open, and doesn't count
 pub passed : {B : Type 0} (g : B → ℕ) (packets : ℕ → List B) (sel opn : ℕ → Bool) (s : ℕ) (walk : List ℕ) → opn s ≡ true → sel s ≡ false → walk ≡ walk ++ gathered g packets sel opn (s ∷ [])
 passed g packets sel opn s walk opens skips =
     sym (ap (λ b. walk ++ map g (reverse (flat_map packets (filter sel (cond b (s ∷ []) []))))) opens
     ∙ ap (λ b. walk ++ map g (reverse (flat_map packets (cond b (s ∷ []) [])))) skips ∙ append-nil walk)
-
--- one that counts says what its packets say
-pub counted_says : {B : Type 0} (g : B → ℕ) (packets : ℕ → List B) (sel opn : ℕ → Bool) (s : ℕ) → opn s ≡ true → sel s ≡ true → map g (reverse (packets s)) ≡ gathered g packets sel opn (s ∷ [])
-counted_says g packets sel opn s opens counts =
-    sym (ap (λ b. map g (reverse (flat_map packets (filter sel (cond b (s ∷ []) []))))) opens
-    ∙ ap (λ b. map g (reverse (flat_map packets (cond b (s ∷ []) [])))) counts ∙ ap (λ ks. map g (reverse ks)) (append-nil (packets s)))
 
 -- ---- a round
 

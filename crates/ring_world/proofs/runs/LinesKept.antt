@@ -74,6 +74,19 @@ pub record Eases (w : World) (x : ℕ) (m : Member) : Type 0 where
   pub owned : (s p : ℕ) → m.current ≡ Some s → is_owned (view_in w m.version) x (link_at w s).sender p ≡ is_owned (view_in w (member_at w x).version) x (link_at w s).sender p
   pub got : (p : ℕ) → (row_at (member_at w x) p).got ≤ (row_at m p).got
 
+-- it runs, has its view and takes as before
+eases : (w : World) (x : ℕ) (m : Member) → m.phase ≡ (member_at w x).phase → m.version ≡ (member_at w x).version → m.current ≡ (member_at w x).current → ((p : ℕ) → (row_at (member_at w x) p).got ≤ (row_at m p).got) → Eases w x m
+eases w x m phase version current got = record {
+  runs_less = λ r. sym (ap runs_phase phase) ∙ r;
+  ups = λ e. sym phase ∙ e;
+  waits = λ e. sym phase ∙ e;
+  keeps = λ s e. sym (ap (is_kept w (link_at w s)) version) ∙ e;
+  current = λ s e. sym current ∙ e;
+  stays = λ s _ e. current ∙ e;
+  owned = λ s p _. ap (λ v. is_owned (view_in w v) x (link_at w s).sender p) version;
+  got = got;
+}
+
 -- a member that changes so
 pub member_still : (w : World) (x : ℕ) (m : Member) → x < size w → Eases w x m → Still w (with_member w x m)
 member_still w x m lt k = record {
@@ -94,16 +107,8 @@ member_still w x m lt k = record {
 
 -- a publish
 pub cast_still : (w : World) (x : ℕ) (m : Message) → x < size w → Still w (publish_at w x m)
-cast_still w x m lt = member_still w x (published x m (member_at w x)) lt (record {
-  runs_less = λ r. r;
-  ups = λ e. e;
-  waits = λ e. e;
-  keeps = λ s e. e;
-  current = λ s e. e;
-  stays = λ s _ e. e;
-  owned = λ s p e. refl;
-  got = λ p. gained_rows m (λ a b. a.got ≤ b.got) x p (member_at w x) (λ r. omega arith) (omega arith);
-})
+cast_still w x m lt = member_still w x (published x m (member_at w x)) lt
+    (eases w x (published x m (member_at w x)) refl refl refl (λ p. gained_rows m (λ a b. a.got ≤ b.got) x p (member_at w x) (λ r. omega arith) (omega arith)))
 
 -- a gain of credit
 pub gain_still : (w : World) (o : ℕ) → o < length w.links → Still w (gain_on w o)
@@ -356,16 +361,8 @@ opened_lines w x z within h = record {
 
 -- its sender knows it as its out link
 pub out_still : (w : World) (x z : ℕ) → x < size w → Still (with_opened w (opened_link w x z)) (open_to w x z)
-out_still w x z lt = member_still (with_opened w (opened_link w x z)) x (record (member_at w x) { out = Some (length w.links) }) lt (record {
-  runs_less = λ r. r;
-  ups = λ e. e;
-  waits = λ e. e;
-  keeps = λ s e. e;
-  current = λ s e. e;
-  stays = λ s _ e. e;
-  owned = λ s p e. refl;
-  got = λ p. omega arith;
-})
+out_still w x z lt = let y : Member = record (member_at w x) { out = Some (length w.links) } in
+    member_still (with_opened w (opened_link w x z)) x y lt (eases (with_opened w (opened_link w x z)) x y refl refl refl (λ p. omega arith))
 
 -- both together
 open_lines : (w : World) (x z : ℕ) → x < size w → TakesWithin w → LinesRight w → LinesRight (open_to w x z)

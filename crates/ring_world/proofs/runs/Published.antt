@@ -6,20 +6,18 @@ use Rattle.std.proofs.lemmas.List.{append-nil, append_assoc, length-set, length_
 use Rattle.std.proofs.lemmas.List.Quantifiers.{position-Some}
 use Rattle.ring_names.specs.declared.message.Message.{Message}
 use Rattle.ring_names.specs.declared.message.Message.TheVariants as message
-use Rattle.ring_names.specs.declared.numbers.CreditSpec.{CreditSpec}
 use Rattle.group_view.specs.View.{Group}
-use Rattle.group_view.specs.Change.{AreOpeningNames, marked}
+use Rattle.group_view.specs.Change.{marked}
 use Rattle.ring_world.specs.View.{right_of}
 use Rattle.ring_world.specs.Machine.{Phase, Waiting, Up, Stopped, Moved, Halted, Member, Link, World, no_member, member_at, link_at, view_in, newest, oldest}
-use Rattle.ring_world.specs.Step.{size, log_of, taker, begun, with_current, finished, popped, stopped, ended, with_member, with_link, with_view, publish_at, put_on, gain_on, published, current_is, leave_link, stop_at, look_at, moved_to, opened_link, open_to, joiner, come_to, opening}
+use Rattle.ring_world.specs.Step.{size, log_of, taker, begun, with_current, finished, popped, stopped, ended, with_member, with_link, with_view, publish_at, put_on, gain_on, published, current_is, leave_link, stop_at, look_at, moved_to, opened_link, open_to, joiner, come_to}
 use Rattle.ring_world.specs.Event.{Event, Cast, Put, Take, TakeEnd, Gain, Stop, Mark, Refresh, Admit, Pick, Erase, Refuse, id_of, of_member, by_of, refused_at, refreshed, erased_view, at_found, at_door, taken_by, done_at, refusal, effect, IsRun, last}
 use Rattle.ring_world.specs.Published.{published_by, published_in}
 use Rattle.ring_world.proofs.events.Names.{same_bytes, own_bytes}
 use Rattle.ring_world.proofs.events.Leaves.{member_leaves, with_opened}
 use Rattle.ring_world.proofs.events.Composed.{end_composed, refresh_composed}
-use Rattle.ring_world.proofs.events.First.{first_log}
-use Rattle.ring_world.proofs.invariants.Happens.{IsGood, event_good, opening_good}
-use Rattle.ring_world.proofs.invariants.Named.{AreNamed, event_named, reached_named, named_found}
+use Rattle.ring_world.proofs.invariants.Happens.{IsGood, event_good}
+use Rattle.ring_world.proofs.invariants.Named.{AreNamed, event_named, named_found}
 use Rattle.ring_world.proofs.runs.OwnLogs.{cast_log, cast_log_other}
 
 -- ---- an event that publishes nothing
@@ -105,7 +103,7 @@ done_keeps w (Refuse code inner) x none = all_keep w
 -- ---- a cast
 
 -- a member that is found by its name has it
-found_name : (w : World) (name : List ℕ) (x : ℕ) → id_of w name ≡ Some x → (member_at w x).name ≡ name
+pub found_name : (w : World) (name : List ℕ) (x : ℕ) → id_of w name ≡ Some x → (member_at w x).name ≡ name
 found_name w name x h = by_place _ refl h
   where
     by_place : (o : Option ℕ) → position (λ (y : Member). bytes_eq y.name name) (drop 1 w.members) ≡ o → option_map (λ i. i + 1) o ≡ Some x → (member_at w x).name ≡ name
@@ -181,10 +179,3 @@ run_grows w (e ∷ es) x g named r some lt =
     ∙ ap (λ n. log_of (effect w e) x ++ published_in n es) step.name
     ∙ ap (λ ms. ms ++ published_in (member_at w x).name es) step.log
     ∙ append_assoc (log_of w x) (published_by (member_at w x).name e) (published_in (member_at w x).name es)
-
--- and from the opening on it is that
-pub run_publishes : (credit : CreditSpec) (names : List (List ℕ)) (es : List Event) (x : ℕ) → AreOpeningNames names → IsRun (opening credit names) es → 1 ≤ x → x < size (opening credit names)
-    → log_of (last (opening credit names) es) x ≡ published_in (member_at (opening credit names) x).name es
-run_publishes credit names es x are r some lt =
-    run_grows (opening credit names) es x (opening_good credit names are) (reached_named credit names [] are tt) r some lt
-    ∙ ap (λ ms. ms ++ published_in (member_at (opening credit names) x).name es) (first_log credit names x)

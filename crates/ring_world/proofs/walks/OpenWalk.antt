@@ -76,13 +76,6 @@ when_is : (b : Bool) (ks : List Packet) → when b ks ≡ cond b ks []
 when_is true ks = refl
 when_is false ks = refl
 
--- where there is nothing, conditions don't matter
-nothing_counts : (b c : Bool) (ks : List Packet) → ks ≡ [] → when b ks ≡ cond c ks []
-nothing_counts true true ks e = refl
-nothing_counts true false ks e = e
-nothing_counts false true ks e = sym e
-nothing_counts false false ks e = refl
-
 -- the place that is found is the current one
 pub place_is : (c : Option ℕ) (s : ℕ) → is_place c s ≡ true → c ≡ Some s
 place_is None s e = absurd (false≢true e)

@@ -71,6 +71,30 @@ not_kept kept (Some s) t e n = subst (λ q. kept q ≡ false) (nat_eq-is s t e) 
     by_test true q k = absurd (false≢true (sym k ∙ e))
     by_test false q k = q
 
+-- a link that x leaves, as it reads a view and becomes y, fails its test
+pub left_fails : (w w' : World) (x t : ℕ) (y : Member) → IsGood w' → IsLater w w' → t < length w.links → member_at w' x ≡ y
+    → y.current ≡ kept_current (λ s. is_kept_of w'.views (link_at w s).receiver (link_at w s).sender (link_at w s).opened y.version) (member_at w x).current
+    → is_current w x t ≡ true → is_place y.current t ≡ false → (link_at w t).receiver ≡ x → passes w' (link_at w t).receiver (link_at w' t) ≡ false
+left_fails w w' x t y h' k tl here reads e gone same =
+    passes_is w' l.receiver t h' (omega (arith, k.links, tl)) ends.receiver
+    ∙ ap (is_kept w' l') (ap (version_of w') same ∙ ap (λ (z : Member). z.version) here)
+    ∙ ap (λ q. is_kept_of w'.views q l'.sender l'.opened y.version) ends.receiver
+    ∙ ap (λ q. is_kept_of w'.views l.receiver q l'.opened y.version) ends.sender
+    ∙ ap (λ q. is_kept_of w'.views l.receiver l.sender q y.version) ends.opened
+    ∙ not_kept kept (member_at w x).current t e (sym (ap (λ c. is_place c t) reads) ∙ gone)
+  where
+    l : Link
+    l = link_at w t
+
+    l' : Link
+    l' = link_at w' t
+
+    ends : SameEnds l l'
+    ends = k.ends t tl
+
+    kept : ℕ → Bool
+    kept s = is_kept_of w'.views (link_at w s).receiver (link_at w s).sender (link_at w s).opened y.version
+
 -- ---- an event by which x becomes y
 
 module _ (w w' : World) (x t : ℕ) (y : Member) (h : IsGood w) (h' : IsGood w') (k : IsLater w w') (m : IsWritten w w' x y) (tl : t < length w.links) where
@@ -120,18 +144,8 @@ module _ (w w' : World) (x t : ℕ) (y : Member) (h : IsGood w) (h' : IsGood w')
   place_looked : y.current ≡ kept_current (λ s. is_kept_of w'.views (link_at w s).receiver (link_at w s).sender (link_at w s).opened y.version) (member_at w x).current → place_at w' t ≤ place_at w t
   place_looked current =
       place_written (λ e. kept_was kept (member_at w x).current t (sym (ap (λ c. is_place c t) current) ∙ e))
-      (λ e n same.
-      let ends : SameEnds l (link_at w' t) = k.ends t tl in
-      passes_is w' l.receiver t h' (omega (arith, k.links)) ends.receiver
-      ∙ ap (is_kept w' (link_at w' t)) (ap (version_of w') same ∙ ap (λ (z : Member). z.version) m.here)
-      ∙ ap (λ q. is_kept_of w'.views q (link_at w' t).sender (link_at w' t).opened y.version) ends.receiver
-      ∙ ap (λ q. is_kept_of w'.views l.receiver q (link_at w' t).opened y.version) ends.sender
-      ∙ ap (λ q. is_kept_of w'.views l.receiver l.sender q y.version) ends.opened
-      ∙ not_kept kept (member_at w x).current t e (sym (ap (λ c. is_place c t) current) ∙ n))
+      (left_fails w w' x t y h' k tl m.here current)
     where
-      l : Link
-      l = link_at w t
-
       kept : ℕ → Bool
       kept s = is_kept_of w'.views (link_at w s).receiver (link_at w s).sender (link_at w s).opened y.version
 

@@ -1,5 +1,4 @@
-use Rattle.std.proofs.Common.{◌≡◌, ◌<◌, ◌≤◌, true, false, not, length, take, sym, ap, subst, refl, ◌∙◌, arith, ◌∷◌, []}
-use Rattle.std.specs.List.{list_all}
+use Rattle.std.proofs.Common.{◌≡◌, ◌<◌, ◌≤◌, false, not, length, take, sym, ap, refl, ◌∙◌, arith, ◌∷◌, []}
 use Rattle.std.proofs.lemmas.List.{length-map, take_all}
 use Rattle.std.proofs.lemmas.List.Folds.{list_all-append}
 use Rattle.activity.specs.Diff.{tells_new}

@@ -1,4 +1,4 @@
-use Rattle.std.proofs.Common.{◌≡◌, true, bytes_eq, sym, ap, ◌∙◌}
+use Rattle.std.proofs.Common.{◌≡◌, bytes_eq, sym, ap, ◌∙◌}
 use Rattle.std.specs.List.{position}
 use Rattle.ring_cluster.specs.Agendas.{Plan}
 use Rattle.ring_cluster.proofs.lists.Plans.{taken_back, given_found, set_left}

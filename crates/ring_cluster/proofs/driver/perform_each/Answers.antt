@@ -1,4 +1,4 @@
-use Rattle.std.proofs.Common.{rules, ◌+◌, sym, subst, arith}
+use Rattle.std.proofs.Common.{◌+◌, sym, subst, arith}
 use Rattle.ring_cluster.specs.Turns.{IsMemberAt}
 use Rattle.ring_cluster.proofs.rounds.Doing.{performed_less}
 use Rattle.ring_cluster.proofs.rounds.Turning.{FinishedBelow, finished_none, finished_more, performed_or, rests_named, place_still}

@@ -1,4 +1,4 @@
-use Rattle.std.proofs.Common.{◌<◌, ◌-◌, length, get_or, sym, ap, arith}
+use Rattle.std.proofs.Common.{◌<◌, ◌-◌, length, arith}
 use Rattle.ring_cluster.specs.Parties.{out_seen}
 use Rattle.ring_cluster.proofs.meetings.Meets.{member_met, member_stays}
 use Rattle.ring_cluster.proofs.standing.Nodes.{written_shown}

@@ -1,4 +1,4 @@
-use Rattle.std.proofs.Common.{◌≡◌, ◌++◌, ◌∙◌, sym, ap, subst}
+use Rattle.std.proofs.Common.{◌≡◌, ◌++◌, ◌∙◌, ap, subst}
 use Rattle.ring_cluster.specs.Seen.{state_of, opening_seen}
 use Rattle.ringplay.specs.Step.{enabled_of, refused_lines, HasStepped}
 use Rattle.ringplay.proofs.Stepping.{stepped_all}

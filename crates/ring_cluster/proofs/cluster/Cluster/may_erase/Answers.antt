@@ -1,8 +1,5 @@
-use Rattle.std.proofs.Common.{◌≡◌, ◌+◌, ◌<◌, List, ℕ, Option, length, refl, ap, subst, arith}
-use Rattle.ring_names.specs.declared.reason.Reason.{Reason}
+use Rattle.std.proofs.Common.{List, ℕ, ap, subst, arith}
 use Rattle.ring_world.specs.declared.event.Event.TheVariants.{Erase}
-use Rattle.ring_world.specs.Machine.{member_at}
-use Rattle.ring_world.specs.Event.{refusal}
 use Rattle.ring_world.specs.Step.{size}
 use Rattle.ring_cluster.specs.Seen.{Seen, state_of}
 use Rattle.ring_cluster.specs.Standing.{StandAfter}

@@ -1,4 +1,4 @@
-use Rattle.std.proofs.Common.{◌≡◌, List, ℕ, length, ap, subst, arith}
+use Rattle.std.proofs.Common.{List, ℕ, ap, subst, arith}
 use Rattle.ring_world.specs.declared.event.Event.TheVariants.{Mark}
 use Rattle.ring_world.specs.Step.{size}
 use Rattle.ring_cluster.specs.Seen.{Seen, state_of}

@@ -6,10 +6,11 @@ use Rattle.registrar.specs.Asked.{erase_refusal}
 use Rattle.activity.specs.Kept.{got_of}
 use Rattle.gm_member.specs.Parcels.{known_at}
 use Rattle.gm_member.specs.Held.{up_refused}
+use Rattle.gm_member.proofs.DoorParts.{up_past}
 use Rattle.ring_cluster.specs.Behind.{behind}
 use Rattle.ring_cluster.specs.Parties.{PartiesSeen, Shown, node_at}
 use Rattle.ring_cluster.specs.Refused.{id_named}
-use Rattle.ring_cluster.proofs.events.Reads.{up_first, up_then, erase_reads, erase_reads_unknown}
+use Rattle.ring_cluster.proofs.events.Reads.{up_first, erase_reads, erase_reads_unknown}
 use Rattle.ring_cluster.proofs.post.Delivered.{shown_is, asks_nothing}
 use Rattle.ring_cluster.proofs.parties.Parties.erase_refusal.Goals as goal
 
@@ -53,5 +54,5 @@ returns c = λ by credit names events s at.
     ∙ ap (λ n. erase_refusal r h.id p n c.numbers_of-kept.result.retired c.behind-node.inside.version) (c.numbers_of-kept.ensures.got ∙ ap (λ (m : Shown). got_of (known_at m.held.known (p - 1))) shown)
     ∙ ap (λ n. erase_refusal r h.id p (got_of (known_at h.known (p - 1))) n c.behind-node.inside.version) (c.numbers_of-kept.ensures.retired ∙ ap (λ (m : Shown). (known_at m.held.known (p - 1)).retired) shown)
     ∙ ap (erase_refusal r h.id p (got_of (known_at h.known (p - 1))) (known_at h.known (p - 1)).retired) version
-    ∙ sym (up_then h (erase_refusal r h.id p (got_of (known_at h.known (p - 1))) (known_at h.known (p - 1)).retired h.view.version) up)
+    ∙ sym (up_past h (erase_refusal r h.id p (got_of (known_at h.known (p - 1))) (known_at h.known (p - 1)).retired h.view.version) up)
     ∙ erase_reads credit names events q s c.args.i c.self.inside.members.items r (behind c.self.inside.late) (sym (ap (λ (x : PartiesSeen). x.all) c.self.view_is)) by c.args.origin.now p at named

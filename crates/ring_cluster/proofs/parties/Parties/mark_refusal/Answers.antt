@@ -5,10 +5,11 @@ use Rattle.group_view.specs.View.{number}
 use Rattle.registrar.specs.Asked.{mark_refusal}
 use Rattle.gm_member.specs.Held.{up_refused}
 use Rattle.gm_member.specs.Questions.{has_link}
+use Rattle.gm_member.proofs.DoorParts.{up_past}
 use Rattle.ring_cluster.specs.Behind.{behind}
 use Rattle.ring_cluster.specs.Parties.{PartiesSeen, Shown, node_at}
 use Rattle.ring_cluster.specs.Refused.{id_named, with_post}
-use Rattle.ring_cluster.proofs.events.Reads.{up_first, up_then, mark_reads, mark_reads_unknown}
+use Rattle.ring_cluster.proofs.events.Reads.{up_first, mark_reads, mark_reads_unknown}
 use Rattle.ring_cluster.proofs.post.Delivered.{shown_is, asks_nothing}
 use Rattle.ring_cluster.proofs.parties.Parties.mark_refusal.Goals as goal
 
@@ -49,5 +50,5 @@ returns c = λ by credit names events s at.
     ∙ ap (λ x. mark_refusal r x c.in-Some.id.0 c.behind-node.inside.version c.has_link.result) id
     ∙ ap (λ v. mark_refusal r h.id c.in-Some.id.0 v c.has_link.result) version
     ∙ ap (mark_refusal r h.id c.in-Some.id.0 h.view.version) c.has_link.ensures
-    ∙ sym (up_then h (mark_refusal r h.id c.in-Some.id.0 h.view.version (has_link (with_post h q.post))) up)
+    ∙ sym (up_past h (mark_refusal r h.id c.in-Some.id.0 h.view.version (has_link (with_post h q.post))) up)
     ∙ mark_reads credit names events q s c.args.i c.self.inside.members.items r (behind c.self.inside.late) (sym (ap (λ (x : PartiesSeen). x.all) c.self.view_is)) by c.args.dead.now c.in-Some.id.0 at named

@@ -1,9 +1,9 @@
-use Rattle.std.proofs.Common.{◌≡◌, true, None, get_or, set, refl, sym, ap, subst, ◌∙◌}
+use Rattle.std.proofs.Common.{◌≡◌, true, None, get_or, set, sym, ap, subst, ◌∙◌}
 use Rattle.ring_world.specs.Machine.{runs_phase}
 use Rattle.ring_cluster.specs.Behind.{behind}
-use Rattle.ring_cluster.specs.Parties.{PartiesSeen, out_seen, parties, shown_in, with_out}
+use Rattle.ring_cluster.specs.Parties.{out_seen, parties, shown_in, with_out}
 use Rattle.ring_cluster.specs.Meeting.{MayMeetOut, MeetsIn, MeetsOut}
-use Rattle.ring_cluster.proofs.meetings.MeetsOut.{has_lent, out_may, out_away, out_sends, met_ended, out_met, out_none, still_inside}
+use Rattle.ring_cluster.proofs.meetings.MeetsOut.{has_lent, out_may, out_away, out_sends, met_ended, out_met, out_none}
 use Rattle.ring_cluster.proofs.post.Delivered.{inside}
 use Rattle.ring_cluster.proofs.parties.Parties.meet_out.Goals as goal
 

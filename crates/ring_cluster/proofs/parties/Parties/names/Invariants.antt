@@ -1,5 +1,5 @@
 use Rattle.std.proofs.Common.{◌≡◌, take, map}
-use Rattle.ring_cluster.specs.Parties.{Shown, shown_in}
+use Rattle.ring_cluster.specs.Parties.{shown_in}
 use Rattle.ring_cluster.proofs.parties.Parties.names.Given as goal
 
 abbrev pub invariant-loop-party : goal.invariant-loop-party
