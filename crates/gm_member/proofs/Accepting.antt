@@ -9,7 +9,7 @@ use Rattle.activity.specs.Told.{Told, ToldRow, none_told, sent_of, KeepsSent}
 use Rattle.activity.specs.Parcels.{Carried, line_of, noted}
 use Rattle.activity.specs.Diff.{next_line, IsNotAbove}
 use Rattle.activity.specs.Plan.{accepted, begun, change_of, changes_of}
-use Rattle.ring_world.proofs.rings.Rounds.{nat_eq-same, nat_eq-not}
+use Rattle.ring_rules.proofs.rings.Rounds.{nat_eq-same, nat_eq-not}
 use Rattle.gm_member.specs.Parcels.{places, known_at, told_at, line_at, told_now, emptied}
 use Rattle.gm_member.specs.Held.{all_told, all_accepted, all_begun}
 use Rattle.gm_member.proofs.Noting.{noted_now, noted_emptied}

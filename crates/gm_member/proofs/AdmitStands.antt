@@ -1,19 +1,19 @@
 -- The state with the one that a member admits, before the member looks at the new view.
 use Rattle.std.proofs.Common.{◌≡◌, ℕ, ◌+◌, ◌<◌, ◌≤◌, true, List, [], ◌∷◌, length, max, Some, None, refl, sym, ap, subst, ◌∙◌, arith}
 use Rattle.std.proofs.lemmas.List.{length_push, get_or_append_left}
-use Rattle.ring_world.specs.declared.event.Event.{Event}
-use Rattle.ring_world.specs.declared.event.Event.TheVariants.{Admit}
-use Rattle.ring_world.specs.View.{right_of}
-use Rattle.ring_world.specs.Machine.{Link, Member, World, no_link, row_at, member_at, link_at, view_in, newest, runs, runs_phase, is_kept}
-use Rattle.ring_world.specs.OpenLinks.{comes_from_left}
-use Rattle.ring_world.specs.Step.{size, log_of, with_view, look_at, opened_link, joiner, admitted_view, come_to}
-use Rattle.ring_world.specs.Event.{admit_refusal, refusal}
-use Rattle.ring_world.proofs.events.Enabled.{up_none}
-use Rattle.ring_world.proofs.events.Leaves.{come_member}
-use Rattle.ring_world.proofs.rings.Rounds.{nat_eq-is}
-use Rattle.ring_world.proofs.invariants.KeptAdmit.{CanJoin, joined_state}
-use Rattle.ring_world.proofs.invariants.Happens.{IsGood, can_join, join_good, joined_links, right_in_come}
-pub use Rattle.ring_world.proofs.runs.OwnLogs.{come_log}
+use Rattle.ring_rules.specs.declared.event.Event.{Event}
+use Rattle.ring_rules.specs.declared.event.Event.TheVariants.{Admit}
+use Rattle.ring_rules.specs.View.{right_of}
+use Rattle.ring_rules.specs.Machine.{Link, Member, World, no_link, row_at, member_at, link_at, view_in, newest, runs, runs_phase, is_kept}
+use Rattle.ring_rules.specs.OpenLinks.{comes_from_left}
+use Rattle.ring_rules.specs.Step.{size, log_of, with_view, look_at, opened_link, joiner, admitted_view, come_to}
+use Rattle.ring_rules.specs.Event.{admit_refusal, refusal}
+use Rattle.ring_rules.proofs.events.Enabled.{up_none}
+use Rattle.ring_rules.proofs.events.Leaves.{come_member}
+use Rattle.ring_rules.proofs.rings.Rounds.{nat_eq-is}
+use Rattle.ring_rules.proofs.invariants.KeptAdmit.{CanJoin, joined_state}
+use Rattle.ring_rules.proofs.invariants.Happens.{IsGood, can_join, join_good, joined_links, right_in_come}
+pub use Rattle.ring_rules.proofs.runs.OwnLogs.{come_log}
 use Rattle.gm_member.specs.Held.{Held, stays}
 use Rattle.gm_member.specs.Stands.{held_in}
 use Rattle.gm_member.proofs.Fit.{IsFit}

@@ -8,19 +8,19 @@ use Rattle.ring_names.specs.declared.reason.Reason.TheVariants as reason
 use Rattle.group_view.specs.View.{Group}
 use Rattle.group_view.specs.declared.request.Answer.{Answer}
 use Rattle.group_view.specs.declared.request.Answer.TheVariants.{Viewed, Admitted}
-use Rattle.ring_world.specs.declared.phase.Phase.{Phase}
-use Rattle.ring_world.specs.declared.phase.Phase.TheVariants.{Waiting, Up, Stopped}
-use Rattle.ring_world.specs.declared.event.Event.{Event}
-use Rattle.ring_world.specs.declared.event.Event.TheVariants as event
-use Rattle.ring_world.specs.Refusal.{or_else, refuse_if}
-use Rattle.ring_world.specs.Machine.{World, member_at, view_in, newest, is_waiting}
-use Rattle.ring_world.specs.View.{right_of}
-use Rattle.ring_world.specs.Step.{size, opening, with_view, admitted_view, come_to}
-use Rattle.ring_world.specs.Event.{is_stopped, id_of, erased_view, refreshed, refusal, effect, last}
-use Rattle.ring_world.proofs.events.WhatRefuses.{MayMark, MayErase}
-use Rattle.ring_world.proofs.rings.Rounds.{nat_eq-not}
-use Rattle.ring_world.proofs.invariants.KeptAdmit.{CanJoin, right_of_m}
-use Rattle.ring_world.proofs.invariants.Happens.{IsGood, mark_good, erase_good, newer_look}
+use Rattle.ring_rules.specs.declared.phase.Phase.{Phase}
+use Rattle.ring_rules.specs.declared.phase.Phase.TheVariants.{Waiting, Up, Stopped}
+use Rattle.ring_rules.specs.declared.event.Event.{Event}
+use Rattle.ring_rules.specs.declared.event.Event.TheVariants as event
+use Rattle.ring_rules.specs.Refusal.{or_else, refuse_if}
+use Rattle.ring_rules.specs.Machine.{World, member_at, view_in, newest, is_waiting}
+use Rattle.ring_rules.specs.View.{right_of}
+use Rattle.ring_rules.specs.Step.{size, opening, with_view, admitted_view, come_to}
+use Rattle.ring_rules.specs.Event.{is_stopped, id_of, erased_view, refreshed, refusal, effect, last}
+use Rattle.ring_rules.proofs.events.WhatRefuses.{MayMark, MayErase}
+use Rattle.ring_rules.proofs.rings.Rounds.{nat_eq-not}
+use Rattle.ring_rules.proofs.invariants.KeptAdmit.{CanJoin, right_of_m}
+use Rattle.ring_rules.proofs.invariants.Happens.{IsGood, mark_good, erase_good, newer_look}
 use Rattle.gm_member.specs.View.{is_up_where}
 use Rattle.gm_member.specs.Held.{Held, Incoming, fresh_in, sends_to, answered_held, refresh_refused, refreshed_held}
 use Rattle.gm_member.specs.Stands.{held_in, WhereItStands, Stands, StepsTo, IsMarkedView, IsErasedView, IsAdmittedView, with_own_link}

@@ -4,19 +4,19 @@ use Rattle.std.specs.Prelude.{option_map}
 use Rattle.std.proofs.lemmas.Bool.{cases_lt, false≢true}
 use Rattle.group_view.proofs.Rings.{nat_eq-is}
 use Rattle.ring_names.specs.declared.reason.Reason.TheVariants as reason
-use Rattle.ring_world.specs.declared.event.Event.TheVariants as event
-use Rattle.ring_world.specs.declared.phase.Phase.{Phase}
-use Rattle.ring_world.specs.declared.phase.Phase.TheVariants.{Waiting, Up}
-use Rattle.ring_world.specs.Rows.{lo_of}
-use Rattle.ring_world.specs.Refusal.{refuse_if, or_else, is_empty}
-use Rattle.ring_world.specs.Machine.{World, Packet, Member, no_packet, row_at, numbers_at, member_at, link_at, is_waiting, oldest}
-use Rattle.ring_world.specs.Step.{size, log_of, begun as begun_in, begun_row, begin_from}
-use Rattle.ring_world.specs.Event.{on_link, is_stopped, take_refusal, refusal, effect, at_found, taken_by}
-use Rattle.ring_world.specs.Lawful.{row_of}
-use Rattle.ring_world.specs.Compact.{has_line, line_in, IsInTurn}
-use Rattle.ring_world.proofs.events.Refusals.{not_false}
-use Rattle.ring_world.proofs.invariants.KeptBegin.{begin_row, begin_none}
-use Rattle.ring_world.proofs.runs.Apart.{first_packet_below}
+use Rattle.ring_rules.specs.declared.event.Event.TheVariants as event
+use Rattle.ring_rules.specs.declared.phase.Phase.{Phase}
+use Rattle.ring_rules.specs.declared.phase.Phase.TheVariants.{Waiting, Up}
+use Rattle.ring_rules.specs.Rows.{lo_of}
+use Rattle.ring_rules.specs.Refusal.{refuse_if, or_else, is_empty}
+use Rattle.ring_rules.specs.Machine.{World, Packet, Member, no_packet, row_at, numbers_at, member_at, link_at, is_waiting, oldest}
+use Rattle.ring_rules.specs.Step.{size, log_of, begun as begun_in, begun_row, begin_from}
+use Rattle.ring_rules.specs.Event.{on_link, is_stopped, take_refusal, refusal, effect, at_found, taken_by}
+use Rattle.ring_rules.specs.Lawful.{row_of}
+use Rattle.ring_rules.specs.Compact.{has_line, line_in, IsInTurn}
+use Rattle.ring_rules.proofs.events.Refusals.{not_false}
+use Rattle.ring_rules.proofs.invariants.KeptBegin.{begin_row, begin_none}
+use Rattle.ring_rules.proofs.runs.Apart.{first_packet_below}
 use Rattle.activity.specs.Parcels.{Carried}
 use Rattle.activity.specs.Plan.{begun}
 use Rattle.gm_member.specs.Parcels.{places, ByOrigin, line_at}

@@ -1,6 +1,6 @@
 -- What a member has that begins with its first packet: it sent on no link.
 use Rattle.std.proofs.Common.{◌≡◌, Bool, true, false, List, Option, Some, None, refl, sym, subst}
-use Rattle.ring_world.specs.declared.phase.Phase.TheVariants.{Up}
+use Rattle.ring_rules.specs.declared.phase.Phase.TheVariants.{Up}
 use Rattle.activity.specs.Kept.{KeptRow}
 use Rattle.gm_member.specs.declared.links.OutLink.{OutLink}
 use Rattle.gm_member.specs.View.{count_of, told_on, has_ended, is_up_where}

@@ -6,10 +6,10 @@ use Rattle.ring_names.specs.declared.reason.Reason.{Reason}
 use Rattle.ring_names.specs.declared.reason.Reason.TheVariants.{Stopped, Waiting, AwaitingAnswer, NoOutLink, NoCredit, NothingNew}
 use Rattle.credit_flow.specs.Credit.{is_blocked}
 use Rattle.activity.specs.Kept.{Kept}
-use Rattle.ring_world.specs.Refusal.{or_else, refuse_if}
-use Rattle.ring_world.specs.Machine.{is_waiting}
-use Rattle.ring_world.specs.Event.{is_stopped}
-use Rattle.ring_world.proofs.events.Refusals.{none_of}
+use Rattle.ring_rules.specs.Refusal.{or_else, refuse_if}
+use Rattle.ring_rules.specs.Machine.{is_waiting}
+use Rattle.ring_rules.specs.Event.{is_stopped}
+use Rattle.ring_rules.proofs.events.Refusals.{none_of}
 use Rattle.gm_member.specs.Held.{Held, Outgoing, up_refused, on_some, put_refused, out_refused, has_nothing_new}
 use Rattle.gm_member.proofs.DoorParts.{up_refused_none}
 

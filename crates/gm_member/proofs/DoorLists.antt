@@ -7,8 +7,8 @@ use Rattle.std.proofs.lemmas.List.Quantifiers.{position-Some}
 use Rattle.std.proofs.lemmas.List.FromFn.{fill_by_all, get_or-range_with_len, length-range_with_len}
 use Rattle.std.proofs.Math.Bool.{and-true}
 use Rattle.group_view.specs.Ring.{is_in}
-use Rattle.ring_world.proofs.rings.Maps.{position_map}
-use Rattle.ring_world.proofs.rings.Rounds.{nat_eq-same, nat_eq-not}
+use Rattle.ring_rules.proofs.rings.Maps.{position_map}
+use Rattle.ring_rules.proofs.rings.Rounds.{nat_eq-same, nat_eq-not}
 use Rattle.gm_member.specs.Held.{without}
 
 -- ---- tests

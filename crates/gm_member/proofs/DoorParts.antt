@@ -4,13 +4,13 @@ use Rattle.std.specs.Prelude.{◌&&◌}
 use Rattle.std.proofs.lemmas.List.{get_or-set_same, get_or-set_other, map-append, take-map, drop-map}
 use Rattle.ring_names.specs.declared.reason.Reason.{Reason}
 use Rattle.ring_names.specs.declared.reason.Reason.TheVariants as reason
-use Rattle.ring_world.specs.Refusal.{refuse_if, or_else}
-use Rattle.ring_world.specs.declared.phase.Phase.TheVariants.{Up}
-use Rattle.ring_world.specs.Machine.{World, Member, no_member, member_at, link_at, is_waiting}
-use Rattle.ring_world.specs.OpenLinks.{comes_from_left, is_place}
-use Rattle.ring_world.specs.Step.{size, with_member}
-use Rattle.ring_world.specs.Event.{is_stopped}
-use Rattle.ring_world.proofs.events.Refusals.{none_of, up_from}
+use Rattle.ring_rules.specs.Refusal.{refuse_if, or_else}
+use Rattle.ring_rules.specs.declared.phase.Phase.TheVariants.{Up}
+use Rattle.ring_rules.specs.Machine.{World, Member, no_member, member_at, link_at, is_waiting}
+use Rattle.ring_rules.specs.OpenLinks.{comes_from_left, is_place}
+use Rattle.ring_rules.specs.Step.{size, with_member}
+use Rattle.ring_rules.specs.Event.{is_stopped}
+use Rattle.ring_rules.proofs.events.Refusals.{none_of, up_from}
 use Rattle.gm_member.specs.Held.{Held, up_refused, without}
 
 -- whether a link waits for x, by where x takes from and the version of its view

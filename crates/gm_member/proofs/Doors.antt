@@ -3,13 +3,13 @@ use Rattle.std.proofs.Common.{◌≡◌, ℕ, ◌<◌, ◌≤◌, Bool, true, fa
 use Rattle.std.specs.Prelude.{◌&&◌, ◌||◌}
 use Rattle.std.proofs.lemmas.Bool.{and_parts, false≢true, lt-ltb, le-ltb, cases_lt}
 use Rattle.group_view.specs.View.{Group}
-use Rattle.ring_world.specs.View.{left_by}
-use Rattle.ring_world.specs.Machine.{Link, World, link_at, view_in, newest, is_kept}
-use Rattle.ring_world.specs.OpenLinks.{version_of, comes_from_left, passes, is_current, is_door_link}
-use Rattle.ring_world.specs.Event.{is_at_door}
-use Rattle.ring_world.proofs.rings.Rounds.{nat_eq-is}
-use Rattle.ring_world.proofs.invariants.Good.{kept_true}
-use Rattle.ring_world.proofs.invariants.FromLeft.{IsGood, OpenedRight, opened_right, comes_is}
+use Rattle.ring_rules.specs.View.{left_by}
+use Rattle.ring_rules.specs.Machine.{Link, World, link_at, view_in, newest, is_kept}
+use Rattle.ring_rules.specs.OpenLinks.{version_of, comes_from_left, passes, is_current, is_door_link}
+use Rattle.ring_rules.specs.Event.{is_at_door}
+use Rattle.ring_rules.proofs.rings.Rounds.{nat_eq-is}
+use Rattle.ring_rules.proofs.invariants.Good.{kept_true}
+use Rattle.ring_rules.proofs.invariants.FromLeft.{IsGood, OpenedRight, opened_right, comes_is}
 use Rattle.gm_member.specs.Held.{Incoming, is_for, stays}
 use Rattle.gm_member.specs.Stands.{incoming_in, waits_for}
 use Rattle.gm_member.proofs.Facts.{version_of_view}

@@ -4,10 +4,10 @@ use Rattle.std.specs.Prelude.{◌&&◌, slice_index_or}
 use Rattle.std.proofs.lemmas.List.{length-set, get_or-set_same, get_or-set_other}
 use Rattle.group_view.specs.Since.{no_group}
 use Rattle.group_view.specs.View.{Group, entry_in}
-use Rattle.ring_world.specs.View.{left_by}
-use Rattle.ring_world.specs.Machine.{World, Member, Link, no_link, no_member, member_at, link_at}
-use Rattle.ring_world.specs.Step.{size, with_current, current_is, finished, leave_link}
-use Rattle.ring_world.proofs.rings.Rounds.{nat_eq-not}
+use Rattle.ring_rules.specs.View.{left_by}
+use Rattle.ring_rules.specs.Machine.{World, Member, Link, no_link, no_member, member_at, link_at}
+use Rattle.ring_rules.specs.Step.{size, with_current, current_is, finished, leave_link}
+use Rattle.ring_rules.proofs.rings.Rounds.{nat_eq-not}
 use Rattle.gm_member.specs.Held.{Held, ended_held}
 use Rattle.gm_member.specs.Stands.{held_in, outgoing_in}
 use Rattle.gm_member.proofs.Fit.{IsFit}

@@ -3,16 +3,16 @@ use Rattle.std.proofs.Common.{◌≡◌, ◌≢◌, ⊎_elim, ℕ, zero, suc, �
 use Rattle.std.proofs.lemmas.Bool.{false≢true, cases_lt, cases_eq}
 use Rattle.std.proofs.lemmas.List.{get_or_past}
 use Rattle.group_view.specs.Since.{no_group}
-use Rattle.ring_world.specs.declared.event.Event.{Event}
-use Rattle.ring_world.specs.declared.numbers.Numbers.{Numbers}
-use Rattle.ring_world.specs.Rows.{no_row, no_numbers, lo_of, next_numbers}
-use Rattle.ring_world.specs.Refusal.{is_empty}
-use Rattle.ring_world.specs.Machine.{World, Packet, Member, Sending, no_packet, no_member, row_at, numbers_at, member_at, link_at, view_in, newest, runs, oldest}
-use Rattle.ring_world.specs.Step.{size, log_of, next_packet}
-use Rattle.ring_world.specs.Event.{id_of, by_of, of_member, at_found, refused_at, done_at, refusal, effect}
-use Rattle.ring_world.specs.Lawful.{row_of, NumbersAreWithin, PacketsAreWithin}
-use Rattle.ring_world.proofs.invariants.Happens.{HasViews}
-use Rattle.ring_world.proofs.walks.Packets.{reads_got, reads_forgot, line_of_packet}
+use Rattle.ring_rules.specs.declared.event.Event.{Event}
+use Rattle.ring_rules.specs.declared.numbers.Numbers.{Numbers}
+use Rattle.ring_rules.specs.Rows.{no_row, no_numbers, lo_of, next_numbers}
+use Rattle.ring_rules.specs.Refusal.{is_empty}
+use Rattle.ring_rules.specs.Machine.{World, Packet, Member, Sending, no_packet, no_member, row_at, numbers_at, member_at, link_at, view_in, newest, runs, oldest}
+use Rattle.ring_rules.specs.Step.{size, log_of, next_packet}
+use Rattle.ring_rules.specs.Event.{id_of, by_of, of_member, at_found, refused_at, done_at, refusal, effect}
+use Rattle.ring_rules.specs.Lawful.{row_of, NumbersAreWithin, PacketsAreWithin}
+use Rattle.ring_rules.proofs.invariants.Happens.{HasViews}
+use Rattle.ring_rules.proofs.walks.Packets.{reads_got, reads_forgot, line_of_packet}
 use Rattle.activity.specs.Kept.{no_kept, got_of}
 use Rattle.activity.specs.Told.{none_told}
 use Rattle.gm_member.specs.Parcels.{places, known_at, told_at}

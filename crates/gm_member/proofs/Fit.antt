@@ -2,20 +2,20 @@
 use Rattle.std.proofs.Common.{◌≡◌, ℕ, ◌≤◌, List, [], sym, subst}
 use Rattle.ring_names.specs.declared.numbers.CreditSpec.{CreditSpec}
 use Rattle.group_view.specs.Change.{AreOpeningNames}
-use Rattle.ring_world.specs.declared.event.Event.{Event}
-use Rattle.ring_world.specs.Machine.{World}
-use Rattle.ring_world.specs.Step.{size, log_of, opening}
-use Rattle.ring_world.specs.Event.{IsRun, last}
-use Rattle.ring_world.specs.Laws.{IsLawful}
-use Rattle.ring_world.proofs.invariants.Happens.{IsGood}
-use Rattle.ring_world.proofs.walks.Ended.{EndsRight}
-use Rattle.ring_world.proofs.runs.AllRuns.{every_state_lawful}
-use Rattle.ring_world.proofs.runs.Lines.{LinesRight}
-use Rattle.ring_world.proofs.runs.LinkCredit.{run_credited}
-use Rattle.ring_world.proofs.runs.NoGap.{reached_lines}
-use Rattle.ring_world.proofs.runs.OwnLogs.{IsLogged, run_logged, HasOwnLogs}
-use Rattle.ring_world.proofs.work.OwnEnds.{OwnEnds}
-use Rattle.ring_world.proofs.work.Fit as ring
+use Rattle.ring_rules.specs.declared.event.Event.{Event}
+use Rattle.ring_rules.specs.Machine.{World}
+use Rattle.ring_rules.specs.Step.{size, log_of, opening}
+use Rattle.ring_rules.specs.Event.{IsRun, last}
+use Rattle.ring_rules.specs.Laws.{IsLawful}
+use Rattle.ring_rules.proofs.invariants.Happens.{IsGood}
+use Rattle.ring_rules.proofs.walks.Ended.{EndsRight}
+use Rattle.ring_rules.proofs.runs.AllRuns.{every_state_lawful}
+use Rattle.ring_rules.proofs.runs.Lines.{LinesRight}
+use Rattle.ring_rules.proofs.runs.LinkCredit.{run_credited}
+use Rattle.ring_rules.proofs.runs.NoGap.{reached_lines}
+use Rattle.ring_rules.proofs.runs.OwnLogs.{IsLogged, run_logged, HasOwnLogs}
+use Rattle.ring_rules.proofs.work.OwnEnds.{OwnEnds}
+use Rattle.ring_rules.proofs.work.Fit as ring
 use Rattle.gm_member.proofs.Ordered.{AreOrdered, reached_ordered}
 use Rattle.gm_member.proofs.Rows.{AllRowsFit, reached_rows}
 

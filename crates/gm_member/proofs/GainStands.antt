@@ -4,10 +4,10 @@ use Rattle.std.specs.Prelude.{option_map}
 use Rattle.std.proofs.lemmas.List.{length-set, get_or-set_same}
 use Rattle.ring_names.specs.declared.reason.Reason.TheVariants as reason
 use Rattle.credit_flow.specs.Link.{oldest as oldest_grant}
-use Rattle.ring_world.specs.Rows.{regained}
-use Rattle.ring_world.specs.Machine.{World, Link, no_link, member_at, link_at}
-use Rattle.ring_world.specs.Step.{gain_on}
-use Rattle.ring_world.specs.Event.{on_link, up_refusal}
+use Rattle.ring_rules.specs.Rows.{regained}
+use Rattle.ring_rules.specs.Machine.{World, Link, no_link, member_at, link_at}
+use Rattle.ring_rules.specs.Step.{gain_on}
+use Rattle.ring_rules.specs.Event.{on_link, up_refusal}
 use Rattle.gm_member.specs.Held.{Held, gain_refused, gained_on, gained_held}
 use Rattle.gm_member.specs.Stands.{held_in, outgoing_in}
 use Rattle.gm_member.proofs.Fit.{IsFit}

@@ -5,16 +5,16 @@ use Rattle.std.proofs.lemmas.Bool.{false≢true}
 use Rattle.ring_names.specs.declared.message.Message.{Message}
 use Rattle.ring_names.specs.declared.numbers.CreditSpec.{CreditSpec}
 use Rattle.group_view.specs.View.{Group}
-use Rattle.ring_world.specs.declared.phase.Phase.{Phase}
-use Rattle.ring_world.specs.declared.phase.Phase.TheVariants.{Waiting}
-use Rattle.ring_world.specs.Rows.{Row, messages_between}
-use Rattle.ring_world.specs.View.{left_of}
-use Rattle.ring_world.specs.Machine.{World, row_at, member_at, link_at, view_in, left, runs, runs_phase}
-use Rattle.ring_world.specs.Step.{log_of, opening}
-use Rattle.ring_world.specs.Event.{last}
-use Rattle.ring_world.proofs.rings.Maps.{map-range_same}
-use Rattle.ring_world.proofs.walks.Views.{left_is}
-use Rattle.ring_world.proofs.invariants.Good.{true_kept}
+use Rattle.ring_rules.specs.declared.phase.Phase.{Phase}
+use Rattle.ring_rules.specs.declared.phase.Phase.TheVariants.{Waiting}
+use Rattle.ring_rules.specs.Rows.{Row, messages_between}
+use Rattle.ring_rules.specs.View.{left_of}
+use Rattle.ring_rules.specs.Machine.{World, row_at, member_at, link_at, view_in, left, runs, runs_phase}
+use Rattle.ring_rules.specs.Step.{log_of, opening}
+use Rattle.ring_rules.specs.Event.{last}
+use Rattle.ring_rules.proofs.rings.Maps.{map-range_same}
+use Rattle.ring_rules.proofs.walks.Views.{left_is}
+use Rattle.ring_rules.proofs.invariants.Good.{true_kept}
 use Rattle.activity.specs.Kept.{Kept, no_kept}
 use Rattle.gm_member.specs.Parcels.{places}
 use Rattle.gm_member.specs.Held.{Held, Outgoing, Incoming, fresh_in, joining_held}

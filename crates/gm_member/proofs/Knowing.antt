@@ -7,12 +7,12 @@ use Rattle.std.proofs.lemmas.Bool.Decides.{nat_tests}
 use Rattle.std.proofs.lemmas.Grind.{common_steps}
 use Rattle.std.proofs.lemmas.List.{length-drop, length-take-le, drop-append-le}
 use Rattle.ring_names.specs.declared.message.Message.{Message}
-use Rattle.ring_world.specs.declared.numbers.Numbers.{Numbers}
-use Rattle.ring_world.specs.Rows.{Row, published_row, next_numbers, taken_row, messages_between}
-use Rattle.ring_world.specs.Step.{begun_row}
-use Rattle.ring_world.specs.Compact.{has_line as has_line_of}
-use Rattle.ring_world.proofs.rings.Maps.{map-range_same_from}
-use Rattle.ring_world.proofs.runs.InOrder.{heard_more}
+use Rattle.ring_rules.specs.declared.numbers.Numbers.{Numbers}
+use Rattle.ring_rules.specs.Rows.{Row, published_row, next_numbers, taken_row, messages_between}
+use Rattle.ring_rules.specs.Step.{begun_row}
+use Rattle.ring_rules.specs.Compact.{has_line as has_line_of}
+use Rattle.ring_rules.proofs.rings.Maps.{map-range_same_from}
+use Rattle.ring_rules.proofs.runs.InOrder.{heard_more}
 use Rattle.group_view.specs.View.{as_id}
 use Rattle.activity.specs.Kept.{no_kept, got_of, joined}
 use Rattle.activity.specs.Parcels.{Carried, got_in}
@@ -22,7 +22,7 @@ use Rattle.activity.proofs.Marks.{drop_between}
 use Rattle.gm_member.specs.Parcels.{told_now}
 use Rattle.gm_member.specs.Stands.{kept_by, told_in, line_for}
 use Rattle.gm_member.specs.News.{no_message, taken_at, taken_between, line_news, taken_of}
-use Rattle.ring_world.specs.Shown.{id_of}
+use Rattle.ring_rules.specs.Shown.{id_of}
 
 -- ---- slices of a log
 

@@ -6,14 +6,14 @@ use Rattle.ring_names.specs.declared.message.Message.TheVariants.{Cast}
 use Rattle.ring_names.specs.declared.reason.Reason.{Reason}
 use Rattle.ring_names.specs.declared.reason.Reason.TheVariants as reason
 use Rattle.credit_flow.specs.Link.{oldest as oldest_grant}
-use Rattle.ring_world.specs.declared.event.Event.{Event}
-use Rattle.ring_world.specs.declared.event.Event.TheVariants as event
-use Rattle.ring_world.specs.declared.phase.Phase.TheVariants.{Waiting, Up}
-use Rattle.ring_world.specs.Refusal.{refuse_if, or_else, is_empty}
-use Rattle.ring_world.specs.Machine.{World, member_at, link_at, oldest, view_in, newest}
-use Rattle.ring_world.specs.Step.{size, log_of, put_on as put_in, gain_on, leave_link, opening, current_is}
-use Rattle.ring_world.specs.Event.{is_stopped, on_link, running_refusal, up_refusal, put_refusal, end_refusal, gain_refusal, refusal, at_found, last, id_of, by_of, refresh_refusal, refused_at, done_at, refreshed}
-use Rattle.ring_world.proofs.events.Enabled.{up_later, up_none}
+use Rattle.ring_rules.specs.declared.event.Event.{Event}
+use Rattle.ring_rules.specs.declared.event.Event.TheVariants as event
+use Rattle.ring_rules.specs.declared.phase.Phase.TheVariants.{Waiting, Up}
+use Rattle.ring_rules.specs.Refusal.{refuse_if, or_else, is_empty}
+use Rattle.ring_rules.specs.Machine.{World, member_at, link_at, oldest, view_in, newest}
+use Rattle.ring_rules.specs.Step.{size, log_of, put_on as put_in, gain_on, leave_link, opening, current_is}
+use Rattle.ring_rules.specs.Event.{is_stopped, on_link, running_refusal, up_refusal, put_refusal, end_refusal, gain_refusal, refusal, at_found, last, id_of, by_of, refresh_refusal, refused_at, done_at, refreshed}
+use Rattle.ring_rules.proofs.events.Enabled.{up_later, up_none}
 use Rattle.gm_member.specs.declared.taken.Taken.{Taken}
 use Rattle.activity.specs.Kept.{got_of}
 use Rattle.gm_member.specs.Parcels.{ByOrigin, known_at}
@@ -27,14 +27,14 @@ use Rattle.gm_member.proofs.PutStands.{put_refuses, put_stands, put_packet, leav
 use Rattle.gm_member.proofs.TakeStands.{TakesFrom, take_refuses, take_enabled, take_does, take_stands, news_are, end_may}
 use Rattle.gm_member.proofs.BeginStands.{BeginsFrom, begin_enabled, begin_does, begin_stands, begin_brings}
 use Rattle.gm_member.proofs.GainStands.{gain_refuses, gain_stands}
-use Rattle.ring_world.proofs.events.Refusals.{none_of, up_is, up_or_waits}
+use Rattle.ring_rules.proofs.events.Refusals.{none_of, up_is, up_or_waits}
 use Rattle.gm_member.proofs.StopStands.{stop_stands}
 use Rattle.gm_member.proofs.EndStands.{end_stands}
 use Rattle.group_view.specs.View.{Group}
-use Rattle.ring_world.specs.OpenLinks.{version_of}
-use Rattle.ring_world.proofs.events.WhatRefuses.{MayLook}
-use Rattle.ring_world.proofs.events.Refusals.{not_less}
-use Rattle.ring_world.proofs.invariants.Happens.{IsGood}
+use Rattle.ring_rules.specs.OpenLinks.{version_of}
+use Rattle.ring_rules.proofs.events.WhatRefuses.{MayLook}
+use Rattle.ring_rules.proofs.events.Refusals.{not_less}
+use Rattle.ring_rules.proofs.invariants.Happens.{IsGood}
 use Rattle.gm_member.proofs.Doors.{view_version}
 use Rattle.gm_member.proofs.DoorParts.{up_refused_none}
 use Rattle.gm_member.proofs.PickStands.{PicksAt, picks_some, pick_stands, MayPick, may_pick}

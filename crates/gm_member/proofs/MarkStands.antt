@@ -4,18 +4,18 @@ use Rattle.std.specs.Prelude.{◌&&◌}
 use Rattle.ring_names.specs.declared.reason.Reason.{Reason}
 use Rattle.group_view.specs.View.{Group, entry_in}
 use Rattle.group_view.specs.Change.{marked}
-use Rattle.ring_world.specs.Machine.{Link, World, member_at, link_at, view_in, newest, left}
-use Rattle.ring_world.specs.OpenLinks.{version_of, since_in, comes_from_left, is_door_link}
-use Rattle.ring_world.specs.Step.{with_view}
-use Rattle.ring_world.specs.declared.phase.Phase.TheVariants.{Up}
-use Rattle.ring_world.specs.declared.event.Event.TheVariants.{Mark, Erase}
-use Rattle.ring_world.specs.Event.{id_of, of_member, up_refusal, at_found, mark_refusal, erase_refusal, erased_view, refreshed, refusal, effect}
-use Rattle.ring_world.proofs.events.Refusals.{id_within}
-use Rattle.ring_world.proofs.events.Enabled.{up_none}
-use Rattle.ring_world.proofs.events.Cases.{may_mark, may_erase}
-use Rattle.ring_world.proofs.events.WhatRefuses.{MayMark, MayErase}
-use Rattle.ring_world.proofs.walks.Views.{view_old, view_new, left_old}
-use Rattle.ring_world.proofs.invariants.Happens.{IsGood}
+use Rattle.ring_rules.specs.Machine.{Link, World, member_at, link_at, view_in, newest, left}
+use Rattle.ring_rules.specs.OpenLinks.{version_of, since_in, comes_from_left, is_door_link}
+use Rattle.ring_rules.specs.Step.{with_view}
+use Rattle.ring_rules.specs.declared.phase.Phase.TheVariants.{Up}
+use Rattle.ring_rules.specs.declared.event.Event.TheVariants.{Mark, Erase}
+use Rattle.ring_rules.specs.Event.{id_of, of_member, up_refusal, at_found, mark_refusal, erase_refusal, erased_view, refreshed, refusal, effect}
+use Rattle.ring_rules.proofs.events.Refusals.{id_within}
+use Rattle.ring_rules.proofs.events.Enabled.{up_none}
+use Rattle.ring_rules.proofs.events.Cases.{may_mark, may_erase}
+use Rattle.ring_rules.proofs.events.WhatRefuses.{MayMark, MayErase}
+use Rattle.ring_rules.proofs.walks.Views.{view_old, view_new, left_old}
+use Rattle.ring_rules.proofs.invariants.Happens.{IsGood}
 use Rattle.gm_member.specs.Stands.{known_in, incoming_in, waits_for, door_in, held_in}
 use Rattle.gm_member.proofs.DoorLists.{filter_agree}
 use Rattle.gm_member.proofs.Parts.{held_same}

@@ -8,7 +8,7 @@ use Rattle.group_view.specs.View.{Group}
 use Rattle.group_view.specs.declared.request.Request.{Request}
 use Rattle.ordered_link.specs.declared.ends.LinkOut.{Ghosts}
 use Rattle.ordered_link.specs.declared.item.Item.{Item}
-use Rattle.ring_world.specs.View.{right_of}
+use Rattle.ring_rules.specs.View.{right_of}
 use Rattle.activity.specs.declared.packet.Load.{Load}
 use Rattle.gm_member.specs.declared.member.Member.{Member}
 use Rattle.gm_member.specs.View.{all_kept, in_of, out_of}

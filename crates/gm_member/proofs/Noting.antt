@@ -7,7 +7,7 @@ use Rattle.activity.specs.Kept.{Kept, got_of}
 use Rattle.activity.specs.Told.{Told, none_told}
 use Rattle.activity.specs.Parcels.{Carried, got_in, line_of, told_in, noted, origins}
 use Rattle.activity.specs.Diff.{line_from, next_line}
-use Rattle.ring_world.proofs.rings.Rounds.{nat_eq-is}
+use Rattle.ring_rules.proofs.rings.Rounds.{nat_eq-is}
 use Rattle.gm_member.specs.Parcels.{told_now, emptied}
 
 -- ---- one origin

@@ -5,23 +5,23 @@ use Rattle.std.specs.List.{filter, range_with_len}
 use Rattle.std.proofs.lemmas.List.{map-append}
 use Rattle.group_view.proofs.Passing.{right_inside}
 use Rattle.group_view.specs.Ring.{is_in}
-use Rattle.ring_world.specs.View.{ids, is_live, right_of}
-use Rattle.ring_world.specs.Machine.{Link, World, member_at, link_at, view_in, newest, left, runs, runs_phase, is_kept}
-use Rattle.ring_world.specs.OpenLinks.{comes_from_left, is_place}
-use Rattle.ring_world.specs.Step.{size, look_at}
-use Rattle.ring_world.specs.Event.{refreshed}
-use Rattle.ring_world.proofs.events.WhatRefuses.{MayLook}
-use Rattle.ring_world.proofs.rings.Rounds.{nat_eq-is}
-use Rattle.ring_world.proofs.invariants.Good.{kept_true}
-use Rattle.ring_world.proofs.walks.Views.{right_is}
+use Rattle.ring_rules.specs.View.{ids, is_live, right_of}
+use Rattle.ring_rules.specs.Machine.{Link, World, member_at, link_at, view_in, newest, left, runs, runs_phase, is_kept}
+use Rattle.ring_rules.specs.OpenLinks.{comes_from_left, is_place}
+use Rattle.ring_rules.specs.Step.{size, look_at}
+use Rattle.ring_rules.specs.Event.{refreshed}
+use Rattle.ring_rules.proofs.events.WhatRefuses.{MayLook}
+use Rattle.ring_rules.proofs.rings.Rounds.{nat_eq-is}
+use Rattle.ring_rules.proofs.invariants.Good.{kept_true}
+use Rattle.ring_rules.proofs.walks.Views.{right_is}
 use Rattle.group_view.proofs.Marks.{right_is as right_of_entry}
-use Rattle.ring_world.proofs.invariants.Happens.{IsGood}
-use Rattle.ring_world.proofs.work.Refreshed as ring
-pub use Rattle.ring_world.proofs.work.Refreshed.{new_link, sending_member, opened_world, old_links, old_many, link_old, link_new, links_more}
+use Rattle.ring_rules.proofs.invariants.Happens.{IsGood}
+use Rattle.ring_rules.proofs.work.Refreshed as ring
+pub use Rattle.ring_rules.proofs.work.Refreshed.{new_link, sending_member, opened_world, old_links, old_many, link_old, link_new, links_more}
 use Rattle.gm_member.specs.Held.{Incoming, fresh_in, sends_to, stays}
 use Rattle.gm_member.specs.Stands.{incoming_in, outgoing_in, held_in}
 use Rattle.gm_member.proofs.DoorLists.{filter_agree, made_agree, filter_more}
-use Rattle.ring_world.proofs.invariants.FromLeft.{OpenedRight, comes_is}
+use Rattle.ring_rules.proofs.invariants.FromLeft.{OpenedRight, comes_is}
 use Rattle.gm_member.proofs.DoorParts.{waits_by}
 use Rattle.gm_member.proofs.Doors.{view_version, stays_kept, comes_stays}
 

@@ -5,21 +5,21 @@ use Rattle.std.proofs.lemmas.Bool.{cases_lt}
 use Rattle.std.proofs.lemmas.List.{length-set, get_or_past}
 use Rattle.ring_names.specs.declared.numbers.CreditSpec.{CreditSpec}
 use Rattle.group_view.specs.Change.{AreOpeningNames}
-use Rattle.ring_world.specs.declared.event.Event.{Event}
-use Rattle.ring_world.specs.declared.phase.Phase.TheVariants.{Up}
-use Rattle.ring_world.specs.Rows.{Row, born_row}
-use Rattle.ring_world.specs.View.{right_of}
-use Rattle.ring_world.specs.Machine.{Member, World, no_member, row_at, member_at, link_at, view_in, newest, oldest}
-use Rattle.ring_world.specs.Step.{size, log_of, published, taker, begun, with_current, with_member, stop_at, stopped, moved_to, opened_link, come_to, opening}
-use Rattle.ring_world.specs.Event.{refreshed, refusal, effect, IsRun, last}
-use Rattle.ring_world.specs.Lawful.{row_of}
-use Rattle.ring_world.proofs.events.Cases.{each_event}
-use Rattle.ring_world.proofs.events.Composed.{refresh_composed, end_composed}
-use Rattle.ring_world.proofs.events.First.{first_row}
-use Rattle.ring_world.proofs.events.Leaves.{member_leaves, come_member}
-use Rattle.ring_world.proofs.invariants.Happens.{IsGood, event_good, opening_good}
-use Rattle.ring_world.proofs.runs.Apart.{forgot_below}
-use Rattle.ring_world.proofs.runs.OwnLogs.{IsLogged, opening_logged, run_knowing}
+use Rattle.ring_rules.specs.declared.event.Event.{Event}
+use Rattle.ring_rules.specs.declared.phase.Phase.TheVariants.{Up}
+use Rattle.ring_rules.specs.Rows.{Row, born_row}
+use Rattle.ring_rules.specs.View.{right_of}
+use Rattle.ring_rules.specs.Machine.{Member, World, no_member, row_at, member_at, link_at, view_in, newest, oldest}
+use Rattle.ring_rules.specs.Step.{size, log_of, published, taker, begun, with_current, with_member, stop_at, stopped, moved_to, opened_link, come_to, opening}
+use Rattle.ring_rules.specs.Event.{refreshed, refusal, effect, IsRun, last}
+use Rattle.ring_rules.specs.Lawful.{row_of}
+use Rattle.ring_rules.proofs.events.Cases.{each_event}
+use Rattle.ring_rules.proofs.events.Composed.{refresh_composed, end_composed}
+use Rattle.ring_rules.proofs.events.First.{first_row}
+use Rattle.ring_rules.proofs.events.Leaves.{member_leaves, come_member}
+use Rattle.ring_rules.proofs.invariants.Happens.{IsGood, event_good, opening_good}
+use Rattle.ring_rules.proofs.runs.Apart.{forgot_below}
+use Rattle.ring_rules.proofs.runs.OwnLogs.{IsLogged, opening_logged, run_knowing}
 use Rattle.gm_member.proofs.Rows.{mapped_row}
 
 -- a member has forgotten of no origin what it didn't receive

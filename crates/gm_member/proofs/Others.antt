@@ -1,21 +1,21 @@
 -- Where one member steps, each other holds what it held, whether it runs or has stopped.
 use Rattle.gm_member.specs.Parcels.{places}
-use Rattle.ring_world.proofs.work.OwnEnds.{other_out}
+use Rattle.ring_rules.proofs.work.OwnEnds.{other_out}
 use Rattle.std.proofs.Common.{◌≡◌, ◌≢◌, ℕ, ◌+◌, ◌<◌, [], ◌∷◌, ⊎_elim, length, map, Some, None, refl, sym, ap, ◌∙◌}
 use Rattle.std.specs.Prelude.{option_map}
 use Rattle.std.specs.List.{filter, range_with_len}
 use Rattle.std.proofs.lemmas.Bool.{cases_eq}
 use Rattle.std.proofs.lemmas.List.{length-set, get_or-set_same, get_or-set_other}
 use Rattle.ring_names.specs.declared.message.Message.{Message}
-use Rattle.ring_world.specs.declared.phase.Ending.TheVariants.{Halted}
-use Rattle.ring_world.specs.Machine.{World, Member, Link, no_link, no_member, row_at, member_at, link_at, view_in, oldest}
-use Rattle.ring_world.specs.Step.{size, log_of, with_member, with_link, publish_at, published, put_on as put_in, pushed, gain_on, take_from, taker, begun, begin_from, popped, leave_link, with_current, finished, stop_at, stopped, end_out}
-use Rattle.ring_world.proofs.rings.Maps.{map-range_same}
+use Rattle.ring_rules.specs.declared.phase.Ending.TheVariants.{Halted}
+use Rattle.ring_rules.specs.Machine.{World, Member, Link, no_link, no_member, row_at, member_at, link_at, view_in, oldest}
+use Rattle.ring_rules.specs.Step.{size, log_of, with_member, with_link, publish_at, published, put_on as put_in, pushed, gain_on, take_from, taker, begun, begin_from, popped, leave_link, with_current, finished, stop_at, stopped, end_out}
+use Rattle.ring_rules.proofs.rings.Maps.{map-range_same}
 use Rattle.gm_member.specs.Stands.{kept_by, held_in, outgoing_in, incoming_in}
 use Rattle.gm_member.proofs.Fit.{IsFit}
 use Rattle.gm_member.proofs.Facts.{right_row}
 use Rattle.gm_member.proofs.Knowing.{kept_grown}
-use Rattle.ring_world.proofs.runs.OwnLogs.{cast_log, cast_log_other}
+use Rattle.ring_rules.proofs.runs.OwnLogs.{cast_log, cast_log_other}
 use Rattle.gm_member.proofs.Parts.{known_by, known_same, log_written, held_is, held_by, seen, incoming_seen, outgoing_of, outgoing_same, there_same, waits_same, door_but, other_waits_not, link_held, still_held}
 use Rattle.gm_member.proofs.DoorParts.{waits_by, member_other}
 use Rattle.gm_member.proofs.PutStands.{leaving}

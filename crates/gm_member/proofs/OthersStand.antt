@@ -3,12 +3,12 @@ use Rattle.std.proofs.Common.{◌≡◌, ◌≢◌, ℕ, ◌<◌, Bool, true, fa
 use Rattle.std.specs.Prelude.{option_map}
 use Rattle.std.specs.List.{filter, range_with_len}
 use Rattle.std.proofs.lemmas.List.{append-nil}
-use Rattle.ring_world.specs.View.{right_of}
-use Rattle.ring_world.specs.Machine.{World, Member, member_at, view_in}
-use Rattle.ring_world.specs.Step.{moved_to}
-use Rattle.ring_world.specs.Event.{refreshed}
-use Rattle.ring_world.proofs.events.WhatRefuses.{MayLook}
-use Rattle.ring_world.proofs.invariants.Happens.{IsGood}
+use Rattle.ring_rules.specs.View.{right_of}
+use Rattle.ring_rules.specs.Machine.{World, Member, member_at, view_in}
+use Rattle.ring_rules.specs.Step.{moved_to}
+use Rattle.ring_rules.specs.Event.{refreshed}
+use Rattle.ring_rules.proofs.events.WhatRefuses.{MayLook}
+use Rattle.ring_rules.proofs.invariants.Happens.{IsGood}
 use Rattle.gm_member.specs.Held.{fresh_in}
 use Rattle.gm_member.specs.Stands.{known_in, incoming_in, outgoing_in, waits_for, door_in, held_in}
 use Rattle.gm_member.proofs.Parts.{known_by, known_same, log_written, held_by, held_same}

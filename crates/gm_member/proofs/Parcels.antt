@@ -3,7 +3,7 @@ use Rattle.std.proofs.Common.{◌≡◌, ℕ, ◌+◌, ◌<◌, Bool, true, fals
 use Rattle.std.specs.List.{find}
 use Rattle.std.proofs.lemmas.Bool.{false≢true}
 use Rattle.activity.specs.Parcels.{Carried, Parcel, line_of}
-use Rattle.ring_world.proofs.rings.Rounds.{nat_eq-is, nat_eq-same, nat_eq-not}
+use Rattle.ring_rules.proofs.rings.Rounds.{nat_eq-is, nat_eq-same, nat_eq-not}
 use Rattle.gm_member.specs.Parcels.{places, line_at, by_origin}
 use Rattle.gm_member.proofs.Places.{tabled_at}
 

@@ -7,17 +7,17 @@ use Rattle.std.proofs.lemmas.List.{length-set, get_or-set_same}
 use Rattle.credit_flow.specs.Credit.{Counted}
 use Rattle.group_view.specs.Since.{no_group}
 use Rattle.group_view.specs.View.{Group, entry_in}
-use Rattle.ring_world.specs.declared.phase.Ending.{Ending}
-use Rattle.ring_world.specs.declared.phase.Phase.{Phase}
+use Rattle.ring_rules.specs.declared.phase.Ending.{Ending}
+use Rattle.ring_rules.specs.declared.phase.Phase.{Phase}
 use Rattle.activity.specs.Kept.{Kept}
-use Rattle.ring_world.specs.View.{left_by}
-use Rattle.ring_world.specs.Machine.{World, Member, Link, no_link, no_member, row_at, numbers_at, member_at, link_at, view_in}
-use Rattle.ring_world.specs.OpenLinks.{is_place, is_current, passes}
-use Rattle.ring_world.specs.Step.{size, log_of, with_member, with_link, ended, end_out}
-use Rattle.ring_world.proofs.events.Leaves.{member_leaves}
-use Rattle.ring_world.proofs.rings.Maps.{map-range_same}
-use Rattle.ring_world.proofs.rings.Lists.{at_set}
-use Rattle.ring_world.proofs.rings.Rounds.{nat_eq-is, nat_eq-same}
+use Rattle.ring_rules.specs.View.{left_by}
+use Rattle.ring_rules.specs.Machine.{World, Member, Link, no_link, no_member, row_at, numbers_at, member_at, link_at, view_in}
+use Rattle.ring_rules.specs.OpenLinks.{is_place, is_current, passes}
+use Rattle.ring_rules.specs.Step.{size, log_of, with_member, with_link, ended, end_out}
+use Rattle.ring_rules.proofs.events.Leaves.{member_leaves}
+use Rattle.ring_rules.proofs.rings.Maps.{map-range_same}
+use Rattle.ring_rules.proofs.rings.Lists.{at_set}
+use Rattle.ring_rules.proofs.rings.Rounds.{nat_eq-is, nat_eq-same}
 use Rattle.gm_member.specs.Parcels.{places}
 use Rattle.gm_member.specs.Held.{Held, Outgoing, Incoming}
 use Rattle.gm_member.specs.Stands.{kept_by, told_in, held_in, outgoing_in, incoming_in, waits_for, door_in}

@@ -7,14 +7,14 @@ use Rattle.std.proofs.lemmas.List.{length-map, get_or-map}
 use Rattle.std.proofs.lemmas.List.Quantifiers.{position-Some}
 use Rattle.ring_names.specs.declared.reason.Reason.{Reason}
 use Rattle.ring_names.specs.declared.reason.Reason.TheVariants as reason
-use Rattle.ring_world.specs.Refusal.{refuse_if, or_else}
-use Rattle.ring_world.specs.Machine.{World, no_link, member_at, link_at, view_in, is_waiting}
-use Rattle.ring_world.specs.OpenLinks.{is_place}
-use Rattle.ring_world.specs.Step.{size, current_is, with_current}
-use Rattle.ring_world.specs.Event.{is_at_door, at_door, pick_refusal, up_refusal, version_refusal, on_link, is_stopped}
-use Rattle.ring_world.proofs.rings.Maps.{position_map}
-use Rattle.ring_world.proofs.invariants.Happens.{IsGood}
-use Rattle.ring_world.proofs.events.Refusals.{none_of}
+use Rattle.ring_rules.specs.Refusal.{refuse_if, or_else}
+use Rattle.ring_rules.specs.Machine.{World, no_link, member_at, link_at, view_in, is_waiting}
+use Rattle.ring_rules.specs.OpenLinks.{is_place}
+use Rattle.ring_rules.specs.Step.{size, current_is, with_current}
+use Rattle.ring_rules.specs.Event.{is_at_door, at_door, pick_refusal, up_refusal, version_refusal, on_link, is_stopped}
+use Rattle.ring_rules.proofs.rings.Maps.{position_map}
+use Rattle.ring_rules.proofs.invariants.Happens.{IsGood}
+use Rattle.ring_rules.proofs.events.Refusals.{none_of}
 use Rattle.gm_member.specs.Held.{Incoming, no_incoming, door_at, is_for, on_some, at_some, first_at_door, pick_refused, picked_held, picked_at, without}
 use Rattle.gm_member.specs.Stands.{known_in, incoming_in, outgoing_in, waits_for, door_links, door_in, held_in}
 use Rattle.gm_member.proofs.DoorLists.{filter_agree, find_both, find_agree, find_position, position_finds, filter_without}

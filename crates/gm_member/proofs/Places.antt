@@ -3,8 +3,8 @@ use Rattle.std.proofs.Common.{◌≡◌, ◌≢◌, ℕ, zero, suc, ◌+◌, ◌
 use Rattle.std.specs.List.{range_with_len, list_all}
 use Rattle.std.proofs.lemmas.List.{length-set}
 use Rattle.std.proofs.lemmas.List.FromFn.{fill_by_all, get_or-map-range_with_len, length-map-range_with_len}
-use Rattle.ring_world.proofs.rings.Writes.{at_set}
-pub use Rattle.ring_world.proofs.rings.Maps.{map-range_same_from, map-range_same}
+use Rattle.ring_rules.proofs.rings.Writes.{at_set}
+pub use Rattle.ring_rules.proofs.rings.Maps.{map-range_same_from, map-range_same}
 
 -- what passes each test past n passes all where it passes those below n
 pub all-range_longer_from : (p : ℕ → Bool) (a n d : ℕ) → ((k : ℕ) → a + n ≤ k → p k ≡ true) → list_all p (range_with_len a (n + d)) ≡ list_all p (range_with_len a n)

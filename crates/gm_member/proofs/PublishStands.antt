@@ -3,11 +3,11 @@ use Rattle.std.proofs.Common.{◌≡◌, ℕ, ◌+◌, ◌-◌, ◌<◌, ◌≤�
 use Rattle.std.proofs.lemmas.List.{get_or-set_same, get_or-set_other}
 use Rattle.ring_names.specs.declared.message.Message.{Message}
 use Rattle.activity.specs.Kept.{no_kept, got_of, joined}
-use Rattle.ring_world.specs.Rows.{no_row, published_row}
-use Rattle.ring_world.specs.Machine.{World, Member, row_at, member_at}
-use Rattle.ring_world.specs.Step.{size, log_of, published, publish_at}
-use Rattle.ring_world.specs.Lawful.{row_of}
-use Rattle.ring_world.proofs.runs.OwnLogs.{cast_log, cast_log_other}
+use Rattle.ring_rules.specs.Rows.{no_row, published_row}
+use Rattle.ring_rules.specs.Machine.{World, Member, row_at, member_at}
+use Rattle.ring_rules.specs.Step.{size, log_of, published, publish_at}
+use Rattle.ring_rules.specs.Lawful.{row_of}
+use Rattle.ring_rules.proofs.runs.OwnLogs.{cast_log, cast_log_other}
 use Rattle.gm_member.specs.Parcels.{places, known_at}
 use Rattle.gm_member.specs.Held.{published_held}
 use Rattle.gm_member.specs.Stands.{kept_by, held_in}

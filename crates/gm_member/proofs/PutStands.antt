@@ -7,13 +7,13 @@ use Rattle.std.proofs.lemmas.List.{length-set, get_or-set_same}
 use Rattle.ring_names.specs.declared.reason.Reason.{Reason}
 use Rattle.ring_names.specs.declared.reason.Reason.TheVariants as reason
 use Rattle.credit_flow.specs.Credit.{is_blocked, sent}
-use Rattle.ring_world.specs.declared.phase.Phase.TheVariants.{Up}
-use Rattle.ring_world.specs.Rows.{Row, no_numbers, is_sent}
-use Rattle.ring_world.specs.Refusal.{refuse_if, or_else}
-use Rattle.ring_world.specs.Machine.{World, Packet, Member, Sending, no_link, numbers_at, member_at, link_at, runs_phase}
-use Rattle.ring_world.specs.Step.{size, log_of, next_packet, pushed, put_on as put_in}
-use Rattle.ring_world.specs.Event.{on_link, up_refusal, put_refusal, has_nothing_new as nothing_new_in}
-use Rattle.ring_world.specs.Lawful.{row_of}
+use Rattle.ring_rules.specs.declared.phase.Phase.TheVariants.{Up}
+use Rattle.ring_rules.specs.Rows.{Row, no_numbers, is_sent}
+use Rattle.ring_rules.specs.Refusal.{refuse_if, or_else}
+use Rattle.ring_rules.specs.Machine.{World, Packet, Member, Sending, no_link, numbers_at, member_at, link_at, runs_phase}
+use Rattle.ring_rules.specs.Step.{size, log_of, next_packet, pushed, put_on as put_in}
+use Rattle.ring_rules.specs.Event.{on_link, up_refusal, put_refusal, has_nothing_new as nothing_new_in}
+use Rattle.ring_rules.specs.Lawful.{row_of}
 use Rattle.group_view.proofs.Lists.{all_range_agree}
 use Rattle.activity.specs.Diff.{next_line}
 use Rattle.gm_member.specs.Parcels.{places, known_at, told_at, told_now}

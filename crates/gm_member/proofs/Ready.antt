@@ -2,7 +2,7 @@
 use Rattle.std.proofs.Common.{◌≡◌, ℕ, Bool, true, false, Option, Some, None, refl, sym, ap, subst, arith}
 use Rattle.std.proofs.lemmas.Bool.{false≢true}
 use Rattle.std.specs.Prelude.{IsSome, MatchOption, ⊤, vec_len, vec_capacity}
-use Rattle.ring_world.specs.Machine.{runs_phase}
+use Rattle.ring_rules.specs.Machine.{runs_phase}
 use Rattle.ordered_link.specs.declared.ends.LinkOut.{Ghosts}
 use Rattle.activity.specs.declared.packet.Load.{Load}
 use Rattle.gm_member.specs.declared.member.Member.{Member}

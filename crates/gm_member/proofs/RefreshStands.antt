@@ -7,18 +7,18 @@ use Rattle.std.proofs.lemmas.Bool.{le-ltb}
 use Rattle.std.proofs.lemmas.List.{append-nil}
 use Rattle.ring_names.specs.declared.reason.Reason.{Reason}
 use Rattle.ring_names.specs.declared.reason.Reason.TheVariants as reason
-use Rattle.ring_world.specs.Rows.{Row, no_row, no_numbers, next_numbers}
-use Rattle.ring_world.specs.Refusal.{refuse_if, or_else}
-use Rattle.ring_world.specs.View.{right_of}
-use Rattle.ring_world.specs.Machine.{Member, World, no_sending, row_at, numbers_at, member_at, link_at, view_in, newest, is_kept, is_waiting}
-use Rattle.ring_world.specs.OpenLinks.{version_of, comes_from_left, passes, is_place, is_current}
-use Rattle.ring_world.specs.Step.{log_of, next_lines, next_packet, moved_to, look_at, kept_current}
-use Rattle.ring_world.specs.Event.{refreshed, up_refusal, refresh_refusal, is_stopped}
-use Rattle.ring_world.proofs.rings.Maps.{map-range_same}
-use Rattle.ring_world.proofs.events.WhatRefuses.{MayLook}
-use Rattle.ring_world.proofs.rings.Rounds.{nat_eq-is, nat_eq-not}
-use Rattle.ring_world.proofs.walks.Refresh.{kept_less}
-use Rattle.ring_world.proofs.invariants.Happens.{IsGood}
+use Rattle.ring_rules.specs.Rows.{Row, no_row, no_numbers, next_numbers}
+use Rattle.ring_rules.specs.Refusal.{refuse_if, or_else}
+use Rattle.ring_rules.specs.View.{right_of}
+use Rattle.ring_rules.specs.Machine.{Member, World, no_sending, row_at, numbers_at, member_at, link_at, view_in, newest, is_kept, is_waiting}
+use Rattle.ring_rules.specs.OpenLinks.{version_of, comes_from_left, passes, is_place, is_current}
+use Rattle.ring_rules.specs.Step.{log_of, next_lines, next_packet, moved_to, look_at, kept_current}
+use Rattle.ring_rules.specs.Event.{refreshed, up_refusal, refresh_refusal, is_stopped}
+use Rattle.ring_rules.proofs.rings.Maps.{map-range_same}
+use Rattle.ring_rules.proofs.events.WhatRefuses.{MayLook}
+use Rattle.ring_rules.proofs.rings.Rounds.{nat_eq-is, nat_eq-not}
+use Rattle.ring_rules.proofs.walks.Refresh.{kept_less}
+use Rattle.ring_rules.proofs.invariants.Happens.{IsGood}
 use Rattle.activity.specs.Kept.{no_kept}
 use Rattle.gm_member.specs.Parcels.{places, known_at, told_now}
 use Rattle.gm_member.specs.Held.{put_on, fresh_in, fresh_out, first_out, out_to, looked_held, refreshed_held, refresh_refused, up_refused, kept_in, kept_door, stays}

@@ -4,10 +4,10 @@ use Rattle.ring_names.specs.declared.message.Message.{Message}
 use Rattle.ring_names.specs.declared.message.Message.TheVariants.{Cast}
 use Rattle.ring_names.specs.declared.reason.Reason.{Reason}
 use Rattle.ring_names.specs.declared.reason.Reason.TheVariants as reason
-use Rattle.ring_world.specs.declared.event.Event.TheVariants as event
-use Rattle.ring_world.specs.Machine.{World, member_at}
-use Rattle.ring_world.specs.Step.{size}
-use Rattle.ring_world.specs.Event.{on_link, running_refusal, up_refusal, take_refusal, end_refusal, gain_refusal, refusal}
+use Rattle.ring_rules.specs.declared.event.Event.TheVariants as event
+use Rattle.ring_rules.specs.Machine.{World, member_at}
+use Rattle.ring_rules.specs.Step.{size}
+use Rattle.ring_rules.specs.Event.{on_link, running_refusal, up_refusal, take_refusal, end_refusal, gain_refusal, refusal}
 use Rattle.gm_member.specs.Held.{active_refused, up_refused, put_refused, take_refused, pick_refused, on_some}
 use Rattle.gm_member.specs.Stands.{held_in, outgoing_in, publishing}
 use Rattle.gm_member.proofs.Fit.{IsFit}

@@ -5,18 +5,18 @@ use Rattle.std.proofs.lemmas.List.{length-set, length_push}
 use Rattle.std.proofs.lemmas.List.FromFn.{length-map-range_with_len}
 use Rattle.ring_names.specs.declared.numbers.CreditSpec.{CreditSpec}
 use Rattle.group_view.specs.Change.{AreOpeningNames}
-use Rattle.ring_world.specs.declared.event.Event.{Event}
-use Rattle.ring_world.specs.declared.phase.Phase.TheVariants.{Waiting, Up}
-use Rattle.ring_world.specs.Rows.{Row, no_row, born_row, published_row, taken_row}
-use Rattle.ring_world.specs.View.{right_of}
-use Rattle.ring_world.specs.Machine.{Member, World, row_at, numbers_at, member_at, link_at, view_in, newest, oldest}
-use Rattle.ring_world.specs.Step.{size, log_of, is_owned, published, taker, begun, begun_row, with_current, with_member, stop_at, stopped, moved_to, opened_link, joiner, come_to, opening}
-use Rattle.ring_world.specs.Event.{refreshed, refusal, effect, IsRun, last}
-use Rattle.ring_world.proofs.events.Cases.{Cases, each_event}
-use Rattle.ring_world.proofs.events.Composed.{refresh_composed, end_composed}
-use Rattle.ring_world.proofs.events.First.{first_each, first_size}
-use Rattle.ring_world.proofs.events.Leaves.{member_leaves, come_member}
-use Rattle.ring_world.proofs.invariants.Happens.{IsGood, opening_good, run_events}
+use Rattle.ring_rules.specs.declared.event.Event.{Event}
+use Rattle.ring_rules.specs.declared.phase.Phase.TheVariants.{Waiting, Up}
+use Rattle.ring_rules.specs.Rows.{Row, no_row, born_row, published_row, taken_row}
+use Rattle.ring_rules.specs.View.{right_of}
+use Rattle.ring_rules.specs.Machine.{Member, World, row_at, numbers_at, member_at, link_at, view_in, newest, oldest}
+use Rattle.ring_rules.specs.Step.{size, log_of, is_owned, published, taker, begun, begun_row, with_current, with_member, stop_at, stopped, moved_to, opened_link, joiner, come_to, opening}
+use Rattle.ring_rules.specs.Event.{refreshed, refusal, effect, IsRun, last}
+use Rattle.ring_rules.proofs.events.Cases.{Cases, each_event}
+use Rattle.ring_rules.proofs.events.Composed.{refresh_composed, end_composed}
+use Rattle.ring_rules.proofs.events.First.{first_each, first_size}
+use Rattle.ring_rules.proofs.events.Leaves.{member_leaves, come_member}
+use Rattle.ring_rules.proofs.invariants.Happens.{IsGood, opening_good, run_events}
 
 -- A member has no more rows than this, and has retired nothing and has no base where it waits.
 pub record RowsFit (n : ℕ) (y : Member) : Type 0 where

@@ -4,8 +4,8 @@ use Rattle.std.proofs.Props.{props}
 use Rattle.std.specs.Prelude.{vec_len, vec_capacity}
 use Rattle.group_view.specs.Ring.{is_in}
 use Rattle.ordered_link.specs.declared.ends.LinkOut.{Ghosts}
-use Rattle.ring_world.specs.View.{ids}
-use Rattle.ring_world.specs.Machine.{is_waiting, runs_phase}
+use Rattle.ring_rules.specs.View.{ids}
+use Rattle.ring_rules.specs.Machine.{is_waiting, runs_phase}
 use Rattle.activity.specs.declared.packet.Load.{Load}
 use Rattle.gm_member.specs.declared.member.Member.{Member}
 use Rattle.gm_member.specs.View.{count_of, has_ended, is_up_where, told_on}

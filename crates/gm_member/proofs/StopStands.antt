@@ -1,8 +1,8 @@
 -- A member that stops stands where the ring's stop leaves it.
 use Rattle.std.proofs.Common.{◌≡◌, ℕ, ◌<◌, refl, sym, ◌∙◌}
-use Rattle.ring_world.specs.declared.phase.Ending.TheVariants.{Halted}
-use Rattle.ring_world.specs.Machine.{World, member_at}
-use Rattle.ring_world.specs.Step.{size, stop_at, stopped, end_out}
+use Rattle.ring_rules.specs.declared.phase.Ending.TheVariants.{Halted}
+use Rattle.ring_rules.specs.Machine.{World, member_at}
+use Rattle.ring_rules.specs.Step.{size, stop_at, stopped, end_out}
 use Rattle.gm_member.specs.Held.{stopped_held}
 use Rattle.gm_member.specs.Stands.{held_in}
 use Rattle.gm_member.proofs.Fit.{IsFit}

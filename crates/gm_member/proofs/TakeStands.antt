@@ -1,32 +1,32 @@
 -- A member that takes the oldest packet of its link stands where the ring's take leaves it.
-use Rattle.ring_world.proofs.invariants.KeptTake.{taker_beyond}
-use Rattle.ring_world.proofs.rests.Asked.{no_version}
+use Rattle.ring_rules.proofs.invariants.KeptTake.{taker_beyond}
+use Rattle.ring_rules.proofs.rests.Asked.{no_version}
 use Rattle.std.proofs.Common.{◌≡◌, ◌≢◌, ℕ, zero, suc, ◌+◌, ◌<◌, ◌≤◌, Bool, true, false, not, List, [], ◌∷◌, ◌++◌, length, get_or, cond, Option, Some, None, is_some, refl, sym, ap, subst, ◌∙◌, ⊎_elim, arith}
 use Rattle.std.specs.Prelude.{◌&&◌, option_map}
 use Rattle.std.proofs.lemmas.Bool.{cases_lt, false≢true}
 use Rattle.std.proofs.lemmas.List.{length-set, get_or-set_same, get_or-set_other}
 use Rattle.ring_names.specs.declared.reason.Reason.{Reason}
 use Rattle.ring_names.specs.declared.reason.Reason.TheVariants as reason
-use Rattle.ring_world.specs.declared.event.Event.TheVariants as event
-use Rattle.ring_world.specs.declared.numbers.Numbers.{Numbers}
-use Rattle.ring_world.specs.declared.phase.Phase.{Phase}
-use Rattle.ring_world.specs.declared.phase.Phase.TheVariants.{Up}
-use Rattle.ring_world.specs.Rows.{Row, no_numbers, lo_of, taken_row}
-use Rattle.ring_world.specs.Refusal.{refuse_if, or_else, is_empty}
-use Rattle.ring_world.specs.Machine.{World, Packet, Member, no_link, no_member, no_packet, row_at, numbers_at, member_at, link_at, view_in, is_waiting, oldest}
-use Rattle.ring_world.specs.Step.{size, with_member, with_link, log_of, is_owned, taker, popped, take_from}
-use Rattle.ring_world.specs.Event.{on_link, is_stopped, running_refusal, take_refusal, end_refusal, version_refusal, refusal, effect}
-use Rattle.ring_world.specs.Lawful.{row_of, NumbersAreWithin}
-use Rattle.ring_world.proofs.walks.Take.{row_at-taker, take_row, take_phase}
-use Rattle.ring_world.proofs.events.Enabled.{take_effect}
+use Rattle.ring_rules.specs.declared.event.Event.TheVariants as event
+use Rattle.ring_rules.specs.declared.numbers.Numbers.{Numbers}
+use Rattle.ring_rules.specs.declared.phase.Phase.{Phase}
+use Rattle.ring_rules.specs.declared.phase.Phase.TheVariants.{Up}
+use Rattle.ring_rules.specs.Rows.{Row, no_numbers, lo_of, taken_row}
+use Rattle.ring_rules.specs.Refusal.{refuse_if, or_else, is_empty}
+use Rattle.ring_rules.specs.Machine.{World, Packet, Member, no_link, no_member, no_packet, row_at, numbers_at, member_at, link_at, view_in, is_waiting, oldest}
+use Rattle.ring_rules.specs.Step.{size, with_member, with_link, log_of, is_owned, taker, popped, take_from}
+use Rattle.ring_rules.specs.Event.{on_link, is_stopped, running_refusal, take_refusal, end_refusal, version_refusal, refusal, effect}
+use Rattle.ring_rules.specs.Lawful.{row_of, NumbersAreWithin}
+use Rattle.ring_rules.proofs.walks.Take.{row_at-taker, take_row, take_phase}
+use Rattle.ring_rules.proofs.events.Enabled.{take_effect}
 use Rattle.activity.specs.Kept.{Kept}
 use Rattle.activity.specs.Parcels.{Carried}
 use Rattle.activity.specs.Plan.{accepted}
-use Rattle.ring_world.specs.Compact.{Has, low, line_in, IsInTurn}
-use Rattle.ring_world.proofs.compact.ByLines.{has_stays, oldest_says, without_line}
-use Rattle.ring_world.proofs.events.WhatRefuses.{MayTake}
-use Rattle.ring_world.proofs.invariants.Happens.{IsGood, event_good}
-use Rattle.ring_world.proofs.runs.NeverFalls.{RowRises, taker_rises_all}
+use Rattle.ring_rules.specs.Compact.{Has, low, line_in, IsInTurn}
+use Rattle.ring_rules.proofs.compact.ByLines.{has_stays, oldest_says, without_line}
+use Rattle.ring_rules.proofs.events.WhatRefuses.{MayTake}
+use Rattle.ring_rules.proofs.invariants.Happens.{IsGood, event_good}
+use Rattle.ring_rules.proofs.runs.NeverFalls.{RowRises, taker_rises_all}
 use Rattle.gm_member.specs.declared.taken.Taken.{Taken}
 use Rattle.gm_member.specs.Parcels.{places, ByOrigin, known_at, line_at}
 use Rattle.gm_member.specs.News.{line_news, taken_of, news_below, news_of}

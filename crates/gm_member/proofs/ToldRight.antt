@@ -8,9 +8,9 @@ use Rattle.group_view.proofs.Lists.{all_range}
 use Rattle.ring_names.specs.declared.message.Message.{Message}
 use Rattle.ring_names.specs.declared.reason.Reason.TheVariants.{NoCredit, NothingNew}
 use Rattle.credit_flow.specs.Credit.{is_blocked}
-use Rattle.ring_world.specs.Refusal.{refuse_if}
-use Rattle.ring_world.proofs.events.Refusals.{none_of, refuse_none}
-use Rattle.ring_world.proofs.rings.Rounds.{nat_eq-is, nat_eq-same, nat_eq-not}
+use Rattle.ring_rules.specs.Refusal.{refuse_if}
+use Rattle.ring_rules.proofs.events.Refusals.{none_of, refuse_none}
+use Rattle.ring_rules.proofs.rings.Rounds.{nat_eq-is, nat_eq-same, nat_eq-not}
 use Rattle.activity.specs.declared.change.Change.{Change}
 use Rattle.activity.specs.Kept.{Kept, KeptRow, no_kept, got_of, kept_of, joined, KeepsRows}
 use Rattle.activity.specs.Told.{Told, ToldRow, none_told, sent_of}

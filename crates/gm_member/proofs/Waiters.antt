@@ -4,20 +4,20 @@ use Rattle.std.proofs.lemmas.List.{length-set, length_push, get_or_append_left}
 use Rattle.ring_names.specs.declared.numbers.CreditSpec.{CreditSpec}
 use Rattle.credit_flow.specs.Credit.{none_taken}
 use Rattle.group_view.specs.Change.{AreOpeningNames}
-use Rattle.ring_world.specs.declared.event.Event.{Event}
-use Rattle.ring_world.specs.declared.phase.Phase.TheVariants.{Waiting, Up}
-use Rattle.ring_world.specs.Rows.{regained}
-use Rattle.ring_world.specs.View.{right_of}
-use Rattle.ring_world.specs.Machine.{Link, Member, World, no_link, no_member, member_at, link_at, view_in, newest, oldest}
-use Rattle.ring_world.specs.Step.{size, published, taker, begun, with_current, with_member, with_link, stop_at, stopped, look_at, moved_to, opened_link, open_to, pushed, popped, next_packet, take_from, begin_from, joiner, come_to, opening}
-use Rattle.ring_world.specs.Event.{refreshed, refusal, effect, IsRun, last}
-use Rattle.ring_world.proofs.rings.Lists.{at_set, at_push}
-use Rattle.ring_world.proofs.events.Cases.{Cases, each_event}
-use Rattle.ring_world.proofs.events.Composed.{refresh_composed, end_composed}
-use Rattle.ring_world.proofs.events.First.{first_each, first_link_at}
-use Rattle.ring_world.proofs.events.Leaves.{member_leaves, come_member}
-use Rattle.ring_world.proofs.events.Parts.{Part, IsStill, cast_part, put_part, take_part, begin_part, come_part, gain_part, stop_part, open_part, still_part, run_keeps}
-use Rattle.ring_world.proofs.invariants.Happens.{IsGood, opening_good, run_events}
+use Rattle.ring_rules.specs.declared.event.Event.{Event}
+use Rattle.ring_rules.specs.declared.phase.Phase.TheVariants.{Waiting, Up}
+use Rattle.ring_rules.specs.Rows.{regained}
+use Rattle.ring_rules.specs.View.{right_of}
+use Rattle.ring_rules.specs.Machine.{Link, Member, World, no_link, no_member, member_at, link_at, view_in, newest, oldest}
+use Rattle.ring_rules.specs.Step.{size, published, taker, begun, with_current, with_member, with_link, stop_at, stopped, look_at, moved_to, opened_link, open_to, pushed, popped, next_packet, take_from, begin_from, joiner, come_to, opening}
+use Rattle.ring_rules.specs.Event.{refreshed, refusal, effect, IsRun, last}
+use Rattle.ring_rules.proofs.rings.Lists.{at_set, at_push}
+use Rattle.ring_rules.proofs.events.Cases.{Cases, each_event}
+use Rattle.ring_rules.proofs.events.Composed.{refresh_composed, end_composed}
+use Rattle.ring_rules.proofs.events.First.{first_each, first_link_at}
+use Rattle.ring_rules.proofs.events.Leaves.{member_leaves, come_member}
+use Rattle.ring_rules.proofs.events.Parts.{Part, IsStill, cast_part, put_part, take_part, begin_part, come_part, gain_part, stop_part, open_part, still_part, run_keeps}
+use Rattle.ring_rules.proofs.invariants.Happens.{IsGood, opening_good, run_events}
 
 -- ---- who waits sends nowhere
 

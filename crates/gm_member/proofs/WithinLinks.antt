@@ -2,11 +2,11 @@
 use Rattle.std.proofs.Common.{◌≡◌, ℕ, ◌<◌, List, length, Some}
 use Rattle.ring_names.specs.declared.numbers.CreditSpec.{CreditSpec}
 use Rattle.group_view.specs.Change.{AreOpeningNames}
-use Rattle.ring_world.specs.declared.event.Event.{Event}
-use Rattle.ring_world.specs.Machine.{Member, World, member_at}
-use Rattle.ring_world.specs.Step.{opening}
-use Rattle.ring_world.specs.Event.{IsRun, last}
-use Rattle.ring_world.proofs.work.OwnEnds.{OwnEnds, reached_owns}
+use Rattle.ring_rules.specs.declared.event.Event.{Event}
+use Rattle.ring_rules.specs.Machine.{Member, World, member_at}
+use Rattle.ring_rules.specs.Step.{opening}
+use Rattle.ring_rules.specs.Event.{IsRun, last}
+use Rattle.ring_rules.proofs.work.OwnEnds.{OwnEnds, reached_owns}
 
 -- of n links
 pub record Within (n : ℕ) (m : Member) : Type 0 where

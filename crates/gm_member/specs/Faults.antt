@@ -1,6 +1,6 @@
 -- Why an event didn't happen, where a call of a member isn't done.
-use Rattle.ring_world.specs.declared.world.Refused.{Refused}
-use Rattle.ring_world.specs.declared.world.Refused.TheVariants as event
+use Rattle.ring_rules.specs.declared.refused.Refused.{Refused}
+use Rattle.ring_rules.specs.declared.refused.Refused.TheVariants as event
 use Rattle.gm_member.specs.declared.fault.MemberFault.{MemberFault}
 use Rattle.gm_member.specs.declared.fault.MemberFault.TheVariants as call
 

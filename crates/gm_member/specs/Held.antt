@@ -7,13 +7,13 @@ use Rattle.ring_names.specs.declared.reason.Reason.{Reason}
 use Rattle.ring_names.specs.declared.reason.Reason.TheVariants as reason
 use Rattle.credit_flow.specs.Credit.{Credit, Counted, full_credit, none_taken, is_blocked, sent, gained, took}
 use Rattle.group_view.specs.View.{Group, entry_in}
-use Rattle.ring_world.specs.Refusal.{refuse_if, or_else}
-use Rattle.ring_world.specs.View.{left_of, right_of}
-use Rattle.ring_world.specs.declared.phase.Phase.{Phase}
-use Rattle.ring_world.specs.declared.phase.Phase.TheVariants.{Waiting, Up, Stopped}
-use Rattle.ring_world.specs.Machine.{is_waiting}
-use Rattle.ring_world.specs.Step.{is_owned}
-use Rattle.ring_world.specs.Event.{is_stopped, version_refusal}
+use Rattle.ring_rules.specs.Refusal.{refuse_if, or_else}
+use Rattle.ring_rules.specs.View.{left_of, right_of}
+use Rattle.ring_rules.specs.declared.phase.Phase.{Phase}
+use Rattle.ring_rules.specs.declared.phase.Phase.TheVariants.{Waiting, Up, Stopped}
+use Rattle.ring_rules.specs.Machine.{is_waiting}
+use Rattle.ring_rules.specs.Step.{is_owned}
+use Rattle.ring_rules.specs.Event.{is_stopped, version_refusal}
 use Rattle.activity.specs.Kept.{Kept, no_kept, joined}
 use Rattle.activity.specs.Told.{Told, none_told}
 use Rattle.activity.specs.Parcels.{Carried}

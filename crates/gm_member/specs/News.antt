@@ -9,10 +9,10 @@ use Rattle.activity.specs.declared.change.Change.TheVariants.{Receive, CameRound
 use Rattle.activity.specs.Kept.{Kept}
 use Rattle.activity.specs.Parcels.{Carried}
 use Rattle.activity.specs.Plan.{change_of}
-use Rattle.ring_world.specs.declared.numbers.Numbers.{Numbers}
-use Rattle.ring_world.specs.Rows.{most_members}
-use Rattle.ring_world.specs.Machine.{is_waiting}
-use Rattle.ring_world.specs.Shown.{id_of}
+use Rattle.ring_rules.specs.declared.numbers.Numbers.{Numbers}
+use Rattle.ring_rules.specs.Rows.{most_members}
+use Rattle.ring_rules.specs.Machine.{is_waiting}
+use Rattle.ring_rules.specs.Shown.{id_of}
 use Rattle.gm_member.specs.declared.taken.Taken.{Taken}
 use Rattle.gm_member.specs.Parcels.{ByOrigin, known_at, line_at}
 use Rattle.gm_member.specs.Held.{Held, at_some, owns}

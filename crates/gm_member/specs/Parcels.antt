@@ -4,7 +4,7 @@ use Rattle.std.specs.List.{range_with_len}
 use Rattle.activity.specs.Kept.{Kept, no_kept, got_of}
 use Rattle.activity.specs.Told.{Told, none_told}
 use Rattle.activity.specs.Parcels.{Carried, Parcel, line_of, got_in}
-use Rattle.ring_world.specs.Rows.{most_members}
+use Rattle.ring_rules.specs.Rows.{most_members}
 
 -- the places of all origins that a ring may have, whose ids are one more
 unfoldable pub places : List ℕ

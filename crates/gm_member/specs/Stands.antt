@@ -7,18 +7,18 @@ use Rattle.ring_names.specs.declared.numbers.CreditSpec.{CreditSpec}
 use Rattle.credit_flow.specs.Link.{oldest as oldest_grant}
 use Rattle.group_view.specs.View.{Group, as_id}
 use Rattle.group_view.specs.Change.{AreOpeningNames, marked}
-use Rattle.ring_world.specs.declared.event.Event.{Event}
-use Rattle.ring_world.specs.declared.event.Event.TheVariants as event
-use Rattle.ring_world.specs.declared.numbers.Numbers.{Numbers}
-use Rattle.ring_world.specs.Rows.{Row, most_members, messages_between}
-use Rattle.ring_world.specs.declared.phase.Phase.TheVariants.{Waiting}
-use Rattle.ring_world.specs.Refusal.{is_empty}
-use Rattle.ring_world.specs.View.{right_of}
-use Rattle.ring_world.specs.Compact.{has_line}
-use Rattle.ring_world.specs.Machine.{World, Packet, Sending, row_at, numbers_at, member_at, link_at, view_in, newest, is_waiting, oldest}
-use Rattle.ring_world.specs.OpenLinks.{is_door_link, passes}
-use Rattle.ring_world.specs.Step.{size, log_of, is_owned, next_packet, admitted_view, opening}
-use Rattle.ring_world.specs.Event.{id_of, erased_view, refusal, effect, IsRun, last}
+use Rattle.ring_rules.specs.declared.event.Event.{Event}
+use Rattle.ring_rules.specs.declared.event.Event.TheVariants as event
+use Rattle.ring_rules.specs.declared.numbers.Numbers.{Numbers}
+use Rattle.ring_rules.specs.Rows.{Row, most_members, messages_between}
+use Rattle.ring_rules.specs.declared.phase.Phase.TheVariants.{Waiting}
+use Rattle.ring_rules.specs.Refusal.{is_empty}
+use Rattle.ring_rules.specs.View.{right_of}
+use Rattle.ring_rules.specs.Compact.{has_line}
+use Rattle.ring_rules.specs.Machine.{World, Packet, Sending, row_at, numbers_at, member_at, link_at, view_in, newest, is_waiting, oldest}
+use Rattle.ring_rules.specs.OpenLinks.{is_door_link, passes}
+use Rattle.ring_rules.specs.Step.{size, log_of, is_owned, next_packet, admitted_view, opening}
+use Rattle.ring_rules.specs.Event.{id_of, erased_view, refusal, effect, IsRun, last}
 use Rattle.gm_member.specs.declared.taken.Taken.{Taken}
 use Rattle.activity.specs.Kept.{Kept}
 use Rattle.activity.specs.Told.{Told}

@@ -1,7 +1,7 @@
 -- Whether all was told on the link on which a member sends.
 use Rattle.std.specs.Prelude.{◌≡◌, Bool, not, ◌&&◌, List, Option}
 use Rattle.std.specs.List.{list_all}
-use Rattle.ring_world.specs.Rows.{most_members}
+use Rattle.ring_rules.specs.Rows.{most_members}
 use Rattle.activity.specs.declared.change.Change.{Change}
 use Rattle.activity.specs.Kept.{KeptRow}
 use Rattle.activity.specs.Told.{ToldRow}

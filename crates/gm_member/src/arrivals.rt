@@ -1,7 +1,7 @@
 //! Links that come to a member from the registrar.
 ghost use Rattle.std.specs.Prelude.{◌≡◌, ◌+◌, ◌<◌, ◌≤◌, ◌∷◌, ◌++◌, [], cond, not, true, length, vec_len, vec_capacity};
 ghost use Rattle.group_view.specs.Ring.{is_in};
-ghost use Rattle.ring_world.specs.View.{ids};
+ghost use Rattle.ring_rules.specs.View.{ids};
 ghost use Rattle.gm_member.specs.Arrivals.{joins, arrived_link, arrived_end, joined_links, turned_ends};
 
 use crate::door::stays;

@@ -4,7 +4,7 @@ ghost use Rattle.gm_member.specs.declared.fault.MemberFault.TheVariants as fault
 ghost use Rattle.gm_member.specs.Faults.{refused_as};
 
 use ring_names::{OutOfMemory, Reason};
-use ring_world::Refused;
+use ring_rules::Refused;
 
 /// Why a call of a member is not done. The member is then as before.
 #[derive(Clone, Copy, PartialEq, Eq, Debug)]

@@ -236,7 +236,7 @@ impl<I: LinkIn<Load>> InLink<I> {
     ghost use Rattle.std.specs.Prelude.{◌≡◌, ℕ, ◌≤◌, ◌+◌, map, length, OnOk, OnErr, IfOk, IfErr, None, Some, IsSome};
     ghost use Rattle.std.specs.Prelude.{MatchOption};
     ghost use Rattle.credit_flow.specs.Credit.{grant_due};
-    ghost use Rattle.ring_world.specs.Step.{is_owned};
+    ghost use Rattle.ring_rules.specs.Step.{is_owned};
     ghost use Rattle.activity.specs.Kept.{KeepsRows, kept_of};
     ghost use Rattle.activity.specs.Parcels.{line_of};
     ghost use Rattle.activity.specs.Plan.{owns as owned, changes_of, AreReady, opened, AreOpened};

@@ -2,8 +2,8 @@
 ghost use Rattle.std.specs.Prelude.{◌≡◌, ◌+◌, ◌≤◌, ◌<◌, ◌∷◌, ◌++◌, [], true, false};
 ghost use Rattle.std.specs.Vec.{vec_len, vec_capacity};
 ghost use Rattle.group_view.specs.Ring.{is_in};
-ghost use Rattle.ring_world.specs.View.{ids};
-ghost use Rattle.ring_world.specs.Machine.{is_waiting, runs_phase};
+ghost use Rattle.ring_rules.specs.View.{ids};
+ghost use Rattle.ring_rules.specs.Machine.{is_waiting, runs_phase};
 ghost use Rattle.gm_member.specs.View.{count_of, has_ended, is_up_where, told_on};
 ghost use Rattle.gm_member.specs.Spares.{told_by_spare};
 ghost use Rattle.gm_member.specs.Telling.{IsToldRight};
@@ -21,7 +21,7 @@ use credit_flow::{CreditIn, CreditOut};
 use group_view::{LinkName, Request, View};
 use ordered_link::{EndReason, LinkIn, LinkOut, LinkPair};
 use ring_names::{CreditSpec, MemberId, Message, Name, OutOfMemory, Reason};
-use ring_world::Phase;
+use ring_rules::Phase;
 use std::alloc::Global;
 
 /// The greatest number of a message.
@@ -67,13 +67,13 @@ impl<O: LinkPair<Load, In = I>, I: LinkIn<Load> + Drop> Member<O, I> {
     ghost use Rattle.std.specs.Prelude.{IfNone, IsSome, None, Some, Ok, Err, length, false, true, Option};
     ghost use Rattle.std.specs.Prelude.{MatchOption, ◌++◌};
     ghost use Rattle.ring_names.specs.declared.reason.Reason.{Reason};
-    ghost use Rattle.ring_world.specs.Rows.{most_members};
-    ghost use Rattle.ring_world.specs.declared.event.Event.TheVariants.{Put, Take, TakeEnd, Gain, Stop, Pick, Refresh};
-    ghost use Rattle.ring_world.specs.Machine.{member_at, is_waiting, runs_phase, view_in, newest};
-    ghost use Rattle.ring_world.specs.Step.{log_of};
-    ghost use Rattle.ring_world.specs.Event.{refusal, take_refusal as the_take_refusal};
-    ghost use Rattle.ring_world.specs.Event.{end_refusal as the_end_refusal, gain_refusal as the_gain_refusal};
-    ghost use Rattle.ring_world.specs.View.{ids};
+    ghost use Rattle.ring_rules.specs.Rows.{most_members};
+    ghost use Rattle.ring_rules.specs.declared.event.Event.TheVariants.{Put, Take, TakeEnd, Gain, Stop, Pick, Refresh};
+    ghost use Rattle.ring_rules.specs.Machine.{member_at, is_waiting, runs_phase, view_in, newest};
+    ghost use Rattle.ring_rules.specs.Step.{log_of};
+    ghost use Rattle.ring_rules.specs.Event.{refusal, take_refusal as the_take_refusal};
+    ghost use Rattle.ring_rules.specs.Event.{end_refusal as the_end_refusal, gain_refusal as the_gain_refusal};
+    ghost use Rattle.ring_rules.specs.View.{ids};
     ghost use Rattle.group_view.specs.Ring.{is_in};
     ghost use Rattle.activity.specs.Parcels.{Parcel};
     ghost use Rattle.gm_member.specs.Parcels.{by_origin, known_at};

@@ -2,8 +2,8 @@
 ghost use Rattle.std.specs.Prelude.{◌≡◌, ℕ, ◌+◌, ◌-◌, ◌^◌, ◌<◌, ◌≤◌, ◌++◌, ◌∷◌, [], map, length, Option, OnOk};
 ghost use Rattle.std.specs.Prelude.{IfOk, IfSome};
 ghost use Rattle.std.specs.Option.{option_map_or, option_copied};
-ghost use Rattle.ring_world.specs.Step.{is_owned};
-ghost use Rattle.ring_world.specs.Event.{version_refusal};
+ghost use Rattle.ring_rules.specs.Step.{is_owned};
+ghost use Rattle.ring_rules.specs.Event.{version_refusal};
 ghost use Rattle.activity.specs.Kept.{KeepsRows, kept_of};
 ghost use Rattle.activity.specs.Parcels.{Carried, line_of};
 ghost use Rattle.activity.specs.Plan.{owns as owned, change_of, changes_of, AreReady};

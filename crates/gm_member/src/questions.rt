@@ -31,13 +31,13 @@ impl<O: LinkPair<Load, In = I>, I: LinkIn<Load> + Drop> Member<O, I> {
     ghost use Rattle.std.specs.Prelude.{is_some, vec_len, List};
     ghost use Rattle.ring_names.specs.declared.reason.Reason.{Reason};
     ghost use Rattle.group_view.specs.Ring.{is_in};
-    ghost use Rattle.ring_world.specs.declared.event.Event.TheVariants.{Mark as TheMark, Refresh as TheRefresh};
-    ghost use Rattle.ring_world.specs.declared.event.Event.TheVariants.{Erase as TheErase, Admit as TheAdmit};
-    ghost use Rattle.ring_world.specs.Machine.{view_in, newest};
-    ghost use Rattle.ring_world.specs.View.{ids};
+    ghost use Rattle.ring_rules.specs.declared.event.Event.TheVariants.{Mark as TheMark, Refresh as TheRefresh};
+    ghost use Rattle.ring_rules.specs.declared.event.Event.TheVariants.{Erase as TheErase, Admit as TheAdmit};
+    ghost use Rattle.ring_rules.specs.Machine.{view_in, newest};
+    ghost use Rattle.ring_rules.specs.View.{ids};
     ghost use Rattle.gm_member.specs.View.{count_of};
     ghost use Rattle.gm_member.specs.Held.{ask_refused, asking_held, answered_held, collected_held, refreshed_held};
-    ghost use Rattle.ring_world.specs.Event.{refusal, effect};
+    ghost use Rattle.ring_rules.specs.Event.{refusal, effect};
     ghost use Rattle.gm_member.specs.Stands.{WhereItStands, Stands, StepsTo, IsMarkedView, with_own_link};
     ghost use Rattle.gm_member.specs.Stands.{IsErasedView, IsAdmittedView};
     ghost use Rattle.gm_member.specs.Shown.{When, held_of, ends_of, OutIsReady, LooksBy, MovesTo};

@@ -2,8 +2,8 @@
 ghost use Rattle.std.specs.Prelude.{◌≡◌, ◌+◌, ◌<◌, true};
 ghost use Rattle.group_view.specs.Ring.{is_in};
 ghost use Rattle.group_view.specs.View.{entry_in};
-ghost use Rattle.ring_world.specs.View.{ids, left_of as the_left, right_of as the_right};
-ghost use Rattle.ring_world.specs.Step.{is_owned};
+ghost use Rattle.ring_rules.specs.View.{ids, left_of as the_left, right_of as the_right};
+ghost use Rattle.ring_rules.specs.Step.{is_owned};
 
 use group_view::View;
 use ring_names::MemberId;

@@ -9,17 +9,17 @@ use Rattle.group_view.specs.View.{Group, ids, is_live, is_dead, is_alias, right_
 use Rattle.group_view.specs.Change.{is_taken, most_entries, admit_refusal as group_refusal}
 use Rattle.group_view.specs.Since.{no_group, view_at}
 use Rattle.group_view.proofs.Passing.{live_in}
-use Rattle.ring_world.specs.Refusal.{refuse_if, or_else}
-use Rattle.ring_world.specs.View as ring
-use Rattle.ring_world.specs.Machine as machine
-use Rattle.ring_world.specs.declared.event.Event.{Event}
-use Rattle.ring_world.specs.declared.event.Event.TheVariants.{Mark, Stop, Refresh, Admit, Erase}
-use Rattle.ring_world.specs.Machine.{World, row_at, member_at, newest, runs_phase}
-use Rattle.ring_world.specs.Step.{size}
-use Rattle.ring_world.specs.Event.{id_of, of_member, is_stopped, up_refusal, running_refusal, is_neighbour, left_neighbour, refusal}
-use Rattle.ring_world.specs.Event as event
-use Rattle.ring_world.proofs.invariants.Happens.{IsGood}
-use Rattle.ring_world.proofs.events.Refusals.{id_within, up_is}
+use Rattle.ring_rules.specs.Refusal.{refuse_if, or_else}
+use Rattle.ring_rules.specs.View as ring
+use Rattle.ring_rules.specs.Machine as machine
+use Rattle.ring_rules.specs.declared.event.Event.{Event}
+use Rattle.ring_rules.specs.declared.event.Event.TheVariants.{Mark, Stop, Refresh, Admit, Erase}
+use Rattle.ring_rules.specs.Machine.{World, row_at, member_at, newest, runs_phase}
+use Rattle.ring_rules.specs.Step.{size}
+use Rattle.ring_rules.specs.Event.{id_of, of_member, is_stopped, up_refusal, running_refusal, is_neighbour, left_neighbour, refusal}
+use Rattle.ring_rules.specs.Event as event
+use Rattle.ring_rules.proofs.invariants.Happens.{IsGood}
+use Rattle.ring_rules.proofs.events.Refusals.{id_within, up_is}
 use Rattle.registrar.specs.Registry.{Registry, is_known}
 use Rattle.registrar.specs.Registry as registry
 use Rattle.registrar.specs.Asked.{is_left, is_beside, has_more, mark_refusal, admit_refusal, erase_refusal, stop_refusal, unknown_refusal}

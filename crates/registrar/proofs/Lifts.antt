@@ -2,10 +2,10 @@
 use Rattle.std.proofs.Common.{◌≡◌, Some, None, Result, Ok, Err, sym, subst, ap, ◌∙◌}
 use Rattle.std.specs.Prelude.{OnOk}
 use Rattle.ring_names.specs.declared.reason.Reason.{Reason}
-use Rattle.ring_world.specs.Machine.{World}
-use Rattle.ring_world.specs.declared.event.Event.{Event}
-use Rattle.ring_world.specs.Event.{refusal, effect}
-use Rattle.ring_world.proofs.invariants.Happens.{IsGood, reached_good}
+use Rattle.ring_rules.specs.Machine.{World}
+use Rattle.ring_rules.specs.declared.event.Event.{Event}
+use Rattle.ring_rules.specs.Event.{refusal, effect}
+use Rattle.ring_rules.proofs.invariants.Happens.{IsGood, reached_good}
 use Rattle.group_view.specs.declared.request.Request.{Request}
 use Rattle.group_view.specs.declared.request.Request.TheVariants.{Mark, Refresh, Admit, Erase, Stopped, Deposit, Collect}
 use Rattle.registrar.specs.Registry.{Registry}

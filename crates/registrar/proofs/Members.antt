@@ -1,21 +1,21 @@
 -- What of a state of the ring the registrar has: its views, and who has stopped. Each event in which it has no part keeps both.
 use Rattle.std.proofs.Common.{List, ◌≡◌, ℕ, ◌++◌, ◌∷◌, [], length, Option, Some, None, refl, sym, ap, ◌∙◌, get_or, zero, suc, Bool, map}
-use Rattle.ring_world.specs.View.{right_of}
-use Rattle.ring_world.specs.declared.phase.Phase.{Phase}
-use Rattle.ring_world.specs.declared.phase.Phase.TheVariants.{Waiting, Up, Stopped}
+use Rattle.ring_rules.specs.View.{right_of}
+use Rattle.ring_rules.specs.declared.phase.Phase.{Phase}
+use Rattle.ring_rules.specs.declared.phase.Phase.TheVariants.{Waiting, Up, Stopped}
 use Rattle.ring_names.specs.declared.message.Message.TheVariants as message
-use Rattle.ring_world.specs.declared.event.Event.{Event}
-use Rattle.ring_world.specs.declared.event.Event.TheVariants.{Cast, Put, Take, TakeEnd, Gain, Stop, Mark, Refresh, Admit, Pick, Erase, Refuse}
+use Rattle.ring_rules.specs.declared.event.Event.{Event}
+use Rattle.ring_rules.specs.declared.event.Event.TheVariants.{Cast, Put, Take, TakeEnd, Gain, Stop, Mark, Refresh, Admit, Pick, Erase, Refuse}
 use Rattle.registrar.specs.Stands.{IsOwn}
-use Rattle.ring_world.specs.Machine.{Member, World, no_member, member_at, link_at, view_in, oldest}
-use Rattle.ring_world.specs.Step.{size, with_member, moved_to, opened_link, end_out, begun, taker, published, with_current}
-use Rattle.ring_world.specs.Event.{is_stopped, refreshed, at_found, taken_by, effect, at_door, id_of, by_of, done_at}
-use Rattle.ring_world.proofs.events.Composed.{refresh_composed}
+use Rattle.ring_rules.specs.Machine.{Member, World, no_member, member_at, link_at, view_in, oldest}
+use Rattle.ring_rules.specs.Step.{size, with_member, moved_to, opened_link, end_out, begun, taker, published, with_current}
+use Rattle.ring_rules.specs.Event.{is_stopped, refreshed, at_found, taken_by, effect, at_door, id_of, by_of, done_at}
+use Rattle.ring_rules.proofs.events.Composed.{refresh_composed}
 use Rattle.std.proofs.Math.Seq.{map-set_same}
 use Rattle.std.proofs.lemmas.Bool.{false≢true}
 use Rattle.std.proofs.lemmas.List.{length-map}
 use Rattle.group_view.specs.View.{Group}
-use Rattle.ring_world.specs.declared.phase.Ending.{Ending}
+use Rattle.ring_rules.specs.declared.phase.Ending.{Ending}
 
 -- the views, and of each member whether it has stopped
 pub record Told : Type 0 where

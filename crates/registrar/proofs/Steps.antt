@@ -8,18 +8,18 @@ use Rattle.group_view.specs.Since.{no_group}
 use Rattle.group_view.proofs.Truth.{cond_itself}
 use Rattle.group_view.proofs.Rings.{is_in-append, nat_eq-same, nat_eq-not}
 use Rattle.promotion.specs.Elect.{installed}
-use Rattle.ring_world.specs.Machine as machine
-use Rattle.ring_world.specs.declared.phase.Ending.TheVariants.{Halted}
-use Rattle.ring_world.specs.declared.event.Event.{Event}
-use Rattle.ring_world.specs.declared.event.Event.TheVariants.{Mark, Stop, Refresh, Admit, Erase}
-use Rattle.ring_world.specs.Machine.{Member, World, no_member, member_at, newest}
-use Rattle.ring_world.specs.Step.{size, opening, with_view, stop_at, stopped, end_out, joiner, admitted_view, come_to}
-use Rattle.ring_world.specs.Event.{id_of, is_stopped, at_found, refreshed, erased_view, effect}
-use Rattle.ring_world.proofs.rings.Lists.{at_set}
-use Rattle.ring_world.proofs.events.Refusals.{id_within}
+use Rattle.ring_rules.specs.Machine as machine
+use Rattle.ring_rules.specs.declared.phase.Ending.TheVariants.{Halted}
+use Rattle.ring_rules.specs.declared.event.Event.{Event}
+use Rattle.ring_rules.specs.declared.event.Event.TheVariants.{Mark, Stop, Refresh, Admit, Erase}
+use Rattle.ring_rules.specs.Machine.{Member, World, no_member, member_at, newest}
+use Rattle.ring_rules.specs.Step.{size, opening, with_view, stop_at, stopped, end_out, joiner, admitted_view, come_to}
+use Rattle.ring_rules.specs.Event.{id_of, is_stopped, at_found, refreshed, erased_view, effect}
+use Rattle.ring_rules.proofs.rings.Lists.{at_set}
+use Rattle.ring_rules.proofs.events.Refusals.{id_within}
 use Rattle.ring_names.specs.declared.numbers.CreditSpec.{CreditSpec}
-use Rattle.ring_world.proofs.events.First.{first_member}
-use Rattle.ring_world.proofs.events.Leaves.{come_each}
+use Rattle.ring_rules.proofs.events.First.{first_member}
+use Rattle.ring_rules.proofs.events.Leaves.{come_each}
 use Rattle.registrar.specs.Registry.{Registry}
 use Rattle.registrar.specs.Registry as registry
 use Rattle.registrar.specs.Handled.{with_stopped}

@@ -10,7 +10,7 @@ use Rattle.group_view.specs.Ring.{is_in}
 use Rattle.group_view.specs.Change.{admit_refusal as group_refusal}
 use Rattle.group_view.specs.View.{Group, entry_in, is_live, is_dead, is_alias, left_of, right_of}
 use Rattle.group_view.specs.Since.{view_at}
-use Rattle.ring_world.specs.Refusal.{refuse_if, or_else}
+use Rattle.ring_rules.specs.Refusal.{refuse_if, or_else}
 use Rattle.registrar.specs.declared.standing.Standing.{Standing}
 use Rattle.registrar.specs.Registry.{Registry, newest, is_known}
 

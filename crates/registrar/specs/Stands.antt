@@ -6,12 +6,12 @@ use Rattle.group_view.specs.declared.request.Request.TheVariants as request
 use Rattle.group_view.specs.Ring.{is_in}
 use Rattle.group_view.specs.Change.{AreOpeningNames}
 use Rattle.group_view.specs.Since.{no_group, view_at}
-use Rattle.ring_world.specs.declared.phase.Phase.TheVariants.{Up}
-use Rattle.ring_world.specs.declared.event.Event.{Event}
-use Rattle.ring_world.specs.declared.event.Event.TheVariants.{Stop, Mark, Refresh, Admit, Erase}
-use Rattle.ring_world.specs.Machine.{World, row_at, member_at, newest}
-use Rattle.ring_world.specs.Step.{size, opening}
-use Rattle.ring_world.specs.Event.{IsRun, last, id_of, is_stopped, is_registered, at_door}
+use Rattle.ring_rules.specs.declared.phase.Phase.TheVariants.{Up}
+use Rattle.ring_rules.specs.declared.event.Event.{Event}
+use Rattle.ring_rules.specs.declared.event.Event.TheVariants.{Stop, Mark, Refresh, Admit, Erase}
+use Rattle.ring_rules.specs.Machine.{World, row_at, member_at, newest}
+use Rattle.ring_rules.specs.Step.{size, opening}
+use Rattle.ring_rules.specs.Event.{IsRun, last, id_of, is_stopped, is_registered, at_door}
 use Rattle.registrar.specs.Registry.{Registry}
 use Rattle.registrar.specs.Asked.{is_left, since_in, waits_from}
 

@@ -1,7 +1,7 @@
 //! A law of where the registrar stands.
-ghost use Rattle.ring_world.specs.Machine.{World};
-ghost use Rattle.ring_world.specs.Event.{effect};
-ghost use Rattle.ring_world.specs.declared.event.Event.{Event};
+ghost use Rattle.ring_rules.specs.Machine.{World};
+ghost use Rattle.ring_rules.specs.Event.{effect};
+ghost use Rattle.ring_rules.specs.declared.event.Event.{Event};
 ghost use Rattle.registrar.specs.Registry.{Registry};
 ghost use Rattle.registrar.specs.Stands.{IsOwn, StandsIn};
 

@@ -19,8 +19,8 @@ ghost use Rattle.registrar.specs.Handled.{with_view, with_stopped, with_link, wi
 ghost use Rattle.registrar.specs.Handled.{answered, erased_view, admitted_view};
 ghost use Rattle.registrar.specs.Stands.{StandsIn, WhereAsked};
 ghost use Rattle.ring_names.specs.declared.numbers.CreditSpec.{CreditSpec};
-ghost use Rattle.ring_world.specs.Event.{refusal, effect};
-ghost use Rattle.ring_world.specs.Step.{opening};
+ghost use Rattle.ring_rules.specs.Event.{refusal, effect};
+ghost use Rattle.ring_rules.specs.Step.{opening};
 
 use crate::giving::{count_for, count_named, give_all};
 use crate::judging::{has_more, is_among, is_beside, newest, view_of};

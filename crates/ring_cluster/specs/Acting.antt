@@ -13,12 +13,12 @@ use Rattle.group_view.specs.View.{Group}
 use Rattle.group_view.specs.Change.{marked, erased, admitted}
 use Rattle.group_view.specs.Since.{view_at}
 use Rattle.promotion.specs.Elect.{installed}
-use Rattle.ring_world.specs.declared.event.Event.{Event}
-use Rattle.ring_world.specs.declared.event.Event.TheVariants.{Cast, Put, Take, TakeEnd, Gain, Stop, Mark, Refresh, Admit, Pick, Erase, Refuse}
-use Rattle.ring_world.specs.Refusal.{refuse_if, is_empty}
-use Rattle.ring_world.specs.View.{right_of}
-use Rattle.ring_world.specs.Machine.{runs_phase}
-use Rattle.ring_world.specs.Event.{version_refusal, is_registered}
+use Rattle.ring_rules.specs.declared.event.Event.{Event}
+use Rattle.ring_rules.specs.declared.event.Event.TheVariants.{Cast, Put, Take, TakeEnd, Gain, Stop, Mark, Refresh, Admit, Pick, Erase, Refuse}
+use Rattle.ring_rules.specs.Refusal.{refuse_if, is_empty}
+use Rattle.ring_rules.specs.View.{right_of}
+use Rattle.ring_rules.specs.Machine.{runs_phase}
+use Rattle.ring_rules.specs.Event.{version_refusal, is_registered}
 use Rattle.gm_member.specs.Parcels.{ByOrigin}
 use Rattle.gm_member.specs.Held.{Held, joining_held, Outgoing, Incoming, at_some, active_refused, up_refused, on_some, published_held, put_held, parcel_on, put_refused, pick_refused, take_refused, took_held, gained_held, ended_held, stopped_held, is_for, stays, sends_to, fresh_out as unsent_on, fresh_in as arriving_in, refreshed_held, first_at_door, picked_held, without, collected_held}
 use Rattle.gm_member.specs.View.{ring_link}

@@ -1,7 +1,7 @@
 -- How much is left of what clients asked, as one number that falls at each task that is done, refused, or handed on.
 use Rattle.std.specs.Prelude.{ℕ, ◌+◌, ◌-◌, ◌*◌, bytes_eq, if◌then◌else◌, List, Option, Some, None}
 use Rattle.std.specs.List.{sum_by}
-use Rattle.ring_world.specs.Machine.{World, member_at}
+use Rattle.ring_rules.specs.Machine.{World, member_at}
 use Rattle.ring_cluster.specs.declared.agenda.Task.{Task}
 use Rattle.ring_cluster.specs.declared.agenda.Task.TheVariants as task
 use Rattle.ring_cluster.specs.Agendas.{Plan}

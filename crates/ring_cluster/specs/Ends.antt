@@ -2,9 +2,9 @@
 use Rattle.std.specs.Prelude.{◌≡◌, ℕ, ◌+◌, ◌≤◌, Bool, false, List, [], ◌∷◌, ◌++◌, length, Option, Some, None, is_some}
 use Rattle.activity.specs.Parcels.{Carried}
 use Rattle.gm_member.specs.Stands.{lines_in}
-use Rattle.ring_world.specs.declared.phase.Ending.{Ending}
-use Rattle.ring_world.specs.Machine.{World, Packet, Sending, Link}
-use Rattle.ring_world.specs.Compact.{passed}
+use Rattle.ring_rules.specs.declared.phase.Ending.{Ending}
+use Rattle.ring_rules.specs.Machine.{World, Packet, Sending, Link}
+use Rattle.ring_rules.specs.Compact.{passed}
 
 -- A packet as it stands on a link: the version of its sender's view, and its lines by the places of their origins.
 pub record Sent : Type 0 where

@@ -1,9 +1,9 @@
 -- When every message of a ring has been heard by all.
 use Rattle.std.specs.Prelude.{◌≡◌, ℕ, ◌≤◌, true, List, length, drop}
-use Rattle.ring_world.specs.declared.phase.Phase.TheVariants.{Up}
-use Rattle.ring_world.specs.Machine.{World, member_at, runs}
-use Rattle.ring_world.specs.Step.{log_of}
-use Rattle.ring_world.specs.Lawful.{row_of}
+use Rattle.ring_rules.specs.declared.phase.Phase.TheVariants.{Up}
+use Rattle.ring_rules.specs.Machine.{World, member_at, runs}
+use Rattle.ring_rules.specs.Step.{log_of}
+use Rattle.ring_rules.specs.Lawful.{row_of}
 
 -- in a ring that these members opened, each of them receives from the first message on: its base is 0
 abbrev pub OpenersHaveNoBase : List (List ℕ) → World → Type 0

@@ -1,9 +1,9 @@
 -- What a member that stands in a state of the ring holds of it.
 use Rattle.std.specs.Prelude.{◌≡◌, ℕ, ◌-◌, ◌<◌, ◌≤◌}
-use Rattle.ring_world.specs.Machine.{World, member_at, row_at, view_in}
-use Rattle.ring_world.specs.Step.{size, log_of}
+use Rattle.ring_rules.specs.Machine.{World, member_at, row_at, view_in}
+use Rattle.ring_rules.specs.Step.{size, log_of}
 use Rattle.activity.specs.Kept.{got_of}
-use Rattle.ring_world.specs.Rows.{messages_between}
+use Rattle.ring_rules.specs.Rows.{messages_between}
 use Rattle.gm_member.specs.Parcels.{known_at}
 use Rattle.gm_member.specs.Held.{Held}
 

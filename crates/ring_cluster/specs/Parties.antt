@@ -9,7 +9,7 @@ use Rattle.ordered_link.specs.Steps.{PlainPuts, PlainGains}
 use Rattle.group_view.specs.declared.link.LinkName.{LinkName}
 use Rattle.group_view.specs.View.{Group}
 use Rattle.group_view.specs.Since.{no_group}
-use Rattle.ring_world.specs.declared.phase.Phase.TheVariants as phase
+use Rattle.ring_rules.specs.declared.phase.Phase.TheVariants as phase
 use Rattle.registrar.specs.Registry.{Registry}
 use Rattle.registrar.specs.declared.standing.Standing.{Standing}
 use Rattle.activity.specs.declared.packet.Load.{Load}

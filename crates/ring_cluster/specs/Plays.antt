@@ -6,16 +6,16 @@ use Rattle.ring_names.specs.declared.reason.Reason.{Reason}
 use Rattle.ring_names.specs.Reason.{code_of}
 use Rattle.ring_script.specs.declared.command.Command.{Command}
 use Rattle.ring_script.specs.declared.command.Command.TheVariants as command
-use Rattle.ring_world.specs.declared.event.Event.{Event}
-use Rattle.ring_world.specs.declared.event.Event.TheVariants.{Cast, Stop, Admit, Refuse}
-use Rattle.ring_world.specs.declared.event.Client.{Client}
-use Rattle.ring_world.specs.declared.event.Client.TheVariants as client
-use Rattle.ring_world.specs.declared.phase.Phase.{Phase}
-use Rattle.ring_world.specs.declared.phase.Phase.TheVariants.{Waiting, Up, Stopped}
-use Rattle.ring_world.specs.Machine.{World, member_at}
-use Rattle.ring_world.specs.Step.{opening}
-use Rattle.ring_world.specs.Event.{by_of, is_asked, event_of, refusal, last}
-use Rattle.ring_world.specs.Quiet.{IsQuiet}
+use Rattle.ring_rules.specs.declared.event.Event.{Event}
+use Rattle.ring_rules.specs.declared.event.Event.TheVariants.{Cast, Stop, Admit, Refuse}
+use Rattle.ring_rules.specs.declared.event.Client.{Client}
+use Rattle.ring_rules.specs.declared.event.Client.TheVariants as client
+use Rattle.ring_rules.specs.declared.phase.Phase.{Phase}
+use Rattle.ring_rules.specs.declared.phase.Phase.TheVariants.{Waiting, Up, Stopped}
+use Rattle.ring_rules.specs.Machine.{World, member_at}
+use Rattle.ring_rules.specs.Step.{opening}
+use Rattle.ring_rules.specs.Event.{by_of, is_asked, event_of, refusal, last}
+use Rattle.ring_rules.specs.Quiet.{IsQuiet}
 use Rattle.ring_cluster.specs.declared.agenda.Task.{Task}
 use Rattle.ring_cluster.specs.declared.agenda.Task.TheVariants as task
 use Rattle.ring_cluster.specs.Agendas.{Plan, tasks_in, with_tasks, with_task}

@@ -6,8 +6,8 @@ use Rattle.std.specs.declared.vec.Vec.{Vec}
 use Rattle.std.specs.declared.alloc.Global.{Global}
 use Rattle.ring_names.specs.declared.message.Message.{Message}
 use Rattle.ring_names.specs.declared.message.Message.TheVariants.{Cast}
-use Rattle.ring_world.specs.Machine.{Member, World}
-use Rattle.ring_world.specs.Step.{size, log_of}
+use Rattle.ring_rules.specs.Machine.{Member, World}
+use Rattle.ring_rules.specs.Step.{size, log_of}
 
 -- the casts of these bodies
 abbrev pub casts_with : List (Bor (List ℕ)) → List Message

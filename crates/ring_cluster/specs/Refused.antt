@@ -6,12 +6,12 @@ use Rattle.ring_names.specs.declared.reason.Reason.TheVariants as reason
 use Rattle.ring_names.specs.declared.numbers.CreditSpec.{CreditSpec}
 use Rattle.group_view.specs.View.{Group}
 use Rattle.group_view.specs.Change.{is_taken, most_entries}
-use Rattle.ring_world.specs.declared.event.Event.{Event}
-use Rattle.ring_world.specs.declared.event.Event.TheVariants.{Mark, Refresh, Admit, Erase, Refuse}
-use Rattle.ring_world.specs.declared.event.Client.{Client}
-use Rattle.ring_world.specs.declared.event.Client.TheVariants as client
-use Rattle.ring_world.specs.Refusal.{refuse_if, or_else}
-use Rattle.ring_world.specs.Event.{refusal, is_told}
+use Rattle.ring_rules.specs.declared.event.Event.{Event}
+use Rattle.ring_rules.specs.declared.event.Event.TheVariants.{Mark, Refresh, Admit, Erase, Refuse}
+use Rattle.ring_rules.specs.declared.event.Client.{Client}
+use Rattle.ring_rules.specs.declared.event.Client.TheVariants as client
+use Rattle.ring_rules.specs.Refusal.{refuse_if, or_else}
+use Rattle.ring_rules.specs.Event.{refusal, is_told}
 use Rattle.registrar.specs.declared.standing.Standing.{Standing}
 use Rattle.registrar.specs.Registry.{Registry}
 use Rattle.registrar.specs.Asked.{mark_refusal, erase_refusal}

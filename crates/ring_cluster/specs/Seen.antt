@@ -3,10 +3,10 @@ use Rattle.std.specs.Prelude.{◌≡◌, ℕ, ◌+◌, ◌-◌, ◌<◌, ◌^◌
 use Rattle.ring_names.specs.declared.numbers.CreditSpec.{CreditSpec}
 use Rattle.ring_script.specs.declared.command.Command.{Command}
 use Rattle.group_view.specs.Change.{AreOpeningNames}
-use Rattle.ring_world.specs.declared.event.Event.{Event}
-use Rattle.ring_world.specs.Machine.{World, member_at}
-use Rattle.ring_world.specs.Step.{size, opening}
-use Rattle.ring_world.specs.Event.{IsRun, last, by_of}
+use Rattle.ring_rules.specs.declared.event.Event.{Event}
+use Rattle.ring_rules.specs.Machine.{World, member_at}
+use Rattle.ring_rules.specs.Step.{size, opening}
+use Rattle.ring_rules.specs.Event.{IsRun, last, by_of}
 use Rattle.ring_cluster.specs.Agendas.{Plan}
 use Rattle.ring_cluster.specs.Parties.{Parties}
 use Rattle.ring_cluster.specs.Opened.{opened_parties}

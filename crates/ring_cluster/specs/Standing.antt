@@ -6,11 +6,11 @@ use Rattle.group_view.specs.declared.link.LinkName.{LinkName}
 use Rattle.group_view.specs.Ring.{is_in}
 use Rattle.group_view.specs.Change.{AreOpeningNames}
 use Rattle.group_view.specs.Since.{no_group}
-use Rattle.ring_world.specs.declared.event.Event.{Event}
-use Rattle.ring_world.specs.Machine.{World, member_at, link_at}
-use Rattle.ring_world.specs.OpenLinks.{is_place, is_open}
-use Rattle.ring_world.specs.Step.{size, opening}
-use Rattle.ring_world.specs.Event.{IsRun, is_stopped}
+use Rattle.ring_rules.specs.declared.event.Event.{Event}
+use Rattle.ring_rules.specs.Machine.{World, member_at, link_at}
+use Rattle.ring_rules.specs.OpenLinks.{is_place, is_open}
+use Rattle.ring_rules.specs.Step.{size, opening}
+use Rattle.ring_rules.specs.Event.{IsRun, is_stopped}
 use Rattle.gm_member.specs.View.{ring_link}
 use Rattle.gm_member.specs.Stands.{incoming_in, door_links, held_in}
 use Rattle.ring_cluster.specs.Ends.{OutSeen, InSeen, Carries, HaveMet, HasRested}

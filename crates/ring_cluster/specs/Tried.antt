@@ -1,8 +1,8 @@
 -- What is answered where a step is tried that may be refused.
 use Rattle.std.specs.Prelude.{◌≡◌, Option, Some, None, Result, OnOk, OnErr, IfErr}
 use Rattle.ring_names.specs.declared.reason.Reason.{Reason}
-use Rattle.ring_world.specs.declared.world.Refused.{Refused}
-use Rattle.ring_world.specs.declared.world.Refused.TheVariants.{NotEnabled}
+use Rattle.ring_rules.specs.declared.refused.Refused.{Refused}
+use Rattle.ring_rules.specs.declared.refused.Refused.TheVariants.{NotEnabled}
 use Rattle.ring_cluster.specs.Parties.{Shown}
 
 -- Of a step this is the first condition that fails: it is done only where none does, and only that one is told as the reason why it

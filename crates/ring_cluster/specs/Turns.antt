@@ -2,18 +2,18 @@
 use Rattle.std.specs.Prelude.{◌≡◌, ◌≢◌, ℕ, ◌+◌, ◌<◌, ◌≤◌, Bool, true, false, List, ◌++◌, length, bytes_eq, None, Result, IfOk}
 use Rattle.std.specs.List.{All, filter}
 use Rattle.ring_names.specs.declared.memory.OutOfMemory.{OutOfMemory}
-use Rattle.ring_world.specs.declared.event.Event.{Event}
-use Rattle.ring_world.specs.declared.event.Event.TheVariants.{Put, Take, TakeEnd, Gain, Mark, Refresh, Pick, Erase}
-use Rattle.ring_world.specs.declared.phase.Phase.TheVariants.{Waiting, Up}
-use Rattle.ring_world.specs.Machine.{World, member_at, newest, right, runs}
-use Rattle.ring_world.specs.Step.{size}
-use Rattle.ring_world.specs.Event.{by_of, erase_refusal, refusal}
+use Rattle.ring_rules.specs.declared.event.Event.{Event}
+use Rattle.ring_rules.specs.declared.event.Event.TheVariants.{Put, Take, TakeEnd, Gain, Mark, Refresh, Pick, Erase}
+use Rattle.ring_rules.specs.declared.phase.Phase.TheVariants.{Waiting, Up}
+use Rattle.ring_rules.specs.Machine.{World, member_at, newest, right, runs}
+use Rattle.ring_rules.specs.Step.{size}
+use Rattle.ring_rules.specs.Event.{by_of, erase_refusal, refusal}
 use Rattle.ring_cluster.specs.declared.driver.OwnStep.{OwnStep}
 use Rattle.ring_cluster.specs.declared.driver.OwnStep.TheVariants as step
 use Rattle.ring_cluster.specs.declared.driver.OwnTurn.{OwnTurn}
 use Rattle.ring_cluster.specs.declared.driver.OwnTurn.TheVariants as turn
 use Rattle.ring_cluster.specs.Seen.{Seen, state_of, IsMemberIn, SameButOwed}
-use Rattle.ring_world.specs.Work.{is_stale, total}
+use Rattle.ring_rules.specs.Work.{is_stale, total}
 use Rattle.ring_cluster.specs.Plays.{HasGoneOn, SameGiven, IsDue}
 use Rattle.ring_cluster.specs.Backlog.{backlog_of}
 

@@ -20,7 +20,7 @@ use group_view::Request;
 use ordered_link::PlainIn;
 use registrar::Registrar;
 use ring_names::{CreditSpec, MemberId, Name};
-use ring_world::{Client, Event, Refused};
+use ring_rules::{Client, Event, Refused};
 
 /// Whether the member has that name.
 fn has_name(node: &Node, name: &Name) -> bool
@@ -96,7 +96,7 @@ impl Parties {
     ghost use Rattle.std.specs.Prelude.{option_map};
     ghost use Rattle.group_view.specs.View.{number};
     ghost use Rattle.group_view.specs.Since.{view_at};
-    ghost use Rattle.ring_world.specs.declared.event.Event.TheVariants.{Stop, Mark, Erase};
+    ghost use Rattle.ring_rules.specs.declared.event.Event.TheVariants.{Stop, Mark, Erase};
     ghost use Rattle.ring_cluster.specs.Parties.{node_at};
     ghost use Rattle.ring_cluster.specs.Standing.{StandSomewhere};
     ghost use Rattle.ring_cluster.specs.Tried.{IsJudged};

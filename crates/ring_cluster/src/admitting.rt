@@ -3,8 +3,8 @@ ghost use Rattle.std.specs.Prelude.{◌≡◌, ◌≤◌, ◌<◌, ◌∷◌, �
 ghost use Rattle.std.specs.Vec.{vec_len, vec_capacity};
 ghost use Rattle.group_view.specs.Change.{admitted, admit_refusal as group_refusal};
 ghost use Rattle.group_view.specs.Ring.{is_in};
-ghost use Rattle.ring_world.specs.Rows.{most_members};
-ghost use Rattle.ring_world.specs.View.{ids};
+ghost use Rattle.ring_rules.specs.Rows.{most_members};
+ghost use Rattle.ring_rules.specs.View.{ids};
 ghost use Rattle.gm_member.specs.Held.{at_some};
 ghost use Rattle.ring_cluster.specs.Ends.{fresh_in};
 ghost use Rattle.ring_cluster.specs.Parties.{Posted, shown_of};
@@ -21,7 +21,7 @@ use gm_member::{Ask, Member};
 use group_view::View;
 use ordered_link::plain_pair;
 use ring_names::{CreditSpec, MemberId, Name, OutOfMemory};
-use ring_world::Refused;
+use ring_rules::Refused;
 use std::alloc::Global;
 
 /// Whom a member admits who has this view, with the in end of a pair of its own until a link opens to it.
@@ -77,7 +77,7 @@ fn push_reserved(members: &mut Vec<Party>, party: Party)
 
 impl Parties {
     ghost use Rattle.std.specs.Prelude.{◌≡◌, ℕ, ◌<◌, List, false, length, IfOk, OnErr};
-    ghost use Rattle.ring_world.specs.declared.event.Event.TheVariants.{Admit};
+    ghost use Rattle.ring_rules.specs.declared.event.Event.TheVariants.{Admit};
     ghost use Rattle.gm_member.specs.Held.{up_refused};
     ghost use Rattle.ring_cluster.specs.Parties.{node_at};
     ghost use Rattle.ring_cluster.specs.Standing.{StandSomewhere};

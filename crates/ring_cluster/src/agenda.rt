@@ -6,7 +6,7 @@ ghost use Rattle.ring_cluster.specs.Plays.{task_event, task_client, answer_by, i
 ghost use Rattle.ring_cluster.specs.declared.agenda.Task.{Task};
 
 use ring_names::{Body, Name, OutOfMemory, Reason};
-use ring_world::{Client, Event};
+use ring_rules::{Client, Event};
 use std::alloc::Global;
 use std::collections::VecDeque;
 use std::marker::Model;

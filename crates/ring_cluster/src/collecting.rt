@@ -4,7 +4,7 @@ ghost use Rattle.std.specs.List.{filter};
 ghost use Rattle.ordered_link.specs.declared.plain.PlainIn.{PlainIn as In};
 ghost use Rattle.group_view.specs.declared.request.Answer.TheVariants.{Links};
 ghost use Rattle.group_view.specs.declared.request.Deposited.{Deposited as Given};
-ghost use Rattle.ring_world.specs.declared.phase.Phase.TheVariants.{Up};
+ghost use Rattle.ring_rules.specs.declared.phase.Phase.TheVariants.{Up};
 ghost use Rattle.registrar.specs.Registry.{AreHere, is_known};
 ghost use Rattle.registrar.specs.Asked.{request_refusal};
 ghost use Rattle.registrar.specs.Handled.{handled, answered, without_links};
@@ -25,7 +25,7 @@ use group_view::{Answer, Deposited, Request};
 use ordered_link::PlainIn;
 use registrar::Registrar;
 use ring_names::{Items, OutOfMemory};
-use ring_world::Phase;
+use ring_rules::Phase;
 
 /// Whether a member is up.
 fn is_up(node: &Node) -> bool
@@ -40,7 +40,7 @@ fn is_up(node: &Node) -> bool
 
 impl Parties {
     ghost use Rattle.std.specs.Prelude.{◌≡◌, ◌+◌, ◌<◌, false, OnOk, length};
-    ghost use Rattle.ring_world.specs.declared.phase.Phase.TheVariants.{Up};
+    ghost use Rattle.ring_rules.specs.declared.phase.Phase.TheVariants.{Up};
     ghost use Rattle.ring_cluster.specs.Parties.{node_at};
     ghost use Rattle.ring_cluster.specs.Standing.{StandSomewhere, StandStill};
     ghost use Rattle.ring_cluster.specs.Refused.{NothingWaits};

@@ -1,13 +1,13 @@
 //! The turns of the members: rounds, and the drain that ends when nothing is left to do.
 ghost use Rattle.std.specs.Prelude.{◌≡◌, ◌≢◌, ℕ, List, ◌+◌, ◌-◌, ◌<◌, ◌≤◌, ◌∷◌, ◌++◌, ◌||◌, [], true, false, not};
 ghost use Rattle.std.specs.Prelude.{length, IfOk, OnOk, OnErr, MatchOption, None, Contains};
-ghost use Rattle.ring_world.specs.Machine.{member_at, view_in, newest as the_newest, right as the_right};
-ghost use Rattle.ring_world.specs.Machine.{runs as runs_at};
-ghost use Rattle.ring_world.specs.Step.{size};
-ghost use Rattle.ring_world.specs.Refusal.{is_empty};
-ghost use Rattle.ring_world.specs.Event.{by_of, refusal, erase_refusal, is_asked};
-ghost use Rattle.ring_world.specs.Idle.{NobodySteps, MarksNobody, ErasesNobody};
-ghost use Rattle.ring_world.specs.Work.{total, is_stale as the_staleness, LeavesLess};
+ghost use Rattle.ring_rules.specs.Machine.{member_at, view_in, newest as the_newest, right as the_right};
+ghost use Rattle.ring_rules.specs.Machine.{runs as runs_at};
+ghost use Rattle.ring_rules.specs.Step.{size};
+ghost use Rattle.ring_rules.specs.Refusal.{is_empty};
+ghost use Rattle.ring_rules.specs.Event.{by_of, refusal, erase_refusal, is_asked};
+ghost use Rattle.ring_rules.specs.Idle.{NobodySteps, MarksNobody, ErasesNobody};
+ghost use Rattle.ring_rules.specs.Work.{total, is_stale as the_staleness, LeavesLess};
 ghost use Rattle.ring_cluster.specs.Seen.{Seen, state_of, IsGoing, SameButOwed};
 ghost use Rattle.ring_cluster.specs.Plays.{agenda_of, HasBegun, AgendasAreEmpty};
 ghost use Rattle.ring_cluster.specs.Turns.{step_event, Works, DoesOrRests, TakesRound, IsMemberAt};
@@ -19,7 +19,7 @@ use crate::cluster::Cluster;
 use group_view::{Entry, Mark};
 use ring_io::Gate;
 use ring_names::{MemberId, Name, OutOfMemory};
-use ring_world::{Event, Phase, Refused};
+use ring_rules::{Event, Phase, Refused};
 
 /// A step of a member on its links.
 #[derive(Clone, Copy, PartialEq, Eq, Debug)]

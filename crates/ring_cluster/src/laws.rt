@@ -1,6 +1,6 @@
 //! The laws of a ring left to itself, over all runs.
-ghost use Rattle.ring_world.specs.Idle.{NobodySteps, MarksNobody, ErasesNobody};
-ghost use Rattle.ring_world.specs.Quiet.{IsQuiet};
+ghost use Rattle.ring_rules.specs.Idle.{NobodySteps, MarksNobody, ErasesNobody};
+ghost use Rattle.ring_rules.specs.Quiet.{IsQuiet};
 ghost use Rattle.ring_cluster.specs.EachState.{InEachState};
 ghost use Rattle.ring_cluster.specs.Heard.{HasHeardAll};
 
@@ -15,7 +15,7 @@ pub fn an_idle_ring_is_at_rest()
 /// Where a ring is quiet, in any state that it reaches, every message of the members that run is
 /// confirmed, and every member that is up has heard all of them from its base on: a member of the opening
 /// from the first one on. The base of one that joined isn't above the length that the log had at its admission
-/// (`every_state_is_lawful` of ring_world).
+/// (`every_state_is_lawful` of ring_rules).
 pub fn a_quiet_ring_has_heard_all()
     ensures { InEachState (λ names w. IsQuiet w → HasHeardAll names w) }
 {}

@@ -10,7 +10,7 @@ ghost use Rattle.registrar.specs.Handled.{with_view, handled, answered};
 ghost use Rattle.registrar.specs.Asked.{request_refusal};
 ghost use Rattle.group_view.specs.View.{Group};
 ghost use Rattle.group_view.specs.Ring.{is_in};
-ghost use Rattle.ring_world.specs.View.{ids};
+ghost use Rattle.ring_rules.specs.View.{ids};
 ghost use Rattle.gm_member.specs.Held.{refresh_refused};
 ghost use Rattle.ring_cluster.specs.Parties.{shown_of};
 ghost use Rattle.ring_cluster.specs.Tried.{IsJudged};
@@ -26,7 +26,7 @@ use group_view::{Answer, LinkName, Request, View};
 use ordered_link::{PlainIn, PlainOut};
 use registrar::Registrar;
 use ring_names::{OutOfMemory, Reason};
-use ring_world::Refused;
+use ring_rules::Refused;
 
 /// An out end that its member has replaced, with the name of its link.
 pub(crate) type Loose = (LinkName, PlainOut<Load>);

@@ -2,7 +2,7 @@
 ghost use Rattle.std.specs.Prelude.{◌≡◌, ◌+◌, ◌-◌, ◌≤◌, ◌<◌, ℕ, true, false, map, length, IfSome, IfNone, IsSome};
 ghost use Rattle.std.specs.Prelude.{List, None, Some, option_map, slice_index_or, slice_set};
 ghost use Rattle.group_view.specs.declared.link.LinkName.{LinkName};
-ghost use Rattle.ring_world.specs.Machine.{runs_phase};
+ghost use Rattle.ring_rules.specs.Machine.{runs_phase};
 ghost use Rattle.registrar.specs.Registry.{name_in, end_in};
 ghost use Rattle.gm_member.specs.Shown.{in_name_of, out_name_of, in_end};
 ghost use Rattle.ring_cluster.specs.Ends.{Fits, Meets, InSeen};

@@ -12,7 +12,7 @@ use activity::Load;
 use gm_member::Member;
 use ordered_link::{PlainIn, PlainOut};
 use ring_names::{Body, Message};
-use ring_world::Refused;
+use ring_rules::Refused;
 
 /// A member whose links are plain pairs.
 pub type Node = Member<PlainOut<Load>, PlainIn<Load>>;

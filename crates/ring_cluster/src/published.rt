@@ -3,13 +3,13 @@ ghost use Rattle.std.specs.Prelude.{◌≡◌, ◌<◌, ◌∷◌, ◌++◌, [],
 ghost use Rattle.std.specs.Prelude.{slice_set, slice_index_or, bytes_eq, IfSome};
 ghost use Rattle.ring_names.specs.declared.message.Message.TheVariants as message;
 ghost use Rattle.group_view.specs.Change.{AreDifferent};
-ghost use Rattle.ring_world.specs.declared.event.Event.{Event};
-ghost use Rattle.ring_world.specs.Published.{published_in};
+ghost use Rattle.ring_rules.specs.declared.event.Event.{Event};
+ghost use Rattle.ring_rules.specs.Published.{published_in};
 ghost use Rattle.ring_cluster.specs.Agendas.{place_among};
 ghost use Rattle.ring_cluster.specs.Published.{logs_in};
 
 use ring_names::{Body, Name, OutOfMemory};
-use ring_world::Event;
+use ring_rules::Event;
 use std::alloc::Global;
 
 /// Of each member of these names, by places, the bodies that the events have published, in order.

@@ -1,7 +1,7 @@
 //! Why an event of a member of the cluster is refused. What is here only reads, and wants no memory.
 ghost use Rattle.std.specs.Prelude.{◌≡◌, ◌∷◌, List, [], true, false, Some, None, Option, MatchOption, map};
-ghost use Rattle.ring_world.specs.Refusal.{is_empty};
-ghost use Rattle.ring_world.specs.Event.{is_told as told, is_passing as passes};
+ghost use Rattle.ring_rules.specs.Refusal.{is_empty};
+ghost use Rattle.ring_rules.specs.Event.{is_told as told, is_passing as passes};
 ghost use Rattle.ring_names.specs.declared.reason.Reason.{Reason};
 ghost use Rattle.gm_member.specs.Held.{up_refused, take_refused};
 ghost use Rattle.ring_cluster.specs.Ends.{Sent};
@@ -21,7 +21,7 @@ use group_view::{Request, View};
 use ordered_link::{Item, PlainIn};
 use registrar::Registrar;
 use ring_names::{Name, Reason};
-use ring_world::{Client, Event, Phase};
+use ring_rules::{Client, Event, Phase};
 
 /// The most entries of a view.
 const MOST_MEMBERS: usize = 64;
@@ -273,8 +273,8 @@ fn first_late(late: &Option<Undelivered>, node: &Node) -> Option<u32>
 impl Parties {
     ghost use Rattle.std.specs.Prelude.{◌≡◌, ◌<◌, ℕ, List, None, length};
     ghost use Rattle.ring_names.specs.declared.reason.Reason.{Reason};
-    ghost use Rattle.ring_world.specs.declared.event.Event.TheVariants.{Mark, Erase};
-    ghost use Rattle.ring_world.specs.Event.{version_refusal};
+    ghost use Rattle.ring_rules.specs.declared.event.Event.TheVariants.{Mark, Erase};
+    ghost use Rattle.ring_rules.specs.Event.{version_refusal};
     ghost use Rattle.gm_member.specs.Held.{on_some, up_refused, pick_refused};
     ghost use Rattle.gm_member.specs.Questions.{has_link};
     ghost use Rattle.ring_cluster.specs.Parties.{shown_of, node_at};

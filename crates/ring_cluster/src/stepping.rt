@@ -12,7 +12,7 @@ use group_view::{LinkName, Request};
 use ordered_link::PlainIn;
 use registrar::Registrar;
 use ring_names::{CreditSpec, Name, OutOfMemory};
-use ring_world::{Event, Refused};
+use ring_rules::{Event, Refused};
 
 /// The most events of a journal.
 const MOST_EVENTS: usize = (1 << 59) - 1;
@@ -70,8 +70,8 @@ impl Parties {
     ghost use Rattle.std.specs.Prelude.{◌≡◌, ◌∷◌, ◌++◌, ◌+◌, ◌<◌, ◌^◌, [], true, false, length, OnOk, OnErr};
     ghost use Rattle.std.specs.Prelude.{Some, None, Err};
     ghost use Rattle.ring_names.specs.declared.reason.Reason.{Reason};
-    ghost use Rattle.ring_world.specs.declared.phase.Phase.TheVariants.{Up};
-    ghost use Rattle.ring_world.specs.Event.{by_of, refusal};
+    ghost use Rattle.ring_rules.specs.declared.phase.Phase.TheVariants.{Up};
+    ghost use Rattle.ring_rules.specs.Event.{by_of, refusal};
     ghost use Rattle.ring_cluster.specs.Seen.{state, IsEventIn};
     ghost use Rattle.ring_cluster.specs.Parties.{node_at};
     ghost use Rattle.ring_cluster.specs.Tried.{IsJudged};

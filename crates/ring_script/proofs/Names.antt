@@ -10,8 +10,8 @@ use Rattle.std.proofs.lemmas.List.Folds.{list_any_at, Any-from_list_any}
 use Rattle.std.proofs.lemmas.Slice.Eq.{bytes_eq-Decides}
 use Rattle.ring_names.specs.Name.{IsName, is_bad_name_byte, unless_bad}
 use Rattle.ring_names.specs.declared.name.NameFault.TheVariants.{Empty, TooLong}
-use Rattle.ring_world.specs.Rows.{AreDifferent}
-use Rattle.ring_world.proofs.events.Names.{same_bytes}
+use Rattle.ring_rules.specs.Rows.{AreDifferent}
+use Rattle.ring_rules.proofs.events.Names.{same_bytes}
 use Rattle.ring_script.specs.declared.fault.Kind.TheVariants.{BadName, NameTaken, TooManyMembers}
 use Rattle.ring_script.specs.Line.{is_name, is_among, further_fault, names_fault}
 

@@ -12,10 +12,10 @@ use Rattle.ring_script.specs.declared.steps.OwnStep.{OwnStep}
 use Rattle.ring_script.specs.declared.steps.OwnStep.TheVariants as own
 use Rattle.ring_script.specs.Words.{words_of, behind_word, number_of}
 use Rattle.ring_script.specs.Line.{Grammar, operand_in, second_in, body_in, one_word, two_words, name_fault, number_fault, cast_fault}
-use Rattle.ring_world.specs.declared.event.Client.{Client}
-use Rattle.ring_world.specs.declared.event.Client.TheVariants as client
-use Rattle.ring_world.specs.declared.event.Event.{Event}
-use Rattle.ring_world.specs.declared.event.Event.TheVariants as event
+use Rattle.ring_rules.specs.declared.event.Client.{Client}
+use Rattle.ring_rules.specs.declared.event.Client.TheVariants as client
+use Rattle.ring_rules.specs.declared.event.Event.{Event}
+use Rattle.ring_rules.specs.declared.event.Event.TheVariants as event
 
 -- the step that a word names, of those that need no further word than their member's name
 abbrev pub own_step_of : List ℕ → Option OwnStep

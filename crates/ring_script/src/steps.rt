@@ -14,7 +14,7 @@ use crate::statement::Statement;
 use crate::text::{Text, read_text};
 use crate::words::{Words, by_word};
 use ring_names::Name;
-use ring_world::{Client, Event};
+use ring_rules::{Client, Event};
 use std::alloc::Global;
 
 /// What a step file says: the events that are then tried. They name whom they like: the ring refuses an event

@@ -4,7 +4,7 @@
 //! The byte before a `^` stands there 256 times, and the one before a `%` fills its line up to 2,000 bytes.
 use crate::*;
 use ring_names::{Body, CreditSpec, Name};
-use ring_world::{Client, Event};
+use ring_rules::{Client, Event};
 use std::alloc::Global;
 use std::process::Abort;
 use std::test::Fail;

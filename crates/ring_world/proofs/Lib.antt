@@ -1,9 +1,2 @@
 pub mod code
-pub mod compact
-pub mod events
-pub mod invariants
-pub mod rests
 pub mod rings
-pub mod runs
-pub mod walks
-pub mod work

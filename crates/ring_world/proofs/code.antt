@@ -1,10 +1,8 @@
 -- For the code of the plain machine.
 pub mod Agreed
-pub mod Enables
 pub mod Found
 pub mod HeldLaws
 pub mod Joins
-pub mod Looks
 pub mod Noting
 pub mod Padded
 pub mod Rules

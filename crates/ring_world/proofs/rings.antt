@@ -1,9 +1,2 @@
 -- Lists alone, and rings of ids: what the proofs on walks use of them.
-pub mod Falling
-pub mod Lists
-pub mod Maps
-pub mod Ring
-pub mod Rounds
 pub mod Told
-pub mod Weakens
-pub mod Writes

@@ -2,10 +2,11 @@
 use Rattle.std.specs.Prelude.{◌≡◌, ℕ, suc, ◌<◌, ◌≤◌, true, List, length, Some, None}
 use Rattle.ring_world.specs.declared.state.Ring.{Ring}
 use Rattle.group_view.specs.View.{is_dead}
-use Rattle.ring_world.specs.Machine.{Up, World, member_at, link_at, view_in, newest, row_at, runs}
-use Rattle.ring_world.specs.Step.{size, log_of}
-use Rattle.ring_world.specs.View.{is_live}
-use Rattle.ring_world.specs.Event.{admit_refusal}
+use Rattle.ring_rules.specs.Machine.{World, member_at, link_at, view_in, newest, row_at, runs}
+use Rattle.ring_rules.specs.declared.phase.Phase.TheVariants.{Up}
+use Rattle.ring_rules.specs.Step.{size, log_of}
+use Rattle.ring_rules.specs.View.{is_live}
+use Rattle.ring_rules.specs.Event.{admit_refusal}
 use Rattle.ring_world.specs.Shows.{world_of}
 
 -- Members are few, have no more rows than there are members, their own row among them, and have got all that they published;

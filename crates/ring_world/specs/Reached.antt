@@ -2,9 +2,10 @@
 use Rattle.std.specs.Prelude.{◌≡◌, ℕ, ◌<◌, ◌^◌, List, length}
 use Rattle.ring_names.specs.declared.numbers.CreditSpec.{CreditSpec}
 use Rattle.group_view.specs.Change.{AreOpeningNames}
-use Rattle.ring_world.specs.Machine.{World as State}
-use Rattle.ring_world.specs.Step.{opening}
-use Rattle.ring_world.specs.Event.{Event, IsRun, last, refusals_of}
+use Rattle.ring_rules.specs.Machine.{World as State}
+use Rattle.ring_rules.specs.Step.{opening}
+use Rattle.ring_rules.specs.Event.{IsRun, last, refusals_of}
+use Rattle.ring_rules.specs.declared.event.Event.{Event}
 use Rattle.ring_world.specs.Shows.{world_of}
 use Rattle.ring_world.specs.declared.world.World.TheInside.{Inside}
 

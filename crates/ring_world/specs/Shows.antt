@@ -1,8 +1,8 @@
 -- What the structs show.
-use Rattle.std.specs.Prelude.{ℕ, ◌-◌, ◌<◌, ◌≤◌, Bool, true, List, [], ◌∷◌, map, length, slice_index_or, vec_len, vec_capacity, ◌&&◌, not, nat_eq, nat_le, Option, Some, None, false}
+use Rattle.std.specs.Prelude.{ℕ, ◌-◌, ◌<◌, ◌≤◌, Bool, true, List, [], ◌∷◌, map, length, slice_index_or, vec_len, vec_capacity, ◌&&◌, not, nat_eq, nat_le, Option, None, false}
 use Rattle.ring_names.specs.declared.message.Message.{Message}
 use Rattle.ring_names.specs.declared.numbers.CreditSpec.{CreditSpec}
-use Rattle.ring_world.specs.Rows.{Row, Flow, no_row, full_flow, regained, brought}
+use Rattle.ring_rules.specs.Rows.{Row, Flow, no_row, full_flow, regained, brought}
 use Rattle.group_view.specs.Since.{no_group}
 use Rattle.ring_world.specs.declared.seat.KnownOrigin.{KnownOrigin}
 use Rattle.ring_world.specs.declared.seat.Seat.{Seat}
@@ -11,8 +11,8 @@ use Rattle.ring_world.specs.declared.wire.Packet as wire
 use Rattle.ring_world.specs.declared.wire.Wire.{Wire}
 use Rattle.ring_world.specs.declared.state.Ring.{Ring}
 use Rattle.group_view.specs.View.{Group}
-use Rattle.ring_world.specs.Machine.{Packet, Member, Sending, Link, World, no_member, no_link, no_sending, link_at, row_at, numbers_at}
-use Rattle.ring_world.specs.Step.{is_owned, pushed, next_lines}
+use Rattle.ring_rules.specs.Machine.{Packet, Member, Sending, Link, World, no_member, no_link, no_sending, row_at, numbers_at}
+use Rattle.ring_rules.specs.Step.{is_owned, pushed, next_lines}
 
 -- a row
 abbrev pub row_of : KnownOrigin → Row
@@ -130,8 +130,3 @@ link_new credit x z v =
 -- and with its first packet of these rows
 abbrev pub link_opened : CreditSpec → ℕ → ℕ → ℕ → List Row → Link
 link_opened credit x z v rows = pushed (link_new credit x z v) (record { version = v; numbers = next_lines true rows [] })
-
--- whether the link that a member sends on goes to z
-abbrev pub sends_to : World → ℕ → Option ℕ → Bool
-sends_to w z None = false
-sends_to w z (Some o) = nat_eq (link_at w o).receiver z

@@ -1,15 +1,15 @@
 -- What the code of the walk reads at each stop.
 use Rattle.std.specs.Prelude.{ℕ, Bool, true, not, ◌&&◌, nat_eq, nat_le, List, [], ◌∷◌, ◌++◌, map, filter}
-use Rattle.ring_world.specs.declared.numbers.Numbers.{Numbers}
-use Rattle.ring_world.specs.Rows.{Row}
+use Rattle.ring_rules.specs.declared.numbers.Numbers.{Numbers}
+use Rattle.ring_rules.specs.Rows.{Row}
 use Rattle.group_view.specs.View.{Group, entry_in}
 use Rattle.ring_world.specs.declared.walk.Round.{Round}
 use Rattle.ring_world.specs.declared.walk.Round.TheVariants.{Got, Forgot}
 use Rattle.ring_world.specs.declared.walk.Part.{Part}
 use Rattle.ring_world.specs.declared.walk.Part.TheVariants.{Every, Early, Late}
-use Rattle.ring_world.specs.View.{left_of}
-use Rattle.ring_world.specs.Machine.{Packet, Link, World, numbers_at}
-use Rattle.ring_world.specs.OpenLinks.{is_late, open_links, packets_on, number}
+use Rattle.ring_rules.specs.View.{left_of}
+use Rattle.ring_rules.specs.Machine.{Packet, Link, World, numbers_at}
+use Rattle.ring_rules.specs.OpenLinks.{is_late, open_links, packets_on, number}
 
 -- which numbers of a packet a round reads
 abbrev pub reads : Round → Numbers → ℕ

@@ -2,21 +2,21 @@
 ghost use Rattle.std.specs.Prelude.{◌≡◌, ◌<◌, suc, length, is_some, Some, None, OnOk, OnErr};
 ghost use Rattle.ring_names.specs.declared.message.Message.TheVariants as message;
 ghost use Rattle.ring_names.specs.declared.reason.Reason.TheVariants as reason;
-ghost use Rattle.ring_world.specs.Refusal.{refuse_if, or_else};
-ghost use Rattle.ring_world.specs.declared.phase.Ending.TheVariants as ending;
-ghost use Rattle.ring_world.specs.Machine.{member_at};
-ghost use Rattle.ring_world.specs.Step.{publish_at, put_on, gain_on, stop_at, end_out, current_is, leave_link};
-ghost use Rattle.ring_world.specs.Event.{up_refusal, running_refusal, on_link, put_refusal, take_refusal};
-ghost use Rattle.ring_world.specs.Event.{end_refusal, gain_refusal, pick_refusal, at_found, taken_by};
-ghost use Rattle.ring_world.specs.Event.{at_door as the_door};
+ghost use Rattle.ring_rules.specs.Refusal.{refuse_if, or_else};
+ghost use Rattle.ring_rules.specs.declared.phase.Ending.TheVariants as ending;
+ghost use Rattle.ring_rules.specs.Machine.{member_at};
+ghost use Rattle.ring_rules.specs.Step.{publish_at, put_on, gain_on, stop_at, end_out, current_is, leave_link};
+ghost use Rattle.ring_rules.specs.Event.{up_refusal, running_refusal, on_link, put_refusal, take_refusal};
+ghost use Rattle.ring_rules.specs.Event.{end_refusal, gain_refusal, pick_refusal, at_found, taken_by};
+ghost use Rattle.ring_rules.specs.Event.{at_door as the_door};
 ghost use Rattle.ring_world.specs.Placed.{IsPlaced};
 ghost use Rattle.ring_world.specs.Shows.{world_of};
 
 use crate::neighbours::{at_door, id_at};
-use crate::phase::{Ending, Phase};
 use crate::state::Ring;
 use crate::{seats, taking, wires};
 use ring_names::{Body, Message, OutOfMemory};
+use ring_rules::{Ending, Phase};
 use std::alloc::Global;
 
 /// The member at a place publishes a body.
@@ -34,7 +34,7 @@ pub(crate) fn cast(ring: &mut Ring, place: usize, body: &Body) -> Result<(), Out
 }
 
 /// It puts a packet on its link.
-#[tactic(auto, using(crate::proofs::code::Rules::sending, crate::proofs::events::Enabled::put_credit))]
+#[tactic(auto, using(crate::proofs::code::Rules::sending, ring_rules::proofs::events::Enabled::put_credit))]
 pub(crate) fn put(alloc: Global, ring: &mut Ring, place: usize) -> Result<(), OutOfMemory>
     requires placed { IsPlaced (world_of ring.old) }
     requires place { place < length ring.old.seats.items }
@@ -53,7 +53,7 @@ pub(crate) fn put(alloc: Global, ring: &mut Ring, place: usize) -> Result<(), Ou
 }
 
 /// The oldest grant on its link becomes credit.
-#[tactic(auto, using(crate::proofs::code::Rules::sending, crate::proofs::events::Enabled::gain_some))]
+#[tactic(auto, using(crate::proofs::code::Rules::sending, ring_rules::proofs::events::Enabled::gain_some))]
 pub(crate) fn gain(ring: &mut Ring, place: usize)
     requires placed { IsPlaced (world_of ring.old) }
     requires place { place < length ring.old.seats.items }
@@ -71,7 +71,7 @@ pub(crate) fn gain(ring: &mut Ring, place: usize)
 }
 
 /// It takes a packet, where it waits its first.
-#[tactic(auto, using(crate::proofs::code::Rules::receiving, crate::proofs::events::Enabled::take_some))]
+#[tactic(auto, using(crate::proofs::code::Rules::receiving, ring_rules::proofs::events::Enabled::take_some))]
 pub(crate) fn take(alloc: Global, ring: &mut Ring, place: usize) -> Result<(), OutOfMemory>
     requires placed { IsPlaced (world_of ring.old) }
     requires place { place < length ring.old.seats.items }

@@ -1,22 +1,21 @@
 //! What is asked of a state.
 ghost use Rattle.std.specs.Prelude.{◌≡◌, ◌<◌, suc, cond, length, Option, Some, None, IsSome, IfOk};
 ghost use Rattle.group_view.specs.declared.entry.Entry.{Entry};
-ghost use Rattle.ring_world.specs.Machine.{row_at, member_at};
-ghost use Rattle.ring_world.specs.Asked.{heard_at as the_heard, id_at as the_id_at, state_of as the_state};
-ghost use Rattle.ring_world.specs.Asked.{state_at as the_state_at};
-ghost use Rattle.ring_world.specs.Asked.{counts_of as the_counts};
-ghost use Rattle.ring_world.specs.Event.{id_of as the_id};
+ghost use Rattle.ring_rules.specs.Machine.{row_at, member_at};
+ghost use Rattle.ring_rules.specs.Asked.{heard_at as the_heard, id_at as the_id_at, state_of as the_state};
+ghost use Rattle.ring_rules.specs.Asked.{state_at as the_state_at};
+ghost use Rattle.ring_rules.specs.Asked.{counts_of as the_counts};
+ghost use Rattle.ring_rules.specs.Event.{id_of as the_id};
 ghost use Rattle.ring_world.specs.Placed.{IsPlaced};
 ghost use Rattle.ring_world.specs.Shows.{world_of, member_of, member_in};
 
 use crate::log::copied;
 use crate::neighbours::{id_at, newest_view};
-use crate::phase::Phase;
 use crate::places::place_in;
 use crate::seat::Seat;
-use crate::shown::{Counts, MemberState, counts_in};
 use crate::state::Ring;
 use ring_names::{MemberId, Message, Name, OutOfMemory};
+use ring_rules::{Counts, MemberState, Phase, counts_in};
 use std::alloc::Global;
 
 /// What a member has heard of an origin.

@@ -1,9 +1,9 @@
 //! A member has the group change, and reads the view that follows.
 ghost use Rattle.std.specs.Prelude.{◌≡◌, ◌<◌, ◌+◌, suc, ◌-◌, take, length, vec_len, vec_capacity, OnOk, OnErr};
-ghost use Rattle.ring_world.specs.declared.phase.Phase.TheVariants as phase;
-ghost use Rattle.ring_world.specs.Machine.{member_at, newest as the_newest};
-ghost use Rattle.ring_world.specs.Step.{with_view};
-ghost use Rattle.ring_world.specs.Event.{refreshed};
+ghost use Rattle.ring_rules.specs.declared.phase.Phase.TheVariants as phase;
+ghost use Rattle.ring_rules.specs.Machine.{member_at, newest as the_newest};
+ghost use Rattle.ring_rules.specs.Step.{with_view};
+ghost use Rattle.ring_rules.specs.Event.{refreshed};
 ghost use Rattle.ring_world.specs.Placed.{IsPlaced};
 ghost use Rattle.ring_world.specs.Shows.{world_of};
 

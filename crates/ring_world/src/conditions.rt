@@ -2,11 +2,11 @@
 ghost use Rattle.std.specs.Prelude.{ℕ, ◌≡◌, ◌<◌, suc, false, length, Option, Some, None, OnOk, IfOk, IfErr};
 ghost use Rattle.ring_names.specs.declared.reason.Reason.{Reason};
 ghost use Rattle.ring_names.specs.declared.reason.Reason.TheVariants as reason;
-ghost use Rattle.ring_world.specs.Refusal.{answer_of};
-ghost use Rattle.ring_world.specs.declared.phase.Phase.TheVariants as phase;
-ghost use Rattle.ring_world.specs.Machine.{member_at};
-ghost use Rattle.ring_world.specs.Event.{is_stopped, up_refusal, running_refusal, on_link, put_refusal, take_refusal};
-ghost use Rattle.ring_world.specs.Event.{end_refusal, gain_refusal, version_refusal};
+ghost use Rattle.ring_rules.specs.Refusal.{answer_of};
+ghost use Rattle.ring_rules.specs.declared.phase.Phase.TheVariants as phase;
+ghost use Rattle.ring_rules.specs.Machine.{member_at};
+ghost use Rattle.ring_rules.specs.Event.{is_stopped, up_refusal, running_refusal, on_link, put_refusal, take_refusal};
+ghost use Rattle.ring_rules.specs.Event.{end_refusal, gain_refusal, version_refusal};
 ghost use Rattle.ring_world.specs.Placed.{IsPlaced};
 ghost use Rattle.ring_world.specs.Shows.{world_of};
 

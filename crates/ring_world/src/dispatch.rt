@@ -1,12 +1,11 @@
 //! Each event's conditions and its step.
 ghost use Rattle.std.specs.Prelude.{◌≡◌, ◌<◌, suc, length, None, OnOk, OnErr};
-ghost use Rattle.ring_world.specs.Refusal.{answer_of};
-ghost use Rattle.ring_world.specs.Event.{refusal, refused_at, effect, done_at};
+ghost use Rattle.ring_rules.specs.Refusal.{answer_of};
+ghost use Rattle.ring_rules.specs.Event.{refusal, refused_at, effect, done_at};
 ghost use Rattle.ring_world.specs.Placed.{IsPlaced, IsReady};
 ghost use Rattle.ring_world.specs.Shows.{world_of};
 
 use crate::erasing::erase;
-use crate::event::Event;
 use crate::joining::admit;
 use crate::marking::mark;
 use crate::places::place_in;
@@ -15,6 +14,7 @@ use crate::refusing::may_refuse;
 use crate::state::Ring;
 use crate::{arms, conditions, membership};
 use ring_names::{OutOfMemory, Reason};
+use ring_rules::Event;
 use std::alloc::Global;
 
 /// The first condition of an event that fails.

@@ -3,10 +3,10 @@ ghost use Rattle.std.specs.Prelude.{◌≡◌, ◌<◌, ◌+◌, suc, true, leng
 ghost use Rattle.group_view.specs.Change.{erased};
 ghost use Rattle.group_view.specs.View.{is_dead};
 ghost use Rattle.promotion.specs.Elect.{installed};
-ghost use Rattle.ring_world.specs.declared.phase.Phase.TheVariants as phase;
-ghost use Rattle.ring_world.specs.Machine.{member_at, newest as the_newest};
-ghost use Rattle.ring_world.specs.Step.{with_view};
-ghost use Rattle.ring_world.specs.Event.{erase_refusal, erased_view, refreshed};
+ghost use Rattle.ring_rules.specs.declared.phase.Phase.TheVariants as phase;
+ghost use Rattle.ring_rules.specs.Machine.{member_at, newest as the_newest};
+ghost use Rattle.ring_rules.specs.Step.{with_view};
+ghost use Rattle.ring_rules.specs.Event.{erase_refusal, erased_view, refreshed};
 ghost use Rattle.ring_world.specs.Placed.{IsReady};
 ghost use Rattle.ring_world.specs.Shows.{world_of};
 
@@ -19,7 +19,7 @@ use ring_names::{MemberId, OutOfMemory};
 use std::alloc::Global;
 
 /// The view in which an entry is erased that is dead in it, with a master where one can be elected.
-#[tactic(auto, using(crate::proofs::code::Looks::nobody_refuses_erasing))]
+#[tactic(auto, using(ring_rules::proofs::code::Looks::nobody_refuses_erasing))]
 fn after_erasing(view: &View, origin: u32) -> Result<View, OutOfMemory>
     requires { is_dead (view.now).entries origin ≡ true }
     ensures { IfOk result (λ next. next ≡ installed (erased view.now origin)) }
@@ -34,7 +34,7 @@ fn after_erasing(view: &View, origin: u32) -> Result<View, OutOfMemory>
 
 /// The member at a place has the origin at another erased, and reads the view that follows, as
 /// `gm:erase_members_in_group`.
-#[tactic(auto, using(crate::proofs::code::Enables::erase_dead))]
+#[tactic(auto, using(ring_rules::proofs::code::Enables::erase_dead))]
 pub(crate) fn erase(
     alloc: Global,
     ring: &mut Ring,

@@ -3,21 +3,21 @@ ghost use Rattle.std.specs.Prelude.{◌≡◌, ◌<◌, ◌+◌, ◌∷◌, suc,
 ghost use Rattle.std.specs.Prelude.{IfOk, OnOk, OnErr};
 ghost use Rattle.std.specs.List.{range_with_len};
 ghost use Rattle.group_view.specs.Change.{admitted, admit_refusal as group_refusal};
-ghost use Rattle.ring_world.specs.declared.phase.Phase.TheVariants as phase;
-ghost use Rattle.ring_world.specs.Machine.{member_at, no_member, newest as the_newest};
-ghost use Rattle.ring_world.specs.Rows.{born_row};
-ghost use Rattle.ring_world.specs.Step.{joiner as the_joiner, come_to};
-ghost use Rattle.ring_world.specs.Event.{admit_refusal, refreshed};
+ghost use Rattle.ring_rules.specs.declared.phase.Phase.TheVariants as phase;
+ghost use Rattle.ring_rules.specs.Machine.{member_at, no_member, newest as the_newest};
+ghost use Rattle.ring_rules.specs.Rows.{born_row};
+ghost use Rattle.ring_rules.specs.Step.{joiner as the_joiner, come_to};
+ghost use Rattle.ring_rules.specs.Event.{admit_refusal, refreshed};
 ghost use Rattle.ring_world.specs.Placed.{IsPlaced, IsReady};
 ghost use Rattle.ring_world.specs.Shows.{world_of, member_of, row_of};
 
 use crate::changing::change;
 use crate::neighbours::{id_at, newest, newest_view};
-use crate::phase::Phase;
 use crate::seat::{KnownOrigin, Seat};
 use crate::state::Ring;
 use group_view::View;
 use ring_names::{MemberId, Name, OutOfMemory};
+use ring_rules::Phase;
 use std::alloc::Global;
 
 /// How many messages the member of an id has published; nobody has id 0, or one beyond the ring, and none.

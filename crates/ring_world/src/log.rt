@@ -1,6 +1,6 @@
 //! Copies of a log's messages.
 ghost use Rattle.std.specs.Prelude.{◌≡◌, IfOk};
-ghost use Rattle.ring_world.specs.Rows.{messages_between as the_messages};
+ghost use Rattle.ring_rules.specs.Rows.{messages_between as the_messages};
 
 use ring_names::{Message, OutOfMemory};
 use std::alloc::Global;

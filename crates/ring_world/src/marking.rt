@@ -1,11 +1,11 @@
 //! A member has a neighbour marked dead that has stopped.
 ghost use Rattle.std.specs.Prelude.{◌≡◌, ◌<◌, ◌+◌, suc, true, length, None, IfOk, OnOk, OnErr};
 ghost use Rattle.group_view.specs.Change.{marked};
-ghost use Rattle.ring_world.specs.declared.phase.Phase.TheVariants as phase;
-ghost use Rattle.ring_world.specs.View.{is_live};
-ghost use Rattle.ring_world.specs.Machine.{member_at, view_in, newest as the_newest};
-ghost use Rattle.ring_world.specs.Step.{with_view};
-ghost use Rattle.ring_world.specs.Event.{mark_refusal, refreshed};
+ghost use Rattle.ring_rules.specs.declared.phase.Phase.TheVariants as phase;
+ghost use Rattle.ring_rules.specs.View.{is_live};
+ghost use Rattle.ring_rules.specs.Machine.{member_at, view_in, newest as the_newest};
+ghost use Rattle.ring_rules.specs.Step.{with_view};
+ghost use Rattle.ring_rules.specs.Event.{mark_refusal, refreshed};
 ghost use Rattle.ring_world.specs.Placed.{IsReady};
 ghost use Rattle.ring_world.specs.Shows.{world_of};
 
@@ -17,7 +17,7 @@ use ring_names::{MemberId, OutOfMemory};
 use std::alloc::Global;
 
 /// The view without an entry that lives in it.
-#[tactic(auto, using(crate::proofs::code::Looks::nobody_refuses))]
+#[tactic(auto, using(ring_rules::proofs::code::Looks::nobody_refuses))]
 fn without(view: &View, dead: u32) -> Result<View, OutOfMemory>
     requires { is_live view.now dead ≡ true }
     ensures { IfOk result (λ next. next ≡ marked view.now dead) }
@@ -31,7 +31,7 @@ fn without(view: &View, dead: u32) -> Result<View, OutOfMemory>
 
 /// The member at a place has the member at another marked dead, and reads the view that follows, as
 /// `gm:record_dead_member_in_group`.
-#[tactic(auto, using(crate::proofs::events::Enabled::mark_lives))]
+#[tactic(auto, using(ring_rules::proofs::events::Enabled::mark_lives))]
 pub(crate) fn mark(
     alloc: Global,
     ring: &mut Ring,

@@ -1,12 +1,12 @@
 //! When an event may happen, of what concerns views.
 ghost use Rattle.std.specs.Prelude.{◌≡◌, ◌<◌, ◌&&◌, ◌||◌, suc, true, false, length, nat_eq, is_some, Some, None};
 ghost use Rattle.ring_names.specs.declared.reason.Reason.TheVariants as reason;
-ghost use Rattle.ring_world.specs.Refusal.{answer_of, refuse_if, or_else};
-ghost use Rattle.ring_world.specs.declared.phase.Phase.TheVariants as phase;
-ghost use Rattle.ring_world.specs.Machine.{member_at};
-ghost use Rattle.ring_world.specs.Event.{id_of as the_id, of_member, up_refusal, pick_refusal, mark_refusal};
-ghost use Rattle.ring_world.specs.Event.{refresh_refusal, is_still_taken as still_taken};
-ghost use Rattle.ring_world.specs.Event.{admit_refusal, erase_refusal};
+ghost use Rattle.ring_rules.specs.Refusal.{answer_of, refuse_if, or_else};
+ghost use Rattle.ring_rules.specs.declared.phase.Phase.TheVariants as phase;
+ghost use Rattle.ring_rules.specs.Machine.{member_at};
+ghost use Rattle.ring_rules.specs.Event.{id_of as the_id, of_member, up_refusal, pick_refusal, mark_refusal};
+ghost use Rattle.ring_rules.specs.Event.{refresh_refusal, is_still_taken as still_taken};
+ghost use Rattle.ring_rules.specs.Event.{admit_refusal, erase_refusal};
 ghost use Rattle.ring_world.specs.Placed.{IsPlaced, IsUpAt};
 ghost use Rattle.ring_world.specs.Shows.{world_of};
 

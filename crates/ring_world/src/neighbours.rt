@@ -2,10 +2,10 @@
 ghost use Rattle.std.specs.Prelude.{ℕ, ◌≡◌, ◌<◌, ◌≤◌, ◌&&◌, suc, ◌∷◌, true, not, nat_eq, nat_le, length, position};
 ghost use Rattle.std.specs.Prelude.{IfSome, slice_index_or};
 ghost use Rattle.group_view.specs.Since.{no_group};
-ghost use Rattle.ring_world.specs.View.{left_of as the_left, right_of as the_right};
-ghost use Rattle.ring_world.specs.Machine.{member_at, view_in, is_kept_of, newest as the_newest, runs as runs_at};
-ghost use Rattle.ring_world.specs.Event.{left_neighbour as the_left_neighbour, is_neighbour as neighbours};
-ghost use Rattle.ring_world.specs.Event.{at_door as the_door};
+ghost use Rattle.ring_rules.specs.View.{left_of as the_left, right_of as the_right};
+ghost use Rattle.ring_rules.specs.Machine.{member_at, view_in, is_kept_of, newest as the_newest, runs as runs_at};
+ghost use Rattle.ring_rules.specs.Event.{left_neighbour as the_left_neighbour, is_neighbour as neighbours};
+ghost use Rattle.ring_rules.specs.Event.{at_door as the_door};
 ghost use Rattle.ring_world.specs.Placed.{IsPlaced, IsUpAt};
 ghost use Rattle.ring_world.specs.Shows.{world_of, link_of, stands_at_door};
 
@@ -119,7 +119,7 @@ pub(crate) fn at_door(ring: &Ring, place: usize) -> Option<usize>
 }
 
 /// Whether the receiver has had the sender at its left in each view from `opened` up to a version.
-#[tactic(auto, using(crate::proofs::code::Looks::kept_yes, crate::proofs::code::Looks::kept_no))]
+#[tactic(auto, using(ring_rules::proofs::code::Looks::kept_yes, ring_rules::proofs::code::Looks::kept_no))]
 pub(crate) fn is_kept(views: &[View], receiver: u32, sender: u32, opened: u32, version: u32) -> bool
     requires some { 1 ≤ opened }
     requires within { version ≤ length views.now }

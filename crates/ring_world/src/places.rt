@@ -1,6 +1,6 @@
 //! Members by names.
 ghost use Rattle.std.specs.Prelude.{◌≡◌, ◌<◌, length, map, position, bytes_eq, suc, option_map, IfSome};
-ghost use Rattle.ring_world.specs.Event.{id_of as the_id};
+ghost use Rattle.ring_rules.specs.Event.{id_of as the_id};
 ghost use Rattle.ring_world.specs.Shows.{member_of, world_of};
 
 use crate::seat::Seat;

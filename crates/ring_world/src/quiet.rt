@@ -1,18 +1,19 @@
 //! Whether a ring rests.
 ghost use Rattle.std.specs.Prelude.{◌≡◌, ◌↔◌, ◌<◌, ℕ, suc, true, false, length, All, IsTrue};
-ghost use Rattle.ring_world.specs.Machine.{Up, link_at, runs as runs_at, row_at};
-ghost use Rattle.ring_world.specs.OpenLinks.{is_open as open_is};
-ghost use Rattle.ring_world.specs.Event.{holds_nothing};
-ghost use Rattle.ring_world.specs.Quiet.{IsResting, IsSettled, IsQuiet};
+ghost use Rattle.ring_rules.specs.Machine.{link_at, runs as runs_at, row_at};
+ghost use Rattle.ring_rules.specs.declared.phase.Phase.TheVariants.{Up};
+ghost use Rattle.ring_rules.specs.OpenLinks.{is_open as open_is};
+ghost use Rattle.ring_rules.specs.Event.{holds_nothing};
+ghost use Rattle.ring_rules.specs.Quiet.{IsResting, IsSettled, IsQuiet};
 ghost use Rattle.ring_world.specs.Placed.{IsPlaced, IsRunningAt};
 ghost use Rattle.ring_world.specs.Shows.{world_of, member_of};
 
 use crate::neighbours::{id_at, newest, newest_view};
-use crate::phase::Phase;
 use crate::seat::Seat;
 use crate::state::Ring;
 use crate::walk::{is_open, running_place};
 use group_view::{Entry, Mark};
+use ring_rules::Phase;
 
 /// Whether no link holds an item that is open to the running member at a place.
 #[tactic(auto, using(crate::proofs::code::ShownParts::read_link))]

@@ -1,22 +1,23 @@
 //! A member reads a view, and sends to its right neighbour in it.
 ghost use Rattle.std.specs.Prelude.{◌≡◌, ◌<◌, ◌≤◌, suc, length, nat_eq, Option, Some, None};
 ghost use Rattle.std.specs.Prelude.{vec_len, vec_capacity, OnOk, OnErr, IfSome};
-ghost use Rattle.ring_world.specs.declared.phase.Phase.TheVariants as phase;
-ghost use Rattle.ring_world.specs.declared.phase.Ending.TheVariants as ending;
-ghost use Rattle.ring_world.specs.View.{right_of};
-ghost use Rattle.ring_world.specs.Machine.{member_at, link_at, view_in, newest as the_newest, is_kept as the_kept};
-ghost use Rattle.ring_world.specs.Step.{look_at, kept_current as the_kept_current, moved_to, end_out, open_to};
-ghost use Rattle.ring_world.specs.Step.{opened_link};
-ghost use Rattle.ring_world.specs.Event.{refreshed};
+ghost use Rattle.ring_rules.specs.declared.phase.Phase.TheVariants as phase;
+ghost use Rattle.ring_rules.specs.declared.phase.Ending.TheVariants as ending;
+ghost use Rattle.ring_rules.specs.View.{right_of};
+ghost use Rattle.ring_rules.specs.Machine.{member_at, link_at, view_in, newest as the_newest, is_kept as the_kept};
+ghost use Rattle.ring_rules.specs.Step.{look_at, kept_current as the_kept_current, moved_to, end_out, open_to};
+ghost use Rattle.ring_rules.specs.Step.{opened_link};
+ghost use Rattle.ring_rules.specs.Event.{refreshed};
 ghost use Rattle.ring_world.specs.Placed.{IsPlaced, IsUpAt};
-ghost use Rattle.ring_world.specs.Shows.{world_of, link_of, link_opened, sends_to as the_sends_to};
+ghost use Rattle.ring_world.specs.Shows.{world_of, link_of, link_opened};
+ghost use Rattle.ring_rules.specs.Step.{sends_to as the_sends_to};
 
 use crate::neighbours::{id_at, is_kept, right_in, view_of};
-use crate::phase::Ending;
 use crate::state::Ring;
 use crate::wire::Wire;
 use crate::{seats, wires};
 use ring_names::OutOfMemory;
+use ring_rules::Ending;
 use std::alloc::Global;
 
 /// Whether a link is kept up to a version.
@@ -158,7 +159,7 @@ fn move_to(
 }
 
 /// The member at a place reads the view of a version.
-#[tactic(auto, using(crate::proofs::code::Looks::refreshed_stays, crate::proofs::code::Looks::refreshed_moves))]
+#[tactic(auto, using(ring_rules::proofs::code::Looks::refreshed_stays, ring_rules::proofs::code::Looks::refreshed_moves))]
 pub(crate) fn refresh(
     alloc: Global,
     ring: &mut Ring,

@@ -2,15 +2,15 @@
 ghost use Rattle.std.specs.Prelude.{◌≡◌, ◌<◌, suc, not, length, Option};
 ghost use Rattle.ring_names.specs.declared.reason.Reason.{Reason};
 ghost use Rattle.ring_names.specs.declared.reason.Reason.TheVariants as reason;
-ghost use Rattle.ring_world.specs.Refusal.{answer_of, refuse_if};
-ghost use Rattle.ring_world.specs.Event.{event_of, doing_refusal, is_passing as passes, is_told as told};
+ghost use Rattle.ring_rules.specs.Refusal.{answer_of, refuse_if};
+ghost use Rattle.ring_rules.specs.Event.{event_of, doing_refusal, is_passing as passes, is_told as told};
 ghost use Rattle.ring_world.specs.Placed.{IsPlaced};
 ghost use Rattle.ring_world.specs.Shows.{world_of};
 
-use crate::event::Client;
 use crate::state::Ring;
 use crate::{conditions, membership};
 use ring_names::Reason;
+use ring_rules::Client;
 
 /// Whether a client isn't told a refusal, as its command stays.
 fn is_passing(reason: &Reason) -> bool

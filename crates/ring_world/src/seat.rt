@@ -2,16 +2,15 @@
 ghost use Rattle.std.specs.Prelude.{◌≡◌, ◌↔◌, IsTrue, ℕ, ◌+◌, ◌^◌, ◌<◌, ◌≤◌, length, map, nat_eq};
 ghost use Rattle.std.specs.Prelude.{bytes_eq, take, vec_len, vec_capacity, IfOk, OnOk, OnErr};
 ghost use Rattle.std.specs.List.{range_with_len};
-ghost use Rattle.ring_world.specs.Rows.{no_row, published_row, taken_with};
-ghost use Rattle.ring_world.specs.Machine.{row_at, numbers_at as the_numbers};
-ghost use Rattle.ring_world.specs.Step.{published as is_published, begun_row, begun};
+ghost use Rattle.ring_rules.specs.Rows.{no_row, published_row, taken_with};
+ghost use Rattle.ring_rules.specs.Machine.{row_at, numbers_at as the_numbers};
+ghost use Rattle.ring_rules.specs.Step.{published as is_published, begun_row, begun};
 ghost use Rattle.ring_world.specs.Shows.{row_of, row_in, member_of, packet_of, room_of, with_rows, News, news_of};
 ghost use Rattle.ring_world.specs.Shows.{news_in, looked, HasRoom};
 
-use crate::numbers::{Numbers, numbers_at};
-use crate::phase::Phase;
 use crate::wire::Packet;
 use ring_names::{Message, Name, OutOfMemory};
+use ring_rules::{Numbers, Phase, numbers_at};
 use std::alloc::Global;
 
 /// What a member knows of one origin.

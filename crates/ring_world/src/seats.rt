@@ -1,12 +1,12 @@
 //! Changes of single members.
 ghost use Rattle.std.specs.Prelude.{◌≡◌, ◌<◌, suc, length, map, slice_set, Some, OnOk, OnErr};
-ghost use Rattle.ring_world.specs.Machine.{row_at};
-ghost use Rattle.ring_world.specs.Step.{published, with_current, stopped};
+ghost use Rattle.ring_rules.specs.Machine.{row_at};
+ghost use Rattle.ring_rules.specs.Step.{published, with_current, stopped};
 ghost use Rattle.ring_world.specs.Shows.{member_of, member_in, looked, with_out};
 
-use crate::phase::Phase;
 use crate::seat::Seat;
 use ring_names::{Message, OutOfMemory};
+use ring_rules::Phase;
 
 /// The member at a place publishes a message.
 #[tactic(auto, using(crate::proofs::code::Rules::publishing))]

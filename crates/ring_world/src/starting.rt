@@ -3,17 +3,17 @@ ghost use Rattle.std.specs.Prelude.{◌≡◌, ◌<◌, ◌≤◌, ◌+◌, [], 
 ghost use Rattle.std.specs.List.{range_with_len};
 ghost use Rattle.group_view.specs.Change.{AreOpeningNames, opening as opening_group};
 ghost use Rattle.group_view.specs.Ring.{is_in};
-ghost use Rattle.ring_world.specs.View.{ids};
-ghost use Rattle.ring_world.specs.Step.{opening as the_opening, opening_member, opening_link};
+ghost use Rattle.ring_rules.specs.View.{ids};
+ghost use Rattle.ring_rules.specs.Step.{opening as the_opening, opening_member, opening_link};
 ghost use Rattle.ring_world.specs.Shows.{world_of, member_of, link_of};
 
 use crate::neighbours::{id_at, left_in, right_in};
-use crate::phase::Phase;
 use crate::seat::{Seat, opening_rows};
 use crate::state::Ring;
 use crate::wire::Wire;
 use group_view::View;
 use ring_names::{CreditSpec, Name, OutOfMemory};
+use ring_rules::Phase;
 use std::alloc::Global;
 
 /// The member at a place.

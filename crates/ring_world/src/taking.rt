@@ -2,22 +2,22 @@
 ghost use Rattle.std.specs.Prelude.{◌≡◌, ◌<◌, ◌≤◌, ◌+◌, ◌∷◌, suc, false, length, map, slice_set, slice_index_or};
 ghost use Rattle.std.specs.Prelude.{IfOk, OnOk, OnErr};
 ghost use Rattle.std.specs.List.{range_with_len};
-ghost use Rattle.ring_world.specs.Refusal.{is_empty};
-ghost use Rattle.ring_world.specs.Machine.{link_at, no_member, row_at, numbers_at as the_numbers, oldest};
-ghost use Rattle.ring_world.specs.Step.{is_owned as owned_is, taken, begun, popped, take_from, begin_from};
-ghost use Rattle.ring_world.specs.Rows.{brought};
+ghost use Rattle.ring_rules.specs.Refusal.{is_empty};
+ghost use Rattle.ring_rules.specs.Machine.{link_at, no_member, row_at, numbers_at as the_numbers, oldest};
+ghost use Rattle.ring_rules.specs.Step.{is_owned as owned_is, taken, begun, popped, take_from, begin_from};
+ghost use Rattle.ring_rules.specs.Rows.{brought};
 ghost use Rattle.ring_world.specs.Placed.{IsUpAt, IsRunningAt};
 ghost use Rattle.ring_world.specs.Shows.{world_of, member_of, member_in, link_of, packet_of, news_of as the_news};
 ghost use Rattle.ring_world.specs.Shows.{news_at};
 
 use crate::log::messages_between;
 use crate::neighbours::{id_at, view_of};
-use crate::numbers::{Numbers, numbers_at};
 use crate::seat::{Brought, Seat};
 use crate::state::Ring;
 use crate::wire::{Packet, Wire};
 use group_view::View;
 use ring_names::{MemberId, Message, OutOfMemory};
+use ring_rules::{Numbers, numbers_at};
 use std::alloc::Global;
 
 /// Whether a member answers for an origin against a sender: it is the member, or stands between the two.

@@ -6,16 +6,16 @@ ghost use Rattle.std.specs.List.{filter, flat_map};
 ghost use Rattle.group_view.specs.Ring.{is_in, rotated};
 ghost use Rattle.group_view.specs.View.{ids as ids_of};
 ghost use Rattle.group_view.specs.Parts.{place_of as the_place};
-ghost use Rattle.ring_world.specs.View.{ids, between};
-ghost use Rattle.ring_world.specs.Machine.{numbers_at as the_numbers, row_at, member_at, link_at, view_in};
-ghost use Rattle.ring_world.specs.Machine.{oldest as the_oldest};
-ghost use Rattle.ring_world.specs.Machine.{runs as runs_at, newest as the_newest, is_waiting, ring as ring_ids};
-ghost use Rattle.ring_world.specs.OpenLinks.{is_late as late_is, is_open as open_is, passes as the_test};
-ghost use Rattle.ring_world.specs.OpenLinks.{number as the_number};
-ghost use Rattle.ring_world.specs.OpenLinks.{is_place as place_is, packets_of as the_packets, round_trip};
-ghost use Rattle.ring_world.specs.OpenLinks.{running_on as all_running_on, owner as the_owner, the_walk};
-ghost use Rattle.ring_world.specs.OpenLinks.{walk_of as the_walk_of, walk_named};
-ghost use Rattle.ring_world.specs.Event.{id_of as the_id};
+ghost use Rattle.ring_rules.specs.View.{ids, between};
+ghost use Rattle.ring_rules.specs.Machine.{numbers_at as the_numbers, row_at, member_at, link_at, view_in};
+ghost use Rattle.ring_rules.specs.Machine.{oldest as the_oldest};
+ghost use Rattle.ring_rules.specs.Machine.{runs as runs_at, newest as the_newest, is_waiting, ring as ring_ids};
+ghost use Rattle.ring_rules.specs.OpenLinks.{is_late as late_is, is_open as open_is, passes as the_test};
+ghost use Rattle.ring_rules.specs.OpenLinks.{number as the_number};
+ghost use Rattle.ring_rules.specs.OpenLinks.{is_place as place_is, packets_of as the_packets, round_trip};
+ghost use Rattle.ring_rules.specs.OpenLinks.{running_on as all_running_on, owner as the_owner, the_walk};
+ghost use Rattle.ring_rules.specs.OpenLinks.{walk_of as the_walk_of, walk_named};
+ghost use Rattle.ring_rules.specs.Event.{id_of as the_id};
 ghost use Rattle.ring_world.specs.Placed.{IsPlaced, IsRunningAt};
 ghost use Rattle.ring_world.specs.declared.walk.Part.TheVariants as part;
 ghost use Rattle.ring_world.specs.declared.walk.Round.TheVariants as kind;
@@ -23,14 +23,13 @@ ghost use Rattle.ring_world.specs.Shows.{world_of, member_of, link_of, packet_of
 ghost use Rattle.ring_world.specs.Walking.{reads, reads_row, says, counts, said, said_on, stop_says, is_from_left};
 
 use crate::neighbours::{id_at, left_in, newest_view, view_of};
-use crate::numbers::{Numbers, numbers_at};
-use crate::phase::Phase;
 use crate::places::place_in;
 use crate::seat::Seat;
 use crate::state::Ring;
 use crate::wire::{Packet, Wire};
 use group_view::{Entry, View};
 use ring_names::{MemberId, Name, OutOfMemory};
+use ring_rules::{Numbers, Phase, numbers_at};
 use std::alloc::Global;
 
 /// Which numbers a round of the walk reads.

@@ -2,18 +2,17 @@
 ghost use Rattle.std.specs.Prelude.{◌≡◌, ◌<◌, ◌+◌, ◌&&◌, false, not, is_some, length, slice_index_or, IfOk};
 ghost use Rattle.std.specs.Prelude.{OnOk, OnErr, vec_len, vec_capacity};
 ghost use Rattle.credit_flow.specs.Credit.{is_blocked as blocked_is};
-ghost use Rattle.ring_world.specs.Rows.{no_numbers, next_numbers as the_next_numbers, is_sent as sent_is};
-ghost use Rattle.ring_world.specs.Refusal.{is_empty as empty_is};
-ghost use Rattle.ring_world.specs.Machine.{row_at, numbers_at as the_numbers, oldest as the_oldest};
-ghost use Rattle.ring_world.specs.Step.{next_lines, pushed, popped, finished, ended as is_ended};
-ghost use Rattle.ring_world.specs.Event.{has_nothing_new as nothing_is_new, holds_nothing as nothing_is_held};
+ghost use Rattle.ring_rules.specs.Rows.{no_numbers, next_numbers as the_next_numbers, is_sent as sent_is};
+ghost use Rattle.ring_rules.specs.Refusal.{is_empty as empty_is};
+ghost use Rattle.ring_rules.specs.Machine.{row_at, numbers_at as the_numbers, oldest as the_oldest};
+ghost use Rattle.ring_rules.specs.Step.{next_lines, pushed, popped, finished, ended as is_ended};
+ghost use Rattle.ring_rules.specs.Event.{has_nothing_new as nothing_is_new, holds_nothing as nothing_is_held};
 ghost use Rattle.ring_world.specs.Shows.{member_of, link_of, packet_of, packet_in, gained_on, link_new, link_opened};
 
-use crate::numbers::{Numbers, numbers_at};
-use crate::phase::Ending;
 use crate::seat::Seat;
 use credit_flow::{CreditIn, CreditOut};
 use ring_names::{CreditSpec, OutOfMemory};
+use ring_rules::{Ending, Numbers, numbers_at};
 use std::alloc::Global;
 
 /// A packet: the version of its sender's view, and numbers for each origin by id.

@@ -1,14 +1,14 @@
 //! Changes of single links.
 ghost use Rattle.std.specs.Prelude.{◌≡◌, ◌<◌, false, length, map, slice_set, OnOk, OnErr};
 ghost use Rattle.credit_flow.specs.Credit.{is_blocked};
-ghost use Rattle.ring_world.specs.Refusal.{is_empty};
-ghost use Rattle.ring_world.specs.Step.{pushed, next_packet, finished, ended};
+ghost use Rattle.ring_rules.specs.Refusal.{is_empty};
+ghost use Rattle.ring_rules.specs.Step.{pushed, next_packet, finished, ended};
 ghost use Rattle.ring_world.specs.Shows.{member_of, link_of, link_in, gained_on};
 
-use crate::phase::Ending;
 use crate::seat::Seat;
 use crate::wire::Wire;
 use ring_names::OutOfMemory;
+use ring_rules::Ending;
 use std::alloc::Global;
 
 /// A member puts its next packet on a link.

@@ -3,43 +3,33 @@ ghost use Rattle.std.specs.Prelude.{◌≡◌, ◌↔◌, IsTrue, ◌++◌, ◌�
 ghost use Rattle.std.specs.Prelude.{IfErr, OnOk};
 ghost use Rattle.std.specs.Prelude.{OnErr};
 ghost use Rattle.ring_names.specs.declared.reason.Reason.{Reason};
-ghost use Rattle.ring_world.specs.Refusal.{answer_of};
+ghost use Rattle.ring_rules.specs.Refusal.{answer_of};
 ghost use Rattle.group_view.specs.Change.{AreOpeningNames};
-ghost use Rattle.ring_world.specs.Step.{opening as the_opening};
-ghost use Rattle.ring_world.specs.Machine.{view_in, newest};
-ghost use Rattle.ring_world.specs.Rows.{messages_between};
+ghost use Rattle.ring_rules.specs.Step.{opening as the_opening};
+ghost use Rattle.ring_rules.specs.Machine.{view_in, newest};
+ghost use Rattle.ring_rules.specs.Rows.{messages_between};
 ghost use Rattle.ring_world.specs.Placed.{IsReady};
 ghost use Rattle.ring_world.specs.Shows.{world_of};
-ghost use Rattle.ring_world.specs.OpenLinks.{walk_named, NeverRises};
-ghost use Rattle.ring_world.specs.Asked.{id_at, heard_at, got_at, base_at, log_at, state_at};
-ghost use Rattle.ring_world.specs.Asked.{counts_at};
-ghost use Rattle.ring_world.specs.Quiet.{IsQuiet};
-ghost use Rattle.ring_world.specs.Laws.{IsLawful};
-ghost use Rattle.ring_world.specs.Event.{refusal, effect, id_of, refusals_of};
+ghost use Rattle.ring_rules.specs.OpenLinks.{walk_named, NeverRises};
+ghost use Rattle.ring_rules.specs.Asked.{id_at, heard_at, got_at, base_at, log_at, state_at};
+ghost use Rattle.ring_rules.specs.Asked.{counts_at};
+ghost use Rattle.ring_rules.specs.Quiet.{IsQuiet};
+ghost use Rattle.ring_rules.specs.Laws.{IsLawful};
+ghost use Rattle.ring_rules.specs.Event.{refusal, effect, id_of, refusals_of};
 
-use crate::event::Event;
 use crate::neighbours::newest_view;
 use crate::places::place_in;
-use crate::shown::{Counts, MemberState};
 use crate::state::Ring;
 use crate::walk::walk_of_name;
 use crate::{asked, dispatch, quiet, starting};
 use group_view::View;
 use ring_names::{CreditSpec, MemberId, Message, Name, OutOfMemory, Reason};
+use ring_rules::{Counts, Event, MemberState, Refused};
 use std::alloc::Global;
 use std::marker::Model;
 
 /// The most events that a ring ever applies.
 const MOST_EVENTS: u64 = (1 << 59) - 1;
-
-/// Why an event did not happen. Nothing has changed.
-#[derive(Clone, Copy, PartialEq, Eq, Debug)]
-pub enum Refused {
-    /// The first of its conditions that fails.
-    NotEnabled(Reason),
-    /// Memory was wanted and not found.
-    OutOfMemory,
-}
 
 /// A refusal is noted, which leaves the ring as it is; another event happens.
 #[tactic(auto, using(crate::proofs::code::Rules::noting))]

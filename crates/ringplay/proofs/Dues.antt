@@ -4,7 +4,7 @@ use Rattle.std.specs.List.{slice_index, slice_index_or}
 use Rattle.ring_script.specs.Words.{lines_of}
 use Rattle.ring_script.specs.Reading.{IsRight, IsFirstFault}
 use Rattle.ring_script.proofs.Exact.{right_has_no_fault, first_fault_is_one}
-use Rattle.ring_world.specs.declared.event.Event.{Event}
+use Rattle.ring_rules.specs.declared.event.Event.{Event}
 use Rattle.ring_cluster.specs.Seen.{Seen}
 use Rattle.ringplay.specs.declared.call.Cause.{Cause}
 use Rattle.ringplay.specs.declared.call.Cause.TheVariants as causes

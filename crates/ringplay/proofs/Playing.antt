@@ -5,14 +5,14 @@ use Rattle.ring_names.specs.declared.numbers.CreditSpec.{CreditSpec}
 use Rattle.ring_script.specs.declared.command.Command.{Command}
 use Rattle.ring_script.specs.declared.command.Command.TheVariants as command
 use Rattle.group_view.specs.Change.{AreOpeningNames}
-use Rattle.ring_world.specs.declared.event.Event.{Event}
-use Rattle.ring_world.specs.Machine.{World}
-use Rattle.ring_world.specs.Step.{opening}
-use Rattle.ring_world.specs.Event.{IsRun, effect, last, refusals_of}
-use Rattle.ring_world.specs.Laws.{IsLawful, GoesOn}
-use Rattle.ring_world.specs.Quiet.{IsQuiet}
-use Rattle.ring_world.proofs.runs.InOrder.{last_append}
-use Rattle.ring_world.proofs.runs.AllRuns.{every_state_lawful, every_run_goes_on}
+use Rattle.ring_rules.specs.declared.event.Event.{Event}
+use Rattle.ring_rules.specs.Machine.{World}
+use Rattle.ring_rules.specs.Step.{opening}
+use Rattle.ring_rules.specs.Event.{IsRun, effect, last, refusals_of}
+use Rattle.ring_rules.specs.Laws.{IsLawful, GoesOn}
+use Rattle.ring_rules.specs.Quiet.{IsQuiet}
+use Rattle.ring_rules.proofs.runs.InOrder.{last_append}
+use Rattle.ring_rules.proofs.runs.AllRuns.{every_state_lawful, every_run_goes_on}
 use Rattle.ring_cluster.specs.Seen.{Seen, IsGoing, state_of, opening_seen}
 use Rattle.ring_cluster.specs.Plays.{IsOfMember, Plays, HasGoneOn, AgendasAreEmpty}
 use Rattle.ring_cluster.specs.Heard.{OpenersHaveNoBase}

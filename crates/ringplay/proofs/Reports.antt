@@ -9,14 +9,14 @@ use Rattle.std.specs.declared.alloc.Global.{Global}
 use Rattle.std.proofs.lemmas.List.Recursion.{is_count_by}
 use Rattle.ring_names.specs.declared.message.Message.{Message}
 use Rattle.ring_names.specs.declared.message.Message.TheVariants.{Cast}
-use Rattle.ring_world.specs.declared.shown.Counts.{Counts}
-use Rattle.ring_world.specs.Rows.{messages_between}
-use Rattle.ring_world.specs.declared.event.Event.{Event}
-use Rattle.ring_world.specs.Shown.{is_cast, is_publish, counts_in}
+use Rattle.ring_rules.specs.declared.shown.Counts.{Counts}
+use Rattle.ring_rules.specs.Rows.{messages_between}
+use Rattle.ring_rules.specs.declared.event.Event.{Event}
+use Rattle.ring_rules.specs.Shown.{is_cast, is_publish, counts_in}
 use Rattle.group_view.specs.View.{Group, entry_in}
-use Rattle.ring_world.specs.Machine.{World, row_at, member_at}
-use Rattle.ring_world.specs.Step.{size, log_of}
-use Rattle.ring_world.specs.Asked.{counts_of}
+use Rattle.ring_rules.specs.Machine.{World, row_at, member_at}
+use Rattle.ring_rules.specs.Step.{size, log_of}
+use Rattle.ring_rules.specs.Asked.{counts_of}
 use Rattle.gm_member.specs.Held.{Held}
 use Rattle.gm_member.proofs.Fit.{IsFit}
 use Rattle.ring_cluster.specs.Holds.{HoldsOf}

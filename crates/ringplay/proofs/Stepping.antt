@@ -2,10 +2,10 @@
 use Rattle.std.proofs.Common.{◌≡◌, ℕ, ◌+◌, List, ◌∷◌, ◌++◌, drop, Some, refl, sym, ap, ◌∙◌}
 use Rattle.std.proofs.lemmas.List.{append_assoc}
 use Rattle.ring_script.specs.declared.text.Text.{Text}
-use Rattle.ring_world.specs.declared.event.Event.{Event}
-use Rattle.ring_world.specs.Step.{opening}
-use Rattle.ring_world.specs.Event.{refusal, last, refusals_of}
-use Rattle.ring_world.proofs.runs.InOrder.{last_append}
+use Rattle.ring_rules.specs.declared.event.Event.{Event}
+use Rattle.ring_rules.specs.Step.{opening}
+use Rattle.ring_rules.specs.Event.{refusal, last, refusals_of}
+use Rattle.ring_rules.proofs.runs.InOrder.{last_append}
 use Rattle.ring_cluster.specs.Seen.{Seen, IsGoing, state_of, opening_seen}
 use Rattle.ring_cluster.specs.Agendas.{tasks_in}
 use Rattle.ringplay.specs.Report.{report_of}

@@ -4,8 +4,8 @@ use Rattle.std.specs.List.{flat_map, filter}
 use Rattle.std.proofs.lemmas.List.{map-append, take_more}
 use Rattle.std.proofs.lemmas.List.Elements.{filter-append}
 use Rattle.std.proofs.lemmas.Grind.{flat_map-append}
-use Rattle.ring_world.specs.declared.event.Event.{Event}
-use Rattle.ring_world.specs.Event.{by_of, is_refusal, refusals_of}
+use Rattle.ring_rules.specs.declared.event.Event.{Event}
+use Rattle.ring_rules.specs.Event.{by_of, is_refusal, refusals_of}
 use Rattle.ringplay.specs.Report.{refusal_line, refusal_lines}
 use Rattle.ringplay.specs.Lent.{lent_in}
 

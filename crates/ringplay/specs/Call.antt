@@ -10,12 +10,12 @@ use Rattle.ring_script.specs.Line.{Grammar}
 use Rattle.ring_script.specs.Script.{script_grammar, most_turns}
 use Rattle.ring_script.specs.Steps.{step_grammar}
 use Rattle.ring_script.specs.Reading.{IsScriptOf, AreStepsOf, IsFirstFault}
-use Rattle.ring_world.specs.declared.event.Event.{Event}
-use Rattle.ring_world.specs.Machine.{World}
-use Rattle.ring_world.specs.Step.{opening}
-use Rattle.ring_world.specs.Event.{IsRun, last, refusals_of}
-use Rattle.ring_world.specs.Laws.{IsLawful, GoesOn}
-use Rattle.ring_world.specs.Quiet.{IsQuiet}
+use Rattle.ring_rules.specs.declared.event.Event.{Event}
+use Rattle.ring_rules.specs.Machine.{World}
+use Rattle.ring_rules.specs.Step.{opening}
+use Rattle.ring_rules.specs.Event.{IsRun, last, refusals_of}
+use Rattle.ring_rules.specs.Laws.{IsLawful, GoesOn}
+use Rattle.ring_rules.specs.Quiet.{IsQuiet}
 use Rattle.ring_cluster.specs.Seen.{Seen}
 use Rattle.ring_cluster.specs.Heard.{OpenersHaveNoBase, HasHeardAll}
 use Rattle.ring_cluster.specs.Plays.{Plays, AgendasAreEmpty}

@@ -1,7 +1,7 @@
 -- Events that are lent from a journal.
 use Rattle.std.specs.Prelude.{List, map}
 use Rattle.std.specs.Borrow.{Bor}
-use Rattle.ring_world.specs.declared.event.Event.{Event}
+use Rattle.ring_rules.specs.declared.event.Event.{Event}
 
 -- the events behind these
 abbrev pub lent_in : List (Bor Event) → List Event

@@ -9,17 +9,17 @@ use Rattle.group_view.specs.declared.entry.Entry.{Entry}
 use Rattle.group_view.specs.declared.entry.Mark.{Mark}
 use Rattle.group_view.specs.declared.entry.Mark.TheVariants.{Live, Dead, Erased}
 use Rattle.group_view.specs.View.{Group, entry_in}
-use Rattle.ring_world.specs.declared.event.Client.{Client}
-use Rattle.ring_world.specs.declared.event.Client.TheVariants as client
-use Rattle.ring_world.specs.declared.event.Event.{Event}
-use Rattle.ring_world.specs.declared.event.Event.TheVariants.{Refuse}
-use Rattle.ring_world.specs.declared.phase.Phase.{Phase}
-use Rattle.ring_world.specs.declared.phase.Phase.TheVariants.{Waiting, Up, Stopped}
-use Rattle.ring_world.specs.declared.shown.Counts.{Counts}
-use Rattle.ring_world.specs.Machine.{World, member_at, row_at, view_in, newest}
-use Rattle.ring_world.specs.Step.{size}
-use Rattle.ring_world.specs.Event.{by_of}
-use Rattle.ring_world.specs.Asked.{counts_of}
+use Rattle.ring_rules.specs.declared.event.Client.{Client}
+use Rattle.ring_rules.specs.declared.event.Client.TheVariants as client
+use Rattle.ring_rules.specs.declared.event.Event.{Event}
+use Rattle.ring_rules.specs.declared.event.Event.TheVariants.{Refuse}
+use Rattle.ring_rules.specs.declared.phase.Phase.{Phase}
+use Rattle.ring_rules.specs.declared.phase.Phase.TheVariants.{Waiting, Up, Stopped}
+use Rattle.ring_rules.specs.declared.shown.Counts.{Counts}
+use Rattle.ring_rules.specs.Machine.{World, member_at, row_at, view_in, newest}
+use Rattle.ring_rules.specs.Step.{size}
+use Rattle.ring_rules.specs.Event.{by_of}
+use Rattle.ring_rules.specs.Asked.{counts_of}
 
 -- the name of the member of an id
 abbrev pub name_of : World → ℕ → List ℕ

@@ -16,8 +16,8 @@ use crate::word::{Mode, Word, mode_of};
 use ring_cluster::Cluster;
 use ring_io::{Gate, ReadEnd, Sink, Source, read_all, write_all};
 use ring_names::Items;
+use ring_rules::Event;
 use ring_script::{ScriptFault, line_count, read_script, read_steps};
-use ring_world::Event;
 use std::alloc::Global;
 use std::thread::Threads;
 

@@ -8,8 +8,8 @@ use crate::report::report;
 use ring_cluster::Cluster;
 use ring_io::Gate;
 use ring_names::OutOfMemory;
+use ring_rules::Event;
 use ring_script::{Command, Script};
-use ring_world::Event;
 use std::alloc::Global;
 use std::thread::Threads;
 

@@ -1,11 +1,11 @@
 //! What the report says of the refusals of a journal.
 ghost use Rattle.std.specs.Prelude.{◌≡◌, ◌∷◌, ◌++◌, [], IfOk, OnOk, codes};
-ghost use Rattle.ring_world.specs.Event.{is_refusal as refusal_is, refusals_of};
+ghost use Rattle.ring_rules.specs.Event.{is_refusal as refusal_is, refusals_of};
 ghost use Rattle.ringplay.specs.Report.{asked_text, refusal_line, refusal_lines};
 ghost use Rattle.ringplay.specs.Lent.{lent_in};
 
 use ring_names::{Name, OutOfMemory};
-use ring_world::{Client, Event};
+use ring_rules::{Client, Event};
 use std::alloc::Global;
 
 /// The refusals among these events, in their order.

@@ -5,10 +5,10 @@ ghost use Rattle.std.specs.Fmt.{decimal};
 ghost use Rattle.std.specs.List.{flat_map};
 ghost use Rattle.ring_names.specs.declared.message.Message.TheVariants as message;
 ghost use Rattle.group_view.specs.View.{entry_in, no_entry};
-ghost use Rattle.ring_world.specs.Step.{size};
-ghost use Rattle.ring_world.specs.Machine.{member_at as at_id};
-ghost use Rattle.ring_world.specs.Event.{refusals_of};
-ghost use Rattle.ring_world.specs.Asked.{counts_of};
+ghost use Rattle.ring_rules.specs.Step.{size};
+ghost use Rattle.ring_rules.specs.Machine.{member_at as at_id};
+ghost use Rattle.ring_rules.specs.Event.{refusals_of};
+ghost use Rattle.ring_rules.specs.Asked.{counts_of};
 ghost use Rattle.gm_member.specs.Shown.{held_of};
 ghost use Rattle.ring_cluster.specs.Seen.{state_of};
 ghost use Rattle.ring_cluster.specs.Holds.{HoldsOf};
@@ -22,7 +22,7 @@ use crate::refusals::{push_refusals, refusals_in};
 use group_view::{Entry, Mark, View};
 use ring_cluster::{Cluster, Node};
 use ring_names::{Body, MemberId, OutOfMemory};
-use ring_world::{Counts, Event, Phase};
+use ring_rules::{Counts, Event, Phase};
 use std::alloc::Global;
 
 /// The bytes of the shortest line of a message that was received, its line feed with it.

@@ -2,7 +2,7 @@
 ghost use Rattle.std.specs.Prelude.{◌≡◌, ℕ, ◌∷◌, ◌++◌, [], Some, None, IfOk, OnOk, IfErr, codes, string_bytes};
 ghost use Rattle.std.specs.Fmt.{decimal};
 ghost use Rattle.ring_script.specs.Reading.{CanOpen};
-ghost use Rattle.ring_world.specs.Event.{refusal};
+ghost use Rattle.ring_rules.specs.Event.{refusal};
 ghost use Rattle.ring_cluster.specs.Seen.{state_of};
 ghost use Rattle.ringplay.specs.Report.{newline};
 ghost use Rattle.ringplay.specs.Step.{happens, enabled_of, kept_text as the_kept_text};
@@ -14,8 +14,8 @@ use crate::play::Played;
 use crate::report::push_report;
 use ring_cluster::Cluster;
 use ring_names::{OutOfMemory, Reason};
+use ring_rules::{Event, Refused};
 use ring_script::Steps;
-use ring_world::{Event, Refused};
 use std::alloc::Global;
 
 /// Takes the steps: each line's event is tried among the members of a cluster, where the earlier ones leave it. A

@@ -10,7 +10,7 @@ mod member;
 use crate::call::{Cause, Ended, ring_call};
 use crate::word::Word;
 use ring_io::{MemorySink, MemorySource, ShutGate};
-use ring_world::Event;
+use ring_rules::Event;
 use std::alloc::Global;
 use std::process::Abort;
 use std::test::Fail;

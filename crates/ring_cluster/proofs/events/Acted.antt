@@ -7,8 +7,8 @@ use Rattle.ordered_link.specs.declared.plain.PlainIn.{PlainIn}
 use Rattle.group_view.specs.declared.link.LinkName.{LinkName}
 use Rattle.group_view.specs.View.{Group}
 use Rattle.group_view.specs.Change.{marked}
-use Rattle.ring_world.specs.declared.event.Event.{Event}
-use Rattle.ring_world.specs.declared.event.Event.TheVariants.{Stop, Mark, Refresh, Admit, Erase, Refuse}
+use Rattle.ring_rules.specs.declared.event.Event.{Event}
+use Rattle.ring_rules.specs.declared.event.Event.TheVariants.{Stop, Mark, Refresh, Admit, Erase, Refuse}
 use Rattle.registrar.specs.Registry.{Registry}
 use Rattle.registrar.specs.Handled.{with_view, with_stopped}
 use Rattle.activity.specs.declared.packet.Load.{Load}

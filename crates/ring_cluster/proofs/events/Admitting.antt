@@ -12,18 +12,18 @@ use Rattle.group_view.specs.Change.{admitted}
 use Rattle.group_view.specs.Since.{no_group}
 use Rattle.group_view.proofs.Rings.{nat_eq-not}
 use Rattle.group_view.proofs.Neighbours.{filter_none}
-use Rattle.ring_world.specs.View.{right_of}
-use Rattle.ring_world.specs.Machine.{World, Member, Link, Packet, no_member, no_sending, member_at, link_at, view_in, newest, runs_phase}
-use Rattle.ring_world.specs.Step.{size, log_of, ended, next_packet, next_lines, moved_to, kept_current, joiner, admitted_view, come_to}
-use Rattle.ring_world.specs.declared.event.Event.TheVariants.{Admit}
-use Rattle.ring_world.specs.Event.{id_of, of_member, at_found, admit_refusal, refused_at, refusal, refreshed, done_at, effect, is_stopped}
-use Rattle.ring_world.proofs.events.Enabled.{up_none}
-use Rattle.ring_world.proofs.events.Refusals.{id_within}
-use Rattle.ring_world.proofs.rings.Lists.{get_or_beyond}
-use Rattle.ring_world.proofs.walks.Views.{view_new}
-use Rattle.ring_world.proofs.invariants.KeptAdmit.{CanJoin, receivers}
-use Rattle.ring_world.proofs.invariants.Happens.{IsGood, can_join, right_in_come}
-use Rattle.ring_world.proofs.walks.Ended.{EndsRight}
+use Rattle.ring_rules.specs.View.{right_of}
+use Rattle.ring_rules.specs.Machine.{World, Member, Link, Packet, no_member, no_sending, member_at, link_at, view_in, newest, runs_phase}
+use Rattle.ring_rules.specs.Step.{size, log_of, ended, next_packet, next_lines, moved_to, kept_current, joiner, admitted_view, come_to}
+use Rattle.ring_rules.specs.declared.event.Event.TheVariants.{Admit}
+use Rattle.ring_rules.specs.Event.{id_of, of_member, at_found, admit_refusal, refused_at, refusal, refreshed, done_at, effect, is_stopped}
+use Rattle.ring_rules.proofs.events.Enabled.{up_none}
+use Rattle.ring_rules.proofs.events.Refusals.{id_within}
+use Rattle.ring_rules.proofs.rings.Lists.{get_or_beyond}
+use Rattle.ring_rules.proofs.walks.Views.{view_new}
+use Rattle.ring_rules.proofs.invariants.KeptAdmit.{CanJoin, receivers}
+use Rattle.ring_rules.proofs.invariants.Happens.{IsGood, can_join, right_in_come}
+use Rattle.ring_rules.proofs.walks.Ended.{EndsRight}
 use Rattle.registrar.proofs.Members.{told_refreshed, stopped_same}
 use Rattle.gm_member.specs.Held.{Held, joining_held, Incoming, at_some, sends_to, stays, refreshed_held}
 use Rattle.gm_member.specs.View.{ring_link}
@@ -36,7 +36,7 @@ use Rattle.gm_member.proofs.OpenDoors.{SeesLinks, sends_right, sending_member, o
 use Rattle.gm_member.proofs.Doors.{stays_older}
 use Rattle.gm_member.proofs.RefreshStands.{door_sees, looks_at}
 use Rattle.gm_member.proofs.AdmitStands.{come_log, come_same, come_held, come_sees, come_right}
-use Rattle.ring_world.proofs.work.OwnEnds.{OwnEnds}
+use Rattle.ring_rules.proofs.work.OwnEnds.{OwnEnds}
 use Rattle.ring_cluster.specs.Ends.{OutSeen, opened_out, fresh_in}
 use Rattle.ring_cluster.specs.Parties.{Shown, Posted, Parties, no_shown, node_at, with_node}
 use Rattle.ring_cluster.specs.Standing.{MemberStands, Stand, is_to}

@@ -1,12 +1,12 @@
 -- A member that is found by its name refuses what it does by itself exactly where the ring does, for the same reason.
 use Rattle.std.proofs.Common.{◌≡◌, ℕ, ◌-◌, ◌<◌, ◌≤◌, Some, sym, ap, ◌∙◌}
 use Rattle.ring_names.specs.declared.numbers.CreditSpec.{CreditSpec}
-use Rattle.ring_world.specs.declared.event.Event.{Event}
-use Rattle.ring_world.specs.declared.event.Event.TheVariants.{Cast, Put, Take, TakeEnd, Gain, Stop, Mark, Refresh, Admit, Pick, Erase, Refuse}
-use Rattle.ring_world.specs.Machine.{World, member_at}
-use Rattle.ring_world.specs.Step.{size}
-use Rattle.ring_world.specs.Event.{id_of, by_of, of_member, refused_at, refusal}
-use Rattle.ring_world.proofs.events.Refusals.{id_within}
+use Rattle.ring_rules.specs.declared.event.Event.{Event}
+use Rattle.ring_rules.specs.declared.event.Event.TheVariants.{Cast, Put, Take, TakeEnd, Gain, Stop, Mark, Refresh, Admit, Pick, Erase, Refuse}
+use Rattle.ring_rules.specs.Machine.{World, member_at}
+use Rattle.ring_rules.specs.Step.{size}
+use Rattle.ring_rules.specs.Event.{id_of, by_of, of_member, refused_at, refusal}
+use Rattle.ring_rules.proofs.events.Refusals.{id_within}
 use Rattle.ring_cluster.specs.Parties.{Parties, node_at}
 use Rattle.ring_cluster.specs.Standing.{Stand}
 use Rattle.ring_cluster.specs.Acting.{alone_refused}

@@ -5,15 +5,15 @@ use Rattle.ring_names.specs.declared.message.Message.{Message}
 use Rattle.ring_names.specs.declared.message.Message.TheVariants as message
 use Rattle.ring_names.specs.declared.numbers.CreditSpec.{CreditSpec}
 use Rattle.group_view.specs.declared.link.LinkName.{LinkName}
-use Rattle.ring_world.specs.declared.event.Event.TheVariants.{Cast}
-use Rattle.ring_world.specs.Machine.{World, Packet, Sending, no_member, numbers_at, member_at, link_at}
-use Rattle.ring_world.specs.Step.{size, log_of, published, publish_at}
-use Rattle.ring_world.specs.Event.{id_of, effect}
-use Rattle.ring_world.specs.Compact.{passed}
-use Rattle.ring_world.specs.Lawful.{PacketsAreWithin}
-use Rattle.ring_world.specs.declared.numbers.Numbers.{Numbers}
-use Rattle.ring_world.proofs.rings.Lists.{at_set}
-use Rattle.ring_world.proofs.events.Refusals.{id_within}
+use Rattle.ring_rules.specs.declared.event.Event.TheVariants.{Cast}
+use Rattle.ring_rules.specs.Machine.{World, Packet, Sending, no_member, numbers_at, member_at, link_at}
+use Rattle.ring_rules.specs.Step.{size, log_of, published, publish_at}
+use Rattle.ring_rules.specs.Event.{id_of, effect}
+use Rattle.ring_rules.specs.Compact.{passed}
+use Rattle.ring_rules.specs.Lawful.{PacketsAreWithin}
+use Rattle.ring_rules.specs.declared.numbers.Numbers.{Numbers}
+use Rattle.ring_rules.proofs.rings.Lists.{at_set}
+use Rattle.ring_rules.proofs.events.Refusals.{id_within}
 use Rattle.gm_member.specs.Held.{Held, published_held}
 use Rattle.gm_member.specs.Stands.{line_for, lines_in}
 use Rattle.gm_member.proofs.Knowing.{line_grown}

@@ -12,21 +12,21 @@ use Rattle.group_view.specs.View.{Group}
 use Rattle.group_view.specs.Ring.{is_in}
 use Rattle.group_view.specs.Change.{marked}
 use Rattle.group_view.specs.Since.{no_group, view_at}
-use Rattle.ring_world.specs.Refusal.{refuse_if, or_else}
-use Rattle.ring_world.specs.declared.event.Event.{Event}
-use Rattle.ring_world.specs.declared.event.Event.TheVariants.{Stop, Mark, Refresh, Admit, Pick, Erase, Refuse}
-use Rattle.ring_world.specs.declared.phase.Phase.{Phase}
-use Rattle.ring_world.specs.declared.phase.Phase.TheVariants.{Waiting, Up, Stopped}
-use Rattle.ring_world.specs.View.{ids}
-use Rattle.ring_world.specs.Machine.{World, member_at, is_waiting, runs_phase}
-use Rattle.ring_world.specs.Machine as machine
-use Rattle.ring_world.specs.Step.{opening}
-use Rattle.ring_world.specs.Event.{by_of, id_of, of_member, is_stopped, up_refusal, refresh_refusal, pick_refusal, refusal, effect}
-use Rattle.ring_world.specs.Event as event
-use Rattle.ring_world.proofs.runs.InOrder.{last_append, run_append}
-use Rattle.ring_world.proofs.events.WhatRefuses.{MayLook}
-use Rattle.ring_world.proofs.events.Refusals.{none_of}
-use Rattle.ring_world.proofs.events.Enabled.{up_none}
+use Rattle.ring_rules.specs.Refusal.{refuse_if, or_else}
+use Rattle.ring_rules.specs.declared.event.Event.{Event}
+use Rattle.ring_rules.specs.declared.event.Event.TheVariants.{Stop, Mark, Refresh, Admit, Pick, Erase, Refuse}
+use Rattle.ring_rules.specs.declared.phase.Phase.{Phase}
+use Rattle.ring_rules.specs.declared.phase.Phase.TheVariants.{Waiting, Up, Stopped}
+use Rattle.ring_rules.specs.View.{ids}
+use Rattle.ring_rules.specs.Machine.{World, member_at, is_waiting, runs_phase}
+use Rattle.ring_rules.specs.Machine as machine
+use Rattle.ring_rules.specs.Step.{opening}
+use Rattle.ring_rules.specs.Event.{by_of, id_of, of_member, is_stopped, up_refusal, refresh_refusal, pick_refusal, refusal, effect}
+use Rattle.ring_rules.specs.Event as event
+use Rattle.ring_rules.proofs.runs.InOrder.{last_append, run_append}
+use Rattle.ring_rules.proofs.events.WhatRefuses.{MayLook}
+use Rattle.ring_rules.proofs.events.Refusals.{none_of}
+use Rattle.ring_rules.proofs.events.Enabled.{up_none}
 use Rattle.registrar.specs.Registry.{Registry, is_known, newest}
 use Rattle.registrar.specs.Asked.{mark_refusal, stop_refusal}
 use Rattle.registrar.specs.Stands.{StandsIn}

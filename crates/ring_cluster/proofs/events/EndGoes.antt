@@ -7,14 +7,14 @@ use Rattle.std.proofs.lemmas.List.{length-set, get_or-set_same}
 use Rattle.ring_names.specs.declared.numbers.CreditSpec.{CreditSpec}
 use Rattle.ring_names.specs.declared.reason.Reason.TheVariants as reason
 use Rattle.group_view.specs.declared.link.LinkName.{LinkName}
-use Rattle.ring_world.specs.declared.event.Event.TheVariants.{TakeEnd}
-use Rattle.ring_world.specs.Machine.{World, Link, Member, no_link, member_at, link_at}
-use Rattle.ring_world.specs.OpenLinks.{is_place, is_current}
-use Rattle.ring_world.specs.Step.{size, with_current, finished, leave_link}
-use Rattle.ring_world.specs.Event.{id_of, running_refusal, on_link, end_refusal, at_found, refusal, effect}
-use Rattle.ring_world.proofs.rings.Rounds.{nat_eq-not}
-use Rattle.ring_world.proofs.events.Enabled.{running_later}
-use Rattle.ring_world.proofs.events.Refusals.{id_within}
+use Rattle.ring_rules.specs.declared.event.Event.TheVariants.{TakeEnd}
+use Rattle.ring_rules.specs.Machine.{World, Link, Member, no_link, member_at, link_at}
+use Rattle.ring_rules.specs.OpenLinks.{is_place, is_current}
+use Rattle.ring_rules.specs.Step.{size, with_current, finished, leave_link}
+use Rattle.ring_rules.specs.Event.{id_of, running_refusal, on_link, end_refusal, at_found, refusal, effect}
+use Rattle.ring_rules.proofs.rings.Rounds.{nat_eq-not}
+use Rattle.ring_rules.proofs.events.Enabled.{running_later}
+use Rattle.ring_rules.proofs.events.Refusals.{id_within}
 use Rattle.gm_member.specs.Held.{Held, ended_held}
 use Rattle.gm_member.specs.View.{ring_link}
 use Rattle.gm_member.specs.Stands.{waits_for, door_links}

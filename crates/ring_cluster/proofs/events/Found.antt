@@ -2,9 +2,9 @@
 use Rattle.std.proofs.Common.{◌≡◌, ℕ, suc, ◌+◌, ◌-◌, ◌<◌, ◌≤◌, List, [], ◌∷◌, length, map, Option, Some, None, refl, sym, ap, ◌∙◌, arith}
 use Rattle.std.specs.Prelude.{bytes_eq, option_map, position, drop, slice_index_or}
 use Rattle.std.proofs.lemmas.List.Quantifiers.{position-Some}
-use Rattle.ring_world.specs.Machine.{World, Member, no_member, member_at}
-use Rattle.ring_world.specs.Event.{id_of}
-use Rattle.ring_world.proofs.rings.Maps.{position_map}
+use Rattle.ring_rules.specs.Machine.{World, Member, no_member, member_at}
+use Rattle.ring_rules.specs.Event.{id_of}
+use Rattle.ring_rules.proofs.rings.Maps.{position_map}
 use Rattle.ring_cluster.specs.Parties.{Shown, Parties, no_shown}
 use Rattle.ring_cluster.specs.Refused.{id_named}
 use Rattle.ring_cluster.specs.Standing.{Places, StandIn}

@@ -3,9 +3,9 @@ use Rattle.std.proofs.Common.{◌≡◌, ℕ, ◌+◌, List, ◌++◌, length, d
 use Rattle.ring_names.specs.declared.numbers.CreditSpec.{CreditSpec}
 use Rattle.credit_flow.specs.Link.{oldest as oldest_grant}
 use Rattle.group_view.specs.declared.link.LinkName.{LinkName}
-use Rattle.ring_world.specs.declared.event.Event.TheVariants.{Gain}
-use Rattle.ring_world.specs.Machine.{World, member_at, link_at}
-use Rattle.ring_world.specs.Event.{id_of, gain_refusal, refusal, effect}
+use Rattle.ring_rules.specs.declared.event.Event.TheVariants.{Gain}
+use Rattle.ring_rules.specs.Machine.{World, member_at, link_at}
+use Rattle.ring_rules.specs.Event.{id_of, gain_refusal, refusal, effect}
 use Rattle.gm_member.specs.Held.{Held, gained_held}
 use Rattle.gm_member.specs.Stands.{held_in}
 use Rattle.gm_member.proofs.GainStands.{regained_on, gain_stands}

@@ -10,20 +10,20 @@ use Rattle.group_view.specs.Change.{marked, erased}
 use Rattle.group_view.specs.Since.{no_group}
 use Rattle.group_view.specs.Since as since
 use Rattle.promotion.specs.Elect.{installed}
-use Rattle.ring_world.specs.Rows.{no_numbers}
-use Rattle.ring_world.specs.declared.event.Event.TheVariants.{Mark, Refresh, Erase}
-use Rattle.ring_world.specs.declared.phase.Phase.TheVariants.{Up}
-use Rattle.ring_world.specs.View.{right_of}
-use Rattle.ring_world.specs.Machine.{World, Link, no_sending, numbers_at, member_at, link_at, view_in, newest, left, row_at}
-use Rattle.ring_world.specs.OpenLinks.{version_of, since_in, comes_from_left, is_door_link}
-use Rattle.ring_world.specs.Step.{size, log_of, next_lines, with_view}
-use Rattle.ring_world.specs.Event.{id_of, of_member, at_found, refresh_refusal, refused_at, refreshed, refusal, done_at, effect}
-use Rattle.ring_world.proofs.events.WhatRefuses.{MayLook, MayMark, MayErase}
-use Rattle.ring_world.proofs.events.Refusals.{id_within}
-use Rattle.ring_world.proofs.events.Enabled.{up_none}
-use Rattle.ring_world.proofs.events.Cases.{may_look}
-use Rattle.ring_world.proofs.walks.Views.{view_old, left_old}
-use Rattle.ring_world.proofs.invariants.Happens.{IsGood, mark_good, erase_good, newer_look, newer_good}
+use Rattle.ring_rules.specs.Rows.{no_numbers}
+use Rattle.ring_rules.specs.declared.event.Event.TheVariants.{Mark, Refresh, Erase}
+use Rattle.ring_rules.specs.declared.phase.Phase.TheVariants.{Up}
+use Rattle.ring_rules.specs.View.{right_of}
+use Rattle.ring_rules.specs.Machine.{World, Link, no_sending, numbers_at, member_at, link_at, view_in, newest, left, row_at}
+use Rattle.ring_rules.specs.OpenLinks.{version_of, since_in, comes_from_left, is_door_link}
+use Rattle.ring_rules.specs.Step.{size, log_of, next_lines, with_view}
+use Rattle.ring_rules.specs.Event.{id_of, of_member, at_found, refresh_refusal, refused_at, refreshed, refusal, done_at, effect}
+use Rattle.ring_rules.proofs.events.WhatRefuses.{MayLook, MayMark, MayErase}
+use Rattle.ring_rules.proofs.events.Refusals.{id_within}
+use Rattle.ring_rules.proofs.events.Enabled.{up_none}
+use Rattle.ring_rules.proofs.events.Cases.{may_look}
+use Rattle.ring_rules.proofs.walks.Views.{view_old, left_old}
+use Rattle.ring_rules.proofs.invariants.Happens.{IsGood, mark_good, erase_good, newer_look, newer_good}
 use Rattle.activity.specs.Told.{none_told}
 use Rattle.activity.specs.Diff.{next_line}
 use Rattle.gm_member.specs.Parcels.{places, known_at, told_at}
@@ -38,7 +38,7 @@ use Rattle.gm_member.proofs.Facts.{held_known, right_row}
 use Rattle.gm_member.proofs.Fit.{IsFit}
 use Rattle.gm_member.proofs.MarkStands.{mark_may, mark_is, erase_may, erase_is, view_held, view_newest}
 use Rattle.gm_member.proofs.OpenDoors.{sends_right}
-use Rattle.ring_world.proofs.work.OwnEnds.{OwnEnds}
+use Rattle.ring_rules.proofs.work.OwnEnds.{OwnEnds}
 use Rattle.gm_member.proofs.RefreshStands.{first_lines}
 use Rattle.ring_cluster.specs.Ends.{OutSeen, opened_out, fresh_in}
 use Rattle.ring_cluster.specs.Parties.{Parties, node_at, with_node}

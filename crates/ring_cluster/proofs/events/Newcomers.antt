@@ -6,16 +6,16 @@ use Rattle.group_view.specs.Ring.{is_in}
 use Rattle.group_view.specs.View.{Group}
 use Rattle.group_view.specs.Change.{admitted, admit_refusal as group_refusal}
 use Rattle.group_view.proofs.Joining.{comes_in}
-use Rattle.ring_world.specs.declared.event.Event.{Event}
-use Rattle.ring_world.specs.declared.event.Event.TheVariants.{Admit}
-use Rattle.ring_world.specs.Rows.{most_members}
-use Rattle.ring_world.specs.View.{ids}
-use Rattle.ring_world.specs.Machine.{World, member_at, newest as newest_version, view_in}
-use Rattle.ring_world.specs.Step.{size, opening}
-use Rattle.ring_world.specs.Event.{id_of, admit_refusal, refusal, effect}
-use Rattle.ring_world.proofs.runs.InOrder.{last_append, run_append}
-use Rattle.ring_world.proofs.invariants.KeptAdmit.{CanJoin}
-use Rattle.ring_world.proofs.code.Looks.{nobody_refuses_admitting}
+use Rattle.ring_rules.specs.declared.event.Event.{Event}
+use Rattle.ring_rules.specs.declared.event.Event.TheVariants.{Admit}
+use Rattle.ring_rules.specs.Rows.{most_members}
+use Rattle.ring_rules.specs.View.{ids}
+use Rattle.ring_rules.specs.Machine.{World, member_at, newest as newest_version, view_in}
+use Rattle.ring_rules.specs.Step.{size, opening}
+use Rattle.ring_rules.specs.Event.{id_of, admit_refusal, refusal, effect}
+use Rattle.ring_rules.proofs.runs.InOrder.{last_append, run_append}
+use Rattle.ring_rules.proofs.invariants.KeptAdmit.{CanJoin}
+use Rattle.ring_rules.proofs.code.Looks.{nobody_refuses_admitting}
 use Rattle.registrar.specs.Registry.{Registry, newest}
 use Rattle.registrar.proofs.Judged.{newest_same}
 use Rattle.activity.specs.declared.packet.Load.{Load}

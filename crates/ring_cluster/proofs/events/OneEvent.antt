@@ -2,9 +2,9 @@
 use Rattle.std.proofs.Common.{◌≡◌, ℕ, ◌+◌, ◌-◌, ◌<◌, Bool, true, false, Option, Some, None, inl, refl, sym, ap, subst, ◌∙◌, arith}
 use Rattle.std.specs.Prelude.{option_map}
 use Rattle.ring_names.specs.declared.reason.Reason.{Reason}
-use Rattle.ring_world.specs.Machine.{World}
-use Rattle.ring_world.specs.Step.{size}
-use Rattle.ring_world.specs.Event.{of_member, at_found, on_link}
+use Rattle.ring_rules.specs.Machine.{World}
+use Rattle.ring_rules.specs.Step.{size}
+use Rattle.ring_rules.specs.Event.{of_member, at_found, on_link}
 use Rattle.gm_member.specs.Held.{Held}
 use Rattle.gm_member.specs.Stands.{held_in}
 use Rattle.ring_cluster.specs.Ends.{OutSeen, InSeen, HaveMet, HasRested}

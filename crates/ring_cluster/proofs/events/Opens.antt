@@ -10,18 +10,18 @@ use Rattle.group_view.specs.declared.link.LinkName.{LinkName}
 use Rattle.group_view.specs.Ring.{is_in}
 use Rattle.group_view.proofs.Rings.{is_in-append, nat_eq-same, nat_eq-not, head_differs}
 use Rattle.group_view.proofs.Neighbours.{filter_agree_in}
-use Rattle.ring_world.specs.declared.phase.Ending.{Ending}
-use Rattle.ring_world.specs.declared.phase.Ending.TheVariants.{Moved}
+use Rattle.ring_rules.specs.declared.phase.Ending.{Ending}
+use Rattle.ring_rules.specs.declared.phase.Ending.TheVariants.{Moved}
 use Rattle.group_view.specs.View.{Group}
-use Rattle.ring_world.specs.View.{right_of}
-use Rattle.ring_world.specs.Machine.{World, Member, Link, Packet, no_link, no_sending, member_at, link_at, view_in, runs_phase, is_kept}
-use Rattle.ring_world.specs.OpenLinks.{is_place, version_of}
-use Rattle.ring_world.specs.Step.{size, pushed, fresh_link, next_packet, moved_to, ended, end_out}
-use Rattle.ring_world.specs.Event.{refreshed, is_stopped}
-use Rattle.ring_world.proofs.events.WhatRefuses.{MayLook}
-use Rattle.ring_world.proofs.rings.Rounds.{nat_eq-is}
-use Rattle.ring_world.proofs.invariants.Happens.{IsGood}
-use Rattle.ring_world.proofs.walks.OpenWalk.{place_is}
+use Rattle.ring_rules.specs.View.{right_of}
+use Rattle.ring_rules.specs.Machine.{World, Member, Link, Packet, no_link, no_sending, member_at, link_at, view_in, runs_phase, is_kept}
+use Rattle.ring_rules.specs.OpenLinks.{is_place, version_of}
+use Rattle.ring_rules.specs.Step.{size, pushed, fresh_link, next_packet, moved_to, ended, end_out}
+use Rattle.ring_rules.specs.Event.{refreshed, is_stopped}
+use Rattle.ring_rules.proofs.events.WhatRefuses.{MayLook}
+use Rattle.ring_rules.proofs.rings.Rounds.{nat_eq-is}
+use Rattle.ring_rules.proofs.invariants.Happens.{IsGood}
+use Rattle.ring_rules.proofs.walks.OpenWalk.{place_is}
 use Rattle.registrar.proofs.Members.{told_refreshed, stopped_same}
 use Rattle.gm_member.specs.Held.{Held, Incoming, is_for, refreshed_held, fresh_out as unsent_on, lines_on, parcel_on}
 use Rattle.gm_member.specs.View.{ring_link}
@@ -30,9 +30,9 @@ use Rattle.gm_member.proofs.DoorLists.{filter_agree, filter_more}
 use Rattle.gm_member.proofs.Doors.{view_version}
 use Rattle.gm_member.proofs.DoorParts.{waits_by, member_same, member_other}
 use Rattle.gm_member.proofs.OpenDoors.{sends_right, new_link, sending_member, opened_world, old_links, refresh_opens, old_many, link_old, link_new, links_more, waits_old, waits_new}
-use Rattle.ring_world.proofs.work.Refreshed.{endless}
+use Rattle.ring_rules.proofs.work.Refreshed.{endless}
 use Rattle.gm_member.proofs.OthersStand.{refresh_others}
-use Rattle.ring_world.proofs.work.OwnEnds.{OwnEnds}
+use Rattle.ring_rules.proofs.work.OwnEnds.{OwnEnds}
 use Rattle.gm_member.proofs.RefreshStands.{current_lt, kept_lt, door_stays, refresh_stands}
 use Rattle.ring_cluster.specs.Ends.{OutSeen, InSeen, Sent, Carries, HasRested, opened_out, fresh_in, HaveMet}
 use Rattle.ring_cluster.specs.Parties.{Shown, Posted, Parties, node_at, with_node}

@@ -8,15 +8,15 @@ use Rattle.std.proofs.lemmas.List.Quantifiers.{position-Some}
 use Rattle.ring_names.specs.declared.numbers.CreditSpec.{CreditSpec}
 use Rattle.ring_names.specs.declared.reason.Reason.TheVariants as reason
 use Rattle.group_view.specs.declared.link.LinkName.{LinkName}
-use Rattle.ring_world.specs.declared.event.Event.TheVariants.{Pick}
-use Rattle.ring_world.specs.Refusal.{refuse_if, or_else}
-use Rattle.ring_world.specs.Machine.{World, Member, no_link, member_at, link_at}
-use Rattle.ring_world.specs.OpenLinks.{is_place, is_current}
-use Rattle.ring_world.specs.Step.{size, with_current, current_is}
-use Rattle.ring_world.specs.Event.{id_of, up_refusal, pick_refusal, is_at_door, at_door, at_found, refusal, effect}
-use Rattle.ring_world.proofs.rings.Rounds.{nat_eq-is}
-use Rattle.ring_world.proofs.events.Enabled.{up_later}
-use Rattle.ring_world.proofs.events.Refusals.{id_within, none_of}
+use Rattle.ring_rules.specs.declared.event.Event.TheVariants.{Pick}
+use Rattle.ring_rules.specs.Refusal.{refuse_if, or_else}
+use Rattle.ring_rules.specs.Machine.{World, Member, no_link, member_at, link_at}
+use Rattle.ring_rules.specs.OpenLinks.{is_place, is_current}
+use Rattle.ring_rules.specs.Step.{size, with_current, current_is}
+use Rattle.ring_rules.specs.Event.{id_of, up_refusal, pick_refusal, is_at_door, at_door, at_found, refusal, effect}
+use Rattle.ring_rules.proofs.rings.Rounds.{nat_eq-is}
+use Rattle.ring_rules.proofs.events.Enabled.{up_later}
+use Rattle.ring_rules.proofs.events.Refusals.{id_within, none_of}
 use Rattle.gm_member.specs.Held.{first_at_door, picked_held, without}
 use Rattle.gm_member.specs.Stands.{held_in, incoming_in, waits_for, door_links}
 use Rattle.gm_member.proofs.Parts.{waits_seen}

@@ -2,12 +2,12 @@
 use Rattle.std.proofs.Common.{◌≡◌, ℕ, ◌+◌, ◌<◌, ◌≤◌, List, [], ◌∷◌, ◌++◌, Option, Some, None, is_some, refl, sym, ap, subst, ◌∙◌, arith, append-nil, false}
 use Rattle.ring_names.specs.declared.numbers.CreditSpec.{CreditSpec}
 use Rattle.group_view.specs.declared.link.LinkName.{LinkName}
-use Rattle.ring_world.specs.declared.event.Event.TheVariants.{Put}
-use Rattle.ring_world.specs.Machine.{World, Packet, Link, member_at, link_at}
-use Rattle.ring_world.specs.Compact.{before_next}
-use Rattle.ring_world.specs.declared.phase.Phase.TheVariants.{Up}
-use Rattle.ring_world.specs.Step.{size, pushed}
-use Rattle.ring_world.specs.Event.{id_of, put_refusal, refusal, effect}
+use Rattle.ring_rules.specs.declared.event.Event.TheVariants.{Put}
+use Rattle.ring_rules.specs.Machine.{World, Packet, Link, member_at, link_at}
+use Rattle.ring_rules.specs.Compact.{before_next}
+use Rattle.ring_rules.specs.declared.phase.Phase.TheVariants.{Up}
+use Rattle.ring_rules.specs.Step.{size, pushed}
+use Rattle.ring_rules.specs.Event.{id_of, put_refusal, refusal, effect}
 use Rattle.gm_member.specs.Parcels.{ByOrigin}
 use Rattle.gm_member.specs.Held.{Held, Outgoing, put_held, parcel_on}
 use Rattle.gm_member.specs.Stands.{held_in, outgoing_in, StandsFor}

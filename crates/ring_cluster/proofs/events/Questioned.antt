@@ -11,7 +11,7 @@ use Rattle.group_view.specs.Change.{new_entry, with_entry, dated}
 use Rattle.group_view.proofs.Marks.{same_ring_all, dated_keeps}
 use Rattle.group_view.proofs.Joining.{in_after, ids-with_entry}
 use Rattle.group_view.proofs.Groups.{ids-marked_group, ids-remarked_group}
-use Rattle.ring_world.specs.Refusal.{refuse_if, or_else}
+use Rattle.ring_rules.specs.Refusal.{refuse_if, or_else}
 use Rattle.registrar.specs.Registry.{Registry, is_known, newest}
 use Rattle.registrar.specs.Asked.{request_refusal}
 use Rattle.registrar.specs.Handled.{with_view, handled, answered}

@@ -3,10 +3,10 @@ use Rattle.std.proofs.Common.{◌≡◌, ℕ, ◌+◌, ◌-◌, ◌<◌, ◌≤�
 use Rattle.std.specs.Prelude.{option_map, MatchOption, ⊤}
 use Rattle.std.proofs.lemmas.List.{length-append}
 use Rattle.ring_names.specs.declared.numbers.CreditSpec.{CreditSpec}
-use Rattle.ring_world.specs.declared.phase.Ending.{Ending}
-use Rattle.ring_world.specs.Machine.{World, Packet, Sending, member_at, link_at, runs, runs_phase}
-use Rattle.ring_world.specs.Step.{size}
-use Rattle.ring_world.proofs.runs.LinkCredit.{LinkIsKept}
+use Rattle.ring_rules.specs.declared.phase.Ending.{Ending}
+use Rattle.ring_rules.specs.Machine.{World, Packet, Sending, member_at, link_at, runs, runs_phase}
+use Rattle.ring_rules.specs.Step.{size}
+use Rattle.ring_rules.proofs.runs.LinkCredit.{LinkIsKept}
 use Rattle.gm_member.specs.Held.{Held, Outgoing, Incoming}
 use Rattle.gm_member.specs.Stands.{held_in, outgoing_in, incoming_in}
 use Rattle.ring_cluster.specs.Ends.{Sent, OutSeen, InSeen, packets_in, end_items, items_in, Carries, HaveMet}

@@ -5,15 +5,15 @@ use Rattle.std.specs.List.{filter, range_with_len}
 use Rattle.std.proofs.lemmas.Bool.{and_parts, cases_eq}
 use Rattle.std.proofs.lemmas.List.{append-nil, length-set}
 use Rattle.group_view.specs.View.{Group}
-use Rattle.ring_world.specs.View.{right_of}
-use Rattle.ring_world.specs.Machine.{World, Member, no_sending, member_at, link_at, view_in, is_kept}
-use Rattle.ring_world.specs.OpenLinks.{is_place}
-use Rattle.ring_world.specs.Step.{size, log_of, next_packet, moved_to, look_at, kept_current}
-use Rattle.ring_world.specs.Event.{refreshed, is_stopped}
-use Rattle.ring_world.proofs.events.WhatRefuses.{MayLook}
-use Rattle.ring_world.proofs.invariants.KeptLook.{kept_current-Some}
-use Rattle.ring_world.proofs.invariants.Happens.{IsGood}
-use Rattle.ring_world.proofs.walks.Ended.{EndsRight}
+use Rattle.ring_rules.specs.View.{right_of}
+use Rattle.ring_rules.specs.Machine.{World, Member, no_sending, member_at, link_at, view_in, is_kept}
+use Rattle.ring_rules.specs.OpenLinks.{is_place}
+use Rattle.ring_rules.specs.Step.{size, log_of, next_packet, moved_to, look_at, kept_current}
+use Rattle.ring_rules.specs.Event.{refreshed, is_stopped}
+use Rattle.ring_rules.proofs.events.WhatRefuses.{MayLook}
+use Rattle.ring_rules.proofs.invariants.KeptLook.{kept_current-Some}
+use Rattle.ring_rules.proofs.invariants.Happens.{IsGood}
+use Rattle.ring_rules.proofs.walks.Ended.{EndsRight}
 use Rattle.registrar.proofs.Members.{told_refreshed, stopped_same}
 use Rattle.gm_member.specs.Held.{Held, stays, refreshed_held, fresh_out as unsent_on, lines_on}
 use Rattle.gm_member.specs.Stands.{incoming_in, waits_for, door_links, held_in, lines_in}
@@ -21,7 +21,7 @@ use Rattle.gm_member.proofs.DoorLists.{filter_agree}
 use Rattle.gm_member.proofs.DoorParts.{waits_by, member_same, member_other}
 use Rattle.gm_member.proofs.OpenDoors.{sends_right, refresh_looks}
 use Rattle.gm_member.proofs.Others.{member_others}
-use Rattle.ring_world.proofs.work.OwnEnds.{OwnEnds}
+use Rattle.ring_rules.proofs.work.OwnEnds.{OwnEnds}
 use Rattle.gm_member.proofs.RefreshStands.{RowsAreRight, door_stays, refresh_stands}
 use Rattle.ring_cluster.specs.Parties.{Shown, Parties, node_at, with_node}
 use Rattle.ring_cluster.specs.Standing.{Places, MemberStands, Stand, HaveDone, is_to, has_out, has_in}

@@ -6,14 +6,14 @@ use Rattle.ring_names.specs.declared.message.Message.TheVariants as message
 use Rattle.ring_names.specs.declared.numbers.CreditSpec.{CreditSpec}
 use Rattle.ring_names.specs.declared.reason.Reason.{Reason}
 use Rattle.ring_names.specs.declared.reason.Reason.TheVariants as reason
-use Rattle.ring_world.specs.declared.event.Event.TheVariants.{Cast, Put, Take, TakeEnd, Gain, Stop, Pick}
-use Rattle.ring_world.specs.declared.phase.Phase.{Phase}
-use Rattle.ring_world.specs.declared.phase.Phase.TheVariants.{Waiting, Up, Stopped}
-use Rattle.ring_world.specs.declared.phase.Ending.{Ending}
-use Rattle.ring_world.specs.Refusal.{refuse_if, or_else, is_empty}
-use Rattle.ring_world.specs.Machine.{World, Packet, no_packet, member_at, link_at, runs, runs_phase, is_waiting}
-use Rattle.ring_world.specs.Step.{size}
-use Rattle.ring_world.specs.Event.{of_member, on_link, is_stopped, up_refusal, take_refusal, end_refusal, gain_refusal, pick_refusal, version_refusal, refusal}
+use Rattle.ring_rules.specs.declared.event.Event.TheVariants.{Cast, Put, Take, TakeEnd, Gain, Stop, Pick}
+use Rattle.ring_rules.specs.declared.phase.Phase.{Phase}
+use Rattle.ring_rules.specs.declared.phase.Phase.TheVariants.{Waiting, Up, Stopped}
+use Rattle.ring_rules.specs.declared.phase.Ending.{Ending}
+use Rattle.ring_rules.specs.Refusal.{refuse_if, or_else, is_empty}
+use Rattle.ring_rules.specs.Machine.{World, Packet, no_packet, member_at, link_at, runs, runs_phase, is_waiting}
+use Rattle.ring_rules.specs.Step.{size}
+use Rattle.ring_rules.specs.Event.{of_member, on_link, is_stopped, up_refusal, take_refusal, end_refusal, gain_refusal, pick_refusal, version_refusal, refusal}
 use Rattle.gm_member.specs.Held.{Held, up_refused, put_refused, take_refused, active_refused, pick_refused, on_some}
 use Rattle.gm_member.specs.Stands.{held_in, outgoing_in}
 use Rattle.gm_member.proofs.Facts.{version_is}

@@ -10,19 +10,19 @@ use Rattle.activity.specs.declared.packet.Load.{Load}
 use Rattle.group_view.specs.Link.{is_ring}
 use Rattle.group_view.specs.View.{Group, is_live}
 use Rattle.group_view.specs.Since.{view_at}
-use Rattle.ring_world.specs.Refusal.{refuse_if, or_else}
-use Rattle.ring_world.specs.declared.phase.Phase.{Phase}
-use Rattle.ring_world.specs.declared.phase.Phase.TheVariants.{Waiting, Up, Stopped}
-use Rattle.ring_world.specs.declared.event.Event.TheVariants.{Mark, Refresh, Admit, Erase, Refuse}
-use Rattle.ring_world.specs.declared.event.Client.{Client}
-use Rattle.ring_world.specs.declared.event.Client.TheVariants as client
-use Rattle.ring_world.specs.Machine.{World, member_at, newest, is_waiting}
-use Rattle.ring_world.specs.Step.{size, log_of}
-use Rattle.ring_world.specs.Lawful.{row_of}
-use Rattle.ring_world.specs.Event.{id_of, of_member, is_stopped, is_told, asked_of, event_of, up_refusal, refresh_refusal, doing_refusal, refused_at, at_door, refusal}
-use Rattle.ring_world.specs.Event as event
-use Rattle.ring_world.proofs.invariants.Happens.{IsGood}
-use Rattle.ring_world.proofs.events.Refusals.{id_within, cond_or, up_is}
+use Rattle.ring_rules.specs.Refusal.{refuse_if, or_else}
+use Rattle.ring_rules.specs.declared.phase.Phase.{Phase}
+use Rattle.ring_rules.specs.declared.phase.Phase.TheVariants.{Waiting, Up, Stopped}
+use Rattle.ring_rules.specs.declared.event.Event.TheVariants.{Mark, Refresh, Admit, Erase, Refuse}
+use Rattle.ring_rules.specs.declared.event.Client.{Client}
+use Rattle.ring_rules.specs.declared.event.Client.TheVariants as client
+use Rattle.ring_rules.specs.Machine.{World, member_at, newest, is_waiting}
+use Rattle.ring_rules.specs.Step.{size, log_of}
+use Rattle.ring_rules.specs.Lawful.{row_of}
+use Rattle.ring_rules.specs.Event.{id_of, of_member, is_stopped, is_told, asked_of, event_of, up_refusal, refresh_refusal, doing_refusal, refused_at, at_door, refusal}
+use Rattle.ring_rules.specs.Event as event
+use Rattle.ring_rules.proofs.invariants.Happens.{IsGood}
+use Rattle.ring_rules.proofs.events.Refusals.{id_within, cond_or, up_is}
 use Rattle.registrar.specs.declared.standing.Standing.{Standing}
 use Rattle.registrar.specs.Registry.{Registry, is_known, newest as newest_view}
 use Rattle.registrar.specs.Asked.{mark_refusal, erase_refusal, is_ring_from, waits_from, since_in, is_left, is_beside}

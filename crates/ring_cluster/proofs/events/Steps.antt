@@ -9,15 +9,15 @@ use Rattle.ring_names.specs.declared.reason.Reason.TheVariants as reason
 use Rattle.group_view.specs.declared.link.LinkName.{LinkName}
 use Rattle.group_view.specs.Ring.{is_in}
 use Rattle.group_view.proofs.Rings.{in_head, in_tail, head_differs}
-use Rattle.ring_world.specs.Machine.{World, Link, Member, no_link, member_at, link_at, runs, runs_phase}
-use Rattle.ring_world.specs.declared.phase.Phase.TheVariants.{Up}
-use Rattle.ring_world.specs.Step.{size, log_of, with_member}
-use Rattle.ring_world.specs.Event.{id_of, of_member, up_refusal, on_link, at_found, is_stopped}
-use Rattle.ring_world.proofs.events.Enabled.{up_phase, up_later}
-use Rattle.ring_world.proofs.events.Refusals.{id_within}
+use Rattle.ring_rules.specs.Machine.{World, Link, Member, no_link, member_at, link_at, runs, runs_phase}
+use Rattle.ring_rules.specs.declared.phase.Phase.TheVariants.{Up}
+use Rattle.ring_rules.specs.Step.{size, log_of, with_member}
+use Rattle.ring_rules.specs.Event.{id_of, of_member, up_refusal, on_link, at_found, is_stopped}
+use Rattle.ring_rules.proofs.events.Enabled.{up_phase, up_later}
+use Rattle.ring_rules.proofs.events.Refusals.{id_within}
 use Rattle.gm_member.specs.Held.{at_some}
 use Rattle.gm_member.specs.Stands.{held_in, waits_for, door_links}
-use Rattle.ring_world.proofs.work.OwnEnds.{OwnEnds}
+use Rattle.ring_rules.proofs.work.OwnEnds.{OwnEnds}
 use Rattle.gm_member.proofs.Parts.{current_waits_not, other_waits_not}
 use Rattle.ring_cluster.specs.Ends.{OutSeen, InSeen, Carries, HaveMet, HasRested}
 use Rattle.ring_cluster.specs.Parties.{Shown, Parties, node_at, with_node}

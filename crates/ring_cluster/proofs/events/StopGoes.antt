@@ -6,15 +6,15 @@ use Rattle.ring_names.specs.declared.numbers.CreditSpec.{CreditSpec}
 use Rattle.group_view.specs.declared.link.LinkName.{LinkName}
 use Rattle.group_view.specs.Ring.{is_in}
 use Rattle.group_view.proofs.Rings.{is_in-append}
-use Rattle.ring_world.specs.declared.event.Event.TheVariants.{Stop}
-use Rattle.ring_world.specs.declared.phase.Ending.TheVariants.{Halted}
-use Rattle.ring_world.specs.Machine.{World, Link, Member, member_at, link_at, runs}
-use Rattle.ring_world.specs.Step.{size, stopped, stop_at, ended, ended_so, end_out}
-use Rattle.ring_world.specs.Event.{id_of, running_refusal, refusal, effect, is_stopped}
-use Rattle.ring_world.proofs.rings.Rounds.{nat_eq-same, nat_eq-not}
+use Rattle.ring_rules.specs.declared.event.Event.TheVariants.{Stop}
+use Rattle.ring_rules.specs.declared.phase.Ending.TheVariants.{Halted}
+use Rattle.ring_rules.specs.Machine.{World, Link, Member, member_at, link_at, runs}
+use Rattle.ring_rules.specs.Step.{size, stopped, stop_at, ended, ended_so, end_out}
+use Rattle.ring_rules.specs.Event.{id_of, running_refusal, refusal, effect, is_stopped}
+use Rattle.ring_rules.proofs.rings.Rounds.{nat_eq-same, nat_eq-not}
 use Rattle.group_view.proofs.Truth.{later_true, cond_itself}
-use Rattle.ring_world.proofs.code.Enables.{running_runs}
-use Rattle.ring_world.proofs.events.Refusals.{id_within}
+use Rattle.ring_rules.proofs.code.Enables.{running_runs}
+use Rattle.ring_rules.proofs.events.Refusals.{id_within}
 use Rattle.gm_member.specs.Held.{Held, stopped_held}
 use Rattle.gm_member.specs.Stands.{held_in}
 use Rattle.gm_member.proofs.Fit.{IsFit}

@@ -8,16 +8,16 @@ use Rattle.ring_names.specs.declared.reason.Reason.TheVariants as reason
 use Rattle.credit_flow.specs.Credit.{grant_due}
 use Rattle.credit_flow.specs.Link.{with_grant}
 use Rattle.group_view.specs.declared.link.LinkName.{LinkName}
-use Rattle.ring_world.specs.declared.event.Event.TheVariants.{Take}
-use Rattle.ring_world.specs.declared.phase.Phase.{Phase}
-use Rattle.ring_world.specs.declared.phase.Phase.TheVariants.{Waiting, Up, Stopped}
-use Rattle.ring_world.specs.Refusal.{is_empty}
-use Rattle.ring_world.specs.Machine.{World, Member, Packet, Sending, Link, no_link, no_packet, member_at, link_at, is_waiting, oldest}
-use Rattle.ring_world.specs.Compact.{passed}
-use Rattle.ring_world.specs.Step.{size, with_member, with_link, taker, begun, popped}
-use Rattle.ring_world.specs.Event.{id_of, running_refusal, on_link, take_refusal, holds_nothing, at_found, taken_by, is_stopped, refusal, effect}
-use Rattle.ring_world.proofs.events.Enabled.{running_later, take_effect}
-use Rattle.ring_world.proofs.events.Refusals.{id_within, none_of, not_less}
+use Rattle.ring_rules.specs.declared.event.Event.TheVariants.{Take}
+use Rattle.ring_rules.specs.declared.phase.Phase.{Phase}
+use Rattle.ring_rules.specs.declared.phase.Phase.TheVariants.{Waiting, Up, Stopped}
+use Rattle.ring_rules.specs.Refusal.{is_empty}
+use Rattle.ring_rules.specs.Machine.{World, Member, Packet, Sending, Link, no_link, no_packet, member_at, link_at, is_waiting, oldest}
+use Rattle.ring_rules.specs.Compact.{passed}
+use Rattle.ring_rules.specs.Step.{size, with_member, with_link, taker, begun, popped}
+use Rattle.ring_rules.specs.Event.{id_of, running_refusal, on_link, take_refusal, holds_nothing, at_found, taken_by, is_stopped, refusal, effect}
+use Rattle.ring_rules.proofs.events.Enabled.{running_later, take_effect}
+use Rattle.ring_rules.proofs.events.Refusals.{id_within, none_of, not_less}
 use Rattle.gm_member.specs.Parcels.{ByOrigin}
 use Rattle.gm_member.specs.Held.{Held, Incoming, at_some, took_from, began_from, took_held}
 use Rattle.gm_member.specs.Stands.{incoming_in, held_in, lines_in, waits_for}

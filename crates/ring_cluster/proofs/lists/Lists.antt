@@ -8,7 +8,7 @@ use Rattle.group_view.proofs.Neighbours.{filter_none}
 use Rattle.gm_member.proofs.DoorLists.{filter_agree}
 pub use Rattle.std.proofs.lemmas.Grind.{flat_map-append}
 pub use Rattle.std.proofs.lemmas.Option.{slice_get_within}
-pub use Rattle.ring_world.proofs.work.Rows.{length-rest}
+pub use Rattle.ring_rules.proofs.work.Rows.{length-rest}
 
 -- what holds of a value that is there
 pub if_some_from : {A : Type 0} (P Q : A → Type 0) (o : Option A) → (IsSome o → (x : A) → P x → Q x) → IfSome o P → IfSome o Q

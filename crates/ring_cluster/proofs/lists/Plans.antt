@@ -5,8 +5,8 @@ use Rattle.std.proofs.lemmas.Bool.{false≢true}
 use Rattle.std.proofs.lemmas.List.{length-map, map-append, get_or-map, map-set, get_or-set_same, get_or-set_other, set-get_or, get_or_default, get_or_append_left, get_or_push}
 use Rattle.std.proofs.lemmas.List.Quantifiers.{position-Some}
 use Rattle.std.proofs.lemmas.List.Sums.{sum_by-set}
-use Rattle.ring_world.proofs.rings.Maps.{position_map}
-use Rattle.ring_world.proofs.events.Names.{same_bytes, own_bytes}
+use Rattle.ring_rules.proofs.rings.Maps.{position_map}
+use Rattle.ring_rules.proofs.events.Names.{same_bytes, own_bytes}
 use Rattle.ring_cluster.specs.declared.agenda.Task.{Task}
 use Rattle.ring_cluster.specs.Agendas.{Plan, names_of, place_among, plan_at, tasks_found, tasks_in, tasks_on_all, with_found, with_tasks, with_more, with_task}
 use Rattle.ring_cluster.proofs.lists.Places.{position_before, position_behind, position_still}

@@ -8,17 +8,17 @@ use Rattle.ring_names.specs.declared.numbers.CreditSpec.{CreditSpec}
 use Rattle.group_view.specs.declared.link.LinkName.{LinkName}
 use Rattle.group_view.specs.Ring.{is_in}
 use Rattle.group_view.proofs.Rings.{nat_eq-same, nat_eq-not}
-use Rattle.ring_world.specs.Machine.{World, member_at, link_at}
-use Rattle.ring_world.specs.OpenLinks.{is_place}
-use Rattle.ring_world.specs.Step.{size}
-use Rattle.ring_world.proofs.rings.Lists.{at_set}
-use Rattle.ring_world.proofs.invariants.Happens.{IsGood}
-use Rattle.ring_world.proofs.walks.OpenWalk.{place_is}
+use Rattle.ring_rules.specs.Machine.{World, member_at, link_at}
+use Rattle.ring_rules.specs.OpenLinks.{is_place}
+use Rattle.ring_rules.specs.Step.{size}
+use Rattle.ring_rules.proofs.rings.Lists.{at_set}
+use Rattle.ring_rules.proofs.invariants.Happens.{IsGood}
+use Rattle.ring_rules.proofs.walks.OpenWalk.{place_is}
 use Rattle.gm_member.specs.Held.{Outgoing}
 use Rattle.gm_member.specs.View.{ring_link}
 use Rattle.gm_member.specs.Shown.{in_name_of, out_name_of, in_end}
 use Rattle.gm_member.specs.Stands.{outgoing_in}
-use Rattle.ring_world.proofs.work.OwnEnds.{OwnEnds}
+use Rattle.ring_rules.proofs.work.OwnEnds.{OwnEnds}
 use Rattle.ring_cluster.specs.Ends.{OutSeen, InSeen, Carries, HaveMet, HasRested, Fits, Meets}
 use Rattle.ring_cluster.specs.Parties.{Shown, Posted, Parties, no_shown, node_at, with_node, with_out, with_in}
 use Rattle.ring_cluster.specs.Standing.{Places, MemberStands, Shows, StandIn, Stand, HaveDone, name_of, has_out, has_in}

@@ -2,7 +2,7 @@
 use Rattle.std.proofs.Common.{◌≡◌, ◌≢◌, ℕ, ◌<◌, Bool, true, false, ◌++◌, length, refl, sym, ap, ◌∙◌, arith}
 use Rattle.std.proofs.lemmas.Bool.{false≢true}
 use Rattle.std.proofs.lemmas.List.{append-nil}
-use Rattle.ring_world.specs.Machine.{World, link_at}
+use Rattle.ring_rules.specs.Machine.{World, link_at}
 use Rattle.ring_cluster.specs.Ends.{OutSeen, InSeen, HaveMet}
 use Rattle.ring_cluster.specs.Parties.{Parties}
 use Rattle.ring_cluster.specs.Standing.{Places, Stand, SendersKnow, has_out, has_in}

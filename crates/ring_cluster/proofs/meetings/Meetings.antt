@@ -8,10 +8,10 @@ use Rattle.std.proofs.lemmas.Option.{slice_get-map, get_or_from_slice_get, slice
 use Rattle.ring_names.specs.declared.numbers.CreditSpec.{CreditSpec}
 use Rattle.group_view.specs.Ring.{is_in}
 use Rattle.group_view.proofs.Rings.{is_in-append}
-use Rattle.ring_world.specs.Machine.{World, Link, member_at, link_at}
-use Rattle.ring_world.specs.Step.{size}
-use Rattle.ring_world.proofs.rings.Rounds.{nat_eq-is}
-use Rattle.ring_world.proofs.invariants.Happens.{IsGood}
+use Rattle.ring_rules.specs.Machine.{World, Link, member_at, link_at}
+use Rattle.ring_rules.specs.Step.{size}
+use Rattle.ring_rules.proofs.rings.Rounds.{nat_eq-is}
+use Rattle.ring_rules.proofs.invariants.Happens.{IsGood}
 use Rattle.gm_member.specs.Held.{Held}
 use Rattle.gm_member.specs.Shown.{in_name_of, in_end}
 use Rattle.gm_member.specs.Stands.{incoming_in, waits_for}

@@ -10,7 +10,7 @@ use Rattle.group_view.specs.declared.link.LinkName.{LinkName}
 use Rattle.group_view.specs.View.{Group}
 use Rattle.ordered_link.specs.declared.plain.PlainOut.{PlainOut}
 use Rattle.ordered_link.specs.declared.plain.PlainIn.{PlainIn}
-use Rattle.ring_world.proofs.rings.Maps.{mapped_rewrite}
+use Rattle.ring_rules.proofs.rings.Maps.{mapped_rewrite}
 use Rattle.registrar.specs.declared.standing.Standing.{Standing}
 use Rattle.registrar.specs.Registry.{Registry, name_in, end_in, end_of, with_end, end_is}
 use Rattle.activity.specs.declared.packet.Load.{Load}

@@ -4,9 +4,9 @@ use Rattle.std.specs.Prelude.{◌⊎◌, option_map, IfSome}
 use Rattle.std.proofs.lemmas.List.{set-get_or}
 use Rattle.ring_names.specs.declared.numbers.CreditSpec.{CreditSpec}
 use Rattle.group_view.specs.declared.link.LinkName.{LinkName}
-use Rattle.ring_world.specs.declared.event.Event.{Event}
-use Rattle.ring_world.specs.Machine.{World, member_at, link_at}
-use Rattle.ring_world.specs.Step.{size}
+use Rattle.ring_rules.specs.declared.event.Event.{Event}
+use Rattle.ring_rules.specs.Machine.{World, member_at, link_at}
+use Rattle.ring_rules.specs.Step.{size}
 use Rattle.gm_member.specs.Held.{Incoming, at_some}
 use Rattle.gm_member.specs.Shown.{in_name_of, out_name_of, in_end}
 use Rattle.gm_member.specs.Stands.{incoming_in}

@@ -3,7 +3,7 @@ use Rattle.std.proofs.Common.{◌-◌, ℕ, List, set, Some, None, sym, ap, subs
 use Rattle.std.specs.Prelude.{◌⊎◌}
 use Rattle.ring_names.specs.declared.numbers.CreditSpec.{CreditSpec}
 use Rattle.group_view.specs.declared.link.LinkName.{LinkName}
-use Rattle.ring_world.specs.Machine.{World}
+use Rattle.ring_rules.specs.Machine.{World}
 use Rattle.ring_cluster.specs.Ends.{OutSeen}
 use Rattle.ring_cluster.specs.Parties.{Parties, no_posted, with_node, with_in}
 use Rattle.ring_cluster.specs.Loose.{StandBetween}

@@ -3,11 +3,11 @@ use Rattle.std.proofs.Common.{◌≡◌, ℕ, ◌<◌, ◌≤◌, Bool, true, fa
 use Rattle.std.specs.Prelude.{◌&&◌, ◌||◌}
 use Rattle.std.proofs.lemmas.Bool.{false≢true}
 use Rattle.ring_names.specs.declared.numbers.CreditSpec.{CreditSpec}
-use Rattle.ring_world.specs.Machine.{World, member_at, link_at, newest, runs}
-use Rattle.ring_world.specs.OpenLinks.{version_of, passes, is_current, is_door_link, is_place}
-use Rattle.ring_world.proofs.rings.Rounds.{nat_eq-same}
-use Rattle.ring_world.proofs.invariants.Good.{kept_true, out_stays}
-use Rattle.ring_world.proofs.invariants.FromLeft.{opened_right, comes_is}
+use Rattle.ring_rules.specs.Machine.{World, member_at, link_at, newest, runs}
+use Rattle.ring_rules.specs.OpenLinks.{version_of, passes, is_current, is_door_link, is_place}
+use Rattle.ring_rules.proofs.rings.Rounds.{nat_eq-same}
+use Rattle.ring_rules.proofs.invariants.Good.{kept_true, out_stays}
+use Rattle.ring_rules.proofs.invariants.FromLeft.{opened_right, comes_is}
 use Rattle.ring_cluster.specs.Standing.{has_in, has_out}
 use Rattle.ring_cluster.proofs.work.Lawful.{IsLawfulAt}
 

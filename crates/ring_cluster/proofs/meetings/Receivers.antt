@@ -5,13 +5,13 @@ use Rattle.std.specs.Prelude.{option_map}
 use Rattle.ring_names.specs.declared.numbers.CreditSpec.{CreditSpec}
 use Rattle.group_view.specs.declared.link.LinkName.{LinkName}
 use Rattle.group_view.specs.View.{Group}
-use Rattle.ring_world.specs.View.{right_of}
-use Rattle.ring_world.specs.Machine.{World, member_at, link_at}
-use Rattle.ring_world.specs.Step.{size}
+use Rattle.ring_rules.specs.View.{right_of}
+use Rattle.ring_rules.specs.Machine.{World, member_at, link_at}
+use Rattle.ring_rules.specs.Step.{size}
 use Rattle.gm_member.specs.Held.{Held, sends_to}
 use Rattle.gm_member.specs.Shown.{When, out_name_of}
 use Rattle.gm_member.specs.Stands.{outgoing_in}
-use Rattle.ring_world.proofs.work.OwnEnds.{OwnEnds}
+use Rattle.ring_rules.proofs.work.OwnEnds.{OwnEnds}
 use Rattle.ring_cluster.specs.Ends.{OutSeen}
 use Rattle.ring_cluster.specs.Parties.{Shown, Parties, node_at}
 use Rattle.ring_cluster.specs.Standing.{Places, MemberStands, Stand, name_of}

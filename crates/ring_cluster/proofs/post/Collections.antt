@@ -6,13 +6,13 @@ use Rattle.std.proofs.lemmas.List.{append-nil, append_assoc, map-append, length-
 use Rattle.credit_flow.specs.Credit.{none_taken}
 use Rattle.group_view.specs.Ring.{is_in}
 use Rattle.group_view.proofs.Rings.{nat_eq-not}
-use Rattle.ring_world.specs.Machine.{World, link_at, view_in}
-use Rattle.ring_world.specs.OpenLinks.{version_of, is_door_link}
-use Rattle.ring_world.specs.Step.{size}
-use Rattle.ring_world.proofs.rings.Rounds.{nat_eq-is}
+use Rattle.ring_rules.specs.Machine.{World, link_at, view_in}
+use Rattle.ring_rules.specs.OpenLinks.{version_of, is_door_link}
+use Rattle.ring_rules.specs.Step.{size}
+use Rattle.ring_rules.proofs.rings.Rounds.{nat_eq-is}
 use Rattle.group_view.proofs.Rings.{in_head, in_tail}
 use Rattle.group_view.proofs.Neighbours.{filter_none}
-use Rattle.ring_world.proofs.invariants.Happens.{IsGood}
+use Rattle.ring_rules.proofs.invariants.Happens.{IsGood}
 use Rattle.gm_member.specs.Held.{Held, Incoming, stays, collected_held}
 use Rattle.gm_member.specs.Stands.{incoming_in, waits_for, held_in}
 use Rattle.gm_member.proofs.Doors.{waits_is}

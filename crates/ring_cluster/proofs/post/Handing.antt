@@ -9,11 +9,11 @@ use Rattle.group_view.specs.Ring.{is_in}
 use Rattle.group_view.specs.declared.link.LinkName.{LinkName}
 use Rattle.group_view.specs.declared.request.Deposited.{Deposited}
 use Rattle.group_view.specs.View.{Group, as_id, ids as ids_of}
-use Rattle.ring_world.specs.View.{ids}
-use Rattle.ring_world.specs.Machine.{World, link_at, view_in, newest}
-use Rattle.ring_world.proofs.rings.Rounds.{nat_eq-is}
-use Rattle.ring_world.proofs.invariants.FromLeft.{sender_known}
-use Rattle.ring_world.proofs.invariants.Happens.{IsGood}
+use Rattle.ring_rules.specs.View.{ids}
+use Rattle.ring_rules.specs.Machine.{World, link_at, view_in, newest}
+use Rattle.ring_rules.proofs.rings.Rounds.{nat_eq-is}
+use Rattle.ring_rules.proofs.invariants.FromLeft.{sender_known}
+use Rattle.ring_rules.proofs.invariants.Happens.{IsGood}
 use Rattle.registrar.specs.declared.standing.Standing.{Standing}
 use Rattle.registrar.specs.Registry.{Registry, is_known, beside, AreHere}
 use Rattle.registrar.specs.Handled.{without_links, deposited, links_for}

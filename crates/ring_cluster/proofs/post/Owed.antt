@@ -1,7 +1,7 @@
 -- What only differs in what is owed.
 use Rattle.std.proofs.Common.{◌≡◌, ◌+◌, ◌-◌, ◌^◌, Bool, min, refl, ap, ◌∙◌}
 use Rattle.std.specs.Prelude.{Result, Ok, Err, OnErr}
-use Rattle.ring_world.specs.declared.event.Event.{Event}
+use Rattle.ring_rules.specs.declared.event.Event.{Event}
 use Rattle.ring_cluster.specs.Seen.{Seen, SameButOwed, MayHandOver, IsStepped, owing, showing, with_event}
 
 pub but_refl : (c : Seen) → SameButOwed c c

@@ -9,11 +9,11 @@ use Rattle.ordered_link.specs.declared.plain.PlainIn.{PlainIn}
 use Rattle.group_view.specs.declared.link.LinkName.{LinkName}
 use Rattle.group_view.specs.Link.{is_ring}
 use Rattle.group_view.specs.View.{Group}
-use Rattle.ring_world.specs.Refusal.{refuse_if, or_else}
-use Rattle.ring_world.specs.Machine.{is_waiting}
-use Rattle.ring_world.specs.View.{left_of}
-use Rattle.ring_world.specs.Event.{is_stopped, version_refusal}
-use Rattle.ring_world.proofs.rings.Rounds.{nat_eq-is}
+use Rattle.ring_rules.specs.Refusal.{refuse_if, or_else}
+use Rattle.ring_rules.specs.Machine.{is_waiting}
+use Rattle.ring_rules.specs.View.{left_of}
+use Rattle.ring_rules.specs.Event.{is_stopped, version_refusal}
+use Rattle.ring_rules.proofs.rings.Rounds.{nat_eq-is}
 use Rattle.registrar.specs.declared.standing.Standing.{Standing}
 use Rattle.registrar.specs.Asked.{is_left, since_in, waits_from}
 use Rattle.activity.specs.declared.packet.Load.{Load}

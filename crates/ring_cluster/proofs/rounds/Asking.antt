@@ -1,12 +1,12 @@
 -- What a member has to do by itself, as it is asked.
 use Rattle.std.proofs.Common.{◌≡◌, ◌≢◌, ℕ, ◌-◌, ◌<◌, ◌≤◌, Bool, true, false, not, Option, Some, None, is_some, sym, ap, ◌∙◌}
 use Rattle.ring_names.specs.declared.reason.Reason.{Reason}
-use Rattle.ring_world.specs.declared.event.Event.TheVariants.{Mark}
-use Rattle.ring_world.specs.declared.phase.Phase.TheVariants.{Stopped}
-use Rattle.ring_world.specs.Machine.{World, member_at}
-use Rattle.ring_world.specs.Step.{size}
-use Rattle.ring_world.specs.Event.{id_of, of_member, up_refusal, mark_refusal, refusal}
-use Rattle.ring_world.proofs.events.Enabled.{up_none, mark_stops}
+use Rattle.ring_rules.specs.declared.event.Event.TheVariants.{Mark}
+use Rattle.ring_rules.specs.declared.phase.Phase.TheVariants.{Stopped}
+use Rattle.ring_rules.specs.Machine.{World, member_at}
+use Rattle.ring_rules.specs.Step.{size}
+use Rattle.ring_rules.specs.Event.{id_of, of_member, up_refusal, mark_refusal, refusal}
+use Rattle.ring_rules.proofs.events.Enabled.{up_none, mark_stops}
 use Rattle.gm_member.proofs.Fit.{IsFit}
 use Rattle.ring_cluster.specs.declared.driver.OwnStep.TheVariants as step
 use Rattle.ring_cluster.specs.Turns.{MayStep, MayStepNowhere}

@@ -2,14 +2,14 @@
 use Rattle.std.proofs.Common.{◌≡◌, ℕ, ◌+◌, ◌-◌, ◌<◌, ◌≤◌, Bool, true, false, not, ◌||◌, nat_eq, List, length, Some, None, refl, sym, ap, ◌∙◌, arith}
 use Rattle.std.specs.Prelude.{◌&&◌, Option, is_some, option_map, position, bytes_eq}
 use Rattle.std.proofs.lemmas.List.{same_lists, length-map, get_or-map}
-use Rattle.ring_world.proofs.rings.Maps.{position_map}
+use Rattle.ring_rules.proofs.rings.Maps.{position_map}
 use Rattle.group_view.specs.declared.link.LinkName.{LinkName}
 use Rattle.ring_names.specs.declared.numbers.CreditSpec.{CreditSpec}
-use Rattle.ring_world.specs.declared.event.Event.{Event}
+use Rattle.ring_rules.specs.declared.event.Event.{Event}
 use Rattle.activity.specs.Kept.{Kept, got_of}
-use Rattle.ring_world.specs.Machine.{World, member_at, view_in, newest}
-use Rattle.ring_world.specs.Step.{size, log_of}
-use Rattle.ring_world.specs.Lawful.{row_of}
+use Rattle.ring_rules.specs.Machine.{World, member_at, view_in, newest}
+use Rattle.ring_rules.specs.Step.{size, log_of}
+use Rattle.ring_rules.specs.Lawful.{row_of}
 use Rattle.gm_member.specs.Held.{Held, Incoming}
 use Rattle.gm_member.specs.Parcels.{known_at}
 use Rattle.gm_member.specs.Stands.{kept_by, held_in, outgoing_in}
@@ -17,7 +17,7 @@ use Rattle.gm_member.proofs.Knowing.{got_kept}
 use Rattle.gm_member.specs.Shown.{out_name_of}
 use Rattle.gm_member.proofs.Fit.{IsFit, reached_fit}
 use Rattle.gm_member.proofs.Facts.{held_known, right_row, version_of_view}
-use Rattle.ring_world.specs.Work.{is_stale}
+use Rattle.ring_rules.specs.Work.{is_stale}
 use Rattle.ring_cluster.specs.Holds.{HoldsOf}
 use Rattle.ring_cluster.specs.Seen.{state}
 use Rattle.ring_cluster.specs.Parties.{Shown, Parties, no_shown, node_at, names_shown}

@@ -8,27 +8,27 @@ use Rattle.ring_names.specs.declared.reason.Reason.TheVariants as reason
 use Rattle.ring_names.specs.Reason.{code_of}
 use Rattle.ring_names.specs.declared.numbers.CreditSpec.{CreditSpec}
 use Rattle.group_view.specs.Change.{AreOpeningNames, AreDifferent, is_taken}
-use Rattle.ring_world.specs.declared.event.Event.{Event}
-use Rattle.ring_world.specs.declared.event.Event.TheVariants.{Take, Mark, Refresh, Admit, Erase}
-use Rattle.ring_world.specs.declared.phase.Phase.{Phase}
-use Rattle.ring_world.specs.declared.phase.Phase.TheVariants.{Waiting, Up, Stopped}
-use Rattle.ring_world.specs.Refusal.{refuse_if, or_else, is_empty}
-use Rattle.ring_world.specs.Machine.{World, member_at, link_at, view_in, newest, runs, runs_phase, is_waiting, oldest}
-use Rattle.ring_world.specs.Step.{size, opening}
-use Rattle.ring_world.specs.Event.{by_of, id_of, of_member, on_link, is_asked, is_told, is_passing, doing_refusal, refused_at, is_stopped, version_refusal, running_refusal, up_refusal, take_refusal, refresh_refusal, mark_refusal, erase_refusal, admit_refusal, refusal, effect, IsRun, last}
-use Rattle.ring_world.specs.Work.{is_stale, LeavesLess}
-use Rattle.ring_world.specs.Settling.{is_repair, stale_one}
-use Rattle.ring_world.proofs.events.Names.{same_bytes}
-use Rattle.ring_world.proofs.events.Enabled.{up_none}
-use Rattle.ring_world.proofs.events.Refusals.{id_within}
-use Rattle.ring_world.proofs.rests.Asked.{no_version}
-use Rattle.ring_world.proofs.rings.Rounds.{nat_eq-same}
-use Rattle.ring_world.proofs.runs.InOrder.{last_append, run_append}
-use Rattle.ring_world.proofs.runs.Published.{found_name}
-use Rattle.ring_world.proofs.invariants.FirstVersion.{reached_old}
-use Rattle.ring_world.proofs.walks.Ended.{runs_lt}
-use Rattle.ring_world.proofs.work.Settling.{repair_less, someone}
-use Rattle.ring_world.proofs.work.Fit as ring
+use Rattle.ring_rules.specs.declared.event.Event.{Event}
+use Rattle.ring_rules.specs.declared.event.Event.TheVariants.{Take, Mark, Refresh, Admit, Erase}
+use Rattle.ring_rules.specs.declared.phase.Phase.{Phase}
+use Rattle.ring_rules.specs.declared.phase.Phase.TheVariants.{Waiting, Up, Stopped}
+use Rattle.ring_rules.specs.Refusal.{refuse_if, or_else, is_empty}
+use Rattle.ring_rules.specs.Machine.{World, member_at, link_at, view_in, newest, runs, runs_phase, is_waiting, oldest}
+use Rattle.ring_rules.specs.Step.{size, opening}
+use Rattle.ring_rules.specs.Event.{by_of, id_of, of_member, on_link, is_asked, is_told, is_passing, doing_refusal, refused_at, is_stopped, version_refusal, running_refusal, up_refusal, take_refusal, refresh_refusal, mark_refusal, erase_refusal, admit_refusal, refusal, effect, IsRun, last}
+use Rattle.ring_rules.specs.Work.{is_stale, LeavesLess}
+use Rattle.ring_rules.specs.Settling.{is_repair, stale_one}
+use Rattle.ring_rules.proofs.events.Names.{same_bytes}
+use Rattle.ring_rules.proofs.events.Enabled.{up_none}
+use Rattle.ring_rules.proofs.events.Refusals.{id_within}
+use Rattle.ring_rules.proofs.rests.Asked.{no_version}
+use Rattle.ring_rules.proofs.rings.Rounds.{nat_eq-same}
+use Rattle.ring_rules.proofs.runs.InOrder.{last_append, run_append}
+use Rattle.ring_rules.proofs.runs.Published.{found_name}
+use Rattle.ring_rules.proofs.invariants.FirstVersion.{reached_old}
+use Rattle.ring_rules.proofs.walks.Ended.{runs_lt}
+use Rattle.ring_rules.proofs.work.Settling.{repair_less, someone}
+use Rattle.ring_rules.proofs.work.Fit as ring
 use Rattle.gm_member.proofs.Fit.{IsFit, reached_fit}
 use Rattle.ring_cluster.specs.declared.agenda.Task.{Task}
 use Rattle.ring_cluster.specs.declared.agenda.Task.TheVariants as task
@@ -39,7 +39,7 @@ use Rattle.ring_cluster.specs.Handed.{least_running}
 use Rattle.ring_cluster.specs.Plays.{asked_event, client_event, client_events, task_event, answer_by, answer_to, is_stop, takes_up}
 use Rattle.ring_cluster.specs.Turns.{IsMemberAt, MembersStay, NoneWaitsAgain}
 use Rattle.ring_cluster.specs.Published.{names_in, logs_of}
-use Rattle.ring_world.specs.Published.{published_in}
+use Rattle.ring_rules.specs.Published.{published_in}
 use Rattle.ring_cluster.proofs.work.Staying.{KeepsNames, waits_not_again, is_admission, event_same, event_keeps, run_keeps_names, run_behind}
 use Rattle.ring_cluster.proofs.work.Logged.{names_in_many, name_in_at, reached_different, id_in, run_all_logs}
 use Rattle.ring_cluster.proofs.rounds.Heirs.{IsNext, next_heir, backlog_later}

@@ -3,13 +3,13 @@ use Rattle.std.proofs.Common.{◌≡◌, Bool, true, false, ℕ, List, [], ◌�
 use Rattle.std.specs.Prelude.{◌||◌, not, is_some, MatchOption}
 use Rattle.std.proofs.lemmas.Bool.{false≢true}
 use Rattle.ring_names.specs.declared.reason.Reason.{Reason}
-use Rattle.ring_world.specs.declared.event.Event.TheVariants.{Mark, Erase}
-use Rattle.ring_world.specs.Refusal.{is_empty}
-use Rattle.ring_world.specs.Event.{by_of, asked_of}
-use Rattle.ring_world.specs.Work.{LeavesLess}
-use Rattle.ring_world.specs.Settling.{is_repair}
-use Rattle.ring_world.proofs.work.Fit as ring
-use Rattle.ring_world.proofs.work.Settling.{repair_less}
+use Rattle.ring_rules.specs.declared.event.Event.TheVariants.{Mark, Erase}
+use Rattle.ring_rules.specs.Refusal.{is_empty}
+use Rattle.ring_rules.specs.Event.{by_of, asked_of}
+use Rattle.ring_rules.specs.Work.{LeavesLess}
+use Rattle.ring_rules.specs.Settling.{is_repair}
+use Rattle.ring_rules.proofs.work.Fit as ring
+use Rattle.ring_rules.proofs.work.Settling.{repair_less}
 use Rattle.gm_member.proofs.Fit.{IsFit, reached_fit}
 use Rattle.ring_cluster.specs.declared.agenda.Task.{Task}
 use Rattle.ring_cluster.specs.declared.agenda.Task.TheVariants as task

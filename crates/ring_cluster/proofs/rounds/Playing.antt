@@ -5,12 +5,12 @@ use Rattle.std.proofs.lemmas.List.{length-append, length-map, take-append-le, ta
 use Rattle.ring_script.specs.declared.command.Command.{Command}
 use Rattle.ring_script.specs.declared.command.Command.TheVariants as command
 use Rattle.ring_names.specs.declared.numbers.CreditSpec.{CreditSpec}
-use Rattle.ring_world.specs.declared.event.Event.{Event}
-use Rattle.ring_world.specs.Quiet.{IsQuiet}
-use Rattle.ring_world.specs.Machine.{World}
-use Rattle.ring_world.specs.Step.{opening}
-use Rattle.ring_world.specs.Event.{last}
-use Rattle.ring_world.proofs.runs.InOrder.{last_append}
+use Rattle.ring_rules.specs.declared.event.Event.{Event}
+use Rattle.ring_rules.specs.Quiet.{IsQuiet}
+use Rattle.ring_rules.specs.Machine.{World}
+use Rattle.ring_rules.specs.Step.{opening}
+use Rattle.ring_rules.specs.Event.{last}
+use Rattle.ring_rules.proofs.runs.InOrder.{last_append}
 use Rattle.ring_cluster.specs.Parties.{Parties}
 use Rattle.ring_cluster.specs.Seen.{Seen, state, state_of, IsGoing, showing, with_event, opening_seen}
 use Rattle.ring_cluster.specs.Agendas.{tasks_in}

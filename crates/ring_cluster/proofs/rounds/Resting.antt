@@ -3,16 +3,16 @@ use Rattle.std.proofs.Common.{◌≡◌, ◌≢◌, ℕ, ◌+◌, ◌-◌, ◌<�
 use Rattle.std.proofs.lemmas.Bool.{false≢true}
 use Rattle.ring_names.specs.declared.numbers.MemberId.{MemberId}
 use Rattle.ring_names.specs.declared.reason.Reason.{Reason}
-use Rattle.ring_world.specs.declared.event.Event.TheVariants.{Mark, Erase}
-use Rattle.ring_world.specs.declared.phase.Phase.{Phase}
-use Rattle.ring_world.specs.declared.phase.Phase.TheVariants.{Waiting, Up, Stopped}
-use Rattle.ring_world.specs.Machine.{World, member_at, newest, right, runs, runs_phase}
-use Rattle.ring_world.specs.Step.{size}
-use Rattle.ring_world.specs.Event.{erase_refusal, refusal}
-use Rattle.ring_world.specs.Idle.{NobodySteps, MarksNobody, ErasesNobody}
-use Rattle.ring_world.specs.Work.{LeavesLess}
-use Rattle.ring_world.proofs.walks.Ended.{runs_lt}
-use Rattle.ring_world.proofs.work.Settling.{no_step, no_mark, someone}
+use Rattle.ring_rules.specs.declared.event.Event.TheVariants.{Mark, Erase}
+use Rattle.ring_rules.specs.declared.phase.Phase.{Phase}
+use Rattle.ring_rules.specs.declared.phase.Phase.TheVariants.{Waiting, Up, Stopped}
+use Rattle.ring_rules.specs.Machine.{World, member_at, newest, right, runs, runs_phase}
+use Rattle.ring_rules.specs.Step.{size}
+use Rattle.ring_rules.specs.Event.{erase_refusal, refusal}
+use Rattle.ring_rules.specs.Idle.{NobodySteps, MarksNobody, ErasesNobody}
+use Rattle.ring_rules.specs.Work.{LeavesLess}
+use Rattle.ring_rules.proofs.walks.Ended.{runs_lt}
+use Rattle.ring_rules.proofs.work.Settling.{no_step, no_mark, someone}
 use Rattle.gm_member.proofs.Fit.{IsFit}
 use Rattle.ring_cluster.specs.declared.driver.OwnStep.{OwnStep}
 use Rattle.ring_cluster.specs.declared.driver.OwnStep.TheVariants as step

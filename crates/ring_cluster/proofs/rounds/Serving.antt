@@ -5,9 +5,9 @@ use Rattle.std.proofs.lemmas.Bool.{cases_lt}
 use Rattle.std.proofs.lemmas.List.{length-map, length-append, map-append, take-append-le, take-append-drop}
 use Rattle.std.proofs.lemmas.List.Elements.{filter-append}
 use Rattle.ring_script.specs.declared.command.Command.{Command}
-use Rattle.ring_world.specs.declared.event.Event.{Event}
-use Rattle.ring_world.specs.Machine.{World}
-use Rattle.ring_world.specs.Event.{last}
+use Rattle.ring_rules.specs.declared.event.Event.{Event}
+use Rattle.ring_rules.specs.Machine.{World}
+use Rattle.ring_rules.specs.Event.{last}
 use Rattle.ring_cluster.specs.Handed.{handed}
 use Rattle.ring_cluster.specs.Plays.{client_event, client_events, asked, marked_of, unmarked_of, Serves}
 use Rattle.ring_cluster.proofs.lists.Lists.{flat_map-append}

@@ -8,18 +8,18 @@ use Rattle.group_view.specs.Ring.{is_in}
 use Rattle.group_view.specs.View.{entry_in, is_dead_mark, ids as ids_of, right_of as right_of_entries}
 use Rattle.group_view.proofs.Passing.{live_in, dead_in}
 use Rattle.group_view.proofs.Rings.{nat_eq-is}
-use Rattle.ring_world.specs.View.{is_live}
-use Rattle.ring_world.specs.Machine.{World, view_in, newest, right, runs}
-use Rattle.ring_world.specs.Step.{size}
-use Rattle.ring_world.specs.Quiet.{IsQuiet}
-use Rattle.ring_world.proofs.invariants.Period.{right_lives}
-use Rattle.ring_world.proofs.walks.Views.{right_is}
-use Rattle.ring_world.specs.Event.{erase_refusal}
-use Rattle.ring_world.proofs.code.Enables.{erase_dead}
-use Rattle.ring_world.proofs.rests.Rests.{id_in, entry_at, run_worked_is_quiet}
-use Rattle.ring_world.specs.Idle.{NobodySteps, MarksNobody, ErasesNobody}
-use Rattle.ring_world.proofs.work.Fit as ring
-use Rattle.ring_world.proofs.work.Nobody.{ring_members}
+use Rattle.ring_rules.specs.View.{is_live}
+use Rattle.ring_rules.specs.Machine.{World, view_in, newest, right, runs}
+use Rattle.ring_rules.specs.Step.{size}
+use Rattle.ring_rules.specs.Quiet.{IsQuiet}
+use Rattle.ring_rules.proofs.invariants.Period.{right_lives}
+use Rattle.ring_rules.proofs.walks.Views.{right_is}
+use Rattle.ring_rules.specs.Event.{erase_refusal}
+use Rattle.ring_rules.proofs.code.Enables.{erase_dead}
+use Rattle.ring_rules.proofs.rests.Rests.{id_in, entry_at, run_worked_is_quiet}
+use Rattle.ring_rules.specs.Idle.{NobodySteps, MarksNobody, ErasesNobody}
+use Rattle.ring_rules.proofs.work.Fit as ring
+use Rattle.ring_rules.proofs.work.Nobody.{ring_members}
 use Rattle.ring_cluster.specs.Seen.{Seen, state_of, IsGoing}
 use Rattle.ring_cluster.specs.Turns.{ErasesNoneAt}
 

@@ -2,17 +2,17 @@
 use Rattle.std.proofs.Common.{◌≡◌, ◌≢◌, ℕ, ◌+◌, ◌<◌, ◌≤◌, Bool, true, false, ◌||◌, List, [], ◌∷◌, length, Option, Some, None, refl, sym, ap, subst, ◌∙◌, ⊎_elim, arith}
 use Rattle.std.proofs.lemmas.Bool.{cases_eq, cases_lt, false≢true}
 use Rattle.ring_names.specs.declared.reason.Reason.TheVariants as reason
-use Rattle.ring_world.specs.declared.event.Event.{Event}
-use Rattle.ring_world.specs.declared.phase.Phase.{Phase}
-use Rattle.ring_world.specs.declared.phase.Phase.TheVariants.{Waiting, Up, Stopped}
-use Rattle.ring_world.specs.Idle.{NobodySteps}
-use Rattle.ring_world.specs.Machine.{World, member_at, runs, runs_phase}
-use Rattle.ring_world.specs.Step.{size}
-use Rattle.ring_world.specs.Event.{is_asked, is_stopped, of_member, on_link, running_refusal, take_refusal, refusal}
-use Rattle.ring_world.specs.Work.{total}
-use Rattle.ring_world.proofs.events.Refusals.{none_of}
-use Rattle.ring_world.proofs.walks.Ended.{runs_lt}
-use Rattle.ring_world.proofs.work.Settling.{someone}
+use Rattle.ring_rules.specs.declared.event.Event.{Event}
+use Rattle.ring_rules.specs.declared.phase.Phase.{Phase}
+use Rattle.ring_rules.specs.declared.phase.Phase.TheVariants.{Waiting, Up, Stopped}
+use Rattle.ring_rules.specs.Idle.{NobodySteps}
+use Rattle.ring_rules.specs.Machine.{World, member_at, runs, runs_phase}
+use Rattle.ring_rules.specs.Step.{size}
+use Rattle.ring_rules.specs.Event.{is_asked, is_stopped, of_member, on_link, running_refusal, take_refusal, refusal}
+use Rattle.ring_rules.specs.Work.{total}
+use Rattle.ring_rules.proofs.events.Refusals.{none_of}
+use Rattle.ring_rules.proofs.walks.Ended.{runs_lt}
+use Rattle.ring_rules.proofs.work.Settling.{someone}
 use Rattle.gm_member.proofs.Fit.{IsFit}
 use Rattle.ring_cluster.specs.Seen.{Seen, state_of, IsGoing, SameButOwed, with_event}
 use Rattle.ring_cluster.specs.declared.agenda.Task.{Task}

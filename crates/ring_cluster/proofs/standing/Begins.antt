@@ -7,18 +7,18 @@ use Rattle.std.proofs.lemmas.List.FromFn.{get_or-map-range_with_len, length-map-
 use Rattle.ring_names.specs.declared.numbers.CreditSpec.{CreditSpec}
 use Rattle.group_view.specs.Change.{AreOpeningNames, opening as opening_group}
 use Rattle.group_view.specs.Ring.{is_in}
-use Rattle.ring_world.specs.Rows.{no_row}
-use Rattle.ring_world.specs.View.{ids, left_of, right_of}
-use Rattle.ring_world.specs.Machine.{Link, Member, no_link, member_at, link_at, row_at, numbers_at, left, runs, runs_phase}
+use Rattle.ring_rules.specs.Rows.{no_row}
+use Rattle.ring_rules.specs.View.{ids, left_of, right_of}
+use Rattle.ring_rules.specs.Machine.{Link, Member, no_link, member_at, link_at, row_at, numbers_at, left, runs, runs_phase}
 use Rattle.activity.specs.Kept.{no_kept}
 use Rattle.ring_names.specs.declared.message.Message.{Message}
-use Rattle.ring_world.specs.Step.{size, log_of, opening, opening_link, opening_member}
-use Rattle.ring_world.specs.Event.{is_stopped}
-use Rattle.ring_world.proofs.events.First.{first_size, first_member}
-use Rattle.ring_world.proofs.rings.Lists.{get_or-mapped}
-use Rattle.ring_world.proofs.rings.Rounds.{nat_eq-is, nat_eq-same}
-use Rattle.ring_world.proofs.walks.Views.{left_is}
-use Rattle.ring_world.proofs.invariants.Opening.{opening_ids, in_range}
+use Rattle.ring_rules.specs.Step.{size, log_of, opening, opening_link, opening_member}
+use Rattle.ring_rules.specs.Event.{is_stopped}
+use Rattle.ring_rules.proofs.events.First.{first_size, first_member}
+use Rattle.ring_rules.proofs.rings.Lists.{get_or-mapped}
+use Rattle.ring_rules.proofs.rings.Rounds.{nat_eq-is, nat_eq-same}
+use Rattle.ring_rules.proofs.walks.Views.{left_is}
+use Rattle.ring_rules.proofs.invariants.Opening.{opening_ids, in_range}
 use Rattle.gm_member.specs.Parcels.{places}
 use Rattle.gm_member.specs.Held.{Held, founded, fresh_in as fresh_incoming, fresh_out as fresh_outgoing}
 use Rattle.gm_member.specs.Stands.{kept_by, told_in, held_in, outgoing_in, incoming_in, waits_for, door_links}

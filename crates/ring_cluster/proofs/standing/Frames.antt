@@ -5,11 +5,11 @@ use Rattle.std.specs.Prelude.{◌||◌, option_map}
 use Rattle.std.specs.List.{filter, range_with_len}
 use Rattle.std.proofs.lemmas.List.{length-set, length-append}
 use Rattle.credit_flow.specs.Credit.{none_taken}
-use Rattle.ring_world.specs.Compact.{passed, before_next}
-use Rattle.ring_world.specs.Machine.{World, Link, Member, Packet, Sending, no_link, no_member, numbers_at, member_at, link_at}
-use Rattle.ring_world.specs.OpenLinks.{is_place, is_current}
-use Rattle.ring_world.specs.Step.{size, log_of, with_member, with_link}
-use Rattle.ring_world.proofs.rings.Lists.{at_set}
+use Rattle.ring_rules.specs.Compact.{passed, before_next}
+use Rattle.ring_rules.specs.Machine.{World, Link, Member, Packet, Sending, no_link, no_member, numbers_at, member_at, link_at}
+use Rattle.ring_rules.specs.OpenLinks.{is_place, is_current}
+use Rattle.ring_rules.specs.Step.{size, log_of, with_member, with_link}
+use Rattle.ring_rules.proofs.rings.Lists.{at_set}
 use Rattle.gm_member.specs.Held.{Held, Incoming}
 use Rattle.gm_member.specs.View.{ring_link}
 use Rattle.gm_member.specs.Stands.{incoming_in, waits_for, door_links, door_in, held_in, line_for, lines_in}
@@ -23,7 +23,7 @@ use Rattle.ring_cluster.specs.Loose.{StandBetween, moved_by}
 use Rattle.group_view.specs.declared.link.LinkName.{LinkName}
 use Rattle.ring_cluster.specs.Acting.{ActsOut}
 use Rattle.std.proofs.lemmas.Bool.{false≢true}
-use Rattle.ring_world.specs.declared.phase.Ending.{Ending}
+use Rattle.ring_rules.specs.declared.phase.Ending.{Ending}
 
 -- the parties stand in a state after an event of x, in which the ends that it may have moved have still to meet
 abbrev pub StandMoved : ℕ → ℕ → World → Parties → Option (LinkName × OutSeen) → Type 0

@@ -13,7 +13,7 @@ use Rattle.ordered_link.specs.declared.item.Item.TheVariants as item
 use Rattle.ordered_link.specs.declared.plain.PlainOut.{PlainOut}
 use Rattle.ordered_link.specs.declared.plain.PlainIn.{PlainIn}
 use Rattle.ordered_link.specs.Steps.{PlainPuts, IsFreshPair}
-use Rattle.ring_world.specs.View.{right_of}
+use Rattle.ring_rules.specs.View.{right_of}
 use Rattle.activity.specs.declared.packet.Load.{Load}
 use Rattle.gm_member.specs.declared.links.OutLink.{OutLink}
 use Rattle.gm_member.specs.declared.links.InLink.{InLink}

@@ -6,14 +6,14 @@ use Rattle.std.proofs.lemmas.Bool.{and_parts}
 use Rattle.std.proofs.lemmas.List.{append-nil}
 use Rattle.group_view.specs.View.{Group}
 use Rattle.group_view.specs.Ring.{is_in}
-use Rattle.ring_world.specs.Machine.{World, member_at, link_at, view_in, runs, runs_phase, is_kept}
-use Rattle.ring_world.specs.Step.{kept_current}
-use Rattle.ring_world.proofs.events.WhatRefuses.{MayLook}
-use Rattle.ring_world.proofs.invariants.Happens.{IsGood}
+use Rattle.ring_rules.specs.Machine.{World, member_at, link_at, view_in, runs, runs_phase, is_kept}
+use Rattle.ring_rules.specs.Step.{kept_current}
+use Rattle.ring_rules.proofs.events.WhatRefuses.{MayLook}
+use Rattle.ring_rules.proofs.invariants.Happens.{IsGood}
 use Rattle.gm_member.specs.Held.{Held, Incoming, is_for, stays, kept_door, refreshed_held}
 use Rattle.gm_member.specs.Stands.{incoming_in, waits_for, door_links, door_in, held_in}
 use Rattle.gm_member.proofs.Doors.{stays_for, stays_kept}
-use Rattle.ring_world.proofs.work.OwnEnds.{OwnEnds}
+use Rattle.ring_rules.proofs.work.OwnEnds.{OwnEnds}
 use Rattle.gm_member.proofs.Parts.{there_same}
 use Rattle.ring_cluster.specs.Ends.{OutSeen}
 use Rattle.ring_cluster.specs.Parties.{Shown, EndsSeen}

@@ -4,7 +4,7 @@ use Rattle.std.proofs.lemmas.List.{get_or-map}
 use Rattle.ring_cluster.specs.declared.party.Party.{Party}
 use Rattle.ring_cluster.specs.Parties.{Shown, shown_in, no_shown}
 use Rattle.ring_cluster.proofs.lists.Lists.{mapped_read, mapped_written, mapped_new}
-use Rattle.ring_world.proofs.rings.Maps.{mapped_rewrite}
+use Rattle.ring_rules.proofs.rings.Maps.{mapped_rewrite}
 
 -- what the member at a place shows
 abbrev pub shown_at : List Party → ℕ → Shown

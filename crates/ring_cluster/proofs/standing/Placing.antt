@@ -7,26 +7,26 @@ use Rattle.std.proofs.lemmas.Option.{slice_get-map, slice_get_within, get_or_fro
 use Rattle.group_view.specs.declared.link.LinkName.{LinkName}
 use Rattle.group_view.specs.Ring.{is_in, AreDistinct}
 use Rattle.group_view.proofs.Rings.{distinct_parts, distinct_second, is_in-append, nat_eq-same}
-use Rattle.ring_world.specs.View.{ids}
-use Rattle.ring_world.specs.Machine.{World, member_at, link_at, view_in, newest, ring, left}
-use Rattle.ring_world.specs.OpenLinks.{is_place, is_current, is_door_link, passes}
-use Rattle.ring_world.specs.Step.{size}
-use Rattle.ring_world.proofs.rings.Rounds.{nat_eq-is}
-use Rattle.ring_world.proofs.invariants.Good.{kept_true}
-use Rattle.ring_world.proofs.invariants.FromLeft.{sender_known}
-use Rattle.ring_world.proofs.invariants.Standing.{distinct_first}
-use Rattle.ring_world.proofs.invariants.Opening.{distinct_range, range_in}
-use Rattle.ring_world.proofs.invariants.Happens.{IsGood}
-use Rattle.ring_world.proofs.walks.OpenWalk.{place_is}
+use Rattle.ring_rules.specs.View.{ids}
+use Rattle.ring_rules.specs.Machine.{World, member_at, link_at, view_in, newest, ring, left}
+use Rattle.ring_rules.specs.OpenLinks.{is_place, is_current, is_door_link, passes}
+use Rattle.ring_rules.specs.Step.{size}
+use Rattle.ring_rules.proofs.rings.Rounds.{nat_eq-is}
+use Rattle.ring_rules.proofs.invariants.Good.{kept_true}
+use Rattle.ring_rules.proofs.invariants.FromLeft.{sender_known}
+use Rattle.ring_rules.proofs.invariants.Standing.{distinct_first}
+use Rattle.ring_rules.proofs.invariants.Opening.{distinct_range, range_in}
+use Rattle.ring_rules.proofs.invariants.Happens.{IsGood}
+use Rattle.ring_rules.proofs.walks.OpenWalk.{place_is}
 use Rattle.group_view.proofs.Truth.{later_true}
 use Rattle.gm_member.specs.Held.{Incoming}
 use Rattle.gm_member.specs.View.{ring_link}
 use Rattle.gm_member.specs.Shown.{in_name_of}
 use Rattle.gm_member.specs.Stands.{incoming_in, waits_for, door_links}
-use Rattle.ring_world.proofs.work.OwnEnds.{OwnEnds}
+use Rattle.ring_rules.proofs.work.OwnEnds.{OwnEnds}
 use Rattle.ring_cluster.specs.Parties.{Shown}
 use Rattle.ring_cluster.specs.Standing.{Places, MemberStands, name_of, is_to, has_in}
-use Rattle.ring_world.proofs.work.Nobody.{NobodyAtZero, ring_members}
+use Rattle.ring_rules.proofs.work.Nobody.{NobodyAtZero, ring_members}
 use Rattle.ring_cluster.proofs.standing.Writing.{in_filter, at_in, distinct_filter}
 
 -- ---- names

@@ -5,13 +5,13 @@ use Rattle.std.proofs.lemmas.Bool.{false≢true, cases_eq, false_from_ne_true}
 use Rattle.std.proofs.lemmas.List.{length-set, get_or-set_same, get_or-set_other}
 use Rattle.group_view.specs.Ring.{is_in}
 use Rattle.group_view.proofs.Rings.{nat_eq-same}
-use Rattle.ring_world.specs.Machine.{World, member_at, link_at}
-use Rattle.ring_world.specs.OpenLinks.{is_place}
-use Rattle.ring_world.specs.Step.{size}
-use Rattle.ring_world.proofs.invariants.Happens.{IsGood}
+use Rattle.ring_rules.specs.Machine.{World, member_at, link_at}
+use Rattle.ring_rules.specs.OpenLinks.{is_place}
+use Rattle.ring_rules.specs.Step.{size}
+use Rattle.ring_rules.proofs.invariants.Happens.{IsGood}
 use Rattle.gm_member.specs.Stands.{waits_for}
 use Rattle.gm_member.specs.Shown.{in_name_of}
-use Rattle.ring_world.proofs.work.OwnEnds.{OwnEnds}
+use Rattle.ring_rules.proofs.work.OwnEnds.{OwnEnds}
 use Rattle.gm_member.proofs.Parts.{there_same, current_waits_not}
 use Rattle.ring_cluster.specs.Ends.{OutSeen, InSeen, Carries}
 use Rattle.ring_cluster.specs.Parties.{Shown, Posted, Parties, no_shown, node_at, with_node, with_out, with_in}

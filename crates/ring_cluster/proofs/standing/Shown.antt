@@ -4,16 +4,16 @@ use Rattle.std.specs.Prelude.{◌⊎◌, MatchOption, ⊤, option_map}
 use Rattle.std.proofs.lemmas.List.{map-append, get_or-map, length-map, append-nil}
 use Rattle.ring_names.specs.declared.reason.Reason.{Reason}
 use Rattle.ring_names.specs.declared.reason.Reason.TheVariants.{Stopped, Waiting, AwaitingAnswer, NoOutLink, LinkFull, NoGrant}
-use Rattle.ring_world.specs.declared.phase.Phase.{Phase}
-use Rattle.ring_world.specs.declared.phase.Phase.TheVariants as phase
-use Rattle.ring_world.specs.Refusal.{or_else, refuse_if, is_empty}
-use Rattle.ring_world.specs.Event.{is_stopped}
+use Rattle.ring_rules.specs.declared.phase.Phase.{Phase}
+use Rattle.ring_rules.specs.declared.phase.Phase.TheVariants as phase
+use Rattle.ring_rules.specs.Refusal.{or_else, refuse_if, is_empty}
+use Rattle.ring_rules.specs.Event.{is_stopped}
 use Rattle.gm_member.proofs.Calls.{may_send, up_later}
 use Rattle.gm_member.proofs.DoorParts.{without_made}
 use Rattle.ordered_link.specs.declared.plain.PlainOut.{PlainOut}
 use Rattle.ordered_link.specs.declared.plain.PlainIn.{PlainIn}
 use Rattle.ordered_link.specs.Steps.{PlainPuts, PlainGains}
-use Rattle.ring_world.specs.Machine.{runs_phase, is_waiting}
+use Rattle.ring_rules.specs.Machine.{runs_phase, is_waiting}
 use Rattle.activity.specs.declared.packet.Load.{Load}
 use Rattle.gm_member.specs.declared.links.OutLink.{OutLink}
 use Rattle.gm_member.specs.declared.links.InLink.{InLink}

@@ -13,8 +13,8 @@ use Rattle.ordered_link.specs.declared.item.Item.{Item}
 use Rattle.ordered_link.specs.declared.item.Item.TheVariants as item
 use Rattle.ordered_link.specs.declared.plain.PlainIn.{PlainIn}
 use Rattle.ordered_link.specs.Steps.{PlainTakes, PlainSends, PlainLooked}
-use Rattle.ring_world.specs.Refusal.{or_else, refuse_if}
-use Rattle.ring_world.specs.Event.{is_stopped, version_refusal}
+use Rattle.ring_rules.specs.Refusal.{or_else, refuse_if}
+use Rattle.ring_rules.specs.Event.{is_stopped, version_refusal}
 use Rattle.gm_member.specs.declared.fault.MemberFault.{MemberFault}
 use Rattle.gm_member.specs.declared.fault.MemberFault.TheVariants as faults
 use Rattle.gm_member.specs.Faults.{refused_as}
@@ -27,12 +27,12 @@ use Rattle.gm_member.specs.Held.{Held, Incoming, at_some, on_some, take_refused,
 use Rattle.gm_member.specs.View.{in_of, end_of}
 use Rattle.gm_member.specs.Ends.{EndLooks, NothingIsNext, EndIsNext, PacketIsNext, IsTakeRefusal, IsEndRefusal, IsTakeFault}
 use Rattle.gm_member.specs.Shown.{held_of, ends_of, LooksIn, TookOn, SameOut}
-use Rattle.ring_world.proofs.rests.Asked.{no_version}
+use Rattle.ring_rules.proofs.rests.Asked.{no_version}
 use Rattle.ring_cluster.specs.Ends.{Sent, InSeen}
 use Rattle.ring_cluster.specs.Parties.{ANode, Shown, content, out_seen, in_seen, named_out, named_in, ends_seen, shown_of}
 use Rattle.ring_cluster.specs.Acting.{IsReady, TakesIn, TakesPacket, sent_of, due_of, items_refused, end_refused, first_item, packet_refused, link_end_refused}
-use Rattle.ring_world.specs.declared.world.Refused.{Refused}
-use Rattle.ring_world.specs.declared.world.Refused.TheVariants.{NotEnabled}
+use Rattle.ring_rules.specs.declared.refused.Refused.{Refused}
+use Rattle.ring_rules.specs.declared.refused.Refused.TheVariants.{NotEnabled}
 use Rattle.ring_cluster.specs.Tried.{Tries}
 use Rattle.ring_cluster.proofs.lists.Grants.{nothing_sent, granted}
 use Rattle.ring_cluster.proofs.standing.Shown.{end_there, kept_there, in_there, ends_same, shown_same}

@@ -5,7 +5,7 @@ use Rattle.std.specs.List.{filter}
 use Rattle.std.proofs.lemmas.Bool.{false≢true, and_right}
 use Rattle.group_view.specs.Ring.{is_in, AreDistinct}
 use Rattle.group_view.proofs.Rings.{nat_eq-same, nat_eq-not}
-use Rattle.ring_world.proofs.rings.Rounds.{nat_eq-is}
+use Rattle.ring_rules.proofs.rings.Rounds.{nat_eq-is}
 use Rattle.group_view.proofs.Rings.{in_head, in_tail as in_rest}
 
 -- ---- what stands where

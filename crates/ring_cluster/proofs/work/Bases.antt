@@ -6,18 +6,18 @@ use Rattle.std.proofs.lemmas.List.{length-set, length_push, set_past}
 use Rattle.ring_names.specs.declared.message.Message.{Message}
 use Rattle.ring_names.specs.declared.numbers.CreditSpec.{CreditSpec}
 use Rattle.group_view.specs.Change.{AreOpeningNames}
-use Rattle.ring_world.specs.declared.event.Event.{Event}
-use Rattle.ring_world.specs.declared.numbers.Numbers.{Numbers}
-use Rattle.ring_world.specs.Rows.{Row, no_row, published_row, taken_row}
-use Rattle.ring_world.specs.Machine.{Member, Link, World, row_at, numbers_at, member_at, link_at, view_in, is_waiting, oldest}
-use Rattle.ring_world.specs.Step.{size, log_of, is_owned, published, taker, begun, stopped, with_member, opened_link, joiner, opening}
-use Rattle.ring_world.specs.Event.{IsRun, last}
-use Rattle.ring_world.proofs.rings.Lists.{at_set}
-use Rattle.ring_world.proofs.events.First.{first_row, first_size}
-use Rattle.ring_world.proofs.events.Leaves.{member_leaves, come_member, with_opened}
-use Rattle.ring_world.proofs.events.Parts.{Part, cast_part, put_part, take_part, begin_part, come_part, gain_part, stop_part, open_part, still_part, run_keeps}
-use Rattle.ring_world.proofs.invariants.Opening.{opening_phase}
-use Rattle.ring_world.proofs.invariants.Happens.{IsGood, opening_good}
+use Rattle.ring_rules.specs.declared.event.Event.{Event}
+use Rattle.ring_rules.specs.declared.numbers.Numbers.{Numbers}
+use Rattle.ring_rules.specs.Rows.{Row, no_row, published_row, taken_row}
+use Rattle.ring_rules.specs.Machine.{Member, Link, World, row_at, numbers_at, member_at, link_at, view_in, is_waiting, oldest}
+use Rattle.ring_rules.specs.Step.{size, log_of, is_owned, published, taker, begun, stopped, with_member, opened_link, joiner, opening}
+use Rattle.ring_rules.specs.Event.{IsRun, last}
+use Rattle.ring_rules.proofs.rings.Lists.{at_set}
+use Rattle.ring_rules.proofs.events.First.{first_row, first_size}
+use Rattle.ring_rules.proofs.events.Leaves.{member_leaves, come_member, with_opened}
+use Rattle.ring_rules.proofs.events.Parts.{Part, cast_part, put_part, take_part, begin_part, come_part, gain_part, stop_part, open_part, still_part, run_keeps}
+use Rattle.ring_rules.proofs.invariants.Opening.{opening_phase}
+use Rattle.ring_rules.proofs.invariants.Happens.{IsGood, opening_good}
 use Rattle.ring_cluster.specs.Heard.{OpenersHaveNoBase}
 
 -- a member doesn't wait, and receives from the first message on

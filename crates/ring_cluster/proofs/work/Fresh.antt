@@ -7,25 +7,25 @@ use Rattle.ring_names.specs.declared.numbers.CreditSpec.{CreditSpec}
 use Rattle.credit_flow.specs.Credit.{none_taken}
 use Rattle.group_view.specs.View.{Group}
 use Rattle.group_view.specs.Change.{AreOpeningNames, marked}
-use Rattle.ring_world.specs.declared.event.Event.{Event}
-use Rattle.ring_world.specs.declared.phase.Ending.TheVariants.{Halted}
-use Rattle.ring_world.specs.Machine.{Member, Link, World, no_link, no_member, member_at, link_at, view_in, newest, runs_phase, is_kept, is_kept_of, oldest}
-use Rattle.ring_world.specs.OpenLinks.{is_place, is_current, is_door_link, passes}
-use Rattle.ring_world.specs.Step.{size, published, publish_at, put_on, gain_on, taker, take_from, begun, begin_from, joiner, come_to, pushed, popped, next_packet, finished, stopped, stop_at, ended, end_out, kept_current, moved_to, look_at, opening}
-use Rattle.ring_world.specs.Event.{erased_view, refreshed, refusal, effect, IsRun, last}
-use Rattle.ring_world.proofs.rings.Lists.{get_or_beyond}
-use Rattle.ring_world.proofs.events.Cases.{each_event, up_runs}
-use Rattle.ring_world.proofs.events.Composed.{end_composed}
-use Rattle.ring_world.proofs.events.First.{first_link_is}
-use Rattle.ring_world.proofs.rings.Lists.{at_set}
-use Rattle.ring_world.proofs.rings.Rounds.{nat_eq-is, nat_eq-same}
-use Rattle.ring_world.proofs.invariants.Happens.{IsGood, event_good, opening_good, reached_good, run_events}
-use Rattle.ring_world.proofs.invariants.Shape.{SameEnds}
-use Rattle.ring_world.specs.Work.{place_by, place_at}
-use Rattle.ring_world.proofs.walks.LeftLinks.{IsLater, event_later, fails_later}
-use Rattle.ring_world.proofs.work.Nobody.{reached_nobody}
-use Rattle.ring_world.proofs.work.Places.{IsWritten, KeepsPlaces, left_fails, written, unwritten, written_places, leave_places, refresh_places, pick_places}
-use Rattle.ring_world.proofs.work.Refreshed.{opened_world, old_links, sending_member, link_old, link_new, links_more, refresh_cases}
+use Rattle.ring_rules.specs.declared.event.Event.{Event}
+use Rattle.ring_rules.specs.declared.phase.Ending.TheVariants.{Halted}
+use Rattle.ring_rules.specs.Machine.{Member, Link, World, no_link, no_member, member_at, link_at, view_in, newest, runs_phase, is_kept, is_kept_of, oldest}
+use Rattle.ring_rules.specs.OpenLinks.{is_place, is_current, is_door_link, passes}
+use Rattle.ring_rules.specs.Step.{size, published, publish_at, put_on, gain_on, taker, take_from, begun, begin_from, joiner, come_to, pushed, popped, next_packet, finished, stopped, stop_at, ended, end_out, kept_current, moved_to, look_at, opening}
+use Rattle.ring_rules.specs.Event.{erased_view, refreshed, refusal, effect, IsRun, last}
+use Rattle.ring_rules.proofs.rings.Lists.{get_or_beyond}
+use Rattle.ring_rules.proofs.events.Cases.{each_event, up_runs}
+use Rattle.ring_rules.proofs.events.Composed.{end_composed}
+use Rattle.ring_rules.proofs.events.First.{first_link_is}
+use Rattle.ring_rules.proofs.rings.Lists.{at_set}
+use Rattle.ring_rules.proofs.rings.Rounds.{nat_eq-is, nat_eq-same}
+use Rattle.ring_rules.proofs.invariants.Happens.{IsGood, event_good, opening_good, reached_good, run_events}
+use Rattle.ring_rules.proofs.invariants.Shape.{SameEnds}
+use Rattle.ring_rules.specs.Work.{place_by, place_at}
+use Rattle.ring_rules.proofs.walks.LeftLinks.{IsLater, event_later, fails_later}
+use Rattle.ring_rules.proofs.work.Nobody.{reached_nobody}
+use Rattle.ring_rules.proofs.work.Places.{IsWritten, KeepsPlaces, left_fails, written, unwritten, written_places, leave_places, refresh_places, pick_places}
+use Rattle.ring_rules.proofs.work.Refreshed.{opened_world, old_links, sending_member, link_old, link_new, links_more, refresh_cases}
 use Rattle.gm_member.specs.Stands.{waits_for}
 use Rattle.ring_cluster.proofs.standing.Placing.{GoBetween, go_between}
 use Rattle.ring_cluster.proofs.post.Collections.{AreFresh}

@@ -7,15 +7,15 @@ use Rattle.std.proofs.lemmas.List.Elements.{All-nil, All-drop}
 use Rattle.ring_names.specs.declared.numbers.CreditSpec.{CreditSpec}
 use Rattle.credit_flow.specs.Credit.{is_grant_next}
 use Rattle.group_view.specs.Change.{AreOpeningNames}
-use Rattle.ring_world.specs.declared.event.Event.{Event}
-use Rattle.ring_world.specs.Machine.{Link, World, no_link, link_at}
-use Rattle.ring_world.specs.Step.{popped, opened_link, with_link, opening}
-use Rattle.ring_world.specs.Event.{IsRun, last}
-use Rattle.ring_world.proofs.rings.Lists.{at_set, at_push, get_or_beyond}
-use Rattle.ring_world.proofs.events.First.{first_link}
-use Rattle.ring_world.proofs.invariants.Happens.{IsGood, opening_good}
-use Rattle.ring_world.proofs.events.Parts.{Part, cast_part, put_part, take_part, begin_part, come_part, gain_part, stop_part, open_part, still_part, run_keeps}
-use Rattle.ring_world.proofs.runs.LinkCredit.{LinkIsKept, IsCredited, part_credited, opening_credited}
+use Rattle.ring_rules.specs.declared.event.Event.{Event}
+use Rattle.ring_rules.specs.Machine.{Link, World, no_link, link_at}
+use Rattle.ring_rules.specs.Step.{popped, opened_link, with_link, opening}
+use Rattle.ring_rules.specs.Event.{IsRun, last}
+use Rattle.ring_rules.proofs.rings.Lists.{at_set, at_push, get_or_beyond}
+use Rattle.ring_rules.proofs.events.First.{first_link}
+use Rattle.ring_rules.proofs.invariants.Happens.{IsGood, opening_good}
+use Rattle.ring_rules.proofs.events.Parts.{Part, cast_part, put_part, take_part, begin_part, come_part, gain_part, stop_part, open_part, still_part, run_keeps}
+use Rattle.ring_rules.proofs.runs.LinkCredit.{LinkIsKept, IsCredited, part_credited, opening_credited}
 use Rattle.ring_cluster.proofs.lists.Grants.{ArePositive, ArePositive-count, ArePositive-with_grant}
 
 -- on each link

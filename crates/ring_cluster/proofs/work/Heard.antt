@@ -7,20 +7,20 @@ use Rattle.ring_names.specs.declared.numbers.CreditSpec.{CreditSpec}
 use Rattle.group_view.specs.Ring.{is_in, others}
 use Rattle.group_view.specs.Change.{AreOpeningNames}
 use Rattle.group_view.proofs.Rings.{rotated_is}
-use Rattle.ring_world.specs.declared.event.Event.{Event}
-use Rattle.ring_world.specs.declared.phase.Phase.TheVariants.{Up}
-use Rattle.ring_world.specs.Machine.{World, numbers_at, member_at, ring, runs}
-use Rattle.ring_world.specs.OpenLinks.{NeverRises, number}
-use Rattle.ring_world.proofs.walks.CountedWalk.{numbers, counted, only, no_but, is_early, round_of, retired_by, stopped_from, running_from}
-use Rattle.ring_world.specs.Step.{log_of, opening}
-use Rattle.ring_world.specs.Event.{IsRun, last}
-use Rattle.ring_world.specs.Lawful.{row_of}
-use Rattle.ring_world.specs.Quiet.{IsAtRest, IsQuiet}
-use Rattle.ring_world.proofs.walks.Put.{number_up}
-use Rattle.ring_world.proofs.rings.Falling.{falls_across, each_in_round, in_head, rises_second}
-use Rattle.ring_world.proofs.invariants.Happens.{IsGood}
-use Rattle.ring_world.proofs.runs.Confirmed.{runs_in_walk}
-use Rattle.ring_world.proofs.walks.Ended.{runs_lt}
+use Rattle.ring_rules.specs.declared.event.Event.{Event}
+use Rattle.ring_rules.specs.declared.phase.Phase.TheVariants.{Up}
+use Rattle.ring_rules.specs.Machine.{World, numbers_at, member_at, ring, runs}
+use Rattle.ring_rules.specs.OpenLinks.{NeverRises, number}
+use Rattle.ring_rules.proofs.walks.CountedWalk.{numbers, counted, only, no_but, is_early, round_of, retired_by, stopped_from, running_from}
+use Rattle.ring_rules.specs.Step.{log_of, opening}
+use Rattle.ring_rules.specs.Event.{IsRun, last}
+use Rattle.ring_rules.specs.Lawful.{row_of}
+use Rattle.ring_rules.specs.Quiet.{IsAtRest, IsQuiet}
+use Rattle.ring_rules.proofs.walks.Put.{number_up}
+use Rattle.ring_rules.proofs.rings.Falling.{falls_across, each_in_round, in_head, rises_second}
+use Rattle.ring_rules.proofs.invariants.Happens.{IsGood}
+use Rattle.ring_rules.proofs.runs.Confirmed.{runs_in_walk}
+use Rattle.ring_rules.proofs.walks.Ended.{runs_lt}
 use Rattle.gm_member.proofs.Fit.{IsFit, reached_fit}
 use Rattle.ring_cluster.specs.Heard.{HasHeardAll, OpenersHaveNoBase}
 use Rattle.ring_cluster.proofs.work.Bases.{reached_bases}

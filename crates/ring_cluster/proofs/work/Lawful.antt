@@ -3,11 +3,11 @@ use Rattle.std.proofs.Common.{◌≡◌, ℕ, ◌<◌, ◌≤◌, List, length, 
 use Rattle.ring_names.specs.declared.numbers.CreditSpec.{CreditSpec}
 use Rattle.group_view.specs.View.{Group}
 use Rattle.group_view.specs.Change.{AreOpeningNames}
-use Rattle.ring_world.specs.declared.event.Event.{Event}
-use Rattle.ring_world.specs.Machine.{World, link_at}
-use Rattle.ring_world.specs.Step.{opening}
-use Rattle.ring_world.specs.Event.{IsRun, last}
-use Rattle.ring_world.proofs.runs.LinkCredit.{LinkIsKept, run_credited}
+use Rattle.ring_rules.specs.declared.event.Event.{Event}
+use Rattle.ring_rules.specs.Machine.{World, link_at}
+use Rattle.ring_rules.specs.Step.{opening}
+use Rattle.ring_rules.specs.Event.{IsRun, last}
+use Rattle.ring_rules.proofs.runs.LinkCredit.{LinkIsKept, run_credited}
 use Rattle.gm_member.specs.Held.{joining_held}
 use Rattle.gm_member.specs.Stands.{held_in, WaitsThere}
 use Rattle.gm_member.proofs.Fit.{IsFit, reached_fit}

@@ -7,19 +7,19 @@ use Rattle.ring_names.specs.declared.message.Message.{Message}
 use Rattle.ring_names.specs.declared.message.Message.TheVariants as message
 use Rattle.ring_names.specs.declared.numbers.CreditSpec.{CreditSpec}
 use Rattle.group_view.specs.Change.{AreOpeningNames, AreDifferent}
-use Rattle.ring_world.specs.declared.event.Event.{Event}
-use Rattle.ring_world.specs.declared.event.Event.TheVariants.{Cast, Put, Take, TakeEnd, Gain, Stop, Mark, Refresh, Admit, Pick, Erase, Refuse}
-use Rattle.ring_world.specs.Published.{published_by, published_in}
-use Rattle.ring_world.specs.Machine.{Member, World, no_member, member_at}
-use Rattle.ring_world.specs.Step.{size, log_of, opening}
-use Rattle.ring_world.specs.Event.{id_of, of_member, refused_at, refusal, effect, IsRun, last}
-use Rattle.ring_world.proofs.events.First.{first_log}
-use Rattle.ring_world.proofs.events.Names.{same_bytes}
-use Rattle.ring_world.proofs.events.Refusals.{id_within}
-use Rattle.ring_world.proofs.rings.Maps.{position_map}
-use Rattle.ring_world.proofs.invariants.Happens.{IsGood, event_good, opening_good}
-use Rattle.ring_world.proofs.invariants.Named.{AreNamed, event_named, reached_named}
-use Rattle.ring_world.proofs.runs.Published.{run_grows, found_name}
+use Rattle.ring_rules.specs.declared.event.Event.{Event}
+use Rattle.ring_rules.specs.declared.event.Event.TheVariants.{Cast, Put, Take, TakeEnd, Gain, Stop, Mark, Refresh, Admit, Pick, Erase, Refuse}
+use Rattle.ring_rules.specs.Published.{published_by, published_in}
+use Rattle.ring_rules.specs.Machine.{Member, World, no_member, member_at}
+use Rattle.ring_rules.specs.Step.{size, log_of, opening}
+use Rattle.ring_rules.specs.Event.{id_of, of_member, refused_at, refusal, effect, IsRun, last}
+use Rattle.ring_rules.proofs.events.First.{first_log}
+use Rattle.ring_rules.proofs.events.Names.{same_bytes}
+use Rattle.ring_rules.proofs.events.Refusals.{id_within}
+use Rattle.ring_rules.proofs.rings.Maps.{position_map}
+use Rattle.ring_rules.proofs.invariants.Happens.{IsGood, event_good, opening_good}
+use Rattle.ring_rules.proofs.invariants.Named.{AreNamed, event_named, reached_named}
+use Rattle.ring_rules.proofs.runs.Published.{run_grows, found_name}
 use Rattle.ring_cluster.specs.Agendas.{place_among}
 use Rattle.ring_cluster.specs.Published.{names_in, logs_of}
 use Rattle.ring_cluster.proofs.work.Staying.{Joins, KeepsNames, is_admission, event_same, admit_joins, event_keeps}

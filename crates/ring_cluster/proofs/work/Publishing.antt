@@ -7,10 +7,10 @@ use Rattle.std.proofs.lemmas.List.Quantifiers.{position-Some}
 use Rattle.ring_names.specs.declared.message.Message.{Message}
 use Rattle.ring_names.specs.declared.message.Message.TheVariants as message
 use Rattle.group_view.specs.Change.{AreDifferent}
-use Rattle.ring_world.specs.declared.event.Event.{Event}
-use Rattle.ring_world.specs.declared.event.Event.TheVariants.{Cast}
-use Rattle.ring_world.specs.Published.{published_by, published_in}
-use Rattle.ring_world.proofs.events.Names.{same_bytes, own_bytes}
+use Rattle.ring_rules.specs.declared.event.Event.{Event}
+use Rattle.ring_rules.specs.declared.event.Event.TheVariants.{Cast}
+use Rattle.ring_rules.specs.Published.{published_by, published_in}
+use Rattle.ring_rules.proofs.events.Names.{same_bytes, own_bytes}
 use Rattle.ring_cluster.proofs.lists.Places.{position_there}
 
 -- ---- lists alone

@@ -6,17 +6,17 @@ use Rattle.std.proofs.lemmas.List.{length-set, length_push, get_or_append_left, 
 use Rattle.ring_names.specs.declared.message.Message.TheVariants as message
 use Rattle.group_view.specs.View.{Group}
 use Rattle.group_view.specs.Change.{marked}
-use Rattle.ring_world.specs.View.{right_of}
-use Rattle.ring_world.specs.declared.phase.Phase.{Phase}
-use Rattle.ring_world.specs.declared.phase.Phase.TheVariants.{Waiting, Up, Stopped}
-use Rattle.ring_world.specs.declared.phase.Ending.TheVariants.{Halted}
-use Rattle.ring_world.specs.declared.event.Event.{Event}
-use Rattle.ring_world.specs.declared.event.Event.TheVariants.{Cast, Put, Take, TakeEnd, Gain, Stop, Mark, Refresh, Admit, Pick, Erase, Refuse}
-use Rattle.ring_world.specs.Machine.{Member, World, runs_phase, no_member, member_at, link_at, view_in, newest, oldest}
-use Rattle.ring_world.specs.Step.{size, log_of, with_member, with_view, published, taker, begun, with_current, stopped, stop_at, moved_to, opened_link, joiner, come_to}
-use Rattle.ring_world.specs.Event.{id_of, of_member, at_found, at_door, taken_by, refreshed, erased_view, by_of, refused_at, done_at, refusal, effect, IsRun, last}
-use Rattle.ring_world.proofs.events.Composed.{end_composed, refresh_composed}
-use Rattle.ring_world.proofs.events.Leaves.{member_leaves, with_opened}
+use Rattle.ring_rules.specs.View.{right_of}
+use Rattle.ring_rules.specs.declared.phase.Phase.{Phase}
+use Rattle.ring_rules.specs.declared.phase.Phase.TheVariants.{Waiting, Up, Stopped}
+use Rattle.ring_rules.specs.declared.phase.Ending.TheVariants.{Halted}
+use Rattle.ring_rules.specs.declared.event.Event.{Event}
+use Rattle.ring_rules.specs.declared.event.Event.TheVariants.{Cast, Put, Take, TakeEnd, Gain, Stop, Mark, Refresh, Admit, Pick, Erase, Refuse}
+use Rattle.ring_rules.specs.Machine.{Member, World, runs_phase, no_member, member_at, link_at, view_in, newest, oldest}
+use Rattle.ring_rules.specs.Step.{size, log_of, with_member, with_view, published, taker, begun, with_current, stopped, stop_at, moved_to, opened_link, joiner, come_to}
+use Rattle.ring_rules.specs.Event.{id_of, of_member, at_found, at_door, taken_by, refreshed, erased_view, by_of, refused_at, done_at, refusal, effect, IsRun, last}
+use Rattle.ring_rules.proofs.events.Composed.{end_composed, refresh_composed}
+use Rattle.ring_rules.proofs.events.Leaves.{member_leaves, with_opened}
 
 -- ---- phases
 

@@ -1,13 +1,13 @@
 -- The number on which all agree of an erased origin can be read at any running member.
-use Rattle.ring_world.proofs.walks.Ended.{runs_lt}
+use Rattle.ring_rules.proofs.walks.Ended.{runs_lt}
 use Rattle.std.proofs.Common.{◌≡◌, ℕ, zero, suc, ◌<◌, ◌≤◌, Bool, true, false, cond, Option, Some, None, refl, sym, subst, ◌∙◌, ⊎_elim, arith}
 use Rattle.std.proofs.Math.Nat.{ℕ_set}
 use Rattle.std.proofs.Math.Logic.{∥∥₁_elim}
 use Rattle.std.proofs.lemmas.Bool.{false≢true, cases_lt}
-use Rattle.ring_world.specs.Machine.{World, runs}
-use Rattle.ring_world.specs.OpenLinks.{number}
-use Rattle.ring_world.specs.Step.{size}
-use Rattle.ring_world.specs.Lawful.{AgreesOn, IsAgreed}
+use Rattle.ring_rules.specs.Machine.{World, runs}
+use Rattle.ring_rules.specs.OpenLinks.{number}
+use Rattle.ring_rules.specs.Step.{size}
+use Rattle.ring_rules.specs.Lawful.{AgreesOn, IsAgreed}
 use Rattle.ring_world.specs.Reached.{WorldSeen, IsReachedIn}
 
 -- a running member with an id below n

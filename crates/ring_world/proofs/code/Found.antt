@@ -2,11 +2,12 @@
 use Rattle.std.proofs.Common.{◌≡◌, ℕ, suc, ◌<◌, ◌≤◌, ◌+◌, true, List, length, map, get_or, Some, None, option_map, bytes_eq, refl, sym, ap, ◌∙◌, arith}
 use Rattle.std.proofs.lemmas.List.{length-map}
 use Rattle.std.specs.Prelude.{position, Option, IfSome, max}
-use Rattle.ring_world.specs.Event.{left_neighbour, since, at_door, id_of}
+use Rattle.ring_rules.specs.Event.{left_neighbour, since, at_door, id_of}
 use Rattle.ring_world.specs.declared.seat.Seat.{Seat}
 use Rattle.ring_world.specs.declared.wire.Wire.{Wire}
 use Rattle.ring_world.specs.declared.state.Ring.{Ring}
-use Rattle.ring_world.specs.Machine.{Up, row_at, newest, runs_phase, runs, member_at}
+use Rattle.ring_rules.specs.Machine.{row_at, newest, runs_phase, runs, member_at}
+use Rattle.ring_rules.specs.declared.phase.Phase.TheVariants.{Up}
 use Rattle.ring_world.specs.Placed.{IsPlaced}
 use Rattle.ring_world.specs.Shows.{world_of, member_of, link_of, member_in, link_in, stands_at_door}
 use Rattle.ring_world.proofs.code.ShownParts.{read_member, read_link, position_map}

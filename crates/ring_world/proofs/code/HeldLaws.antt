@@ -2,26 +2,27 @@
 use Rattle.std.proofs.Common.{◌≡◌, ℕ, ◌<◌, ◌≤◌, List, [], ◌∷◌, ◌++◌, length, ◌+◌, Option, Some, None, refl, sym, subst}
 use Rattle.std.specs.Coded.{le_prop}
 use Rattle.std.proofs.Math.Logic.{∥∥₁_elim}
-use Rattle.ring_world.specs.Machine.{Packet, Sending, World, member_at, link_at, row_at}
-use Rattle.ring_world.specs.Step.{size, log_of, opening}
-use Rattle.ring_world.specs.Rows.{messages_between}
-use Rattle.ring_world.specs.Lawful.{PacketsAreWithin}
-use Rattle.ring_world.specs.Laws.{IsLawful}
-use Rattle.ring_world.specs.Compact.{passed, IsInTurn}
-use Rattle.ring_world.specs.OpenLinks.{the_walk, walk_named, FallsFrom, NeverRises}
-use Rattle.ring_world.specs.Event.{Event, id_of, refusal, effect, last, refusals_of}
+use Rattle.ring_rules.specs.Machine.{Packet, Sending, World, member_at, link_at, row_at}
+use Rattle.ring_rules.specs.Step.{size, log_of, opening}
+use Rattle.ring_rules.specs.Rows.{messages_between}
+use Rattle.ring_rules.specs.Lawful.{PacketsAreWithin}
+use Rattle.ring_rules.specs.Laws.{IsLawful}
+use Rattle.ring_rules.specs.Compact.{passed, IsInTurn}
+use Rattle.ring_rules.specs.OpenLinks.{the_walk, walk_named, FallsFrom, NeverRises}
+use Rattle.ring_rules.specs.Event.{id_of, refusal, effect, last, refusals_of}
+use Rattle.ring_rules.specs.declared.event.Event.{Event}
 use Rattle.ring_world.specs.Reached.{WorldSeen, IsReachedIn, IsRunning, state_of, seen_of}
 use Rattle.ring_world.specs.declared.world.World.TheInside.{Inside}
-use Rattle.ring_world.proofs.walks.OpenWalk.{open_walk_never_rises}
-use Rattle.ring_world.proofs.runs.AllRuns.{every_state_lawful}
-use Rattle.ring_world.proofs.runs.LinkCredit.{run_credited}
+use Rattle.ring_rules.proofs.walks.OpenWalk.{open_walk_never_rises}
+use Rattle.ring_rules.proofs.runs.AllRuns.{every_state_lawful}
+use Rattle.ring_rules.proofs.runs.LinkCredit.{run_credited}
 use Rattle.ring_world.proofs.code.Agreed.{agreed_from}
 use Rattle.ring_world.proofs.code.Running.{reached_more}
-use Rattle.ring_world.proofs.events.Refusals.{id_within}
+use Rattle.ring_rules.proofs.events.Refusals.{id_within}
 use Rattle.std.proofs.Math.Nat.{ℕ_set}
 use Rattle.std.proofs.Props.{props}
 use Rattle.ring_names.specs.declared.message.Message.{Message}
-use Rattle.ring_world.specs.Asked.{heard_at, got_at, base_at, log_at}
+use Rattle.ring_rules.specs.Asked.{heard_at, got_at, base_at, log_at}
 
 -- what is known of some run is known
 falls_from : (seen : WorldSeen) (n : ℕ) → ∥ IsReachedIn seen n ∥₁ → (a : ℕ) (xs : List ℕ) → (IsReachedIn seen n → FallsFrom a xs) → FallsFrom a xs

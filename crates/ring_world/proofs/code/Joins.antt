@@ -1,11 +1,12 @@
 -- Who joins makes no difference to the refresh of another.
 use Rattle.std.proofs.Common.{◌≡◌, ℕ, ◌<◌, ◌+◌, Bool, true, false, nat_eq, List, [], ◌∷◌, ◌++◌, length, set, Option, Some, None, refl, sym, ap, ◌∙◌, if◌then◌else◌, arith}
 use Rattle.std.proofs.lemmas.List.{get_or_append_left, length-set, set-append_left}
-use Rattle.ring_world.specs.Machine.{Member, Link, World, Moved, no_member, no_sending, member_at, link_at, view_in, newest, is_kept}
-use Rattle.ring_world.specs.Step.{size, look_at, moved_to, kept_current, open_to, pushed, fresh_link, next_packet, with_link, ended, with_view, joiner, come_to, admitted_view}
+use Rattle.ring_rules.specs.Machine.{Member, Link, World, no_member, no_sending, member_at, link_at, view_in, newest, is_kept}
+use Rattle.ring_rules.specs.declared.phase.Ending.TheVariants.{Moved}
+use Rattle.ring_rules.specs.Step.{size, look_at, moved_to, kept_current, open_to, pushed, fresh_link, next_packet, with_link, ended, with_view, joiner, come_to, admitted_view}
 use Rattle.group_view.specs.View.{Group}
-use Rattle.ring_world.specs.View.{right_of}
-use Rattle.ring_world.specs.Event.{send_to, refreshed}
+use Rattle.ring_rules.specs.View.{right_of}
+use Rattle.ring_rules.specs.Event.{send_to, refreshed}
 
 -- the state with one member more
 abbrev pub with_joiner : World → Member → World

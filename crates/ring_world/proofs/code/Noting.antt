@@ -2,8 +2,10 @@
 use Rattle.std.proofs.Common.{◌≡◌, true, false, List, [], ◌∷◌, ◌++◌, Option, Some, None, ℕ, refl, sym}
 use Rattle.std.proofs.lemmas.Bool.{false≢true}
 use Rattle.std.proofs.lemmas.List.{append-nil}
-use Rattle.ring_world.specs.Machine.{World}
-use Rattle.ring_world.specs.Event.{Event, Cast, Put, Take, TakeEnd, Gain, Stop, Mark, Refresh, Admit, Pick, Erase, Refuse, is_refusal, refusals_of, effect, at_found, id_of, by_of}
+use Rattle.ring_rules.specs.Machine.{World}
+use Rattle.ring_rules.specs.Event.{is_refusal, refusals_of, effect, at_found, id_of, by_of}
+use Rattle.ring_rules.specs.declared.event.Event.TheVariants.{Cast, Put, Take, TakeEnd, Gain, Stop, Mark, Refresh, Admit, Pick, Erase, Refuse}
+use Rattle.ring_rules.specs.declared.event.Event.{Event}
 
 stays : (w : World) (o : Option ℕ) → at_found o w (λ x. w) ≡ w
 stays w None = refl

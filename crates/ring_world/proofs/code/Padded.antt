@@ -2,7 +2,7 @@
 use Rattle.std.proofs.Common.{◌≡◌, ℕ, zero, suc, ◌≤◌, List, [], ◌∷◌, ◌++◌, length, map, take, get_or, sym, refl, ap, ◌∙◌, arith}
 use Rattle.std.proofs.lemmas.List.{take-map, map-append, length-map, take-append-le}
 use Rattle.std.proofs.Math.Seq.{take-length}
-use Rattle.ring_world.specs.Rows.{Row, no_row}
+use Rattle.ring_rules.specs.Rows.{Row, no_row}
 use Rattle.ring_world.specs.declared.seat.KnownOrigin.{KnownOrigin}
 use Rattle.ring_world.specs.Shows.{row_of, row_in}
 

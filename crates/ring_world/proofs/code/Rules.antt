@@ -1,6 +1,6 @@
 -- Lemmas that the code names together.
-use Rattle.ring_world.proofs.events.Enabled.{up_phase, up_later, running_later, link_there, link_later, first_none, refresh_later, refresh_upto}
-use Rattle.ring_world.proofs.code.Enables.{running_runs}
+use Rattle.ring_rules.proofs.events.Enabled.{up_phase, up_later, running_later, link_there, link_later, first_none, refresh_later, refresh_upto}
+use Rattle.ring_rules.proofs.code.Enables.{running_runs}
 use Rattle.ring_world.proofs.code.Noting.{refusal_stays, refusal_noted, not_noted}
 use Rattle.ring_world.proofs.code.Padded.{known_more, row_more}
 use Rattle.ring_world.proofs.code.Found.{out_at, current_running}

@@ -13,17 +13,18 @@ use Rattle.group_view.proofs.Groups.{small_version}
 use Rattle.group_view.proofs.History.{Follows, mark_follows, erase_follows}
 use Rattle.group_view.proofs.Joining.{admit_follows}
 use Rattle.group_view.proofs.Passing.{live_in, dead_in}
-use Rattle.ring_world.specs.Machine.{World, member_at, link_at, view_in, newest, runs_phase}
-use Rattle.ring_world.specs.Step.{opening}
-use Rattle.ring_world.specs.Event.{Event, IsRun, last, refusal, effect, is_refusal, refusals_of}
+use Rattle.ring_rules.specs.Machine.{World, member_at, link_at, view_in, newest, runs_phase}
+use Rattle.ring_rules.specs.Step.{opening}
+use Rattle.ring_rules.specs.Event.{IsRun, last, refusal, effect, is_refusal, refusals_of}
+use Rattle.ring_rules.specs.declared.event.Event.{Event}
 use Rattle.ring_world.specs.Placed.{IsPlaced, IsReady}
 use Rattle.ring_world.specs.Shows.{world_of}
 use Rattle.ring_world.specs.Reached.{WorldSeen, IsReachedIn, IsRunning, state_of, seen_of}
 use Rattle.ring_world.specs.declared.world.World.TheInside.{Inside}
-use Rattle.ring_world.proofs.invariants.FromLeft.{nobody_first}
-use Rattle.ring_world.proofs.invariants.FromLeft.{HasViews}
-use Rattle.ring_world.proofs.invariants.Happens.{IsGood, newest_is, may_admit, opening_good, run_events, run_good}
-use Rattle.ring_world.proofs.work.Fit.{few_members}
+use Rattle.ring_rules.proofs.invariants.FromLeft.{nobody_first}
+use Rattle.ring_rules.proofs.invariants.FromLeft.{HasViews}
+use Rattle.ring_rules.proofs.invariants.Happens.{IsGood, newest_is, may_admit, opening_good, run_events, run_good}
+use Rattle.ring_rules.proofs.work.Fit.{few_members}
 use Rattle.ring_world.proofs.code.Sized.{IsSized, opening_sized, event_sized}
 
 -- ---- what the code needs, of one state

@@ -2,9 +2,9 @@
 use Rattle.std.proofs.Common.{◌≡◌, ℕ, zero, suc, ◌<◌, Bool, List, [], ◌∷◌, length, map, get_or, refl, ap, arith}
 use Rattle.std.specs.List.{range_with_len}
 use Rattle.std.proofs.lemmas.List.FromFn.{fill_by_all}
-use Rattle.ring_world.specs.declared.numbers.Numbers.{Numbers}
-use Rattle.ring_world.specs.Rows.{Row, no_row, no_numbers, next_numbers}
-use Rattle.ring_world.specs.Step.{next_lines}
+use Rattle.ring_rules.specs.declared.numbers.Numbers.{Numbers}
+use Rattle.ring_rules.specs.Rows.{Row, no_row, no_numbers, next_numbers}
+use Rattle.ring_rules.specs.Step.{next_lines}
 
 pub length-next_lines : (fresh : Bool) (rows : List Row) (last : List Numbers) → length (next_lines fresh rows last) ≡ length rows
 length-next_lines fresh [] last = refl

@@ -1,15 +1,16 @@
 -- The structs and what they show.
 use Rattle.std.proofs.Common.{◌≡◌, ℕ, zero, suc, ◌≤◌, arith, ◌-◌, List, ◌∷◌, length, map, get_or, set, ◌<◌, sym, ap, ◌∙◌}
 use Rattle.ring_names.specs.declared.message.Message.{Message}
-use Rattle.ring_world.specs.Rows.{no_row, published_row}
+use Rattle.ring_rules.specs.Rows.{no_row, published_row}
 use Rattle.ring_world.specs.declared.seat.KnownOrigin.{KnownOrigin}
 use Rattle.ring_world.specs.declared.seat.Seat.{Seat}
 use Rattle.ring_world.specs.declared.wire.Wire.{Wire}
 use Rattle.std.specs.Prelude.{Option}
-use Rattle.ring_world.specs.Machine.{Packet, Member, Ending, no_member, no_link}
-use Rattle.ring_world.specs.Step.{published, begun, with_current, stopped, pushed, next_packet, finished, ended}
+use Rattle.ring_rules.specs.Machine.{Packet, Member, no_member, no_link}
+use Rattle.ring_rules.specs.declared.phase.Ending.{Ending}
+use Rattle.ring_rules.specs.Step.{published, begun, with_current, stopped, pushed, next_packet, finished, ended}
 use Rattle.ring_world.specs.Shows.{row_of, member_of, link_of, row_in, member_in, link_in, gained_on, looked, with_out}
-pub use Rattle.ring_world.proofs.rings.Maps.{position_map, mapped_read, mapped_write, mapped_rewrite, at_mapped_set}
+pub use Rattle.ring_rules.proofs.rings.Maps.{position_map, mapped_read, mapped_write, mapped_rewrite, at_mapped_set}
 
 -- ---- reads
 

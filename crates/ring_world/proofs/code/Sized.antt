@@ -5,16 +5,17 @@ use Rattle.std.proofs.lemmas.Bool.{cases_lt}
 use Rattle.std.proofs.lemmas.List.{length-set, length_push, get_or_append_left, get_or_push}
 use Rattle.std.proofs.lemmas.List.FromFn.{length-map-range_with_len}
 use Rattle.ring_names.specs.declared.numbers.CreditSpec.{CreditSpec}
-use Rattle.ring_world.specs.Rows.{no_row, published_row, taken_row, born_row}
+use Rattle.ring_rules.specs.Rows.{no_row, published_row, taken_row, born_row}
 use Rattle.group_view.specs.Change.{AreOpeningNames}
-use Rattle.ring_world.specs.Machine.{Member, Link, World, no_member, member_at, link_at, view_in, row_at, numbers_at, oldest}
-use Rattle.ring_world.specs.Step.{size, published, taker, is_owned, log_of, begun, begun_row, stopped, joiner, come_to, open_to, take_from, begin_from, opening, opening_member}
-use Rattle.ring_world.specs.Event.{Event, refusal, effect}
-use Rattle.ring_world.proofs.rings.Lists.{at_set}
-use Rattle.ring_world.proofs.events.First.{first_member}
-use Rattle.ring_world.proofs.events.Parts.{Part, IsSameRows, member_same, event_keeps, cast_part, put_part, take_part, begin_part, come_part, gain_part, stop_part, open_part, still_part}
-use Rattle.ring_world.proofs.invariants.Happens.{IsGood}
-use Rattle.ring_world.proofs.runs.OwnLogs.{IsLogged, opening_logged, event_logged}
+use Rattle.ring_rules.specs.Machine.{Member, Link, World, no_member, member_at, link_at, view_in, row_at, numbers_at, oldest}
+use Rattle.ring_rules.specs.Step.{size, published, taker, is_owned, log_of, begun, begun_row, stopped, joiner, come_to, open_to, take_from, begin_from, opening, opening_member}
+use Rattle.ring_rules.specs.Event.{refusal, effect}
+use Rattle.ring_rules.specs.declared.event.Event.{Event}
+use Rattle.ring_rules.proofs.rings.Lists.{at_set}
+use Rattle.ring_rules.proofs.events.First.{first_member}
+use Rattle.ring_rules.proofs.events.Parts.{Part, IsSameRows, member_same, event_keeps, cast_part, put_part, take_part, begin_part, come_part, gain_part, stop_part, open_part, still_part}
+use Rattle.ring_rules.proofs.invariants.Happens.{IsGood}
+use Rattle.ring_rules.proofs.runs.OwnLogs.{IsLogged, opening_logged, event_logged}
 
 -- no member has more rows than there are members
 abbrev pub HasFewRows : World → Type 0

@@ -3,8 +3,8 @@ use Rattle.std.proofs.Common.{◌≡◌, ℕ, suc, ◌<◌, true, List, [], ◌�
 use Rattle.group_view.specs.Ring.{is_in}
 use Rattle.group_view.specs.View.{Group}
 use Rattle.group_view.specs.Change.{opening as opening_group}
-use Rattle.ring_world.specs.View.{ids}
-use Rattle.ring_world.proofs.invariants.Opening.{opening_ids, in_range}
+use Rattle.ring_rules.specs.View.{ids}
+use Rattle.ring_rules.proofs.invariants.Opening.{opening_ids, in_range}
 
 -- each member stands in the first view
 pub opening_stands : (names : List (List ℕ)) (v : Group) (i : ℕ) → v ≡ opening_group names → i < length names → is_in (suc i) (ids v) ≡ true

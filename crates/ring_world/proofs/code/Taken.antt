@@ -1,23 +1,22 @@
 -- What a taken packet does to the structs.
 use Rattle.std.proofs.Common.{◌≡◌, ℕ, zero, suc, ◌<◌, ◌≤◌, Bool, true, false, List, [], ◌∷◌, length, map, get_or, set, drop, take, max, refl, sym, ap, ◌∙◌, arith}
-use Rattle.std.specs.Prelude.{Result, Ok, Err, OnErr}
 use Rattle.std.specs.List.{range_with_len}
 use Rattle.std.proofs.lemmas.List.FromFn.{get_or-map-range_with_len, length-map-range_with_len}
 use Rattle.std.proofs.lemmas.List.{length-map, map-set}
 use Rattle.ring_names.specs.declared.message.Message.{Message}
-use Rattle.ring_world.specs.declared.numbers.Numbers.{Numbers}
-use Rattle.ring_world.specs.Rows.{Row, brought, taken_with}
+use Rattle.ring_rules.specs.declared.numbers.Numbers.{Numbers}
+use Rattle.ring_rules.specs.Rows.{Row, brought, taken_with}
 use Rattle.group_view.specs.View.{Group}
 use Rattle.group_view.specs.Since.{no_group}
 use Rattle.ring_world.specs.declared.wire.Wire.{Wire}
 use Rattle.ring_world.specs.declared.state.Ring.{Ring}
 use Rattle.ring_world.specs.declared.seat.Seat.{Seat}
 use Rattle.ring_world.specs.declared.seat.Brought.{Brought}
-use Rattle.ring_world.specs.Machine.{Packet, Member, Link, World, no_link, no_member, row_at, numbers_at, oldest}
-use Rattle.ring_world.specs.Step.{is_owned, taken, begun, popped, take_from, begin_from}
+use Rattle.ring_rules.specs.Machine.{Packet, Member, Link, World, no_link, no_member, row_at, numbers_at, oldest}
+use Rattle.ring_rules.specs.Step.{is_owned, taken, begun, popped, take_from, begin_from}
 use Rattle.ring_world.specs.Placed.{IsPlaced}
 use Rattle.ring_world.specs.Shows.{world_of, link_of, link_in, member_of, member_in, news_of, news_at, no_news, news_in, with_rows, News}
-use Rattle.ring_world.proofs.rings.Maps.{map-range_same}
+use Rattle.ring_rules.proofs.rings.Maps.{map-range_same}
 use Rattle.ring_world.proofs.code.ShownParts.{mapped_read, mapped_write, mapped_rewrite}
 
 abbrev nothing : List Message
@@ -117,8 +116,3 @@ pub same_ring : (r : Ring) (s : ℕ) (l z : Wire) (seats' : List Seat) → s < l
 same_ring r s l z seats' sl el em ez =
     ap (λ ms. record (world_of r) { members = no_member ∷ ms; links = map link_of (set r.wires.items s z) }) em
     ∙ ap (λ ks. record (world_of r) { links = ks }) (mapped_rewrite link_of r.wires.items s l z sl el ez)
-
--- what holds anyhow holds on an error
-pub OnErr_of : {A E : Type 0} {P : Type 0} (o : Result A E) → P → OnErr o P
-OnErr_of (Ok a) h = tt
-OnErr_of (Err e) h = h

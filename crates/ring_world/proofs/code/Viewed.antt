@@ -2,8 +2,8 @@
 use Rattle.std.proofs.Common.{◌<◌, arith}
 use Rattle.std.proofs.lemmas.List.{length_push}
 use Rattle.group_view.specs.View.{Group}
-use Rattle.ring_world.specs.Machine.{World, newest}
-use Rattle.ring_world.specs.Step.{with_view}
+use Rattle.ring_rules.specs.Machine.{World, newest}
+use Rattle.ring_rules.specs.Step.{with_view}
 use Rattle.ring_world.specs.Placed.{IsPlaced}
 
 pub viewed_placed : (w : World) (v : Group) → newest w < 256 → IsPlaced w → IsPlaced (with_view w v)

@@ -3,8 +3,8 @@ use Rattle.std.proofs.Common.{◌≡◌, ℕ, suc, ◌<◌, ◌≤◌, ◌+◌, 
 use Rattle.std.specs.List.{filter, flat_map, range_with_len}
 use Rattle.ring_world.specs.declared.walk.Round.{Round}
 use Rattle.ring_world.specs.declared.walk.Part.TheVariants.{Every, Early, Late}
-use Rattle.ring_world.specs.Machine.{World, runs, runs_phase, no_member}
-use Rattle.ring_world.specs.OpenLinks.{open_links, open_packets, packets_on, stop_of, round_trip, number}
+use Rattle.ring_rules.specs.Machine.{World, runs, runs_phase, no_member}
+use Rattle.ring_rules.specs.OpenLinks.{open_links, open_packets, packets_on, stop_of, round_trip, number}
 use Rattle.ring_world.specs.Walking.{reads, reads_row, says, said, stop_says}
 use Rattle.std.proofs.lemmas.List.{drop_more, map-append, reverse-append, append_assoc, get_or-map, get_or_past, length-map, append-nil}
 use Rattle.std.proofs.lemmas.List.Elements.{filter_passes, filter-append}

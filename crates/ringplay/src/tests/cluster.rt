@@ -5,8 +5,9 @@
 use ring_cluster::Cluster;
 use ring_io::Gate;
 use ring_names::{Body, MemberId, Name, OutOfMemory};
+use ring_rules::{Event, Refused};
 use ring_script::{Command, ScriptFault, Steps, read_steps};
-use ring_world::{Event, Refused, are_opening_names};
+use ring_world::are_opening_names;
 use std::alloc::Global;
 use std::process::Abort;
 use std::sync::atomic::{AtomicU64, Ordering};

@@ -5,7 +5,7 @@
 //! of them may want the end on which the member sends. Want of memory ends a test with that error.
 ghost use Rattle.std.specs.Prelude.{◌≡◌, true, IfOk};
 ghost use Rattle.group_view.specs.Ring.{is_in};
-ghost use Rattle.ring_world.specs.View.{ids};
+ghost use Rattle.ring_rules.specs.View.{ids};
 ghost use Rattle.gm_member.specs.Shown.{held_of, OutIsBack, InIsReady};
 ghost use Rattle.gm_member.specs.Questions.{OfView};
 

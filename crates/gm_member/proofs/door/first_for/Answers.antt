@@ -1,7 +1,7 @@
 use Rattle.std.proofs.Common.{nat_eq, nat_le, position, sym, ap, ◌∙◌}
 use Rattle.std.specs.Prelude.{◌&&◌}
-use Rattle.ring_world.specs.View.{left_of}
-use Rattle.ring_world.proofs.rings.Maps.{position_map}
+use Rattle.ring_rules.specs.View.{left_of}
+use Rattle.ring_rules.proofs.rings.Maps.{position_map}
 use Rattle.gm_member.specs.Held.{is_for}
 use Rattle.gm_member.specs.View.{in_of}
 use Rattle.gm_member.proofs.door.first_for.Goals as goal

@@ -1,5 +1,5 @@
 use Rattle.std.proofs.Common.{◌≡◌, ℕ, ◌+◌, ◌++◌, ap, sym, ◌∙◌, arith}
-use Rattle.ring_world.specs.Step.{is_owned}
+use Rattle.ring_rules.specs.Step.{is_owned}
 use Rattle.activity.specs.Kept.{kept_of}
 use Rattle.activity.specs.Parcels.{line_of}
 use Rattle.gm_member.specs.Parcels.{by_origin}

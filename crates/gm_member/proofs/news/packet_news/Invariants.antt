@@ -1,5 +1,5 @@
 use Rattle.std.proofs.Common.{◌≡◌, ◌+◌}
-use Rattle.ring_world.specs.Step.{is_owned}
+use Rattle.ring_rules.specs.Step.{is_owned}
 use Rattle.gm_member.specs.Parcels.{by_origin}
 use Rattle.gm_member.specs.View.{all_kept}
 use Rattle.gm_member.specs.News.{news_below}

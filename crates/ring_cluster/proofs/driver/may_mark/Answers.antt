@@ -1,7 +1,7 @@
 use Rattle.std.proofs.Common.{ap, ◌∙◌}
-use Rattle.ring_world.specs.declared.event.Event.TheVariants.{Mark}
-use Rattle.ring_world.specs.Machine.{member_at}
-use Rattle.ring_world.specs.Event.{refusal}
+use Rattle.ring_rules.specs.declared.event.Event.TheVariants.{Mark}
+use Rattle.ring_rules.specs.Machine.{member_at}
+use Rattle.ring_rules.specs.Event.{refusal}
 use Rattle.ring_cluster.specs.Seen.{state_of}
 use Rattle.ring_cluster.proofs.rounds.Asking.{runner_unmarked}
 use Rattle.ring_cluster.proofs.rounds.Named.{going_fit}

@@ -1,5 +1,5 @@
 use Rattle.std.proofs.Common.{◌≡◌, ◌+◌, ◌-◌, ap, arith, ◌∙◌}
-use Rattle.ring_world.specs.Machine.{member_at}
+use Rattle.ring_rules.specs.Machine.{member_at}
 use Rattle.ring_cluster.specs.Seen.{state_of}
 use Rattle.ring_cluster.proofs.driver.name_of.Goals as goal
 

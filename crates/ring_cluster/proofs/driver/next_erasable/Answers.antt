@@ -1,8 +1,8 @@
 use Rattle.std.proofs.Common.{◌≡◌, ◌≢◌, None, ap, subst, arith, ◌∙◌}
 use Rattle.std.specs.Prelude.{All}
 use Rattle.group_view.specs.declared.entry.Entry.{Entry}
-use Rattle.ring_world.specs.Machine.{view_in, newest}
-use Rattle.ring_world.specs.Event.{erase_refusal}
+use Rattle.ring_rules.specs.Machine.{view_in, newest}
+use Rattle.ring_rules.specs.Event.{erase_refusal}
 use Rattle.ring_cluster.specs.Seen.{state_of}
 use Rattle.ring_cluster.proofs.rounds.Settling.{erases_none}
 use Rattle.ring_cluster.proofs.driver.next_erasable.Goals as goal

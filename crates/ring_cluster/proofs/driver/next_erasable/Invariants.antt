@@ -1,6 +1,6 @@
 use Rattle.std.proofs.Common.{◌≢◌, ℕ, ◌<◌, get_or, None}
 use Rattle.group_view.specs.declared.entry.Entry.{Entry}
-use Rattle.ring_world.specs.Event.{erase_refusal}
+use Rattle.ring_rules.specs.Event.{erase_refusal}
 use Rattle.ring_cluster.specs.Seen.{state_of}
 use Rattle.ring_cluster.proofs.driver.next_erasable.Given as goal
 

@@ -1,5 +1,5 @@
 use Rattle.std.proofs.Common.{◌≡◌, ◌+◌}
-use Rattle.ring_world.specs.Step.{size}
+use Rattle.ring_rules.specs.Step.{size}
 use Rattle.ring_cluster.specs.Seen.{state_of}
 use Rattle.ring_cluster.proofs.rounds.Turning.{FinishedBelow}
 use Rattle.ring_cluster.proofs.driver.perform_each.Given as goal

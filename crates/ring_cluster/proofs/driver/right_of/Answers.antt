@@ -1,6 +1,6 @@
 use Rattle.std.proofs.Common.{◌≡◌, ap, arith, ◌∙◌}
 use Rattle.group_view.specs.View.{right_of as right_of_entries}
-use Rattle.ring_world.specs.Machine.{newest, right}
+use Rattle.ring_rules.specs.Machine.{newest, right}
 use Rattle.ring_cluster.specs.Seen.{state_of}
 use Rattle.ring_cluster.proofs.rounds.Named.{going_ring}
 use Rattle.ring_cluster.proofs.rounds.Settling.{right_there, right_found}

@@ -1,6 +1,6 @@
 use Rattle.std.proofs.Common.{ap, sym, subst, ◌∙◌}
-use Rattle.ring_world.specs.Event.{refusal}
-use Rattle.ring_world.specs.Work.{LeavesLess}
+use Rattle.ring_rules.specs.Event.{refusal}
+use Rattle.ring_rules.specs.Work.{LeavesLess}
 use Rattle.ring_cluster.specs.Seen.{state_of}
 use Rattle.ring_cluster.proofs.rounds.Resting.{to_do_less, to_do_enabled}
 use Rattle.ring_cluster.proofs.driver.take_turn.Goals as goal

@@ -1,5 +1,5 @@
 use Rattle.std.proofs.Common.{◌+◌, ap, ◌∙◌}
-use Rattle.ring_world.specs.Machine.{member_at}
+use Rattle.ring_rules.specs.Machine.{member_at}
 use Rattle.ring_cluster.specs.Seen.{state_of}
 use Rattle.ring_cluster.proofs.rounds.Counting.{did_task, did_named, did_later}
 use Rattle.ring_cluster.proofs.rounds.Turning.{performed_round, idle_begun, round_trans, works_round, works_same}

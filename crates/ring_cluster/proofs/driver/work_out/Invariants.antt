@@ -1,6 +1,6 @@
 use Rattle.ring_cluster.specs.Seen.{state_of}
 use Rattle.ring_cluster.specs.Turns.{Works}
-use Rattle.ring_world.specs.Work.{total}
+use Rattle.ring_rules.specs.Work.{total}
 use Rattle.ring_cluster.proofs.driver.work_out.Given as goal
 
 abbrev pub invariant-passes : goal.invariant-passes

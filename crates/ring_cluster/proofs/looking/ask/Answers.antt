@@ -1,6 +1,6 @@
 use Rattle.std.proofs.Common.{◌≡◌, true, false, None, sym, ap, subst, ◌∙◌}
 use Rattle.group_view.specs.Ring.{is_in}
-use Rattle.ring_world.specs.View.{ids}
+use Rattle.ring_rules.specs.View.{ids}
 use Rattle.registrar.specs.Registry.{newest}
 use Rattle.registrar.specs.Asked.{request_refusal}
 use Rattle.registrar.specs.Handled.{handled, answered}

@@ -1,7 +1,7 @@
 use Rattle.std.proofs.Common.{◌≡◌, ◌+◌, ◌<◌, [], length, get_or, ap, ◌∙◌, arith}
 use Rattle.std.proofs.lemmas.List.{get_or_default}
 use Rattle.group_view.specs.Ring.{is_in}
-use Rattle.ring_world.specs.View.{ids}
+use Rattle.ring_rules.specs.View.{ids}
 use Rattle.gm_member.specs.Held.{founded}
 use Rattle.ring_cluster.specs.Parties.{shown_in}
 use Rattle.ring_cluster.specs.Opened.{opened_at, opened_ends}

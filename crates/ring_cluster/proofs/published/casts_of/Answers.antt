@@ -1,6 +1,6 @@
 use Rattle.std.proofs.Common.{◌∷◌, ◌++◌, [], length, map, take, sym, ap, ◌∙◌}
 use Rattle.std.proofs.lemmas.List.{take_more, length-map}
-use Rattle.ring_world.specs.Published.{published_in}
+use Rattle.ring_rules.specs.Published.{published_in}
 use Rattle.ring_cluster.specs.Published.{casts_with}
 use Rattle.ring_cluster.proofs.published.casts_of.Goals as goal
 

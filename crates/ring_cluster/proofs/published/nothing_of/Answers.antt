@@ -2,7 +2,7 @@ use Rattle.std.proofs.Common.{◌≡◌, ◌+◌, ◌∷◌, ◌++◌, [], ℕ, 
 use Rattle.std.proofs.lemmas.List.{take_more, map-append}
 use Rattle.std.specs.declared.vec.Vec.{Vec}
 use Rattle.std.specs.declared.alloc.Global.{Global}
-use Rattle.ring_world.specs.Published.{published_in}
+use Rattle.ring_rules.specs.Published.{published_in}
 use Rattle.ring_cluster.specs.Published.{casts_with, logs_in}
 use Rattle.ring_cluster.proofs.published.nothing_of.Goals as goal
 

@@ -1,5 +1,5 @@
 use Rattle.std.proofs.Common.{◌≡◌, [], map, take}
-use Rattle.ring_world.specs.Published.{published_in}
+use Rattle.ring_rules.specs.Published.{published_in}
 use Rattle.ring_cluster.specs.Published.{logs_in}
 use Rattle.ring_cluster.proofs.published.nothing_of.Given as goal
 

@@ -1,6 +1,6 @@
 use Rattle.std.proofs.Common.{◌∷◌, ◌++◌, [], map, set, get_or, sym, ap, ◌∙◌}
 use Rattle.ring_names.specs.declared.message.Message.TheVariants as message
-use Rattle.ring_world.specs.Published.{published_in}
+use Rattle.ring_rules.specs.Published.{published_in}
 use Rattle.ring_cluster.proofs.work.Publishing.{cast_of_none, cast_of_one}
 use Rattle.ring_cluster.proofs.published.push_cast.Goals as goal
 

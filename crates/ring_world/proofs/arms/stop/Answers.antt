@@ -1,7 +1,7 @@
 use Rattle.std.proofs.Common.{◌≡◌, ◌<◌, suc, length, None, ap, sym, subst, ◌∙◌}
 use Rattle.ring_world.specs.Shows.{world_of, member_of, member_in}
 use Rattle.ring_world.proofs.code.ShownParts.{read_member}
-use Rattle.ring_world.proofs.code.Enables.{running_runs}
+use Rattle.ring_rules.proofs.code.Enables.{running_runs}
 use Rattle.ring_world.proofs.code.Found.{out_running}
 use Rattle.ring_world.proofs.arms.stop.Goals as goal
 

@@ -1,5 +1,5 @@
 use Rattle.std.proofs.Common.{suc, ap, arith}
-use Rattle.ring_world.specs.Machine.{member_at}
+use Rattle.ring_rules.specs.Machine.{member_at}
 use Rattle.ring_world.proofs.changing.change.Goals as goal
 
 pub refresh-requires-clause-later : goal.refresh-requires-clause-later

@@ -1,9 +1,9 @@
 use Rattle.std.proofs.Common.{◌≡◌, suc, ◌+◌, subst, arith}
 use Rattle.std.specs.Prelude.{OnOk}
 use Rattle.std.proofs.lemmas.Grind.{common_steps}
-use Rattle.ring_world.specs.Machine.{newest}
-use Rattle.ring_world.specs.Step.{with_view}
-use Rattle.ring_world.specs.Event.{refreshed, erased_view}
+use Rattle.ring_rules.specs.Machine.{newest}
+use Rattle.ring_rules.specs.Step.{with_view}
+use Rattle.ring_rules.specs.Event.{refreshed, erased_view}
 use Rattle.ring_world.specs.Shows.{world_of}
 use Rattle.ring_world.proofs.erasing.erase.Goals as goal
 

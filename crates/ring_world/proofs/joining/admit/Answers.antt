@@ -2,12 +2,12 @@ use Rattle.std.proofs.Common.{◌≡◌, suc, ◌+◌, ◌<◌, ◌∷◌, [], m
 use Rattle.std.proofs.lemmas.Grind.{common_steps}
 use Rattle.std.proofs.lemmas.List.{length-map, map-append}
 use Rattle.group_view.specs.Change.{admit_refusal as group_refusal}
-use Rattle.ring_world.specs.Machine.{no_member, newest}
-use Rattle.ring_world.specs.Step.{size, with_view, admitted_view}
-use Rattle.ring_world.specs.Event.{refreshed}
+use Rattle.ring_rules.specs.Machine.{no_member, newest}
+use Rattle.ring_rules.specs.Step.{size, with_view, admitted_view}
+use Rattle.ring_rules.specs.Event.{refreshed}
 use Rattle.ring_world.specs.Shows.{world_of, member_of}
 use Rattle.ring_world.proofs.code.Joins.{with_joiner, admitted_state}
-use Rattle.ring_world.proofs.code.Looks.{nobody_refuses_admitting}
+use Rattle.ring_rules.proofs.code.Looks.{nobody_refuses_admitting}
 use Rattle.ring_world.proofs.joining.admit.Goals as goal
 
 pub after_admitting-requires : goal.after_admitting-requires

@@ -3,8 +3,8 @@ use Rattle.std.proofs.lemmas.Grind.{common_steps}
 use Rattle.std.specs.List.{range_with_len}
 use Rattle.std.proofs.lemmas.List.{map-append}
 use Rattle.std.proofs.lemmas.List.FromFn.{map-range_with_len_more}
-use Rattle.ring_world.specs.Machine.{no_member}
-use Rattle.ring_world.specs.Rows.{Row, born_row}
+use Rattle.ring_rules.specs.Machine.{no_member}
+use Rattle.ring_rules.specs.Rows.{Row, born_row}
 use Rattle.ring_world.specs.Shows.{member_of}
 use Rattle.ring_world.proofs.joining.born_rows.Goals as goal
 

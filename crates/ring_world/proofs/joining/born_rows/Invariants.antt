@@ -1,7 +1,7 @@
 use Rattle.std.proofs.Common.{◌≡◌, ◌∷◌, map, get_or}
 use Rattle.std.specs.List.{range_with_len}
-use Rattle.ring_world.specs.Machine.{no_member}
-use Rattle.ring_world.specs.Rows.{born_row}
+use Rattle.ring_rules.specs.Machine.{no_member}
+use Rattle.ring_rules.specs.Rows.{born_row}
 use Rattle.ring_world.specs.Shows.{row_of, member_of}
 use Rattle.ring_world.proofs.joining.born_rows.Given as goal
 

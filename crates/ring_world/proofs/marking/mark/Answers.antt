@@ -2,9 +2,9 @@ use Rattle.std.proofs.Common.{◌≡◌, suc, ◌+◌, subst, arith}
 use Rattle.std.specs.Prelude.{OnOk}
 use Rattle.std.proofs.lemmas.Grind.{common_steps}
 use Rattle.group_view.specs.Change.{marked}
-use Rattle.ring_world.specs.Machine.{view_in, newest}
-use Rattle.ring_world.specs.Step.{with_view}
-use Rattle.ring_world.specs.Event.{refreshed}
+use Rattle.ring_rules.specs.Machine.{view_in, newest}
+use Rattle.ring_rules.specs.Step.{with_view}
+use Rattle.ring_rules.specs.Event.{refreshed}
 use Rattle.ring_world.specs.Shows.{world_of}
 use Rattle.ring_world.proofs.marking.mark.Goals as goal
 

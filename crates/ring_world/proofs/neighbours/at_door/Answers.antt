@@ -1,7 +1,7 @@
 use Rattle.std.proofs.Common.{◌≡◌, suc, ap, ◌∙◌, arith}
 use Rattle.std.proofs.lemmas.Grind.{common_steps}
 use Rattle.std.specs.Prelude.{position}
-use Rattle.ring_world.specs.Event.{left_neighbour, since}
+use Rattle.ring_rules.specs.Event.{left_neighbour, since}
 use Rattle.ring_world.specs.Shows.{world_of, link_of, stands_at_door}
 use Rattle.ring_world.proofs.code.Found.{door_first}
 use Rattle.ring_world.proofs.neighbours.at_door.Goals as goal

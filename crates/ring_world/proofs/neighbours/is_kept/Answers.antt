@@ -1,8 +1,8 @@
 use Rattle.std.proofs.Common.{◌≡◌, ◌≤◌, ◌<◌, ◌∷◌, sym, ap, ◌∙◌, subst, arith, ⊎_elim}
 use Rattle.std.proofs.lemmas.Bool.{cases_lt}
 use Rattle.group_view.specs.Since.{no_group}
-use Rattle.ring_world.specs.View.{left_by, left_of}
-use Rattle.ring_world.proofs.code.Looks.{kept_no, left_at_is}
+use Rattle.ring_rules.specs.View.{left_by, left_of}
+use Rattle.ring_rules.proofs.code.Looks.{kept_no, left_at_is}
 use Rattle.ring_world.proofs.neighbours.is_kept.Goals as goal
 
 pub returns-then-left_in-sender : goal.returns-then-left_in-sender

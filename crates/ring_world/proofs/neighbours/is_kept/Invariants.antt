@@ -1,6 +1,6 @@
 use Rattle.std.proofs.Common.{◌≡◌, ◌≤◌, ◌<◌, ℕ, ◌∷◌}
 use Rattle.group_view.specs.Since.{no_group}
-use Rattle.ring_world.specs.View.{left_by}
+use Rattle.ring_rules.specs.View.{left_by}
 use Rattle.ring_world.proofs.neighbours.is_kept.Given as goal
 
 abbrev pub invariant-loop-u : goal.invariant-loop-u

@@ -1,6 +1,6 @@
 use Rattle.std.proofs.Common.{◌≡◌, ℕ, suc, ◌<◌, true}
-use Rattle.ring_world.specs.Machine.{runs}
-use Rattle.ring_world.specs.Quiet.{IsResting}
+use Rattle.ring_rules.specs.Machine.{runs}
+use Rattle.ring_rules.specs.Quiet.{IsResting}
 use Rattle.ring_world.specs.Shows.{world_of}
 use Rattle.ring_world.proofs.quiet.all_rest.Given as goal
 

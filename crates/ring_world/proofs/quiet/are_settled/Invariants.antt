@@ -1,6 +1,6 @@
 use Rattle.std.proofs.Common.{ℕ, ◌<◌, get_or}
 use Rattle.group_view.specs.View.{no_entry}
-use Rattle.ring_world.specs.Quiet.{IsSettled}
+use Rattle.ring_rules.specs.Quiet.{IsSettled}
 use Rattle.ring_world.specs.Shows.{world_of}
 use Rattle.ring_world.proofs.quiet.are_settled.Given as goal
 

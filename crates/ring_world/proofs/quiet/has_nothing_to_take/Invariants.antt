@@ -1,7 +1,7 @@
 use Rattle.std.proofs.Common.{◌≡◌, ℕ, suc, ◌<◌, true}
-use Rattle.ring_world.specs.Machine.{link_at}
-use Rattle.ring_world.specs.OpenLinks.{is_open}
-use Rattle.ring_world.specs.Event.{holds_nothing}
+use Rattle.ring_rules.specs.Machine.{link_at}
+use Rattle.ring_rules.specs.OpenLinks.{is_open}
+use Rattle.ring_rules.specs.Event.{holds_nothing}
 use Rattle.ring_world.specs.Shows.{world_of}
 use Rattle.ring_world.proofs.quiet.has_nothing_to_take.Given as goal
 

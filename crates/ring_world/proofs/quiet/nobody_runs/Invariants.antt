@@ -1,5 +1,5 @@
 use Rattle.std.proofs.Common.{◌≡◌, ℕ, suc, ◌<◌, false}
-use Rattle.ring_world.specs.Machine.{runs}
+use Rattle.ring_rules.specs.Machine.{runs}
 use Rattle.ring_world.specs.Shows.{world_of}
 use Rattle.ring_world.proofs.quiet.nobody_runs.Given as goal
 

@@ -1,5 +1,5 @@
 use Rattle.std.proofs.Common.{suc, ap, arith}
-use Rattle.ring_world.specs.Machine.{runs_phase}
+use Rattle.ring_rules.specs.Machine.{runs_phase}
 use Rattle.ring_world.proofs.refreshing.refresh.Goals as goal
 
 pub view_of-requires-clause-some : goal.view_of-requires-clause-some

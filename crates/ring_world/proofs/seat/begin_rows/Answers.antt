@@ -1,7 +1,7 @@
 use Rattle.std.proofs.Common.{◌≡◌, ℕ, ◌<◌, map, length, ◌∙◌, arith}
-use Rattle.ring_world.specs.Rows.{no_row}
-use Rattle.ring_world.specs.Machine.{numbers_at}
-use Rattle.ring_world.specs.Step.{begun_row}
+use Rattle.ring_rules.specs.Rows.{no_row}
+use Rattle.ring_rules.specs.Machine.{numbers_at}
+use Rattle.ring_rules.specs.Step.{begun_row}
 use Rattle.ring_world.specs.Shows.{packet_of, row_of, row_in}
 use Rattle.ring_world.proofs.code.ShownParts.{at_mapped_set, mapped_read}
 use Rattle.std.proofs.lemmas.List.{length-map}

@@ -1,7 +1,7 @@
 use Rattle.std.proofs.Common.{◌≡◌, ℕ, ◌<◌, ◌≤◌}
-use Rattle.ring_world.specs.Machine.{numbers_at}
+use Rattle.ring_rules.specs.Machine.{numbers_at}
 use Rattle.ring_world.specs.Shows.{row_in, packet_of}
-use Rattle.ring_world.specs.Step.{begun_row}
+use Rattle.ring_rules.specs.Step.{begun_row}
 use Rattle.ring_world.proofs.seat.begin_rows.Given as goal
 
 abbrev pub invariant-loop-k : goal.invariant-loop-k

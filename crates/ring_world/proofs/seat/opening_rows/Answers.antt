@@ -3,7 +3,7 @@ use Rattle.std.specs.List.{range_with_len}
 use Rattle.std.proofs.lemmas.Grind.{common_steps}
 use Rattle.std.proofs.lemmas.List.FromFn.{map-range_with_len_more}
 use Rattle.std.proofs.lemmas.List.{map-append}
-use Rattle.ring_world.specs.Rows.{no_row}
+use Rattle.ring_rules.specs.Rows.{no_row}
 use Rattle.ring_world.proofs.seat.opening_rows.Goals as goal
 
 pub loop-id-preserved : goal.loop-id-preserved

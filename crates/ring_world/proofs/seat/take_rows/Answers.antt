@@ -1,6 +1,6 @@
 use Rattle.std.proofs.Common.{◌≡◌, ℕ, ◌<◌, map, length, get_or, ◌∙◌, ap, arith}
-use Rattle.ring_world.specs.Rows.{no_row, taken_with}
-use Rattle.ring_world.specs.Machine.{numbers_at}
+use Rattle.ring_rules.specs.Rows.{no_row, taken_with}
+use Rattle.ring_rules.specs.Machine.{numbers_at}
 use Rattle.ring_world.specs.Shows.{packet_of, row_of, room_of, news_of, no_news, row_in, news_in}
 use Rattle.ring_world.proofs.code.ShownParts.{at_mapped_set, mapped_read}
 use Rattle.std.proofs.lemmas.List.{length-map}

@@ -1,7 +1,7 @@
 use Rattle.std.proofs.Common.{◌≡◌, ℕ, ◌<◌, ◌≤◌, map, slice_index_or}
-use Rattle.ring_world.specs.Machine.{numbers_at}
+use Rattle.ring_rules.specs.Machine.{numbers_at}
 use Rattle.ring_world.specs.Shows.{row_in, packet_of, room_of, news_in}
-use Rattle.ring_world.specs.Rows.{taken_with}
+use Rattle.ring_rules.specs.Rows.{taken_with}
 use Rattle.ring_world.proofs.seat.take_rows.Given as goal
 
 abbrev pub invariant-loop-k : goal.invariant-loop-k

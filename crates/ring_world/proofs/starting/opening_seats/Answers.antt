@@ -3,7 +3,7 @@ use Rattle.std.proofs.lemmas.Grind.{common_steps}
 use Rattle.std.specs.List.{range_with_len}
 use Rattle.std.proofs.lemmas.List.FromFn.{map-range_with_len_more}
 use Rattle.std.proofs.lemmas.List.{map-append}
-use Rattle.ring_world.specs.Step.{opening_member}
+use Rattle.ring_rules.specs.Step.{opening_member}
 use Rattle.ring_world.proofs.starting.opening_seats.Goals as goal
 
 pub loop-place-preserved : goal.loop-place-preserved

@@ -1,7 +1,7 @@
 use Rattle.std.proofs.Common.{◌≡◌, map}
 use Rattle.std.specs.List.{range_with_len}
 use Rattle.ring_world.specs.Shows.{link_of}
-use Rattle.ring_world.specs.Step.{opening_link}
+use Rattle.ring_rules.specs.Step.{opening_link}
 use Rattle.ring_world.proofs.starting.opening_wires.Given as goal
 
 abbrev pub invariant-loop-place : goal.invariant-loop-place

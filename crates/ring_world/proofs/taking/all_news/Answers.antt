@@ -4,8 +4,8 @@ use Rattle.std.specs.List.{range_with_len}
 use Rattle.std.proofs.lemmas.List.FromFn.{map-range_with_len_more}
 use Rattle.std.proofs.lemmas.List.{map-append}
 use Rattle.ring_world.specs.declared.seat.Brought.{Brought}
-use Rattle.ring_world.specs.Machine.{Packet, Member, no_member, numbers_at}
-use Rattle.ring_world.specs.Step.{is_owned}
+use Rattle.ring_rules.specs.Machine.{Packet, Member, no_member, numbers_at}
+use Rattle.ring_rules.specs.Step.{is_owned}
 use Rattle.ring_world.specs.Shows.{News, member_of, packet_of, news_of, news_at}
 use Rattle.ring_world.proofs.code.Taken.{brought_news}
 use Rattle.ring_world.proofs.taking.all_news.Goals as goal

@@ -1,6 +1,6 @@
 use Rattle.std.proofs.Common.{◌≡◌, suc, ◌∷◌, map}
 use Rattle.std.specs.List.{range_with_len}
-use Rattle.ring_world.specs.Machine.{no_member}
+use Rattle.ring_rules.specs.Machine.{no_member}
 use Rattle.ring_world.specs.Shows.{member_of, packet_of, news_of, news_at}
 use Rattle.ring_world.proofs.taking.all_news.Given as goal
 

@@ -1,9 +1,10 @@
 use Rattle.std.proofs.Common.{◌≡◌, suc, ◌≤◌, ◌∷◌, length, map, set, ap, sym, subst, ◌∙◌, arith}
 use Rattle.std.proofs.lemmas.List.{with_items_is}
-use Rattle.ring_world.specs.Machine.{no_member, oldest}
+use Rattle.ring_rules.specs.Machine.{no_member, oldest}
 use Rattle.ring_world.specs.Shows.{world_of, member_of, member_in, link_of}
-use Rattle.ring_world.specs.Step.{begun}
-use Rattle.ring_world.proofs.code.Taken.{begin_ring, same_ring, few_rows, OnErr_of}
+use Rattle.ring_rules.specs.Step.{begun}
+use Rattle.ring_world.proofs.code.Taken.{begin_ring, same_ring, few_rows}
+use Rattle.ring_rules.proofs.code.Errors.{OnErr_of}
 use Rattle.ring_world.proofs.taking.begin.Goals as goal
 
 pub take_first-requires-clause-rows : goal.take_first-requires-clause-rows

@@ -1,11 +1,12 @@
 use Rattle.std.proofs.Common.{◌≡◌, suc, ◌≤◌, ◌∷◌, length, map, get_or, set, ap, sym, subst, ◌∙◌, arith}
 use Rattle.std.proofs.lemmas.List.{with_items_is}
-use Rattle.ring_world.specs.Machine.{no_member, oldest}
+use Rattle.ring_rules.specs.Machine.{no_member, oldest}
 use Rattle.group_view.specs.Since.{no_group}
 use Rattle.ring_world.specs.Shows.{world_of, member_of, member_in, link_of}
-use Rattle.ring_world.specs.Step.{taken, is_owned}
+use Rattle.ring_rules.specs.Step.{taken, is_owned}
 use Rattle.ring_world.proofs.code.Found.{version_some, version_within}
-use Rattle.ring_world.proofs.code.Taken.{take_ring, same_ring, few_rows, logs_of, OnErr_of}
+use Rattle.ring_world.proofs.code.Taken.{take_ring, same_ring, few_rows, logs_of}
+use Rattle.ring_rules.proofs.code.Errors.{OnErr_of}
 use Rattle.ring_world.proofs.taking.take.Goals as goal
 
 pub view_of-view-requires-clause-some : goal.view_of-view-requires-clause-some

@@ -1,7 +1,7 @@
 use Rattle.std.proofs.Common.{◌≡◌, suc, ◌+◌, length, map, get_or, set, ap, ◌∙◌, arith}
 use Rattle.std.proofs.lemmas.List.{get_or_default}
-use Rattle.ring_world.specs.Machine.{oldest}
-use Rattle.ring_world.specs.Step.{begun}
+use Rattle.ring_rules.specs.Machine.{oldest}
+use Rattle.ring_rules.specs.Step.{begun}
 use Rattle.ring_world.specs.Shows.{member_of, member_in, link_of, packet_of}
 use Rattle.ring_world.proofs.code.ShownParts.{begun_seats}
 use Rattle.ring_world.proofs.taking.take_first.Goals as goal

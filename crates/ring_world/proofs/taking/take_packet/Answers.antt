@@ -1,8 +1,8 @@
 use Rattle.std.proofs.Common.{◌≡◌, suc, ◌+◌, length, map, get_or, set, ap, sym, ◌∙◌, arith}
 use Rattle.std.specs.List.{range_with_len}
 use Rattle.std.proofs.lemmas.List.{length-map, get_or-map, get_or_default}
-use Rattle.ring_world.specs.Machine.{no_member, oldest}
-use Rattle.ring_world.specs.Step.{taken, is_owned}
+use Rattle.ring_rules.specs.Machine.{no_member, oldest}
+use Rattle.ring_rules.specs.Step.{taken, is_owned}
 use Rattle.ring_world.specs.Shows.{news_of, news_at, member_of, row_of, link_of, packet_of, member_in}
 use Rattle.ring_world.proofs.code.Taken.{taken_seats, news_count, all_of, logs_of}
 use Rattle.ring_world.proofs.taking.take_packet.Goals as goal

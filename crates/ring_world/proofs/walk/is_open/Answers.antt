@@ -1,6 +1,6 @@
 use Rattle.std.proofs.Common.{◌≤◌, subst, ap, arith}
 use Rattle.std.proofs.lemmas.List.{length-map}
-use Rattle.ring_world.specs.Machine.{newest}
+use Rattle.ring_rules.specs.Machine.{newest}
 use Rattle.ring_world.specs.Shows.{world_of, link_of}
 use Rattle.ring_world.proofs.code.ShownParts.{read_link}
 use Rattle.ring_world.proofs.walk.is_open.Goals as goal

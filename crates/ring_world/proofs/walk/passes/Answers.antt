@@ -1,7 +1,7 @@
 use Rattle.std.proofs.Common.{◌≤◌, ◌∷◌, suc, length, get_or, max, ap, sym, subst, ◌∙◌}
 use Rattle.group_view.specs.Since.{no_group}
 use Rattle.ring_world.specs.Walking.{is_from_left}
-use Rattle.ring_world.specs.Machine.{member_at}
+use Rattle.ring_rules.specs.Machine.{member_at}
 use Rattle.ring_world.specs.Shows.{world_of, link_of}
 use Rattle.ring_world.proofs.code.Found.{tested_some, tested_within, same_version}
 use Rattle.ring_world.proofs.walk.passes.Goals as goal
@@ -15,7 +15,7 @@ view_of-requires-clause-within c =
     (tested_within c.args.ring.now c.args.place c.index.result.now c.args.wire.now.opened c.requires.runs.placed c.requires.runs.place c.index.ensures c.requires.opened))
 
 pub returns : goal.returns
-unfolding Rattle.ring_world.specs.View.left_by
+unfolding Rattle.ring_rules.specs.View.left_by
 returns c =
     c.comes_from_left.ensures
     ∙ ap (λ v. is_from_left v c.id_at.result (link_of c.args.wire.now)) (c.view_of.ensures ∙ ap (λ vs. get_or (no_group ∷ vs) c.max-version.result no_group) c.deref.ensures.value)

@@ -1,7 +1,7 @@
 use Rattle.std.proofs.Common.{◌≡◌, ℕ, suc, ◌<◌, ◌+◌, ◌-◌, ◌++◌, filter, length, ap, ◌∙◌, arith}
 use Rattle.std.specs.List.{range_with_len}
-use Rattle.ring_world.specs.Machine.{World}
-use Rattle.ring_world.specs.OpenLinks.{is_open, packets_of}
+use Rattle.ring_rules.specs.Machine.{World}
+use Rattle.ring_rules.specs.OpenLinks.{is_open, packets_of}
 use Rattle.ring_world.specs.Shows.{world_of}
 use Rattle.ring_world.specs.Walking.{says, counts, said_on}
 use Rattle.ring_world.proofs.rings.Told.{gathered_more}

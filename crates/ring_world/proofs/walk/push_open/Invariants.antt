@@ -1,6 +1,6 @@
 use Rattle.std.proofs.Common.{◌≡◌, ◌++◌, ◌-◌, suc, length, filter}
 use Rattle.std.specs.List.{range_with_len}
-use Rattle.ring_world.specs.OpenLinks.{is_open}
+use Rattle.ring_rules.specs.OpenLinks.{is_open}
 use Rattle.ring_world.specs.Shows.{world_of}
 use Rattle.ring_world.specs.Walking.{said_on}
 use Rattle.ring_world.proofs.walk.push_open.Given as goal

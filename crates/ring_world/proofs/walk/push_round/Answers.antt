@@ -1,6 +1,6 @@
 use Rattle.std.proofs.Common.{◌≡◌, ◌++◌, ◌∷◌, suc, map, ap, ◌∙◌, arith}
 use Rattle.std.proofs.lemmas.Grind.{common_steps}
-use Rattle.ring_world.specs.OpenLinks.{round_trip}
+use Rattle.ring_rules.specs.OpenLinks.{round_trip}
 use Rattle.ring_world.specs.Shows.{world_of}
 use Rattle.ring_world.specs.Walking.{reads, reads_row}
 use Rattle.ring_world.proofs.rings.Told.{round_told}

@@ -1,7 +1,7 @@
 use Rattle.std.proofs.Common.{◌++◌, suc, map, ap, ◌∙◌}
 use Rattle.std.specs.List.{filter}
 use Rattle.group_view.specs.View.{ids}
-use Rattle.ring_world.specs.Machine.{runs}
+use Rattle.ring_rules.specs.Machine.{runs}
 use Rattle.ring_world.specs.Shows.{world_of}
 use Rattle.ring_world.proofs.rings.Told.{running_parts}
 use Rattle.ring_world.proofs.walk.running_among.Goals as goal

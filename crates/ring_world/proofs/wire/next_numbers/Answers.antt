@@ -3,8 +3,8 @@ use Rattle.std.proofs.lemmas.Grind.{common_steps}
 use Rattle.std.specs.List.{range_with_len}
 use Rattle.std.proofs.lemmas.List.{length-map}
 use Rattle.std.proofs.lemmas.List.FromFn.{map-range_with_len_more}
-use Rattle.ring_world.specs.declared.numbers.Numbers.{Numbers}
-use Rattle.ring_world.specs.Rows.{no_row, no_numbers, next_numbers}
+use Rattle.ring_rules.specs.declared.numbers.Numbers.{Numbers}
+use Rattle.ring_rules.specs.Rows.{no_row, no_numbers, next_numbers}
 use Rattle.ring_world.specs.Shows.{row_of}
 use Rattle.ring_world.proofs.code.Sent.{next_lines_range, lines_to}
 use Rattle.ring_world.proofs.wire.next_numbers.Goals as goal

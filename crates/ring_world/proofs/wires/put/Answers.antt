@@ -1,5 +1,5 @@
 use Rattle.std.proofs.Common.{◌≡◌, sym, subst}
-use Rattle.ring_world.specs.Step.{pushed, next_packet}
+use Rattle.ring_rules.specs.Step.{pushed, next_packet}
 use Rattle.ring_world.specs.Shows.{member_of, link_of}
 use Rattle.ring_world.proofs.code.ShownParts.{pushed_wires}
 use Rattle.ring_world.proofs.wires.put.Goals as goal

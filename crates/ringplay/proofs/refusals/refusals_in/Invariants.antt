@@ -1,5 +1,5 @@
 use Rattle.std.proofs.Common.{◌≡◌, take}
-use Rattle.ring_world.specs.Event.{refusals_of}
+use Rattle.ring_rules.specs.Event.{refusals_of}
 use Rattle.ringplay.specs.Lent.{lent_in}
 use Rattle.ringplay.proofs.refusals.refusals_in.Given as goal
 

@@ -1,6 +1,6 @@
 use Rattle.std.proofs.Common.{◌≡◌, ◌+◌, length, ap, ◌∙◌, arith}
-use Rattle.ring_world.specs.Machine.{row_at, member_at}
-use Rattle.ring_world.specs.Step.{log_of}
+use Rattle.ring_rules.specs.Machine.{row_at, member_at}
+use Rattle.ring_rules.specs.Step.{log_of}
 use Rattle.ring_cluster.specs.Published.{casts_with, logs_in}
 use Rattle.ring_cluster.specs.Seen.{state_of}
 use Rattle.ring_cluster.proofs.rounds.Named.{going_fit}

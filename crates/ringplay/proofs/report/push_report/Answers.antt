@@ -1,7 +1,7 @@
 use Rattle.std.proofs.Common.{◌≡◌, ◌-◌, ◌+◌, ◌++◌, ◌∙◌, ap, arith, append_assoc}
 use Rattle.std.specs.List.{flat_map, range_with_len}
-use Rattle.ring_world.specs.Step.{size}
-use Rattle.ring_world.specs.Event.{refusals_of}
+use Rattle.ring_rules.specs.Step.{size}
+use Rattle.ring_rules.specs.Event.{refusals_of}
 use Rattle.ring_cluster.specs.Seen.{state_of}
 use Rattle.ringplay.specs.Lent.{lent_in}
 use Rattle.ringplay.specs.Report.{ring_line, lines_of_member, report_of}

@@ -1,10 +1,11 @@
 //! What the machine answers to a line.
 ghost use Rattle.std.specs.Prelude.{IsSome, IfOk};
-ghost use Rattle.ring_world.specs.Event.{id_of};
+ghost use Rattle.ring_rules.specs.Event.{id_of};
 
 use ring_names::{Body, Message, Name};
+use ring_rules::{Client, Event, Refused};
 use ring_script::{number, read_steps};
-use ring_world::{Client, Event, Refused, World};
+use ring_world::World;
 use std::alloc::Global;
 use std::process::Abort;
 use std::test::Fail;

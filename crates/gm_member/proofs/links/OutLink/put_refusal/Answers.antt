@@ -1,6 +1,6 @@
 use Rattle.std.proofs.Common.{ap, sym, ◌∙◌}
 use Rattle.ring_names.specs.declared.reason.Reason.TheVariants as reason
-use Rattle.ring_world.specs.Refusal.{refuse_if, or_else}
+use Rattle.ring_rules.specs.Refusal.{refuse_if, or_else}
 use Rattle.gm_member.specs.Held.{has_nothing_new}
 use Rattle.gm_member.specs.View.{out_of}
 use Rattle.gm_member.proofs.links.OutLink.put_refusal.Goals as goal

@@ -1,6 +1,6 @@
 use Rattle.std.proofs.Common.{◌≤◌, cond, [], Some, option_map, refl, sym, ap, subst, ◌∙◌}
-use Rattle.ring_world.specs.declared.phase.Phase.TheVariants.{Up}
-use Rattle.ring_world.specs.Machine.{is_waiting}
+use Rattle.ring_rules.specs.declared.phase.Phase.TheVariants.{Up}
+use Rattle.ring_rules.specs.Machine.{is_waiting}
 use Rattle.gm_member.specs.Parcels.{by_origin}
 use Rattle.gm_member.specs.Held.{at_some, owns, all_begun, took_from, began_from}
 use Rattle.gm_member.specs.News.{news_below}

@@ -2,8 +2,8 @@ use Rattle.std.proofs.Common.{◌≡◌, ℕ, List, [], map, true, false, Some, 
 use Rattle.ring_names.specs.declared.numbers.CreditSpec.{CreditSpec}
 use Rattle.credit_flow.specs.Credit.{Credit, Counted, full_credit, none_taken}
 use Rattle.group_view.specs.View.{Group}
-use Rattle.ring_world.specs.View.{left_of, right_of}
-use Rattle.ring_world.specs.declared.phase.Phase.TheVariants.{Up}
+use Rattle.ring_rules.specs.View.{left_of, right_of}
+use Rattle.ring_rules.specs.declared.phase.Phase.TheVariants.{Up}
 use Rattle.activity.specs.Kept.{KeptRow}
 use Rattle.activity.specs.Told.{ToldRow, sent_of}
 use Rattle.gm_member.specs.View.{all_kept, all_sent}

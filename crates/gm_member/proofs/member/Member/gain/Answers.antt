@@ -1,8 +1,8 @@
 use Rattle.std.proofs.Common.{◌≡◌, Some, None, Err, ℕ}
-use Rattle.ring_world.specs.declared.event.Event.TheVariants.{Gain}
+use Rattle.ring_rules.specs.declared.event.Event.TheVariants.{Gain}
 use Rattle.gm_member.specs.declared.fault.MemberFault.TheVariants as fault
-use Rattle.ring_world.specs.Machine.{member_at}
-use Rattle.ring_world.specs.Event.{gain_refusal}
+use Rattle.ring_rules.specs.Machine.{member_at}
+use Rattle.ring_rules.specs.Event.{gain_refusal}
 use Rattle.gm_member.specs.Held.{gain_refused, gained_held}
 use Rattle.gm_member.specs.Stands.{IsNextGrant}
 use Rattle.gm_member.specs.Shown.{held_of}

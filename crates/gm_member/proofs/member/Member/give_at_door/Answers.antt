@@ -3,7 +3,7 @@ use Rattle.std.proofs.lemmas.Bool.{ltb-true}
 use Rattle.std.proofs.lemmas.List.{length-map}
 use Rattle.gm_member.specs.Shown.{held_of, ends_of}
 use Rattle.gm_member.specs.View.{in_of, end_of}
-use Rattle.ring_world.proofs.rings.Maps.{mapped_rewrite, mapped_write}
+use Rattle.ring_rules.proofs.rings.Maps.{mapped_rewrite, mapped_write}
 use Rattle.gm_member.proofs.member.Member.give_at_door.Goals as goal
 
 pub returns : goal.returns

@@ -2,8 +2,8 @@ use Rattle.std.proofs.Common.{◌≡◌, ℕ, List, [], map, false, Some, None, 
 use Rattle.ring_names.specs.declared.numbers.CreditSpec.{CreditSpec}
 use Rattle.credit_flow.specs.Credit.{Counted, none_taken}
 use Rattle.group_view.specs.View.{Group}
-use Rattle.ring_world.specs.View.{left_of}
-use Rattle.ring_world.specs.declared.phase.Phase.TheVariants.{Waiting}
+use Rattle.ring_rules.specs.View.{left_of}
+use Rattle.ring_rules.specs.declared.phase.Phase.TheVariants.{Waiting}
 use Rattle.activity.specs.Kept.{KeptRow}
 use Rattle.gm_member.specs.View.{all_kept}
 use Rattle.gm_member.specs.Held.{Held, Incoming, joining_held}

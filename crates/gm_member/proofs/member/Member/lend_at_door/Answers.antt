@@ -2,7 +2,7 @@ use Rattle.std.proofs.Common.{◌<◌, length, None, ap, refl, arith, rules}
 use Rattle.std.proofs.lemmas.Grind.{common_steps}
 use Rattle.gm_member.specs.Shown.{held_of, ends_of}
 use Rattle.gm_member.specs.View.{in_of, end_of}
-use Rattle.ring_world.proofs.rings.Maps.{mapped_rewrite, mapped_write}
+use Rattle.ring_rules.proofs.rings.Maps.{mapped_rewrite, mapped_write}
 use Rattle.gm_member.proofs.member.Member.lend_at_door.Goals as goal
 
 pub returns : goal.returns

@@ -1,7 +1,7 @@
 use Rattle.std.proofs.Common.{◌≡◌, Option, Some, None, Err, refl}
 use Rattle.std.proofs.lemmas.Result.{on_ok_weaker}
 use Rattle.ring_names.specs.declared.reason.Reason.TheVariants.{NoOutLink}
-use Rattle.ring_world.specs.declared.event.Event.TheVariants.{Put}
+use Rattle.ring_rules.specs.declared.event.Event.TheVariants.{Put}
 use Rattle.gm_member.specs.declared.fault.MemberFault.TheVariants as fault
 use Rattle.gm_member.specs.Held.{Held, Outgoing, put_refused, put_held, on_some, out_refused, parcel_on}
 use Rattle.gm_member.specs.Stands.{WhereItStands, IsPutPacket}

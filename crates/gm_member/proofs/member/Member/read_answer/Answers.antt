@@ -1,6 +1,6 @@
 use Rattle.std.proofs.Common.{◌≡◌, false, Some, refl, sym, ap, ◌∙◌, rules}
-use Rattle.ring_world.specs.View.{right_of}
-use Rattle.ring_world.specs.Machine.{runs_phase}
+use Rattle.ring_rules.specs.View.{right_of}
+use Rattle.ring_rules.specs.Machine.{runs_phase}
 use Rattle.gm_member.specs.Held.{Held, answered_held, looked_held, first_out, sends_to}
 use Rattle.gm_member.specs.declared.member.Member.{Member}
 use Rattle.gm_member.specs.Shown.{held_of}

@@ -4,7 +4,7 @@ use Rattle.std.specs.Vec.{vec_len, vec_capacity}
 use Rattle.activity.specs.Plan.{owns as owned}
 use Rattle.gm_member.specs.Parcels.{by_origin}
 use Rattle.gm_member.specs.Held.{at_some, owns, all_accepted, took_from, began_from}
-use Rattle.ring_world.specs.Machine.{is_waiting}
+use Rattle.ring_rules.specs.Machine.{is_waiting}
 use Rattle.gm_member.specs.News.{news_below}
 use Rattle.gm_member.specs.View.{in_of, told_on, count_of}
 use Rattle.gm_member.specs.Spares.{told_by_spare}

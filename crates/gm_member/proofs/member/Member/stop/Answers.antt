@@ -1,5 +1,5 @@
 use Rattle.std.proofs.Common.{◌≡◌, None, Err}
-use Rattle.ring_world.specs.declared.event.Event.TheVariants.{Stop}
+use Rattle.ring_rules.specs.declared.event.Event.TheVariants.{Stop}
 use Rattle.gm_member.specs.declared.fault.MemberFault.TheVariants as fault
 use Rattle.gm_member.specs.Held.{active_refused, stopped_held}
 use Rattle.gm_member.specs.Shown.{held_of}

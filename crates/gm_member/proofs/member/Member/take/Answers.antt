@@ -1,8 +1,8 @@
 use Rattle.std.proofs.Common.{◌≡◌, Some, None, Err, ℕ}
-use Rattle.ring_world.specs.declared.event.Event.TheVariants.{Take}
+use Rattle.ring_rules.specs.declared.event.Event.TheVariants.{Take}
 use Rattle.gm_member.specs.declared.fault.MemberFault.TheVariants as fault
-use Rattle.ring_world.specs.Machine.{member_at}
-use Rattle.ring_world.specs.Event.{take_refusal}
+use Rattle.ring_rules.specs.Machine.{member_at}
+use Rattle.ring_rules.specs.Event.{take_refusal}
 use Rattle.gm_member.specs.Held.{take_refused, took_held}
 use Rattle.gm_member.specs.Parcels.{by_origin}
 use Rattle.gm_member.specs.Stands.{IsNextPacket}

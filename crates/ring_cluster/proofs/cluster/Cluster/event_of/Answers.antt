@@ -1,6 +1,6 @@
 use Rattle.std.proofs.Common.{◌≡◌, Some, sym, ap, ◌∙◌}
 use Rattle.std.proofs.lemmas.Result.{IfOk-weaker}
-use Rattle.ring_world.specs.Event.{refusal}
+use Rattle.ring_rules.specs.Event.{refusal}
 use Rattle.ring_cluster.specs.Plays.{task_event}
 use Rattle.ring_cluster.specs.Seen.{state_of}
 use Rattle.ring_cluster.proofs.rounds.Members.{refused_enabled}

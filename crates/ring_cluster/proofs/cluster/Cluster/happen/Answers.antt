@@ -1,7 +1,7 @@
 use Rattle.std.proofs.Common.{◌≡◌, ap, sym, subst, ◌∙◌}
 use Rattle.std.specs.Prelude.{OnErr}
 use Rattle.std.proofs.lemmas.Result.{on_ok_weaker}
-use Rattle.ring_world.specs.Event.{refusal}
+use Rattle.ring_rules.specs.Event.{refusal}
 use Rattle.ring_cluster.specs.Kept.{seen_of}
 use Rattle.ring_cluster.specs.Parties.{PartiesSeen}
 use Rattle.ring_cluster.specs.Seen.{state, state_of, showing, with_event}

@@ -1,5 +1,5 @@
 use Rattle.std.proofs.Common.{ap, not, ◌∙◌}
-use Rattle.ring_world.specs.Refusal.{is_empty}
+use Rattle.ring_rules.specs.Refusal.{is_empty}
 use Rattle.ring_cluster.specs.Plays.{agenda_of}
 use Rattle.ring_cluster.proofs.rounds.Named.{first_task}
 use Rattle.ring_cluster.proofs.cluster.Cluster.has_task.Goals as goal

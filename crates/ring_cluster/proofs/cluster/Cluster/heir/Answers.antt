@@ -1,6 +1,6 @@
 use Rattle.std.proofs.Common.{◌+◌, Some, sym, ap, ◌∙◌, arith}
 use Rattle.std.specs.Prelude.{option_map}
-use Rattle.ring_world.specs.Machine.{member_at}
+use Rattle.ring_rules.specs.Machine.{member_at}
 use Rattle.ring_cluster.specs.Seen.{state_of}
 use Rattle.ring_cluster.proofs.rounds.Heirs.{least_is, least_none}
 use Rattle.ring_cluster.proofs.rounds.Members.{members_few}

@@ -1,6 +1,6 @@
 use Rattle.std.proofs.Common.{◌≡◌, ℕ, ◌+◌, ◌<◌, false}
-use Rattle.ring_world.specs.Machine.{runs}
-use Rattle.ring_world.specs.Step.{size}
+use Rattle.ring_rules.specs.Machine.{runs}
+use Rattle.ring_rules.specs.Step.{size}
 use Rattle.ring_cluster.specs.Seen.{state_of}
 use Rattle.ring_cluster.proofs.cluster.Cluster.heir.Given as goal
 

@@ -1,6 +1,6 @@
 use Rattle.std.proofs.Common.{List, ℕ, ap, subst, arith}
-use Rattle.ring_world.specs.declared.event.Event.TheVariants.{Erase}
-use Rattle.ring_world.specs.Step.{size}
+use Rattle.ring_rules.specs.declared.event.Event.TheVariants.{Erase}
+use Rattle.ring_rules.specs.Step.{size}
 use Rattle.ring_cluster.specs.Seen.{Seen, state_of}
 use Rattle.ring_cluster.specs.Standing.{StandAfter}
 use Rattle.ring_cluster.specs.Refused.{IsRefusalAt}

@@ -1,5 +1,5 @@
 use Rattle.std.proofs.Common.{◌≡◌, None, ap, sym, subst, ◌∙◌}
-use Rattle.ring_world.specs.Event.{by_of, refusal}
+use Rattle.ring_rules.specs.Event.{by_of, refusal}
 use Rattle.ring_cluster.specs.Plays.{task_event}
 use Rattle.ring_cluster.specs.Seen.{state_of}
 use Rattle.ring_cluster.proofs.rounds.Doing.{performed_is}

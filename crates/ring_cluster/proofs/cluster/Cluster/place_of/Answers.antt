@@ -1,6 +1,6 @@
 use Rattle.std.proofs.Common.{◌≡◌, ◌+◌, subst}
 use Rattle.std.specs.Prelude.{option_map}
-use Rattle.ring_world.specs.Event.{by_of}
+use Rattle.ring_rules.specs.Event.{by_of}
 use Rattle.ring_cluster.specs.Agendas.{place_among}
 use Rattle.ring_cluster.specs.Published.{names_in}
 use Rattle.ring_cluster.specs.Refused.{id_named}

@@ -1,5 +1,5 @@
 use Rattle.std.proofs.Common.{arith, false, refl, sym, ap, subst, ◌∙◌}
-use Rattle.ring_world.specs.Idle.{NobodySteps, MarksNobody, ErasesNobody}
+use Rattle.ring_rules.specs.Idle.{NobodySteps, MarksNobody, ErasesNobody}
 use Rattle.ring_cluster.specs.Plays.{AgendasAreEmpty}
 use Rattle.ring_cluster.specs.Seen.{state_of}
 use Rattle.ring_cluster.proofs.post.Owed.{but_same}

@@ -2,7 +2,7 @@ use Rattle.std.proofs.Common.{◌≡◌, ◌+◌, ◌∷◌, ◌++◌, [], None,
 use Rattle.std.proofs.lemmas.Option.{none-some}
 use Rattle.group_view.specs.Change.{admitted, admit_refusal as group_refusal}
 use Rattle.group_view.specs.Ring.{is_in}
-use Rattle.ring_world.specs.View.{ids}
+use Rattle.ring_rules.specs.View.{ids}
 use Rattle.registrar.specs.Registry.{newest}
 use Rattle.registrar.specs.Handled.{with_view}
 use Rattle.gm_member.specs.declared.questions.Ask.TheVariants.{Admit}

@@ -1,6 +1,6 @@
 use Rattle.std.proofs.Common.{set}
 use Rattle.ring_cluster.specs.Acting.{DoesAlone}
-use Rattle.ring_world.proofs.code.Taken.{OnErr_of}
+use Rattle.ring_rules.proofs.code.Errors.{OnErr_of}
 use Rattle.ring_cluster.proofs.standing.Nodes.{at_read, written_shown}
 use Rattle.ring_cluster.proofs.events.Acted.{alone_acts}
 use Rattle.ring_cluster.proofs.post.Delivered.{inside, unchanged, none_behind, bare, is_ready}

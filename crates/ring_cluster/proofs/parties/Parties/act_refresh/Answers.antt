@@ -3,7 +3,7 @@ use Rattle.std.specs.Prelude.{is_some}
 use Rattle.std.proofs.lemmas.Bool.{false≢true}
 use Rattle.group_view.specs.Ring.{is_in}
 use Rattle.group_view.specs.Since.{view_at}
-use Rattle.ring_world.specs.View.{ids}
+use Rattle.ring_rules.specs.View.{ids}
 use Rattle.registrar.specs.Registry.{newest}
 use Rattle.gm_member.specs.Held.{refresh_refused}
 use Rattle.ring_cluster.specs.Behind.{behind}

@@ -1,5 +1,5 @@
 use Rattle.std.proofs.Common.{◌≡◌, true, None, get_or, set, sym, ap, subst, ◌∙◌}
-use Rattle.ring_world.specs.Machine.{runs_phase}
+use Rattle.ring_rules.specs.Machine.{runs_phase}
 use Rattle.ring_cluster.specs.Behind.{behind}
 use Rattle.ring_cluster.specs.Parties.{out_seen, parties, shown_in, with_out}
 use Rattle.ring_cluster.specs.Meeting.{MayMeetOut, MeetsIn, MeetsOut}

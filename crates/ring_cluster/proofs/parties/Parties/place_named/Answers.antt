@@ -1,6 +1,6 @@
 use Rattle.std.proofs.Common.{◌+◌, bytes_eq, sym, ap, ◌∙◌}
 use Rattle.std.specs.Prelude.{option_map, position}
-use Rattle.ring_world.proofs.rings.Maps.{position_map}
+use Rattle.ring_rules.proofs.rings.Maps.{position_map}
 use Rattle.ring_cluster.specs.Parties.{shown_in}
 use Rattle.ring_cluster.specs.Refused.{id_named}
 use Rattle.ring_cluster.proofs.parties.Parties.place_named.Goals as goal

@@ -1,7 +1,7 @@
 use Rattle.std.proofs.Common.{◌≡◌, ◌+◌, sym, ap, subst, ⊎_elim, ◌∙◌}
-use Rattle.ring_world.specs.declared.event.Event.{Event}
-use Rattle.ring_world.specs.declared.event.Event.TheVariants.{Cast, Put, Take, TakeEnd, Gain, Stop}
-use Rattle.ring_world.specs.Event.{refusal}
+use Rattle.ring_rules.specs.declared.event.Event.{Event}
+use Rattle.ring_rules.specs.declared.event.Event.TheVariants.{Cast, Put, Take, TakeEnd, Gain, Stop}
+use Rattle.ring_rules.specs.Event.{refusal}
 use Rattle.gm_member.specs.Held.{up_refused}
 use Rattle.ring_cluster.specs.Parties.{PartiesSeen, Shown, shown_in}
 use Rattle.ring_cluster.specs.Acting.{alone_refused, look_refused, newest_of}

@@ -1,6 +1,6 @@
 use Rattle.std.proofs.Common.{◌≡◌, ap, sym, subst, ◌∙◌}
-use Rattle.ring_world.specs.declared.event.Event.TheVariants.{Put, Take, TakeEnd, Gain, Pick}
-use Rattle.ring_world.specs.Event.{refusal}
+use Rattle.ring_rules.specs.declared.event.Event.TheVariants.{Put, Take, TakeEnd, Gain, Pick}
+use Rattle.ring_rules.specs.Event.{refusal}
 use Rattle.ring_cluster.specs.Acting.{alone_refused}
 use Rattle.ring_cluster.specs.Seen.{state, IsEventIn}
 use Rattle.ring_cluster.specs.Turns.{step_event}

@@ -1,7 +1,7 @@
 use Rattle.std.proofs.Common.{◌≡◌, subst, ◌∙◌}
-use Rattle.ring_world.specs.Rows.{messages_between}
-use Rattle.ring_world.specs.Asked.{got_at, base_at, log_at}
-use Rattle.ring_world.specs.Event.{id_of}
+use Rattle.ring_rules.specs.Rows.{messages_between}
+use Rattle.ring_rules.specs.Asked.{got_at, base_at, log_at}
+use Rattle.ring_rules.specs.Event.{id_of}
 use Rattle.ring_world.specs.Reached.{state_of}
 use Rattle.ring_world.proofs.code.Running.{running_placed}
 use Rattle.ring_world.proofs.code.HeldLaws.{heard_in_order}

@@ -1,5 +1,5 @@
 use Rattle.std.proofs.Common.{◌↔◌, IsTrue, subst}
-use Rattle.ring_world.specs.Quiet.{IsQuiet}
+use Rattle.ring_rules.specs.Quiet.{IsQuiet}
 use Rattle.ring_world.proofs.code.Running.{running_placed}
 use Rattle.ring_world.proofs.world.World.quiet.Goals as goal
 

@@ -1,0 +1,163 @@
+-- What holds after an event that may happen, by what the event does and the conditions under which it may.
+use Rattle.std.proofs.Common.{◌≡◌, ℕ, ◌+◌, ◌<◌, ◌≤◌, Bool, true, false, List, Option, Some, None, is_some, refl, sym, ap, subst, ◌∙◌, not, nat_eq, ◌⊎◌, inl, inr, ⊎_elim}
+use Rattle.std.proofs.lemmas.Bool.{false≢true}
+use Rattle.ring_names.specs.declared.message.Message.{Message}
+use Rattle.ring_names.specs.declared.message.Message.TheVariants as message
+use Rattle.ring_names.specs.declared.reason.Reason.{Reason}
+use Rattle.ring_names.specs.declared.reason.Reason.TheVariants as reason
+use Rattle.group_view.specs.Change.{marked}
+use Rattle.group_view.specs.View.{is_dead, is_alias}
+use Rattle.group_view.proofs.Rings.{nat_eq-is}
+use Rattle.ring_rules.specs.Machine.{Waiting, Up, Halted, World, row_at, member_at, link_at, view_in, newest, runs, runs_phase}
+use Rattle.ring_rules.specs.Step.{size, put_on, gain_on, publish_at, take_from, begin_from, come_to, current_is, leave_link, stop_at, end_out, with_view}
+use Rattle.ring_rules.specs.Event.{Event, Cast, Put, Take, TakeEnd, Gain, Stop, Mark, Refresh, Admit, Pick, Erase, Refuse, is_stopped, id_of, of_member, on_link, put_refusal, take_refusal, end_refusal, gain_refusal, version_refusal, refresh_refusal, at_door, mark_refusal, erase_refusal, not_retired, erased_view, admit_refusal, refreshed, by_of, is_for_up, phase_refusal, further_refusal, doing_refusal, refused_at, refusal, at_found, taken_by, done_at, effect}
+use Rattle.ring_rules.proofs.events.WhatRefuses.{MayTake, MayBegin, MayLook, MayMark, MayErase}
+use Rattle.ring_rules.proofs.events.Refusals.{none_of, refuse_none, none_there, id_within, not_less, not_false, up_or_waits}
+use Rattle.ring_rules.proofs.events.Enabled.{up_none, take_some, take_version, end_empty, mark_lives, mark_stops, refresh_later, refresh_upto}
+use Rattle.ring_rules.proofs.invariants.FromLeft.{IsGood, version_some}
+
+-- a member that is up
+pub record IsUp (w : World) (x : ℕ) : Type 0 where
+  pub some : 1 ≤ x
+  pub lt : x < size w
+  pub up : (member_at w x).phase ≡ Up
+
+-- one that runs
+pub record IsRunning (w : World) (x : ℕ) : Type 0 where
+  pub some : 1 ≤ x
+  pub lt : x < size w
+  pub runs_on : runs w x ≡ true
+
+pub up_runs : (w : World) (x : ℕ) → IsUp w x → IsRunning w x
+up_runs w x u = record { some = u.some; lt = u.lt; runs_on = ap runs_phase u.up }
+
+-- P holds after each put that may happen
+abbrev pub EachPut : (World → Type 0) → World → Type 0
+EachPut P w = (x o : ℕ) → IsUp w x → (member_at w x).out ≡ Some o → put_refusal w x o ≡ None → P (put_on w x o)
+
+-- after each take of an end
+abbrev pub EachLeave : (World → Type 0) → World → Type 0
+EachLeave P w = (y s : ℕ) → IsUp w y → (member_at w y).current ≡ Some s → end_refusal w s ≡ None → P (leave_link w y s)
+
+-- after each gain
+abbrev pub EachGain : (World → Type 0) → World → Type 0
+EachGain P w = (x o : ℕ) → IsUp w x → (member_at w x).out ≡ Some o → gain_refusal w o ≡ None → P (gain_on w o)
+
+-- after each pick
+abbrev pub EachPick : (World → Type 0) → World → Type 0
+EachPick P w = (y s : ℕ) → IsUp w y → (member_at w y).current ≡ None → at_door w y ≡ Some s → (link_at w s).opened ≤ (member_at w y).version → P (current_is w y (Some s))
+
+-- each event by itself, under its conditions; who waits takes its first packet, or stops
+pub record Cases (P : World → Type 0) (w : World) : Type 0 where
+  pub casts : (x : ℕ) (m : Message) → IsUp w x → P (publish_at w x m)
+  pub puts : EachPut P w
+  pub takes : (y s : ℕ) → IsUp w y → MayTake w y s → P (take_from w y s)
+  pub begins : (y s : ℕ) → IsRunning w y → MayBegin w y s → P (begin_from w y s)
+  pub leaves : EachLeave P w
+  pub gains : EachGain P w
+  pub stops : (x : ℕ) → IsRunning w x → P (end_out Halted (stop_at w x) (member_at w x).out)
+  pub marks : (x d : ℕ) → IsUp w x → MayMark w x d → P (refreshed (with_view w (marked (view_in w (newest w)) d)) x (newest w + 1))
+  pub erases : (x d : ℕ) → IsUp w x → MayErase w x d → P (refreshed (with_view w (erased_view w d)) x (newest w + 1))
+  pub admits : (x : ℕ) (name : List ℕ) → IsUp w x → admit_refusal w name ≡ None → P (refreshed (come_to w x name) x (newest w + 1))
+  pub refreshes : (x v : ℕ) → IsUp w x → MayLook w x v → P (refreshed w x v)
+  pub picks : EachPick P w
+  pub refuses : P w
+
+-- ---- conditions
+
+-- who acts is up, or waits and does what such a member may; and the further conditions hold
+pub acts : (w : World) (for_up : Bool) (x : ℕ) (later : Option Reason) → phase_refusal for_up w x later ≡ None → (((member_at w x).phase ≡ Up) ⊎ (((member_at w x).phase ≡ Waiting) × (for_up ≡ false))) × (later ≡ None)
+acts w true x later h = let u = up_none w x later h in (inl u.0, u.1)
+acts w false x later h =
+    let a = none_of (is_stopped (member_at w x).phase) reason.Stopped later h in
+    (⊎_elim (λ (up : (member_at w x).phase ≡ Up). inl up) (λ (waits : (member_at w x).phase ≡ Waiting). inr (waits, refl)) (up_or_waits (member_at w x).phase a.0), a.1)
+
+-- a packet that may be taken
+pub may_take : (w : World) (y s : ℕ) → y < size w → (member_at w y).phase ≡ Up → (member_at w y).current ≡ Some s → take_refusal w y s ≡ None → MayTake w y s
+may_take w y s lt up current h = record { is_member = lt; up = up; current = current; has = take_some w y s h; version = take_version w y s h }
+
+-- and one that may be taken first
+pub may_begin : (w : World) (y s : ℕ) → IsGood w → y < size w → (member_at w y).phase ≡ Waiting → (member_at w y).current ≡ Some s → take_refusal w y s ≡ None → MayBegin w y s
+may_begin w y s g lt waits current h = record { is_member = lt; waits = waits; current = current; has = take_some w y s h; version = take_version w y s h; late = version_some w y g (ap runs_phase waits) }
+
+-- who waits has its first packet before it, so no end
+pub no_end : (w : World) (y s : ℕ) → IsGood w → (member_at w y).phase ≡ Waiting → (member_at w y).current ≡ Some s → end_refusal w s ≡ None → ⊥
+no_end w y s g waits current h = false≢true (sym (g.inv.waiting.first y s waits current) ∙ end_empty w s h)
+
+-- a member that may be marked
+pub may_mark : (w : World) (x d : ℕ) → x < size w → (member_at w x).phase ≡ Up → mark_refusal w x d ≡ None → MayMark w x d
+may_mark w x d lt up h = record { is_member = lt; up = up; rests = mark_stops w x d h; lives = mark_lives w x d h }
+
+-- and a dead one that may be erased
+pub may_erase : (w : World) (x d : ℕ) → x < size w → (member_at w x).phase ≡ Up → erase_refusal w x d ≡ None → MayErase w x d
+may_erase w x d lt up h =
+    let a = none_of (not (is_dead (view_in w (newest w)).entries d)) reason.NotDead _ h in
+    let b = none_of (not (is_alias (view_in w (member_at w x).version).entries x d)) reason.NotOwner _ a.1 in
+    let c = refuse_none (not (nat_eq (row_at (member_at w x) d).got (row_at (member_at w x) d).retired)) (not_retired w x d) b.1 in
+    record { is_member = lt; up = up; dead = not_false _ a.0; owned = not_false _ b.0; come_round = nat_eq-is _ _ (not_false _ c) }
+
+-- a view that may be read
+pub may_look : (w : World) (x v : ℕ) → x < size w → (member_at w x).phase ≡ Up → refresh_refusal w x v ≡ None → MayLook w x v
+may_look w x v lt up h = record { is_member = lt; up = up; later = refresh_later w x v h; upto = refresh_upto w x v h }
+
+-- what is done at a link, where it is there
+pub at_link : (P : World → Type 0) (w : World) (missing : Reason) (later : ℕ → Option Reason) (f : ℕ → World) (o : Option ℕ) → on_link o missing later ≡ None
+    → ((s : ℕ) → o ≡ Some s → later s ≡ None → P (f s)) → P (at_found o w f)
+at_link P w missing later f None h k = cc
+at_link P w missing later f (Some s) h k = k s refl h
+
+-- and at the member of a name
+pub at_named : (P : World → Type 0) (w : World) (name : List ℕ) (later : ℕ → Option Reason) (f : ℕ → World) → of_member (id_of w name) later ≡ None
+    → ((x : ℕ) → 1 ≤ x → x < size w → later x ≡ None → P (f x)) → P (at_found (id_of w name) w f)
+at_named P w name later f h k = by_id (id_of w name) refl h
+  where
+    by_id : (o : Option ℕ) → id_of w name ≡ o → of_member o later ≡ None → P (at_found o w f)
+    by_id None e r = cc
+    by_id (Some x) e r = let i = id_within w name x e in k x i.0 i.1 r
+
+-- ---- events
+
+-- of a member that is up
+each_up : (P : World → Type 0) (w : World) (e : Event) (x : ℕ) → Cases P w → IsUp w x → further_refusal w e x ≡ None → P (done_at w e x)
+each_up P w (Cast by body) x c u h = c.casts x (message.Cast body) u
+each_up P w (Put by) x c u h = at_link P w reason.NoOutLink (put_refusal w x) (put_on w x) (member_at w x).out h (λ o out k. c.puts x o u out k)
+each_up P w (Take by) x c u h = at_link P w reason.NoCurrentLink (take_refusal w x) (taken_by (member_at w x).phase w x) (member_at w x).current h
+    (λ s current k. subst (λ f. P (taken_by f w x s)) (sym u.up) (c.takes x s u (may_take w x s u.lt u.up current k)))
+each_up P w (TakeEnd by) x c u h = at_link P w reason.NoCurrentLink (end_refusal w) (leave_link w x) (member_at w x).current h (λ s current k. c.leaves x s u current k)
+each_up P w (Gain by) x c u h = at_link P w reason.NoOutLink (gain_refusal w) (gain_on w) (member_at w x).out h (λ o out k. c.gains x o u out k)
+each_up P w (Stop by) x c u h = c.stops x (up_runs w x u)
+each_up P w (Mark by dead) x c u h = at_named P w dead (mark_refusal w x) (λ d. refreshed (with_view w (marked (view_in w (newest w)) d)) x (newest w + 1)) h
+    (λ d some lt k. c.marks x d u (may_mark w x d u.lt u.up k))
+each_up P w (Refresh by version) x c u h = c.refreshes x version u (may_look w x version u.lt u.up h)
+each_up P w (Pick by) x c u h =
+    let a = none_of (is_some (member_at w x).current) reason.HasCurrentLink _ h in
+    at_link P w reason.NoLinkAtDoor (λ s. version_refusal (link_at w s).opened (member_at w x).version) (λ s. current_is w x (Some s)) (at_door w x) a.1
+    (λ s e k. c.picks x s u (none_there (member_at w x).current a.0) e (not_less (member_at w x).version (link_at w s).opened _ k))
+each_up P w (Erase by origin) x c u h = at_named P w origin (erase_refusal w x) (λ d. refreshed (with_view w (erased_view w d)) x (newest w + 1)) h
+    (λ d some lt k. c.erases x d u (may_erase w x d u.lt u.up k))
+each_up P w (Refuse code inner) x c u h = c.refuses
+each_up P w (Admit by name) x c u h = c.admits x name u h
+
+-- of one that waits
+each_waiting : (P : World → Type 0) (w : World) (e : Event) (x : ℕ) → IsGood w → Cases P w → IsRunning w x → (member_at w x).phase ≡ Waiting → is_for_up e ≡ false → further_refusal w e x ≡ None → P (done_at w e x)
+each_waiting P w (Take by) x g c r waits f h = at_link P w reason.NoCurrentLink (take_refusal w x) (taken_by (member_at w x).phase w x) (member_at w x).current h
+    (λ s current k. subst (λ f. P (taken_by f w x s)) (sym waits) (c.begins x s r (may_begin w x s g r.lt waits current k)))
+each_waiting P w (TakeEnd by) x g c r waits f h = at_link P w reason.NoCurrentLink (end_refusal w) (leave_link w x) (member_at w x).current h (λ s current k. absurd (no_end w x s g waits current k))
+each_waiting P w (Stop by) x g c r waits f h = c.stops x r
+each_waiting P w e x g c r waits f h = absurd (false≢true (sym f))
+
+-- of whoever acts
+each_done : (P : World → Type 0) (w : World) (e : Event) (x : ℕ) → IsGood w → Cases P w → 1 ≤ x → x < size w → doing_refusal w e x ≡ None → P (done_at w e x)
+each_done P w e x g c some lt h =
+    let a = acts w (is_for_up e) x (further_refusal w e x) h in
+    ⊎_elim
+    (λ (up : (member_at w x).phase ≡ Up). each_up P w e x c (record { some = some; lt = lt; up = up }) a.1)
+    (λ (k : ((member_at w x).phase ≡ Waiting) × (is_for_up e ≡ false)). each_waiting P w e x g c (record { some = some; lt = lt; runs_on = ap runs_phase k.0 }) k.0 k.1 a.1) a.0
+
+each_at : (P : World → Type 0) (w : World) (e : Event) (x : ℕ) → IsGood w → Cases P w → 1 ≤ x → x < size w → refused_at w e x ≡ None → P (done_at w e x)
+each_at P w (Refuse code inner) x g c some lt h = c.refuses
+each_at P w e x g c some lt h = each_done P w e x g c some lt h
+
+-- what each event does under its conditions is what an event does that may happen
+pub each_event : (P : World → Type 0) (w : World) (e : Event) → IsGood w → Cases P w → refusal w e ≡ None → P (effect w e)
+each_event P w e g c r = at_named P w (by_of e) (refused_at w e) (done_at w e) r (λ x some lt k. each_at P w e x g c some lt k)

@@ -1,0 +1,74 @@
+-- Settling ends: of events of repair no more follow each other than the one number says, and where none is left the ring is quiet.
+use Rattle.std.proofs.Common.{◌≡◌, ℕ, zero, suc, ◌+◌, ◌<◌, ◌≤◌, true, List, [], ◌∷◌, ◌++◌, length, None, refl, ap, subst, ◌∙◌, ◌⊎◌, inl, inr, arith}
+use Rattle.ring_names.specs.declared.numbers.CreditSpec.{CreditSpec}
+use Rattle.group_view.specs.Change.{AreOpeningNames}
+use Rattle.ring_rules.specs.declared.event.Event.{Event}
+use Rattle.ring_rules.specs.Machine.{World}
+use Rattle.ring_rules.specs.Step.{opening}
+use Rattle.ring_rules.specs.Event.{refusal, effect, IsRun, last}
+use Rattle.ring_rules.specs.Idle.{IsIdle}
+use Rattle.ring_rules.specs.Quiet.{IsQuiet}
+use Rattle.ring_rules.proofs.runs.InOrder.{last_append, run_append}
+use Rattle.ring_rules.proofs.rests.Rests.{run_idle_is_quiet}
+use Rattle.ring_rules.specs.Work.{total}
+use Rattle.ring_rules.specs.Settling.{is_repair, AreRepairs, NothingLeft, Settles}
+use Rattle.ring_rules.proofs.work.Fit.{IsFit, reached_fit}
+use Rattle.ring_rules.proofs.work.Settling.{repair_lowers, none_left_is_idle, idle_or_not}
+
+module _ (credit : CreditSpec) (names : List (List ℕ)) (are : AreOpeningNames names) where
+  -- a state that a ring reaches
+  pub record IsReached (w : World) : Type 0 where
+    pub events : List Event
+    pub run : IsRun (opening credit names) events
+    pub is : last (opening credit names) events ≡ w
+
+  reached_is_fit : (w : World) → IsReached w → IsFit w
+  reached_is_fit w h = subst IsFit h.is (reached_fit credit names h.events are h.run)
+
+  reached_quiet : (w : World) → IsReached w → IsIdle w → IsQuiet w
+  reached_quiet w h = subst (λ u. IsIdle u → IsQuiet u) h.is (run_idle_is_quiet credit names h.events are h.run)
+
+  reached_next : (w : World) (e : Event) → IsReached w → refusal w e ≡ None → IsReached (effect w e)
+  reached_next w e h r = record {
+    events = h.events ++ e ∷ [];
+    run = run_append (opening credit names) h.events (e ∷ []) h.run (ap (λ u. refusal u e) h.is ∙ r, tt);
+    is = last_append (opening credit names) h.events (e ∷ []) ∙ ap (λ u. effect u e) h.is;
+  }
+
+  -- so it is after events of repair
+  pub reached_later : (w : World) (es : List Event) → IsReached w → AreRepairs w es → IsReached (last w es)
+  reached_later w [] h k = h
+  reached_later w (e ∷ es) h k = reached_later (effect w e) es (reached_next w e h k.1.0) k.1.1
+
+  -- each lowers the one number
+  pub repairs_lower : (w : World) (es : List Event) → IsReached w → AreRepairs w es → total (last w es) + length es ≤ total w
+  repairs_lower w [] h k = omega arith
+  repairs_lower w (e ∷ es) h k = one (total (last (effect w e) es)) (total (effect w e)) (total w) (length es)
+      (repairs_lower (effect w e) es (reached_next w e h k.1.0) k.1.1)
+      (repair_lowers w e (reached_is_fit w h) k.0 k.1.0).less
+    where
+      one : (a b c n : ℕ) → a + n ≤ b → b < c → a + suc n ≤ c
+      one a b c n h k = omega arith
+
+  -- where nothing is left afterwards, the ring is quiet
+  pub settled_quiet : (w : World) (es : List Event) → IsReached w → AreRepairs w es → NothingLeft (last w es) → IsQuiet (last w es)
+  settled_quiet w es h k none =
+      let later : IsReached (last w es) = reached_later w es h k in
+      reached_quiet (last w es) later (none_left_is_idle (last w es) (reached_is_fit (last w es) later) none)
+
+  -- and it comes to that
+  settles_within : (n : ℕ) (w : World) → total w < n → IsReached w → Settles w
+  settles_within zero w l h = absurd (omega arith)
+  settles_within (suc n) w l h = by_more (idle_or_not w (reached_is_fit w h)) (λ e is r. settles_within n (effect w e) (let less : total (effect w e) < total w = (repair_lowers w e (reached_is_fit w h) is r).less in omega (arith, less)) (reached_next w e h r))
+    where
+      by_more : IsIdle w ⊎ ((e : Event) × ((is_repair w e ≡ true) × (refusal w e ≡ None))) → ((e : Event) → is_repair w e ≡ true → refusal w e ≡ None → Settles (effect w e)) → Settles w
+      by_more (inl idle) more = record { steps = []; repairs = tt; quiet = reached_quiet w h idle }
+      by_more (inr q) more =
+          let s : Settles (effect w q.0) = more q.0 q.1.0 q.1.1 in
+          record { steps = q.0 ∷ s.steps; repairs = (q.1.0, (q.1.1, s.repairs)); quiet = s.quiet }
+
+  pub ring_settles : (w : World) → IsReached w → Settles w
+  ring_settles w h = settles_within (total w + 1) w (omega arith) h
+
+  pub here : (events : List Event) → IsRun (opening credit names) events → IsReached (last (opening credit names) events)
+  here events r = record { events = events; run = r; is = refl }

@@ -1,0 +1,70 @@
+//! The laws of the ring, over all runs.
+ghost use Rattle.std.specs.Prelude.{ℕ, List, length, ◌≤◌};
+ghost use Rattle.ring_names.specs.declared.numbers.CreditSpec.{CreditSpec};
+ghost use Rattle.group_view.specs.Change.{AreOpeningNames};
+ghost use Rattle.ring_rules.specs.declared.event.Event.{Event};
+ghost use Rattle.ring_rules.specs.Step.{opening};
+ghost use Rattle.ring_rules.specs.Event.{IsRun, last};
+ghost use Rattle.ring_rules.specs.Laws.{IsLawful, GoesOn, IdleIsQuiet};
+ghost use Rattle.ring_rules.specs.Quiet.{IsQuiet};
+ghost use Rattle.ring_rules.specs.Settling.{EachRepairLeavesLess, AreRepairs, NothingLeft, Settles};
+ghost use Rattle.ring_rules.specs.Work.{total};
+
+/// However members join and stop, are marked dead and erased, refresh late and pick up links, every state that the
+/// ring reaches is lawful. Going twice round the ring from the owner of an origin, past the packets on the links
+/// between the members, the numbers for that origin never rise; so no take of a member that is up leaves a gap, but
+/// for origins that the member answers for against the sender; each member has heard of each publisher just its
+/// messages in their order, each once, from a number on that isn't later than its own admission; what has come round
+/// to a publisher, running or stopped, is at every member that is up; and of an erased origin nobody says anything
+/// different.
+pub fn every_state_is_lawful()
+    ensures { (credit : CreditSpec) (names : List (List ℕ)) (events : List Event)
+        → AreOpeningNames names → IsRun (opening credit names) events
+        → IsLawful credit.initial (last (opening credit names) events) }
+{}
+
+/// From a state to each later one, through deaths, admissions and repair, logs only grow, no number falls, and what a
+/// member hears meanwhile is what follows in the publisher's log: nothing that was received is taken back or received
+/// again. What is erased stays so, and a master leads until it is erased.
+pub fn nothing_falls_through_deaths()
+    ensures { (credit : CreditSpec) (names : List (List ℕ)) (earlier later : List Event)
+        → AreOpeningNames names → IsRun (opening credit names) earlier
+        → IsRun (last (opening credit names) earlier) later
+        → GoesOn (last (opening credit names) earlier) (last (last (opening credit names) earlier) later) }
+{}
+
+/// Where no running member has anything to do, as an event of its own, the ring is quiet: nobody waits, all that was
+/// published has come round, and no entry is dead. So what isn't at rest goes on by itself.
+pub fn an_idle_ring_is_quiet()
+    ensures { (credit : CreditSpec) (names : List (List ℕ)) (events : List Event)
+        → AreOpeningNames names → IsRun (opening credit names) events
+        → IdleIsQuiet (last (opening credit names) events) }
+{}
+
+/// The steps by which members go on and gm repairs the ring after deaths and admissions: a put, a take, the first
+/// take of a member that waits, the take of a link's end, a gain, a pick, the refresh of a stale member to the newest
+/// view, a mark, and an erasure. In every state that a ring reaches, each of them that is enabled leaves the ring with
+/// less to do, as `work` counts it in a list of numbers, and `total` in one.
+pub fn each_step_of_repair_leaves_less_to_do()
+    ensures { (credit : CreditSpec) (names : List (List ℕ)) (events : List Event)
+        → AreOpeningNames names → IsRun (opening credit names) events
+        → EachRepairLeavesLess (last (opening credit names) events) }
+{}
+
+/// However a ring is left, with deaths unmarked, members that wait and messages on their way: of events of repair no
+/// more can follow each other than `total` says; where none is left after some of them, the ring is quiet; and it
+/// comes to that.
+pub fn every_ring_settles()
+    ensures ends { (credit : CreditSpec) (names : List (List ℕ)) (events steps : List Event)
+        → AreOpeningNames names → IsRun (opening credit names) events
+        → AreRepairs (last (opening credit names) events) steps
+        → length steps ≤ total (last (opening credit names) events) }
+    ensures quiet { (credit : CreditSpec) (names : List (List ℕ)) (events steps : List Event)
+        → AreOpeningNames names → IsRun (opening credit names) events
+        → AreRepairs (last (opening credit names) events) steps
+        → NothingLeft (last (last (opening credit names) events) steps)
+        → IsQuiet (last (last (opening credit names) events) steps) }
+    ensures settles { (credit : CreditSpec) (names : List (List ℕ)) (events : List Event)
+        → AreOpeningNames names → IsRun (opening credit names) events
+        → Settles (last (opening credit names) events) }
+{}

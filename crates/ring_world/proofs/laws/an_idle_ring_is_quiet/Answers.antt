@@ -1,5 +1,0 @@
-use Rattle.ring_world.proofs.rests.Rests.{run_idle_is_quiet}
-use Rattle.ring_world.proofs.laws.an_idle_ring_is_quiet.Goals as goal
-
-pub returns : goal.returns
-returns c = λ credit names events are run idle. run_idle_is_quiet credit names events are run idle

@@ -1,8 +1,0 @@
-use Rattle.ring_world.specs.Step.{opening}
-use Rattle.ring_world.specs.Event.{last}
-use Rattle.ring_world.proofs.work.Fit.{reached_fit}
-use Rattle.ring_world.proofs.work.Settling.{repair_less}
-use Rattle.ring_world.proofs.laws.each_step_of_repair_leaves_less_to_do.Goals as goal
-
-pub returns : goal.returns
-returns c = λ credit names events are run. repair_less (last (opening credit names) events) (reached_fit credit names events are run)

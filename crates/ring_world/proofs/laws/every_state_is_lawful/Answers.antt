@@ -1,5 +1,0 @@
-use Rattle.ring_world.proofs.runs.AllRuns.{every_state_lawful}
-use Rattle.ring_world.proofs.laws.every_state_is_lawful.Goals as goal
-
-pub returns : goal.returns
-returns c = λ credit names events are run. every_state_lawful credit names events are run
