@@ -1,7 +1,4 @@
-pub mod events
 pub mod lists
-pub mod meetings
 pub mod post
 pub mod rounds
-pub mod standing
 pub mod work

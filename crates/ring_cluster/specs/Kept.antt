@@ -1,7 +1,7 @@
 -- What a cluster shows and keeps.
 use Rattle.ring_cluster.specs.declared.cluster.Cluster.TheInside.{Inside}
 use Rattle.ring_cluster.specs.Seen.{Seen}
-use Rattle.ring_cluster.specs.Standing.{StandAfter}
+use Rattle.ring_parties.specs.Standing.{StandAfter}
 
 -- what is seen of a cluster: it owes what its parties owe, and shows what they show
 abbrev pub seen_of : Inside → Seen

@@ -20,7 +20,8 @@ use Rattle.ring_cluster.specs.declared.agenda.Task.{Task}
 use Rattle.ring_cluster.specs.declared.agenda.Task.TheVariants as task
 use Rattle.ring_cluster.specs.Agendas.{Plan, tasks_in, with_tasks, with_task}
 use Rattle.ring_cluster.specs.Handed.{handing, handed}
-use Rattle.ring_cluster.specs.Seen.{Seen, state, state_of, IsMemberIn}
+use Rattle.ring_cluster.specs.Seen.{Seen, state_of, IsMemberIn}
+use Rattle.ring_parties.specs.States.{state}
 
 -- ---- what clients asked for
 

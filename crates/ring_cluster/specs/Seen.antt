@@ -6,18 +6,11 @@ use Rattle.group_view.specs.Change.{AreOpeningNames}
 use Rattle.ring_rules.specs.declared.event.Event.{Event}
 use Rattle.ring_rules.specs.Machine.{World, member_at}
 use Rattle.ring_rules.specs.Step.{size, opening}
-use Rattle.ring_rules.specs.Event.{IsRun, last, by_of}
+use Rattle.ring_rules.specs.Event.{IsRun}
 use Rattle.ring_cluster.specs.Agendas.{Plan}
-use Rattle.ring_cluster.specs.Parties.{Parties}
-use Rattle.ring_cluster.specs.Opened.{opened_parties}
-
--- the state of the ring after these events from its opening
-abbrev pub state : CreditSpec → List (List ℕ) → List Event → World
-state credit names events = last (opening credit names) events
-
--- it is an event of the member at this place of a state, of the opening or joined
-abbrev pub IsEventIn : World → ℕ → Event → Type 0
-IsEventIn w i e = (i + 1 < size w) × (by_of e ≡ (member_at w (i + 1)).name)
+use Rattle.ring_parties.specs.Parties.{Parties}
+use Rattle.ring_parties.specs.Opened.{opened_parties}
+use Rattle.ring_parties.specs.States.{state}
 
 -- the member at this place of a state has this name
 abbrev pub IsMemberIn : World → ℕ → List ℕ → Type 0

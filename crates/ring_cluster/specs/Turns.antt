@@ -3,27 +3,19 @@ use Rattle.std.specs.Prelude.{◌≡◌, ◌≢◌, ℕ, ◌+◌, ◌<◌, ◌�
 use Rattle.std.specs.List.{All, filter}
 use Rattle.ring_names.specs.declared.memory.OutOfMemory.{OutOfMemory}
 use Rattle.ring_rules.specs.declared.event.Event.{Event}
-use Rattle.ring_rules.specs.declared.event.Event.TheVariants.{Put, Take, TakeEnd, Gain, Mark, Refresh, Pick, Erase}
+use Rattle.ring_rules.specs.declared.event.Event.TheVariants.{Mark, Refresh, Erase}
 use Rattle.ring_rules.specs.declared.phase.Phase.TheVariants.{Waiting, Up}
 use Rattle.ring_rules.specs.Machine.{World, member_at, newest, right, runs}
 use Rattle.ring_rules.specs.Step.{size}
 use Rattle.ring_rules.specs.Event.{by_of, erase_refusal, refusal}
-use Rattle.ring_cluster.specs.declared.driver.OwnStep.{OwnStep}
-use Rattle.ring_cluster.specs.declared.driver.OwnStep.TheVariants as step
+use Rattle.ring_parties.specs.declared.own_step.OwnStep.{OwnStep}
 use Rattle.ring_cluster.specs.declared.driver.OwnTurn.{OwnTurn}
 use Rattle.ring_cluster.specs.declared.driver.OwnTurn.TheVariants as turn
 use Rattle.ring_cluster.specs.Seen.{Seen, state_of, IsMemberIn, SameButOwed}
 use Rattle.ring_rules.specs.Work.{is_stale, total}
 use Rattle.ring_cluster.specs.Plays.{HasGoneOn, SameGiven, IsDue}
 use Rattle.ring_cluster.specs.Backlog.{backlog_of}
-
--- the event of a step on its links, by the member of this name
-abbrev pub step_event : OwnStep → List ℕ → Event
-step_event step.Pick by = Pick by
-step_event step.Take by = Take by
-step_event step.TakeEnd by = TakeEnd by
-step_event step.Gain by = Gain by
-step_event step.Put by = Put by
+use Rattle.ring_parties.specs.OwnSteps.{step_event}
 
 -- the member at place i has this name
 abbrev pub IsMemberAt : Seen → ℕ → List ℕ → Type 0

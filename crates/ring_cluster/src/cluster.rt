@@ -3,15 +3,13 @@ ghost use Rattle.std.specs.Prelude.{◌≡◌, ℕ, ◌<◌, ◌∷◌, ◌++◌
 ghost use Rattle.ring_cluster.specs.Plays.{IsOfMember, IsTaskOf};
 
 use crate::agenda::{Agendas, Task};
-use crate::driver::{OwnStep, drain, round};
-use crate::node::Node;
+use crate::driver::{drain, round};
 use crate::numbering::Rounds;
-use crate::opening::copied;
-use crate::parties::Parties;
 use crate::published::casts_of;
 use group_view::View;
 use ring_io::Gate;
 use ring_names::{Body, CreditSpec, MemberId, Name, OutOfMemory, Reason};
+use ring_parties::{Node, OwnStep, Parties};
 use ring_rules::{Client, Event, Phase, Refused};
 use ring_script::Command;
 use std::alloc::Global;
@@ -70,9 +68,10 @@ impl Cluster {
     ghost use Rattle.gm_member.specs.Shown.{held_of};
     ghost use Rattle.ring_rules.specs.Idle.{NobodySteps, MarksNobody, ErasesNobody};
     ghost use Rattle.ring_cluster.specs.Holds.{HoldsOf};
-    ghost use Rattle.ring_cluster.specs.Parties.{shown_of, node_at};
+    ghost use Rattle.ring_parties.specs.Parties.{shown_of, node_at};
     ghost use Rattle.ring_cluster.specs.Published.{logs_in, logs_of};
-    ghost use Rattle.ring_cluster.specs.Seen.{Seen, IsGoing, IsEventIn, SameButOwed, MayHandOver, state_of};
+    ghost use Rattle.ring_cluster.specs.Seen.{Seen, IsGoing, SameButOwed, MayHandOver, state_of};
+    ghost use Rattle.ring_parties.specs.States.{IsEventIn};
     ghost use Rattle.ring_cluster.specs.Seen.{IsStepped, opening_seen, with_event, owing};
     ghost use Rattle.ring_cluster.specs.declared.agenda.Task.{Task};
     ghost use Rattle.ring_cluster.specs.Plays.{PlaysSoFar, Plays, IsOfMember, commanded, takes_up as is_taken_up};
@@ -103,7 +102,7 @@ impl Cluster {
         ensures { IfOk result (λ c. c ≡ opening_seen credit members.now) }
     {
         let parties = Parties::opening(alloc, members, credit)?;
-        let names = copied(alloc, members)?;
+        let names = copied_names(alloc, members)?;
         Ok(Cluster {
             alloc,
             credit,
@@ -730,6 +729,20 @@ impl Cluster {
     }
 }
 
+/// Names of one's own.
+fn copied_names(alloc: Global, names: &[Name]) -> Result<Vec<Name>, OutOfMemory>
+    ensures { IfOk result (λ v. v.items ≡ names.now) }
+{
+    let mut all = Vec::new(alloc);
+    for name in names {
+        if all.push(*name).is_err() {
+            return Err(OutOfMemory);
+        }
+    }
+    Ok(all)
+}
+
+/// Events of one's own.
 fn copied_events(alloc: Global, events: &[Event]) -> Result<Vec<Event>, OutOfMemory>
     ensures { IfOk result (λ v. v.items ≡ events.now) }
 {

@@ -10,7 +10,7 @@ ghost use Rattle.ring_rules.specs.Idle.{NobodySteps, MarksNobody, ErasesNobody};
 ghost use Rattle.ring_rules.specs.Work.{total, is_stale as the_staleness, LeavesLess};
 ghost use Rattle.ring_cluster.specs.Seen.{Seen, state_of, IsGoing, SameButOwed};
 ghost use Rattle.ring_cluster.specs.Plays.{agenda_of, HasBegun, AgendasAreEmpty};
-ghost use Rattle.ring_cluster.specs.Turns.{step_event, Works, DoesOrRests, TakesRound, IsMemberAt};
+ghost use Rattle.ring_cluster.specs.Turns.{Works, DoesOrRests, TakesRound, IsMemberAt};
 ghost use Rattle.ring_cluster.specs.Turns.{MayStep, MayStepNowhere, MarksNoneAt, ErasesNoneAt, RestsAt, DoesAtMost};
 ghost use Rattle.ring_cluster.specs.Turns.{EachDoesAtMost, HasTurn, turn_event, RepairsNothing};
 ghost use Rattle.ring_cluster.specs.Turns.{FinishesOrRests, NothingIsDue};
@@ -19,37 +19,8 @@ use crate::cluster::Cluster;
 use group_view::{Entry, Mark};
 use ring_io::Gate;
 use ring_names::{MemberId, Name, OutOfMemory};
+use ring_parties::OwnStep;
 use ring_rules::{Event, Phase, Refused};
-
-/// A step of a member on its links.
-#[derive(Clone, Copy, PartialEq, Eq, Debug)]
-pub(crate) enum OwnStep {
-    /// It takes from the first link at its door.
-    Pick,
-    /// It takes a packet.
-    Take,
-    /// It takes the end of a link.
-    TakeEnd,
-    /// It gains credit.
-    Gain,
-    /// It puts a packet.
-    Put,
-}
-
-impl OwnStep {
-    /// The event by which this member does it.
-    fn event(self, by: Name) -> Event
-        ensures { result ≡ step_event self by }
-    {
-        match self {
-            OwnStep::Pick => Event::Pick { by },
-            OwnStep::Take => Event::Take { by },
-            OwnStep::TakeEnd => Event::TakeEnd { by },
-            OwnStep::Gain => Event::Gain { by },
-            OwnStep::Put => Event::Put { by },
-        }
-    }
-}
 
 /// What a member has to do by itself.
 #[derive(Clone, Copy, PartialEq, Eq, Debug)]

@@ -4,26 +4,14 @@
 //! Begin at `Cluster`, and at specs/Seen.antt for what is seen of one.
 #![tactic(auto)]
 
-mod acting;
-mod admitting;
 mod agenda;
 mod cluster;
-mod collecting;
 mod driver;
 mod laws;
-mod looking;
-mod meeting;
-mod node;
 mod numbering;
-mod opening;
-mod parties;
-mod party;
 mod published;
-mod refusing;
-mod stepping;
-mod undelivered;
 
 pub use agenda::Task;
 pub use cluster::Cluster;
 pub use laws::{a_quiet_ring_has_heard_all, an_idle_ring_is_at_rest};
-pub use node::Node;
+pub use ring_parties::Node;

@@ -20,8 +20,9 @@ ghost use Rattle.ringplay.specs.Report.{counts_lines, heard_line, heard_from, he
 
 use crate::refusals::{push_refusals, refusals_in};
 use group_view::{Entry, Mark, View};
-use ring_cluster::{Cluster, Node};
+use ring_cluster::Cluster;
 use ring_names::{Body, MemberId, OutOfMemory};
+use ring_parties::Node;
 use ring_rules::{Counts, Event, Phase};
 use std::alloc::Global;
 

@@ -9,7 +9,7 @@ use Rattle.ring_rules.proofs.rings.Maps.{position_map}
 use Rattle.ring_rules.proofs.events.Names.{same_bytes, own_bytes}
 use Rattle.ring_cluster.specs.declared.agenda.Task.{Task}
 use Rattle.ring_cluster.specs.Agendas.{Plan, names_of, place_among, plan_at, tasks_found, tasks_in, tasks_on_all, with_found, with_tasks, with_more, with_task}
-use Rattle.ring_cluster.proofs.lists.Places.{position_before, position_behind, position_still}
+use Rattle.ring_parties.proofs.lists.Places.{position_before, position_behind, position_still}
 
 -- ---- where they stand
 

@@ -23,10 +23,11 @@ use Rattle.ring_cluster.specs.declared.agenda.Task.TheVariants as task
 use Rattle.ring_cluster.specs.Agendas.{Plan, names_of, place_among, tasks_in, with_tasks, with_task}
 use Rattle.ring_cluster.specs.Backlog.{backlog, backlog_of}
 use Rattle.ring_cluster.specs.Handed.{handing, given_to, handed}
-use Rattle.ring_cluster.specs.Seen.{Seen, state, state_of, IsGoing, SameButOwed, showing, with_event}
+use Rattle.ring_cluster.specs.Seen.{Seen, state_of, IsGoing, SameButOwed, showing, with_event}
+use Rattle.ring_parties.specs.States.{state}
 use Rattle.ring_cluster.specs.Plays.{IsOfMember, tasked, commanded, asked_event, asked, asked_by, Serves, Plays, PlaysSoFar, client_event, client_events, task_event, task_client, answer_by, answer_to, todo, agenda_of, is_stop, takes_up, is_due, IsDue, with_handed, performed, GoesOn, HasGoneOn, HasBegun, HeadsAre, AgendasAreEmpty}
 use Rattle.ring_cluster.specs.Turns.{IsMemberAt}
-use Rattle.ring_cluster.proofs.lists.Lists.{flat_map-append}
+use Rattle.ring_parties.proofs.lists.Lists.{flat_map-append}
 use Rattle.ring_cluster.proofs.lists.Plans.{tasked_there, tasks_new, tasks_other, other_name, given_new, given_other}
 use Rattle.ring_cluster.proofs.rounds.Heirs.{own_hands_none, answer_differs, answered_less}
 use Rattle.ring_cluster.proofs.rounds.Members.{found_in, left_in}

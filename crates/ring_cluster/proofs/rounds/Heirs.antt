@@ -25,7 +25,7 @@ use Rattle.ring_cluster.specs.Handed.{least_running, handing, given_to, handed}
 use Rattle.ring_cluster.specs.Plays.{task_event, answer_by, answer_to, with_handed}
 use Rattle.ring_cluster.specs.Seen.{IsMemberIn}
 use Rattle.ring_cluster.specs.Backlog.{heirs_from, is_no_heir, cost, left_on, backlog}
-use Rattle.ring_cluster.proofs.lists.Places.{position_is, position_none, passes_nowhere}
+use Rattle.ring_parties.proofs.lists.Places.{position_is, position_none, passes_nowhere}
 use Rattle.ring_cluster.proofs.lists.Plans.{found_at, other_name, given_other}
 use Rattle.ring_cluster.proofs.work.Staying.{KeepsNames, ran_before}
 

@@ -19,14 +19,14 @@ use Rattle.gm_member.proofs.Fit.{IsFit, reached_fit}
 use Rattle.gm_member.proofs.Facts.{held_known, right_row, version_of_view}
 use Rattle.ring_rules.specs.Work.{is_stale}
 use Rattle.ring_cluster.specs.Holds.{HoldsOf}
-use Rattle.ring_cluster.specs.Seen.{state}
-use Rattle.ring_cluster.specs.Parties.{Shown, Parties, no_shown, node_at, names_shown}
-use Rattle.ring_cluster.specs.Standing.{StandAfter, MemberStands}
+use Rattle.ring_parties.specs.States.{state}
+use Rattle.ring_parties.specs.Parties.{Shown, Parties, no_shown, node_at, names_shown}
+use Rattle.ring_parties.specs.Standing.{StandAfter, MemberStands}
 use Rattle.ring_cluster.specs.Agendas.{place_among}
 use Rattle.ring_cluster.specs.Published.{names_in}
-use Rattle.ring_cluster.specs.Refused.{id_named}
+use Rattle.ring_parties.specs.Refused.{id_named}
 use Rattle.ring_cluster.proofs.work.Logged.{names_in_many, name_in_at}
-use Rattle.ring_cluster.proofs.lists.Truth.{made_some}
+use Rattle.ring_parties.proofs.lists.Truth.{made_some}
 
 -- what a member holds that stands at an id, but for its door
 abbrev pub IsHeld : World → ℕ → Held → Type 0

@@ -32,7 +32,8 @@ use Rattle.ring_rules.proofs.work.Fit as ring
 use Rattle.gm_member.proofs.Fit.{IsFit, reached_fit}
 use Rattle.ring_cluster.specs.declared.agenda.Task.{Task}
 use Rattle.ring_cluster.specs.declared.agenda.Task.TheVariants as task
-use Rattle.ring_cluster.specs.Seen.{Seen, state, state_of, IsGoing, IsEventIn, IsMemberIn, with_event}
+use Rattle.ring_cluster.specs.Seen.{Seen, state_of, IsGoing, IsMemberIn, with_event}
+use Rattle.ring_parties.specs.States.{state, IsEventIn}
 use Rattle.ring_cluster.specs.Agendas.{Plan, place_among}
 use Rattle.ring_cluster.specs.Backlog.{backlog}
 use Rattle.ring_cluster.specs.Handed.{least_running}

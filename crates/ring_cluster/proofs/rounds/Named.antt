@@ -13,11 +13,11 @@ use Rattle.ring_rules.proofs.work.Settling.{repair_less}
 use Rattle.gm_member.proofs.Fit.{IsFit, reached_fit}
 use Rattle.ring_cluster.specs.declared.agenda.Task.{Task}
 use Rattle.ring_cluster.specs.declared.agenda.Task.TheVariants as task
-use Rattle.ring_cluster.specs.declared.driver.OwnStep.{OwnStep}
-use Rattle.ring_cluster.specs.declared.driver.OwnStep.TheVariants as step
+use Rattle.ring_parties.specs.declared.own_step.OwnStep.{OwnStep}
+use Rattle.ring_parties.specs.declared.own_step.OwnStep.TheVariants as step
 use Rattle.ring_cluster.specs.Seen.{Seen, state_of, IsGoing}
 use Rattle.ring_cluster.specs.Plays.{task_event, task_client, answer_by}
-use Rattle.ring_cluster.specs.Turns.{step_event}
+use Rattle.ring_parties.specs.OwnSteps.{step_event}
 
 -- what holds of a value that is there
 pub from_some : {A : Type 0} (P : Type 0) (Q : A → Type 0) (o : Option A) (x : A) → o ≡ Some x → MatchOption o P Q → Q x

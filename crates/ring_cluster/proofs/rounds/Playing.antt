@@ -11,12 +11,13 @@ use Rattle.ring_rules.specs.Machine.{World}
 use Rattle.ring_rules.specs.Step.{opening}
 use Rattle.ring_rules.specs.Event.{last}
 use Rattle.ring_rules.proofs.runs.InOrder.{last_append}
-use Rattle.ring_cluster.specs.Parties.{Parties}
-use Rattle.ring_cluster.specs.Seen.{Seen, state, state_of, IsGoing, showing, with_event, opening_seen}
+use Rattle.ring_parties.specs.Parties.{Parties}
+use Rattle.ring_cluster.specs.Seen.{Seen, state_of, IsGoing, showing, with_event, opening_seen}
+use Rattle.ring_parties.specs.States.{state}
 use Rattle.ring_cluster.specs.Agendas.{tasks_in}
 use Rattle.ring_cluster.specs.Handed.{handing, given_to, handed}
 use Rattle.ring_cluster.specs.Plays.{client_event, client_events, asked_by, asked, task_event, todo, agenda_of, Serves, HaveServed, HasSettled, HasSettledEach, Plays, PlaysSoFar, GoesOn, HasGoneOn, AgendasAreEmpty}
-use Rattle.ring_cluster.proofs.lists.Lists.{flat_map-append, slice_get_within, slice_get_front, slice_get_last, some_injective}
+use Rattle.ring_parties.proofs.lists.Lists.{flat_map-append, slice_get_within, slice_get_front, slice_get_last, some_injective}
 use Rattle.ring_cluster.proofs.rounds.Heirs.{handed_append}
 use Rattle.ring_cluster.proofs.rounds.Members.{strangers_ask_nothing}
 use Rattle.ring_cluster.proofs.rounds.Serving.{serves_on, serves_still, serves_none, none_first, take_both}

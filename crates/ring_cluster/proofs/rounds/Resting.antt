@@ -14,14 +14,16 @@ use Rattle.ring_rules.specs.Work.{LeavesLess}
 use Rattle.ring_rules.proofs.walks.Ended.{runs_lt}
 use Rattle.ring_rules.proofs.work.Settling.{no_step, no_mark, someone}
 use Rattle.gm_member.proofs.Fit.{IsFit}
-use Rattle.ring_cluster.specs.declared.driver.OwnStep.{OwnStep}
-use Rattle.ring_cluster.specs.declared.driver.OwnStep.TheVariants as step
+use Rattle.ring_parties.specs.declared.own_step.OwnStep.{OwnStep}
+use Rattle.ring_parties.specs.declared.own_step.OwnStep.TheVariants as step
 use Rattle.ring_cluster.specs.declared.driver.OwnTurn.{OwnTurn}
 use Rattle.ring_cluster.specs.declared.driver.OwnTurn.TheVariants as turn
-use Rattle.ring_cluster.specs.Standing.{StandAfter}
-use Rattle.ring_cluster.specs.Seen.{Seen, state, state_of, IsGoing, SameButOwed}
-use Rattle.ring_cluster.specs.Turns.{step_event, turn_event, HasTurn, RestsAt}
-use Rattle.ring_cluster.specs.Refused.{IsRefusalAt}
+use Rattle.ring_parties.specs.Standing.{StandAfter}
+use Rattle.ring_cluster.specs.Seen.{Seen, state_of, IsGoing, SameButOwed}
+use Rattle.ring_parties.specs.States.{state}
+use Rattle.ring_cluster.specs.Turns.{turn_event, HasTurn, RestsAt}
+use Rattle.ring_parties.specs.OwnSteps.{step_event}
+use Rattle.ring_parties.specs.Refused.{IsRefusalAt}
 use Rattle.ring_cluster.proofs.rounds.Named.{going_fit, going_ring, step_by, step_less, mark_less, erase_less}
 use Rattle.ring_cluster.proofs.rounds.Members.{stale_less, refresh_may, erase_may, waiting_takes_in}
 use Rattle.ring_cluster.proofs.rounds.Settling.{right_there}

@@ -10,7 +10,7 @@ use Rattle.ring_rules.specs.Machine.{World}
 use Rattle.ring_rules.specs.Event.{last}
 use Rattle.ring_cluster.specs.Handed.{handed}
 use Rattle.ring_cluster.specs.Plays.{client_event, client_events, asked, marked_of, unmarked_of, Serves}
-use Rattle.ring_cluster.proofs.lists.Lists.{flat_map-append}
+use Rattle.ring_parties.proofs.lists.Lists.{flat_map-append}
 use Rattle.ring_cluster.proofs.rounds.Heirs.{handed_append}
 
 -- ---- marks

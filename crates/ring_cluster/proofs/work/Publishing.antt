@@ -11,7 +11,7 @@ use Rattle.ring_rules.specs.declared.event.Event.{Event}
 use Rattle.ring_rules.specs.declared.event.Event.TheVariants.{Cast}
 use Rattle.ring_rules.specs.Published.{published_by, published_in}
 use Rattle.ring_rules.proofs.events.Names.{same_bytes, own_bytes}
-use Rattle.ring_cluster.proofs.lists.Places.{position_there}
+use Rattle.ring_parties.proofs.lists.Places.{position_there}
 
 -- ---- lists alone
 

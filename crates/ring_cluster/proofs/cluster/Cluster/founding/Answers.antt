@@ -1,5 +1,5 @@
 use Rattle.std.proofs.Common.{sym, subst}
-use Rattle.ring_cluster.specs.Standing.{StandAfter}
+use Rattle.ring_parties.specs.Standing.{StandAfter}
 use Rattle.ring_cluster.proofs.cluster.Cluster.founding.Goals as goal
 
 pub invariant_of-result : goal.invariant_of-result

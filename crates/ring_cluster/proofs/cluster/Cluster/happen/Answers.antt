@@ -3,8 +3,9 @@ use Rattle.std.specs.Prelude.{OnErr}
 use Rattle.std.proofs.lemmas.Result.{on_ok_weaker}
 use Rattle.ring_rules.specs.Event.{refusal}
 use Rattle.ring_cluster.specs.Kept.{seen_of}
-use Rattle.ring_cluster.specs.Parties.{PartiesSeen}
-use Rattle.ring_cluster.specs.Seen.{state, state_of, showing, with_event}
+use Rattle.ring_parties.specs.Parties.{PartiesSeen}
+use Rattle.ring_cluster.specs.Seen.{state_of, showing, with_event}
+use Rattle.ring_parties.specs.States.{state}
 use Rattle.ring_cluster.proofs.post.Owed.{on_err_both}
 use Rattle.ring_cluster.proofs.cluster.Cluster.happen.Goals as goal
 

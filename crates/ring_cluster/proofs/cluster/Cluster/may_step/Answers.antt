@@ -1,9 +1,9 @@
 use Rattle.std.proofs.Common.{List, ℕ, ap, subst, arith}
-use Rattle.ring_cluster.specs.Turns.{step_event}
+use Rattle.ring_parties.specs.OwnSteps.{step_event}
 use Rattle.ring_rules.specs.Step.{size}
 use Rattle.ring_cluster.specs.Seen.{Seen, state_of}
-use Rattle.ring_cluster.specs.Standing.{StandAfter}
-use Rattle.ring_cluster.specs.Refused.{IsRefusalAt}
+use Rattle.ring_parties.specs.Standing.{StandAfter}
+use Rattle.ring_parties.specs.Refused.{IsRefusalAt}
 use Rattle.ring_cluster.proofs.rounds.Asking.{none_told, some_told}
 use Rattle.ring_cluster.proofs.rounds.Resting.{step_told}
 use Rattle.ring_cluster.proofs.rounds.Holding.{parties_many}

@@ -2,10 +2,10 @@ use Rattle.std.proofs.Common.{◌≡◌, ◌-◌, ap, arith, sym, subst}
 use Rattle.std.specs.Prelude.{IfSome}
 use Rattle.gm_member.specs.Shown.{held_of}
 use Rattle.ring_cluster.specs.Holds.{HoldsOf}
-use Rattle.ring_cluster.specs.Parties.{shown_of, node_at}
+use Rattle.ring_parties.specs.Parties.{shown_of, node_at}
 use Rattle.ring_rules.specs.Step.{size}
 use Rattle.ring_cluster.specs.Seen.{state_of}
-use Rattle.ring_cluster.proofs.lists.Lists.{if_some_from}
+use Rattle.ring_parties.proofs.lists.Lists.{if_some_from}
 use Rattle.ring_cluster.proofs.rounds.Holding.{IsHeld, parties_many, member_stands, member_holds}
 use Rattle.ring_cluster.proofs.cluster.Cluster.member.Goals as goal
 

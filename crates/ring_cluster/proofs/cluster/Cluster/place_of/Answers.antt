@@ -3,7 +3,7 @@ use Rattle.std.specs.Prelude.{option_map}
 use Rattle.ring_rules.specs.Event.{by_of}
 use Rattle.ring_cluster.specs.Agendas.{place_among}
 use Rattle.ring_cluster.specs.Published.{names_in}
-use Rattle.ring_cluster.specs.Refused.{id_named}
+use Rattle.ring_parties.specs.Refused.{id_named}
 use Rattle.ring_cluster.specs.Seen.{state_of}
 use Rattle.ring_cluster.proofs.rounds.Holding.{place_is}
 use Rattle.ring_cluster.proofs.rounds.Members.{event_place_in}

@@ -1,7 +1,7 @@
 use Rattle.std.proofs.Common.{◌≡◌, map, ap, sym, subst, ◌∙◌}
 use Rattle.group_view.specs.Change.{AreDifferent}
 use Rattle.ring_rules.specs.Published.{published_in}
-use Rattle.ring_cluster.specs.Parties.{names_shown}
+use Rattle.ring_parties.specs.Parties.{names_shown}
 use Rattle.ring_cluster.specs.Seen.{Seen, state_of}
 use Rattle.ring_cluster.specs.Published.{names_in}
 use Rattle.ring_cluster.proofs.rounds.Holding.{names_are}

@@ -1,0 +1,104 @@
+-- What a member has done, as an event of the parties.
+use Rattle.std.proofs.Common.{◌≡◌, ℕ, ◌+◌, true, List, [], ◌∷◌, ◌++◌, map, set, get_or, Option, Some, None, Result, Ok, Err, refl, sym, ap, subst, ◌∙◌, append-nil}
+use Rattle.std.specs.Prelude.{IfOk}
+use Rattle.std.proofs.lemmas.List.{map-append}
+use Rattle.ring_names.specs.declared.numbers.CreditSpec.{CreditSpec}
+use Rattle.ordered_link.specs.declared.plain.PlainIn.{PlainIn}
+use Rattle.group_view.specs.declared.link.LinkName.{LinkName}
+use Rattle.group_view.specs.View.{Group}
+use Rattle.group_view.specs.Change.{marked}
+use Rattle.ring_rules.specs.declared.event.Event.{Event}
+use Rattle.ring_rules.specs.declared.event.Event.TheVariants.{Stop, Mark, Refresh, Admit, Erase, Refuse}
+use Rattle.registrar.specs.Registry.{Registry}
+use Rattle.registrar.specs.Handled.{with_view, with_stopped}
+use Rattle.activity.specs.declared.packet.Load.{Load}
+use Rattle.gm_member.specs.Held.{at_some}
+use Rattle.ring_parties.specs.declared.undelivered.Undelivered.{Undelivered}
+use Rattle.ring_parties.specs.Ends.{OutSeen}
+use Rattle.ring_parties.specs.declared.party.Party.{Party}
+use Rattle.ring_parties.specs.Parties.{Posted, Parties, parties, posted, with_node, shown_in, no_shown, in_seen}
+use Rattle.ring_parties.specs.Behind.{behind}
+use Rattle.ring_parties.specs.Looking.{HasLooked, kept_post}
+use Rattle.ring_parties.specs.Acting.{is_alone, DoesAlone}
+use Rattle.ring_parties.specs.Acting.{Stops, Acts, LooksAt, posting, newest_of, viewing, erasing, joined, LetsIn}
+use Rattle.ring_parties.specs.Refused.{marked_in, id_named}
+
+-- the member at a place is another
+one_other : (nodes nodes' : List Party) (r : Registry (PlainIn Load)) (i : ℕ) → map shown_in nodes' ≡ set (map shown_in nodes) i (get_or (map shown_in nodes') i no_shown)
+    → parties nodes' r [] ≡ with_node (parties nodes r []) i (get_or (map shown_in nodes') i no_shown)
+one_other nodes nodes' r i e = ap (λ ns. record (parties nodes r []) { nodes = ns }) e
+
+-- ---- by itself
+
+pub alone_acts : (e : Event) (i d : ℕ) (nodes nodes' : List Party) (r : Registry (PlainIn Load)) → is_alone e ≡ true
+    → DoesAlone e (get_or (map shown_in nodes) i no_shown) (get_or (map shown_in nodes') i no_shown)
+    → map shown_in nodes' ≡ set (map shown_in nodes) i (get_or (map shown_in nodes') i no_shown)
+    → Acts e i d (parties nodes r []) (parties nodes' r []) None
+alone_acts (Stop by) i d nodes nodes' r k does e = cc
+alone_acts (Mark by dead) i d nodes nodes' r k does e = cc
+alone_acts (Refresh by version) i d nodes nodes' r k does e = cc
+alone_acts (Admit by name) i d nodes nodes' r k does e = cc
+alone_acts (Erase by origin) i d nodes nodes' r k does e = cc
+alone_acts (Refuse code inner) i d nodes nodes' r k does e = cc
+alone_acts event i d nodes nodes' r k does e = (_, does, one_other nodes nodes' r i e, refl)
+
+-- ---- a stop
+
+pub stop_acts : (by : List ℕ) (i d : ℕ) (nodes nodes' : List Party) (r r' : Registry (PlainIn Load))
+    → Stops (get_or (map shown_in nodes) i no_shown) (get_or (map shown_in nodes') i no_shown)
+    → map shown_in nodes' ≡ set (map shown_in nodes) i (get_or (map shown_in nodes') i no_shown)
+    → r' ≡ with_stopped r (i + 1)
+    → Acts (Stop by) i d (parties nodes r []) (parties nodes' r' []) None
+stop_acts by i d nodes nodes' r r' stops e k =
+    (_, stops, ap (λ s. parties nodes' s []) k ∙ ap (λ (p : Parties). record p { stopped = r.stopped ++ (i + 1) ∷ [] }) (one_other nodes nodes' r i e), refl)
+
+-- ---- another view
+
+-- the link that it opens waits behind those at the registrar
+posts : (nodes : List Party) (r : Registry (PlainIn Load)) (late : Option Undelivered) → parties nodes r (behind late) ≡ posting (kept_post late) (parties nodes r [])
+posts nodes r None = refl
+posts nodes r (Some u) =
+    ap (λ ps. record (parties nodes r []) { post = ps ++ record { name = u.name; end = Some (in_seen u.link) } ∷ [] }) (sym (append-nil (map posted r.links)))
+
+pub looks_at : (v : Group) (i : ℕ) (nodes nodes' : List Party) (r : Registry (PlainIn Load)) (late : Option Undelivered) (loose : Option (LinkName × OutSeen))
+    → HasLooked v (get_or (map shown_in nodes) i no_shown) (get_or (map shown_in nodes') i no_shown) (kept_post late) loose
+    → map shown_in nodes' ≡ set (map shown_in nodes) i (get_or (map shown_in nodes') i no_shown)
+    → LooksAt v i (parties nodes r []) (parties nodes' r (behind late)) loose
+looks_at v i nodes nodes' r late loose h e = (_, kept_post late, h.looks, posts nodes' r late ∙ ap (posting (kept_post late)) (one_other nodes nodes' r i e))
+
+-- a view follows, and the member at a place has it
+pub follow_acts : (v : Group) (i : ℕ) (nodes nodes' : List Party) (r r' : Registry (PlainIn Load)) (late : Option Undelivered) (loose : Option (LinkName × OutSeen))
+    → HasLooked v (get_or (map shown_in nodes) i no_shown) (get_or (map shown_in nodes') i no_shown) (kept_post late) loose
+    → map shown_in nodes' ≡ set (map shown_in nodes) i (get_or (map shown_in nodes') i no_shown)
+    → r' ≡ with_view r v
+    → LooksAt v i (viewing v (parties nodes r [])) (parties nodes' r' (behind late)) loose
+follow_acts v i nodes nodes' r r' late loose h e k =
+    subst (λ s. LooksAt v i (parties nodes (with_view r v) []) (parties nodes' s (behind late)) loose) (sym k)
+    (looks_at v i nodes nodes' (with_view r v) late loose h e)
+
+-- a view follows, the member at a place has it, and another joins for whom the link is that it opens
+pub lets_in : (v : Group) (credit : CreditSpec) (name : List ℕ) (id i : ℕ) (nodes nodes' : List Party) (m : Party) (r r' : Registry (PlainIn Load)) (opened : Option Undelivered) (loose : Option (LinkName × OutSeen))
+    → HasLooked v (get_or (map shown_in nodes) i no_shown) (get_or (map shown_in nodes') i no_shown) (kept_post opened) loose
+    → map shown_in nodes' ≡ set (map shown_in nodes) i (get_or (map shown_in nodes') i no_shown)
+    → shown_in m ≡ joined credit name id v (at_some (kept_post opened) None (λ (d : Posted). d.end)) → r' ≡ with_view r v
+    → LetsIn v credit name id i (parties nodes r []) (parties (nodes' ++ m ∷ []) r' []) loose
+lets_in v credit name id i nodes nodes' m r r' opened loose h e is k = (
+  get_or (map shown_in nodes') i no_shown,
+  kept_post opened,
+  h.looks,
+  ap (λ s. parties (nodes' ++ m ∷ []) s []) k
+      ∙ ap (λ ns. record (parties nodes (with_view r v) []) { nodes = ns })
+      (map-append shown_in nodes' (m ∷ []) ∙ ap (λ ms. ms ++ shown_in m ∷ []) e ∙ ap (λ a. set (map shown_in nodes) i (get_or (map shown_in nodes') i no_shown) ++ a ∷ []) is),
+)
+
+-- what follows of what a call answers
+pub ok_also : {X E : Type 0} (r : Result X E) (P Q : X → Type 0) → ((x : X) → P x → Q x) → IfOk r P → IfOk r Q
+ok_also (Ok x) P Q h p = h x p
+ok_also (Err e) P Q h p = tt
+
+-- it is a mark, or an erasure, of the member of a name
+pub mark_acts : (by dead : List ℕ) (i d : ℕ) (q q' : Parties) (loose : Option (LinkName × OutSeen)) → id_named q dead ≡ Some d → LooksAt (marked (newest_of q) d) i (viewing (marked (newest_of q) d) q) q' loose → Acts (Mark by dead) i (marked_in (Mark by dead) q) q q' loose
+mark_acts by dead i d q q' loose named = subst (λ c. LooksAt (marked (newest_of q) c) i (viewing (marked (newest_of q) c) q) q' loose) (sym (ap (λ o. at_some o 0 (λ c. c)) named))
+
+pub erase_acts : (by origin : List ℕ) (i p : ℕ) (q q' : Parties) (loose : Option (LinkName × OutSeen)) → id_named q origin ≡ Some p → LooksAt (erasing q p) i (viewing (erasing q p) q) q' loose → Acts (Erase by origin) i (marked_in (Erase by origin) q) q q' loose
+erase_acts by origin i p q q' loose named = subst (λ c. LooksAt (erasing q c) i (viewing (erasing q c) q) q' loose) (sym (ap (λ o. at_some o 0 (λ c. c)) named))

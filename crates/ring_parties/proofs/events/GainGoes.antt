@@ -1,0 +1,66 @@
+-- Where a member has gained a grant, the parties stand in the state after the ring's gain.
+use Rattle.std.proofs.Common.{◌≡◌, ℕ, ◌+◌, List, ◌++◌, length, drop, Option, Some, None, refl, sym, ap, subst, ◌∙◌, arith, [], ◌∷◌}
+use Rattle.ring_names.specs.declared.numbers.CreditSpec.{CreditSpec}
+use Rattle.credit_flow.specs.Link.{oldest as oldest_grant}
+use Rattle.group_view.specs.declared.link.LinkName.{LinkName}
+use Rattle.ring_rules.specs.declared.event.Event.TheVariants.{Gain}
+use Rattle.ring_rules.specs.Machine.{World, member_at, link_at}
+use Rattle.ring_rules.specs.Event.{id_of, gain_refusal, refusal, effect}
+use Rattle.gm_member.specs.Held.{Held, gained_held}
+use Rattle.gm_member.specs.Stands.{held_in}
+use Rattle.gm_member.proofs.GainStands.{regained_on, gain_stands}
+use Rattle.gm_member.proofs.Others.{gain_others}
+use Rattle.ring_parties.specs.Ends.{OutSeen, InSeen, Carries}
+use Rattle.ring_parties.specs.Parties.{Parties, node_at}
+use Rattle.ring_parties.specs.Standing.{Places, MemberStands, Stand}
+use Rattle.ring_parties.specs.Acting.{Acts, ActsOut}
+use Rattle.ring_parties.proofs.work.Lawful.{IsLawfulAt}
+use Rattle.ring_parties.proofs.meetings.NamedLinks.{out_is_open}
+use Rattle.ring_parties.proofs.events.OneEvent.{made_of, stands_at}
+use Rattle.ring_parties.proofs.events.Steps.{OnOut, on_out, goes_out}
+use Rattle.ring_parties.proofs.standing.Frames.{StandMoved}
+use Rattle.std.proofs.lemmas.List.{append-nil}
+
+-- ---- one link
+
+pub gain_carries : (initial : ℕ) (w : World) (s : ℕ) (o o' : OutSeen) (n : InSeen) (amount : ℕ) → ActsOut [] (amount ∷ []) o.ended o o' → Carries w initial (link_at w s) o n → Carries w initial (regained_on w s) o' n
+gain_carries initial w s o o' n amount g c =
+    let one_less : length o.back ≡ length o'.back + 1 = omega (arith, ap length g.back) in
+    let same : o'.waiting ≡ o.waiting = g.waiting ∙ append-nil o.waiting in
+    record {
+      items = ap (λ xs. n.items ++ xs) same ∙ c.items;
+      grants = ap (λ xs. drop 1 (xs ++ n.given)) g.back ∙ ap (drop 1) c.grants;
+      late = c.late;
+      ended = g.ended ∙ c.ended;
+      initial = g.initial ∙ c.initial;
+      fits = record {
+        initial = c.fits.initial ∙ sym g.initial;
+        slots = omega (arith, c.fits.slots, g.free, g.initial, ap length same);
+        room = omega (arith, c.fits.room, g.initial);
+      };
+    }
+
+-- the grant that is gained is the oldest under way
+pub gain_amount : (initial : ℕ) (w : World) (s : ℕ) (o o' : OutSeen) (n : InSeen) (amount : ℕ) → ActsOut [] (amount ∷ []) o.ended o o' → Carries w initial (link_at w s) o n → amount ≡ oldest_grant (link_at w s).flow.grants
+gain_amount initial w s o o' n amount g c = ap (λ xs. oldest_grant (xs ++ n.given)) g.back ∙ ap oldest_grant c.grants
+
+-- ---- the parties
+
+pub gain_goes : (credit : CreditSpec) (w : World) (by : List ℕ) (i d : ℕ) (q q' : Parties) (loose : Option (LinkName × OutSeen)) → IsLawfulAt credit w → refusal w (Gain by) ≡ None → id_of w by ≡ Some (i + 1) → Stand credit.initial w q → Acts (Gain by) i d q q' loose → StandMoved credit.initial (i + 1) (effect w (Gain by)) q' loose
+gain_goes credit w by i d q q' loose h enabled found st (b, (amount, o, o', ends_out, gains, eb), is, none) =
+    let x : ℕ = i + 1 in
+    let p : Places = st.places in
+    let on : OnOut w (effect w (Gain by)) x (regained_on w) = on_out credit w by x (λ _. gain_refusal w) (λ _. regained_on w) h enabled found in
+    let a : MemberStands w p x (node_at q i) = stands_at credit.initial w q p i st.stand on.is_member in
+    let s : ℕ = on.link in
+    let same_end : p.outs s ≡ o = made_of p.outs (member_at w x).out s o on.is (sym a.out ∙ ends_out) in
+    let its : ActsOut [] (amount ∷ []) (p.outs s).ended (p.outs s) o' = subst (λ e. ActsOut [] (amount ∷ []) e.ended e o') (sym same_end) gains in
+    let it_is : amount ≡ oldest_grant (link_at w s).flow.grants = gain_amount credit.initial w s (p.outs s) o' (p.ins s) amount its (st.stand.carry s on.within (out_is_open credit w x s h on.run on.is)) in
+    goes_out credit w (effect w (Gain by)) q q' i loose (regained_on w) o' b st h on refl is none (λ y ne. gain_others w x s y h.fit on.is ne)
+    (record {
+      does = λ (g : Held). gained_held g amount;
+      but_door = λ g ds. refl;
+      stands = ap (gained_held (held_in w x)) it_is ∙ gain_stands w x s h.fit on.is;
+      is = eb;
+    })
+    (gain_carries credit.initial w s (p.outs s) o' (p.ins s) amount its)

@@ -1,0 +1,127 @@
+-- What a member of a cluster whose ends have met refuses, the ring refuses, for the same reason.
+use Rattle.std.proofs.Common.{◌≡◌, ℕ, ◌-◌, ◌<◌, ◌≤◌, true, List, [], ◌∷◌, ◌++◌, length, Option, Some, None, is_some, refl, sym, ap, ◌∙◌, append-nil}
+use Rattle.std.proofs.lemmas.Option.{none-some}
+use Rattle.std.specs.Prelude.{option_map, slice_index_or}
+use Rattle.ring_names.specs.declared.message.Message.TheVariants as message
+use Rattle.ring_names.specs.declared.numbers.CreditSpec.{CreditSpec}
+use Rattle.ring_names.specs.declared.reason.Reason.{Reason}
+use Rattle.ring_names.specs.declared.reason.Reason.TheVariants as reason
+use Rattle.ring_rules.specs.declared.event.Event.TheVariants.{Cast, Put, Take, TakeEnd, Gain, Stop, Pick}
+use Rattle.ring_rules.specs.declared.phase.Phase.{Phase}
+use Rattle.ring_rules.specs.declared.phase.Phase.TheVariants.{Waiting, Up, Stopped}
+use Rattle.ring_rules.specs.declared.phase.Ending.{Ending}
+use Rattle.ring_rules.specs.Refusal.{refuse_if, or_else, is_empty}
+use Rattle.ring_rules.specs.Machine.{World, Packet, no_packet, member_at, link_at, runs, runs_phase, is_waiting}
+use Rattle.ring_rules.specs.Step.{size}
+use Rattle.ring_rules.specs.Event.{of_member, on_link, is_stopped, up_refusal, take_refusal, end_refusal, gain_refusal, pick_refusal, version_refusal, refusal}
+use Rattle.gm_member.specs.Held.{Held, up_refused, put_refused, take_refused, active_refused, pick_refused, on_some}
+use Rattle.gm_member.specs.Stands.{held_in, outgoing_in}
+use Rattle.gm_member.proofs.Facts.{version_is}
+use Rattle.gm_member.proofs.TakeStands.{nothing_to_take, no_end_to_take, end_is_next, end_may, packet_is_next, packet_by_version}
+use Rattle.gm_member.proofs.PickStands.{pick_refuses}
+use Rattle.gm_member.proofs.Refusals.{publish_refusal_is, put_refusal_is, stop_refusal_is, take_refusal_is, end_refusal_is}
+use Rattle.ring_parties.specs.Ends.{packets_in, end_items, items_in, Carries, HaveMet}
+use Rattle.ring_parties.specs.Parties.{Shown, Parties, node_at}
+use Rattle.ring_parties.specs.Standing.{Places, MemberStands, StandIn, Stand, AllHaveMet, has_in, has_out}
+use Rattle.ring_parties.specs.Acting.{first_item, items_refused, end_refused, back_of, packet_refused, link_end_refused, grant_refused, stop_refused}
+use Rattle.ring_parties.proofs.work.Lawful.{IsLawfulAt}
+use Rattle.ring_parties.proofs.meetings.NamedLinks.{out_is_open, out_has, current_has}
+use Rattle.ring_parties.proofs.events.OneEvent.{held_but_door, met_both}
+use Rattle.ring_parties.proofs.standing.Lookers.{whole_held}
+use Rattle.ring_parties.proofs.events.Refreshing.{none_waits}
+use Rattle.ring_parties.proofs.events.PickGoes.{NonePosted}
+use Rattle.ring_parties.proofs.events.Ready.{all_settled, settled_items}
+
+-- ---- what stands first on a link
+
+-- by its items, why no packet is taken
+taken_by_items : (w : World) (y s have : ℕ) (ks : List Packet) (e : Option Ending) → (link_at w s).packets ≡ ks → (link_at w s).ending ≡ e → have ≡ (member_at w y).version → take_refusal w y s ≡ items_refused have (packets_in w (link_at w s).had ks ++ end_items e)
+taken_by_items w y s have [] None ek ee ev = nothing_to_take w y s ek ee
+taken_by_items w y s have [] (Some why) ek ee ev = end_is_next w y s ek (λ k. none-some why (sym k ∙ ee))
+taken_by_items w y s have (k ∷ ks) e ek ee ev =
+    packet_by_version w y s (ap is_empty ek) ∙ ap (λ ps. version_refusal (slice_index_or ps 0 no_packet).version (member_at w y).version) ek ∙ ap (version_refusal k.version) (sym ev)
+
+-- and why no end
+ended_by_items : (w : World) (s : ℕ) (ks : List Packet) (e : Option Ending) → (link_at w s).packets ≡ ks → (link_at w s).ending ≡ e → end_refusal w s ≡ end_refused (packets_in w (link_at w s).had ks ++ end_items e)
+ended_by_items w s [] None ek ee = no_end_to_take w s ek ee
+ended_by_items w s [] (Some why) ek ee = end_may w s ek (λ k. none-some why (sym k ∙ ee))
+ended_by_items w s (k ∷ ks) e ek ee = packet_is_next w s (ap is_empty ek)
+
+-- the items that the member has
+its_items : (credit : CreditSpec) (w : World) (q : Parties) (p : Places) (x s : ℕ) (m : Shown) → IsLawfulAt credit w → StandIn credit.initial w q p → AllHaveMet w p → MemberStands w p x m → (member_at w x).current ≡ Some s → first_item m.ends.link ≡ items_in w (link_at w s)
+its_items credit w q p x s m h st met a e =
+    let sl : s < length w.links = (h.fit.own_ends.current x s e).0 in
+    let has : has_in w s ≡ true = current_has credit w x s h e in
+    ap first_item (a.link ∙ ap (option_map p.ins) e)
+    ∙ settled_items credit.initial w s (p.outs s) (p.ins s) (all_settled w p s met sl has) (st.carry s sl has)
+
+-- ---- each event
+
+-- with a member found
+module _ (credit : CreditSpec) (w : World) (q : Parties) (x : ℕ) (h : IsLawfulAt credit w) (st : Stand credit.initial w q) (some : 1 ≤ x) (lt : x < size w) where
+  abbrev p : Places
+  p = st.places
+
+  abbrev m : Shown
+  m = node_at q (x - 1)
+
+  stands : MemberStands w p x m
+  stands = st.stand.each x some lt
+
+  same : m.held ≡ record (held_in w x) { door = m.held.door }
+  same = held_but_door w p x m stands
+
+  pub cast_refusal_is : (body : List ℕ) → up_refused (node_at q (x - 1)).held None ≡ refusal w (Cast (member_at w x).name body)
+  cast_refusal_is body = ap (λ (g : Held). up_refused g None) same ∙ publish_refusal_is w x (message.Cast body) h.fit some lt
+
+  pub put_refusal_same : put_refused (node_at q (x - 1)).held ≡ refusal w (Put (member_at w x).name)
+  put_refusal_same = ap put_refused same ∙ put_refusal_is w x h.fit some lt
+
+  pub packet_refusal_is : packet_refused (node_at q (x - 1)) ≡ refusal w (Take (member_at w x).name)
+  packet_refusal_is =
+      let version : m.held.view.version ≡ (member_at w x).version = ap (λ (g : Held). g.view.version) same ∙ version_is w x h.fit in
+      let later : Option Reason = items_refused m.held.view.version (first_item m.ends.link) in
+      ap (λ (g : Held). take_refused g later) same
+      ∙ take_refusal_is w x later h.fit some lt (λ s e.
+      taken_by_items w x s m.held.view.version (link_at w s).packets (link_at w s).ending refl refl version
+      ∙ ap (items_refused m.held.view.version) (sym (its_items credit w q p x s m h st.stand st.met stands e)))
+
+  pub link_end_refusal_is : link_end_refused (node_at q (x - 1)) ≡ refusal w (TakeEnd (member_at w x).name)
+  link_end_refusal_is =
+      let later : Option Reason = end_refused (first_item m.ends.link) in
+      ap (λ (g : Held). take_refused g later) same
+      ∙ end_refusal_is w x later h.fit some lt (λ s e.
+      ended_by_items w s (link_at w s).packets (link_at w s).ending refl refl
+      ∙ ap end_refused (sym (its_items credit w q p x s m h st.stand st.met stands e)))
+
+  pub stop_refusal_same : stop_refused (node_at q (x - 1)) ≡ refusal w (Stop (member_at w x).name)
+  stop_refusal_same = ap (λ (g : Held). active_refused g None) same ∙ stop_refusal_is w x h.fit some lt
+
+  -- the grants that have come back are those under way
+  gain_by_out : (c : Option ℕ) → runs w x ≡ true → (member_at w x).out ≡ c → on_some (option_map (outgoing_in w) c) reason.NoOutLink (λ _. refuse_if (is_empty (back_of (option_map p.outs c))) reason.NoGrant) ≡ on_link c reason.NoOutLink (gain_refusal w)
+  gain_by_out None run e = refl
+  gain_by_out (Some s) run e =
+      let sl : s < length w.links = (h.fit.own_ends.out x s e).0 in
+      let has : has_in w s ≡ true = out_is_open credit w x s h run e in
+      let c : Carries w credit.initial (link_at w s) (p.outs s) (p.ins s) = st.stand.carry s sl has in
+      let both : HaveMet (p.outs s) (p.ins s) = met_both (has_out w s) (p.outs s) (p.ins s) (out_has credit w x s h e) (st.met s sl has) in
+      let all : (p.outs s).back ≡ (link_at w s).flow.grants = sym (append-nil (p.outs s).back) ∙ ap (λ gs. (p.outs s).back ++ gs) (sym both.given) ∙ c.grants in
+      ap (λ gs. refuse_if (is_empty gs) reason.NoGrant) all
+
+  -- who has stopped gains nothing, and who is up does by its link
+  gain_by_phase : (f : Phase) (a b : Option Reason) → (runs_phase f ≡ true → a ≡ b) → or_else (refuse_if (is_stopped f) reason.Stopped) (or_else (refuse_if (is_waiting f) reason.Waiting) a) ≡ or_else (refuse_if (is_stopped f) reason.Stopped) (or_else (refuse_if (is_waiting f) reason.Waiting) b)
+  gain_by_phase Waiting a b k = refl
+  gain_by_phase Up a b k = k refl
+  gain_by_phase Stopped a b k = refl
+
+  pub grant_refusal_is : grant_refused (node_at q (x - 1)) ≡ refusal w (Gain (member_at w x).name)
+  grant_refusal_is =
+      ap (λ (g : Held). up_refused g (on_some g.out reason.NoOutLink (λ _. refuse_if (is_empty (back_of m.ends.out)) reason.NoGrant))) same
+      ∙ ap (λ o. up_refusal w x (on_some (option_map (outgoing_in w) (member_at w x).out) reason.NoOutLink (λ _. refuse_if (is_empty (back_of o)) reason.NoGrant))) stands.out
+      ∙ gain_by_phase (member_at w x).phase _ _ (λ run. gain_by_out (member_at w x).out run refl)
+      ∙ sym (ap (λ o. of_member o (λ y. up_refusal w y (on_link (member_at w y).out reason.NoOutLink (gain_refusal w)))) (h.fit.named x some lt))
+
+  pub pick_refusal_is : NonePosted q x → pick_refused (node_at q (x - 1)).held ≡ refusal w (Pick (member_at w x).name)
+  pick_refusal_is nobody =
+      ap pick_refused (whole_held w p x m stands (none_waits credit.initial w q x st nobody)) ∙ pick_refuses w x h.fit.good
+      ∙ sym (ap (λ o. of_member o (λ y. up_refusal w y (or_else (refuse_if (is_some (member_at w y).current) reason.HasCurrentLink) (pick_refusal w y)))) (h.fit.named x some lt))

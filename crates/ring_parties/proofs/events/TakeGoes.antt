@@ -1,0 +1,215 @@
+-- Where a member has taken a packet, the parties stand in the state after the ring's take.
+use Rattle.std.proofs.Common.{◌≡◌, ◌≢◌, ℕ, ◌+◌, ◌<◌, ◌≤◌, Bool, true, false, cond, List, [], ◌∷◌, ◌++◌, length, drop, get_or, Option, Some, None, refl, sym, ap, subst, ◌∙◌, ⊎_elim, arith}
+use Rattle.std.specs.Prelude.{option_map}
+use Rattle.std.proofs.lemmas.Bool.{false≢true, cases_eq}
+use Rattle.std.proofs.lemmas.List.{get_or-set_same, get_or-set_other}
+use Rattle.ring_names.specs.declared.numbers.CreditSpec.{CreditSpec}
+use Rattle.ring_names.specs.declared.reason.Reason.TheVariants as reason
+use Rattle.credit_flow.specs.Credit.{grant_due}
+use Rattle.credit_flow.specs.Link.{with_grant}
+use Rattle.group_view.specs.declared.link.LinkName.{LinkName}
+use Rattle.ring_rules.specs.declared.event.Event.TheVariants.{Take}
+use Rattle.ring_rules.specs.declared.phase.Phase.{Phase}
+use Rattle.ring_rules.specs.declared.phase.Phase.TheVariants.{Waiting, Up, Stopped}
+use Rattle.ring_rules.specs.Refusal.{is_empty}
+use Rattle.ring_rules.specs.Machine.{World, Member, Packet, Sending, Link, no_link, no_packet, member_at, link_at, is_waiting, oldest}
+use Rattle.ring_rules.specs.Compact.{passed}
+use Rattle.ring_rules.specs.Step.{size, with_member, with_link, taker, begun, popped}
+use Rattle.ring_rules.specs.Event.{id_of, running_refusal, on_link, take_refusal, holds_nothing, at_found, taken_by, is_stopped, refusal, effect}
+use Rattle.ring_rules.proofs.events.Enabled.{running_later, take_effect}
+use Rattle.ring_rules.proofs.events.Refusals.{id_within, none_of, not_less}
+use Rattle.gm_member.specs.Parcels.{ByOrigin}
+use Rattle.gm_member.specs.Held.{Held, Incoming, at_some, took_from, began_from, took_held}
+use Rattle.gm_member.specs.Stands.{incoming_in, held_in, lines_in, waits_for}
+use Rattle.gm_member.proofs.Parts.{current_waits_not}
+use Rattle.gm_member.proofs.Fit.{IsFit}
+use Rattle.gm_member.proofs.BeginStands.{BeginsFrom, begin_stands}
+use Rattle.gm_member.proofs.TakeStands.{TakesFrom, take_stands}
+use Rattle.gm_member.proofs.Others.{take_others, begin_others}
+use Rattle.ring_parties.specs.Ends.{Sent, OutSeen, InSeen, packet_in, packets_in, end_items, Carries, HasRested}
+use Rattle.ring_parties.specs.Parties.{Shown, Parties, node_at, with_node}
+use Rattle.ring_parties.specs.Standing.{Places, MemberStands, Stand}
+use Rattle.ring_parties.specs.Acting.{sent_of, due_of, TakesIn, Acts}
+use Rattle.ring_parties.proofs.lists.Grants.{append-with_grant}
+use Rattle.ring_parties.proofs.work.Lawful.{IsLawfulAt}
+use Rattle.ring_parties.proofs.meetings.NamedLinks.{current_has}
+use Rattle.ring_parties.proofs.standing.Writing.{placed_same, placed_other}
+use Rattle.ring_parties.proofs.standing.Showing.{with_ins}
+use Rattle.ring_parties.proofs.standing.Frames.{SameWays, link_ways, member_ways, ways_both, same_of, same_in, Does, StandMoved}
+use Rattle.ring_parties.proofs.events.OneEvent.{found_later, found_does, link_there, made_of, stands_at, held_but_door}
+use Rattle.ring_parties.proofs.meetings.Known.{not_left}
+use Rattle.ring_parties.proofs.events.Steps.{goes_so, ways_leave, same_phases, carries_at, steps, ways_stand}
+
+-- ---- one link
+
+-- what stands behind the first packet
+drop_first : (w : World) (before : Sending) (ks : List Packet) (es : List (Option Sent)) → is_empty ks ≡ false → drop 1 (packets_in w before ks ++ es) ≡ packets_in w (passed (get_or ks 0 no_packet)) (drop 1 ks) ++ es
+drop_first w before [] es e = absurd (false≢true (sym e))
+drop_first w before (k ∷ ks) es e = refl
+
+pub take_carries : (initial : ℕ) (w : World) (l : Link) (o : OutSeen) (n n' : InSeen) (k : Sent) (due : Option ℕ) → is_empty l.packets ≡ false → due ≡ grant_due l.flow.receiver → TakesIn due n k n' → Carries w initial l o n → Carries w initial (popped l) o n'
+take_carries initial w l o n n' k due some ed t c =
+    let one_less : length n.items ≡ length n'.items + 1 = omega (arith, ap length t.items) in
+    record {
+      items = ap (λ xs. drop 1 (xs ++ o.waiting)) (sym t.items) ∙ ap (drop 1) c.items ∙ drop_first w l.had l.packets (end_items l.ending) some;
+      grants =
+          ap (λ xs. o.back ++ xs) t.given ∙ append-with_grant o.back n.given due ∙ ap (λ xs. with_grant xs due) c.grants
+          ∙ ap (with_grant l.flow.grants) ed;
+      late = t.late;
+      ended = c.ended;
+      initial = c.initial;
+      fits = record { initial = t.initial ∙ c.fits.initial; slots = omega (arith, c.fits.slots); room = omega (arith, c.fits.room, t.room) };
+    }
+
+-- the packet that is taken is the oldest
+first_packet : (w : World) (before : Sending) (ks : List Packet) (es : List (Option Sent)) (k : Sent) (xs : List (Option Sent)) → is_empty ks ≡ false → Some k ∷ xs ≡ packets_in w before ks ++ es → k.lines ≡ lines_in w before (get_or ks 0 no_packet)
+first_packet w before [] es k xs some e = absurd (false≢true (sym some))
+first_packet w before (packet ∷ ks) es k xs some e =
+    let both : Some k ≡ packet_in w before packet = cc in
+    let same : k ≡ record { view = packet.version; lines = lines_in w before packet } = cc in
+    ap (λ (a : Sent). a.lines) same
+
+pub take_lines : (initial : ℕ) (w : World) (s : ℕ) (o : OutSeen) (n n' : InSeen) (k : Sent) (due : Option ℕ) → is_empty (link_at w s).packets ≡ false → TakesIn due n k n' → Carries w initial (link_at w s) o n → k.lines ≡ lines_in w (link_at w s).had (oldest (link_at w s))
+take_lines initial w s o n n' k due some t c = first_packet w (link_at w s).had (link_at w s).packets (end_items (link_at w s).ending) k (n'.items ++ o.waiting) some (ap (λ xs. xs ++ o.waiting) (sym t.items) ∙ c.items)
+
+-- the receiver rests as it did
+pub take_rested : (o : OutSeen) (n n' : InSeen) (k : Sent) (due : Option ℕ) → TakesIn due n k n' → HasRested o n → HasRested o n'
+take_rested o n n' k due t r = record { moved = r.moved; room = omega (arith, r.room, t.room, t.initial) }
+
+-- ---- what the member holds
+
+took_door : (g : Held) (ds : List Incoming) (k : ByOrigin) → took_held (record g { door = ds }) k ≡ record (took_held g k) { door = ds }
+took_door g ds k = by_current g.current
+  where
+    by_phase : (a : Incoming) (b : Bool) → cond b (began_from (record g { door = ds }) k a) (took_from (record g { door = ds }) k a) ≡ record (cond b (began_from g k a) (took_from g k a)) { door = ds }
+    by_phase a true = refl
+    by_phase a false = refl
+
+    by_current : (c : Option Incoming) → at_some c (record g { door = ds }) (λ a. cond (is_waiting g.phase) (began_from (record g { door = ds }) k a) (took_from (record g { door = ds }) k a))
+        ≡ record (at_some c g (λ a. cond (is_waiting g.phase) (began_from g k a) (took_from g k a))) { door = ds }
+    by_current None = refl
+    by_current (Some a) = by_phase a (is_waiting g.phase)
+
+-- ---- the parties
+
+-- x is y, and the oldest packet is gone from link s
+abbrev takes_in : World → ℕ → ℕ → Member → World
+takes_in w x s y = with_link (with_member w x y) s (popped (link_at w s))
+
+-- x takes from link s, and is y then.
+record TakesAs (w : World) (x s : ℕ) (k : ByOrigin) (y : Member) : Type 0 where
+  is_member : x < size w
+  current : (member_at w x).current ≡ Some s
+  has : is_empty (link_at w s).packets ≡ false
+  same : (y.version ≡ (member_at w x).version) × (y.current ≡ (member_at w x).current) × (y.out ≡ (member_at w x).out) × (y.log ≡ (member_at w x).log)
+  runs_on : is_stopped y.phase ≡ is_stopped (member_at w x).phase
+  stands : k.lines ≡ lines_in w (link_at w s).had (oldest (link_at w s)) → took_held (held_in w x) k ≡ held_in (takes_in w x s y) x
+  others : (z : ℕ) → z ≢ x → held_in w z ≡ held_in (takes_in w x s y) z
+
+take_ways : (w : World) (x s : ℕ) (k : ByOrigin) (y : Member) → s < length w.links → TakesAs w x s k y → SameWays w (takes_in w x s y)
+take_ways w x s k y sl t =
+    let w1 : World = with_member w x y in
+    ways_both w w1 (takes_in w x s y) (member_ways w x y t.is_member t.same.0 t.same.1 t.same.2) (link_ways w1 s (popped (link_at w s)) sl refl)
+
+-- the end of the link s from which x takes shows something else
+take_steps : (credit : CreditSpec) (w : World) (i s : ℕ) (q : Parties) (b : Shown) (n : InSeen) (k : ByOrigin) (y : Member) (st : Stand credit.initial w q) → IsLawfulAt credit w → TakesAs w (i + 1) s k y
+    → TakesIn (due_of (node_at q i).held) (st.places.ins s) (sent_of k) n → b ≡ record { held = took_held (node_at q i).held k; ends = record (node_at q i).ends { link = Some n } }
+    → StandMoved credit.initial (i + 1) (takes_in w (i + 1) s y) (with_node q i b) None
+take_steps credit w i s q b n k y st h t takes e =
+    let x : ℕ = i + 1 in
+    let w' : World = takes_in w x s y in
+    let p : Places = st.places in
+    let p' : Places = with_ins p s n in
+    let m : Shown = node_at q i in
+    let sl : s < length w.links = (h.fit.own_ends.current x s t.current).0 in
+    let l : Link = popped (link_at w s) in
+    let ways : SameWays w w' = take_ways w x s k y sl t in
+    let a : MemberStands w p x m = stands_at credit.initial w q p i st.stand t.is_member in
+    let due : Option ℕ = due_of m.held in
+    let due_is : due ≡ grant_due (link_at w s).flow.receiver = ap due_of (held_but_door w p x m a) ∙ ap (λ c. at_some (option_map (incoming_in w) c) None (λ (g : Incoming). grant_due g.counted)) t.current in
+    let lines : k.lines ≡ lines_in w (link_at w s).had (oldest (link_at w s)) = take_lines credit.initial w s (p.outs s) (p.ins s) n (sent_of k) due t.has takes (st.stand.carry s sl (current_has credit w x s h t.current)) in
+    let its : Does w w' x m b m.ends.out (Some n) = record {
+      does = λ (g : Held). took_held g k;
+      but_door = λ g ds. took_door g ds k;
+      stands = t.stands lines;
+      is = e;
+    } in
+    let here : p'.ins s ≡ n = placed_same p.ins s n in
+    let other : (j : ℕ) → j ≢ s → p'.ins j ≡ p.ins j = λ j ne. placed_other p.ins s n j ne in
+    let other_link : (j : ℕ) → j ≢ s → link_at w' j ≡ link_at w j = λ j ne. get_or-set_other w.links s j l no_link ne in
+    steps credit w w' q q.stopped p' i b st h t.is_member (record {
+      leaves = ways_leave w w' x ways;
+      post = refl;
+      it = ways_stand w w' p p' x m b m.ends.out (Some n) ways refl
+          (λ j waits. other j (λ (same : j ≡ s). false≢true (sym (current_waits_not w x s t.current) ∙ sym (ap (waits_for w x) same) ∙ waits)))
+          its a.out (ap Some (sym here) ∙ ap (option_map p'.ins) (sym t.current)) a;
+      held = t.others;
+      notices = record { told = same_phases w x y q.stopped t.is_member t.runs_on; none_told = λ z _ r. r };
+      outs = λ j _. refl;
+      ins = λ j ne. other j (λ (same : j ≡ s). ne (t.current ∙ ap Some (sym same)));
+      carry = λ j _ c. carries_at credit.initial w w' p p' s l (same_of (λ (a : Member). a.log) w x y t.is_member t.same.3) (get_or-set_same w.links s l no_link sl) (λ j ne. (other_link j ne, refl, other j ne))
+          (λ before. subst (Carries w credit.initial l (p.outs s)) (sym here) (take_carries credit.initial w (link_at w s) (p.outs s) (p.ins s) n (sent_of k) due t.has due_is takes before)) j c;
+      rests = λ j o r. ⊎_elim
+          (λ (same : j ≡ s).
+          let r0 : HasRested o (p.ins s) = subst (λ c. HasRested o (p.ins c)) same r in
+          subst (λ c. HasRested o (p'.ins c)) (sym same) (subst (HasRested o) (sym here) (take_rested o (p.ins s) n (sent_of k) due takes r0)))
+          (λ (ne : j ≢ s). subst (HasRested o) (sym (other j ne)) r)
+          (cases_eq j s);
+      knows = λ j gone.
+          let ne : j ≢ s = not_left w j s (sym (same_in w w' j ways) ∙ gone) (current_has credit w x s h t.current) in
+          (refl, ap (λ (c : Link). c.flow.grants) (other_link j ne));
+    })
+
+-- of who waits, and of who is up
+takes_as : (w : World) (x s : ℕ) (k : ByOrigin) (f : Phase) → IsFit w → (member_at w x).phase ≡ f → is_stopped f ≡ false → 1 ≤ x → x < size w → (member_at w x).current ≡ Some s → is_empty (link_at w s).packets ≡ false → (oldest (link_at w s)).version ≤ (member_at w x).version
+    → (y : Member) × TakesAs w x s k y × (at_found (member_at w x).current w (taken_by (member_at w x).phase w x) ≡ takes_in w x s y)
+takes_as w x s k Waiting f waits runs some lt current has version =
+    let t : BeginsFrom w x s = record { some = some; is_member = lt; waits = waits; current = current; has = has; version = version } in (
+      begun (size w) (member_at w x) (oldest (link_at w s)),
+      record {
+        is_member = lt;
+        current = current;
+        has = has;
+        same = (refl, refl, refl, refl);
+        runs_on = sym (ap is_stopped waits);
+        stands = λ e. begin_stands w x s k f t e;
+        others = λ z ne. begin_others w x s z f current ne;
+      },
+      ap (λ c. at_found c w (taken_by (member_at w x).phase w x)) current ∙ ap (λ g. taken_by g w x s) waits,
+    )
+takes_as w x s k Up f up runs some lt current has version =
+    let t : TakesFrom w x s = record { some = some; is_member = lt; up = up; current = current; has = has; version = version } in (
+      taker w x s,
+      record {
+        is_member = lt;
+        current = current;
+        has = has;
+        same = (refl, refl, refl, refl);
+        runs_on = refl;
+        stands = λ e. take_stands w x s k f t e;
+        others = λ z ne. take_others w x s z f current ne;
+      },
+      take_effect w x s (member_at w x).current (member_at w x).phase current up,
+    )
+takes_as w x s k Stopped f rests runs some lt current has version = absurd (false≢true (sym runs))
+
+pub take_goes : (credit : CreditSpec) (w : World) (by : List ℕ) (i d : ℕ) (q q' : Parties) (loose : Option (LinkName × OutSeen)) → IsLawfulAt credit w → refusal w (Take by) ≡ None → id_of w by ≡ Some (i + 1) → Stand credit.initial w q → Acts (Take by) i d q q' loose → StandMoved credit.initial (i + 1) (effect w (Take by)) q' loose
+take_goes credit w by i d q q' loose h enabled found st (b, (k, n, n', ends_link, takes, eb), is, none) =
+    let x : ℕ = i + 1 in
+    let lt : i + 1 < size w = (id_within w by x found).1 in
+    let p : Places = st.places in
+    let a : MemberStands w p x (node_at q i) = stands_at credit.initial w q p i st.stand lt in
+    let acts = found_later (id_of w by) x (λ y. running_refusal w y (on_link (member_at w y).current reason.NoCurrentLink (take_refusal w y))) found enabled in
+    let runs = none_of (is_stopped (member_at w x).phase) reason.Stopped _ acts in
+    let there = link_there (member_at w x).current reason.NoCurrentLink (take_refusal w x) (running_later w x _ acts) in
+    let s : ℕ = there.0 in
+    let current : (member_at w x).current ≡ Some s = there.1 in
+    let some = none_of (holds_nothing (link_at w s)) reason.NothingToTake _ there.2 in
+    let packet = none_of (is_empty (link_at w s).packets) reason.EndNext _ some.1 in
+    let version = not_less (member_at w x).version (oldest (link_at w s)).version _ packet.1 in
+    let t = takes_as w x s k (member_at w x).phase h.fit refl runs.0 (omega arith) lt current packet.0 version in
+    let y : Member = t.0 in
+    let same_end : p.ins s ≡ n = made_of p.ins (member_at w x).current s n current (sym a.link ∙ ends_link) in
+    let its : TakesIn (due_of (node_at q i).held) (p.ins s) (sent_of k) n' = subst (λ e. TakesIn (due_of (node_at q i).held) e (sent_of k) n') (sym same_end) takes in
+    let does : effect w (Take by) ≡ takes_in w x s y = found_does (id_of w by) x w (λ z. at_found (member_at w z).current w (taken_by (member_at w z).phase w z)) found ∙ t.2 in
+    goes_so credit.initial x (takes_in w x s y) (effect w (Take by)) (with_node q i b) q' loose does is none (take_steps credit w i s q b n' k y st h t.1 its eb)

@@ -1,0 +1,28 @@
+use Rattle.std.proofs.Common.{◌≡◌, Some, ap, subst, sym, ◌∙◌}
+use Rattle.std.specs.Prelude.{option_map}
+use Rattle.group_view.specs.View.{number}
+use Rattle.ring_parties.specs.Looking.{loose_seen}
+use Rattle.ring_parties.specs.Parties.{node_at}
+use Rattle.ring_parties.specs.Acting.{erasing, viewing, LooksAt}
+use Rattle.ring_parties.specs.Tried.{IsJudged}
+use Rattle.ring_parties.specs.Refused.{id_named, erase_refused, office_of}
+use Rattle.ring_parties.proofs.events.Acted.{ok_also, erase_acts}
+use Rattle.ring_parties.proofs.post.Delivered.{asks_nothing}
+use Rattle.ring_parties.proofs.parties.Parties.act_erase.Goals as goal
+
+pub unknown-requires : goal.unknown-requires
+unknown-requires c = asks_nothing c.self.inside c.args.self.now c.self.view_is c.requires.standing c.args.i c.requires.within c.index.result.now c.index.ensures
+
+pub returns-clause-judged : goal.returns-clause-judged
+returns-clause-judged c =
+    let q = (c.args.self.now).all in
+    let named : id_named q c.args.origin.now ≡ Some c.in-Some.id.0 = c.id_named.ensures.id ∙ ap (option_map number) c.in-Some.is in
+    subst (λ o. IsJudged (erase_refused (office_of q) (node_at q c.args.i) o) c.act_ask.result) (sym named) c.act_ask.ensures.judged
+
+pub returns-clause-ok : goal.returns-clause-ok
+returns-clause-ok c =
+    let q = (c.args.self.now).all in
+    let id = c.in-Some.id.0 in
+    let named : id_named q c.args.origin.now ≡ Some id = c.id_named.ensures.id ∙ ap (option_map number) c.in-Some.is in
+    ok_also c.act_ask.result (λ loose. LooksAt (erasing q id) c.args.i (viewing (erasing q id) q) (c.act_ask.new.self).all (loose_seen loose)) _
+    (λ loose looks by. erase_acts by c.args.origin.now c.args.i id q (c.act_ask.new.self).all (loose_seen loose) named looks) c.act_ask.ensures.ok

@@ -1,0 +1,33 @@
+use Rattle.std.proofs.Common.{set, sym, ◌∙◌, arith}
+use Rattle.ring_parties.specs.Acting.{Stops}
+use Rattle.ring_parties.proofs.standing.Nodes.{at_read, written_shown}
+use Rattle.ring_parties.proofs.events.Acted.{stop_acts}
+use Rattle.ring_parties.proofs.post.Delivered.{inside, none_behind, bare, here, few, asks_nothing, is_ready, unheard}
+use Rattle.ring_parties.proofs.parties.Parties.act_stop.Goals as goal
+
+pub stop_refusal-requires : goal.stop_refusal-requires
+stop_refusal-requires c = asks_nothing c.self.inside c.args.self.now c.self.view_is c.requires.standing c.args.i c.requires.within c.index.result.now c.index.ensures
+
+pub overflow_cast-i : goal.overflow_cast-i
+overflow_cast-i c = omega (arith, few c.self.inside c.args.self.now c.self.view_is c.requires.standing, inside c.self.inside c.args.self.now c.self.view_is c.args.i c.requires.within)
+
+pub overflow_add-i : goal.overflow_add-i
+overflow_add-i c = omega (arith, few c.self.inside c.args.self.now c.self.view_is c.requires.standing, inside c.self.inside c.args.self.now c.self.view_is c.args.i c.requires.within)
+
+pub notify-requires-clause-here : goal.notify-requires-clause-here
+notify-requires-clause-here c = here c.self.inside c.args.self.now c.self.view_is c.requires.standing
+
+pub notify-requires-clause-allowed : goal.notify-requires-clause-allowed
+notify-requires-clause-allowed c = unheard c.self.inside c.args.self.now c.self.view_is c.requires.delivered c.requires.standing c.args.i c.requires.within c.index.result.now c.index.ensures (sym c.stop_refusal.ensures ∙ c.in_default.is)
+
+pub stop-requires : goal.stop-requires
+stop-requires c = is_ready c.self.inside c.args.self.now c.self.view_is c.requires.standing c.args.i c.requires.within c.index_mut.result.now c.index_mut.ensures.value
+
+pub returns-clause-ok : goal.returns-clause-ok
+returns-clause-ok c = λ by d.
+    let l = inside c.self.inside c.args.self.now c.self.view_is c.args.i c.requires.within in
+    let stops = at_read Stops c.self.inside.members.items c.args.i c.index_mut.result.now (record c.index_mut.result.now { node = c.stop.new.node }) l c.index_mut.ensures.value c.in-Ok.ensures.tries.ok in
+    let old = bare c.self.inside c.args.self.now c.self.view_is c.requires.delivered in
+    let new = none_behind c.self.inside c.args.self.now c.self.view_is c.requires.delivered (set c.self.inside.members.items c.args.i (record c.index_mut.result.now { node = c.stop.new.node })) c.notify.new.registrar in
+    rw (old, new)
+    (stop_acts by c.args.i d c.self.inside.members.items (set c.self.inside.members.items c.args.i (record c.index_mut.result.now { node = c.stop.new.node })) c.self.inside.registrar c.notify.new.registrar stops (written_shown c.self.inside.members.items c.args.i (record c.index_mut.result.now { node = c.stop.new.node }) l) c.in_ok-notify.ensures.ok)

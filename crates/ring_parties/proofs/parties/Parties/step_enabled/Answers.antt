@@ -1,0 +1,27 @@
+use Rattle.std.proofs.Common.{arith, sym, subst}
+use Rattle.ring_parties.specs.Standing.{StandAfter}
+use Rattle.ring_parties.proofs.events.Closing.{found_at}
+use Rattle.ring_parties.proofs.parties.Parties.step_enabled.Goals as goal
+
+pub collect-requires-clause-within : goal.collect-requires-clause-within
+collect-requires-clause-within c =
+    let stand = subst (StandAfter c.args.credit c.args.names.now c.args.journal.now.items) (sym c.hand_over.ensures.same) c.requires.standing in
+    omega (arith, c.requires.at.0, stand.stand.stand.count)
+
+pub collect-requires-clause-standing : goal.collect-requires-clause-standing
+collect-requires-clause-standing c = (
+  c.args.credit,
+  c.args.names.now,
+  c.args.journal.now.items,
+  subst (StandAfter c.args.credit c.args.names.now c.args.journal.now.items) (sym c.hand_over.ensures.same) c.requires.standing,
+)
+
+pub happen-requires-clause-within : goal.happen-requires-clause-within
+happen-requires-clause-within c =
+    let old = subst (StandAfter c.args.credit c.args.names.now c.args.journal.now.items) (sym c.hand_over.ensures.same) c.requires.standing in
+    omega (arith, c.requires.at.0, (c.collect.ensures.standing c.args.credit c.args.names.now c.args.journal.now.items old).stand.stand.count)
+
+pub happen-requires-clause-named : goal.happen-requires-clause-named
+happen-requires-clause-named c =
+    let old = subst (StandAfter c.args.credit c.args.names.now c.args.journal.now.items) (sym c.hand_over.ensures.same) c.requires.standing in
+    found_at c.args.credit c.args.names.now c.args.journal.now.items (c.collect.new.self).all c.args.event.now c.args.i (c.collect.ensures.standing c.args.credit c.args.names.now c.args.journal.now.items old) c.requires.at

@@ -1,0 +1,15 @@
+pub mod Acting
+pub mod Behind
+pub mod Collecting
+pub mod Ends
+pub mod Gathered
+pub mod Looking
+pub mod Loose
+pub mod Meeting
+pub mod Opened
+pub mod OwnSteps
+pub mod Parties
+pub mod Refused
+pub mod Standing
+pub mod States
+pub mod Tried

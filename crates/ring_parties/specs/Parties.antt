@@ -1,0 +1,144 @@
+-- What the parties of a cluster show: its members with the ends of their links, and its registrar with the links that wait there.
+use Rattle.std.specs.Prelude.{◌≡◌, ℕ, ◌++◌, Bool, false, List, [], map, slice_index_or, slice_set, Option, Some, None, option_map}
+use Rattle.ordered_link.specs.declared.item.Item.{Item}
+use Rattle.ordered_link.specs.declared.item.Item.TheVariants as item
+use Rattle.ordered_link.specs.declared.ends.LinkOut.{Ghosts}
+use Rattle.ordered_link.specs.declared.plain.PlainOut.{PlainOut}
+use Rattle.ordered_link.specs.declared.plain.PlainIn.{PlainIn}
+use Rattle.ordered_link.specs.Steps.{PlainPuts, PlainGains}
+use Rattle.group_view.specs.declared.link.LinkName.{LinkName}
+use Rattle.group_view.specs.View.{Group}
+use Rattle.group_view.specs.Since.{no_group}
+use Rattle.ring_rules.specs.declared.phase.Phase.TheVariants as phase
+use Rattle.registrar.specs.Registry.{Registry}
+use Rattle.registrar.specs.declared.standing.Standing.{Standing}
+use Rattle.activity.specs.declared.packet.Load.{Load}
+use Rattle.gm_member.specs.declared.member.Member.{Member}
+use Rattle.gm_member.specs.Parcels.{by_origin}
+use Rattle.gm_member.specs.Loads.{parcel_in}
+use Rattle.gm_member.specs.Held.{Held}
+use Rattle.gm_member.specs.Shown.{Ends, held_of, ends_of, with_in as with_end}
+use Rattle.ring_parties.specs.declared.party.Party.{Party}
+use Rattle.ring_parties.specs.Ends.{Sent, OutSeen, InSeen}
+
+-- what a plain out end shows as the end of a link
+abbrev pub plain_out : Ghosts (PlainOut Load) Load
+plain_out = record { free = λ e. e.free; ended = λ e. e.ended; grants = λ e. e.back.items; puts = PlainPuts; gains = PlainGains; looked = λ a b. b ≡ a }
+
+-- a member over plain pairs
+abbrev pub ANode : Type 0
+ANode = Member (PlainOut Load) (PlainIn Load) plain_out
+
+-- ---- what ends show
+
+-- an item of a link
+abbrev pub content : Item Load → Option Sent
+content (item.Load x) = Some (record { view = (parcel_in x).view; lines = (by_origin (parcel_in x)).lines })
+content (item.End reason) = None
+
+-- an out end
+abbrev pub out_seen : PlainOut Load → OutSeen
+out_seen o = record { waiting = map content o.waiting.items; back = o.back.items; initial = o.initial; free = o.free; ended = o.ended }
+
+-- an in end
+abbrev pub in_seen : PlainIn Load → InSeen
+in_seen n = record { items = map content n.items.items; given = n.given.items; late = n.late; initial = n.initial; free = n.free }
+
+-- what the ends that a member has show
+abbrev pub EndsSeen : Type 0
+EndsSeen = Ends OutSeen InSeen
+
+-- ends that were replaced, with the names of their links
+abbrev pub named_out : LinkName × PlainOut Load → LinkName × OutSeen
+named_out old = (old.0, out_seen old.1)
+
+-- ends that were left
+abbrev pub named_in : LinkName × PlainIn Load → LinkName × InSeen
+named_in old = (old.0, in_seen old.1)
+
+-- what they show
+abbrev pub ends_seen : Ends (PlainOut Load) (PlainIn Load) → EndsSeen
+ends_seen e = record {
+  out = option_map out_seen e.out;
+  kept = e.kept;
+  link = option_map in_seen e.link;
+  door = map (option_map in_seen) e.door;
+  old_outs = map named_out e.old_outs;
+  old_ins = map named_in e.old_ins;
+}
+
+-- ---- members
+
+-- What a member shows: what it holds, and its ends.
+pub record Shown : Type 0 where
+  pub held : Held
+  pub ends : EndsSeen
+
+-- what this one shows
+abbrev pub shown_of : ANode → Shown
+shown_of m = record { held = held_of m; ends = ends_seen (ends_of m) }
+
+-- what the member of a party shows
+abbrev pub shown_in : Party → Shown
+shown_in p = shown_of p.node
+
+-- what a member shows that isn't there, for places beyond the last
+abbrev pub no_shown : Shown
+no_shown = record {
+  held = record { id = 0; name = []; phase = phase.Stopped; view = no_group; known = []; out = None; current = None; door = []; asks = false; initial = 0; more = 0 };
+  ends = record { out = None; kept = None; link = None; door = []; old_outs = []; old_ins = [] };
+}
+
+-- ---- the registrar
+
+-- A link that waits for its receiver: its name, and its end, where it isn't lent.
+pub record Posted : Type 0 where
+  pub name : LinkName
+  pub end : Option InSeen
+
+-- one that stands at the registrar
+abbrev pub posted : Standing (PlainIn Load) → Posted
+posted s = record { name = s.name; end = option_map in_seen s.link }
+
+-- a link whose end isn't there
+abbrev pub no_posted : LinkName → Posted
+no_posted name = record { name = name; end = None }
+
+-- ---- all of them
+
+-- The members by their places, which are their ids less one; the views by version, and the ids of those that gave notice that they
+-- stopped; and the links that wait for their receivers, the oldest first.
+pub record Parties : Type 0 where
+  pub nodes : List Shown
+  pub views : List Group
+  pub stopped : List ℕ
+  pub post : List Posted
+
+-- the parties, with these links behind those that stand at the registrar
+abbrev pub parties : List Party → Registry (PlainIn Load) → List Posted → Parties
+parties members r behind = record { nodes = map shown_in members; views = r.views; stopped = r.stopped; post = map posted r.links ++ behind }
+
+-- What is seen of the parties: what they show, and whether the registrar is owed a link that waits behind those which stand there.
+pub record PartiesSeen : Type 0 where
+  pub all : Parties
+  pub owes : Bool
+
+-- the member at a place
+abbrev pub node_at : Parties → ℕ → Shown
+node_at q i = slice_index_or q.nodes i no_shown
+
+-- the names of the members, by places
+abbrev pub names_shown : Parties → List (List ℕ)
+names_shown q = map (λ m. m.held.name) q.nodes
+
+-- it is another
+abbrev pub with_node : Parties → ℕ → Shown → Parties
+with_node q i m = record q { nodes = slice_set q.nodes i m }
+
+-- a member with another out end
+abbrev pub with_out : Shown → OutSeen → Shown
+with_out m o = record m { ends = record m.ends { out = Some o } }
+
+-- and with another end of a link to it
+abbrev pub with_in : Shown → ℕ → InSeen → Shown
+with_in m place n = record m { ends = with_end m.ends place (Some n) }

@@ -1,0 +1,101 @@
+-- Why an event is refused, by what the parties show.
+use Rattle.std.specs.Prelude.{◌≡◌, ℕ, ◌+◌, ◌-◌, ◌&&◌, ◌||◌, Bool, cond, not, nat_le, bytes_eq, List, [], ◌∷◌, length, Option, Some, None, map, option_map, position, is_some}
+use Rattle.std.specs.List.{filter}
+use Rattle.ring_names.specs.declared.reason.Reason.{Reason}
+use Rattle.ring_names.specs.declared.reason.Reason.TheVariants as reason
+use Rattle.ring_names.specs.declared.numbers.CreditSpec.{CreditSpec}
+use Rattle.group_view.specs.View.{Group}
+use Rattle.group_view.specs.Change.{is_taken, most_entries}
+use Rattle.ring_rules.specs.declared.event.Event.{Event}
+use Rattle.ring_rules.specs.declared.event.Event.TheVariants.{Mark, Refresh, Admit, Erase, Refuse}
+use Rattle.ring_rules.specs.declared.event.Client.{Client}
+use Rattle.ring_rules.specs.declared.event.Client.TheVariants as client
+use Rattle.ring_rules.specs.Refusal.{refuse_if, or_else}
+use Rattle.ring_rules.specs.Event.{refusal, is_told}
+use Rattle.registrar.specs.declared.standing.Standing.{Standing}
+use Rattle.registrar.specs.Registry.{Registry}
+use Rattle.registrar.specs.Asked.{mark_refusal, erase_refusal}
+use Rattle.activity.specs.Kept.{got_of}
+use Rattle.gm_member.specs.Parcels.{known_at}
+use Rattle.gm_member.specs.Held.{Held, at_some, up_refused, first_at_door, is_for, collected_held}
+use Rattle.ring_parties.specs.Ends.{InSeen}
+use Rattle.ring_parties.specs.Parties.{Shown, Posted, Parties, node_at}
+use Rattle.ring_parties.specs.States.{state, IsEventIn}
+use Rattle.ring_parties.specs.Standing.{StandAfter}
+use Rattle.ring_parties.specs.Acting.{waits_at, received, alone_refused, stop_refused, look_refused, newest_of}
+
+-- the id of the member of that name
+abbrev pub id_named : Parties → List ℕ → Option ℕ
+id_named q name = option_map (λ i. i + 1) (position (λ m. bytes_eq m.held.name name) q.nodes)
+
+-- no link waits for x
+abbrev pub NothingWaits : ℕ → Parties → Type 0
+NothingWaits x q = filter (waits_at x) q.post ≡ []
+
+-- a link that waits at the registrar, by what it shows
+abbrev pub standing_of : Posted → Standing InSeen
+standing_of d = record { name = d.name; link = d.end }
+
+-- what the registrar keeps, by what the parties show
+abbrev pub office_of : Parties → Registry InSeen
+office_of q = record { views = q.views; stopped = q.stopped; links = map standing_of q.post }
+
+-- why a member doesn't have d marked dead by the registrar that keeps r; where nobody has the name of the one to be marked, as such
+abbrev pub mark_refused : {I : Type 0} → Registry I → Shown → Option ℕ → Option Reason
+mark_refused r m None = up_refused m.held (Some reason.UnknownMember)
+mark_refused r m (Some d) = up_refused m.held (mark_refusal r m.held.id d m.held.view.version (is_some m.held.current || is_some (first_at_door m.held)))
+
+-- why it doesn't have p erased by it
+abbrev pub erase_refused : {I : Type 0} → Registry I → Shown → Option ℕ → Option Reason
+erase_refused r m None = up_refused m.held (Some reason.UnknownMember)
+erase_refused r m (Some p) = up_refused m.held
+    (erase_refusal r m.held.id p (got_of (known_at m.held.known (p - 1))) (known_at m.held.known (p - 1)).retired m.held.view.version)
+
+-- why nobody is admitted under a name, by the newest view
+abbrev pub admission_refused : Group → List ℕ → Option Reason
+admission_refused g name =
+    or_else (refuse_if (is_taken g.entries name) reason.NameTaken) (refuse_if (nat_le most_entries (length g.entries)) reason.TooManyMembers)
+
+-- why a member doesn't do what a client asks, where this is the newest view
+abbrev pub client_refused : Group → Client → Shown → Option Reason
+client_refused g (client.Cast by body) m = up_refused m.held None
+client_refused g (client.Stop by) m = stop_refused m
+client_refused g (client.Admit by name) m = up_refused m.held (admission_refused g name)
+
+-- why it doesn't tell the client so with this number
+abbrev pub telling_refused : Group → ℕ → Client → Shown → Option Reason
+telling_refused g code inner m = refuse_if (not (is_told code (client_refused g inner m))) reason.NotRefused
+
+-- the first failing condition of an event of the member at place i
+abbrev pub act_refused : Event → ℕ → Parties → Option Reason
+act_refused (Mark by dead) i q = mark_refused (office_of q) (node_at q i) (id_named q dead)
+act_refused (Refresh by version) i q = look_refused (newest_of q).version (node_at q i) version
+act_refused (Erase by origin) i q = erase_refused (office_of q) (node_at q i) (id_named q origin)
+act_refused (Admit by name) i q = up_refused (node_at q i).held (admission_refused (newest_of q) name)
+act_refused (Refuse code inner) i q = telling_refused (newest_of q) code inner (node_at q i)
+act_refused e i q = alone_refused e (node_at q i)
+
+-- the id of the one that is to be marked or erased
+abbrev pub marked_in : Event → Parties → ℕ
+marked_in (Mark by dead) q = at_some (id_named q dead) 0 (λ d. d)
+marked_in (Erase by origin) q = at_some (id_named q origin) 0 (λ d. d)
+marked_in e q = 0
+
+-- ---- before the member has collected what waits for it
+
+-- h, with those of these links at its door that wait for it and that it keeps
+abbrev pub with_post : Held → List Posted → Held
+with_post h ps = collected_held h (map (received h) (filter (waits_at h.id) ps))
+
+-- whether a link waits for the member, and comes from its left neighbour, which was that already when the link opened
+abbrev pub comes_for : Held → Posted → Bool
+comes_for h d = waits_at h.id d && is_for h.view h.id (received h d)
+
+-- in which version of its sender's view the first of these links opened that does
+abbrev pub first_for : Held → List Posted → Option ℕ
+first_for h [] = None
+first_for h (d ∷ ps) = cond (comes_for h d) (Some d.name.view) (first_for h ps)
+
+-- wherever these parties stand, this is the first failing condition of an event of the member at a place
+abbrev pub IsRefusalAt : ℕ → Event → Parties → Option Reason → Type 0
+IsRefusalAt i e q r = (credit : CreditSpec) (names : List (List ℕ)) (events : List Event) → StandAfter credit names events q → IsEventIn (state credit names events) i e → r ≡ refusal (state credit names events) e

@@ -1,0 +1,302 @@
+//! An event of a member of the cluster.
+ghost use Rattle.std.specs.Prelude.{◌≡◌, ◌+◌, ◌-◌, ◌<◌, ◌≤◌, ℕ, List, [], true, false, IfSome, IfErr, IfOk, OnOk};
+ghost use Rattle.std.specs.Prelude.{OnErr, Some, None, map, length, position, bytes_eq, option_map};
+ghost use Rattle.registrar.specs.Registry.{AreHere};
+ghost use Rattle.registrar.specs.Handled.{with_stopped};
+ghost use Rattle.registrar.specs.Asked.{stop_refusal as the_stop_refusal};
+ghost use Rattle.ring_parties.specs.Parties.{shown_of, shown_in};
+ghost use Rattle.ring_parties.specs.Acting.{IsReady};
+ghost use Rattle.ring_parties.specs.Acting.{is_alone as the_alone, alone_refused, DoesAlone};
+ghost use Rattle.ring_parties.specs.Tried.{IsJudged};
+
+use crate::looking::{Loose, ask, look};
+use crate::node::{Node, cast, gain, pick, put, stop, take, take_end};
+use crate::parties::Parties;
+use crate::party::Party;
+use crate::refusing::{look_refusal, stop_refusal, telling_refusal, unknown};
+use activity::Load;
+use gm_member::Ask;
+use group_view::Request;
+use ordered_link::PlainIn;
+use registrar::Registrar;
+use ring_names::{CreditSpec, MemberId, Name};
+use ring_rules::{Client, Event, Refused};
+
+/// Whether the member has that name.
+fn has_name(node: &Node, name: &Name) -> bool
+    ensures { result ≡ bytes_eq (shown_of node.now).held.name name.now }
+{
+    node.name().bytes() == name.bytes()
+}
+
+/// The place of the first member of that name.
+fn first_named(members: &[Party], name: &Name) -> Option<usize>
+    ensures place { result ≡ position (λ m. bytes_eq (shown_in m).held.name name.now) members.now }
+    ensures within { IfSome result (λ i. i < length members.now) }
+{
+    members.iter().position(|party| has_name(&party.node, name))
+}
+
+/// The event of a member that does it by itself happens, where it is enabled.
+fn do_alone(node: &mut Node, event: &Event) -> Result<(), Refused>
+    requires alone { the_alone event.now ≡ true }
+    requires ready { IsReady (shown_of node.old) }
+    ensures judged { IsJudged (alone_refused event.now (shown_of node.old)) result }
+    ensures ok { OnOk result (DoesAlone event.now (shown_of node.old) (shown_of node.new)) }
+    ensures err { OnErr result (shown_of node.new ≡ shown_of node.old) }
+{
+    match event {
+        Event::Cast { by: _, body } => cast(node, body),
+        Event::Put { by: _ } => put(node),
+        Event::Take { by: _ } => take(node),
+        Event::TakeEnd { by: _ } => take_end(node),
+        Event::Gain { by: _ } => gain(node),
+        Event::Pick { by: _ } => pick(node),
+        Event::Stop { by: _ }
+        | Event::Mark { by: _, dead: _ }
+        | Event::Refresh { by: _, view: _ }
+        | Event::Admit { by: _, name: _ }
+        | Event::Erase { by: _, origin: _ }
+        | Event::Refuse { code: _, inner: _ } => unreachable!(),
+    }
+}
+
+/// Whether the member does the event by itself, on its own links alone.
+pub(crate) fn is_alone(event: &Event) -> bool
+    ensures { result ≡ the_alone event.now }
+{
+    !matches!(
+        event,
+        Event::Stop { .. }
+            | Event::Mark { .. }
+            | Event::Refresh { .. }
+            | Event::Admit { .. }
+            | Event::Erase { .. }
+            | Event::Refuse { .. }
+    )
+}
+
+/// The registrar hears that a member stops, of which it hasn't heard before.
+fn notify(registrar: &mut Registrar<PlainIn<Load>>, by: MemberId) -> Result<(), Refused>
+    requires here { AreHere (registrar.old).links }
+    requires allowed { the_stop_refusal registrar.old by.0 ≡ None }
+    ensures ok { OnOk result (registrar.new ≡ with_stopped registrar.old by.0) }
+    ensures reason { IfErr result (λ e. e ≡ Refused.OutOfMemory) }
+    ensures err { OnErr result (registrar.new ≡ registrar.old) }
+{
+    match registrar.handle(Request::Stopped { by }) {
+        Ok(_noted) => Ok(()),
+        Err((_request, _fault)) => Err(Refused::OutOfMemory),
+    }
+}
+
+impl Parties {
+    ghost use Rattle.std.specs.Prelude.{◌≡◌, ◌+◌, ◌<◌, ◌≤◌, ℕ, List, true, false, IfSome, IfOk, OnOk, OnErr, None};
+    ghost use Rattle.std.specs.Prelude.{length};
+    ghost use Rattle.std.specs.Prelude.{option_map};
+    ghost use Rattle.group_view.specs.View.{number};
+    ghost use Rattle.group_view.specs.Since.{view_at};
+    ghost use Rattle.ring_rules.specs.declared.event.Event.TheVariants.{Stop, Mark, Erase};
+    ghost use Rattle.ring_parties.specs.Parties.{node_at};
+    ghost use Rattle.ring_parties.specs.Standing.{StandSomewhere};
+    ghost use Rattle.ring_parties.specs.Tried.{IsJudged};
+    ghost use Rattle.ring_parties.specs.Looking.{loose_seen};
+    ghost use Rattle.ring_parties.specs.Acting.{is_alone as the_alone, alone_refused, stop_refused, look_refused};
+    ghost use Rattle.ring_parties.specs.Acting.{newest_of, viewing, LooksAt, HasCredit, Acts};
+    ghost use Rattle.ring_parties.specs.Refused.{id_named, mark_refused, erase_refused, office_of, act_refused};
+    ghost use Rattle.ring_parties.specs.Refused.{telling_refused, marked_in};
+    ghost use Rattle.ring_parties.specs.Looking.{makes_view, ask_refused, view_for};
+
+    /// The place of the member of that name.
+    pub fn place_named(&self, name: &Name) -> Option<usize>
+        ensures place { id_named (self.now).all name.now ≡ option_map (λ i. i + 1) result }
+        ensures within { IfSome result (λ i. i < length (self.now).all.nodes) }
+    {
+        first_named(&self.members, name)
+    }
+
+    /// The id of the member of that name.
+    pub(crate) fn id_named(&self, name: &Name) -> Option<MemberId>
+        requires { StandSomewhere (self.now).all }
+        ensures id { id_named (self.now).all name.now ≡ option_map number result }
+        ensures within { IfSome result (λ id. 1 ≤ id.0) }
+    {
+        let place = self.place_named(name)?;
+        Some(MemberId(place as u32 + 1))
+    }
+
+    /// The event of the member at a place happens there, where it is enabled: the out end that the member replaces.
+    pub(crate) fn act(
+        &mut self,
+        credit: CreditSpec,
+        i: usize,
+        event: &Event,
+    ) -> Result<Option<Loose>, Refused>
+        requires within { i < length (self.old).all.nodes }
+        requires credit { HasCredit credit (node_at (self.old).all i).held }
+        requires delivered { (self.old).owes ≡ false }
+        requires standing { StandSomewhere (self.old).all }
+        ensures judged { IsJudged (act_refused event.now i (self.old).all) result }
+        ensures ok { IfOk result (λ loose. Acts event.now i (marked_in event.now (self.old).all)
+            (self.old).all (self.new).all (loose_seen loose)) }
+        ensures err { OnErr result (self.new ≡ self.old) }
+    {
+        if is_alone(event) {
+            self.act_alone(i, event)?;
+            return Ok(None);
+        }
+        match event {
+            Event::Stop { by: _ } => {
+                self.act_stop(i)?;
+                Ok(None)
+            }
+            Event::Mark { by: _, dead } => Ok(self.act_mark(i, dead)?),
+            Event::Admit { by: _, name } => Ok(self.act_admit(credit, i, name)?),
+            Event::Erase { by: _, origin } => Ok(self.act_erase(i, origin)?),
+            Event::Refresh { by: _, view } => Ok(self.act_refresh(i, *view)?),
+            Event::Refuse { code, inner } => {
+                self.act_refuse(i, *code, inner)?;
+                Ok(None)
+            }
+            Event::Cast { by: _, body: _ }
+            | Event::Put { by: _ }
+            | Event::Take { by: _ }
+            | Event::TakeEnd { by: _ }
+            | Event::Gain { by: _ }
+            | Event::Pick { by: _ } => unreachable!(),
+        }
+    }
+
+    /// The member at a place does the event by itself, where it is enabled.
+    fn act_alone(&mut self, i: usize, event: &Event) -> Result<(), Refused>
+        requires within { i < length (self.old).all.nodes }
+        requires alone { the_alone event.now ≡ true }
+        requires delivered { (self.old).owes ≡ false }
+        requires standing { StandSomewhere (self.old).all }
+        ensures judged { IsJudged (alone_refused event.now (node_at (self.old).all i)) result }
+        ensures ok { OnOk result ((d : ℕ) → Acts event.now i d (self.old).all (self.new).all None) }
+        ensures err { OnErr result (self.new ≡ self.old) }
+    {
+        do_alone(&mut self.members[i].node, event)?;
+        Ok(())
+    }
+
+    /// The member at a place stops, where it may, and the registrar hears of it first.
+    fn act_stop(&mut self, i: usize) -> Result<(), Refused>
+        requires within { i < length (self.old).all.nodes }
+        requires delivered { (self.old).owes ≡ false }
+        requires standing { StandSomewhere (self.old).all }
+        ensures judged { IsJudged (stop_refused (node_at (self.old).all i)) result }
+        ensures ok { OnOk result ((by : List ℕ) (d : ℕ) → Acts (Stop by) i d (self.old).all (self.new).all None) }
+        ensures err { OnErr result (self.new ≡ self.old) }
+    {
+        if let Some(reason) = stop_refusal(&self.members[i].node) {
+            return Err(Refused::NotEnabled(reason));
+        }
+        notify(&mut self.registrar, MemberId(i as u32 + 1))?;
+        match stop(&mut self.members[i].node) {
+            Ok(()) => Ok(()),
+            Err(_) => unreachable!(),
+        }
+    }
+
+    /// The member at a place reads the view of a version, where it may.
+    fn act_refresh(&mut self, i: usize, version: u32) -> Result<Option<Loose>, Refused>
+        requires within { i < length (self.old).all.nodes }
+        requires delivered { (self.old).owes ≡ false }
+        requires standing { StandSomewhere (self.old).all }
+        ensures judged { IsJudged (look_refused (newest_of (self.old).all).version
+            (node_at (self.old).all i) version) result }
+        ensures ok { IfOk result (λ loose. LooksAt (view_at (self.old).all.views version) i
+            (self.old).all (self.new).all (loose_seen loose)) }
+        ensures err { OnErr result (self.new ≡ self.old) }
+    {
+        if let Some(reason) = look_refusal(
+            &self.members[i].node,
+            self.registrar.view().version,
+            version,
+        ) {
+            return Err(Refused::NotEnabled(reason));
+        }
+        let Some(view) = self.registrar.published(version) else {
+            unreachable!()
+        };
+        let Ok(view) = view.copy() else {
+            return Err(Refused::OutOfMemory);
+        };
+        let Ok(looked) = look(&mut self.members[i].node, view) else {
+            return Err(Refused::OutOfMemory);
+        };
+        self.late = looked.opened;
+        Ok(looked.loose)
+    }
+
+    /// The member at a place tells a client that what it asks isn't done, where that is so: nothing changes.
+    fn act_refuse(&self, i: usize, code: u32, asked: &Client) -> Result<(), Refused>
+        requires within { i < length (self.now).all.nodes }
+        requires standing { StandSomewhere (self.now).all }
+        ensures { IsJudged (telling_refused (newest_of (self.now).all) code asked.now
+            (node_at (self.now).all i)) result }
+    {
+        let node = &self.members[i].node;
+        match telling_refusal(self.registrar.view(), node, code, asked) {
+            Some(reason) => Err(Refused::NotEnabled(reason)),
+            None => Ok(()),
+        }
+    }
+
+    /// The member at a place has the one of a name marked dead by the registrar, where it may.
+    fn act_mark(&mut self, i: usize, dead: &Name) -> Result<Option<Loose>, Refused>
+        requires within { i < length (self.old).all.nodes }
+        requires delivered { (self.old).owes ≡ false }
+        requires standing { StandSomewhere (self.old).all }
+        ensures judged { IsJudged (mark_refused (office_of (self.old).all) (node_at (self.old).all i)
+            (id_named (self.old).all dead.now)) result }
+        ensures ok { IfOk result (λ loose. (by : List ℕ) → Acts (Mark by dead.now) i
+            (marked_in (Mark by dead.now) (self.old).all) (self.old).all (self.new).all (loose_seen loose)) }
+        ensures err { OnErr result (self.new ≡ self.old) }
+    {
+        let Some(id) = self.id_named(dead) else {
+            return Err(Refused::NotEnabled(unknown(&self.members[i].node)));
+        };
+        self.act_ask(i, Ask::Mark(id))
+    }
+
+    /// It has the one of a name erased, likewise.
+    fn act_erase(&mut self, i: usize, origin: &Name) -> Result<Option<Loose>, Refused>
+        requires within { i < length (self.old).all.nodes }
+        requires delivered { (self.old).owes ≡ false }
+        requires standing { StandSomewhere (self.old).all }
+        ensures judged { IsJudged (erase_refused (office_of (self.old).all) (node_at (self.old).all i)
+            (id_named (self.old).all origin.now)) result }
+        ensures ok { IfOk result (λ loose. (by : List ℕ) → Acts (Erase by origin.now) i
+            (marked_in (Erase by origin.now) (self.old).all) (self.old).all (self.new).all (loose_seen loose)) }
+        ensures err { OnErr result (self.new ≡ self.old) }
+    {
+        let Some(id) = self.id_named(origin) else {
+            return Err(Refused::NotEnabled(unknown(&self.members[i].node)));
+        };
+        self.act_ask(i, Ask::Erase(id))
+    }
+
+    /// The member at a place asks the registrar to make a view, and has it, where it may.
+    fn act_ask(&mut self, i: usize, what: Ask) -> Result<Option<Loose>, Refused>
+        requires makes { makes_view what ≡ true }
+        requires within { i < length (self.old).all.nodes }
+        requires delivered { (self.old).owes ≡ false }
+        requires standing { StandSomewhere (self.old).all }
+        ensures judged { IsJudged (ask_refused (office_of (self.old).all) (node_at (self.old).all i) what) result }
+        ensures ok { IfOk result (λ loose. LooksAt (view_for (office_of (self.old).all) (i + 1) what) i
+            (viewing (view_for (office_of (self.old).all) (i + 1) what) (self.old).all) (self.new).all
+            (loose_seen loose)) }
+        ensures err { OnErr result (self.new ≡ self.old) }
+    {
+        match ask(&mut self.members[i].node, &mut self.registrar, what) {
+            Ok(looked) => {
+                self.late = looked.opened;
+                Ok(looked.loose)
+            }
+            Err(refused) => Err(refused),
+        }
+    }
+}

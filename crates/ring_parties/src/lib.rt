@@ -1,0 +1,22 @@
+//! The parties of a cluster: its members over plain pairs, the registrar that keeps their views, and a link that
+//! hasn't reached it yet. They do one event of the ring, or say why not.
+//! Begin at `Parties`, and at specs/Parties.antt for what parties show.
+#![tactic(auto)]
+
+mod acting;
+mod admitting;
+mod collecting;
+mod looking;
+mod meeting;
+mod node;
+mod opening;
+mod own_step;
+mod parties;
+mod party;
+mod refusing;
+mod stepping;
+mod undelivered;
+
+pub use node::Node;
+pub use own_step::OwnStep;
+pub use parties::Parties;

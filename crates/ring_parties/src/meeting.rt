@@ -1,0 +1,308 @@
+//! The ends of each link meet.
+ghost use Rattle.std.specs.Prelude.{◌≡◌, ◌+◌, ◌-◌, ◌≤◌, ◌<◌, ℕ, true, false, map, length, IfSome, IfNone, IsSome};
+ghost use Rattle.std.specs.Prelude.{List, None, Some, option_map, slice_index_or, slice_set};
+ghost use Rattle.group_view.specs.declared.link.LinkName.{LinkName};
+ghost use Rattle.ring_rules.specs.Machine.{runs_phase};
+ghost use Rattle.registrar.specs.Registry.{name_in, end_in};
+ghost use Rattle.gm_member.specs.Shown.{in_name_of, out_name_of, in_end};
+ghost use Rattle.ring_parties.specs.Ends.{Fits, Meets, InSeen};
+ghost use Rattle.ring_parties.specs.Parties.{shown_of, shown_in, out_seen, in_seen};
+ghost use Rattle.ring_parties.specs.Parties.{with_in, with_out, posted, no_shown};
+ghost use Rattle.ring_parties.specs.Behind.{behind};
+ghost use Rattle.ring_parties.specs.Meeting.{IsToMeet, MeetsEnd, HasNone, NodeMayMeet, NodeMeets, PostMayMeet};
+ghost use Rattle.ring_parties.specs.Meeting.{PostMeets, NoneIsPosted, lent_out};
+
+use crate::node::Node;
+use crate::parties::Parties;
+use crate::party::Party;
+use crate::undelivered::Undelivered;
+use activity::Load;
+use group_view::LinkName;
+use ordered_link::{PlainIn, PlainOut, meet};
+use registrar::Registrar;
+
+/// Lets two ends meet.
+fn meet_two(out: &mut PlainOut<Load>, link: &mut PlainIn<Load>)
+    requires { Fits (out_seen out.old) (in_seen link.old) }
+    ensures { Meets (out_seen out.old) (in_seen link.old) (out_seen out.new) (in_seen link.new) }
+{
+    meet(out, link);
+}
+
+/// Whether two names are one.
+fn is_same(one: &LinkName, other: &LinkName) -> bool
+    ensures same { result ≡ true → one.now ≡ other.now }
+    ensures differ { result ≡ false → one.now ≡ other.now → ⊥ }
+{
+    one == other
+}
+
+/// Whether the link to a member at a place has this name.
+fn is_named(node: &Node, place: usize, name: &LinkName) -> bool
+    ensures named { result ≡ true → in_name_of (shown_of node.now).held place ≡ Some name.now }
+    ensures other { result ≡ false → in_name_of (shown_of node.now).held place ≡ Some name.now → ⊥ }
+{
+    match node.name_at(place) {
+        Some(other) => is_same(&other, name),
+        None => false,
+    }
+}
+
+/// The place of the link of that name among those to a member, as `Node::name_at` counts them.
+#[tactic(auto, using(crate::proofs::meetings::Meets::none_further))]
+fn place_of(node: &Node, name: &LinkName) -> Option<usize>
+    ensures some { IfSome result (λ place. in_name_of (shown_of node.now).held place ≡ Some name.now) }
+    ensures none { IfNone result (HasNone (shown_of node.now).held name.now) }
+{
+    if is_named(node, 0, name) {
+        return Some(0);
+    }
+    let mut place = 1;
+    while node.name_at(place).is_some() {
+        if is_named(node, place, name) {
+            return Some(place);
+        }
+        place += 1;
+    }
+    None
+}
+
+/// Lets an out end meet the end of the link to a member at a place.
+fn meet_at(node: &mut Node, place: usize, out: &mut PlainOut<Load>)
+    requires stands { IsSome (in_name_of (shown_of node.old).held place) }
+    requires may { IsToMeet (out_seen out.old) (in_end (shown_of node.old).ends place) }
+    ensures { (met : InSeen)
+        × MeetsEnd (out_seen out.old) (in_end (shown_of node.old).ends place) (out_seen out.new) met
+        × (shown_of node.new ≡ with_in (shown_of node.old) place met) }
+{
+    let Some(mut link) = node.lend_at(place) else {
+        unreachable!()
+    };
+    meet_two(out, &mut link);
+    node.give_at(place, link);
+}
+
+/// Lets an out end meet the end of the link of that name to a member: whether there is one.
+fn meet_node(node: &mut Node, out: &mut PlainOut<Load>, name: &LinkName) -> bool
+    requires { NodeMayMeet (shown_of node.old) name.now (out_seen out.old) }
+    ensures met { result ≡ true → NodeMeets (shown_of node.old) name.now (out_seen out.old)
+        (shown_of node.old) (shown_of node.new) (out_seen out.new) }
+    ensures none { result ≡ false → HasNone (shown_of node.old).held name.now }
+    ensures same { result ≡ false → shown_of node.new ≡ shown_of node.old }
+    ensures out { result ≡ false → out_seen out.new ≡ out_seen out.old }
+{
+    match place_of(node, name) {
+        Some(place) => {
+            meet_at(node, place, out);
+            true
+        }
+        None => false,
+    }
+}
+
+/// Whether the link that waits at a place has this name.
+fn is_posted(registrar: &Registrar<PlainIn<Load>>, place: usize, name: &LinkName) -> bool
+    ensures named { result ≡ true → name_in registrar.now place ≡ Some name.now }
+    ensures other { result ≡ false → name_in registrar.now place ≡ Some name.now → ⊥ }
+{
+    match registrar.name_at(place) {
+        Some(other) => is_same(&other, name),
+        None => false,
+    }
+}
+
+/// The place of the link of that name among those that wait at the registrar.
+#[tactic(auto, using(crate::proofs::meetings::Meets::none_waits_further))]
+fn place_at(registrar: &Registrar<PlainIn<Load>>, name: &LinkName) -> Option<usize>
+    ensures some { IfSome result (λ place. name_in registrar.now place ≡ Some name.now) }
+    ensures none { IfNone result (NoneIsPosted (map posted registrar.now.links) name.now) }
+{
+    for place in 0..registrar.waiting() {
+        if is_posted(registrar, place, name) {
+            return Some(place);
+        }
+    }
+    None
+}
+
+/// Lets an out end meet the end of the link that waits at a place.
+fn meet_waiting(registrar: &mut Registrar<PlainIn<Load>>, place: usize, out: &mut PlainOut<Load>)
+    requires stands { IsSome (name_in registrar.old place) }
+    requires may { IsToMeet (out_seen out.old) (option_map in_seen (end_in registrar.old place)) }
+    ensures met { (name : LinkName) → name_in registrar.old place ≡ Some name
+        → PostMeets (map posted registrar.old.links) name (out_seen out.old)
+        (map posted registrar.new.links) (out_seen out.new) }
+    ensures same { (registrar.new.views ≡ registrar.old.views)
+        × (registrar.new.stopped ≡ registrar.old.stopped) }
+{
+    let Some(mut link) = registrar.lend_at(place) else {
+        unreachable!()
+    };
+    meet_two(out, &mut link);
+    registrar.give_at(place, link);
+}
+
+/// Lets an out end meet the end of the link of that name that waits at the registrar: whether there is one.
+#[tactic(auto, using(crate::proofs::meetings::Meets::may_meet_waiting))]
+fn meet_posted(
+    registrar: &mut Registrar<PlainIn<Load>>,
+    out: &mut PlainOut<Load>,
+    name: &LinkName,
+) -> bool
+    requires { PostMayMeet (map posted registrar.old.links) name.now (out_seen out.old) }
+    ensures met { result ≡ true → PostMeets (map posted registrar.old.links) name.now
+        (out_seen out.old) (map posted registrar.new.links) (out_seen out.new) }
+    ensures none { result ≡ false → NoneIsPosted (map posted registrar.old.links) name.now }
+    ensures still { result ≡ false → registrar.new ≡ registrar.old }
+    ensures out { result ≡ false → out_seen out.new ≡ out_seen out.old }
+    ensures same { (registrar.new.views ≡ registrar.old.views)
+        × (registrar.new.stopped ≡ registrar.old.stopped) }
+{
+    match place_at(registrar, name) {
+        Some(place) => {
+            meet_waiting(registrar, place, out);
+            true
+        }
+        None => false,
+    }
+}
+
+/// Lets an out end meet the end of a link that hasn't reached the registrar, where it has that name: whether it has.
+fn meet_late(late: &mut Option<Undelivered>, out: &mut PlainOut<Load>, name: &LinkName) -> bool
+    requires { PostMayMeet (behind late.old) name.now (out_seen out.old) }
+    ensures met { result ≡ true → PostMeets (behind late.old) name.now
+        (out_seen out.old) (behind late.new) (out_seen out.new) }
+    ensures none { result ≡ false → NoneIsPosted (behind late.old) name.now }
+    ensures still { result ≡ false → behind late.new ≡ behind late.old }
+    ensures out { result ≡ false → out_seen out.new ≡ out_seen out.old }
+{
+    let Some(undelivered) = late else {
+        return false;
+    };
+    if !is_same(&undelivered.name, name) {
+        return false;
+    }
+    meet_two(out, &mut undelivered.link);
+    true
+}
+
+/// Lets an out end meet the end of the link of that name to the member that receives it: whether there is one.
+fn meet_member(members: &mut [Party], out: &mut PlainOut<Load>, name: &LinkName) -> bool
+    requires from_one { 1 ≤ name.now.to.0 }
+    requires may { NodeMayMeet (slice_index_or (map shown_in members.old) (name.now.to.0 - 1) no_shown)
+        name.now (out_seen out.old) }
+    ensures inside { result ≡ true → name.now.to.0 - 1 < length members.old }
+    ensures met { result ≡ true → NodeMeets
+        (slice_index_or (map shown_in members.old) (name.now.to.0 - 1) no_shown) name.now
+        (out_seen out.old)
+        (slice_index_or (map shown_in members.old) (name.now.to.0 - 1) no_shown)
+        (slice_index_or (map shown_in members.new) (name.now.to.0 - 1) no_shown)
+        (out_seen out.new) }
+    ensures others { result ≡ true → map shown_in members.new
+        ≡ slice_set (map shown_in members.old) (name.now.to.0 - 1)
+        (slice_index_or (map shown_in members.new) (name.now.to.0 - 1) no_shown) }
+    ensures none { result ≡ false → HasNone
+        (slice_index_or (map shown_in members.old) (name.now.to.0 - 1) no_shown).held name.now }
+    ensures still { result ≡ false → map shown_in members.new ≡ map shown_in members.old }
+    ensures out { result ≡ false → out_seen out.new ≡ out_seen out.old }
+{
+    let receiver = name.to.0 as usize - 1;
+    if receiver >= members.len() {
+        return false;
+    }
+    meet_node(&mut members[receiver].node, out, name)
+}
+
+/// The out end of a member, where it has one, with the name of its link. Of one that runs it hasn't ended.
+fn lend_out(node: &mut Node) -> Option<(LinkName, PlainOut<Load>)>
+    ensures none { IfNone result ((shown_of node.old).ends.out ≡ None) }
+    ensures still { IfNone result (shown_of node.new ≡ shown_of node.old) }
+    ensures named { IfSome result (λ lent. out_name_of (shown_of node.old).held ≡ Some lent.0) }
+    ensures there { IfSome result (λ lent. (shown_of node.old).ends.out ≡ Some (out_seen lent.1)) }
+    ensures lent { IfSome result (λ _. shown_of node.new ≡ lent_out (shown_of node.old)) }
+    ensures unended { IfSome result (λ lent. runs_phase (shown_of node.old).held.phase ≡ true
+        → (out_seen lent.1).ended ≡ false) }
+{
+    let name = node.out_name()?;
+    let out = node.lend_out()?;
+    Some((name, out))
+}
+
+/// Gives it back.
+fn give_out(node: &mut Node, out: PlainOut<Load>)
+    requires lent { (shown_of node.old).ends.out ≡ None }
+    requires sends { IsSome (shown_of node.old).held.out }
+    requires unended { runs_phase (shown_of node.old).held.phase ≡ true → (out_seen out).ended ≡ false }
+    ensures { shown_of node.new ≡ with_out (shown_of node.old) (out_seen out) }
+{
+    node.give_out(out);
+}
+
+impl Parties {
+    ghost use Rattle.std.specs.Prelude.{◌≡◌, ◌<◌, length, IfSome};
+    ghost use Rattle.gm_member.specs.Shown.{in_name_of};
+    ghost use Rattle.ring_parties.specs.Parties.{out_seen, node_at};
+    ghost use Rattle.ring_parties.specs.Meeting.{MayMeet, MeetsIn, MayMeetOut, MeetsOut};
+    ghost use Rattle.ring_parties.specs.Loose.{IsMember, sender_in, SendersSomewhere, MeetsSenders, MovedSomewhere};
+    ghost use Rattle.ring_parties.specs.Loose.{MeetsMoved};
+
+    /// Lets an out end meet the in end of the link of that name, wherever that stands. It takes no memory.
+    pub(crate) fn meet_in(&mut self, out: &mut PlainOut<Load>, name: &LinkName)
+        requires { MayMeet (self.old).all name.now (out_seen out.old) }
+        ensures { MeetsIn (self.old).all name.now (out_seen out.old)
+            (self.old).all (self.new).all (out_seen out.new) }
+    {
+        if meet_member(&mut self.members, out, name) {
+            return;
+        }
+        if meet_posted(&mut self.registrar, out, name) {
+            return;
+        }
+        meet_late(&mut self.late, out, name);
+    }
+
+    /// Lets the out end of the member at a place meet the in end of its link, where it has one. It takes no memory.
+    fn meet_out(&mut self, i: usize)
+        requires within { i < length (self.old).all.nodes }
+        requires may { MayMeetOut (self.old).all i }
+        ensures { MeetsOut i (self.old).all (self.new).all }
+    {
+        let Some((name, mut out)) = lend_out(&mut self.members[i].node) else {
+            return;
+        };
+        self.meet_in(&mut out, &name);
+        give_out(&mut self.members[i].node, out);
+    }
+
+    /// The name of the link from which the member at a place takes, where it takes from one.
+    fn taken_from(&self, i: usize) -> Option<LinkName>
+        requires { i < length (self.now).all.nodes }
+        ensures { in_name_of (node_at (self.now).all i).held 0 ≡ result }
+    {
+        self.members[i].node.name_at(0)
+    }
+
+    /// Lets the out end of who sends on the link of that name meet its other end, where there is a name.
+    fn meet_sender(&mut self, name: Option<LinkName>)
+        requires from { IfSome name (λ n. IsMember n.from.0 (self.old).all) }
+        requires between { SendersSomewhere (sender_in name) (self.old).all }
+        ensures { MeetsSenders (sender_in name) (self.old).all (self.new).all }
+    {
+        let Some(name) = name else {
+            return;
+        };
+        self.meet_out(name.from.0 as usize - 1);
+    }
+
+    /// Lets the ends meet that an event of the member at a place may have moved: those of the link on which it sends,
+    /// and of that from which it takes. It takes no memory.
+    pub(crate) fn meet_moved(&mut self, i: usize)
+        requires within { i < length (self.old).all.nodes }
+        requires moved { MovedSomewhere i (self.old).all }
+        ensures { MeetsMoved i (self.old).all (self.new).all }
+    {
+        let taken = self.taken_from(i);
+        self.meet_out(i);
+        self.meet_sender(taken);
+    }
+}

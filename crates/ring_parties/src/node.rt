@@ -1,0 +1,105 @@
+//! A member over plain ends, and what it does by itself.
+ghost use Rattle.std.specs.Prelude.{◌≡◌, [], OnOk, OnErr, IsOk, None};
+ghost use Rattle.ring_names.specs.declared.message.Message.TheVariants as message;
+ghost use Rattle.gm_member.specs.Held.{up_refused, put_refused, pick_refused};
+ghost use Rattle.ring_parties.specs.Parties.{shown_of};
+ghost use Rattle.ring_parties.specs.Acting.{IsReady, packet_refused, link_end_refused, grant_refused};
+ghost use Rattle.ring_parties.specs.Acting.{stop_refused, Casts, PutsPacket, TakesPacket, TakesEnd, Gains, Stops};
+ghost use Rattle.ring_parties.specs.Acting.{Picks};
+ghost use Rattle.ring_parties.specs.Tried.{IsJudged, Tries};
+
+use activity::Load;
+use gm_member::Member;
+use ordered_link::{PlainIn, PlainOut};
+use ring_names::{Body, Message};
+use ring_rules::Refused;
+
+/// A member whose links are plain pairs.
+pub type Node = Member<PlainOut<Load>, PlainIn<Load>>;
+
+/// The member publishes the body.
+pub(crate) fn cast(node: &mut Node, body: &Body) -> Result<(), Refused>
+    ensures judged { IsJudged (up_refused (shown_of node.old).held None) result }
+    ensures ok { OnOk result (Casts (message.Cast body.now) (shown_of node.old) (shown_of node.new)) }
+    ensures err { OnErr result (shown_of node.new ≡ shown_of node.old) }
+{
+    let Ok(body) = body.copy() else {
+        return Err(Refused::OutOfMemory);
+    };
+    match node.publish(Message::Cast(body)) {
+        Ok(_number) => Ok(()),
+        Err((_message, fault)) => Err(Refused::from(fault)),
+    }
+}
+
+/// The member puts its next packet, where that is enabled.
+pub(crate) fn put(node: &mut Node) -> Result<(), Refused>
+    requires { IsReady (shown_of node.old) }
+    ensures { Tries (put_refused (shown_of node.old).held) PutsPacket (shown_of node.old) (shown_of node.new) result }
+{
+    node.put()?;
+    Ok(())
+}
+
+/// The member takes the oldest packet of the link from which it takes, where there is one.
+pub(crate) fn take(node: &mut Node) -> Result<(), Refused>
+    requires { IsReady (shown_of node.old) }
+    ensures { Tries (packet_refused (shown_of node.old)) TakesPacket (shown_of node.old) (shown_of node.new) result }
+{
+    node.take()?;
+    Ok(())
+}
+
+/// The member takes the end of that link, where it is next, and leaves it.
+pub(crate) fn take_end(node: &mut Node) -> Result<(), Refused>
+    requires { IsReady (shown_of node.old) }
+    ensures { Tries (link_end_refused (shown_of node.old)) TakesEnd (shown_of node.old) (shown_of node.new) result }
+{
+    node.take_end()?;
+    drop_old_ins(node);
+    Ok(())
+}
+
+/// The ends that the member has left are dropped.
+pub(crate) fn drop_old_ins(node: &mut Node)
+    ensures held { (shown_of node.new).held ≡ (shown_of node.old).held }
+    ensures ends { (shown_of node.new).ends ≡ record (shown_of node.old).ends { old_ins = [] } }
+{
+    while let Some(_left) = node.old_in() {}
+}
+
+/// The member gains the oldest grant that came back, where there is one.
+pub(crate) fn gain(node: &mut Node) -> Result<(), Refused>
+    requires { IsReady (shown_of node.old) }
+    ensures { Tries (grant_refused (shown_of node.old)) Gains (shown_of node.old) (shown_of node.new) result }
+{
+    if let Some(reason) = node.gain_refusal() {
+        return Err(Refused::NotEnabled(reason));
+    }
+    let Some(amount) = node.granted() else {
+        unreachable!()
+    };
+    match node.gain(amount) {
+        Ok(()) => Ok(()),
+        Err(_) => unreachable!(),
+    }
+}
+
+/// The member stops, where it acts.
+pub(crate) fn stop(node: &mut Node) -> Result<(), Refused>
+    requires { IsReady (shown_of node.old) }
+    ensures tries { Tries (stop_refused (shown_of node.old)) Stops (shown_of node.old) (shown_of node.new) result }
+    ensures succeeds { stop_refused (shown_of node.old) ≡ None → IsOk result }
+{
+    node.stop()?;
+    Ok(())
+}
+
+/// The member takes from now on from the first link at its door that it may, where there is one.
+pub(crate) fn pick(node: &mut Node) -> Result<(), Refused>
+    requires { IsReady (shown_of node.old) }
+    ensures { Tries (pick_refused (shown_of node.old).held) Picks (shown_of node.old) (shown_of node.new) result }
+{
+    node.pick()?;
+    Ok(())
+}

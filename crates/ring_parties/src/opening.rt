@@ -1,0 +1,97 @@
+//! The opening of a cluster.
+ghost use Rattle.std.specs.Prelude.{◌≡◌, ◌+◌, ◌<◌, ◌≤◌, ◌++◌, ◌∷◌, IfOk, OnOk, [], true, length, map};
+ghost use Rattle.std.specs.Prelude.{slice_index_or};
+ghost use Rattle.std.specs.List.{range_with_len};
+ghost use Rattle.group_view.specs.Change.{opening as opening_group};
+ghost use Rattle.group_view.specs.Ring.{is_in};
+ghost use Rattle.ring_rules.specs.Rows.{most_members};
+ghost use Rattle.ring_rules.specs.View.{ids};
+ghost use Rattle.gm_member.specs.Held.{founded};
+ghost use Rattle.ring_parties.specs.Parties.{shown_of, shown_in};
+ghost use Rattle.ring_parties.specs.Opened.{opened_ends, opened_at};
+
+use crate::node::Node;
+use crate::parties::Parties;
+use crate::party::Party;
+use activity::Load;
+use gm_member::Member;
+use group_view::View;
+use ordered_link::{PlainIn, plain_pair};
+use registrar::Registrar;
+use ring_names::{CreditSpec, MemberId, Name, OutOfMemory};
+use std::alloc::Global;
+
+/// The member at place k of the opening, with both ends of a fresh pair. Plain ends share no memory, so its in
+/// end may well meet the out end of its left neighbour.
+fn opening_node(
+    alloc: Global,
+    name: Name,
+    k: usize,
+    view: &View,
+    credit: CreditSpec,
+) -> Result<Node, OutOfMemory>
+    requires few { k < most_members }
+    requires stands { is_in (k + 1) (ids view.now) ≡ true }
+    ensures { IfOk result (λ m. shown_of m ≡ record
+        { held = founded credit name (k + 1) view.now; ends = opened_ends credit }) }
+{
+    let (out, link) = plain_pair(alloc, credit)?;
+    let view = view.copy()?;
+    let node = Member::founding(alloc, name, MemberId(k as u32 + 1), view, credit, out, link)?;
+    Ok(node)
+}
+
+/// The members of the opening, in ring order.
+fn opening_members(
+    alloc: Global,
+    names: &[Name],
+    view: &View,
+    credit: CreditSpec,
+) -> Result<Vec<Party>, OutOfMemory>
+    requires few { length names.now ≤ most_members }
+    requires view { view.now ≡ opening_group names.now }
+    ensures shown { IfOk result (λ v. map shown_in v.items
+        ≡ map (opened_at credit names.now) (range_with_len 0 (length names.now))) }
+{
+    let mut members = Vec::new(alloc);
+    for k in 0..names.len() {
+        let node = opening_node(alloc, names[k], k, view, credit)?;
+        push_member(&mut members, Party { node })?;
+    }
+    Ok(members)
+}
+
+/// One more member.
+fn push_member(members: &mut Vec<Party>, member: Party) -> Result<(), OutOfMemory>
+    ensures { OnOk result (members.new.items ≡ members.old.items ++ member ∷ []) }
+{
+    members.push(member)?;
+    Ok(())
+}
+
+impl Parties {
+    ghost use Rattle.std.specs.Prelude.{◌≡◌, [], false, IfOk};
+    ghost use Rattle.group_view.specs.Change.{AreOpeningNames};
+    ghost use Rattle.ring_parties.specs.Opened.{opened_parties};
+    ghost use Rattle.ring_parties.specs.Standing.{StandAfter};
+
+    /// The parties of a ring that opens with these members, in ring order.
+    pub fn opening(
+        alloc: Global,
+        names: &[Name],
+        credit: CreditSpec,
+    ) -> Result<Parties, OutOfMemory>
+        requires { AreOpeningNames names.now }
+        ensures opened { IfOk result (λ p. p.all ≡ opened_parties credit names.now) }
+        ensures standing { IfOk result (λ p. StandAfter credit names.now [] p.all) }
+        ensures delivered { IfOk result (λ p. p.owes ≡ false) }
+    {
+        let registrar: Registrar<PlainIn<Load>> = Registrar::opening(alloc, names)?;
+        let members = opening_members(alloc, names, registrar.view(), credit)?;
+        Ok(Parties {
+            members,
+            registrar,
+            late: None,
+        })
+    }
+}

@@ -1,0 +1,85 @@
+//! The parties of a cluster.
+ghost use Rattle.std.specs.Prelude.{◌≡◌, ◌-◌, ◌<◌, ◌≤◌, ◌↔◌, ◌∷◌, ◌++◌, [], List, IsSome, IfSome, IfOk};
+ghost use Rattle.std.specs.Prelude.{MatchOption, length, map, drop, slice_index_or, slice_set};
+ghost use Rattle.ring_parties.specs.Parties.{shown_of, shown_in, no_shown, node_at, names_shown};
+ghost use Rattle.ring_parties.specs.Acting.{newest_of};
+
+use crate::node::Node;
+use crate::party::Party;
+use crate::undelivered::Undelivered;
+use activity::Load;
+use group_view::View;
+use ordered_link::PlainIn;
+use registrar::Registrar;
+use ring_names::{MemberId, Name, OutOfMemory};
+use std::alloc::Global;
+use std::marker::Model;
+
+/// The members of a ring over plain pairs, the registrar, and the link that hasn't reached it yet, where there is
+/// one.
+#[derive(Drop)]
+pub struct Parties {
+    pub(crate) members: Vec<Party>,
+    pub(crate) registrar: Registrar<PlainIn<Load>>,
+    pub(crate) late: Option<Undelivered>,
+}
+
+impl Model for Parties {
+    ghost use Rattle.ring_parties.specs.Parties.{PartiesSeen};
+
+    ghost Value = { PartiesSeen };
+
+    ghost use Rattle.ring_parties.specs.Gathered.{gathered};
+
+    ghost view = { gathered };
+}
+
+impl Parties {
+    /// The member of that id, where there is one.
+    pub fn member(&self, id: MemberId) -> Option<&Node>
+        ensures there { IsSome result ↔ ((1 ≤ id.0) × (id.0 ≤ length (self.now).all.nodes)) }
+        ensures shown { IfSome result (λ m. shown_of m.now ≡ node_at (self.now).all (id.0 - 1)) }
+    {
+        node_of(&self.members, id)
+    }
+
+    /// How many members there are.
+    pub fn count(&self) -> usize
+        ensures { result ≡ length (self.now).all.nodes }
+    {
+        self.members.len()
+    }
+
+    /// The names of the members, by places.
+    pub fn names(&self, alloc: Global) -> Result<Vec<Name>, OutOfMemory>
+        ensures { IfOk result (λ v. v.items ≡ names_shown (self.now).all) }
+    {
+        let mut names = Vec::new(alloc);
+        for party in &self.members {
+            if names.push(*party.node.name()).is_err() {
+                return Err(OutOfMemory);
+            }
+        }
+        Ok(names)
+    }
+
+    /// The newest view of the group, as the registrar has it.
+    pub fn view(&self) -> &View
+        ensures { result.now ≡ newest_of (self.now).all }
+    {
+        self.registrar.view()
+    }
+}
+
+/// The member of that id, where the list has one.
+fn node_of(members: &[Party], id: MemberId) -> Option<&Node>
+    ensures there { IsSome result ↔ ((1 ≤ id.0) × (id.0 ≤ length members.now)) }
+    ensures shown { IfSome result (λ m. shown_of m.now
+        ≡ slice_index_or (map shown_in members.now) (id.0 - 1) no_shown) }
+{
+    if id.0 == 0 {
+        return None;
+    }
+    let party = members.get(id.0 as usize - 1)?;
+    Some(&party.node)
+}

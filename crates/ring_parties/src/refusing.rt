@@ -1,0 +1,419 @@
+//! Why an event of a member of the cluster is refused. What is here only reads, and wants no memory.
+ghost use Rattle.std.specs.Prelude.{◌≡◌, ◌∷◌, List, [], true, false, Some, None, Option, MatchOption, map};
+ghost use Rattle.ring_rules.specs.Refusal.{is_empty};
+ghost use Rattle.ring_rules.specs.Event.{is_told as told, is_passing as passes};
+ghost use Rattle.ring_names.specs.declared.reason.Reason.{Reason};
+ghost use Rattle.gm_member.specs.Held.{up_refused, take_refused};
+ghost use Rattle.ring_parties.specs.Ends.{Sent};
+ghost use Rattle.ring_parties.specs.Behind.{behind};
+ghost use Rattle.ring_parties.specs.Parties.{shown_of, content, posted};
+ghost use Rattle.ring_parties.specs.Acting.{stop_refused, look_refused, packet_refused, link_end_refused};
+ghost use Rattle.ring_parties.specs.Acting.{grant_refused, alone_refused, back_of, first_item as the_first};
+ghost use Rattle.ring_parties.specs.Refused.{first_for, admission_refused, client_refused, telling_refused};
+
+use crate::node::Node;
+use crate::own_step::OwnStep;
+use crate::parties::Parties;
+use crate::undelivered::Undelivered;
+use activity::Load;
+use gm_member::view_refusal;
+use group_view::{Request, View};
+use ordered_link::{Item, PlainIn};
+use registrar::Registrar;
+use ring_names::{Name, Reason};
+use ring_rules::{Client, Event, Phase};
+
+/// The most entries of a view.
+const MOST_MEMBERS: usize = 64;
+
+/// Why a member may not stop, of which no question is open.
+pub(crate) fn stop_refusal(node: &Node) -> Option<Reason>
+    requires { (shown_of node.now).held.asks ≡ false }
+    ensures { result ≡ stop_refused (shown_of node.now) }
+{
+    match node.phase() {
+        Phase::Stopped => Some(Reason::Stopped),
+        Phase::Waiting | Phase::Up => None,
+    }
+}
+
+/// Why a member may not act, of which no question is open.
+pub(crate) fn up_refusal(node: &Node) -> Option<Reason>
+    requires { (shown_of node.now).held.asks ≡ false }
+    ensures { result ≡ up_refused (shown_of node.now).held None }
+{
+    match node.phase() {
+        Phase::Stopped => Some(Reason::Stopped),
+        Phase::Waiting => Some(Reason::Waiting),
+        Phase::Up => None,
+    }
+}
+
+/// Why the member may not read the view of a version, where the newest is another.
+pub(crate) fn look_refusal(node: &Node, newest: u32, version: u32) -> Option<Reason>
+    requires { (shown_of node.now).held.asks ≡ false }
+    ensures { result ≡ look_refused newest (shown_of node.now) version }
+{
+    if let Some(reason) = up_refusal(node) {
+        return Some(reason);
+    }
+    let held = node.view().version;
+    if version < held || newest < version {
+        return Some(Reason::ViewOutOfRange {
+            asked: version,
+            held,
+            newest,
+        });
+    }
+    None
+}
+
+/// Why a member has nobody marked or erased of whom nobody knows.
+pub(crate) fn unknown(node: &Node) -> Reason
+    requires { (shown_of node.now).held.asks ≡ false }
+    ensures { up_refused (shown_of node.now).held (Some Reason.UnknownMember) ≡ Some result }
+{
+    match up_refusal(node) {
+        Some(reason) => reason,
+        None => Reason::UnknownMember,
+    }
+}
+
+/// Why a member admits nobody under a name, where this is the newest view.
+pub(crate) fn admit_refusal(view: &View, node: &Node, name: &Name) -> Option<Reason>
+    requires { (shown_of node.now).held.asks ≡ false }
+    ensures { result ≡ up_refused (shown_of node.now).held (admission_refused view.now name.now) }
+{
+    if let Some(reason) = up_refusal(node) {
+        return Some(reason);
+    }
+    if view.find(name).is_some() {
+        return Some(Reason::NameTaken);
+    }
+    if view.entries.as_slice().len() >= MOST_MEMBERS {
+        return Some(Reason::TooManyMembers);
+    }
+    None
+}
+
+/// Why a member doesn't do what a client asks, where this is the newest view.
+fn client_refusal(view: &View, node: &Node, asked: &Client) -> Option<Reason>
+    requires { (shown_of node.now).held.asks ≡ false }
+    ensures { result ≡ client_refused view.now asked.now (shown_of node.now) }
+{
+    match asked {
+        Client::Cast { by: _, body: _ } => up_refusal(node),
+        Client::Stop { by: _ } => stop_refusal(node),
+        Client::Admit { by: _, name } => admit_refusal(view, node, name),
+    }
+}
+
+/// Whether a client isn't told a refusal, as its command stays.
+fn is_passing(reason: &Reason) -> bool
+    ensures { result ≡ passes reason.now }
+{
+    matches!(reason, Reason::Waiting | Reason::NotStarted)
+}
+
+/// Whether a client is refused with this number.
+fn is_told(code: u32, refusal: &Option<Reason>) -> bool
+    ensures { result ≡ told code refusal.now }
+{
+    match refusal {
+        Some(reason) => reason.code() == code && !is_passing(reason),
+        None => false,
+    }
+}
+
+/// Why a member doesn't tell a client with this number that what it asks isn't done.
+pub(crate) fn telling_refusal(view: &View, node: &Node, code: u32, asked: &Client) -> Option<Reason>
+    requires { (shown_of node.now).held.asks ≡ false }
+    ensures { result ≡ telling_refused view.now code asked.now (shown_of node.now) }
+{
+    if !is_told(code, &client_refusal(view, node, asked)) {
+        return Some(Reason::NotRefused);
+    }
+    None
+}
+
+/// Why the member may take nothing, before its link is looked at.
+fn no_link(node: &Node) -> Option<Reason>
+    requires { (shown_of node.now).held.asks ≡ false }
+    ensures { result ≡ take_refused (shown_of node.now).held None }
+{
+    if let Some(reason) = stop_refusal(node) {
+        return Some(reason);
+    }
+    if node.name_at(0).is_none() {
+        return Some(Reason::NoCurrentLink);
+    }
+    None
+}
+
+/// What stands first on the link from which a member takes.
+fn first_item(node: &Node) -> Option<&Item<Load>>
+    ensures { MatchOption result (the_first (shown_of node.now).ends.link ≡ [])
+        (λ item. (rest : List (Option Sent)) × (the_first (shown_of node.now).ends.link ≡ content item.now ∷ rest)) }
+{
+    node.link_end()?.first()
+}
+
+/// Why the member takes no packet.
+fn packet_refusal(node: &Node) -> Option<Reason>
+    requires { (shown_of node.now).held.asks ≡ false }
+    ensures { result ≡ packet_refused (shown_of node.now) }
+{
+    if let Some(reason) = no_link(node) {
+        return Some(reason);
+    }
+    match first_item(node) {
+        Some(Item::Load(Load::Packet(packet))) => view_refusal(packet, node.view().version),
+        Some(Item::End(_)) => Some(Reason::EndNext),
+        None => Some(Reason::NothingToTake),
+    }
+}
+
+/// Why it doesn't take the end of its link.
+fn link_end_refusal(node: &Node) -> Option<Reason>
+    requires { (shown_of node.now).held.asks ≡ false }
+    ensures { result ≡ link_end_refused (shown_of node.now) }
+{
+    if let Some(reason) = no_link(node) {
+        return Some(reason);
+    }
+    match first_item(node) {
+        Some(Item::Load(_)) => Some(Reason::PacketNext),
+        Some(Item::End(_)) => None,
+        None => Some(Reason::NothingToTake),
+    }
+}
+
+/// Whether a grant has come back to the out end of a member.
+fn has_grant(node: &Node) -> bool
+    ensures some { result ≡ true → is_empty (back_of (shown_of node.now).ends.out) ≡ false }
+    ensures none { result ≡ false → is_empty (back_of (shown_of node.now).ends.out) ≡ true }
+{
+    match node.out_end() {
+        Some(out) => out.has_back(),
+        None => false,
+    }
+}
+
+/// Why it gains no credit.
+fn grant_refusal(node: &Node) -> Option<Reason>
+    requires { (shown_of node.now).held.asks ≡ false }
+    ensures { result ≡ grant_refused (shown_of node.now) }
+{
+    if let Some(reason) = up_refusal(node) {
+        return Some(reason);
+    }
+    if node.out_name().is_none() {
+        return Some(Reason::NoOutLink);
+    }
+    if !has_grant(node) {
+        return Some(Reason::NoGrant);
+    }
+    None
+}
+
+/// Why a member doesn't do what it does by itself, or stop; of a pick, by its door alone.
+fn alone_refusal(node: &Node, event: &Event) -> Option<Reason>
+    requires { (shown_of node.now).held.asks ≡ false }
+    ensures { result ≡ alone_refused event.now (shown_of node.now) }
+{
+    match event {
+        Event::Cast { by: _, body: _ } => up_refusal(node),
+        Event::Put { by: _ } => node.put_refusal(),
+        Event::Take { by: _ } => packet_refusal(node),
+        Event::TakeEnd { by: _ } => link_end_refusal(node),
+        Event::Gain { by: _ } => grant_refusal(node),
+        Event::Stop { by: _ } => stop_refusal(node),
+        Event::Pick { by: _ } => node.pick_refusal(),
+        Event::Mark { by: _, dead: _ }
+        | Event::Refresh { by: _, view: _ }
+        | Event::Admit { by: _, name: _ }
+        | Event::Erase { by: _, origin: _ }
+        | Event::Refuse { code: _, inner: _ } => None,
+    }
+}
+
+/// Whether there is no link to pick.
+fn is_no_link(refusal: &Option<Reason>) -> bool
+    ensures none { result ≡ true → refusal.now ≡ Some Reason.NoLinkAtDoor }
+    ensures other { result ≡ false → refusal.now ≡ Some Reason.NoLinkAtDoor → ⊥ }
+{
+    matches!(refusal, Some(Reason::NoLinkAtDoor))
+}
+
+/// The version in which the first link at the registrar opened that comes for a member from its left neighbour.
+fn first_posted(registrar: &Registrar<PlainIn<Load>>, node: &Node) -> Option<u32>
+    ensures { result ≡ first_for (shown_of node.now).held (map posted registrar.now.links) }
+{
+    for place in 0..registrar.waiting() {
+        let Some(name) = registrar.name_at(place) else {
+            return None;
+        };
+        if node.comes_for(&name) {
+            return Some(name.view);
+        }
+    }
+    None
+}
+
+/// The same of a link that hasn't reached the registrar.
+fn first_late(late: &Option<Undelivered>, node: &Node) -> Option<u32>
+    ensures { result ≡ first_for (shown_of node.now).held (behind late.now) }
+{
+    match late {
+        Some(undelivered) if node.comes_for(&undelivered.name) => Some(undelivered.name.view),
+        Some(_) | None => None,
+    }
+}
+
+impl Parties {
+    ghost use Rattle.std.specs.Prelude.{◌≡◌, ◌<◌, ℕ, List, None, length};
+    ghost use Rattle.ring_names.specs.declared.reason.Reason.{Reason};
+    ghost use Rattle.ring_rules.specs.declared.event.Event.TheVariants.{Mark, Erase};
+    ghost use Rattle.ring_rules.specs.Event.{version_refusal};
+    ghost use Rattle.gm_member.specs.Held.{on_some, up_refused, pick_refused};
+    ghost use Rattle.gm_member.specs.Questions.{has_link};
+    ghost use Rattle.ring_parties.specs.Parties.{shown_of, node_at};
+    ghost use Rattle.ring_parties.specs.Standing.{StandSomewhere};
+    ghost use Rattle.ring_parties.specs.Refused.{first_for, with_post, IsRefusalAt};
+    ghost use Rattle.ring_parties.specs.OwnSteps.{step_event};
+
+    /// Why the event of the member at a place is refused, where it is: the first condition that fails. Links that wait
+    /// for the member count as if they had come to its door.
+    pub fn refusal(&self, i: usize, event: &Event) -> Option<Reason>
+        requires within { i < length (self.now).all.nodes }
+        requires standing { StandSomewhere (self.now).all }
+        ensures { IsRefusalAt i event.now (self.now).all result }
+    {
+        let node = &self.members[i].node;
+        match event {
+            Event::Mark { by: _, dead } => self.mark_refusal(i, dead),
+            Event::Erase { by: _, origin } => self.erase_refusal(i, origin),
+            Event::Refresh { by: _, view } => {
+                look_refusal(node, self.registrar.view().version, *view)
+            }
+            Event::Refuse { code, inner } => {
+                telling_refusal(self.registrar.view(), node, *code, inner)
+            }
+            Event::Pick { by: _ } => self.pick_refusal(i),
+            Event::Cast { by: _, body: _ }
+            | Event::Put { by: _ }
+            | Event::Take { by: _ }
+            | Event::TakeEnd { by: _ }
+            | Event::Gain { by: _ }
+            | Event::Stop { by: _ } => alone_refusal(node, event),
+            Event::Admit { by: _, name } => admit_refusal(self.registrar.view(), node, name),
+        }
+    }
+
+    /// Why the member at a place doesn't do a step on its links, likewise.
+    pub fn step_refusal(&self, i: usize, step: OwnStep) -> Option<Reason>
+        requires within { i < length (self.now).all.nodes }
+        requires standing { StandSomewhere (self.now).all }
+        ensures { (by : List ℕ) → IsRefusalAt i (step_event step by) (self.now).all result }
+    {
+        let node = &self.members[i].node;
+        match step {
+            OwnStep::Pick => self.pick_refusal(i),
+            OwnStep::Take => packet_refusal(node),
+            OwnStep::TakeEnd => link_end_refusal(node),
+            OwnStep::Gain => grant_refusal(node),
+            OwnStep::Put => node.put_refusal(),
+        }
+    }
+
+    /// The version in which the first link that waits for a member opened and comes from its left neighbour.
+    fn first_waiting(&self, node: &Node) -> Option<u32>
+        ensures { result ≡ first_for (shown_of node.now).held (self.now).all.post }
+    {
+        match first_posted(&self.registrar, node) {
+            Some(version) => Some(version),
+            None => first_late(&self.late, node),
+        }
+    }
+
+    /// Why the member at a place may pick no link, with those at its door that wait for it.
+    fn pick_refusal(&self, i: usize) -> Option<Reason>
+        requires { i < length (self.now).all.nodes }
+        ensures { result ≡ pick_refused (with_post (node_at (self.now).all i).held (self.now).all.post) }
+    {
+        let node = &self.members[i].node;
+        let refusal = node.pick_refusal();
+        if is_no_link(&refusal) {
+            return self.waiting_refusal(node);
+        }
+        refusal
+    }
+
+    /// Why a member that takes from no link, and has none at its door to pick, may pick none that waits for it.
+    fn waiting_refusal(&self, node: &Node) -> Option<Reason>
+        ensures { result ≡ on_some (first_for (shown_of node.now).held (self.now).all.post) Reason.NoLinkAtDoor
+            (λ opened. version_refusal opened (shown_of node.now).held.view.version) }
+    {
+        let Some(need) = self.first_waiting(node) else {
+            return Some(Reason::NoLinkAtDoor);
+        };
+        let have = node.view().version;
+        if have < need {
+            return Some(Reason::ViewTooOld { need, have });
+        }
+        None
+    }
+
+    /// Whether the member at a place, which is up, takes from a link or may come to.
+    fn has_link(&self, i: usize) -> bool
+        requires within { i < length (self.now).all.nodes }
+        requires up { up_refused (node_at (self.now).all i).held None ≡ None }
+        ensures { result ≡ has_link (with_post (node_at (self.now).all i).held (self.now).all.post) }
+    {
+        !is_no_link(&self.pick_refusal(i))
+    }
+
+    /// Why the member at a place may not have the one of a name marked dead.
+    pub fn mark_refusal(&self, i: usize, dead: &Name) -> Option<Reason>
+        requires within { i < length (self.now).all.nodes }
+        requires standing { StandSomewhere (self.now).all }
+        ensures { (by : List ℕ) → IsRefusalAt i (Mark by dead.now) (self.now).all result }
+    {
+        let node = &self.members[i].node;
+        let Some(id) = self.id_named(dead) else {
+            return Some(unknown(node));
+        };
+        if let Some(reason) = up_refusal(node) {
+            return Some(reason);
+        }
+        self.registrar.refusal(&Request::Mark {
+            by: node.id(),
+            dead: id,
+            view: node.view().version,
+            has_current: self.has_link(i),
+        })
+    }
+
+    /// Why it may not have the one of a name erased, likewise.
+    pub fn erase_refusal(&self, i: usize, origin: &Name) -> Option<Reason>
+        requires within { i < length (self.now).all.nodes }
+        requires standing { StandSomewhere (self.now).all }
+        ensures { (by : List ℕ) → IsRefusalAt i (Erase by origin.now) (self.now).all result }
+    {
+        let node = &self.members[i].node;
+        let Some(id) = self.id_named(origin) else {
+            return Some(unknown(node));
+        };
+        if let Some(reason) = up_refusal(node) {
+            return Some(reason);
+        }
+        let kept = node.numbers_of(id);
+        self.registrar.refusal(&Request::Erase {
+            by: node.id(),
+            origin: id,
+            got: kept.got,
+            retired: kept.retired,
+            view: node.view().version,
+        })
+    }
+}
