@@ -1,6 +1,6 @@
 -- What was sent of an origin is never above what is kept of it.
 use Rattle.std.proofs.Common.{◌≡◌, ℕ, ◌+◌, ◌≤◌, Bool, true, false, cond, nat_eq, List, [], ◌∷◌, length, max, Option, Some, None, refl, sym, ap, subst, ◌∙◌, arith, length-append}
-use Rattle.ring_names.specs.declared.message.Message.{Message}
+use Rattle.queue_core.specs.declared.message.Message.{Message}
 use Rattle.activity.specs.Kept.{Kept, KeptRow, got_of, kept_of, joined, KeepsRows}
 use Rattle.activity.specs.Told.{ToldRow, sent_of, KeepsSent}
 use Rattle.activity.specs.Parcels.{Carried, got_in, line_of, noted}

@@ -4,7 +4,7 @@ use Rattle.std.proofs.lemmas.Bool.{false≢true}
 use Rattle.std.specs.Option.{option_map_or}
 use Rattle.std.proofs.lemmas.List.{drop-drop, drop-append-le, take-take, take-append-drop, length-take-le}
 use Rattle.pending_store.specs.Store.{messages_between}
-use Rattle.ring_names.specs.declared.message.Message.{Message}
+use Rattle.queue_core.specs.declared.message.Message.{Message}
 use Rattle.activity.specs.Kept.{Kept, got_of}
 use Rattle.activity.specs.Told.{Told}
 use Rattle.activity.specs.Parcels.{Carried, got_in}

@@ -9,7 +9,7 @@ use Rattle.pending_store.specs.Store.{Pending, StartsAt, KeepsAll, Gains}
 use Rattle.std.specs.Map.{lookup, set_value}
 use Rattle.group_view.proofs.Truth.{later_true}
 use Rattle.group_view.proofs.Rings.{nat_eq-is, nat_eq-same, sym_test}
-use Rattle.ring_names.specs.declared.message.Message.{Message}
+use Rattle.queue_core.specs.declared.message.Message.{Message}
 use Rattle.ring_names.specs.declared.numbers.MemberId.{MemberId}
 use Rattle.activity.specs.declared.table.Table.{Table}
 use Rattle.activity.specs.declared.sent.SentRow.{SentRow}

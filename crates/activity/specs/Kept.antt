@@ -1,6 +1,6 @@
 -- What a member keeps of each origin.
 use Rattle.std.specs.Prelude.{◌≡◌, ℕ, ◌+◌, Bool, true, false, cond, nat_eq, nat_le, List, [], ◌∷◌, ◌++◌, length, map}
-use Rattle.ring_names.specs.declared.message.Message.{Message}
+use Rattle.queue_core.specs.declared.message.Message.{Message}
 use Rattle.ring_names.specs.declared.numbers.MemberId.{MemberId}
 
 -- What is kept of an origin: how many of its messages are forgotten, those behind them, up to which of the member's own the

@@ -1,7 +1,7 @@
 -- What a packet and its plan do to each origin, in numbers and in messages.
 use Rattle.std.specs.Prelude.{◌≡◌, ℕ, ◌≤◌, Bool, true, false, List, length}
 use Rattle.pending_store.specs.Store.{messages_between}
-use Rattle.ring_names.specs.declared.message.Message.{Message}
+use Rattle.queue_core.specs.declared.message.Message.{Message}
 use Rattle.activity.specs.Kept.{Kept, got_of}
 use Rattle.activity.specs.Parcels.{Carried, got_in}
 

@@ -1,6 +1,6 @@
 -- What goes from a member to its right neighbour.
 use Rattle.std.specs.Prelude.{◌≡◌, ℕ, ◌+◌, Bool, true, cond, nat_eq, List, [], ◌∷◌, length, map, Option, Some, None}
-use Rattle.ring_names.specs.declared.message.Message.{Message}
+use Rattle.queue_core.specs.declared.message.Message.{Message}
 use Rattle.ring_names.specs.declared.numbers.MemberId.{MemberId}
 use Rattle.ring_names.specs.declared.numbers.Stamp.{Stamp}
 use Rattle.activity.specs.Told.{Told, ToldRow, has_row}

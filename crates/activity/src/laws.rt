@@ -1,6 +1,6 @@
 //! The laws of packets, whatever is sent and kept.
 ghost use Rattle.std.specs.Prelude.{◌≡◌, ℕ, ◌≤◌, Bool, true, false, Some, None, List, [], cond, nat_eq};
-ghost use Rattle.ring_names.specs.declared.message.Message.{Message};
+ghost use Rattle.queue_core.specs.declared.message.Message.{Message};
 ghost use Rattle.activity.specs.Kept.{Kept, KeptRow, got_of, kept_of, joined, KeepsRows};
 ghost use Rattle.activity.specs.Told.{Told, ToldRow, sent_of, KeepsSent};
 ghost use Rattle.activity.specs.Parcels.{Carried, line_of, noted};

@@ -3,7 +3,8 @@ ghost use Rattle.std.specs.Prelude.{◌≡◌, ◌≤◌, ◌^◌};
 ghost use Rattle.activity.specs.Parcels.{got_in, origins};
 ghost use Rattle.group_view.specs.Ring.{AreDistinct};
 
-use ring_names::{Items, MemberId, Message, Stamp};
+use queue_core::Message;
+use ring_names::{Items, MemberId, Stamp};
 use std::marker::Model;
 
 /// What a packet says of one origin: the messages behind number `lo`, in order, and the number up to which

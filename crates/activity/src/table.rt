@@ -8,7 +8,7 @@ ghost use Rattle.activity.specs.Shown.{kept_in};
 use crate::change::Change;
 use crate::packet::Line;
 use pending_store::Store;
-use ring_names::Message;
+use queue_core::Message;
 use std::alloc::Global;
 
 /// What is kept of an origin: its messages that were got and aren't forgotten, and, where the member

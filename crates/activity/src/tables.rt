@@ -12,7 +12,8 @@ use crate::change::Change;
 use crate::packet::{Line, Packet};
 use crate::table::Table;
 use indexmap::IndexMap;
-use ring_names::{MemberId, Message, OutOfMemory};
+use queue_core::Message;
+use ring_names::{MemberId, OutOfMemory};
 use std::alloc::Global;
 use std::marker::Model;
 

@@ -4,7 +4,8 @@ ghost use Rattle.std.specs.Prelude.{OnOk, IfOk};
 
 use crate::*;
 use group_view::View;
-use ring_names::{Body, MemberId, Message, Name};
+use queue_core::Message;
+use ring_names::{Body, MemberId, Name};
 use std::alloc::Global;
 use std::str::from_utf8;
 use std::test::Fail;
@@ -88,7 +89,9 @@ fn send(alloc: Global, sent: &mut Sent, tables: &Tables, first: bool) -> Result<
 
 fn push_messages(text: &mut String, messages: &[Message]) -> Result<(), Fail> {
     for message in messages {
-        let Message::Cast(body) = message;
+        let Message::Cast(body) = message else {
+            return Err(Fail::new("no cast"));
+        };
         text.push_str(from_utf8(body.bytes()).map_err(|_| "no text")?)?;
         text.push(' ')?;
     }

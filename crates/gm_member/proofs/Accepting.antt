@@ -3,7 +3,7 @@ use Rattle.std.proofs.Common.{◌≡◌, ℕ, ◌+◌, ◌-◌, ◌<◌, ◌≤�
 use Rattle.std.specs.List.{cons_option}
 use Rattle.std.proofs.lemmas.List.{get_or_past}
 use Rattle.std.proofs.lemmas.List.FromFn.{length-map-range_with_len}
-use Rattle.ring_names.specs.declared.message.Message.{Message}
+use Rattle.queue_core.specs.declared.message.Message.{Message}
 use Rattle.activity.specs.Kept.{Kept, KeptRow, no_kept, got_of, kept_of, joined, KeepsRows}
 use Rattle.activity.specs.Told.{Told, ToldRow, none_told, sent_of, KeepsSent}
 use Rattle.activity.specs.Parcels.{Carried, line_of, noted}

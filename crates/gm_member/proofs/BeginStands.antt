@@ -116,7 +116,7 @@ begin_stands w x s k f b e =
     ap (λ c. at_some (option_map (incoming_in w) c) h (λ a. cond (is_waiting (member_at w x).phase) (began_from h k a) (took_from h k a))) b.current
     ∙ ap (λ (g : Phase). cond (is_waiting g) (began_from h k (incoming_in w s)) (took_from h k (incoming_in w s))) b.waits
     ∙ ap (λ ks. record h { phase = Up; known = ks; current = Some (counted_in (incoming_in w s)) }) (all_begun_are w x s k.lines f b e)
-    ∙ rows_stand w x s Up (beginner w x s).rows (known_by (begin_from w x s) (beginner w x s)) f b.is_member b.current refl
+    ∙ rows_stand w x s (beginner w x s) (known_by (begin_from w x s) (beginner w x s)) f b.is_member b.current refl
 
 -- it is brought nothing
 pub begin_brings : (w : World) (x s : ℕ) (k : ByOrigin) → BeginsFrom w x s → news_of (held_in w x) k ≡ taken_in w (member_at w x).current x

@@ -74,7 +74,7 @@ come_ordered w m name lg h q = come_member w m name q (λ _ y. IsOrdered (size (
 -- where those that are up haven't, an event leaves none that has
 event_ordered : (w : World) (e : Event) → IsGood w → refusal w e ≡ None → IsLogged w → AreOrdered w → AreOrdered (effect w e)
 event_ordered w e g r lg h = each_event (λ u. UpOrdered u → AreOrdered u) w e g (record {
-  casts = λ x m u. written_ordered w x (published x m (member_at w x)) (inl u.up) h;
+  casts = λ x m u _. written_ordered w x (published x m (member_at w x)) (inl u.up) h;
   puts = λ x o u out k _. h;
   takes = λ y s u m up. written_ordered w y (taker w y s) (inl u.up) h up;
   begins = λ y s u m up. written_ordered w y (begun (size w) (member_at w y) (oldest (link_at w s))) (inl refl) h up;
@@ -83,6 +83,7 @@ event_ordered w e g r lg h = each_event (λ u. UpOrdered u → AreOrdered u) w e
   stops = λ x u _. end_composed AreOrdered _ (stop_at w x) (member_at w x).out (λ k _ t. t) (kept_ordered w x (stopped (member_at w x)) refl h);
   marks = λ x d u m _. refresh_ordered _ x _ h;
   erases = λ x d u m _. refresh_ordered _ x _ h;
+  syncs = λ x u m _. refresh_ordered _ x _ h;
   admits = λ x name u k _. refresh_ordered (come_to w x name) x (newest w + 1) (come_ordered w x name lg h);
   refreshes = λ x v u m _. refresh_ordered w x v h;
   picks = λ y s u none e upto _. kept_ordered w y (with_current (Some s) (member_at w y)) refl h;

@@ -6,7 +6,7 @@ use Rattle.std.specs.Prelude.{option_map}
 use Rattle.std.specs.List.{filter, range_with_len}
 use Rattle.std.proofs.lemmas.Bool.{cases_eq}
 use Rattle.std.proofs.lemmas.List.{length-set, get_or-set_same, get_or-set_other}
-use Rattle.ring_names.specs.declared.message.Message.{Message}
+use Rattle.queue_core.specs.declared.message.Message.{Message}
 use Rattle.ring_rules.specs.declared.phase.Ending.TheVariants.{Halted}
 use Rattle.ring_rules.specs.Machine.{World, Member, Link, no_link, no_member, row_at, member_at, link_at, view_in, oldest}
 use Rattle.ring_rules.specs.Step.{size, log_of, with_member, with_link, publish_at, published, put_on as put_in, pushed, gain_on, take_from, taker, begun, begin_from, popped, leave_link, with_current, finished, stop_at, stopped, end_out}

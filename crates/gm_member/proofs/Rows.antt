@@ -80,7 +80,7 @@ event_rows w e g r h = each_event AllRowsFit w e g cases r
 
     cases : Cases AllRowsFit w
     cases = record {
-      casts = λ x m u. set_rows w x (published x m (member_at w x)) (up_rows (size w) (published x m (member_at w x)) u.up (omega (arith, (h x).few, length-set (member_at w x).rows x (published_row (row_at (member_at w x) x) m)))) h;
+      casts = λ x m u _. set_rows w x (published x m (member_at w x)) (up_rows (size w) (published x m (member_at w x)) u.up (omega (arith, (h x).few, length-set (member_at w x).rows x (published_row (row_at (member_at w x) x) m)))) h;
       puts = λ x o u out k. h;
       takes = λ y s u m. set_rows w y (taker w y s) (up_rows (size w) (taker w y s) m.up (omega (arith, taken_few y s))) h;
       begins = λ y s u m. set_rows w y (begun (size w) (member_at w y) (oldest (link_at w s))) (up_rows (size w) (begun (size w) (member_at w y) (oldest (link_at w s))) refl (omega (arith, begun_few y s))) h;
@@ -89,6 +89,7 @@ event_rows w e g r h = each_event AllRowsFit w e g cases r
       stops = λ x u. end_composed AllRowsFit _ (stop_at w x) (member_at w x).out (λ k _ t. t) (set_rows w x (stopped (member_at w x)) (record { few = (h x).few; anew = λ e p. cc; unbased = λ e p. cc }) h);
       marks = λ x d u m. refresh_rows _ x _ h;
       erases = λ x d u m. refresh_rows _ x _ h;
+      syncs = λ x u m. refresh_rows _ x _ h;
       admits = λ x name u k. refresh_rows (come_to w x name) x (newest w + 1) (come_rows w x name h);
       refreshes = λ x v u m. refresh_rows w x v h;
       picks = λ y s u none e upto. set_rows w y (with_current (Some s) (member_at w y)) (record { few = (h y).few; anew = (h y).anew; unbased = (h y).unbased }) h;

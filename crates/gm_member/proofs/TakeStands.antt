@@ -279,25 +279,25 @@ all_accepted_are w x s lines f t e =
 
 -- ---- what is written
 
--- x, where it stands so and has these rows
-abbrev pub with_rows : World → ℕ → Phase → List Row → Member
-with_rows w x phase rows = record (member_at w x) { phase = phase; rows = rows }
+-- x with the phase, the rows and the mirror of this one
+abbrev pub with_rows : World → ℕ → Member → Member
+with_rows w x z = record (member_at w x) { phase = z.phase; rows = z.rows; mirror = z.mirror; whole = z.whole }
 
 -- it has taken the oldest packet of link s
-abbrev pub rows_taken : World → ℕ → ℕ → Phase → List Row → World
-rows_taken w x s phase rows = with_link (with_member w x (with_rows w x phase rows)) s (popped (link_at w s))
+abbrev pub rows_taken : World → ℕ → ℕ → Member → World
+rows_taken w x s z = with_link (with_member w x (with_rows w x z)) s (popped (link_at w s))
 
 -- such a take leaves each other link as it was
-pub take_other : (w : World) (x s j : ℕ) (phase : Phase) (rows : List Row) → j ≢ s → link_at (rows_taken w x s phase rows) j ≡ link_at w j
-take_other w x s j phase rows ne = get_or-set_other w.links s j (popped (link_at w s)) no_link ne
+pub take_other : (w : World) (x s j : ℕ) (z : Member) → j ≢ s → link_at (rows_taken w x s z) j ≡ link_at w j
+take_other w x s j z ne = get_or-set_other w.links s j (popped (link_at w s)) no_link ne
 
 -- and the member with what it keeps by these rows
-pub rows_stand : (w : World) (x s : ℕ) (phase : Phase) (rows : List Row) (known : List Kept) → IsFit w → x < size w → (member_at w x).current ≡ Some s
-    → known ≡ known_by (rows_taken w x s phase rows) (with_rows w x phase rows)
-    → record (held_in w x) { phase = phase; known = known; current = Some (counted_in (incoming_in w s)) } ≡ held_in (rows_taken w x s phase rows) x
-rows_stand w x s phase rows known f lt current keeps =
-    let y : Member = with_rows w x phase rows in
-    let w' : World = rows_taken w x s phase rows in
+pub rows_stand : (w : World) (x s : ℕ) (z : Member) (known : List Kept) → IsFit w → x < size w → (member_at w x).current ≡ Some s
+    → known ≡ known_by (rows_taken w x s z) (with_rows w x z)
+    → record (held_in w x) { phase = z.phase; known = known; current = Some (counted_in (incoming_in w s)) } ≡ held_in (rows_taken w x s z) x
+rows_stand w x s z known f lt current keeps =
+    let y : Member = with_rows w x z in
+    let w' : World = rows_taken w x s z in
     let h : Held = held_in w x in
     let sl : s < length w.links = (f.own_ends.current x s current).0 in
     let now : member_at w' x ≡ y = get_or-set_same w.members x y no_member lt in
@@ -306,8 +306,8 @@ rows_stand w x s phase rows known f lt current keeps =
     (ap (option_map (incoming_in w')) current ∙ ap (λ l. Some (incoming_seen (seen l))) (get_or-set_same w.links s (popped (link_at w s)) no_link sl))
     (door_but w w' x s (length-set w.links s (popped (link_at w s))) (current_waits_not w x s current) (current_waits_not w' x s (ap (λ (y : Member). y.current) now ∙ current))
     (λ j ne. (
-      waits_same w w' x j refl (ap (λ (y : Member). y.current) now) (ap (λ (y : Member). y.version) now) (ap seen (take_other w x s j phase rows ne)),
-      ap (λ l. incoming_seen (seen l)) (take_other w x s j phase rows ne),
+      waits_same w w' x j refl (ap (λ (y : Member). y.current) now) (ap (λ (y : Member). y.version) now) (ap seen (take_other w x s j z ne)),
+      ap (λ l. incoming_seen (seen l)) (take_other w x s j z ne),
     ))))
 
 pub take_stands : (w : World) (x s : ℕ) (k : ByOrigin) → IsFit w → TakesFrom w x s → k.lines ≡ lines_in w (link_at w s).had (oldest (link_at w s)) → took_held (held_in w x) k ≡ held_in (take_from w x s) x
@@ -316,7 +316,7 @@ take_stands w x s k f t e =
     ap (λ c. at_some (option_map (incoming_in w) c) h (λ a. cond (is_waiting (member_at w x).phase) (began_from h k a) (took_from h k a))) t.current
     ∙ ap (λ (g : Phase). cond (is_waiting g) (began_from h k (incoming_in w s)) (took_from h k (incoming_in w s))) t.up
     ∙ ap (λ ks. record h { known = ks; current = Some (counted_in (incoming_in w s)) }) (all_accepted_are w x s k.lines f t e)
-    ∙ rows_stand w x s (member_at w x).phase (taker w x s).rows (known_by (take_from w x s) (taker w x s)) f t.is_member t.current refl
+    ∙ rows_stand w x s (taker w x s) (known_by (take_from w x s) (taker w x s)) f t.is_member t.current refl
 
 -- ---- what it brings
 

@@ -5,7 +5,7 @@ use Rattle.std.specs.List.{list_all, range_with_len, cons_option}
 use Rattle.std.proofs.lemmas.Bool.{and_parts, true≢false, not-true, not-false}
 use Rattle.std.proofs.lemmas.Bool.Decides.{nat_tests}
 use Rattle.group_view.proofs.Lists.{all_range}
-use Rattle.ring_names.specs.declared.message.Message.{Message}
+use Rattle.queue_core.specs.declared.message.Message.{Message}
 use Rattle.ring_names.specs.declared.reason.Reason.TheVariants.{NoCredit, NothingNew}
 use Rattle.credit_flow.specs.Credit.{is_blocked}
 use Rattle.ring_rules.specs.Refusal.{refuse_if}

@@ -51,7 +51,7 @@ event_silent w e g r h = each_event WaitersAreSilent w e g cases r
   where
     cases : Cases WaitersAreSilent w
     cases = record {
-      casts = λ x m u. set_silent w x (published x m (member_at w x)) (h x) h;
+      casts = λ x m u _. set_silent w x (published x m (member_at w x)) (h x) h;
       puts = λ x o u out k. h;
       takes = λ y s u m. set_silent w y (taker w y s) (h y) h;
       begins = λ y s u m. set_silent w y (begun (size w) (member_at w y) (oldest (link_at w s))) (λ e. cc) h;
@@ -60,6 +60,7 @@ event_silent w e g r h = each_event WaitersAreSilent w e g cases r
       stops = λ x u. end_composed WaitersAreSilent _ (stop_at w x) (member_at w x).out (λ k _ t. t) (set_silent w x (stopped (member_at w x)) (λ e. cc) h);
       marks = λ x d u m. refresh_silent _ x _ u.up h;
       erases = λ x d u m. refresh_silent _ x _ u.up h;
+      syncs = λ x u m. refresh_silent _ x _ u.up h;
       admits = λ x name u k. refresh_silent (come_to w x name) x (newest w + 1)
           (ap (λ (y : Member). y.phase) (get_or_append_left w.members (joiner w name ∷ []) no_member x u.lt) ∙ u.up)
           (λ q. come_member w x name q (λ _ y. IsSilent y) (λ _. refl) (h q));

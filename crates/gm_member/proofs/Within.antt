@@ -1,6 +1,6 @@
 -- What was told of an origin stays within what is kept of it.
 use Rattle.std.proofs.Common.{◌≡◌, ◌≤◌, ℕ, Bool, true, false, cond, nat_eq, List, [], ◌∷◌, ap, arith, length-append}
-use Rattle.ring_names.specs.declared.message.Message.{Message}
+use Rattle.queue_core.specs.declared.message.Message.{Message}
 use Rattle.activity.specs.Kept.{Kept, KeptRow, got_of, kept_of, joined, KeepsRows}
 use Rattle.activity.specs.Told.{Told, ToldRow, none_told, sent_of}
 use Rattle.activity.specs.Diff.{IsNotAbove}

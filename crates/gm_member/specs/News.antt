@@ -2,8 +2,8 @@
 use Rattle.std.specs.Prelude.{ℕ, zero, suc, ◌+◌, ◌-◌, Bool, true, false, cond, List, [], ◌++◌, map, max, slice_index_or, Option, Some, None}
 use Rattle.std.specs.List.{range_with_len}
 use Rattle.std.specs.Option.{option_map_or}
-use Rattle.ring_names.specs.declared.message.Message.{Message}
-use Rattle.ring_names.specs.declared.message.Message.TheVariants as message
+use Rattle.queue_core.specs.declared.message.Message.{Message}
+use Rattle.queue_core.specs.declared.message.Message.TheVariants as message
 use Rattle.activity.specs.declared.change.Change.{Change}
 use Rattle.activity.specs.declared.change.Change.TheVariants.{Receive, CameRound}
 use Rattle.activity.specs.Kept.{Kept}

@@ -20,7 +20,8 @@ use activity::{Load, Sent, Tables, says_all};
 use credit_flow::{CreditIn, CreditOut};
 use group_view::{LinkName, Request, View};
 use ordered_link::{EndReason, LinkIn, LinkOut, LinkPair};
-use ring_names::{CreditSpec, MemberId, Message, Name, OutOfMemory, Reason};
+use queue_core::Message;
+use ring_names::{CreditSpec, MemberId, Name, OutOfMemory, Reason};
 use ring_rules::Phase;
 use std::alloc::Global;
 
@@ -85,8 +86,9 @@ impl<O: LinkPair<Load, In = I>, I: LinkIn<Load> + Drop> Member<O, I> {
     ghost use Rattle.gm_member.specs.Held.{first_out, refresh_refused, refreshed_held};
     ghost use Rattle.gm_member.specs.Held.{first_at_door as the_first_at_door, pick_refused, picked_held, picked_at};
     ghost use Rattle.gm_member.specs.Held.{Outgoing, parcel_on};
-    ghost use Rattle.gm_member.specs.Stands.{WhereItStands, StepsTo, with_own_link, publishing, IsPutPacket};
-    ghost use Rattle.gm_member.specs.Stands.{IsNextPacket, IsNextGrant, IsNextEnd, taken_in, StandsWhereItWaits};
+    ghost use Rattle.gm_member.specs.Stands.{WhereItStands, StepsTo, with_own_link, publishing, PublishesIn};
+    ghost use Rattle.gm_member.specs.Stands.{IsPutPacket, IsNextPacket, IsNextGrant, IsNextEnd, taken_in};
+    ghost use Rattle.gm_member.specs.Stands.{StandsWhereItWaits};
     ghost use Rattle.gm_member.specs.News.{news_of};
     ghost use Rattle.gm_member.specs.Shown.{Ends, held_of, ends_of, out_name_of, OutIsReady, InIsReady, PutsOn};
     ghost use Rattle.gm_member.specs.Shown.{LooksOut, LooksIn, TookOn, LeavesOn, EndsOn, KeepsGrant, NoGrantBack};
@@ -278,16 +280,22 @@ impl<O: LinkPair<Load, In = I>, I: LinkIn<Load> + Drop> Member<O, I> {
     }
 
     /// A message joins the member's own log, and its number there, from 1, is answered. Refused with `Stopped`,
-    /// `Waiting`, and `AwaitingAnswer` while a question of the member's own is open. As `gm:broadcast`.
+    /// `Waiting`, and `AwaitingAnswer` while a question of the member's own is open. The member doesn't look into the
+    /// message: the caller gives an operation of the queue only where the member is master and its mirror allows it.
+    /// As `gm:broadcast`.
     pub fn publish(&mut self, message: Message) -> Result<u64, (Message, MemberFault)>
         ensures back { HandsBack (up_refused (held_of self.old) None) message result }
         ensures publishes { Publishes message self.old self.new result }
 
-        // Wherever the member stands in a state of a run, this is the ring's event.
-        ensures steps { OnOk result (IsEvent (publishing (held_of self.old).name message) self.old self.new) }
+        // Wherever the member stands in a state of a run in which its event publishes the message, this is the ring's
+        // event.
+        ensures steps { OnOk result (WhereItStands (held_of self.old) (λ w x.
+            PublishesIn w x (held_of self.old).name message
+            → StepsTo w x (publishing (held_of self.old).name message) (held_of self.new))) }
         ensures logged { IfOk result (λ n.
             WhereItStands (held_of self.old) (λ w x. n ≡ length (log_of w x) + 1)) }
-        ensures not_enabled { WhereItStands (held_of self.old) (λ w x. (r : Reason)
+        ensures not_enabled { WhereItStands (held_of self.old) (λ w x.
+            PublishesIn w x (held_of self.old).name message → (r : Reason)
             → refusal w (publishing (held_of self.old).name message) ≡ Some r
             → result ≡ Err (message, MemberFault.Refused r)) }
     {

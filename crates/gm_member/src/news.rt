@@ -15,7 +15,8 @@ use crate::taken::Taken;
 use crate::views::owns;
 use activity::{Change, Line, Packet, Tables, line_change, plan};
 use group_view::View;
-use ring_names::{MemberId, Message, OutOfMemory, Reason};
+use queue_core::Message;
+use ring_names::{MemberId, OutOfMemory, Reason};
 use std::alloc::Global;
 
 /// Why a member whose view is of this version may not take the packet: it is of a newer one.

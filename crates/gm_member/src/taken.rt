@@ -1,5 +1,6 @@
 //! What a member receives.
-use ring_names::{MemberId, Message};
+use queue_core::Message;
+use ring_names::MemberId;
 
 /// A message that a packet brought: its origin, and its number in the origin's log, from 1.
 #[derive(Drop, Debug)]

@@ -11,7 +11,7 @@ use Rattle.group_view.specs.declared.entry.Entry.{Entry}
 use Rattle.group_view.specs.declared.entry.Mark.{Mark}
 use Rattle.group_view.specs.declared.entry.Mark.TheVariants.{Live, Dead, Erased}
 use Rattle.group_view.specs.Ring.{is_in, AreDistinct}
-use Rattle.group_view.specs.View.{Group, as_id, ids, stands_in, entry_in, is_live, is_dead, is_live_mark, is_dead_mark}
+use Rattle.group_view.specs.View.{Group, as_id, ids, stands_in, entry_in, is_live, is_dead, is_live_mark, is_dead_mark, is_erased_mark}
 use Rattle.group_view.specs.Change.{AreOpeningNames, opening_entry, opening_entries, opening, dated, with_mark, remarked, marked, erased, mark_refusal, erase_refusal, answer_of, IsFault}
 use Rattle.group_view.specs.declared.fault.ViewFault.{ViewFault}
 use Rattle.group_view.specs.declared.fault.ViewFault.TheVariants as faults
@@ -196,6 +196,12 @@ pub dead_not_live : (m : Mark) → is_dead_mark m ≡ true → is_live_mark m �
 dead_not_live Live h = absurd (false≢true h)
 dead_not_live Dead h = refl
 dead_not_live Erased h = refl
+
+-- nor is who lives erased
+pub live_not_erased : (m : Mark) → is_live_mark m ≡ true → is_erased_mark m ≡ false
+live_not_erased Live h = refl
+live_not_erased Dead h = refl
+live_not_erased Erased h = absurd (false≢true h)
 
 -- an erasure dates nobody
 pub erased_entries : (g : Group) (d : ℕ) → is_dead g.entries d ≡ true → map (with_mark Erased d) g.entries ≡ (erased g d).entries

@@ -53,6 +53,15 @@ entry_id (e ∷ es) p h = by_case (nat_eq e.id.0 p) refl h (λ j. entry_id es p 
     by_case true q j ih = nat_eq-is e.id.0 p q
     by_case false q j ih = ih (rw (sym_test e.id.0 p false q) at j)
 
+-- a field that each entry keeps, whatever else is changed of it
+pub entry_keeps : {A : Type 0} (t : Entry → A) (f : Entry → Entry) → ((e : Entry) → (f e).id.0 ≡ e.id.0) → ((e : Entry) → t (f e) ≡ t e) → (es : List Entry) (q : ℕ) → t (entry_in (map f es) q) ≡ t (entry_in es q)
+entry_keeps t f same keeps [] q = refl
+entry_keeps t f same keeps (e ∷ es) q = ap (λ i. t (cond (nat_eq i q) (f e) (entry_in (map f es) q))) (same e) ∙ by_case (nat_eq e.id.0 q) (entry_keeps t f same keeps es q)
+  where
+    by_case : (b : Bool) → t (entry_in (map f es) q) ≡ t (entry_in es q) → t (cond b (f e) (entry_in (map f es) q)) ≡ t (cond b e (entry_in es q))
+    by_case true ih = keeps e
+    by_case false ih = ih
+
 with_mark_since : (m : Mark) (d : ℕ) (e : Entry) → (with_mark m d e).since ≡ e.since
 with_mark_since m d e = by_case (nat_eq e.id.0 d)
   where

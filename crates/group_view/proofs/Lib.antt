@@ -10,6 +10,7 @@ pub mod KeptLeft
 pub mod History
 pub mod Joining
 pub mod Erasing
+pub mod Syncing
 pub mod Named
 pub mod AllViews
 pub mod Arcs

@@ -1,14 +1,14 @@
 -- How a group opens, and how it changes.
 use Rattle.std.specs.Prelude.{◌≡◌, ◌<◌, ◌≤◌, ℕ, ◌+◌, Bool, true, false, not, cond, nat_le, is_some, ◌++◌, if◌then◌else◌, nat_eq, List, [], ◌∷◌, length, map, slice_index_or, Option, Some, None, Result, Ok, Err}
 use Rattle.ring_names.specs.declared.reason.Reason.{Reason}
-use Rattle.ring_names.specs.declared.reason.Reason.TheVariants.{UnknownMember, AlreadyDead, NotDead, NameTaken, TooManyMembers}
+use Rattle.ring_names.specs.declared.reason.Reason.TheVariants.{UnknownMember, AlreadyDead, NotDead, AlreadySynced, NameTaken, TooManyMembers}
 use Rattle.group_view.specs.declared.entry.Entry.{Entry}
 use Rattle.group_view.specs.declared.entry.Mark.{Mark}
 use Rattle.group_view.specs.declared.entry.Mark.TheVariants.{Live, Dead, Erased}
 use Rattle.group_view.specs.declared.fault.ViewFault.{ViewFault}
 use Rattle.group_view.specs.declared.fault.ViewFault.TheVariants as faults
 use Rattle.group_view.specs.Ring.{is_in}
-use Rattle.group_view.specs.View.{Group, as_id, ids, is_live, is_dead, left_of, id_named}
+use Rattle.group_view.specs.View.{Group, as_id, ids, entry_in, is_live, is_dead, left_of, id_named}
 
 -- ---- the opening
 
@@ -67,6 +67,24 @@ marked g p = remarked Dead g p
 abbrev pub erased : Group → ℕ → Group
 erased g p = remarked Erased g p
 
+-- ---- registrations
+
+-- an entry, registered as synchronised where it is p's
+abbrev pub with_synced : ℕ → Entry → Entry
+with_synced p e = if nat_eq e.id.0 p then record e { synced = true } else e
+
+-- the group after p was registered as synchronised
+abbrev pub registered : Group → ℕ → Group
+registered g p = next g (map (with_synced p) g.entries)
+
+-- why p can't be registered: nobody has that id, or the entry is dead or erased, or it is registered already
+abbrev pub sync_refusal : List Entry → ℕ → Option Reason
+sync_refusal entries p =
+    if not (is_in p (ids entries)) then Some UnknownMember
+    else (if not (is_live entries p) then Some AlreadyDead
+    else (if (entry_in entries p).synced then Some AlreadySynced
+    else None))
+
 -- why p can't be marked dead: nobody has that id, or the entry is dead or erased already
 abbrev pub mark_refusal : List Entry → ℕ → Option Reason
 mark_refusal entries p =
@@ -121,23 +139,26 @@ IsFault (Some reason) fault = fault ≡ faults.Refused reason
 
 -- ---- changes and the views that they make
 
--- what changes a group: an entry is marked dead, a dead one is erased, or one is admitted
+-- what changes a group: an entry is marked dead, a dead one is erased, one is admitted, or one is registered as synchronised
 pub data Change : Type 0 where
   Marks : ℕ → Change
   Erases : ℕ → Change
   Admits : ℕ → List ℕ → Change
+  Syncs : ℕ → Change
 
 -- the first failing condition of a change
 abbrev pub refusal : Group → Change → Option Reason
 refusal g (Marks p) = mark_refusal g.entries p
 refusal g (Erases p) = erase_refusal g.entries p
 refusal g (Admits m name) = admit_refusal g.entries m name
+refusal g (Syncs p) = sync_refusal g.entries p
 
 -- the group after it
 abbrev pub changed : Group → Change → Group
 changed g (Marks p) = marked g p
 changed g (Erases p) = erased g p
 changed g (Admits m name) = admitted g m name
+changed g (Syncs p) = registered g p
 
 -- each change may happen after the earlier ones
 abbrev pub AreChanges : Group → List Change → Type 0

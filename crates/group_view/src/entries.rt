@@ -1,7 +1,7 @@
 //! The entries of a view.
 ghost use Rattle.std.specs.Prelude.{◌≡◌, ◌<◌, ◌^◌, map, length, IfOk, OnOk, OnErr, true};
 ghost use Rattle.group_view.specs.declared.entry.Mark.TheVariants.{Dead, Erased};
-ghost use Rattle.group_view.specs.Change.{dated, with_mark, with_entry};
+ghost use Rattle.group_view.specs.Change.{dated, with_mark, with_synced, with_entry};
 ghost use Rattle.group_view.specs.Parts.{dated_right_of};
 ghost use Rattle.group_view.specs.Ring.{AreDistinct, is_in};
 ghost use Rattle.group_view.specs.View.{ids};
@@ -77,6 +77,13 @@ impl Entries {
         ensures { self.new ≡ map (with_mark Erased id.0) self.old }
     {
         ring::set_mark(&mut self.entries, id, Mark::Erased);
+    }
+
+    /// Registers an entry as synchronised. It lives as before, so all keep their neighbours.
+    pub(crate) fn mark_synced(&mut self, id: MemberId)
+        ensures { self.new ≡ map (with_synced id.0) self.old }
+    {
+        ring::set_synced(&mut self.entries, id);
     }
 
     /// Adds an entry directly right of another.

@@ -37,6 +37,12 @@ pub enum Request<I> {
         retired: u64,
         view: u32,
     },
+    /// To register the asker as synchronised. `missing` is how many messages of the queue its mirror lacks, and
+    /// `None` where it hasn't heard yet how many there are.
+    Synced {
+        by: MemberId,
+        missing: Option<u64>,
+    },
     /// That the asker has stopped.
     Stopped {
         by: MemberId,

@@ -8,8 +8,8 @@ ghost use Rattle.group_view.specs.View.{ids, number, as_id, left_of as the_left,
 ghost use Rattle.group_view.specs.View.{owner_of as the_owner, is_between as the_test, aliases_of as the_aliases};
 ghost use Rattle.group_view.specs.View.{id_named as the_id, owns, is_alias as is_the_alias, is_dead_mark};
 ghost use Rattle.group_view.specs.View.{entry_in, no_entry, is_live as lives, is_erased as rests};
-ghost use Rattle.group_view.specs.Change.{dated, with_mark, opening_entries, answer_of};
-ghost use Rattle.group_view.specs.Change.{mark_refusal, erase_refusal, admit_refusal};
+ghost use Rattle.group_view.specs.Change.{dated, with_mark, with_synced, opening_entries, answer_of};
+ghost use Rattle.group_view.specs.Change.{mark_refusal, erase_refusal, sync_refusal, admit_refusal};
 ghost use Rattle.group_view.specs.Ring.{AreDistinct, first, is_in};
 ghost use Rattle.group_view.specs.Parts.{place_of as the_place, live_ids, last, comes_before, mark_in, AreFound};
 ghost use Rattle.group_view.specs.Parts.{dated_right_of};
@@ -242,6 +242,17 @@ pub(crate) fn set_mark(entries: &mut [Entry], id: MemberId, mark: Mark)
     }
 }
 
+/// Registers the entry as synchronised.
+pub(crate) fn set_synced(entries: &mut [Entry], id: MemberId)
+    ensures { entries.new ≡ map (with_synced id.0) entries.old }
+{
+    for entry in entries.iter_mut() {
+        if entry.has_id(id) {
+            entry.synced = true;
+        }
+    }
+}
+
 /// Marks the entry dead, and notes the version with those whose left neighbour is then another.
 pub(crate) fn mark_dead(entries: &mut [Entry], dead: MemberId, version: u32)
     requires { AreDistinct (ids entries.old) }
@@ -274,6 +285,17 @@ pub(crate) fn must_be_dead(entries: &[Entry], id: MemberId) -> Result<(), Reason
     };
     if !mark.is_dead() {
         return Err(Reason::NotDead);
+    }
+    Ok(())
+}
+
+/// Whether the entry is a live one that isn't registered as synchronised, and why not.
+pub(crate) fn may_sync(entries: &[Entry], id: MemberId) -> Result<(), Reason>
+    ensures { result ≡ answer_of (sync_refusal entries.now id.0) }
+{
+    must_live(entries, id)?;
+    if is_synced(entries, id) {
+        return Err(Reason::AlreadySynced);
     }
     Ok(())
 }

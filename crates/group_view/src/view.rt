@@ -6,7 +6,8 @@ ghost use Rattle.group_view.specs.View.{owner_of as the_owner, is_between as the
 ghost use Rattle.group_view.specs.View.{id_named, ids, entry_in, is_live as lives, is_erased as rests};
 ghost use Rattle.group_view.specs.Ring.{is_in};
 ghost use Rattle.group_view.specs.Change.{AreOpeningNames, opening, marked, mark_refusal, answer_of};
-ghost use Rattle.group_view.specs.Change.{erased, erase_refusal, admitted, admit_refusal, IsFault};
+ghost use Rattle.group_view.specs.Change.{erased, erase_refusal, registered, sync_refusal};
+ghost use Rattle.group_view.specs.Change.{admitted, admit_refusal, IsFault};
 
 use crate::entries::Entries;
 use crate::entry::Entry;
@@ -186,6 +187,22 @@ impl View {
     {
         ring::must_be_dead(self.entries.as_slice(), id)?;
         self.entries.erase(id);
+        self.version += 1;
+        Ok(())
+    }
+
+    /// The group once a member's mirror lacks nothing of the queue: its entry is registered as synchronised, so
+    /// that it may become the master. It is refused as `UnknownMember` where the id has no entry, as
+    /// `AlreadyDead` where the entry isn't live, and as `AlreadySynced` where it is registered already. It wants
+    /// no memory. As `record_synchronised` of `rabbit_mirror_queue_slave`, which adds it to the queue's
+    /// `sync_slave_pids`.
+    pub fn mark_synced(&mut self, id: MemberId) -> Result<(), Reason>
+        ensures answer { result ≡ answer_of (sync_refusal self.old.entries id.0) }
+        ensures ok { OnOk result (self.new ≡ registered self.old id.0) }
+        ensures err { OnErr result (self.new ≡ self.old) }
+    {
+        ring::may_sync(self.entries.as_slice(), id)?;
+        self.entries.mark_synced(id);
         self.version += 1;
         Ok(())
     }

@@ -1,7 +1,8 @@
 //! Values that can be copied.
 ghost use Rattle.std.specs.Prelude.{◌≡◌, IfOk};
 
-use ring_names::{Message, OutOfMemory};
+use queue_core::Message;
+use ring_names::OutOfMemory;
 
 /// Values of which a second one can be made.
 pub trait Copied: Sized {

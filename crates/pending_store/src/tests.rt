@@ -1,14 +1,17 @@
 //! A store of a publisher's messages: lines of what is done with it. Behind `=` stands what it tells then: its two
 //! numbers, or the messages that are asked for.
 use crate::Store;
-use ring_names::{Body, Message, OutOfMemory};
+use queue_core::Message;
+use ring_names::{Body, OutOfMemory};
 use std::alloc::Global;
 use std::str::from_utf8;
 use std::test::Fail;
 
 /// The body of a message joins a text.
 fn push_body(text: &mut String, message: &Message) -> Result<(), Fail> {
-    let Message::Cast(body) = message;
+    let Message::Cast(body) = message else {
+        return Err(Fail::new("no cast"));
+    };
     if !text.is_empty() {
         text.push(' ')?;
     }

@@ -1,2 +1,3 @@
 pub mod Elected
+pub mod Leading
 pub mod Installing

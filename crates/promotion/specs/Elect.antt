@@ -4,7 +4,7 @@ use Rattle.std.specs.List.{filter}
 use Rattle.ring_names.specs.declared.numbers.MemberId.{MemberId}
 use Rattle.group_view.specs.declared.entry.Entry.{Entry}
 use Rattle.group_view.specs.Ring.{is_in}
-use Rattle.group_view.specs.View.{Group, as_id, ids, is_live_mark, stands_in}
+use Rattle.group_view.specs.View.{Group, as_id, ids, entry_in, is_live, is_live_mark, stands_in}
 
 -- whether an entry may become the master: it is live, and registered as synchronised
 abbrev pub may_lead : Entry → Bool
@@ -41,7 +41,7 @@ installed g = record g {
   term = cond (stands_in g.entries g.master) g.term (term_after (elected g.entries) g.term);
 }
 
--- ---- the law
+-- ---- the laws
 
 -- n may lead, and none of those that may has a lesser id
 pub record IsLeast (entries : List Entry) (n : ℕ) : Type 0 where
@@ -52,3 +52,8 @@ pub record IsLeast (entries : List Entry) (n : ℕ) : Type 0 where
 abbrev pub IsElected : List Entry → Option MemberId → Type 0
 IsElected entries None = (k : ℕ) (d : Entry) → k < length entries → may_lead (slice_index_or entries k d) ≡ false
 IsElected entries (Some id) = IsLeast entries id.0
+
+-- the entry of n lives, and is registered as synchronised
+pub record IsLeader (entries : List Entry) (n : ℕ) : Type 0 where
+  pub lives : is_live entries n ≡ true
+  pub enrolled : (entry_in entries n).synced ≡ true

@@ -1,9 +1,10 @@
 //! Elections in the group `a b c`, row by row: changes of its view and, behind `=`, who may be elected, the master once
-//! one is installed, and its term; 0 is nobody. `mark 1` and `erase 1` tell the id; `admit 1` admits `d`, which isn't
-//! synchronised.
+//! one is installed, and its term; 0 is nobody. `mark 1`, `erase 1` and `sync 1` tell the id; `admit 1` admits `d`, which
+//! isn't synchronised.
 use crate::*;
 use group_view::{View, ViewFault, are_opening_names};
-use ring_names::{MemberId, Name};
+use queue_core::{Op, Queue};
+use ring_names::{Body, MemberId, Name, Position};
 use std::alloc::Global;
 use std::test::Fail;
 
@@ -16,7 +17,11 @@ mark 2, mark 1, erase 1 = 3 3 2
 mark 3, erase 3, mark 1, erase 1 = 2 2 2
 admit 1, mark 1, erase 1, mark 3 = 2 2 2
 admit 1, mark 1, mark 2, mark 3 = 0 1 1
-admit 1, mark 1, mark 2, mark 3, erase 1 = 0 0 1";
+admit 1, mark 1, mark 2, mark 3, erase 1 = 0 0 1
+admit 1, mark 1, mark 2, mark 3, erase 1, sync 4 = 4 4 2
+admit 1, sync 4, mark 1, mark 2, mark 3 = 4 1 1
+admit 1, sync 4, mark 1, erase 1 = 2 2 2
+admit 1, sync 4, mark 4, mark 1, mark 2, mark 3, erase 1 = 0 0 1";
 
 fn name(text: &str) -> Result<Name, Fail> {
     Ok(Name::read(text.as_bytes())?)
@@ -41,6 +46,7 @@ fn change(view: &mut View, asked: &str) -> Result<(), Fail> {
     let refused = match verb {
         "mark" => view.mark_dead(id).is_err(),
         "erase" => view.erase(id).is_err(),
+        "sync" => view.mark_synced(id).is_err(),
         _ => match view.admit(id, name("d")?) {
             Err(ViewFault::OutOfMemory) => view.admit(id, name("d")?).is_err(),
             answer => answer.is_err(),
@@ -74,5 +80,26 @@ fn the_oldest_that_may_leads(rt: HostRuntime) -> Result<(), Fail> {
         let found = format!(in rt.alloc(); "{elected} {master} {}", view.term)?;
         assert_eq!(rt; found.as_str(), wanted, "at {changes}");
     }
+    Ok(())
+}
+
+/// A queue of two messages, of which the first is handed out, behind one that has left.
+fn queue_of_two(alloc: Global) -> Result<Queue, Fail> {
+    let mut queue = Queue::new(alloc);
+    for at in [1, 2, 3] {
+        queue.apply(&Op::Publish {
+            at: Position(at),
+            body: Body::read(alloc, b"x")?,
+        })?;
+    }
+    queue.apply(&Op::Drop { at: Position(1) })?;
+    queue.apply(&Op::Deliver { at: Position(2) })?;
+    Ok(queue)
+}
+
+#[test]
+fn starts_with_the_depth(rt: HostRuntime) -> Result<(), Fail> {
+    let start = start_op(&queue_of_two(rt.alloc())?);
+    assert!(rt; matches!(start, Op::Start { depth: 2 }));
     Ok(())
 }

@@ -1,115 +1,102 @@
--- What each operation of the code does to the fields of a Queue.
-use Rattle.std.proofs.Common.{◌≡◌, ℕ, ◌<◌, ◌+◌, Bool, true, false, List, refl, sym, ap, subst, ◌∙◌, ⊎_elim, Some, None}
-use Rattle.std.specs.Prelude.{◌&&◌, not, nat_lt, is_some}
-use Rattle.std.specs.List.{list_any}
-use Rattle.std.specs.Ordering.{nat_cmp}
-use Rattle.std.specs.Map.{remove_entry}
-use Rattle.std.specs.BTreeMap.{BTreeMap, get, Updates, is_at as is_key}
-use Rattle.std.proofs.lemmas.Bool.{cases_Bool, eqb-true, and_parts, lt-ltb, false≢true}
-use Rattle.std.proofs.Math.Bool.{and-true, and-false}
+-- What an operation does to the items, place by place.
+use Rattle.std.proofs.Common.{◌≡◌, ℕ, zero, suc, ◌<◌, ◌+◌, true, false, cond, List, [], ◌∷◌, ◌++◌, map, length, get_or, set, take, drop, refl, sym, ap, subst, ◌∙◌, arith, nat_eq}
+use Rattle.std.specs.Prelude.{◌&&◌, not, nat_lt}
+use Rattle.std.specs.List.{list_any, list_all, remove}
+use Rattle.std.proofs.lemmas.Bool.{and_parts, eqb-true, ne_eqb}
+use Rattle.std.proofs.lemmas.List.{append-nil, set_split}
 use Rattle.ring_names.specs.declared.numbers.Position.{Position}
 use Rattle.queue_core.specs.declared.op.Op.{Op}
 use Rattle.queue_core.specs.declared.op.Op.TheVariants.{Publish, Deliver, Drop, Ack, Requeue, Start}
-use Rattle.queue_core.specs.declared.queue.Queue.TheInside.{Inside}
-use Rattle.queue_core.specs.Queue.{Item, apply, takes, is_above, is_ready_at, greatest}
-use Rattle.queue_core.specs.Tables.{items_by, is_above_keys, Gains, HasAllReady}
+use Rattle.queue_core.specs.declared.held.CopyState.TheVariants.{Again, Unacked}
+use Rattle.queue_core.specs.Queue.{Item, QueueState, is_at, is_ready, is_unacked, is_ready_at, is_unacked_at, stays, state_after, changed, kept, takes, new_item, apply, rises}
 use Rattle.queue_core.specs.Kept.{IsQueue}
-use Rattle.queue_core.specs.Seen.{queue_in, KeepsQueue}
+use Rattle.queue_core.specs.Slots.{again}
+use Rattle.queue_core.proofs.Items.{kept_same, kept_all}
+use Rattle.queue_core.proofs.Lists.{filter_all}
+use Rattle.queue_core.proofs.Places.{below_all, none_behind}
 use Rattle.queue_core.proofs.Rises.{apply_keeps}
-use Rattle.queue_core.proofs.Items.{deliver_nothing, drop_nothing, ack_nothing, requeue_nothing}
-use Rattle.queue_core.proofs.Found.{same_key, handed_at, ready_at}
-use Rattle.queue_core.proofs.Tables.{set_none, set_some, deliver_items, drop_items, ack_items, requeue_items, start_items, publish_items, above_items}
+use Rattle.queue_core.proofs.Split.{kept-append}
 
--- The fields hold the queue after the operation, and keep what they kept.
-pub record IsDone (op : Op) (a b : Inside) : Type 0 where
-  pub shows : queue_in b ≡ apply op (queue_in a)
-  pub keeps : KeepsQueue b
+-- what leaves all but one position as it is does all that it does in one place
+module _ (a : ℕ) (op : Op) (other : (i : Item) → is_at a i ≡ false → (stays op i ≡ true) × (state_after op i ≡ i.state)) where
+  kept_place : (xs : List Item) → rises xs ≡ true → (k : ℕ) (d : Item) → k < length xs → (get_or xs k d).at ≡ a
+      → kept op xs ≡ take k xs ++ (kept op (get_or xs k d ∷ []) ++ drop (suc k) xs)
+  kept_place [] r k d within is = absurd (omega arith)
+  kept_place (x ∷ xs) r zero d within is =
+      let p = and_parts (list_all (λ j. nat_lt x.at j.at) xs) (rises xs) r in
+      let behind : list_any (is_at a) xs ≡ false = none_behind a xs (ap (λ n. list_all (λ j. nat_lt n j.at) xs) (sym is) ∙ p.0) in
+      kept-append op (x ∷ []) xs ∙ ap (λ ys. kept op (x ∷ []) ++ ys) (kept_same (is_at a) op other xs behind)
+  kept_place (x ∷ xs) r (suc k) d within is =
+      let p = and_parts (list_all (λ j. nat_lt x.at j.at) xs) (rises xs) r in
+      let below : x.at < a = omega (arith, below_all x.at xs p.0 k d (omega arith)) in
+      let q = other x (ne_eqb x.at a (λ same. absurd (omega arith))) in
+      let e : changed op x ≡ x = ap (λ s. record x { state = s }) q.1 in
+      rw (q.0) (ap (λ j. j ∷ kept op xs) e ∙ ap (λ ys. x ∷ ys) (kept_place xs p.1 k d (omega arith) is))
 
--- whose ready positions have bodies
-is_done : (op : Op) (a b : Inside) → KeepsQueue a → queue_in b ≡ apply op (queue_in a) → ((k : ℕ) → is_some (get nat_cmp b.ready k) ≡ true → is_some (get nat_cmp b.bodies k) ≡ true) → IsDone op a b
-is_done op a b h e bodied = record { shows = e; keeps = record { is_queue = subst IsQueue (sym e) (apply_keeps op (queue_in a) h.is_queue); bodied = bodied } }
+module _ (at : Position) (xs : List Item) (r : rises xs ≡ true) (k : ℕ) (d : Item) (within : k < length xs) where
+  -- the item in that place
+  abbrev here : Item
+  here = get_or xs k d
 
--- nothing is ready at a position that the table of ready ones lacks
-not_ready : (a : Inside) (n : ℕ) → is_some (get nat_cmp a.ready n) ≡ false → list_any (is_ready_at n) (queue_in a).items ≡ false
-not_ready a n h = ready_at (get nat_cmp a.ready) n a.bodies.entries h
+  -- where it is ready, it is handed out
+  pub handed_out : is_ready_at at.0 here ≡ true → set xs k (record here { state = Unacked }) ≡ kept (Deliver at) xs
+  handed_out ready =
+      let is : here.at ≡ at.0 = eqb-true here.at at.0 (and_parts (nat_eq here.at at.0) (is_ready here) ready).0 in
+      set_split xs k (record here { state = Unacked }) within
+      ∙ ap (λ b. take k xs ++ record here { state = cond b Unacked here.state } ∷ drop (suc k) xs) (sym ready)
+      ∙ sym (kept_place at.0 (Deliver at) (λ i e. (refl, rw e refl)) xs r k d within is)
 
-module _ (at : Position) (a : Inside) (ready : BTreeMap ℕ Bool) (h : KeepsQueue a) (set : Updates nat_cmp a.ready ready at.0 None) where
-  -- what was ready is handed out
-  pub delivered : IsDone (Deliver at) a (record a { ready = ready })
-  delivered = is_done (Deliver at) a (record a { ready = ready }) h
-      (ap (λ (xs : List Item). record (queue_in a) { items = xs }) (deliver_items at (get nat_cmp a.ready) (get nat_cmp ready) set.0 a.bodies.entries))
-      (λ k s. h.bodied k (set_none at.0 (get nat_cmp a.ready) (get nat_cmp ready) set.0 k s).1)
+  -- or taken off
+  pub taken_off : is_ready_at at.0 here ≡ true → remove xs k ≡ kept (Drop at) xs
+  taken_off ready =
+      let is : here.at ≡ at.0 = eqb-true here.at at.0 (and_parts (nat_eq here.at at.0) (is_ready here) ready).0 in
+      ap (λ b. take k xs ++ (map (changed (Drop at)) (cond (not b) (here ∷ []) []) ++ drop (suc k) xs)) (sym ready)
+      ∙ sym (kept_place at.0 (Drop at) (λ i e. (rw e refl, refl)) xs r k d within is)
 
-  -- what wasn't ready isn't dropped
-  pub not_dropped : is_some (get nat_cmp a.ready at.0) ≡ false → IsDone (Drop at) a (record a { ready = ready })
-  not_dropped none = record {
-    shows = delivered.shows ∙ deliver_nothing at (queue_in a) (not_ready a at.0 none) ∙ sym (drop_nothing at (queue_in a) (not_ready a at.0 none));
-    keeps = delivered.keeps;
-  }
+  -- where it is handed out, it leaves
+  pub acknowledged : is_unacked_at at.0 here ≡ true → remove xs k ≡ kept (Ack at) xs
+  acknowledged handed =
+      let is : here.at ≡ at.0 = eqb-true here.at at.0 (and_parts (nat_eq here.at at.0) (is_unacked here) handed).0 in
+      ap (λ b. take k xs ++ (map (changed (Ack at)) (cond (not b) (here ∷ []) []) ++ drop (suc k) xs)) (sym handed)
+      ∙ sym (kept_place at.0 (Ack at) (λ i e. (rw e refl, refl)) xs r k d within is)
 
-  -- what was leaves
-  pub dropped : (bodies : BTreeMap ℕ (List ℕ)) → is_some (get nat_cmp a.ready at.0) ≡ true → bodies.entries ≡ remove_entry (is_key (nat_cmp at.0)) a.bodies.entries → Updates nat_cmp a.bodies bodies at.0 None → IsDone (Drop at) a (record a { ready = ready; bodies = bodies })
-  dropped bodies has entries off = is_done (Drop at) a (record a { ready = ready; bodies = bodies }) h
-      (ap (λ (xs : List Item). record (queue_in a) { items = xs })
-      (ap (items_by (get nat_cmp ready)) entries ∙ drop_items at (get nat_cmp a.ready) (get nat_cmp ready) set.0 has a.bodies.entries h.is_queue.rises))
-      (λ k s. let p = set_none at.0 (get nat_cmp a.ready) (get nat_cmp ready) set.0 k s in ap is_some (off.0 k) ∙ rw (p.0) (h.bodied k p.1))
+  -- or is ready again
+  pub handed_back : is_unacked_at at.0 here ≡ true → set xs k (again here) ≡ kept (Requeue at) xs
+  handed_back handed =
+      let p = and_parts (nat_eq here.at at.0) (is_unacked here) handed in
+      set_split xs k (again here) within
+      ∙ ap (λ b. take k xs ++ record here { state = cond (b && is_unacked here) Again here.state } ∷ drop (suc k) xs) (sym p.0)
+      ∙ sym (kept_place at.0 (Requeue at) (λ i e. (refl, rw e refl)) xs r k d within (eqb-true here.at at.0 p.0))
 
--- what was handed out leaves
-pub acknowledged : (at : Position) (a : Inside) (bodies : BTreeMap ℕ (List ℕ)) → KeepsQueue a → is_some (get nat_cmp a.ready at.0) ≡ false → bodies.entries ≡ remove_entry (is_key (nat_cmp at.0)) a.bodies.entries → Updates nat_cmp a.bodies bodies at.0 None → IsDone (Ack at) a (record a { bodies = bodies })
-acknowledged at a bodies h none entries off = is_done (Ack at) a (record a { bodies = bodies }) h
-    (ap (λ (xs : List Item). record (queue_in a) { items = xs })
-    (ap (items_by (get nat_cmp a.ready)) entries ∙ ack_items at (get nat_cmp a.ready) none a.bodies.entries h.is_queue.rises))
-    (λ k s. ⊎_elim
-    (λ (yes : is_key (nat_cmp at.0) k ≡ true).
-    let same : k ≡ at.0 = eqb-true k at.0 (sym (same_key at.0 k) ∙ yes) in
-    absurd (false≢true (sym none ∙ ap (λ n. is_some (get nat_cmp a.ready n)) (sym same) ∙ s)))
-    (λ (other : is_key (nat_cmp at.0) k ≡ false). ap is_some (off.0 k) ∙ rw other (h.bodied k s))
-    (cases_Bool (is_key (nat_cmp at.0) k)))
+-- all is ready again
+pub all_back : (depth : ℕ) (xs : List Item) → map again xs ≡ kept (Start depth) xs
+all_back depth xs = sym (ap (map again) (filter_all (stays (Start depth)) (λ i. refl) xs))
 
--- nothing is handed out at a position that is ready
-pub not_acknowledged : (at : Position) (a : Inside) → is_some (get nat_cmp a.ready at.0) ≡ true → queue_in a ≡ apply (Ack at) (queue_in a)
-not_acknowledged at a has = sym (ack_nothing at (queue_in a) (handed_at (get nat_cmp a.ready) at.0 a.bodies.entries ∙ rw has (and-false (is_some (get nat_cmp a.bodies at.0)))))
+-- where no item passes the test of an operation, all stays
+pub none_out : (at : Position) (xs : List Item) → list_any (is_ready_at at.0) xs ≡ false → xs ≡ kept (Deliver at) xs
+none_out at xs none = sym (kept_same (is_ready_at at.0) (Deliver at) (λ i e. (refl, rw e refl)) xs none)
 
--- what was handed out is ready again
-pub requeued : (at : Position) (a : Inside) (ready : BTreeMap ℕ Bool) → KeepsQueue a → is_some (get nat_cmp a.bodies at.0) ≡ true → is_some (get nat_cmp a.ready at.0) ≡ false → Updates nat_cmp a.ready ready at.0 (Some true) → IsDone (Requeue at) a (record a { ready = ready })
-requeued at a ready h has none set = is_done (Requeue at) a (record a { ready = ready }) h
-    (ap (λ (xs : List Item). record (queue_in a) { items = xs }) (requeue_items at (get nat_cmp a.ready) (get nat_cmp ready) none set.0 a.bodies.entries))
-    (λ k s. ⊎_elim
-    (λ (same : at.0 ≡ k). ap (λ n. is_some (get nat_cmp a.bodies n)) (sym same) ∙ has)
-    (λ (was : is_some (get nat_cmp a.ready k) ≡ true). h.bodied k was)
-    (set_some at.0 true (get nat_cmp a.ready) (get nat_cmp ready) set.0 k s))
+pub none_off : (at : Position) (xs : List Item) → list_any (is_ready_at at.0) xs ≡ false → xs ≡ kept (Drop at) xs
+none_off at xs none = sym (kept_same (is_ready_at at.0) (Drop at) (λ i e. (rw e refl, refl)) xs none)
 
--- what isn't handed out stays
-pub not_requeued : (at : Position) (a : Inside) → (is_some (get nat_cmp a.bodies at.0) && not (is_some (get nat_cmp a.ready at.0))) ≡ false → queue_in a ≡ apply (Requeue at) (queue_in a)
-not_requeued at a none = sym (requeue_nothing at (queue_in a) (handed_at (get nat_cmp a.ready) at.0 a.bodies.entries ∙ none))
+pub none_acknowledged : (at : Position) (xs : List Item) → list_any (is_unacked_at at.0) xs ≡ false → xs ≡ kept (Ack at) xs
+none_acknowledged at xs none = sym (kept_same (is_unacked_at at.0) (Ack at) (λ i e. (rw e refl, refl)) xs none)
 
--- all is ready
-pub restarted : (d : ℕ) (a : Inside) (ready : BTreeMap ℕ Bool) → KeepsQueue a → HasAllReady a.bodies a.ready ready → IsDone (Start d) a (record a { ready = ready })
-restarted d a ready h all = is_done (Start d) a (record a { ready = ready }) h
-    (ap (λ (xs : List Item). record (queue_in a) { items = xs }) (start_items d (get nat_cmp a.ready) (get nat_cmp ready) a.bodies.entries all))
-    (λ k s. ⊎_elim
-    (λ (yes : is_some (get nat_cmp a.bodies k) ≡ true). yes)
-    (λ (none : is_some (get nat_cmp a.bodies k) ≡ false). absurd (false≢true (sym (ap is_some (all k) ∙ rw none refl) ∙ s)))
-    (cases_Bool (is_some (get nat_cmp a.bodies k))))
+pub none_back : (at : Position) (xs : List Item) → list_any (is_unacked_at at.0) xs ≡ false → xs ≡ kept (Requeue at) xs
+none_back at xs none = sym (kept_same (is_unacked_at at.0) (Requeue at) (λ i e. (refl, rw e refl)) xs none)
 
--- whether a message may join, by the keys
-pub takes_is : (n : ℕ) (a : Inside) → n < greatest → takes n (queue_in a).items ≡ is_above_keys n a.bodies.entries
-takes_is n a lt = rw (above_items (get nat_cmp a.ready) n a.bodies.entries, lt-ltb n greatest lt) (and-true (is_above_keys n a.bodies.entries))
+-- ---- the queue
 
--- where it may join, it stands above all keys
-pub above_keys : (n : ℕ) (a : Inside) → takes n (queue_in a).items ≡ true → is_above_keys n a.bodies.entries ≡ true
-above_keys n a may = sym (above_items (get nat_cmp a.ready) n a.bodies.entries) ∙ (and_parts (is_above n (queue_in a).items) (nat_lt n greatest) may).0
+-- an operation that brings nothing
+pub quiet_done : (n : ℕ) (xs ys : List Item) → xs ≡ ys → ◌≡◌ {A = QueueState} (record { next = n; items = xs }) (record { next = n; items = ys ++ [] })
+quiet_done n xs ys e = ap (λ (zs : List Item). record { next = n; items = zs }) (e ∙ sym (append-nil ys))
 
--- a message joins the end
-pub published : (at : Position) (body : List ℕ) (a : Inside) (bodies : BTreeMap ℕ (List ℕ)) (ready : BTreeMap ℕ Bool) → KeepsQueue a → takes at.0 (queue_in a).items ≡ true → Gains a.bodies at.0 body bodies → Updates nat_cmp a.bodies bodies at.0 (Some body) → Updates nat_cmp a.ready ready at.0 (Some false) → IsDone (Publish at body) a (record a { next = at.0 + 1; bodies = bodies; ready = ready })
-published at body a bodies ready h may gains put set =
-    is_done (Publish at body) a (record a { next = at.0 + 1; bodies = bodies; ready = ready }) h
-    (rw may (ap (λ (xs : List Item). record { next = at.0 + 1; items = xs })
-    (ap (items_by (get nat_cmp ready)) gains ∙ publish_items at body (get nat_cmp a.ready) (get nat_cmp ready) set.0 a.bodies.entries (above_keys at.0 a may))))
-    (λ k s. ⊎_elim
-    (λ (same : at.0 ≡ k). ap (λ n. is_some (get nat_cmp bodies n)) (sym same) ∙ ap is_some put.1)
-    (λ (was : is_some (get nat_cmp a.ready k) ≡ true). ap is_some (put.0 k) ∙ ⊎_elim
-    (λ (yes : is_key (nat_cmp at.0) k ≡ true). rw yes refl)
-    (λ (other : is_key (nat_cmp at.0) k ≡ false). rw other (h.bodied k was))
-    (cases_Bool (is_key (nat_cmp at.0) k)))
-    (set_some at.0 false (get nat_cmp a.ready) (get nat_cmp ready) set.0 k s))
+-- a message that joins
+pub joined : (at : Position) (body : List ℕ) (q : QueueState) (i : Item) (xs : List Item) → takes at.0 q.items ≡ true → i ≡ new_item at.0 body → xs ≡ q.items ++ i ∷ [] → ◌≡◌ {A = QueueState} (record { next = at.0 + 1; items = xs }) (apply (Publish at body) q)
+joined at body q i xs may is e =
+    let kept_as_is : q.items ≡ kept (Publish at body) q.items = sym (kept_all (Publish at body) (λ j. (refl, refl)) q.items) in
+    rw may (ap (λ (ys : List Item). record { next = at.0 + 1; items = ys }) (e ∙ ap (λ (j : Item). q.items ++ j ∷ []) is ∙ ap (λ (ys : List Item). ys ++ new_item at.0 body ∷ []) kept_as_is))
+
+-- a queue after an operation is one
+pub keeps_done : (op : Op) (q new : QueueState) → IsQueue q → new ≡ apply op q → IsQueue new
+keeps_done op q new h e = subst IsQueue (sym e) (apply_keeps op q h)

@@ -3,4 +3,4 @@ pub mod Legal
 pub mod Shown
 pub mod Kept
 pub mod Seen
-pub mod Tables
+pub mod Slots

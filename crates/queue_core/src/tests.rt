@@ -1,6 +1,8 @@
 //! A queue, line by line: what is done or asked and, behind `=`, the next position, the number of items, the least
 //! ready position and the items. 0 stands for nothing ready; a body stands behind its position, with `+` where the
-//! item is ready again, and with `*` where it is handed out. `delivered` tells the number of the refusal, or `yes`.
+//! item is ready again, and with `*` where it is handed out. `delivered` tells the number of the refusal, or `yes`, and
+//! `cast` the body of a message that isn't the queue's. Each operation is done in a second queue too, in room that is
+//! made for it before.
 use crate::*;
 use ring_names::{Body, MemberId, Position};
 use std::alloc::Global;
@@ -39,7 +41,8 @@ drop 5 = 9 1 6 6e
 drop 6 = 9 0 0
 publish 3 f = 4 1 3 3f
 publish 18446744073709551614 g = 18446744073709551615 2 3 3f
-publish 18446744073709551614 h = 18446744073709551615 2 3 3f";
+publish 18446744073709551614 h = 18446744073709551615 2 3 3f
+cast i = i";
 
 fn text_of(body: &Body) -> Result<&str, Fail> {
     Ok(from_utf8(body.bytes()).map_err(|_| "no text")?)
@@ -93,23 +96,63 @@ fn op_of(alloc: Global, word: &str, of: &str) -> Result<Option<Op>, Fail> {
     })
 }
 
-/// An operation is done by its copy, and again where an allocation failed, which may change nothing.
+/// The message of a line, or nothing where the line asks or raises.
+fn message_of(alloc: Global, word: &str, of: &str) -> Result<Option<Message>, Fail> {
+    if word == "cast" {
+        return Ok(Some(Message::Cast(Body::read(alloc, of.as_bytes())?)));
+    }
+    Ok(op_of(alloc, word, of)?.map(Message::Queue))
+}
+
+/// A queue that memory was wanting for is as it was before.
+fn must_be(alloc: Global, queue: &Queue, before: &String) -> Result<(), Fail> {
+    let after = shown(alloc, queue)?;
+    if after.as_str() != before.as_str() {
+        return Err(Fail::new("what failed changes the queue"));
+    }
+    Ok(())
+}
+
+/// An operation is done, and again where an allocation failed, which may change nothing.
 fn apply(alloc: Global, queue: &mut Queue, op: &Op) -> Result<(), Fail> {
     let before = shown(alloc, queue)?;
-    if queue.apply(&op.copy()?).is_err() {
-        let after = shown(alloc, queue)?;
-        if after.as_str() != before.as_str() {
-            return Err(Fail::new("a failed operation changes the queue"));
-        }
+    if queue.apply(op).is_err() {
+        must_be(alloc, queue, &before)?;
         queue.apply(op)?;
     }
     Ok(())
 }
 
-fn told(alloc: Global, queue: &mut Queue, word: &str, of: &str) -> Result<String, Fail> {
-    if let Some(op) = op_of(alloc, word, of)? {
-        apply(alloc, queue, &op)?;
-        return shown(alloc, queue);
+/// The same in room that is made for it before.
+fn apply_reserved(alloc: Global, queue: &mut Queue, op: Op) -> Result<(), Fail> {
+    let before = shown(alloc, queue)?;
+    if queue.reserve(1).is_err() {
+        must_be(alloc, queue, &before)?;
+    }
+    queue.reserve(1)?;
+    queue.apply_reserved(op);
+    Ok(())
+}
+
+fn told(
+    alloc: Global,
+    queue: &mut Queue,
+    word: &str,
+    of: &str,
+    is_reserved: bool,
+) -> Result<String, Fail> {
+    if let Some(message) = message_of(alloc, word, of)? {
+        return match message.copy()? {
+            Message::Cast(body) => Ok(String::from_str(alloc, text_of(&body)?)?),
+            Message::Queue(op) if is_reserved => {
+                apply_reserved(alloc, queue, op)?;
+                shown(alloc, queue)
+            }
+            Message::Queue(op) => {
+                apply(alloc, queue, &op)?;
+                shown(alloc, queue)
+            }
+        };
     }
     let at = Position(of.parse()?);
     if word == "raise" {
@@ -125,11 +168,14 @@ fn told(alloc: Global, queue: &mut Queue, word: &str, of: &str) -> Result<String
 #[test]
 fn plays_each_line(rt: HostRuntime) -> Result<(), Fail> {
     let mut queue = Queue::new(rt.alloc());
+    let mut reserved = Queue::new(rt.alloc());
     for line in LINES.lines() {
         let (done, wanted) = line.split_once(" = ").ok_or("nothing wanted")?;
         let (word, of) = done.split_once(' ').ok_or("no number")?;
-        let text = told(rt.alloc(), &mut queue, word, of)?;
+        let text = told(rt.alloc(), &mut queue, word, of, false)?;
         assert_eq!(rt; text.as_str(), wanted, "at {line}");
+        let same = told(rt.alloc(), &mut reserved, word, of, true)?;
+        assert_eq!(rt; same.as_str(), wanted, "in room made before, at {line}");
     }
     Ok(())
 }

@@ -1,4 +1,5 @@
 pub mod Mirror
+pub mod Seen
 pub mod Placed
 pub mod Master
 pub mod Laws

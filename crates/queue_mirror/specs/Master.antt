@@ -1,12 +1,12 @@
 -- What a master answers: the first condition that fails, or the operation that it publishes next.
-use Rattle.std.specs.Prelude.{◌≡◌, ℕ, ◌<◌, Bool, true, cond, ◌&&◌, not, nat_eq, nat_lt, List, Option, Some, None, Result, Ok, Err}
+use Rattle.std.specs.Prelude.{◌≡◌, ℕ, ◌<◌, Bool, true, false, cond, ◌&&◌, ◌||◌, not, nat_eq, nat_le, nat_lt, List, length, Option, Some, None, Result, Ok, Err}
 use Rattle.ring_names.specs.declared.numbers.MemberId.{MemberId}
 use Rattle.ring_names.specs.declared.numbers.Position.{Position}
 use Rattle.ring_names.specs.declared.reason.Reason.{Reason}
-use Rattle.ring_names.specs.declared.reason.Reason.TheVariants.{NoMaster, NotMaster, NotStarted}
+use Rattle.ring_names.specs.declared.reason.Reason.TheVariants.{NoMaster, NotMaster, NotStarted, AlreadyStarted}
 use Rattle.group_view.specs.View.{Group}
 use Rattle.queue_core.specs.declared.op.Op.{Op}
-use Rattle.queue_core.specs.declared.op.Op.TheVariants.{Publish, Deliver, Drop, Ack, Requeue}
+use Rattle.queue_core.specs.declared.op.Op.TheVariants.{Publish, Deliver, Drop, Ack, Requeue, Depth, Start}
 use Rattle.queue_core.specs.Queue.{greatest}
 use Rattle.queue_core.specs.Legal.{is_legal}
 use Rattle.queue_core.specs.Shown.{as_position, least_of, delivery_of}
@@ -20,6 +20,20 @@ lead_by (Some id) me late = cond (nat_eq id.0 me) (cond late (Some NotStarted) N
 -- the same by its view; only the master of the first term has none to publish
 abbrev pub lead_refusal : Group → ℕ → Bool → Option Reason
 lead_refusal g me started = lead_by g.master me (nat_lt 1 g.term && not started)
+
+-- the refusal of a condition that fails
+abbrev pub refuse_if : Bool → Reason → Option Reason
+refuse_if true reason = Some reason
+refuse_if false reason = None
+
+-- the first of two refusals
+abbrev pub or_else : Option Reason → Option Reason → Option Reason
+or_else (Some reason) later = Some reason
+or_else None later = later
+
+-- why a member has no start to publish: it doesn't lead by its view, or it leads in the first term, or it has published it
+abbrev pub start_refusal : Group → ℕ → Bool → Option Reason
+start_refusal g me started = or_else (lead_by g.master me false) (refuse_if (nat_le g.term 1 || started) AlreadyStarted)
 
 -- the answer of a member that may speak, and else why it may not
 abbrev pub or_refused : {A : Type 0} → Option Reason → Result A Reason → Result A Reason
@@ -62,6 +76,14 @@ module _ (m : MirrorState) (g : Group) (me : ℕ) (started : Bool) where
   abbrev pub requeue_of : Position → Result Op Reason
   requeue_of at = or_refused (lead_refusal g me started) (if_delivered (Requeue at) (delivery_of at.0 m.queue.items))
 
+  -- the number of items
+  abbrev pub depth_of : Result Op Reason
+  depth_of = or_refused (lead_refusal g me started) (Ok (Depth (length m.queue.items)))
+
+  -- the start of a new master, with the number of items
+  abbrev pub start_of : Result Op Reason
+  start_of = or_refused (start_refusal g me started) (Ok (Start (length m.queue.items)))
+
 -- What a master answers by its own mirror is an operation that it may publish; a message has a position that can be
 -- given.
 pub record AnswersLegal (m : MirrorState) (g : Group) (me : ℕ) (started : Bool) : Type 0 where
@@ -71,3 +93,5 @@ pub record AnswersLegal (m : MirrorState) (g : Group) (me : ℕ) (started : Bool
   pub pop : (op : Op) → pop_of m g me started ≡ Ok op → is_legal op m.queue.items ≡ true
   pub ack : (at : Position) (op : Op) → ack_of m g me started at ≡ Ok op → is_legal op m.queue.items ≡ true
   pub requeue : (at : Position) (op : Op) → requeue_of m g me started at ≡ Ok op → is_legal op m.queue.items ≡ true
+  pub depth : (op : Op) → depth_of m g me started ≡ Ok op → is_legal op m.queue.items ≡ true
+  pub start : (op : Op) → start_of m g me started ≡ Ok op → is_legal op m.queue.items ≡ true

@@ -1,7 +1,8 @@
 //! A mirror.
-ghost use Rattle.std.specs.Prelude.{◌≡◌, ◌↔◌, Some, IsTrue, OnOk, OnErr};
+ghost use Rattle.std.specs.Prelude.{◌≡◌, ◌+◌, ◌<◌, ◌≤◌, ◌↔◌, Some, IsTrue, OnOk, OnErr};
 ghost use Rattle.std.specs.List.{list_any};
 ghost use Rattle.queue_core.specs.Queue.{is_at};
+ghost use Rattle.queue_core.specs.Seen.{places};
 ghost use Rattle.queue_mirror.specs.Mirror.{founding, joining, copy_of, apply_op, without};
 ghost use Rattle.queue_mirror.specs.Mirror.{missing_after as missing_then};
 
@@ -11,7 +12,8 @@ use std::alloc::Global;
 use std::marker::Model;
 
 /// A member's mirror of the master's queue: what was published since the member joined, or all once it was given a
-/// copy; and how many items it lacks, where that is known.
+/// copy; and how many items it lacks, where that is known. Only a message that joins takes room, and room can be made
+/// ahead.
 #[derive(Drop, Debug)]
 pub struct Mirror {
     queue: Queue,
@@ -19,18 +21,21 @@ pub struct Mirror {
 }
 
 impl Model for Mirror {
-    ghost use Rattle.queue_mirror.specs.Mirror.{MirrorState};
+    ghost use Rattle.queue_mirror.specs.Seen.{MirrorSeen};
 
-    ghost Value = { MirrorState };
+    ghost Value = { MirrorSeen };
 
-    ghost view = { λ m. record { queue = m.queue; missing = m.missing } };
+    ghost view = { λ m. record {
+      mirror = record { queue = m.queue.queue; missing = m.missing };
+      room = m.queue.room;
+    } };
 }
 
 impl Mirror {
     /// The mirror of a member that is there from the opening: nothing is missing. It takes no memory; the allocator
     /// is for what comes.
     pub fn founding(alloc: Global) -> Mirror
-        ensures { result ≡ founding }
+        ensures { result.mirror ≡ founding }
     {
         Mirror {
             queue: Queue::new(alloc),
@@ -41,7 +46,7 @@ impl Mirror {
     /// The mirror of a member that joins: what is missing isn't known. It takes no memory; the allocator is for
     /// what comes.
     pub fn joining(alloc: Global) -> Mirror
-        ensures { result ≡ joining }
+        ensures { result.mirror ≡ joining }
     {
         Mirror {
             queue: Queue::new(alloc),
@@ -49,12 +54,24 @@ impl Mirror {
         }
     }
 
+    /// Makes room for so many messages more; memory is wanted only where there is less room. Without it the mirror
+    /// stays as it was, with no less room than before.
+    pub fn reserve(&mut self, more: usize) -> Result<(), OutOfMemory>
+        ensures ok { OnOk result (more ≤ (self.new).room) }
+        ensures full { OnErr result ((self.old).room < more) }
+        ensures room { (self.old).room ≤ (self.new).room }
+        ensures kept { (self.new).mirror ≡ (self.old).mirror }
+    {
+        self.queue.reserve(more)
+    }
+
     /// An operation of the master is done. One that takes an item off which the mirror doesn't hold lets the number
     /// of missing ones fall, where it is known; the master's number of items makes it known. Without memory the
-    /// mirror stays as it was.
+    /// mirror stays as it was; it is wanted for a copy of the operation, and for room where a message joins.
     pub fn apply_op(&mut self, op: &Op) -> Result<(), OutOfMemory>
-        ensures ok { OnOk result (self.new ≡ apply_op self.old op.now) }
-        ensures err { OnErr result (self.new ≡ self.old) }
+        ensures ok { OnOk result ((self.new).mirror ≡ apply_op (self.old).mirror op.now) }
+        ensures err { OnErr result ((self.new).mirror ≡ (self.old).mirror) }
+        ensures room { (self.old).room ≤ (self.new).room + places op.now }
     {
         let missing = self.missing_after(op);
         self.queue.apply(op)?;
@@ -62,17 +79,27 @@ impl Mirror {
         Ok(())
     }
 
+    /// The same with an operation of one's own, for which there is room. It takes no memory.
+    pub fn apply_reserved(&mut self, op: Op)
+        requires { places op ≤ (self.old).room }
+        ensures mirror { (self.new).mirror ≡ apply_op (self.old).mirror op }
+        ensures room { (self.old).room ≤ (self.new).room + places op }
+    {
+        self.missing = self.missing_after(&op);
+        self.queue.apply_reserved(op);
+    }
+
     /// How many items of the master's queue the mirror lacks; `None` exactly on one that joined, before the first
     /// operation that tells the number of all, and before a copy. It takes no memory.
     pub fn missing(&self) -> Option<u64>
-        ensures { result ≡ self.now.missing }
+        ensures { result ≡ (self.now).mirror.missing }
     {
         self.missing
     }
 
     /// Whether the mirror is known to lack nothing. It takes no memory.
     pub fn is_synced(&self) -> bool
-        ensures { IsTrue result ↔ (self.now.missing ≡ Some 0) }
+        ensures { IsTrue result ↔ ((self.now).mirror.missing ≡ Some 0) }
     {
         match self.missing {
             Some(missing) => missing == 0,
@@ -82,7 +109,8 @@ impl Mirror {
 
     /// What the mirror holds. It takes no memory.
     pub fn queue(&self) -> &Queue
-        ensures { result.now ≡ self.now.queue }
+        ensures queue { result.now.queue ≡ (self.now).mirror.queue }
+        ensures room { result.now.room ≡ (self.now).room }
     {
         &self.queue
     }
@@ -90,7 +118,8 @@ impl Mirror {
     /// A copy of the master's queue takes the place of what the mirror held, and nothing is missing. It takes no
     /// memory.
     pub fn copied(&mut self, queue: Queue)
-        ensures { self.new ≡ copy_of queue }
+        ensures mirror { (self.new).mirror ≡ copy_of queue.queue }
+        ensures room { (self.new).room ≡ queue.room }
     {
         self.queue = queue;
         self.missing = Some(0);
@@ -98,7 +127,7 @@ impl Mirror {
 
     // What is missing once the operation is done.
     fn missing_after(&self, op: &Op) -> Option<u64>
-        ensures { result ≡ missing_then op.now self.now.queue.items self.now.missing }
+        ensures { result ≡ missing_then op.now (self.now).mirror.queue.items (self.now).mirror.missing }
     {
         match op {
             Op::Drop { at } => self.without(*at),
@@ -114,7 +143,7 @@ impl Mirror {
 
     // What is missing once the item of that position is gone.
     fn without(&self, at: Position) -> Option<u64>
-        ensures { result ≡ without (list_any (is_at at.0) self.now.queue.items) self.now.missing }
+        ensures { result ≡ without (list_any (is_at at.0) (self.now).mirror.queue.items) (self.now).mirror.missing }
     {
         let missing = self.missing?;
         if self.holds(at) {
@@ -125,7 +154,7 @@ impl Mirror {
 
     // Whether the mirror holds an item of that position.
     fn holds(&self, at: Position) -> bool
-        ensures { result ≡ list_any (is_at at.0) self.now.queue.items }
+        ensures { result ≡ list_any (is_at at.0) (self.now).mirror.queue.items }
     {
         match self.queue.delivered(at) {
             Err(Reason::UnknownPosition) => false,

@@ -66,7 +66,17 @@ publish 1 a, 1 1 1 no, requeue 7 = 29
 publish 1 a, 1 1 1 no, requeue 1 = 30
 publish 1 a; deliver 1, 1 1 1 no, requeue 1 = requeue 1
 publish 1 a; publish 2 b; deliver 1, 1 1 1 no, get 0 = deliver 2
-publish 1 a; publish 2 b; deliver 1; deliver 2; requeue 2, 1 1 1 no, pop 0 = drop 2";
+publish 1 a; publish 2 b; deliver 1; deliver 2; requeue 2, 1 1 1 no, pop 0 = drop 2
+publish 1 a, 1 0 2 no, depth 0 = 27
+publish 1 a, 1 2 2 no, depth 0 = 26
+publish 1 a, 1 1 2 no, depth 0 = 32
+publish 1 a; publish 2 b; deliver 1, 1 1 1 no, depth 0 = depth 2
+publish 1 a; drop 1, 1 1 2 yes, depth 0 = depth 0
+publish 1 a, 1 0 2 no, start 0 = 27
+publish 1 a, 1 2 2 no, start 0 = 26
+publish 1 a, 1 1 1 no, start 0 = 41
+publish 1 a, 1 1 2 yes, start 0 = 41
+publish 1 a; publish 2 b; deliver 1, 1 1 2 no, start 0 = start 2";
 
 fn text_of(body: &Body) -> Result<&str, Fail> {
     Ok(from_utf8(body.bytes()).map_err(|_| "no text")?)
@@ -120,31 +130,54 @@ fn op_of(alloc: Global, text: &str) -> Result<Op, Fail> {
     })
 }
 
+/// A mirror that memory was wanting for is as it was before.
+fn must_be(alloc: Global, mirror: &Mirror, before: &String) -> Result<(), Fail> {
+    let after = shown(alloc, mirror)?;
+    if after.as_str() != before.as_str() {
+        return Err(Fail::new("what failed changes the mirror"));
+    }
+    Ok(())
+}
+
 /// An operation is taken, and again where an allocation failed, which may change nothing.
 fn take(alloc: Global, mirror: &mut Mirror, op: &Op) -> Result<(), Fail> {
     let before = shown(alloc, mirror)?;
     if mirror.apply_op(op).is_err() {
-        let after = shown(alloc, mirror)?;
-        if after.as_str() != before.as_str() {
-            return Err(Fail::new("a failed operation changes the mirror"));
-        }
+        must_be(alloc, mirror, &before)?;
         mirror.apply_op(op)?;
     }
+    Ok(())
+}
+
+/// The same in room that is made for it before.
+fn take_reserved(alloc: Global, mirror: &mut Mirror, op: Op) -> Result<(), Fail> {
+    let before = shown(alloc, mirror)?;
+    if mirror.reserve(1).is_err() {
+        must_be(alloc, mirror, &before)?;
+    }
+    mirror.reserve(1)?;
+    mirror.apply_reserved(op);
     Ok(())
 }
 
 #[test]
 fn a_joined_mirror_takes_each_line(rt: HostRuntime) -> Result<(), Fail> {
     let mut mirror = Mirror::joining(rt.alloc());
+    let mut reserved = Mirror::joining(rt.alloc());
     for line in TAKEN.lines() {
         let (done, wanted) = line.split_once(" = ").ok_or("nothing wanted")?;
         if done.starts_with("copied") {
             mirror.copied(Queue::new(rt.alloc()));
+            reserved.copied(Queue::new(rt.alloc()));
         } else {
-            take(rt.alloc(), &mut mirror, &op_of(rt.alloc(), done)?)?;
+            let op = op_of(rt.alloc(), done)?;
+            take(rt.alloc(), &mut mirror, &op)?;
+            take_reserved(rt.alloc(), &mut reserved, op)?;
         }
         let text = shown(rt.alloc(), &mirror)?;
         assert_eq!(rt; text.as_str(), wanted, "at {line}");
+        let same = shown(rt.alloc(), &reserved)?;
+        assert_eq!(rt; same.as_str(), wanted, "in room made before, at {line}");
     }
     Ok(())
 }
@@ -181,6 +214,8 @@ fn told(alloc: Global, op: &Op) -> Result<String, Fail> {
         Op::Drop { at } => format!(in alloc; "drop {}", at.0)?,
         Op::Ack { at } => format!(in alloc; "ack {}", at.0)?,
         Op::Requeue { at } => format!(in alloc; "requeue {}", at.0)?,
+        Op::Depth { depth } => format!(in alloc; "depth {depth}")?,
+        Op::Start { depth } => format!(in alloc; "start {depth}")?,
         _ => String::from_str(alloc, "?")?,
     })
 }
@@ -207,7 +242,9 @@ fn ask(
         "get" => Master::get(mirror, view, me, started),
         "pop" => Master::pop(mirror, view, me, started),
         "ack" => Master::ack(mirror, view, me, started, at),
-        _ => Master::requeue(mirror, view, me, started, at),
+        "requeue" => Master::requeue(mirror, view, me, started, at),
+        "depth" => Master::depth(mirror, view, me, started),
+        _ => Master::start(mirror, view, me, started),
     })
 }
 

@@ -3,7 +3,7 @@ use Rattle.std.proofs.Common.{◌≡◌, Result, Ok, Err, not, refl, sym, subst}
 use Rattle.std.specs.Prelude.{IsSome, OnOk, OnErr}
 use Rattle.std.proofs.lemmas.List.Elements.{All-push, All-filter}
 use Rattle.group_view.specs.declared.request.Request.{Request}
-use Rattle.group_view.specs.declared.request.Request.TheVariants.{Mark, Refresh, Admit, Erase, Stopped, Deposit, Collect}
+use Rattle.group_view.specs.declared.request.Request.TheVariants.{Mark, Refresh, Admit, Erase, Synced, Stopped, Deposit, Collect}
 use Rattle.registrar.specs.Registry.{Registry, AreHere, is_for}
 use Rattle.registrar.specs.Handled.{handled, waiting}
 
@@ -14,6 +14,7 @@ module _ {I : Type 0} where
   handled_here r (Refresh by) h = h
   handled_here r (Admit by name) h = h
   handled_here r (Erase by origin got retired view) h = h
+  handled_here r (Synced by missing) h = h
   handled_here r (Stopped by) h = h
   handled_here r (Deposit by to view kind link) h = All-push (λ s. IsSome s.link) r.links (waiting by to view kind link) h refl
   handled_here r (Collect by) h = All-filter (λ s. not (is_for by.0 s)) (λ s. IsSome s.link) r.links h

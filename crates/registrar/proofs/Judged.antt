@@ -5,24 +5,24 @@ use Rattle.std.proofs.lemmas.Bool.{le-ltb}
 use Rattle.ring_names.specs.declared.reason.Reason.{Reason}
 use Rattle.ring_names.specs.declared.reason.Reason.TheVariants as reason
 use Rattle.group_view.specs.Ring.{is_in}
-use Rattle.group_view.specs.View.{Group, ids, is_live, is_dead, is_alias, right_of}
-use Rattle.group_view.specs.Change.{is_taken, most_entries, admit_refusal as group_refusal}
+use Rattle.group_view.specs.View.{Group, ids, entry_in, is_live, is_dead, is_alias, right_of}
+use Rattle.group_view.specs.Change.{is_taken, most_entries, sync_refusal, admit_refusal as group_refusal}
 use Rattle.group_view.specs.Since.{no_group, view_at}
 use Rattle.group_view.proofs.Passing.{live_in}
 use Rattle.ring_rules.specs.Refusal.{refuse_if, or_else}
 use Rattle.ring_rules.specs.View as ring
 use Rattle.ring_rules.specs.Machine as machine
 use Rattle.ring_rules.specs.declared.event.Event.{Event}
-use Rattle.ring_rules.specs.declared.event.Event.TheVariants.{Mark, Stop, Refresh, Admit, Erase}
+use Rattle.ring_rules.specs.declared.event.Event.TheVariants.{Mark, Stop, Refresh, Admit, Erase, Synced}
 use Rattle.ring_rules.specs.Machine.{World, row_at, member_at, newest, runs_phase}
 use Rattle.ring_rules.specs.Step.{size}
-use Rattle.ring_rules.specs.Event.{id_of, of_member, is_stopped, up_refusal, running_refusal, is_neighbour, left_neighbour, refusal}
+use Rattle.ring_rules.specs.Event.{id_of, of_member, is_stopped, up_refusal, running_refusal, is_neighbour, left_neighbour, missing_refusal, refusal}
 use Rattle.ring_rules.specs.Event as event
 use Rattle.ring_rules.proofs.invariants.Happens.{IsGood}
 use Rattle.ring_rules.proofs.events.Refusals.{id_within, up_is}
 use Rattle.registrar.specs.Registry.{Registry, is_known}
 use Rattle.registrar.specs.Registry as registry
-use Rattle.registrar.specs.Asked.{is_left, is_beside, has_more, mark_refusal, admit_refusal, erase_refusal, stop_refusal, unknown_refusal}
+use Rattle.registrar.specs.Asked.{is_left, is_beside, has_more, mark_refusal, admit_refusal, erase_refusal, synced_refusal, stop_refusal, unknown_refusal}
 use Rattle.registrar.specs.Stands.{IsAsker, AsksErase, StandsIn, TellsTrue}
 
 -- ---- the registrar's views are those of the state
@@ -105,6 +105,17 @@ living_admits w x name lives =
     by_case false true = refl
     by_case false false = refl
 
+-- who lives is registered where the ring lets it
+living_syncs : (w : World) (x : ℕ) → is_live (machine.view_in w (newest w)).entries x ≡ true
+    → or_else (sync_refusal (machine.view_in w (newest w)).entries x) (missing_refusal (member_at w x).mirror.missing) ≡ event.synced_refusal w x
+living_syncs w x lives =
+    let g : Group = machine.view_in w (newest w) in
+    rw (live_in g.entries x lives, lives) (by_case (entry_in g.entries x).synced)
+  where
+    by_case : (b : Bool) → or_else (cond b (Some reason.AlreadySynced) None) (missing_refusal (member_at w x).mirror.missing) ≡ or_else (refuse_if b reason.AlreadySynced) (missing_refusal (member_at w x).mirror.missing)
+    by_case true = refl
+    by_case false = refl
+
 module _ {I : Type 0} where
   left_asked : (w : World) (r : Registry I) (name : List ℕ) (x v d : ℕ) → IsGood w → StandsIn w r → IsAsker w name x v → is_left (view_at r.views v) x d ≡ nat_eq d (left_neighbour w x)
   left_asked w r name x v d h s a = ap (λ g. is_left g x d) (view_same w r v s) ∙ is_left_same w name x v d h a
@@ -170,6 +181,14 @@ module _ {I : Type 0} where
 
       answers : Bool
       answers = is_alias (machine.view_in w (member_at w x).version).entries x p
+
+  pub synced_judged : (w : World) (r : Registry I) (x v : ℕ) (missing : Option ℕ) (name : List ℕ) → IsGood w → StandsIn w r → IsAsker w name x v
+      → (member_at w x).mirror.missing ≡ missing → synced_refusal r x missing ≡ refusal w (Synced name)
+  synced_judged w r x v missing name h s a misses =
+      ap (λ (g : Group). or_else (sync_refusal g.entries x) (missing_refusal missing)) (newest_same w r s)
+      ∙ ap (λ m. or_else (sync_refusal (machine.view_in w (newest w)).entries x) (missing_refusal m)) (sym misses)
+      ∙ living_syncs w x (asker_stays w name x v h a)
+      ∙ sym (ap (λ o. of_member o (λ y. up_refusal w y (event.synced_refusal w y))) a.named ∙ up_is w x (event.synced_refusal w x) a.up)
 
   pub stop_judged : (w : World) (r : Registry I) (x : ℕ) (name : List ℕ) → IsGood w → StandsIn w r → id_of w name ≡ Some x → stop_refusal r x ≡ refusal w (Stop name)
   stop_judged w r x name h s named =

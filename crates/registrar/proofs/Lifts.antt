@@ -7,13 +7,13 @@ use Rattle.ring_rules.specs.declared.event.Event.{Event}
 use Rattle.ring_rules.specs.Event.{refusal, effect}
 use Rattle.ring_rules.proofs.invariants.Happens.{IsGood, reached_good}
 use Rattle.group_view.specs.declared.request.Request.{Request}
-use Rattle.group_view.specs.declared.request.Request.TheVariants.{Mark, Refresh, Admit, Erase, Stopped, Deposit, Collect}
+use Rattle.group_view.specs.declared.request.Request.TheVariants.{Mark, Refresh, Admit, Erase, Synced, Stopped, Deposit, Collect}
 use Rattle.registrar.specs.Registry.{Registry}
 use Rattle.registrar.specs.Asked.{request_refusal}
 use Rattle.registrar.specs.Handled.{handled}
 use Rattle.registrar.specs.Stands.{StandsIn, Asks, WhereAsked}
-use Rattle.registrar.proofs.Judged.{mark_judged, admit_judged, erase_judged, stop_judged, refresh_judged}
-use Rattle.registrar.proofs.Steps.{mark_stands, admit_stands, erase_stands, stop_stands, refresh_stands}
+use Rattle.registrar.proofs.Judged.{mark_judged, admit_judged, erase_judged, synced_judged, stop_judged, refresh_judged}
+use Rattle.registrar.proofs.Steps.{mark_stands, admit_stands, erase_stands, synced_stands, stop_stands, refresh_stands}
 
 module _ {I : Type 0} where
   -- in one state
@@ -23,6 +23,7 @@ module _ {I : Type 0} where
   judged w r (Refresh by) e h s (v, a) = refresh_judged w r by.0 v a.name h s a.asker ∙ sym (ap (refusal w) a.is)
   judged w r (Admit by name) e h s (v, a) = admit_judged w r by.0 v a.name name h s a.asker ∙ sym (ap (refusal w) a.is)
   judged w r (Erase by origin got retired view) e h s a = erase_judged w r by.0 origin.0 view got retired e h s a ∙ sym (ap (refusal w) a.is)
+  judged w r (Synced by missing) e h s (v, a) = synced_judged w r by.0 v missing a.name h s a.asker a.misses ∙ sym (ap (refusal w) a.is)
   judged w r (Stopped by) e h s a = stop_judged w r by.0 a.name h s a.named ∙ sym (ap (refusal w) a.is)
   judged w r (Deposit by to view kind link) e h s a = absurd a
   judged w r (Collect by) e h s a = absurd a
@@ -34,6 +35,7 @@ module _ {I : Type 0} where
   steps w r (Admit by name) e s (v, a) = subst (λ k. StandsIn (effect w k) (handled r (Admit by name))) (sym a.is) (admit_stands w r by.0 a.name name s a.asker.named)
   steps w r (Erase by origin got retired view) e s a =
       subst (λ k. StandsIn (effect w k) (handled r (Erase by origin got retired view))) (sym a.is) (erase_stands w r by.0 origin.0 a.name a.origin_name s a.asker.named a.named)
+  steps w r (Synced by missing) e s (v, a) = subst (λ k. StandsIn (effect w k) (handled r (Synced by missing))) (sym a.is) (synced_stands w r by.0 a.name s a.asker.named)
   steps w r (Stopped by) e s a = subst (λ k. StandsIn (effect w k) (handled r (Stopped by))) (sym a.is) (stop_stands w r by.0 a.name s a.named)
   steps w r (Deposit by to view kind link) e s a = absurd a
   steps w r (Collect by) e s a = absurd a

@@ -3,7 +3,7 @@ use Rattle.std.proofs.Common.{◌≡◌, ◌≢◌, ℕ, ◌+◌, ◌<◌, ◌�
 use Rattle.std.proofs.lemmas.List.{length-set, length_push}
 use Rattle.group_view.specs.Ring.{is_in}
 use Rattle.group_view.specs.View.{Group}
-use Rattle.group_view.specs.Change.{marked, erased, admitted}
+use Rattle.group_view.specs.Change.{marked, erased, registered, admitted}
 use Rattle.group_view.specs.Since.{no_group}
 use Rattle.group_view.proofs.Truth.{cond_itself}
 use Rattle.group_view.proofs.Rings.{is_in-append, nat_eq-same, nat_eq-not}
@@ -11,10 +11,10 @@ use Rattle.promotion.specs.Elect.{installed}
 use Rattle.ring_rules.specs.Machine as machine
 use Rattle.ring_rules.specs.declared.phase.Ending.TheVariants.{Halted}
 use Rattle.ring_rules.specs.declared.event.Event.{Event}
-use Rattle.ring_rules.specs.declared.event.Event.TheVariants.{Mark, Stop, Refresh, Admit, Erase}
+use Rattle.ring_rules.specs.declared.event.Event.TheVariants.{Mark, Stop, Refresh, Admit, Erase, Synced}
 use Rattle.ring_rules.specs.Machine.{Member, World, no_member, member_at, newest}
 use Rattle.ring_rules.specs.Step.{size, opening, with_view, stop_at, stopped, end_out, joiner, admitted_view, come_to}
-use Rattle.ring_rules.specs.Event.{id_of, is_stopped, at_found, refreshed, erased_view, effect}
+use Rattle.ring_rules.specs.Event.{id_of, is_stopped, at_found, refreshed, erased_view, synced_view, effect}
 use Rattle.ring_rules.proofs.rings.Lists.{at_set}
 use Rattle.ring_rules.proofs.events.Refusals.{id_within}
 use Rattle.ring_names.specs.declared.numbers.CreditSpec.{CreditSpec}
@@ -99,6 +99,17 @@ module _ {I : Type 0} where
       → StandsIn (effect w (Erase name origin_name)) (handled.with_view r (handled.erased_view r p))
   erase_stands w r x p name origin_name s =
       change_stands w r x p name origin_name (erased_view w) (handled.erased_view r p) (ap (λ g. installed (erased g p)) (sym (newest_same w r s))) s
+
+  pub synced_stands : (w : World) (r : Registry I) (x : ℕ) (name : List ℕ) → StandsIn w r → id_of w name ≡ Some x
+      → StandsIn (effect w (Synced name)) (handled.with_view r (handled.synced_view r x))
+  synced_stands w r x name s from =
+      subst (λ k. StandsIn k (handled.with_view r (handled.synced_view r x)))
+      (sym (ap (λ o. at_found o w (λ y. refreshed (with_view w (synced_view w y)) y (newest w + 1))) from))
+      (stands_same next (refreshed next x (newest w + 1)) _ (told_refreshed next x (newest w + 1))
+      (stands_view w r (synced_view w x) (handled.synced_view r x) (ap (λ g. installed (registered g x)) (sym (newest_same w r s))) s))
+    where
+      next : World
+      next = with_view w (synced_view w x)
 
   pub refresh_stands : (w : World) (r : Registry I) (x v : ℕ) (name : List ℕ) → StandsIn w r → id_of w name ≡ Some x → StandsIn (effect w (Refresh name v)) r
   refresh_stands w r x v name s from =

@@ -5,12 +5,13 @@ use Rattle.ring_names.specs.declared.reason.Reason.{Reason}
 use Rattle.ring_names.specs.declared.reason.Reason.TheVariants as reason
 use Rattle.group_view.specs.Link.{is_ring}
 use Rattle.group_view.specs.declared.request.Request.{Request}
-use Rattle.group_view.specs.declared.request.Request.TheVariants.{Mark, Refresh, Admit, Erase, Stopped, Deposit, Collect}
+use Rattle.group_view.specs.declared.request.Request.TheVariants.{Mark, Refresh, Admit, Erase, Synced, Stopped, Deposit, Collect}
 use Rattle.group_view.specs.Ring.{is_in}
-use Rattle.group_view.specs.Change.{admit_refusal as group_refusal}
+use Rattle.group_view.specs.Change.{sync_refusal, admit_refusal as group_refusal}
 use Rattle.group_view.specs.View.{Group, entry_in, is_live, is_dead, is_alias, left_of, right_of}
 use Rattle.group_view.specs.Since.{view_at}
 use Rattle.ring_rules.specs.Refusal.{refuse_if, or_else}
+use Rattle.ring_rules.specs.Event.{missing_refusal}
 use Rattle.registrar.specs.declared.standing.Standing.{Standing}
 use Rattle.registrar.specs.Registry.{Registry, newest, is_known}
 
@@ -66,6 +67,11 @@ module _ {I : Type 0} where
       (or_else (refuse_if (not (is_alias (view_at r.views v).entries x p)) reason.NotOwner)
       (refuse_if (not (nat_eq got retired)) (reason.NotRetired got retired)))))
 
+  -- x is registered as synchronised only where the newest view lets it: x is known and lives there, and isn't registered yet;
+  -- and where its mirror, as x says, misses nothing
+  abbrev pub synced_refusal : Registry I → ℕ → Option ℕ → Option Reason
+  synced_refusal r x missing = or_else (sync_refusal (newest r).entries x) (missing_refusal missing)
+
   -- x asks only where it is known
   abbrev pub unknown_refusal : Registry I → ℕ → Option Reason
   unknown_refusal r x = refuse_if (not (is_known r x)) reason.UnknownMember
@@ -80,6 +86,7 @@ module _ {I : Type 0} where
   request_refusal r (Refresh by) = unknown_refusal r by.0
   request_refusal r (Admit by name) = admit_refusal r by.0 name
   request_refusal r (Erase by origin got retired view) = erase_refusal r by.0 origin.0 got retired view
+  request_refusal r (Synced by missing) = synced_refusal r by.0 missing
   request_refusal r (Stopped by) = stop_refusal r by.0
   request_refusal r (Deposit by to view kind link) = or_else (unknown_refusal r by.0) (unknown_refusal r to.0)
   request_refusal r (Collect by) = unknown_refusal r by.0

@@ -3,12 +3,12 @@ use Rattle.std.specs.Prelude.{ℕ, cond, List, [], ◌∷◌, ◌++◌, Option, 
 use Rattle.group_view.specs.declared.link.LinkKind.{LinkKind}
 use Rattle.group_view.specs.declared.link.LinkName.{LinkName}
 use Rattle.group_view.specs.declared.request.Request.{Request}
-use Rattle.group_view.specs.declared.request.Request.TheVariants.{Mark, Refresh, Admit, Erase, Stopped, Deposit, Collect}
+use Rattle.group_view.specs.declared.request.Request.TheVariants.{Mark, Refresh, Admit, Erase, Synced, Stopped, Deposit, Collect}
 use Rattle.group_view.specs.declared.request.Answer.{Answer}
 use Rattle.group_view.specs.declared.request.Answer.TheVariants.{Viewed, Admitted, Links, Noted}
 use Rattle.group_view.specs.declared.request.Deposited.{Deposited}
 use Rattle.group_view.specs.View.{Group, as_id}
-use Rattle.group_view.specs.Change.{marked, erased, admitted}
+use Rattle.group_view.specs.Change.{marked, erased, registered, admitted}
 use Rattle.promotion.specs.Elect.{installed}
 use Rattle.ring_names.specs.declared.numbers.MemberId.{MemberId}
 use Rattle.registrar.specs.declared.standing.Standing.{Standing}
@@ -26,6 +26,10 @@ module _ {I : Type 0} where
   -- the view in which p is erased, and a master is elected where none stands
   abbrev pub erased_view : Registry I → ℕ → Group
   erased_view r p = installed (erased (newest r) p)
+
+  -- the view in which x is registered as synchronised, and a master is elected where none stands
+  abbrev pub synced_view : Registry I → ℕ → Group
+  synced_view r x = installed (registered (newest r) x)
 
   -- p gave notice
   abbrev pub with_stopped : Registry I → ℕ → Registry I
@@ -59,6 +63,7 @@ module _ {I : Type 0} where
   handled r (Refresh by) = r
   handled r (Admit by name) = with_view r (admitted_view r by.0 name)
   handled r (Erase by origin got retired view) = with_view r (erased_view r origin.0)
+  handled r (Synced by missing) = with_view r (synced_view r by.0)
   handled r (Stopped by) = with_stopped r by.0
   handled r (Deposit by to view kind link) = with_link r (waiting by to view kind link)
   handled r (Collect by) = without_links r by.0
@@ -69,6 +74,7 @@ module _ {I : Type 0} where
   answered r (Refresh by) = Viewed (newest r)
   answered r (Admit by name) = Admitted (admitted_view r by.0 name) (as_id (newest r).next_id)
   answered r (Erase by origin got retired view) = Viewed (erased_view r origin.0)
+  answered r (Synced by missing) = Viewed (synced_view r by.0)
   answered r (Stopped by) = Noted
   answered r (Deposit by to view kind link) = Noted
   answered r (Collect by) = Links (links_for by.0 r.links)

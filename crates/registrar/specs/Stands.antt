@@ -1,5 +1,5 @@
 -- When a registrar stands in a state of the ring, and what its requests are there.
-use Rattle.std.specs.Prelude.{◌≡◌, ℕ, ◌<◌, ◌≤◌, Bool, true, false, ◌||◌, is_some, List, ◌∷◌, Some}
+use Rattle.std.specs.Prelude.{◌≡◌, ℕ, ◌<◌, ◌≤◌, Bool, true, false, ◌||◌, is_some, List, ◌∷◌, Option, Some}
 use Rattle.ring_names.specs.declared.numbers.CreditSpec.{CreditSpec}
 use Rattle.group_view.specs.declared.request.Request.{Request}
 use Rattle.group_view.specs.declared.request.Request.TheVariants as request
@@ -8,7 +8,7 @@ use Rattle.group_view.specs.Change.{AreOpeningNames}
 use Rattle.group_view.specs.Since.{no_group, view_at}
 use Rattle.ring_rules.specs.declared.phase.Phase.TheVariants.{Up}
 use Rattle.ring_rules.specs.declared.event.Event.{Event}
-use Rattle.ring_rules.specs.declared.event.Event.TheVariants.{Stop, Mark, Refresh, Admit, Erase}
+use Rattle.ring_rules.specs.declared.event.Event.TheVariants.{Stop, Mark, Refresh, Admit, Erase, Synced}
 use Rattle.ring_rules.specs.Machine.{World, row_at, member_at, newest}
 use Rattle.ring_rules.specs.Step.{size, opening}
 use Rattle.ring_rules.specs.Event.{IsRun, last, id_of, is_stopped, is_registered, at_door}
@@ -49,6 +49,13 @@ pub record AsksErase (w : World) (x p v n m : ℕ) (e : Event) : Type 0 where
   pub retired : (row_at (member_at w x) p).retired ≡ m
   pub is : e ≡ Erase name origin_name
 
+-- a member that is up asks to be registered as synchronised, and tells truly what its mirror misses
+pub record AsksSynced (w : World) (x v : ℕ) (missing : Option ℕ) (e : Event) : Type 0 where
+  pub name : List ℕ
+  pub asker : IsAsker w name x v
+  pub misses : (member_at w x).mirror.missing ≡ missing
+  pub is : e ≡ Synced name
+
 -- an event that neither stops a member nor adds a view
 abbrev pub IsOwn : Event → Type 0
 IsOwn e = is_registered e ≡ false
@@ -83,6 +90,7 @@ module _ {I : Type 0} where
   Asks w r (request.Refresh by) e = (v : ℕ) × AsksRefresh w by.0 v e
   Asks w r (request.Admit by name) e = (v : ℕ) × AsksAdmit w by.0 v name e
   Asks w r (request.Erase by origin got retired view) e = AsksErase w by.0 origin.0 view got retired e
+  Asks w r (request.Synced by missing) e = (v : ℕ) × AsksSynced w by.0 v missing e
   Asks w r (request.Stopped by) e = AsksStop w by.0 e
   Asks w r (request.Deposit by to view kind link) e = ⊥
   Asks w r (request.Collect by) e = ⊥

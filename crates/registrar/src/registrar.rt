@@ -5,7 +5,7 @@ ghost use Rattle.std.specs.List.{filter};
 ghost use Rattle.ring_names.specs.declared.reason.Reason.{Reason};
 ghost use Rattle.group_view.specs.Change.{AreOpeningNames, marked};
 ghost use Rattle.group_view.specs.Change.{mark_refusal as group_refusal, erase_refusal as group_erasure};
-ghost use Rattle.group_view.specs.Change.{admit_refusal as group_admission};
+ghost use Rattle.group_view.specs.Change.{admit_refusal as group_admission, sync_refusal};
 ghost use Rattle.group_view.specs.View.{as_id};
 ghost use Rattle.group_view.specs.Ring.{is_in};
 ghost use Rattle.group_view.specs.Request.{handed_over};
@@ -14,13 +14,15 @@ ghost use Rattle.registrar.specs.Registry.{AreHere, AreHereBut, newest as the_ne
 ghost use Rattle.registrar.specs.Registry.{name_in, end_in, end_is, IsLent, Lends, Gives};
 ghost use Rattle.registrar.specs.Asked.{mark_refusal as the_mark_refusal, unknown_refusal};
 ghost use Rattle.registrar.specs.Asked.{erase_refusal as the_erase_refusal, admit_refusal as the_admit_refusal};
+ghost use Rattle.registrar.specs.Asked.{synced_refusal as the_synced_refusal};
 ghost use Rattle.registrar.specs.Asked.{stop_refusal as the_stop_refusal, request_refusal};
 ghost use Rattle.registrar.specs.Handled.{with_view, with_stopped, with_link, without_links, links_for, handled};
-ghost use Rattle.registrar.specs.Handled.{answered, erased_view, admitted_view};
+ghost use Rattle.registrar.specs.Handled.{answered, erased_view, synced_view, admitted_view};
 ghost use Rattle.registrar.specs.Stands.{StandsIn, WhereAsked};
 ghost use Rattle.ring_names.specs.declared.numbers.CreditSpec.{CreditSpec};
-ghost use Rattle.ring_rules.specs.Event.{refusal, effect};
+ghost use Rattle.ring_rules.specs.Event.{missing_refusal as the_missing_refusal, refusal, effect};
 ghost use Rattle.ring_rules.specs.Step.{opening};
+ghost use Rattle.promotion.specs.Elect.{installed};
 
 use crate::giving::{count_for, count_named, give_all};
 use crate::judging::{has_more, is_among, is_beside, newest, view_of};
@@ -171,11 +173,14 @@ impl<I: Drop> Registrar<I> {
     /// isn't dead in the newest view; then as `NotOwner` where it isn't dead in the view that the asker holds,
     /// or the asker isn't the first live one there from the origin rightwards, as where the asker isn't live
     /// there, and in a version that was never made; then as `NotRetired`, with both numbers, where what the
-    /// asker got of the origin isn't what has come round of it. Where the master is erased, another is
-    /// elected. `Stopped` is refused where the notice was given before. Only a request that nothing refuses
-    /// wants memory, and without it everything stands as it stood, and the request comes back. As
-    /// `gm:record_dead_member_in_group`, `gm:record_new_member_in_group`, `gm:erase_members_in_group` and
-    /// `gm:read_group`.
+    /// asker got of the origin isn't what has come round of it. `Synced` is judged by the newest view:
+    /// `AlreadyDead` where the asker isn't live there, `AlreadySynced` where it is registered there; then as
+    /// `StillMissing`, with what is missing, where its mirror misses some messages or doesn't know how many.
+    /// Where no master stands after an erasure or a registration, one is elected. `Stopped` is refused where
+    /// the notice was given before. Only a request that nothing refuses wants memory, and without it everything
+    /// stands as it stood, and the request comes back. As `gm:record_dead_member_in_group`,
+    /// `gm:record_new_member_in_group`, `gm:erase_members_in_group` and `gm:read_group`, and for `Synced` as
+    /// `rabbit_mirror_queue_slave:record_synchronised`.
     pub fn handle(&mut self, request: Request<I>) -> Result<Answer<I>, (Request<I>, OutOfMemory)>
         requires { AreHere self.old.links }
         ensures refused { (r : Reason) → request_refusal self.old request ≡ Some r
@@ -234,6 +239,7 @@ impl<I: Drop> Registrar<I> {
                 retired,
                 view,
             } => self.erase_refusal(*by, *origin, *got, *retired, *view),
+            Request::Synced { by, missing } => self.synced_refusal(*by, *missing),
             Request::Stopped { by } => self.stop_refusal(*by),
             Request::Deposit { by, to, .. } => {
                 self.unknown_refusal(*by).or(self.unknown_refusal(*to))
@@ -341,6 +347,21 @@ impl<I: Drop> Registrar<I> {
         None
     }
 
+    fn synced_refusal(&self, by: MemberId, missing: Option<u64>) -> Option<Reason>
+        ensures { result ≡ the_synced_refusal self.now by.0 missing }
+    {
+        if !self.knows(by) {
+            return Some(Reason::UnknownMember);
+        }
+        if !self.view().is_live(by) {
+            return Some(Reason::AlreadyDead);
+        }
+        if self.view().is_synced(by) {
+            return Some(Reason::AlreadySynced);
+        }
+        missing_refusal(missing)
+    }
+
     /// Does what is asked, which nothing refuses.
     fn fulfil(&mut self, request: Request<I>) -> Result<Answer<I>, (Request<I>, OutOfMemory)>
         requires { request_refusal self.old request ≡ None }
@@ -374,6 +395,7 @@ impl<I: Drop> Registrar<I> {
             Request::Refresh { .. } => Ok(Answer::Viewed(self.view().copy()?)),
             Request::Admit { by, name } => self.admit(*by, name),
             Request::Erase { origin, .. } => Ok(Answer::Viewed(self.erase(*origin)?)),
+            Request::Synced { by, .. } => Ok(Answer::Viewed(self.register(*by)?)),
             Request::Stopped { by } => {
                 self.note(*by)?;
                 Ok(Answer::Noted)
@@ -424,6 +446,30 @@ impl<I: Drop> Registrar<I> {
         if next.erase(origin).is_err() {
             unreachable!()
         }
+        self.follow_led(next)
+    }
+
+    /// A view follows in which a member is registered as synchronised, with a master where one can be elected.
+    fn register(&mut self, by: MemberId) -> Result<View, OutOfMemory>
+        requires { sync_refusal (the_newest self.old).entries by.0 ≡ None }
+        ensures ok { OnOk result (self.new ≡ with_view self.old (synced_view self.old by.0)) }
+        ensures answer { IfOk result (λ view. view ≡ synced_view self.old by.0) }
+        ensures err { OnErr result (self.new ≡ self.old) }
+    {
+        let mut next = self.view().copy()?;
+        if next.mark_synced(by).is_err() {
+            unreachable!()
+        }
+        self.follow_led(next)
+    }
+
+    /// A view follows the others, with a master where none stands and one can be elected, and is answered.
+    fn follow_led(&mut self, mut next: View) -> Result<View, OutOfMemory>
+        requires { next.version ≡ length self.old.views + 1 }
+        ensures ok { OnOk result (self.new ≡ with_view self.old (installed next)) }
+        ensures answer { IfOk result (λ view. view ≡ installed next) }
+        ensures err { OnErr result (self.new ≡ self.old) }
+    {
         install(&mut next);
         self.follow(next)
     }
@@ -475,5 +521,15 @@ impl<I: Drop> Registrar<I> {
         let mut given = Vec::with_capacity(alloc, count_for(&self.links, by))?;
         give_all(&mut self.links, by, &mut given);
         Ok(Items::from_vec(given))
+    }
+}
+
+/// Whether a mirror misses nothing, and why not.
+fn missing_refusal(missing: Option<u64>) -> Option<Reason>
+    ensures { result ≡ the_missing_refusal missing }
+{
+    match missing {
+        Some(0) => None,
+        _ => Some(Reason::StillMissing { missing }),
     }
 }

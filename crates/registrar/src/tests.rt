@@ -2,6 +2,7 @@
 //! wanted. `mark a b 1 linked`: by whom, who, the asker's version, and whether the asker has a link to take from;
 //! `erase a b 2 3 3`: by whom, who, the asker's version, and what the asker got and retired;
 //! `admit a d = admitted 2 4`: by whom, the new name, and the version and the id that are wanted;
+//! `synced d 0`: by whom, and what its mirror misses, which `?` leaves unknown;
 //! `refresh a`, `stopped a`, `collect a`; `deposit a b 1 ring 7`: from whom, to whom, the sender's version, the kind,
 //! and the link. A request is asked again where an allocation failed.
 ghost use Rattle.std.specs.Prelude.{IfOk};
@@ -97,6 +98,34 @@ admit b e = admitted 5 5
 admit b f = admitted 6 6
 refresh a = view 6";
 
+/// A newcomer is registered once, while it lives, where its mirror misses nothing.
+const REGISTERS_WHO_MISSES_NOTHING: &str = "\
+admit a d = admitted 2 4
+synced nobody 0 = refused 6
+synced a 0 = refused 11
+synced a ? = refused 11
+synced d ? = refused 33
+synced d 2 = refused 33
+synced d 0 = view 3
+synced d 0 = refused 11
+refresh d = view 3
+stopped d = noted
+mark b d 3 alone = view 4
+synced d 0 = refused 7
+synced d ? = refused 7";
+
+/// Where no master stands, whoever is registered becomes it.
+const ELECTS_WHO_IS_REGISTERED: &str = "\
+admit a b = admitted 2 2
+stopped a = noted
+mark b a 2 alone = view 3
+synced a 0 = refused 7
+erase b a 3 0 0 = view 4
+synced a 0 = refused 7
+synced b 1 = refused 33
+synced b 0 = view 5
+refresh b = view 5";
+
 /// The names of as many members as a group ever has.
 const OF_SIXTY_FOUR: &str = "\
 1 2 3 4 5 6 7 8 9 10 11 12 13 14 15 16 17 18 19 20 21 22 23 24 25 26 27 28 29 30 31 32 \
@@ -191,6 +220,11 @@ fn erase_by(by: MemberId, rest: &str) -> Request<u32> {
     }
 }
 
+fn synced_by(by: MemberId, rest: &str) -> Request<u32> {
+    let missing = rest.parse::<u64>().ok();
+    Request::Synced { by, missing }
+}
+
 fn deposit_by(by: MemberId, rest: &str) -> Request<u32> {
     let (to, rest) = first_word(rest);
     let (view, rest) = first_word(rest);
@@ -217,6 +251,7 @@ fn request_of(asked: &str) -> Option<Request<u32>> {
         "mark" => Some(mark_by(by, rest)),
         "admit" => admit_by(by, rest),
         "erase" => Some(erase_by(by, rest)),
+        "synced" => Some(synced_by(by, rest)),
         "refresh" => Some(Request::Refresh { by }),
         "stopped" => Some(Request::Stopped { by }),
         "deposit" => Some(deposit_by(by, rest)),
@@ -374,6 +409,7 @@ fn answers_as_the_tables_want(rt: HostRuntime) -> Result<(), Fail> {
         ("a b c", COUNTS_NO_LINK_FROM_BEFORE),
         ("a b c", GIVES_LINKS_ONCE_AND_IN_ORDER),
         (OF_SIXTY_FOUR, ADMITS_NO_MORE),
+        ("a b c", REGISTERS_WHO_MISSES_NOTHING),
     ] {
         played(&rt, rt.alloc(), members, table)?;
     }
@@ -400,6 +436,14 @@ fn marks_who_gave_notice(rt: HostRuntime) -> Result<(), Fail> {
 fn erases_who_is_dead(rt: HostRuntime) -> Result<(), Fail> {
     let registrar = played(&rt, rt.alloc(), "a b c", B_ERASES_A)?;
     assert!(rt; has_mark(&registrar, 0, Mark::Erased) && has_mark(&registrar, 1, Mark::Live));
+    assert!(rt; registrar.view().master == Some(MemberId(2)) && registrar.view().term == 2);
+    Ok(())
+}
+
+#[test]
+fn elects_who_is_registered(rt: HostRuntime) -> Result<(), Fail> {
+    let registrar = played(&rt, rt.alloc(), "a", ELECTS_WHO_IS_REGISTERED)?;
+    assert!(rt; registrar.view().is_synced(MemberId(2)));
     assert!(rt; registrar.view().master == Some(MemberId(2)) && registrar.view().term == 2);
     Ok(())
 }

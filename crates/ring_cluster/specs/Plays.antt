@@ -15,7 +15,7 @@ use Rattle.ring_rules.specs.declared.phase.Phase.TheVariants.{Waiting, Up, Stopp
 use Rattle.ring_rules.specs.Machine.{World, member_at}
 use Rattle.ring_rules.specs.Step.{opening}
 use Rattle.ring_rules.specs.Event.{by_of, is_asked, event_of, refusal, last}
-use Rattle.ring_rules.specs.Quiet.{IsQuiet}
+use Rattle.ring_rules.specs.Quiet.{RingRests}
 use Rattle.ring_cluster.specs.declared.agenda.Task.{Task}
 use Rattle.ring_cluster.specs.declared.agenda.Task.TheVariants as task
 use Rattle.ring_cluster.specs.Agendas.{Plan, tasks_in, with_tasks, with_task}
@@ -161,7 +161,7 @@ pub record HaveServed (w : World) (events : List Event) (commands : List Command
 pub record HasSettled (credit : CreditSpec) (names : List (List ℕ)) (events : List Event) (commands : List Command) : Type 0 where
   pub count : ℕ
   pub within : count ≤ length events
-  pub quiet : IsQuiet (state credit names (take count events))
+  pub quiet : RingRests (state credit names (take count events))
   pub served : HaveServed (opening credit names) (take count events) commands
 
 -- at each settling they had, with all earlier commands

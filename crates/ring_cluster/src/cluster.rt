@@ -61,9 +61,9 @@ impl Cluster {
     ghost use Rattle.ring_rules.specs.declared.event.Event.TheVariants as event;
     ghost use Rattle.ring_rules.specs.Machine.{member_at, row_at, view_in, newest, runs};
     ghost use Rattle.ring_rules.specs.Step.{size};
-    ghost use Rattle.ring_rules.specs.Quiet.{IsQuiet};
+    ghost use Rattle.ring_rules.specs.Quiet.{RingRests};
     ghost use Rattle.ring_rules.specs.Refusal.{is_empty};
-    ghost use Rattle.ring_rules.specs.Event.{refusal};
+    ghost use Rattle.ring_rules.specs.Event.{is_multicast, refusal};
     ghost use Rattle.gm_member.specs.Stands.{held_in};
     ghost use Rattle.gm_member.specs.Shown.{held_of};
     ghost use Rattle.ring_rules.specs.Idle.{NobodySteps, MarksNobody, ErasesNobody};
@@ -160,8 +160,10 @@ impl Cluster {
     /// member shows what it showed. Before an event that isn't refused the acting member collects the links that wait
     /// for it, and what is owed is handed over. For want of memory no event happens, though some of that may have
     /// been done; or the event has happened, and the cluster owes the registrar a link. A member that
-    /// is admitted is there at once, since it was got ready before.
+    /// is admitted is there at once, since it was got ready before. The caller gives no event of the queue, since the
+    /// members keep no mirrors of it yet.
     pub fn step(&mut self, event: &Event) -> Result<(), Refused>
+        requires multicast { is_multicast event.now ≡ true }
         ensures enabled { OnOk result (refusal (state_of self.old) event.now ≡ None) }
         ensures ok { OnOk result (IsStepped self.old event.now false self.new) }
         ensures refused { (r : Reason) → refusal (state_of self.old) event.now ≡ Some r
@@ -185,6 +187,7 @@ impl Cluster {
 
     /// The place of the member of an event, where the ring has it.
     fn place_of(&self, event: &Event) -> Option<usize>
+        requires { is_multicast event.now ≡ true }
         ensures { MatchOption result (refusal (state_of self.now) event.now ≡ Some Reason.UnknownMember)
             (λ place. IsEventIn (state_of self.now) place event.now) }
     {
@@ -540,14 +543,14 @@ impl Cluster {
 
     /// Rounds of 16 turns until one does nothing, 64 at most, and then a drain: the ring works and repairs itself, and
     /// each member does all of its agenda, or refuses it, who joins too, until no member has anything left to do. Then
-    /// it is quiet: where anybody runs, nobody waits, and who has died is erased. Each round has a number, and so has
+    /// it rests: where anybody runs, nobody waits, and who has died is erased. Each round has a number, and so has
     /// the drain. After it nothing is owed. Want of memory leaves what has happened.
     pub fn settle<T: Threads, G: Gate>(&mut self, threads: &T, gate: &G) -> Result<(), OutOfMemory>
         ensures goes { HasGoneOn self.old self.new }
         ensures empty { OnOk result (AgendasAreEmpty self.new) }
         ensures idle { OnOk result (NobodySteps (state_of self.new) × MarksNobody (state_of self.new)
             × ErasesNobody (state_of self.new)) }
-        ensures quiet { OnOk result (IsQuiet (state_of self.new)) }
+        ensures quiet { OnOk result (RingRests (state_of self.new)) }
         ensures given { OnOk result ((self.new).given ≡ (self.old).given ++ command.Settle ∷ []) }
         ensures not_given { OnErr result ((self.new).given ≡ (self.old).given) }
         ensures rounds { OnOk result (GivesNumbers 2 65 self.old self.new) }
@@ -577,7 +580,7 @@ impl Cluster {
         ensures idle { OnOk result (NobodySteps (state_of self.new)) }
         ensures marks { OnOk result (MarksNobody (state_of self.new)) }
         ensures erases { OnOk result (ErasesNobody (state_of self.new)) }
-        ensures quiet { OnOk result (IsQuiet (state_of self.new)) }
+        ensures quiet { OnOk result (RingRests (state_of self.new)) }
         ensures rounds { OnOk result (GivesNumbers 2 65 self.old self.new) }
         ensures rounds_begun { OnErr result (GivesNumbers 1 65 self.old self.new) }
         ensures delivered { OnOk result ((self.new).owes ≡ false) }

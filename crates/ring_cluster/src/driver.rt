@@ -5,7 +5,7 @@ ghost use Rattle.ring_rules.specs.Machine.{member_at, view_in, newest as the_new
 ghost use Rattle.ring_rules.specs.Machine.{runs as runs_at};
 ghost use Rattle.ring_rules.specs.Step.{size};
 ghost use Rattle.ring_rules.specs.Refusal.{is_empty};
-ghost use Rattle.ring_rules.specs.Event.{by_of, refusal, erase_refusal, is_asked};
+ghost use Rattle.ring_rules.specs.Event.{by_of, refusal, erase_refusal, is_asked, is_multicast};
 ghost use Rattle.ring_rules.specs.Idle.{NobodySteps, MarksNobody, ErasesNobody};
 ghost use Rattle.ring_rules.specs.Work.{total, is_stale as the_staleness, LeavesLess};
 ghost use Rattle.ring_cluster.specs.Seen.{Seen, state_of, IsGoing, SameButOwed};
@@ -41,6 +41,7 @@ fn happens(cluster: &mut Cluster, id: MemberId, event: &Event) -> Result<bool, O
     requires within { (1 ≤ id.0) × (id.0 < size (state_of cluster.old)) }
     requires named { by_of event.now ≡ (member_at (state_of cluster.old) id.0).name }
     requires own { is_asked event.now ≡ false }
+    requires multicast { is_multicast event.now ≡ true }
     requires less { LeavesLess (state_of cluster.old) event.now }
     ensures does { DoesOrRests cluster.old cluster.new (refusal (state_of cluster.old) event.now ≢ None) result }
     ensures once { DoesAtMost 1 (member_at (state_of cluster.old) id.0).name cluster.old cluster.new }

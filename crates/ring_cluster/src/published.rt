@@ -1,25 +1,28 @@
 //! What each member has published, read of the journal.
-ghost use Rattle.std.specs.Prelude.{◌≡◌, ◌<◌, ◌∷◌, ◌++◌, [], List, length, map, IfOk, OnOk};
+ghost use Rattle.std.specs.Prelude.{◌≡◌, ◌<◌, ◌∷◌, ◌++◌, [], List, true, length, map, Some, IfOk, OnOk};
 ghost use Rattle.std.specs.Prelude.{slice_set, slice_index_or, bytes_eq, IfSome};
-ghost use Rattle.ring_names.specs.declared.message.Message.TheVariants as message;
+ghost use Rattle.std.specs.List.{list_all};
 ghost use Rattle.group_view.specs.Change.{AreDifferent};
 ghost use Rattle.ring_rules.specs.declared.event.Event.{Event};
+ghost use Rattle.ring_rules.specs.Event.{is_multicast};
 ghost use Rattle.ring_rules.specs.Published.{published_in};
 ghost use Rattle.ring_cluster.specs.Agendas.{place_among};
-ghost use Rattle.ring_cluster.specs.Published.{logs_in};
+ghost use Rattle.ring_cluster.specs.Published.{told_in};
 
 use ring_names::{Body, Name, OutOfMemory};
 use ring_rules::Event;
 use std::alloc::Global;
 
-/// Of each member of these names, by places, the bodies that the events have published, in order.
+/// Of each member of these names, by places, the bodies that the events have published, in order. None of the events is
+/// of the queue, so there is a body of each message.
 pub(crate) fn casts_of<'a>(
     alloc: Global,
     names: &[Name],
     events: &'a [Event],
 ) -> Result<Vec<Vec<&'a Body>>, OutOfMemory>
-    requires { AreDifferent names.now }
-    ensures { IfOk result (λ all. logs_in all.items ≡ map (λ name. published_in name events.now) names.now) }
+    requires different { AreDifferent names.now }
+    requires multicast { list_all is_multicast events.now ≡ true }
+    ensures { IfOk result (λ all. told_in all.items ≡ map (λ name. published_in name events.now) names.now) }
 {
     let mut all = nothing_of(alloc, names)?;
     for event in events {
@@ -30,7 +33,7 @@ pub(crate) fn casts_of<'a>(
 
 /// Nothing of each.
 fn nothing_of<'a>(alloc: Global, names: &[Name]) -> Result<Vec<Vec<&'a Body>>, OutOfMemory>
-    ensures { IfOk result (λ all. logs_in all.items ≡ map (λ name. published_in name []) names.now) }
+    ensures { IfOk result (λ all. told_in all.items ≡ map (λ name. published_in name []) names.now) }
 {
     let mut all = Vec::with_capacity(alloc, names.len())?;
     for _place in 0..names.len() {
@@ -47,9 +50,10 @@ fn push_cast<'a>(
 ) -> Result<(), OutOfMemory>
     requires different { AreDifferent names.now }
     requires many { length all.old.items ≡ length names.now }
+    requires multicast { is_multicast event.now ≡ true }
     ensures { OnOk result ((before : List Event)
-        → logs_in all.old.items ≡ map (λ name. published_in name before) names.now
-        → logs_in all.new.items ≡ map (λ name. published_in name (before ++ event.now ∷ [])) names.now) }
+        → told_in all.old.items ≡ map (λ name. published_in name before) names.now
+        → told_in all.new.items ≡ map (λ name. published_in name (before ++ event.now ∷ [])) names.now) }
 {
     match event {
         Event::Cast { by, body } => {
@@ -69,8 +73,8 @@ fn push_at<'a>(
     body: &'a Body,
 ) -> Result<(), OutOfMemory>
     requires { place < length all.old.items }
-    ensures { OnOk result (logs_in all.new.items ≡ slice_set (logs_in all.old.items) place
-        (slice_index_or (logs_in all.old.items) place [] ++ message.Cast body.now ∷ [])) }
+    ensures { OnOk result (told_in all.new.items ≡ slice_set (told_in all.old.items) place
+        (slice_index_or (told_in all.old.items) place [] ++ Some body.now ∷ [])) }
 {
     let bodies = &mut all[place];
     bodies.push(body)?;

@@ -1,11 +1,10 @@
-//! Names, bodies, messages and numbers: the words that every other crate of the ring speaks in.
+//! Names, bodies and numbers: the words that every other crate of the ring speaks in.
 //! Begin at `Name` and `Body`, whose readers say what text is taken, and at `Reason`, the refusals.
 #![tactic(auto)]
 
 mod body;
 mod items;
 mod memory;
-mod message;
 mod name;
 mod numbers;
 mod reason;
@@ -15,7 +14,6 @@ mod tests;
 pub use body::{Body, BodyFault};
 pub use items::Items;
 pub use memory::OutOfMemory;
-pub use message::Message;
 pub use name::{Name, NameFault};
 pub use numbers::{CreditSpec, MemberId, Position, Stamp};
 pub use reason::Reason;

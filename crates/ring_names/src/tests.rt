@@ -33,10 +33,9 @@ fn reads_names(rt: HostRuntime) {
     expect_name(&rt, "a b", "bad byte 1");
 }
 
-/// A copy of the copy of its message.
+/// A copy of its copy.
 fn copy_of(body: Body) -> Result<Body, OutOfMemory> {
-    let Message::Cast(copy) = Message::Cast(body).copy()?;
-    copy.copy()
+    body.copy()?.copy()
 }
 
 /// What is told of bytes that are read as a body, and copied.

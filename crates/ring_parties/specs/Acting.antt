@@ -1,8 +1,8 @@
 -- What an event does to the parties, before the ends of links meet.
 use Rattle.std.specs.Prelude.{◌≡◌, ℕ, ◌+◌, ◌<◌, ◌++◌, ◌∷◌, Bool, true, false, not, cond, List, [], length, Option, Some, None, MatchOption, slice_index_or, map, nat_eq, nat_lt, ⊤}
 use Rattle.std.specs.List.{filter}
-use Rattle.ring_names.specs.declared.message.Message.{Message}
-use Rattle.ring_names.specs.declared.message.Message.TheVariants as message
+use Rattle.queue_core.specs.declared.message.Message.{Message}
+use Rattle.queue_core.specs.declared.message.Message.TheVariants as message
 use Rattle.ring_names.specs.declared.reason.Reason.{Reason}
 use Rattle.ring_names.specs.declared.reason.Reason.TheVariants as reason
 use Rattle.ring_names.specs.declared.numbers.CreditSpec.{CreditSpec}
@@ -154,7 +154,7 @@ Picks a b =
     (i : ℕ) × (first_at_door a.held ≡ Some i)
     × (b ≡ record { held = picked_held a.held; ends = record a.ends { link = slice_index_or a.ends.door i None; door = without i a.ends.door } })
 
--- ---- an event that a member does by itself, on its own links alone
+-- ---- an event that a member does by itself, on its own links alone; of the queue's none can come yet, as no party keeps a mirror
 
 -- whether it does so, without the registrar
 abbrev pub is_alone : Event → Bool

@@ -56,11 +56,12 @@ abbrev pub admission_refused : Group → List ℕ → Option Reason
 admission_refused g name =
     or_else (refuse_if (is_taken g.entries name) reason.NameTaken) (refuse_if (nat_le most_entries (length g.entries)) reason.TooManyMembers)
 
--- why a member doesn't do what a client asks, where this is the newest view
+-- why a member doesn't do what a client asks, where this is the newest view; what is asked of the queue can't come yet
 abbrev pub client_refused : Group → Client → Shown → Option Reason
 client_refused g (client.Cast by body) m = up_refused m.held None
 client_refused g (client.Stop by) m = stop_refused m
 client_refused g (client.Admit by name) m = up_refused m.held (admission_refused g name)
+client_refused g inner m = None
 
 -- why it doesn't tell the client so with this number
 abbrev pub telling_refused : Group → ℕ → Client → Shown → Option Reason

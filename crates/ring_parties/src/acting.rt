@@ -4,6 +4,7 @@ ghost use Rattle.std.specs.Prelude.{OnErr, Some, None, map, length, position, by
 ghost use Rattle.registrar.specs.Registry.{AreHere};
 ghost use Rattle.registrar.specs.Handled.{with_stopped};
 ghost use Rattle.registrar.specs.Asked.{stop_refusal as the_stop_refusal};
+ghost use Rattle.ring_rules.specs.Event.{is_multicast};
 ghost use Rattle.ring_parties.specs.Parties.{shown_of, shown_in};
 ghost use Rattle.ring_parties.specs.Acting.{IsReady};
 ghost use Rattle.ring_parties.specs.Acting.{is_alone as the_alone, alone_refused, DoesAlone};
@@ -37,9 +38,10 @@ fn first_named(members: &[Party], name: &Name) -> Option<usize>
     members.iter().position(|party| has_name(&party.node, name))
 }
 
-/// The event of a member that does it by itself happens, where it is enabled.
+/// The event of a member that does it by itself happens, where it is enabled. It is none of the queue.
 fn do_alone(node: &mut Node, event: &Event) -> Result<(), Refused>
     requires alone { the_alone event.now ≡ true }
+    requires multicast { is_multicast event.now ≡ true }
     requires ready { IsReady (shown_of node.old) }
     ensures judged { IsJudged (alone_refused event.now (shown_of node.old)) result }
     ensures ok { OnOk result (DoesAlone event.now (shown_of node.old) (shown_of node.new)) }
@@ -58,6 +60,14 @@ fn do_alone(node: &mut Node, event: &Event) -> Result<(), Refused>
         | Event::Admit { by: _, name: _ }
         | Event::Erase { by: _, origin: _ }
         | Event::Refuse { code: _, inner: _ } => unreachable!(),
+        Event::Publish { .. }
+        | Event::Get { .. }
+        | Event::Pop { .. }
+        | Event::Ack { .. }
+        | Event::Requeue { .. }
+        | Event::Depth { .. }
+        | Event::Start { .. }
+        | Event::Synced { .. } => unreachable!(),
     }
 }
 
@@ -72,6 +82,7 @@ pub(crate) fn is_alone(event: &Event) -> bool
             | Event::Refresh { .. }
             | Event::Admit { .. }
             | Event::Erase { .. }
+            | Event::Synced { .. }
             | Event::Refuse { .. }
     )
 }
@@ -97,6 +108,7 @@ impl Parties {
     ghost use Rattle.group_view.specs.View.{number};
     ghost use Rattle.group_view.specs.Since.{view_at};
     ghost use Rattle.ring_rules.specs.declared.event.Event.TheVariants.{Stop, Mark, Erase};
+    ghost use Rattle.ring_rules.specs.Event.{is_multicast};
     ghost use Rattle.ring_parties.specs.Parties.{node_at};
     ghost use Rattle.ring_parties.specs.Standing.{StandSomewhere};
     ghost use Rattle.ring_parties.specs.Tried.{IsJudged};
@@ -125,13 +137,15 @@ impl Parties {
         Some(MemberId(place as u32 + 1))
     }
 
-    /// The event of the member at a place happens there, where it is enabled: the out end that the member replaces.
+    /// The event of the member at a place happens there, where it is enabled: the out end that the member replaces. It
+    /// is none of the queue, of which the parties keep no mirrors yet.
     pub(crate) fn act(
         &mut self,
         credit: CreditSpec,
         i: usize,
         event: &Event,
     ) -> Result<Option<Loose>, Refused>
+        requires multicast { is_multicast event.now ≡ true }
         requires within { i < length (self.old).all.nodes }
         requires credit { HasCredit credit (node_at (self.old).all i).held }
         requires delivered { (self.old).owes ≡ false }
@@ -164,6 +178,14 @@ impl Parties {
             | Event::TakeEnd { by: _ }
             | Event::Gain { by: _ }
             | Event::Pick { by: _ } => unreachable!(),
+            Event::Publish { .. }
+            | Event::Get { .. }
+            | Event::Pop { .. }
+            | Event::Ack { .. }
+            | Event::Requeue { .. }
+            | Event::Depth { .. }
+            | Event::Start { .. }
+            | Event::Synced { .. } => unreachable!(),
         }
     }
 
@@ -171,6 +193,7 @@ impl Parties {
     fn act_alone(&mut self, i: usize, event: &Event) -> Result<(), Refused>
         requires within { i < length (self.old).all.nodes }
         requires alone { the_alone event.now ≡ true }
+        requires multicast { is_multicast event.now ≡ true }
         requires delivered { (self.old).owes ≡ false }
         requires standing { StandSomewhere (self.old).all }
         ensures judged { IsJudged (alone_refused event.now (node_at (self.old).all i)) result }

@@ -1,6 +1,6 @@
 //! A member over plain ends, and what it does by itself.
 ghost use Rattle.std.specs.Prelude.{◌≡◌, [], OnOk, OnErr, IsOk, None};
-ghost use Rattle.ring_names.specs.declared.message.Message.TheVariants as message;
+ghost use Rattle.queue_core.specs.declared.message.Message.TheVariants as message;
 ghost use Rattle.gm_member.specs.Held.{up_refused, put_refused, pick_refused};
 ghost use Rattle.ring_parties.specs.Parties.{shown_of};
 ghost use Rattle.ring_parties.specs.Acting.{IsReady, packet_refused, link_end_refused, grant_refused};
@@ -11,7 +11,8 @@ ghost use Rattle.ring_parties.specs.Tried.{IsJudged, Tries};
 use activity::Load;
 use gm_member::Member;
 use ordered_link::{PlainIn, PlainOut};
-use ring_names::{Body, Message};
+use queue_core::Message;
+use ring_names::Body;
 use ring_rules::Refused;
 
 /// A member whose links are plain pairs.

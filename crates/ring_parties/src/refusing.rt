@@ -96,7 +96,7 @@ pub(crate) fn admit_refusal(view: &View, node: &Node, name: &Name) -> Option<Rea
     None
 }
 
-/// Why a member doesn't do what a client asks, where this is the newest view.
+/// Why a member doesn't do what a client asks, where this is the newest view. Of the queue it is asked nothing yet.
 fn client_refusal(view: &View, node: &Node, asked: &Client) -> Option<Reason>
     requires { (shown_of node.now).held.asks ≡ false }
     ensures { result ≡ client_refused view.now asked.now (shown_of node.now) }
@@ -105,6 +105,11 @@ fn client_refusal(view: &View, node: &Node, asked: &Client) -> Option<Reason>
         Client::Cast { by: _, body: _ } => up_refusal(node),
         Client::Stop { by: _ } => stop_refusal(node),
         Client::Admit { by: _, name } => admit_refusal(view, node, name),
+        Client::Publish { .. }
+        | Client::Get { .. }
+        | Client::Pop { .. }
+        | Client::Ack { .. }
+        | Client::Requeue { .. } => None,
     }
 }
 
@@ -233,7 +238,15 @@ fn alone_refusal(node: &Node, event: &Event) -> Option<Reason>
         | Event::Refresh { by: _, view: _ }
         | Event::Admit { by: _, name: _ }
         | Event::Erase { by: _, origin: _ }
-        | Event::Refuse { code: _, inner: _ } => None,
+        | Event::Refuse { code: _, inner: _ }
+        | Event::Publish { .. }
+        | Event::Get { .. }
+        | Event::Pop { .. }
+        | Event::Ack { .. }
+        | Event::Requeue { .. }
+        | Event::Depth { .. }
+        | Event::Start { .. }
+        | Event::Synced { .. } => None,
     }
 }
 
@@ -283,7 +296,8 @@ impl Parties {
     ghost use Rattle.ring_parties.specs.OwnSteps.{step_event};
 
     /// Why the event of the member at a place is refused, where it is: the first condition that fails. Links that wait
-    /// for the member count as if they had come to its door.
+    /// for the member count as if they had come to its door. An event of the queue is none of the parties yet, which keep
+    /// no mirrors.
     pub fn refusal(&self, i: usize, event: &Event) -> Option<Reason>
         requires within { i < length (self.now).all.nodes }
         requires standing { StandSomewhere (self.now).all }
@@ -307,6 +321,14 @@ impl Parties {
             | Event::Gain { by: _ }
             | Event::Stop { by: _ } => alone_refusal(node, event),
             Event::Admit { by: _, name } => admit_refusal(self.registrar.view(), node, name),
+            Event::Publish { .. }
+            | Event::Get { .. }
+            | Event::Pop { .. }
+            | Event::Ack { .. }
+            | Event::Requeue { .. }
+            | Event::Depth { .. }
+            | Event::Start { .. }
+            | Event::Synced { .. } => None,
         }
     }
 

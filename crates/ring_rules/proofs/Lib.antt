@@ -2,6 +2,7 @@ pub mod code
 pub mod compact
 pub mod events
 pub mod invariants
+pub mod queue
 pub mod rests
 pub mod rings
 pub mod runs

@@ -13,5 +13,6 @@ pub mod Settled
 pub mod Settling
 pub mod Sums
 pub mod TakeFalls
+pub mod TellFalls
 pub mod ViewFalls
 pub mod WorkExamples

@@ -1,6 +1,8 @@
 -- What is asked of a state, by the ids of members.
 use Rattle.std.specs.Prelude.{ℕ, cond, List, [], Option, Some, None}
-use Rattle.ring_names.specs.declared.message.Message.{Message}
+use Rattle.queue_core.specs.declared.message.Message.{Message}
+use Rattle.queue_core.specs.Queue.{Item}
+use Rattle.queue_core.specs.Shown.{first_from}
 use Rattle.ring_names.specs.declared.numbers.MemberId.{MemberId}
 use Rattle.ring_rules.specs.declared.shown.Counts.{Counts}
 use Rattle.ring_rules.specs.declared.shown.MemberState.{MemberState}
@@ -39,20 +41,16 @@ abbrev pub log_at : World → Option ℕ → List Message
 log_at w None = []
 log_at w (Some p) = log_of w p
 
--- what the mirror of a member lacks: nothing where the ring registers it as synchronised; else that isn't known, as there is no queue yet
-abbrev pub missing_of : Entry → Option ℕ
-missing_of e = cond e.synced (Some 0) None
-
--- where a member of this entry stands
-abbrev pub state_of : Entry → Phase → MemberState
-state_of e Waiting = state.Waiting
-state_of e Up = state.Up (missing_of e)
-state_of e Stopped = state.Stopped
+-- where a member stands, and how many messages its mirror lacks
+abbrev pub state_of : Option ℕ → Phase → MemberState
+state_of missing Waiting = state.Waiting
+state_of missing Up = state.Up missing
+state_of missing Stopped = state.Stopped
 
 -- where one that was found stands
 abbrev pub state_at : World → Option ℕ → MemberState
 state_at w None = state.Stopped
-state_at w (Some x) = state_of (entry_in (view_in w (newest w)).entries x) (member_at w x).phase
+state_at w (Some x) = state_of (member_at w x).mirror.missing (member_at w x).phase
 
 -- how much the member of an id has published, and how much of that has come round to it
 abbrev pub counts_of : ℕ → Member → Counts
@@ -62,3 +60,14 @@ counts_of x y = counts_in (row_at y x).forgot y.log
 abbrev pub counts_at : World → Option ℕ → Counts
 counts_at w None = counts_in 0 []
 counts_at w (Some x) = counts_of x (member_at w x)
+
+-- what is shown of the mirror of a member that is up
+abbrev pub while_up : Phase → Option Item → Option Item
+while_up Waiting item = None
+while_up Up item = item
+while_up Stopped item = None
+
+-- the first item of that member's mirror at a position or above it
+abbrev pub item_at : World → Option ℕ → ℕ → Option Item
+item_at w None a = None
+item_at w (Some x) a = while_up (member_at w x).phase (first_from a (member_at w x).mirror.queue.items)

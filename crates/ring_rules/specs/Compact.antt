@@ -1,10 +1,12 @@
 -- Compact packets: which lines a packet has, and a take of those lines alone.
 use Rattle.std.specs.Prelude.{◌≡◌, ◌≤◌, ◌<◌, ◌&&◌, Some, ℕ, Bool, true, false, not, nat_eq, if◌then◌else◌, List, [], ◌∷◌, map}
-use Rattle.std.specs.List.{range_with_len}
+use Rattle.std.specs.List.{range_with_len, flat_map}
+use Rattle.queue_core.specs.declared.op.Op.{Op}
+use Rattle.queue_mirror.specs.Mirror.{apply_ops}
 use Rattle.ring_rules.specs.declared.numbers.Numbers.{Numbers}
 use Rattle.ring_rules.specs.Rows.{Row, lo_of}
 use Rattle.ring_rules.specs.Machine.{Waiting, Up, Packet, Member, Sending, World, oldest, row_at, numbers_at, member_at, link_at, view_in, runs}
-use Rattle.ring_rules.specs.Step.{size, with_member, with_link, popped, is_owned, taker, take_from, begun, begin_from, next_packet}
+use Rattle.ring_rules.specs.Step.{size, with_member, with_link, popped, is_owned, brought_at, taker, take_from, begun, begin_from, next_packet}
 use Rattle.ring_rules.specs.Refusal.{is_empty}
 
 -- ---- one packet after another
@@ -87,9 +89,13 @@ line_in before k p = has_line before.fresh (numbers_at k p) (numbers_at before.s
 abbrev pub by_lines : ℕ → Sending → Packet → Member → Member → Member
 by_lines n before k y taken = record taken { rows = map (λ p. if line_in before k p then row_at taken p else row_at y p) (range_with_len 0 n) }
 
+-- the queue's operations that these lines bring
+abbrev pub line_news : World → ℕ → ℕ → List Op
+line_news w y s = flat_map (λ p. if line_in (link_at w s).had (oldest (link_at w s)) p then brought_at w y s p else []) (range_with_len 0 (size w))
+
 -- y takes the lines of the oldest packet of link s, and the packet is gone
 abbrev pub take_lines_from : World → ℕ → ℕ → World
-take_lines_from w y s = with_link (with_member w y (by_lines (size w) (link_at w s).had (oldest (link_at w s)) (member_at w y) (taker w y s))) s (popped (link_at w s))
+take_lines_from w y s = with_link (with_member w y (record (by_lines (size w) (link_at w s).had (oldest (link_at w s)) (member_at w y) (taker w y s)) { mirror = apply_ops (member_at w y).mirror (line_news w y s) })) s (popped (link_at w s))
 
 -- y, that waits, takes the lines of its first packet, and the packet is gone
 abbrev pub begin_lines_from : World → ℕ → ℕ → World

@@ -1,7 +1,13 @@
 -- The events of the ring: when one may happen, and what it does.
-use Rattle.std.specs.Prelude.{◌≡◌, ℕ, ◌+◌, Bool, true, false, ◌&&◌, ◌||◌, not, nat_eq, nat_le, nat_lt, bytes_eq, if◌then◌else◌, List, [], ◌∷◌, length, drop, position, option_map, is_some, Option, Some, None, ⊤}
+use Rattle.std.specs.Prelude.{◌≡◌, ℕ, ◌+◌, Bool, true, false, ◌&&◌, ◌||◌, not, nat_eq, nat_le, nat_lt, bytes_eq, if◌then◌else◌, List, [], ◌∷◌, length, drop, position, option_map, is_some, Option, Some, None, Result, Ok, Err, ⊤}
 use Rattle.std.specs.List.{list_all, filter, range_with_len}
-use Rattle.ring_names.specs.declared.message.Message.TheVariants as message
+use Rattle.queue_core.specs.declared.message.Message.{Message}
+use Rattle.queue_core.specs.declared.message.Message.TheVariants as message
+use Rattle.queue_core.specs.declared.op.Op.{Op}
+use Rattle.queue_core.specs.declared.op.Op.TheVariants as op
+use Rattle.queue_core.specs.Shown.{as_position}
+use Rattle.queue_mirror.specs.Mirror.{MirrorState}
+use Rattle.queue_mirror.specs.Master.{lead_by, lead_refusal, or_refused, get_of, pop_of, ack_of, requeue_of}
 use Rattle.ring_names.specs.declared.reason.Reason.{Reason}
 use Rattle.ring_names.specs.declared.reason.Reason.TheVariants as reason
 use Rattle.ring_names.specs.Reason.{code_of}
@@ -9,13 +15,13 @@ use Rattle.credit_flow.specs.Credit.{is_blocked}
 use Rattle.ring_rules.specs.Rows.{is_sent}
 use Rattle.ring_rules.specs.Refusal.{refuse_if, or_else, is_empty}
 use Rattle.group_view.specs.View.{Group, entry_in, is_dead, is_alias}
-use Rattle.group_view.specs.Change.{marked, erased, is_taken, most_entries}
+use Rattle.group_view.specs.Change.{marked, erased, registered, is_taken, most_entries}
 use Rattle.promotion.specs.Elect.{installed}
 use Rattle.ring_rules.specs.View.{is_live, left_of, right_of}
 use Rattle.ring_rules.specs.Machine.{Phase, Waiting, Up, Stopped, Member, Sending, Moved, Halted, Link, World, row_at, numbers_at, member_at, link_at, view_in, newest, is_waiting, oldest}
 use Rattle.ring_rules.specs.Step.{size, publish_at, put_on, gain_on, take_from, begin_from, current_is, leave_link, stop_at, end_out, with_view, come_to, look_at, open_to, with_link, ended}
 pub use Rattle.ring_rules.specs.declared.event.Event.{Event}
-pub use Rattle.ring_rules.specs.declared.event.Event.TheVariants.{Cast, Put, Take, TakeEnd, Gain, Stop, Mark, Refresh, Admit, Pick, Erase, Refuse}
+pub use Rattle.ring_rules.specs.declared.event.Event.TheVariants.{Cast, Publish, Get, Pop, Ack, Requeue, Depth, Start, Put, Take, TakeEnd, Gain, Stop, Mark, Refresh, Admit, Pick, Erase, Synced, Refuse}
 use Rattle.ring_rules.specs.declared.event.Client.{Client}
 use Rattle.ring_rules.specs.declared.event.Client.TheVariants as client
 
@@ -144,6 +150,21 @@ erase_refusal w x p =
 abbrev pub erased_view : World → ℕ → Group
 erased_view w p = installed (erased (view_in w (newest w)) p)
 
+-- ---- registering
+
+-- a mirror that misses nothing
+abbrev pub missing_refusal : Option ℕ → Option Reason
+missing_refusal None = Some (reason.StillMissing None)
+missing_refusal (Some n) = refuse_if (not (nat_eq n 0)) (reason.StillMissing (Some n))
+
+-- x is registered as synchronised only where it isn't yet in the newest view, and where its mirror misses nothing
+abbrev pub synced_refusal : World → ℕ → Option Reason
+synced_refusal w x = or_else (refuse_if (entry_in (view_in w (newest w)).entries x).synced reason.AlreadySynced) (missing_refusal (member_at w x).mirror.missing)
+
+-- the view in which it is, and a master is elected where none stands
+abbrev pub synced_view : World → ℕ → Group
+synced_view w x = installed (registered (view_in w (newest w)) x)
+
 -- ---- admitting
 
 -- one of this name is admitted only where no entry, of any mark, has the name, and where there is room
@@ -168,23 +189,77 @@ send_to w x z (Some o) = if nat_eq (link_at w o).receiver z then w else open_to 
 abbrev pub refreshed : World → ℕ → ℕ → World
 refreshed w x v = send_to (look_at w x v) x (right_of (view_in w v) x) (member_at w x).out
 
+-- ---- the queue
+
+-- why member x has no start to publish: it doesn't lead by this view, or it leads in the first term, or it has published it
+abbrev pub start_refusal : Group → ℕ → Bool → Option Reason
+start_refusal g x started = or_else (lead_by g.master x false) (refuse_if (nat_le g.term 1 || started) reason.AlreadyStarted)
+
+-- the operation that an event publishes, by the mirror of its member x, by x's view, and by whether x has started; or the
+-- first condition that fails
+abbrev pub asked_op : MirrorState → Group → ℕ → Bool → Event → Result Op Reason
+asked_op m g x started (Publish by body) = or_refused (lead_refusal g x started) (Ok (op.Publish (as_position m.queue.next) body))
+asked_op m g x started (Get by) = get_of m g x started
+asked_op m g x started (Pop by) = pop_of m g x started
+asked_op m g x started (Ack by at) = ack_of m g x started at
+asked_op m g x started (Requeue by at) = requeue_of m g x started at
+asked_op m g x started (Depth by) = or_refused (lead_refusal g x started) (Ok (op.Depth (length m.queue.items)))
+asked_op m g x started (Start by) = or_refused (start_refusal g x started) (Ok (op.Start (length m.queue.items)))
+asked_op m g x started e = Err reason.NotMaster
+
+-- the same in a state
+abbrev pub op_at : World → Event → ℕ → Result Op Reason
+op_at w e x = asked_op (member_at w x).mirror (view_in w (member_at w x).version) x (member_at w x).started e
+
+-- why it isn't published
+abbrev pub op_refusal : Result Op Reason → Option Reason
+op_refusal (Ok o) = None
+op_refusal (Err r) = Some r
+
+-- it is published
+abbrev pub op_done : World → ℕ → Result Op Reason → World
+op_done w x (Ok o) = publish_at w x (message.Queue o)
+op_done w x (Err r) = w
+
+-- a member may publish anything of its own, and to the queue what an event of it publishes
+abbrev pub MayPublish : World → ℕ → Message → Type 0
+MayPublish w x (message.Cast body) = ⊤
+MayPublish w x (message.Queue o) = (e : Event) × (op_at w e x ≡ Ok o)
+
 -- ---- events
 
 -- the event that a client asked for
 abbrev pub event_of : Client → Event
 event_of (client.Cast by body) = Cast by body
+event_of (client.Publish by body) = Publish by body
+event_of (client.Get by) = Get by
+event_of (client.Pop by) = Pop by
+event_of (client.Ack by at) = Ack by at
+event_of (client.Requeue by at) = Requeue by at
 event_of (client.Stop by) = Stop by
 event_of (client.Admit by name) = Admit by name
 
 -- the name of the member of which it was asked
 abbrev pub asked_of : Client → List ℕ
 asked_of (client.Cast by body) = by
+asked_of (client.Publish by body) = by
+asked_of (client.Get by) = by
+asked_of (client.Pop by) = by
+asked_of (client.Ack by at) = by
+asked_of (client.Requeue by at) = by
 asked_of (client.Stop by) = by
 asked_of (client.Admit by name) = by
 
 -- the name of the member that acts
 abbrev pub by_of : Event → List ℕ
 by_of (Cast by body) = by
+by_of (Publish by body) = by
+by_of (Get by) = by
+by_of (Pop by) = by
+by_of (Ack by at) = by
+by_of (Requeue by at) = by
+by_of (Depth by) = by
+by_of (Start by) = by
 by_of (Put by) = by
 by_of (Take by) = by
 by_of (TakeEnd by) = by
@@ -195,22 +270,49 @@ by_of (Refresh by version) = by
 by_of (Admit by name) = by
 by_of (Pick by) = by
 by_of (Erase by origin) = by
+by_of (Synced by) = by
 by_of (Refuse code inner) = asked_of inner
+
+-- whether what a client asks for is of the ring alone
+abbrev pub is_asked_multicast : Client → Bool
+is_asked_multicast (client.Cast by body) = true
+is_asked_multicast (client.Stop by) = true
+is_asked_multicast (client.Admit by name) = true
+is_asked_multicast c = false
 
 -- whether a client asks for it; the others a member does by itself
 abbrev pub is_asked : Event → Bool
 is_asked (Cast by body) = true
+is_asked (Publish by body) = true
+is_asked (Get by) = true
+is_asked (Pop by) = true
+is_asked (Ack by at) = true
+is_asked (Requeue by at) = true
 is_asked (Stop by) = true
 is_asked (Admit by name) = true
 is_asked (Refuse code inner) = true
 is_asked e = false
 
--- whether the registrar has a part in it: it hears of a stop, and makes the view of a mark, an admission and an erasure
+-- whether the event is one of the ring alone, and not of the queue that stands on it
+abbrev pub is_multicast : Event → Bool
+is_multicast (Publish by body) = false
+is_multicast (Get by) = false
+is_multicast (Pop by) = false
+is_multicast (Ack by at) = false
+is_multicast (Requeue by at) = false
+is_multicast (Depth by) = false
+is_multicast (Start by) = false
+is_multicast (Synced by) = false
+is_multicast (Refuse code inner) = is_asked_multicast inner
+is_multicast e = true
+
+-- whether the registrar has a part in it: it hears of a stop, and makes the view of a mark, an admission, an erasure and a registration
 abbrev pub is_registered : Event → Bool
 is_registered (Stop by) = true
 is_registered (Mark by dead) = true
 is_registered (Admit by name) = true
 is_registered (Erase by origin) = true
+is_registered (Synced by) = true
 is_registered e = false
 
 -- whether only a member that is up does it; else one that waits does it too
@@ -228,6 +330,13 @@ phase_refusal false w x later = running_refusal w x later
 -- these others, of an event of member x; a refusal has none
 abbrev pub further_refusal : World → Event → ℕ → Option Reason
 further_refusal w (Cast by body) x = None
+further_refusal w (Publish by body) x = op_refusal (op_at w (Publish by body) x)
+further_refusal w (Get by) x = op_refusal (op_at w (Get by) x)
+further_refusal w (Pop by) x = op_refusal (op_at w (Pop by) x)
+further_refusal w (Ack by at) x = op_refusal (op_at w (Ack by at) x)
+further_refusal w (Requeue by at) x = op_refusal (op_at w (Requeue by at) x)
+further_refusal w (Depth by) x = op_refusal (op_at w (Depth by) x)
+further_refusal w (Start by) x = op_refusal (op_at w (Start by) x)
 further_refusal w (Put by) x = on_link (member_at w x).out reason.NoOutLink (put_refusal w x)
 further_refusal w (Take by) x = on_link (member_at w x).current reason.NoCurrentLink (take_refusal w x)
 further_refusal w (TakeEnd by) x = on_link (member_at w x).current reason.NoCurrentLink (end_refusal w)
@@ -238,6 +347,7 @@ further_refusal w (Refresh by version) x = refresh_refusal w x version
 further_refusal w (Admit by name) x = admit_refusal w name
 further_refusal w (Pick by) x = or_else (refuse_if (is_some (member_at w x).current) reason.HasCurrentLink) (pick_refusal w x)
 further_refusal w (Erase by origin) x = of_member (id_of w origin) (erase_refusal w x)
+further_refusal w (Synced by) x = synced_refusal w x
 further_refusal w (Refuse code inner) x = None
 
 -- the first failing condition of an event that member x does
@@ -278,6 +388,13 @@ taken_by Stopped w y s = w
 -- what member x does; a refusal leaves the ring as it is, and stands in the journal
 abbrev pub done_at : World → Event → ℕ → World
 done_at w (Cast by body) x = publish_at w x (message.Cast body)
+done_at w (Publish by body) x = op_done w x (op_at w (Publish by body) x)
+done_at w (Get by) x = op_done w x (op_at w (Get by) x)
+done_at w (Pop by) x = op_done w x (op_at w (Pop by) x)
+done_at w (Ack by at) x = op_done w x (op_at w (Ack by at) x)
+done_at w (Requeue by at) x = op_done w x (op_at w (Requeue by at) x)
+done_at w (Depth by) x = op_done w x (op_at w (Depth by) x)
+done_at w (Start by) x = op_done w x (op_at w (Start by) x)
 done_at w (Put by) x = at_found (member_at w x).out w (put_on w x)
 done_at w (Take by) x = at_found (member_at w x).current w (taken_by (member_at w x).phase w x)
 done_at w (TakeEnd by) x = at_found (member_at w x).current w (leave_link w x)
@@ -288,6 +405,7 @@ done_at w (Refresh by version) x = refreshed w x version
 done_at w (Admit by name) x = refreshed (come_to w x name) x (newest w + 1)
 done_at w (Pick by) x = at_found (at_door w x) w (λ s. current_is w x (Some s))
 done_at w (Erase by origin) x = at_found (id_of w origin) w (λ p. refreshed (with_view w (erased_view w p)) x (newest w + 1))
+done_at w (Synced by) x = refreshed (with_view w (synced_view w x)) x (newest w + 1)
 done_at w (Refuse code inner) x = w
 
 -- the state after an event

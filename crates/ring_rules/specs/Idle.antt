@@ -2,7 +2,8 @@
 use Rattle.std.specs.Prelude.{◌≡◌, ◌≢◌, ℕ, ◌<◌, true, Some, None}
 use Rattle.ring_rules.specs.Machine.{Up, World, member_at, newest as the_newest, right, runs}
 use Rattle.ring_rules.specs.Step.{size}
-use Rattle.ring_rules.specs.Event.{take_refusal, end_refusal, gain_refusal, put_refusal, pick_refusal, mark_refusal, erase_refusal}
+use Rattle.ring_rules.specs.Work.{owed_at}
+use Rattle.ring_rules.specs.Event.{take_refusal, end_refusal, gain_refusal, put_refusal, pick_refusal, mark_refusal, erase_refusal, synced_refusal}
 
 -- ---- on their links
 
@@ -39,12 +40,18 @@ pub record HasNobodyGone (w : World) (y : ℕ) : Type 0 where
   pub mark : (d : ℕ) → d < size w → mark_refusal w y d ≢ None
   pub erase : (p : ℕ) → p < size w → erase_refusal w y p ≢ None
 
+-- it can't be registered as synchronised, and owes nothing as a master
+pub record OwesNothing (w : World) (y : ℕ) : Type 0 where
+  pub sync : synced_refusal w y ≢ None
+  pub owes : owed_at w y ≡ 0
+
 -- ---- all of it
 
 -- of one that runs
 pub record HasNothingToDo (w : World) (y : ℕ) : Type 0 where
   pub steps : HasNoStep w y
   pub up : (member_at w y).phase ≡ Up → HasNobodyGone w y
+  pub queue : (member_at w y).phase ≡ Up → OwesNothing w y
 
 -- no running member has anything to do
 abbrev pub IsIdle : World → Type 0

@@ -1,6 +1,6 @@
 -- The laws of the ring: of single states, and from one state to the next.
 use Rattle.std.specs.Prelude.{Bool, ◌≡◌, ◌⊎◌, None, ℕ, ◌+◌, ◌-◌, ◌<◌, ◌≤◌, true, Some, slice_index_or, List, [], ◌∷◌, ◌++◌, length, take, max, sum, ⊤}
-use Rattle.ring_names.specs.declared.message.Message.{Message}
+use Rattle.queue_core.specs.declared.message.Message.{Message}
 use Rattle.credit_flow.specs.Link.{oldest as oldest_grant}
 use Rattle.ring_rules.specs.declared.numbers.Numbers.{Numbers}
 use Rattle.ring_rules.specs.Rows.{Row, messages_between, regained}

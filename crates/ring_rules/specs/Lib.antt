@@ -5,9 +5,12 @@ pub mod Idle
 pub mod Lawful
 pub mod Laws
 pub mod Machine
+pub mod Masters
 pub mod NoGap
 pub mod OpenLinks
 pub mod Published
+pub mod QueueLaws
+pub mod QueuePart
 pub mod Quiet
 pub mod Refusal
 pub mod Rows

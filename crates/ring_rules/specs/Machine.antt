@@ -1,7 +1,8 @@
 -- The state of the ring: its views, what each member knows of each origin, and what stands on each link.
 use Rattle.std.specs.Prelude.{ℕ, ◌+◌, ◌-◌, Bool, true, false, List, [], length, slice_index_or, nat_eq, Option, None}
 use Rattle.std.specs.List.{list_all, range_with_len}
-use Rattle.ring_names.specs.declared.message.Message.{Message}
+use Rattle.queue_core.specs.declared.message.Message.{Message}
+use Rattle.queue_mirror.specs.Mirror.{MirrorState, founding}
 use Rattle.ring_rules.specs.declared.numbers.Numbers.{Numbers}
 use Rattle.ring_rules.specs.Rows.{Row, Flow, no_row, no_numbers, full_flow}
 use Rattle.group_view.specs.View.{Group}
@@ -17,8 +18,10 @@ pub record Packet : Type 0 where
   pub version : ℕ
   pub numbers : List Numbers
 
--- A member: its name, its phase, the version of its view, the log of its own messages, and a row for each origin; and
--- where among the links the one stands on which it sends, and the one from which it takes.
+-- A member: its name, its phase, the version of its view, the log of its own messages, and a row for each origin; where
+-- among the links the one stands on which it sends, and the one from which it takes; and of the queue its mirror, whether it
+-- has published Start as a master, the version that its view had when it last told how many messages there are, and whether
+-- its mirror is whole: it was there from the opening, and so has all that was published.
 pub record Member : Type 0 where
   pub name : List ℕ
   pub phase : Phase
@@ -27,6 +30,10 @@ pub record Member : Type 0 where
   pub rows : List Row
   pub out : Option ℕ
   pub current : Option ℕ
+  pub mirror : MirrorState
+  pub started : Bool
+  pub told : ℕ
+  pub whole : Bool
 
 -- What one side of a link knows: whether no packet passed it yet, and the last one that did. At the sending side a packet
 -- passes when it is put, at the receiving side when it is taken.
@@ -62,7 +69,7 @@ no_packet = record { version = 0; numbers = [] }
 
 -- nobody: who stands at id 0, and beyond the ring
 abbrev pub no_member : Member
-no_member = record { name = []; phase = Stopped; version = 0; log = []; rows = []; out = None; current = None }
+no_member = record { name = []; phase = Stopped; version = 0; log = []; rows = []; out = None; current = None; mirror = founding; started = false; told = 0; whole = true }
 
 -- a side of a link that nothing passed
 abbrev pub no_sending : Sending

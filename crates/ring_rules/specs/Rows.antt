@@ -1,6 +1,6 @@
 -- What a member knows of one origin, the credit of a link, and what a step does to each.
 use Rattle.std.specs.Prelude.{ℕ, ◌+◌, Bool, true, false, if◌then◌else◌, ◌&&◌, List, [], ◌∷◌, ◌++◌, length, take, drop, nat_eq, max}
-use Rattle.ring_names.specs.declared.message.Message.{Message}
+use Rattle.queue_core.specs.declared.message.Message.{Message}
 use Rattle.credit_flow.specs.Credit.{sent, gained, took, grant_due, Credit, Counted, full_credit, none_taken}
 use Rattle.credit_flow.specs.Link.{with_grant, oldest as oldest_grant}
 use Rattle.ring_rules.specs.declared.numbers.Numbers.{Numbers}

@@ -1,10 +1,15 @@
 -- The steps of a member, at its id.
 use Rattle.std.specs.Prelude.{ℕ, ◌+◌, ◌-◌, Bool, true, false, cond, List, [], ◌∷◌, ◌++◌, length, map, drop, slice_set, slice_index_or, nat_eq, Option, Some, None}
-use Rattle.std.specs.List.{range_with_len}
+use Rattle.std.specs.Prelude.{◌||◌}
+use Rattle.std.specs.List.{range_with_len, flat_map, list_any}
 use Rattle.ring_names.specs.declared.numbers.CreditSpec.{CreditSpec}
-use Rattle.ring_names.specs.declared.message.Message.{Message}
+use Rattle.queue_core.specs.declared.message.Message.{Message}
+use Rattle.queue_core.specs.declared.op.Op.{Op}
+use Rattle.queue_mirror.specs.Mirror.{founding, joining, apply_ops, is_tell}
+use Rattle.queue_laws.specs.Part.{ops_of, ops}
+use Rattle.queue_laws.specs.Starting.{is_start}
 use Rattle.ring_rules.specs.declared.numbers.Numbers.{Numbers}
-use Rattle.ring_rules.specs.Rows.{Row, no_row, no_numbers, full_flow, born_row, published_row, next_numbers, spent, counted as counted_flow, regained, taken_row}
+use Rattle.ring_rules.specs.Rows.{Row, no_row, no_numbers, full_flow, born_row, published_row, next_numbers, spent, counted as counted_flow, regained, taken_row, brought}
 use Rattle.group_view.specs.View.{Group}
 use Rattle.group_view.specs.Ring.{is_in}
 use Rattle.group_view.specs.Since.{no_group}
@@ -58,9 +63,15 @@ gain_on w o = with_link w o (record (link_at w o) { flow = regained (link_at w o
 
 -- ---- publishing
 
--- the log of member x gains a message, which counts as received at once
+-- the log of member x gains a message, which counts as received at once, and which its mirror takes
 abbrev pub published : ℕ → Message → Member → Member
-published x m y = record y { log = y.log ++ m ∷ []; rows = slice_set y.rows x (published_row (row_at y x) m) }
+published x m y = record y {
+  log = y.log ++ m ∷ [];
+  rows = slice_set y.rows x (published_row (row_at y x) m);
+  mirror = apply_ops y.mirror (ops_of m);
+  started = y.started || list_any is_start (ops_of m);
+  told = cond (list_any is_tell (ops_of m)) y.version y.told;
+}
 
 -- x publishes a message
 abbrev pub publish_at : World → ℕ → Message → World
@@ -72,9 +83,21 @@ publish_at w x m = with_member w x (published x m (member_at w x))
 abbrev pub is_owned : Group → ℕ → ℕ → ℕ → Bool
 is_owned v y s p = cond (nat_eq p y) true (is_in p (between v s y))
 
--- a taker knows of each origin what its row and the packet give together; own tells for whom it answers
+-- the queue's operations that a packet brings of the origins below n
+abbrev pub news_of : ℕ → (ℕ → Bool) → (ℕ → List Message) → Member → Packet → List Op
+news_of n own logs y k = flat_map (λ p. ops (brought (own p) (logs p) (row_at y p) (numbers_at k p))) (range_with_len 0 n)
+
+-- a taker knows of each origin what its row and the packet give together, and its mirror takes what is brought; own tells for
+-- whom it answers
 abbrev pub taken : ℕ → (ℕ → Bool) → (ℕ → List Message) → Member → Packet → Member
-taken n own logs y k = record y { rows = map (λ p. taken_row (own p) (logs p) (row_at y p) (numbers_at k p)) (range_with_len 0 n) }
+taken n own logs y k = record y {
+  rows = map (λ p. taken_row (own p) (logs p) (row_at y p) (numbers_at k p)) (range_with_len 0 n);
+  mirror = apply_ops y.mirror (news_of n own logs y k);
+}
+
+-- the operations that the oldest packet of link s brings y of an origin
+abbrev pub brought_at : World → ℕ → ℕ → ℕ → List Op
+brought_at w y s p = ops (brought (is_owned (view_in w (member_at w y).version) y (link_at w s).sender p) (log_of w p) (row_at (member_at w y) p) (numbers_at (oldest (link_at w s)) p))
 
 -- what y is after it has taken the oldest packet of link s
 abbrev pub taker : World → ℕ → ℕ → Member
@@ -90,7 +113,7 @@ begun_row r k = record r { got = k.got; forgot = k.forgot; base = k.got }
 
 -- its rows are those of the packet
 abbrev pub begun : ℕ → Member → Packet → Member
-begun n y k = record y { phase = Up; rows = map (λ p. begun_row (row_at y p) (numbers_at k p)) (range_with_len 0 n) }
+begun n y k = record y { phase = Up; rows = map (λ p. begun_row (row_at y p) (numbers_at k p)) (range_with_len 0 n); whole = false }
 
 -- and the packet is gone from the link
 abbrev pub begin_from : World → ℕ → ℕ → World
@@ -156,6 +179,10 @@ joiner w name = record {
   rows = map (λ p. born_row (log_of w p)) (range_with_len 0 (size w + 1));
   out = None;
   current = Some (length w.links);
+  mirror = joining;
+  started = false;
+  told = 0;
+  whole = false;
 }
 
 -- the view in which m has admitted one of this name
@@ -221,6 +248,10 @@ opening_member names i = record {
   rows = map (λ _. no_row) (range_with_len 0 (length names + 1));
   out = Some (i - 1);
   current = Some (left_of (opening_group names) i - 1);
+  mirror = founding;
+  started = false;
+  told = 0;
+  whole = true;
 }
 
 -- the ring with these members opens: all are up, nobody has published, and each has an empty link to its right neighbour

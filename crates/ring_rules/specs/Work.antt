@@ -1,6 +1,8 @@
 -- How much a ring still has to do, as a list of numbers, of which the first that changes falls at each step of repair.
-use Rattle.std.specs.Prelude.{ℕ, zero, suc, ◌+◌, ◌-◌, ◌*◌, if◌then◌else◌, ◌≡◌, ◌<◌, ◌≤◌, ◌⊎◌, Bool, ◌&&◌, not, nat_eq, length, List, [], ◌∷◌, is_some, Option, Some, None}
-use Rattle.std.specs.List.{sum_by}
+use Rattle.std.specs.Prelude.{ℕ, zero, suc, ◌+◌, ◌-◌, ◌*◌, if◌then◌else◌, ◌≡◌, ◌<◌, ◌≤◌, ◌⊎◌, Bool, true, false, ◌&&◌, not, nat_eq, nat_lt, length, List, [], ◌∷◌, is_some, Option, Some, None}
+use Rattle.std.specs.List.{sum_by, count_by}
+use Rattle.ring_names.specs.declared.numbers.MemberId.{MemberId}
+use Rattle.group_view.specs.View.{Group, is_live_mark}
 use Rattle.group_view.specs.declared.entry.Entry.{Entry}
 use Rattle.group_view.specs.Kept.{changes_of}
 use Rattle.ring_rules.specs.declared.event.Event.{Event}
@@ -74,6 +76,38 @@ lag_by w q = sum_below (size w) (lag_at w q)
 abbrev pub lag : World → ℕ
 lag w = sum_below (size w - 1) (λ i. lag_by w (i + 1))
 
+-- ---- what masters owe
+
+-- whether it leads
+abbrev pub is_led : Option MemberId → ℕ → Bool
+is_led None x = false
+is_led (Some id) x = nat_eq id.0 x
+
+-- whether a master of a later term, which hasn't started, owes Start
+abbrev pub is_late : Group → Bool → Bool
+is_late g started = nat_lt 1 g.term && not started
+
+-- whether a live entry that isn't registered came after the version at which a member, whose view is of this version, last told
+-- how many messages there are
+abbrev pub is_untold : ℕ → ℕ → Entry → Bool
+is_untold version told e = is_live_mark e.mark && (not e.synced && (nat_lt told e.joined && nat_lt told version))
+
+-- how many such entries there are
+abbrev pub untold : Group → Member → ℕ
+untold g y = count_by (is_untold y.version y.told) g.entries
+
+-- what member x owes, where it leads by its view: its Start, and to tell these entries
+abbrev pub owed_by : Group → ℕ → Member → ℕ
+owed_by g x y = if is_led g.master x then (if is_late g y.started then 1 else 0) + untold g y else 0
+
+-- the same of the member of an id
+abbrev pub owed_at : World → ℕ → ℕ
+owed_at w x = owed_by (view_in w (member_at w x).version) x (member_at w x)
+
+-- all members together
+abbrev pub owed : World → ℕ
+owed w = sum_below (size w - 1) (λ i. owed_at w (i + 1))
+
 -- ---- links
 
 -- what is to be taken from a link: its packets, and its end where that wasn't taken yet
@@ -104,10 +138,11 @@ abbrev pub traffic : World → ℕ
 traffic w = 3 * dirty w + 3 * lag w + on_links w
 
 -- What a ring has to do. A change of the newest view spends one of the changes left to an entry, whatever it makes stale; a
--- refresh spends a stale member, whatever it opens and ends; and all else spends traffic. To add a number, set it in before
+-- refresh spends a stale member, whatever it opens and ends, and whatever its member owes by the new view; a Start or a
+-- Depth spends what is owed, whatever it is behind with then; and all else spends traffic. To add a number, set it in before
 -- those that its events may raise.
 abbrev pub work : World → List ℕ
-work w = marks_left w ∷ stale w ∷ traffic w ∷ []
+work w = marks_left w ∷ stale w ∷ owed w ∷ traffic w ∷ []
 
 -- from these numbers to those, as many, one falls, and none before it rises
 abbrev pub Falls : List ℕ → List ℕ → Type 0
@@ -115,10 +150,10 @@ Falls [] ms = ⊥
 Falls (n ∷ ns) [] = ⊥
 Falls (n ∷ ns) (m ∷ ms) = ((m < n) × (length ms ≡ length ns)) ⊎ ((m ≤ n) × Falls ns ms)
 
--- The same as one number, for at most 64 members: a refresh raises traffic by at most 6, and a change of the newest view
--- leaves all but one of the members stale.
+-- The same as one number, for at most 64 members: what is told raises traffic by at most 579; a refresh raises that by at
+-- most 6, and what is owed by at most 65; and a change of the newest view leaves all but one of the members stale.
 abbrev pub total : World → ℕ
-total w = 585 * marks_left w + 9 * stale w + traffic w
+total w = 2600000 * marks_left w + 39100 * stale w + 600 * owed w + traffic w
 
 -- an event leaves less to do, where it is enabled: in the list, and in the one number
 pub record LeavesLess (w : World) (e : Event) : Type 0 where

@@ -2,13 +2,27 @@
 ghost use Rattle.std.specs.Prelude.{◌≡◌, IfOk};
 ghost use Rattle.ring_rules.specs.Event.{by_of, is_refusal as refusal_is};
 
-use ring_names::{Body, Name, OutOfMemory};
+use ring_names::{Body, Name, OutOfMemory, Position};
 
 /// One atomic step of one member, as `gm` takes them.
 #[derive(Drop, Debug)]
 pub enum Event {
     /// The member publishes a message of its own.
     Cast { by: Name, body: Body },
+    /// The master publishes a message to its queue.
+    Publish { by: Name, body: Body },
+    /// The master hands out the first ready message of its queue.
+    Get { by: Name },
+    /// The master takes the first ready message off its queue for good.
+    Pop { by: Name },
+    /// The master's client acknowledges the message of a position, which was handed out.
+    Ack { by: Name, at: Position },
+    /// The master's client hands the message of a position back, which was handed out.
+    Requeue { by: Name, at: Position },
+    /// The master tells how many messages its queue has.
+    Depth { by: Name },
+    /// A new master begins, before it does anything else to its queue.
+    Start { by: Name },
     /// The member puts a packet on the link that it sends on.
     Put { by: Name },
     /// The member takes the oldest packet from the link that it takes from.
@@ -30,6 +44,8 @@ pub enum Event {
     Pick { by: Name },
     /// The member has a dead origin erased, for which it answers, and whose messages have all come round.
     Erase { by: Name, origin: Name },
+    /// The member has all that its queue's mirror missed, and is registered as synchronised.
+    Synced { by: Name },
     /// What a client asked of a member can't be done, and is told with the number of its refusal.
     Refuse { code: u32, inner: Client },
 }
@@ -39,6 +55,16 @@ pub enum Event {
 pub enum Client {
     /// To publish a message.
     Cast { by: Name, body: Body },
+    /// To publish a message to the queue.
+    Publish { by: Name, body: Body },
+    /// To hand out the first ready message.
+    Get { by: Name },
+    /// To take the first ready message off for good.
+    Pop { by: Name },
+    /// To acknowledge a message that was handed out.
+    Ack { by: Name, at: Position },
+    /// To hand a message back that was handed out.
+    Requeue { by: Name, at: Position },
     /// To stop.
     Stop { by: Name },
     /// To admit a member of a new name.
@@ -55,6 +81,11 @@ impl Client {
     {
         match self {
             Client::Cast { by, body: _ } => by,
+            Client::Publish { by, body: _ } => by,
+            Client::Get { by } => by,
+            Client::Pop { by } => by,
+            Client::Ack { by, at: _ } => by,
+            Client::Requeue { by, at: _ } => by,
             Client::Stop { by } => by,
             Client::Admit { by, name: _ } => by,
         }
@@ -69,6 +100,14 @@ impl Client {
                 by: *by,
                 body: body.copy()?,
             }),
+            Client::Publish { by, body } => Ok(Client::Publish {
+                by: *by,
+                body: body.copy()?,
+            }),
+            Client::Get { by } => Ok(Client::Get { by: *by }),
+            Client::Pop { by } => Ok(Client::Pop { by: *by }),
+            Client::Ack { by, at } => Ok(Client::Ack { by: *by, at: *at }),
+            Client::Requeue { by, at } => Ok(Client::Requeue { by: *by, at: *at }),
             Client::Stop { by } => Ok(Client::Stop { by: *by }),
             Client::Admit { by, name } => Ok(Client::Admit {
                 by: *by,
@@ -85,6 +124,13 @@ impl Event {
     {
         match self {
             Event::Cast { by, body: _ } => by,
+            Event::Publish { by, body: _ } => by,
+            Event::Get { by } => by,
+            Event::Pop { by } => by,
+            Event::Ack { by, at: _ } => by,
+            Event::Requeue { by, at: _ } => by,
+            Event::Depth { by } => by,
+            Event::Start { by } => by,
             Event::Put { by } => by,
             Event::Take { by } => by,
             Event::TakeEnd { by } => by,
@@ -95,6 +141,7 @@ impl Event {
             Event::Admit { by, name: _ } => by,
             Event::Pick { by } => by,
             Event::Erase { by, origin: _ } => by,
+            Event::Synced { by } => by,
             Event::Refuse { code: _, inner } => inner.by(),
         }
     }
@@ -115,6 +162,16 @@ impl Event {
                 by: *by,
                 body: body.copy()?,
             }),
+            Event::Publish { by, body } => Ok(Event::Publish {
+                by: *by,
+                body: body.copy()?,
+            }),
+            Event::Get { by } => Ok(Event::Get { by: *by }),
+            Event::Pop { by } => Ok(Event::Pop { by: *by }),
+            Event::Ack { by, at } => Ok(Event::Ack { by: *by, at: *at }),
+            Event::Requeue { by, at } => Ok(Event::Requeue { by: *by, at: *at }),
+            Event::Depth { by } => Ok(Event::Depth { by: *by }),
+            Event::Start { by } => Ok(Event::Start { by: *by }),
             Event::Put { by } => Ok(Event::Put { by: *by }),
             Event::Take { by } => Ok(Event::Take { by: *by }),
             Event::TakeEnd { by } => Ok(Event::TakeEnd { by: *by }),
@@ -137,6 +194,7 @@ impl Event {
                 by: *by,
                 origin: *origin,
             }),
+            Event::Synced { by } => Ok(Event::Synced { by: *by }),
             Event::Refuse { code, inner } => Ok(Event::Refuse {
                 code: *code,
                 inner: inner.copy()?,

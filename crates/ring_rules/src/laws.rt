@@ -1,11 +1,13 @@
 //! The laws of the ring, over all runs.
-ghost use Rattle.std.specs.Prelude.{ℕ, List, length, ◌≤◌};
+ghost use Rattle.std.specs.Prelude.{ℕ, List, length, ◌+◌, ◌≤◌, ◌<◌};
+ghost use Rattle.queue_core.specs.Queue.{greatest};
 ghost use Rattle.ring_names.specs.declared.numbers.CreditSpec.{CreditSpec};
 ghost use Rattle.group_view.specs.Change.{AreOpeningNames};
 ghost use Rattle.ring_rules.specs.declared.event.Event.{Event};
 ghost use Rattle.ring_rules.specs.Step.{opening};
 ghost use Rattle.ring_rules.specs.Event.{IsRun, last};
 ghost use Rattle.ring_rules.specs.Laws.{IsLawful, GoesOn, IdleIsQuiet};
+ghost use Rattle.ring_rules.specs.QueueLaws.{QueueIsRight, LaterMastersStart};
 ghost use Rattle.ring_rules.specs.Quiet.{IsQuiet};
 ghost use Rattle.ring_rules.specs.Settling.{EachRepairLeavesLess, AreRepairs, NothingLeft, Settles};
 ghost use Rattle.ring_rules.specs.Work.{total};
@@ -34,16 +36,19 @@ pub fn nothing_falls_through_deaths()
 {}
 
 /// Where no running member has anything to do, as an event of its own, the ring is quiet: nobody waits, all that was
-/// published has come round, and no entry is dead. So what isn't at rest goes on by itself.
+/// published has come round, and no entry is dead; whoever misses nothing of the queue is registered as synchronised;
+/// and where the master runs, it has started if it leads in a later term, and every running member knows how many
+/// messages its mirror lacks. So what isn't at rest goes on by itself.
 pub fn an_idle_ring_is_quiet()
     ensures { (credit : CreditSpec) (names : List (List ℕ)) (events : List Event)
-        → AreOpeningNames names → IsRun (opening credit names) events
+        → AreOpeningNames names → length events < greatest → IsRun (opening credit names) events
         → IdleIsQuiet (last (opening credit names) events) }
 {}
 
 /// The steps by which members go on and gm repairs the ring after deaths and admissions: a put, a take, the first
 /// take of a member that waits, the take of a link's end, a gain, a pick, the refresh of a stale member to the newest
-/// view, a mark, and an erasure. In every state that a ring reaches, each of them that is enabled leaves the ring with
+/// view, a mark, and an erasure; and of the queue a start, the registration of one that misses nothing, and a telling
+/// where there is somebody to tell. In every state that a ring reaches, each of them that is enabled leaves the ring with
 /// less to do, as `work` counts it in a list of numbers, and `total` in one.
 pub fn each_step_of_repair_leaves_less_to_do()
     ensures { (credit : CreditSpec) (names : List (List ℕ)) (events : List Event)
@@ -60,11 +65,31 @@ pub fn every_ring_settles()
         → AreRepairs (last (opening credit names) events) steps
         → length steps ≤ total (last (opening credit names) events) }
     ensures quiet { (credit : CreditSpec) (names : List (List ℕ)) (events steps : List Event)
-        → AreOpeningNames names → IsRun (opening credit names) events
+        → AreOpeningNames names → length events + length steps < greatest
+        → IsRun (opening credit names) events
         → AreRepairs (last (opening credit names) events) steps
         → NothingLeft (last (last (opening credit names) events) steps)
         → IsQuiet (last (last (opening credit names) events) steps) }
     ensures settles { (credit : CreditSpec) (names : List (List ℕ)) (events : List Event)
-        → AreOpeningNames names → IsRun (opening credit names) events
+        → AreOpeningNames names → length events + total (last (opening credit names) events) < greatest
+        → IsRun (opening credit names) events
         → Settles (last (opening credit names) events) }
+{}
+
+/// However members join, stop, are erased and become master: of what two members have seen of the queue one is the
+/// beginning of the other, every operation is legal where it stands, each mirror holds just what was published since its
+/// member joined, and a synchronised one holds the queue; and each message that has come round, and that nobody has
+/// acknowledged, stands in every synchronised mirror of a member that is up.
+pub fn every_queue_is_right()
+    ensures { (credit : CreditSpec) (names : List (List ℕ)) (events : List Event)
+        → AreOpeningNames names → length events < greatest → IsRun (opening credit names) events
+        → QueueIsRight (length events) (last (opening credit names) events) }
+{}
+
+/// A later master publishes Start before anything else: only member 1 leads in the first term, and whatever any other
+/// has published to the queue begins with Start.
+pub fn later_masters_start_first()
+    ensures { (credit : CreditSpec) (names : List (List ℕ)) (events : List Event)
+        → AreOpeningNames names → IsRun (opening credit names) events
+        → LaterMastersStart (last (opening credit names) events) }
 {}

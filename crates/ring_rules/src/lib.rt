@@ -50,9 +50,15 @@
 //! What a client asked of a member and can't be done is told by an event too (`Refuse`), with the number of the first
 //! condition that fails. It leaves the ring as it is, and a `World` of ring_world keeps the list (`World::refusals`).
 //!
-//! Not built: there is no queue, so all messages are casts, and who joined isn't registered as synchronised. This
-//! machine's packets have numbers alone, and messages are read from their publisher's log; those of gm_member carry the
-//! messages.
+//! On the ring stands a mirrored queue. The master of a view publishes what it does to it (`Publish`, `Get`, `Pop`, `Ack`,
+//! `Requeue`) as operations in its log, and each member's mirror takes them as they come round:
+//! `rabbit_mirror_queue_master` and `rabbit_mirror_queue_slave`. A mirror of a member that joined holds just what was
+//! published since; it knows how much it lacks once the master tells how many messages there are (`Depth`), and once it
+//! lacks nothing its member is registered as synchronised (`Synced`). Only such a member is elected. A new master starts
+//! before anything else (`Start`): what was handed out is ready again. `every_queue_is_right` is the law of it.
+//!
+//! Not built: no copy of the queue is sent to a mirror. The packets here have numbers alone, and messages are read from
+//! their publisher's log; those of gm_member carry the messages.
 #![tactic(auto)]
 
 mod event;
@@ -64,8 +70,9 @@ mod shown;
 
 pub use event::{Client, Event};
 pub use laws::{
-    an_idle_ring_is_quiet, each_step_of_repair_leaves_less_to_do, every_ring_settles,
-    every_state_is_lawful, nothing_falls_through_deaths,
+    an_idle_ring_is_quiet, each_step_of_repair_leaves_less_to_do, every_queue_is_right,
+    every_ring_settles, every_state_is_lawful, later_masters_start_first,
+    nothing_falls_through_deaths,
 };
 pub use numbers::{Numbers, numbers_at};
 pub use phase::{Ending, Phase};

@@ -2,7 +2,7 @@
 ghost use Rattle.std.specs.Prelude.{◌≡◌, take, count_by};
 ghost use Rattle.ring_rules.specs.Shown.{is_cast as cast_is, is_publish as publish_is, counts_in as the_counts};
 
-use ring_names::Message;
+use queue_core::{Message, Op};
 
 /// How many messages of its own a member has published, by kind, and how many of them have come
 /// round, so that every member that is up has them.
@@ -32,17 +32,13 @@ pub enum MemberState {
 fn is_cast(message: &Message) -> bool
     ensures { result ≡ cast_is message.now }
 {
-    match message {
-        Message::Cast(_) => true,
-    }
+    matches!(message, Message::Cast(_))
 }
 
 fn is_publish(message: &Message) -> bool
     ensures { result ≡ publish_is message.now }
 {
-    match message {
-        Message::Cast(_) => false,
-    }
+    matches!(message, Message::Queue(Op::Publish { .. }))
 }
 
 fn casts_in(log: &[Message]) -> u64

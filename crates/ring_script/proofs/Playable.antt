@@ -1,5 +1,6 @@
--- What a text spells as a script can be played, and a ring can open with the members of a step file.
-use Rattle.std.proofs.Common.{◌≡◌, ℕ, ◌+◌, ◌*◌, ◌≤◌, Bool, true, false, ◌&&◌, ◌==◌, not, nat_le, nat_lt, is_some, unwrap_or, List, [], ◌∷◌, ◌++◌, Option, Some, None, length, get_or, map, refl, sym, ap, subst, ◌∙◌, if◌then◌else◌, arith}
+-- What a text spells as a script can be played; a ring can open with the members of a step file, and its events are of the
+-- ring alone.
+use Rattle.std.proofs.Common.{◌≡◌, ℕ, zero, suc, ◌+◌, ◌*◌, ◌≤◌, Bool, true, false, ◌&&◌, ◌==◌, not, nat_le, nat_lt, is_some, unwrap_or, List, [], ◌∷◌, ◌++◌, Option, Some, None, length, get_or, map, refl, sym, ap, subst, ◌∙◌, if◌then◌else◌, arith}
 use Rattle.std.specs.List.{list_all, Contains}
 use Rattle.std.specs.Str.Parse.{digits_value, digits_value_after}
 use Rattle.std.specs.Char.{digit_value}
@@ -10,8 +11,15 @@ use Rattle.std.proofs.lemmas.List.Folds.{flat_map-map}
 use Rattle.ring_names.specs.Body.{IsBody}
 use Rattle.ring_names.specs.Name.{IsName}
 use Rattle.ring_rules.specs.declared.event.Event.{Event}
+use Rattle.ring_rules.specs.Event.{is_multicast, is_asked_multicast}
 use Rattle.ring_script.specs.declared.fault.Kind.{Kind}
 use Rattle.ring_script.specs.declared.fault.Kind.TheVariants.{UnknownName, BodyTooLong, BadNumber}
+use Rattle.ring_script.specs.declared.steps.ClientWord.{ClientWord}
+use Rattle.ring_script.specs.declared.steps.ClientWord.TheVariants as asks
+use Rattle.ring_script.specs.declared.steps.EventWord.{EventWord}
+use Rattle.ring_script.specs.declared.steps.EventWord.TheVariants as begins
+use Rattle.ring_script.specs.declared.steps.OwnStep.{OwnStep}
+use Rattle.ring_script.specs.declared.steps.OwnStep.TheVariants as own
 use Rattle.ring_script.specs.declared.script.Keyword.{Keyword}
 use Rattle.ring_script.specs.declared.script.Keyword.TheVariants.{Cast, Join, Kill, Go, Settle}
 use Rattle.ring_script.specs.declared.line.Head.{Head}
@@ -19,10 +27,10 @@ use Rattle.ring_script.specs.declared.line.Head.TheVariants as head
 use Rattle.ring_script.specs.declared.command.Command.{Command}
 use Rattle.ring_script.specs.declared.text.Text.{Text}
 use Rattle.ring_script.specs.Words.{lines_of, words_of, first_word, behind_word, is_text_byte, is_digit, is_number, number_of, has_byte}
-use Rattle.ring_script.specs.Line.{body_in, is_name, is_among, head_in, one_word, two_words, name_fault, known_fault, further_fault, number_fault, body_fault, cast_fault}
+use Rattle.ring_script.specs.Line.{operand_in, second_in, body_in, is_name, is_among, head_in, one_word, two_words, name_fault, known_fault, further_fault, number_fault, body_fault, cast_fault}
 use Rattle.ring_script.specs.Script.{keyword_of, join_fault, command_fault, script_grammar, command_by, command_of, joined_by, joined, most_turns}
-use Rattle.ring_script.specs.Steps.{step_grammar}
-use Rattle.ring_script.specs.Reading.{used_of, members_of, said_in, statements_of, joined_in, known_of, IsScriptOf, AreStepsOf, MayBeGiven, MayEachBeGiven, commands_of, IsPlayable, CanOpen}
+use Rattle.ring_script.specs.Steps.{step_grammar, client_word_of, event_word_of, own_event, client_by, event_by, event_of}
+use Rattle.ring_script.specs.Reading.{used_of, members_of, said_in, statements_of, joined_in, known_of, IsScriptOf, AreStepsOf, MayBeGiven, MayEachBeGiven, commands_of, IsPlayable, CanOpen, AreMulticast}
 use Rattle.ring_script.proofs.Bodies.{behind_word_text, behind_space_text, IsBody-from}
 use Rattle.ring_script.proofs.Names.{AreNames, none_of_both, among_contains, IsName-from, new_name, further_by, further_right}
 use Rattle.ring_script.proofs.Taking.{fault_as, said_on, members_taken, credit_taken, statement_taken}
@@ -194,3 +202,39 @@ script_playable bytes script h =
 -- a ring can open with the members of a step file
 pub steps_open : (bytes : List ℕ) (steps : Text Event) → AreStepsOf bytes steps → CanOpen steps.members
 steps_open bytes steps h = subst CanOpen (sym h.members) (text_opens step_grammar bytes h.right)
+
+-- ---- events of the ring alone
+
+own_multicast : (which : OwnStep) (by : List ℕ) → is_multicast (own_event which by) ≡ true
+own_multicast own.Put by = refl
+own_multicast own.Take by = refl
+own_multicast own.TakeEnd by = refl
+own_multicast own.Gain by = refl
+own_multicast own.Stop by = refl
+own_multicast own.Pick by = refl
+
+asked_multicast : (word : Option ClientWord) (rest : List ℕ) → is_asked_multicast (client_by word rest) ≡ true
+asked_multicast (Some asks.Cast) rest = refl
+asked_multicast (Some asks.Stop) rest = refl
+asked_multicast (Some asks.Admit) rest = refl
+asked_multicast None rest = refl
+
+-- the event that a line tells is
+event_multicast : (word : Option EventWord) (rest : List ℕ) → is_multicast (event_by word rest) ≡ true
+event_multicast (Some begins.Cast) rest = refl
+event_multicast (Some begins.Mark) rest = refl
+event_multicast (Some begins.Erase) rest = refl
+event_multicast (Some begins.Admit) rest = refl
+event_multicast (Some begins.Refuse) rest = asked_multicast (client_word_of (second_in rest)) (behind_word (behind_word rest))
+event_multicast (Some begins.Refresh) rest = refl
+event_multicast (Some (begins.Own which)) rest = own_multicast which (operand_in rest)
+event_multicast None rest = refl
+
+said_multicast : (used : List (ℕ × List ℕ)) → AreMulticast (map (said_on event_of) used)
+said_multicast [] k d l = absurd (omega (arith, l))
+said_multicast (line ∷ used) zero d l = event_multicast (event_word_of (first_word line.1)) (behind_word line.1)
+said_multicast (line ∷ used) (suc k) d l = said_multicast used k d (omega (arith, l))
+
+-- each event of a step file is
+pub steps_multicast : (bytes : List ℕ) (steps : Text Event) → AreStepsOf bytes steps → AreMulticast steps.lines
+steps_multicast bytes steps h = subst AreMulticast (sym h.lines) (said_multicast (said_in (used_of (lines_of bytes))))

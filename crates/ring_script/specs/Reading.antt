@@ -1,9 +1,10 @@
 -- What a text says as a script or a step file, or the first fault in it.
-use Rattle.std.specs.Prelude.{◌≡◌, ◌⊎◌, ℕ, ◌+◌, ◌<◌, ◌≤◌, not, Option, Some, None, List, [], ◌∷◌, ◌++◌, length, take, map, All, Contains, ⊤}
+use Rattle.std.specs.Prelude.{◌≡◌, ◌⊎◌, ℕ, ◌+◌, ◌<◌, ◌≤◌, true, not, Option, Some, None, List, [], ◌∷◌, ◌++◌, length, take, map, All, Contains, ⊤}
 use Rattle.std.specs.List.{filter, flat_map, enumerate_from, slice_index_or}
 use Rattle.ring_names.specs.Name.{IsName}
 use Rattle.ring_names.specs.Body.{IsBody}
 use Rattle.ring_rules.specs.declared.event.Event.{Event}
+use Rattle.ring_rules.specs.Event.{is_multicast}
 use Rattle.ring_rules.specs.Rows.{AreOpeningNames}
 use Rattle.ring_script.specs.declared.command.Command.{Command}
 use Rattle.ring_script.specs.declared.command.Command.TheVariants as command
@@ -140,6 +141,10 @@ AreStepsOf = Spells step_grammar event_of
 -- a ring can open with these members, each of a fitting name
 abbrev pub CanOpen : List (List ℕ) → Type 0
 CanOpen names = AreOpeningNames names × All IsName names
+
+-- each event on these lines is of the ring alone, and not of the queue that stands on it
+abbrev pub AreMulticast : List (ℕ × Event) → Type 0
+AreMulticast lines = All (λ line. is_multicast line.1 ≡ true) lines
 
 -- a command that may be given where these names are known
 abbrev pub MayBeGiven : List (List ℕ) → Command → Type 0

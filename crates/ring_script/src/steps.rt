@@ -6,7 +6,7 @@ ghost use Rattle.ring_script.specs.Place.{left_in};
 ghost use Rattle.ring_script.specs.Fault.{Tells};
 ghost use Rattle.ring_script.specs.Steps.{own_step_of, event_word_of, client_word_of, step_grammar, event_fault};
 ghost use Rattle.ring_script.specs.Steps.{client_fault, names_fault, own_event, event_by, refused_by, event_of};
-ghost use Rattle.ring_script.specs.Reading.{AreStepsOf, IsFirstFault, CanOpen, JudgesEachText};
+ghost use Rattle.ring_script.specs.Reading.{AreStepsOf, IsFirstFault, CanOpen, AreMulticast, JudgesEachText};
 
 use crate::arguments::{name_from, number_from, one_left, read_body, two_left};
 use crate::fault::{Kind, LineFault, ScriptFault};
@@ -291,11 +291,12 @@ fn read_own(step: OwnStep, rest: Words) -> Result<Event, LineFault>
 
 /// Reads the steps that the bytes spell, exactly as `read_script` reads a script: each line is judged behind
 /// those before it, and the first one that is wrong is told with its first fault. The word of an event that the
-/// ring hasn't is no command.
-#[tactic(auto, using(crate::proofs::Exact::judges_each, crate::proofs::Playable::steps_open))]
+/// ring alone hasn't is no command, so that no event is of the queue.
+#[tactic(auto, using(crate::proofs::Exact::judges_each, crate::proofs::Playable::steps_open, crate::proofs::Playable::steps_multicast))]
 pub fn read_steps(alloc: Global, bytes: &[u8]) -> Result<Steps, ScriptFault>
     ensures steps { IfOk result (AreStepsOf bytes.now) }
     ensures opens { IfOk result (λ steps. CanOpen steps.members) }
+    ensures multicast { IfOk result (λ steps. AreMulticast steps.lines) }
     ensures fault { (line kind : ℕ) → result ≡ Err (ScriptFault.At line kind)
         → IsFirstFault step_grammar bytes.now line kind }
 

@@ -647,6 +647,10 @@ fn last_event(lines: &[(u32, Event)]) -> [u8; 4] {
         Event::Erase { by, origin } => [b'x', letter(by), letter(origin), line],
         Event::Admit { by, name } => [b'n', letter(by), letter(name), line],
         Event::Refuse { code, inner } => refused(digit(u64::from(*code)), inner),
+        // No line begins an event of the queue.
+        Event::Publish { .. } | Event::Get { .. } | Event::Pop { .. } => *b"none",
+        Event::Ack { .. } | Event::Requeue { .. } => *b"none",
+        Event::Depth { .. } | Event::Start { .. } | Event::Synced { .. } => *b"none",
     }
 }
 
@@ -656,6 +660,9 @@ fn refused(code: u8, inner: &Client) -> [u8; 4] {
         Client::Cast { by, body } => [b'f', code, letter(by), length(body)],
         Client::Stop { by } => [b'f', code, letter(by), b'-'],
         Client::Admit { by, name } => [b'f', code, letter(by), letter(name)],
+        // Nor stands what a client asks of the queue on one.
+        Client::Publish { .. } | Client::Get { .. } | Client::Pop { .. } => *b"none",
+        Client::Ack { .. } | Client::Requeue { .. } => *b"none",
     }
 }
 

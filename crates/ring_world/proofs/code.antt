@@ -1,10 +1,13 @@
 -- For the code of the plain machine.
 pub mod Agreed
+pub mod Asked
 pub mod Found
 pub mod HeldLaws
+pub mod HeldQueue
 pub mod Joins
 pub mod Noting
 pub mod Padded
+pub mod Resting
 pub mod Rules
 pub mod Running
 pub mod Sent

@@ -6,7 +6,7 @@ use Rattle.ring_rules.specs.Machine.{World, member_at, link_at, view_in, newest,
 use Rattle.ring_rules.specs.declared.phase.Phase.TheVariants.{Up}
 use Rattle.ring_rules.specs.Step.{size, log_of}
 use Rattle.ring_rules.specs.View.{is_live}
-use Rattle.ring_rules.specs.Event.{admit_refusal}
+use Rattle.ring_rules.specs.Event.{admit_refusal, synced_refusal}
 use Rattle.ring_world.specs.Shows.{world_of}
 
 -- Members are few, have no more rows than there are members, their own row among them, and have got all that they published;
@@ -32,6 +32,7 @@ pub record IsReady (w : World) : Type 0 where
   pub lives : (x : ℕ) → (member_at w x).phase ≡ Up → is_live (view_in w (newest w)) x ≡ true
   pub marks : (d : ℕ) → is_live (view_in w (newest w)) d ≡ true → newest w < 256
   pub erases : (p : ℕ) → is_dead (view_in w (newest w)).entries p ≡ true → newest w < 256
+  pub syncs : (x : ℕ) → (member_at w x).phase ≡ Up → synced_refusal w x ≡ None → newest w < 256
   pub admits : (x : ℕ) (name : List ℕ) → (member_at w x).phase ≡ Up → admit_refusal w name ≡ None → newest w < 256
 
 -- a member that is up stands at this place of the structs

@@ -1,6 +1,12 @@
 -- What the structs show.
-use Rattle.std.specs.Prelude.{ℕ, ◌-◌, ◌<◌, ◌≤◌, Bool, true, List, [], ◌∷◌, map, length, slice_index_or, vec_len, vec_capacity, ◌&&◌, not, nat_eq, nat_le, Option, None, false}
-use Rattle.ring_names.specs.declared.message.Message.{Message}
+use Rattle.std.specs.Prelude.{ℕ, ◌-◌, ◌<◌, ◌≤◌, Bool, true, List, [], ◌∷◌, map, length, slice_index_or, vec_len, vec_capacity, ◌&&◌, ◌||◌, cond, not, nat_eq, nat_le, Option, Some, None, false}
+use Rattle.std.specs.List.{flat_map}
+use Rattle.queue_core.specs.declared.message.Message.{Message}
+use Rattle.queue_core.specs.declared.message.Message.TheVariants.{Cast, Queue}
+use Rattle.queue_core.specs.declared.op.Op.{Op}
+use Rattle.queue_mirror.specs.Mirror.{apply_op, apply_ops, is_tell}
+use Rattle.queue_laws.specs.Part.{ops}
+use Rattle.queue_laws.specs.Starting.{is_start}
 use Rattle.ring_names.specs.declared.numbers.CreditSpec.{CreditSpec}
 use Rattle.ring_rules.specs.Rows.{Row, Flow, no_row, full_flow, regained, brought}
 use Rattle.group_view.specs.Since.{no_group}
@@ -20,7 +26,19 @@ row_of r = record { got = r.got; forgot = r.forgot; retired = r.retired; heard =
 
 -- a member
 abbrev pub member_of : Seat → Member
-member_of n = record { name = n.name; phase = n.phase; version = n.version; log = n.log.items; rows = map row_of n.rows.items; out = n.out; current = n.current }
+member_of n = record {
+  name = n.name;
+  phase = n.phase;
+  version = n.version;
+  log = n.log.items;
+  rows = map row_of n.rows.items;
+  out = n.out;
+  current = n.current;
+  mirror = n.mirror.mirror;
+  started = n.started;
+  told = n.told;
+  whole = n.whole;
+}
 
 -- a packet
 abbrev pub packet_of : wire.Packet → Packet
@@ -29,6 +47,20 @@ packet_of k = record { version = k.version; numbers = k.numbers.items }
 -- the credit of a link
 abbrev pub flow_of : Wire → Flow
 flow_of l = record { sender = l.outgoing; receiver = l.incoming; grants = l.grants.items }
+
+-- the operation that a message is, if it is one
+abbrev pub operation_in : Message → Option Op
+operation_in (Cast body) = None
+operation_in (Queue o) = Some o
+
+-- a member whose mirror takes an operation that it has published, if there is one
+abbrev pub followed : Option Op → Member → Member
+followed None y = y
+followed (Some o) y = record y {
+  mirror = apply_op y.mirror o;
+  started = y.started || is_start o;
+  told = cond (is_tell o) y.version y.told;
+}
 
 -- a link
 abbrev pub link_of : Wire → Link
@@ -91,9 +123,13 @@ news_in news p = slice_index_or (map news_of news) p no_news
 abbrev pub HasRoom : List KnownOrigin → List Brought → Type 0
 HasRoom rows news = (k : ℕ) → k < length rows → length (news_in news k).messages ≤ slice_index_or (map room_of rows) k 0
 
--- a member with these rows
-abbrev pub with_rows : Member → List Row → Member
-with_rows y rows = record y { rows = rows }
+-- the queue's operations among the news of all origins
+abbrev pub operations_in : List News → List Op
+operations_in ns = flat_map (λ n. ops n.messages) ns
+
+-- a member with these rows, whose mirror has taken these operations
+abbrev pub with_news : Member → List Row → List Op → Member
+with_news y rows l = record y { rows = rows; mirror = apply_ops y.mirror l }
 
 -- the oldest grant under way on the link has come to its sender
 abbrev pub gained_on : Link → Link

@@ -1,6 +1,6 @@
 //! What an enabled event does, at the place of its member.
 ghost use Rattle.std.specs.Prelude.{◌≡◌, ◌<◌, suc, length, is_some, Some, None, OnOk, OnErr};
-ghost use Rattle.ring_names.specs.declared.message.Message.TheVariants as message;
+ghost use Rattle.queue_core.specs.declared.message.Message.TheVariants as message;
 ghost use Rattle.ring_names.specs.declared.reason.Reason.TheVariants as reason;
 ghost use Rattle.ring_rules.specs.Refusal.{refuse_if, or_else};
 ghost use Rattle.ring_rules.specs.declared.phase.Ending.TheVariants as ending;
@@ -15,12 +15,24 @@ ghost use Rattle.ring_world.specs.Shows.{world_of};
 use crate::neighbours::{at_door, id_at};
 use crate::state::Ring;
 use crate::{seats, taking, wires};
-use ring_names::{Body, Message, OutOfMemory};
+use queue_core::Message;
+use ring_names::{Body, OutOfMemory};
 use ring_rules::{Ending, Phase};
 use std::alloc::Global;
 
-/// The member at a place publishes a body.
+/// The member at a place publishes a message.
 #[tactic(auto, using(crate::proofs::code::Found::own_place))]
+pub(crate) fn publish(ring: &mut Ring, place: usize, message: Message) -> Result<(), OutOfMemory>
+    requires placed { IsPlaced (world_of ring.old) }
+    requires place { place < length ring.old.seats.items }
+    ensures ok { OnOk result (world_of ring.new ≡ publish_at (world_of ring.old) (suc place) message) }
+    ensures err { OnErr result (world_of ring.new ≡ world_of ring.old) }
+{
+    let id = id_at(place) as usize;
+    seats::publish(&mut ring.seats, place, id, message)
+}
+
+/// It publishes a body of its own.
 pub(crate) fn cast(ring: &mut Ring, place: usize, body: &Body) -> Result<(), OutOfMemory>
     requires placed { IsPlaced (world_of ring.old) }
     requires place { place < length ring.old.seats.items }
@@ -29,8 +41,7 @@ pub(crate) fn cast(ring: &mut Ring, place: usize, body: &Body) -> Result<(), Out
     ensures err { OnErr result (world_of ring.new ≡ world_of ring.old) }
 {
     let message = Message::Cast(body.copy()?);
-    let id = id_at(place) as usize;
-    seats::publish(&mut ring.seats, place, id, message)
+    publish(ring, place, message)
 }
 
 /// It puts a packet on its link.

@@ -1,20 +1,21 @@
 //! What is asked of a state.
-ghost use Rattle.std.specs.Prelude.{◌≡◌, ◌<◌, suc, cond, length, Option, Some, None, IsSome, IfOk};
-ghost use Rattle.group_view.specs.declared.entry.Entry.{Entry};
+ghost use Rattle.std.specs.Prelude.{◌≡◌, ◌<◌, suc, length, option_map, Some, None, IsSome, IfOk};
+ghost use Rattle.queue_core.specs.Shown.{item_of};
 ghost use Rattle.ring_rules.specs.Machine.{row_at, member_at};
 ghost use Rattle.ring_rules.specs.Asked.{heard_at as the_heard, id_at as the_id_at, state_of as the_state};
-ghost use Rattle.ring_rules.specs.Asked.{state_at as the_state_at};
+ghost use Rattle.ring_rules.specs.Asked.{state_at as the_state_at, item_at as the_item_at};
 ghost use Rattle.ring_rules.specs.Asked.{counts_of as the_counts};
 ghost use Rattle.ring_rules.specs.Event.{id_of as the_id};
 ghost use Rattle.ring_world.specs.Placed.{IsPlaced};
 ghost use Rattle.ring_world.specs.Shows.{world_of, member_of, member_in};
 
 use crate::log::copied;
-use crate::neighbours::{id_at, newest_view};
+use crate::neighbours::id_at;
 use crate::places::place_in;
 use crate::seat::Seat;
 use crate::state::Ring;
-use ring_names::{MemberId, Message, Name, OutOfMemory};
+use queue_core::{Held, Message};
+use ring_names::{MemberId, Name, OutOfMemory, Position};
 use ring_rules::{Counts, MemberState, Phase, counts_in};
 use std::alloc::Global;
 
@@ -45,21 +46,13 @@ pub(crate) fn heard_at(
     Ok(all)
 }
 
-/// What the mirror of a member lacks, by whether the ring registers it as synchronised.
-fn missing(is_synced: bool) -> Option<u64>
-    ensures { result ≡ cond is_synced (Some 0) None }
-{
-    if is_synced { Some(0) } else { None }
-}
-
-fn state_of(is_synced: bool, phase: Phase) -> MemberState
-    ensures { (entry : Entry) → is_synced ≡ entry.synced → result ≡ the_state entry phase }
+/// Where a member stands whose mirror lacks so many messages.
+fn state_of(missing: Option<u64>, phase: Phase) -> MemberState
+    ensures { result ≡ the_state missing phase }
 {
     match phase {
         Phase::Waiting => MemberState::Waiting,
-        Phase::Up => MemberState::Up {
-            missing: missing(is_synced),
-        },
+        Phase::Up => MemberState::Up { missing },
         Phase::Stopped => MemberState::Stopped,
     }
 }
@@ -71,8 +64,21 @@ pub(crate) fn state_at(ring: &Ring, place: usize) -> MemberState
     requires place { place < length ring.now.seats.items }
     ensures { result ≡ the_state_at (world_of ring.now) (Some (suc place)) }
 {
-    let is_synced = newest_view(ring).is_synced(MemberId(id_at(place)));
-    state_of(is_synced, ring.seats[place].phase)
+    let seat = &ring.seats[place];
+    state_of(seat.mirror.missing(), seat.phase)
+}
+
+/// The first item of its mirror at a position or above it, where it is up.
+#[tactic(auto, using(crate::proofs::code::ShownParts::read_member))]
+pub(crate) fn item_from(ring: &Ring, place: usize, from: Position) -> Option<Held<'_>>
+    requires { place < length ring.now.seats.items }
+    ensures { option_map item_of result ≡ the_item_at (world_of ring.now) (Some (suc place)) from.0 }
+{
+    let seat = &ring.seats[place];
+    match seat.phase {
+        Phase::Up => seat.mirror.queue().item_from(from),
+        Phase::Waiting | Phase::Stopped => None,
+    }
 }
 
 /// What the member of one name has heard of that of another.

@@ -16,6 +16,7 @@ use crate::neighbours::{id_at, newest, newest_view};
 use crate::seat::{KnownOrigin, Seat};
 use crate::state::Ring;
 use group_view::View;
+use queue_mirror::Mirror;
 use ring_names::{MemberId, Name, OutOfMemory};
 use ring_rules::Phase;
 use std::alloc::Global;
@@ -58,6 +59,10 @@ fn joiner(alloc: Global, ring: &Ring, name: &Name) -> Result<Seat, OutOfMemory>
         rows,
         out: None,
         current: Some(ring.wires.len()),
+        mirror: Mirror::joining(alloc),
+        started: false,
+        told: 0,
+        whole: false,
     })
 }
 

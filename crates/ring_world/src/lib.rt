@@ -4,6 +4,7 @@
 
 mod arms;
 mod asked;
+mod asking;
 mod changing;
 mod conditions;
 mod dispatch;
@@ -13,7 +14,9 @@ mod log;
 mod marking;
 mod membership;
 mod neighbours;
+mod operations;
 mod places;
+mod queue_rest;
 mod quiet;
 mod refreshing;
 mod refusing;
@@ -21,6 +24,7 @@ mod seat;
 mod seats;
 mod starting;
 mod state;
+mod syncing;
 mod taking;
 mod walk;
 mod wire;
@@ -30,7 +34,7 @@ mod world;
 pub use group_view::are_opening_names;
 pub use ring_rules::{
     Client, Counts, Ending, Event, MemberState, Numbers, Phase, Refused, an_idle_ring_is_quiet,
-    each_step_of_repair_leaves_less_to_do, every_ring_settles, every_state_is_lawful,
-    nothing_falls_through_deaths,
+    each_step_of_repair_leaves_less_to_do, every_queue_is_right, every_ring_settles,
+    every_state_is_lawful, later_masters_start_first, nothing_falls_through_deaths,
 };
 pub use world::World;

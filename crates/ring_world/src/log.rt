@@ -2,7 +2,8 @@
 ghost use Rattle.std.specs.Prelude.{◌≡◌, IfOk};
 ghost use Rattle.ring_rules.specs.Rows.{messages_between as the_messages};
 
-use ring_names::{Message, OutOfMemory};
+use queue_core::Message;
+use ring_names::OutOfMemory;
 use std::alloc::Global;
 
 /// A copy of each message.

@@ -6,7 +6,7 @@ ghost use Rattle.ring_rules.specs.declared.phase.Phase.TheVariants as phase;
 ghost use Rattle.ring_rules.specs.Machine.{member_at};
 ghost use Rattle.ring_rules.specs.Event.{id_of as the_id, of_member, up_refusal, pick_refusal, mark_refusal};
 ghost use Rattle.ring_rules.specs.Event.{refresh_refusal, is_still_taken as still_taken};
-ghost use Rattle.ring_rules.specs.Event.{admit_refusal, erase_refusal};
+ghost use Rattle.ring_rules.specs.Event.{admit_refusal, erase_refusal, synced_refusal, missing_refusal};
 ghost use Rattle.ring_world.specs.Placed.{IsPlaced, IsUpAt};
 ghost use Rattle.ring_world.specs.Shows.{world_of};
 
@@ -175,4 +175,30 @@ pub(crate) fn may_refresh(ring: &Ring, place: usize, version: u32) -> Result<(),
         });
     }
     Ok(())
+}
+
+/// Whether a mirror that lacks so many messages lacks none.
+fn lacks_nothing(missing: Option<u64>) -> Result<(), Reason>
+    ensures { result ≡ answer_of (missing_refusal missing) }
+{
+    match missing {
+        Some(0) => Ok(()),
+        Some(_) | None => Err(Reason::StillMissing { missing }),
+    }
+}
+
+/// Whether the member at a place may be registered as synchronised.
+#[tactic(auto, using(crate::proofs::code::ShownParts::read_member, crate::proofs::code::Found::few_seats))]
+pub(crate) fn may_sync(ring: &Ring, place: usize) -> Result<(), Reason>
+    requires placed { IsPlaced (world_of ring.now) }
+    requires place { place < length ring.now.seats.items }
+    ensures { result ≡ answer_of (up_refusal (world_of ring.now) (suc place)
+        (synced_refusal (world_of ring.now) (suc place))) }
+{
+    let seat = &ring.seats[place];
+    seat.phase.is_up()?;
+    if newest_view(ring).is_synced(MemberId(id_at(place))) {
+        return Err(Reason::AlreadySynced);
+    }
+    lacks_nothing(seat.mirror.missing())
 }

@@ -4,11 +4,12 @@ ghost use Rattle.ring_rules.specs.Machine.{link_at, runs as runs_at, row_at};
 ghost use Rattle.ring_rules.specs.declared.phase.Phase.TheVariants.{Up};
 ghost use Rattle.ring_rules.specs.OpenLinks.{is_open as open_is};
 ghost use Rattle.ring_rules.specs.Event.{holds_nothing};
-ghost use Rattle.ring_rules.specs.Quiet.{IsResting, IsSettled, IsQuiet};
+ghost use Rattle.ring_rules.specs.Quiet.{IsResting, IsSettled, RingRests, IsQuiet};
 ghost use Rattle.ring_world.specs.Placed.{IsPlaced, IsRunningAt};
 ghost use Rattle.ring_world.specs.Shows.{world_of, member_of};
 
 use crate::neighbours::{id_at, newest, newest_view};
+use crate::queue_rest::queue_rests;
 use crate::seat::Seat;
 use crate::state::Ring;
 use crate::walk::{is_open, running_place};
@@ -108,10 +109,18 @@ fn nobody_runs(ring: &Ring) -> bool
     true
 }
 
+/// Whether the ring rests.
+fn ring_rests(ring: &Ring) -> bool
+    requires { IsPlaced (world_of ring.now) }
+    ensures { IsTrue result ↔ RingRests (world_of ring.now) }
+{
+    nobody_runs(ring) || (all_rest(ring) && are_settled(ring, newest_view(ring).entries.as_slice()))
+}
+
 /// Whether the ring is quiet.
 pub(crate) fn is_quiet(ring: &Ring) -> bool
     requires { IsPlaced (world_of ring.now) }
     ensures { IsTrue result ↔ IsQuiet (world_of ring.now) }
 {
-    nobody_runs(ring) || (all_rest(ring) && are_settled(ring, newest_view(ring).entries.as_slice()))
+    ring_rests(ring) && queue_rests(ring)
 }

@@ -5,11 +5,15 @@ ghost use Rattle.std.specs.List.{range_with_len};
 ghost use Rattle.ring_rules.specs.Rows.{no_row, published_row, taken_with};
 ghost use Rattle.ring_rules.specs.Machine.{row_at, numbers_at as the_numbers};
 ghost use Rattle.ring_rules.specs.Step.{published as is_published, begun_row, begun};
-ghost use Rattle.ring_world.specs.Shows.{row_of, row_in, member_of, packet_of, room_of, with_rows, News, news_of};
-ghost use Rattle.ring_world.specs.Shows.{news_in, looked, HasRoom};
+ghost use Rattle.ring_world.specs.Shows.{followed};
+ghost use Rattle.ring_world.specs.Shows.{row_of, row_in, member_of, packet_of, room_of, with_news, News, news_of};
+ghost use Rattle.ring_world.specs.Shows.{news_in, looked, HasRoom, operations_in};
 
+use crate::operations::{apply_all, is_start, operation_of, operations, tells};
 use crate::wire::Packet;
-use ring_names::{Message, Name, OutOfMemory};
+use queue_core::{Message, Op};
+use queue_mirror::Mirror;
+use ring_names::{Name, OutOfMemory};
 use ring_rules::{Numbers, Phase, numbers_at};
 use std::alloc::Global;
 
@@ -24,9 +28,11 @@ pub struct KnownOrigin {
     pub(crate) born: u64,
 }
 
-/// A member with its log and its rows by origins' ids, of which place 0 has nobody's; and where among the links
-/// the one stands on which it sends, and the one from which it takes. Of an origin that was admitted after its
-/// last take it has no row yet, and knows nothing.
+/// A member with its log and its rows by origins' ids, of which place 0 has nobody's; where among the links
+/// the one stands on which it sends, and the one from which it takes; and its mirror of the queue, whether it
+/// has published its start as a master, the version that its view had when it last told how many messages there
+/// are, and whether it was there from the opening. Of an origin that was admitted after its last take it has no
+/// row yet, and knows nothing.
 #[derive(Drop)]
 pub struct Seat {
     pub(crate) name: Name,
@@ -36,6 +42,10 @@ pub struct Seat {
     pub(crate) rows: Vec<KnownOrigin>,
     pub(crate) out: Option<usize>,
     pub(crate) current: Option<usize>,
+    pub(crate) mirror: Mirror,
+    pub(crate) started: bool,
+    pub(crate) told: u32,
+    pub(crate) whole: bool,
 }
 
 /// What a packet brings of one origin, and whether the taker answers for it.
@@ -159,7 +169,7 @@ impl Seat {
         }
     }
 
-    /// Publishes a message; the member's id is given.
+    /// Publishes a message; the member's id is given. Its mirror takes what is done to the queue.
     #[tactic(auto, using(crate::proofs::code::Rules::publishing_rows))]
     pub(crate) fn publish(&mut self, id: usize, message: Message) -> Result<(), OutOfMemory>
         requires row { id < length self.old.rows.items }
@@ -169,13 +179,31 @@ impl Seat {
         ensures err { OnErr result (member_of self.new ≡ member_of self.old) }
     {
         let heard = message.copy()?;
+        let operation = operation_of(&message)?;
+        self.mirror.reserve(1)?;
         self.log.reserve(1)?;
         self.rows[id].publish(heard)?;
         self.log.push_reserved(message);
+        self.follow(operation);
         Ok(())
     }
 
-    /// Takes in a packet with what it brings of each origin.
+    /// Its mirror takes an operation that it has published, if there is one, for which there is room.
+    fn follow(&mut self, operation: Option<Op>)
+        requires { 0 < (self.old).mirror.room }
+        ensures { member_of self.new ≡ followed operation (member_of self.old) }
+    {
+        let Some(operation) = operation else {
+            return;
+        };
+        self.started = self.started || is_start(&operation);
+        if tells(&operation) {
+            self.told = self.version;
+        }
+        self.mirror.apply_reserved(operation);
+    }
+
+    /// Takes in a packet with what it brings of each origin, the queue's operations among it.
     pub(crate) fn take(
         &mut self,
         alloc: Global,
@@ -183,14 +211,17 @@ impl Seat {
         news: &mut [Brought],
     ) -> Result<(), OutOfMemory>
         requires { length self.old.rows.items ≤ length news.old }
-        ensures ok { OnOk result (member_of self.new ≡ with_rows (member_of self.old)
+        ensures ok { OnOk result (member_of self.new ≡ with_news (member_of self.old)
             (map (λ p. taken_with (news_in news.old p).own (row_at (member_of self.old) p)
             (the_numbers (packet_of packet.now) p) (news_in news.old p).messages)
-            (range_with_len 0 (length news.old)))) }
+            (range_with_len 0 (length news.old))) (operations_in (map news_of news.old))) }
         ensures err { OnErr result (member_of self.new ≡ member_of self.old) }
     {
+        let taken = operations(alloc, news)?;
+        self.mirror.reserve(taken.len())?;
         make_ready(alloc, &mut self.rows, news)?;
         take_rows(&mut self.rows, packet, news);
+        apply_all(&mut self.mirror, taken);
         Ok(())
     }
 
@@ -209,6 +240,7 @@ impl Seat {
         pad_rows(alloc, &mut self.rows, size)?;
         begin_rows(&mut self.rows, packet);
         self.phase = Phase::Up;
+        self.whole = false;
         Ok(())
     }
 }

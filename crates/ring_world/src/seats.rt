@@ -5,7 +5,8 @@ ghost use Rattle.ring_rules.specs.Step.{published, with_current, stopped};
 ghost use Rattle.ring_world.specs.Shows.{member_of, member_in, looked, with_out};
 
 use crate::seat::Seat;
-use ring_names::{Message, OutOfMemory};
+use queue_core::Message;
+use ring_names::OutOfMemory;
 use ring_rules::Phase;
 
 /// The member at a place publishes a message.

@@ -12,6 +12,7 @@ use crate::seat::{Seat, opening_rows};
 use crate::state::Ring;
 use crate::wire::Wire;
 use group_view::View;
+use queue_mirror::Mirror;
 use ring_names::{CreditSpec, Name, OutOfMemory};
 use ring_rules::Phase;
 use std::alloc::Global;
@@ -39,6 +40,10 @@ fn opening_seat(
         rows,
         out: Some(place),
         current: Some((left as usize).saturating_sub(1)),
+        mirror: Mirror::founding(alloc),
+        started: false,
+        told: 0,
+        whole: true,
     })
 }
 

@@ -16,7 +16,8 @@ use crate::seat::{Brought, Seat};
 use crate::state::Ring;
 use crate::wire::{Packet, Wire};
 use group_view::View;
-use ring_names::{MemberId, Message, OutOfMemory};
+use queue_core::Message;
+use ring_names::{MemberId, OutOfMemory};
 use ring_rules::{Numbers, numbers_at};
 use std::alloc::Global;
 

@@ -1,5 +1,6 @@
 //! The machine.
 ghost use Rattle.std.specs.Prelude.{◌≡◌, ◌↔◌, IsTrue, ◌++◌, ◌∷◌, [], Some, None, Result, Ok, Err, IsSome, IfOk};
+ghost use Rattle.std.specs.Prelude.{option_map};
 ghost use Rattle.std.specs.Prelude.{IfErr, OnOk};
 ghost use Rattle.std.specs.Prelude.{OnErr};
 ghost use Rattle.ring_names.specs.declared.reason.Reason.{Reason};
@@ -12,9 +13,12 @@ ghost use Rattle.ring_world.specs.Placed.{IsReady};
 ghost use Rattle.ring_world.specs.Shows.{world_of};
 ghost use Rattle.ring_rules.specs.OpenLinks.{walk_named, NeverRises};
 ghost use Rattle.ring_rules.specs.Asked.{id_at, heard_at, got_at, base_at, log_at, state_at};
-ghost use Rattle.ring_rules.specs.Asked.{counts_at};
+ghost use Rattle.ring_rules.specs.Asked.{counts_at, item_at};
+ghost use Rattle.queue_core.specs.Shown.{item_of};
 ghost use Rattle.ring_rules.specs.Quiet.{IsQuiet};
 ghost use Rattle.ring_rules.specs.Laws.{IsLawful};
+ghost use Rattle.ring_rules.specs.QueuePart.{part_of};
+ghost use Rattle.queue_laws.specs.Laws.{MirrorsAgree, ConfirmedStands};
 ghost use Rattle.ring_rules.specs.Event.{refusal, effect, id_of, refusals_of};
 
 use crate::neighbours::newest_view;
@@ -23,7 +27,8 @@ use crate::state::Ring;
 use crate::walk::walk_of_name;
 use crate::{asked, dispatch, quiet, starting};
 use group_view::View;
-use ring_names::{CreditSpec, MemberId, Message, Name, OutOfMemory, Reason};
+use queue_core::{Held, Message};
+use ring_names::{CreditSpec, MemberId, Name, OutOfMemory, Position, Reason};
 use ring_rules::{Counts, Event, MemberState, Refused};
 use std::alloc::Global;
 use std::marker::Model;
@@ -140,8 +145,9 @@ impl World {
         asked::member_named(&self.ring, name)
     }
 
-    /// Where a member stands: a member that is up lacks nothing where it was there from the opening on, and of one that
-    /// was admitted it isn't known. It wants no memory.
+    /// Where a member stands, and of one that is up how many messages its mirror of the queue lacks: none where it was
+    /// there from the opening on, and of one that was admitted it isn't known until the master tells how many there are.
+    /// It wants no memory.
     #[tactic(auto, using(crate::proofs::code::Running::running_placed))]
     pub fn state(&self, of: &Name) -> MemberState
         requires { IsSome (id_of (self.now).ring of.now) }
@@ -149,6 +155,18 @@ impl World {
     {
         match place_in(&self.ring, of) {
             Some(place) => asked::state_at(&self.ring, place),
+            None => unreachable!(),
+        }
+    }
+
+    /// The item of least position at or above `from` in the mirror of a member; none also where the member isn't up.
+    /// It wants no memory.
+    pub fn item_from(&self, of: &Name, from: Position) -> Option<Held<'_>>
+        requires { IsSome (id_of (self.now).ring of.now) }
+        ensures { option_map item_of result ≡ item_at (self.now).ring (id_of (self.now).ring of.now) from.0 }
+    {
+        match place_in(&self.ring, of) {
+            Some(place) => asked::item_from(&self.ring, place, from),
             None => unreachable!(),
         }
     }
@@ -166,8 +184,10 @@ impl World {
     }
 
     /// Whether the ring is quiet: no member runs; or every running one is up, has the newest view and nothing to
-    /// take, and all that it published has come round, no entry is dead, and nobody who lives has stopped. It
-    /// wants no memory.
+    /// take, and all that it published has come round, no entry is dead, and nobody who lives has stopped; whoever
+    /// runs and misses nothing of the queue is registered as synchronised; and where the master runs, it has
+    /// published its start if it leads in a later term, and every running member knows how many messages its mirror
+    /// lacks. It wants no memory.
     pub fn quiet(&self) -> bool
         ensures { IsTrue result ↔ IsQuiet (self.now).ring }
     {
@@ -197,6 +217,8 @@ impl World {
         ensures refusals { OnOk result ((self.new).refusals
             ≡ (self.old).refusals ++ refusals_of (event.now ∷ [])) }
         ensures lawful { OnOk result (IsLawful (self.new).ring.initial (self.new).ring) }
+        ensures mirrors { OnOk result (MirrorsAgree (part_of (self.new).ring)) }
+        ensures confirmed { OnOk result (ConfirmedStands (part_of (self.new).ring)) }
         ensures refused { (reason : Reason) → refusal (self.old).ring event.now ≡ Some reason
             → result ≡ Err (Refused.NotEnabled reason) }
         ensures reason { IfErr result (λ e. (reason : Reason) → e ≡ Refused.NotEnabled reason

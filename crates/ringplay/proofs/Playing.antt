@@ -10,7 +10,7 @@ use Rattle.ring_rules.specs.Machine.{World}
 use Rattle.ring_rules.specs.Step.{opening}
 use Rattle.ring_rules.specs.Event.{IsRun, effect, last, refusals_of}
 use Rattle.ring_rules.specs.Laws.{IsLawful, GoesOn}
-use Rattle.ring_rules.specs.Quiet.{IsQuiet}
+use Rattle.ring_rules.specs.Quiet.{RingRests}
 use Rattle.ring_rules.proofs.runs.InOrder.{last_append}
 use Rattle.ring_rules.proofs.runs.AllRuns.{every_state_lawful, every_run_goes_on}
 use Rattle.ring_cluster.specs.Seen.{Seen, IsGoing, state_of, opening_seen}
@@ -111,11 +111,11 @@ has_run credit names journal c ec en ej going =
 
 -- a cluster that has performed a script and settled has played it
 pub played_by : (script : Text Command) (c : Seen) (journal : List Event) (text : List ℕ) → c.credit ≡ script.credit → c.names ≡ script.members → c.given ≡ given_of script
-    → IsGoing c → IsQuiet (state_of c) → AgendasAreEmpty c → Plays c.credit c.names c.events c.given → journal ≡ c.events
+    → IsGoing c → RingRests (state_of c) → AgendasAreEmpty c → Plays c.credit c.names c.events c.given → journal ≡ c.events
     → text ≡ report_of (state_of c) (refusals_of c.events) → IsPlayedBy script journal text (Some c)
 played_by script c journal text ec en eg going quiet empty plays ej et =
     let ran = has_run script.credit script.members journal c ec en ej going in
-    let quiet' : IsQuiet (last (opening script.credit script.members) journal) = subst IsQuiet ran.state quiet in
+    let quiet' : RingRests (last (opening script.credit script.members) journal) = subst RingRests ran.state quiet in
     record {
       played = record {
         run = ran.run;
@@ -130,7 +130,7 @@ played_by script c journal text ec en eg going quiet empty plays ej et =
 -- a cluster that opened as a, performed the commands of a script to b and settled to c
 pub played_all : (script : Text Command) (a b c : Seen) (journal : List Event) (text : List ℕ) → a ≡ opening_seen script.credit script.members
     → SameRing a b → b.given ≡ a.given ++ commands_on script.lines → HasGoneOn b c → c.given ≡ b.given ++ command.Settle ∷ []
-    → IsGoing c → IsQuiet (state_of c) → AgendasAreEmpty c → Plays c.credit c.names c.events c.given → journal ≡ c.events
+    → IsGoing c → RingRests (state_of c) → AgendasAreEmpty c → Plays c.credit c.names c.events c.given → journal ≡ c.events
     → text ≡ report_of (state_of c) (refusals_of c.events) → IsPlayedBy script journal text (Some c)
 played_all script a b c journal text ea ring given goes settled going quiet empty plays ej et =
     played_by script c journal text

@@ -6,9 +6,9 @@ use Rattle.std.proofs.Common.{◌≡◌, ℕ, ◌+◌, ◌-◌, ◌<◌, ◌≤�
 use Rattle.std.specs.Prelude.{count_by, cond}
 use Rattle.std.specs.declared.vec.Vec.{Vec}
 use Rattle.std.specs.declared.alloc.Global.{Global}
-use Rattle.std.proofs.lemmas.List.Recursion.{is_count_by}
-use Rattle.ring_names.specs.declared.message.Message.{Message}
-use Rattle.ring_names.specs.declared.message.Message.TheVariants.{Cast}
+use Rattle.std.proofs.lemmas.List.Sums.{sum_by-cons}
+use Rattle.queue_core.specs.declared.message.Message.{Message}
+use Rattle.queue_core.specs.declared.message.Message.TheVariants.{Cast}
 use Rattle.ring_rules.specs.declared.shown.Counts.{Counts}
 use Rattle.ring_rules.specs.Rows.{messages_between}
 use Rattle.ring_rules.specs.declared.event.Event.{Event}
@@ -46,32 +46,38 @@ log_at_place w logs i e lt =
 pub logs_many : (w : World) (all : List (Vec (Bor (List ℕ)) Global)) → logs_in all ≡ logs_of w → length all ≡ size w - 1
 logs_many w all e = sym (length-map all (λ (v : Vec (Bor (List ℕ)) Global). casts_with v.items)) ∙ ap length e ∙ length-map-range_with_len (log_of w) 1 (size w - 1)
 
--- each message is a cast
-cast_each : (m : Message) (ms : List Message) → length (m ∷ ms) ≡ cond (is_cast m) (1 + length ms) (length ms)
-cast_each (Cast body) ms = omega arith
+-- casts are casts, and no publishes
+all_casts : (bodies : List (Bor (List ℕ))) → count_by is_cast (casts_with bodies) ≡ length bodies
+all_casts [] = refl
+all_casts (b ∷ bodies) = sum_by-cons (λ m. cond (is_cast m) 1 0) (Cast b.now) (casts_with bodies) ∙ ap (λ n. 1 + n) (all_casts bodies) ∙ omega arith
 
-all_casts : (ms : List Message) → count_by is_cast ms ≡ length ms
-all_casts ms = sym (is_count_by length is_cast refl cast_each ms)
+no_publishes : (bodies : List (Bor (List ℕ))) → count_by is_publish (casts_with bodies) ≡ 0
+no_publishes [] = refl
+no_publishes (b ∷ bodies) = sum_by-cons (λ m. cond (is_publish m) 1 0) (Cast b.now) (casts_with bodies) ∙ ap (λ n. 0 + n) (no_publishes bodies)
 
-publish_each : (m : Message) (ms : List Message) → 0 ≡ cond (is_publish m) (1 + 0) 0
-publish_each (Cast body) ms = refl
-
-no_publishes : (ms : List Message) → count_by is_publish ms ≡ 0
-no_publishes ms = sym (is_count_by (λ _. 0) is_publish refl publish_each ms)
+-- of casts of which so many have come round
+casts_counted : (forgot : ℕ) (bodies : List (Bor (List ℕ))) → forgot ≤ length bodies
+    → record { casts = length bodies; casts_confirmed = forgot; publishes = 0; publishes_confirmed = 0 } ≡ counts_in forgot (casts_with bodies)
+casts_counted forgot bodies l =
+    let front : casts_with (take forgot bodies) ≡ take forgot (casts_with bodies) = sym (take-map (λ (b : Bor (List ℕ)). Cast b.now) forgot bodies) in
+    let casts : length bodies ≡ count_by is_cast (casts_with bodies) = sym (all_casts bodies) in
+    let confirmed : forgot ≡ count_by is_cast (take forgot (casts_with bodies)) =
+    sym (length-take-le forgot bodies l) ∙ sym (all_casts (take forgot bodies)) ∙ ap (count_by is_cast) front in
+    let publishes : 0 ≡ count_by is_publish (casts_with bodies) = sym (no_publishes bodies) in
+    let none : 0 ≡ count_by is_publish (take forgot (casts_with bodies)) = sym (no_publishes (take forgot bodies)) ∙ ap (count_by is_publish) front in
+    ap (λ k. record { casts = k; casts_confirmed = forgot; publishes = 0; publishes_confirmed = 0 }) casts
+    ∙ ap (λ k. record { casts = count_by is_cast (casts_with bodies); casts_confirmed = k; publishes = 0; publishes_confirmed = 0 }) confirmed
+    ∙ ap (λ k. record { casts = count_by is_cast (casts_with bodies); casts_confirmed = count_by is_cast (take forgot (casts_with bodies)); publishes = k; publishes_confirmed = 0 }) publishes
+    ∙ ap (λ k. record { casts = count_by is_cast (casts_with bodies); casts_confirmed = count_by is_cast (take forgot (casts_with bodies)); publishes = count_by is_publish (casts_with bodies); publishes_confirmed = k }) none
 
 -- of n messages published, as many are confirmed as have come round
 pub counts_tell : (w : World) (x n forgot : ℕ) (bodies : List (Bor (List ℕ))) → IsFit w → casts_with bodies ≡ log_of w x → n ≡ length bodies → forgot ≡ (row_at (member_at w x) x).forgot
     → record { casts = n; casts_confirmed = forgot; publishes = 0; publishes_confirmed = 0 } ≡ counts_of x (member_at w x)
 counts_tell w x n forgot bodies f log many come =
-    let own = log_of w x in
-    let front = take forgot own in
-    let length_is : length own ≡ n = ap length (sym log) ∙ length-map bodies (λ (b : Bor (List ℕ)). Cast b.now) ∙ sym many in
-    let within : forgot ≤ length own = omega (arith, (f.lawful.within.rows x x).forgot) in
-    ap (λ k. record { casts = k; casts_confirmed = forgot; publishes = 0; publishes_confirmed = 0 }) (sym (all_casts own ∙ length_is))
-    ∙ ap (λ k. record { casts = count_by is_cast own; casts_confirmed = k; publishes = 0; publishes_confirmed = 0 }) (sym (all_casts front ∙ length-take-le forgot own within))
-    ∙ ap (λ k. record { casts = count_by is_cast own; casts_confirmed = count_by is_cast front; publishes = k; publishes_confirmed = 0 }) (sym (no_publishes own))
-    ∙ ap (λ k. record { casts = count_by is_cast own; casts_confirmed = count_by is_cast front; publishes = count_by is_publish own; publishes_confirmed = k }) (sym (no_publishes front))
-    ∙ ap (λ k. counts_in k own) come
+    let length_is : length bodies ≡ length (log_of w x) = sym (length-map bodies (λ (b : Bor (List ℕ)). Cast b.now)) ∙ ap length log in
+    let within : forgot ≤ length bodies = omega (arith, (f.lawful.within.rows x x).forgot) in
+    ap (λ k. record { casts = k; casts_confirmed = forgot; publishes = 0; publishes_confirmed = 0 }) many
+    ∙ casts_counted forgot bodies within ∙ ap (counts_in forgot) log ∙ ap (λ k. counts_in k (log_of w x)) come
 
 -- what was received of the origin p is its log from the base up to what was got
 pub heard_tells : (w : World) (x p base got : ℕ) (name : List ℕ) (bodies : List (Bor (List ℕ))) → IsFit w → name ≡ name_of w p → casts_with bodies ≡ log_of w p → base ≡ (row_at (member_at w x) p).base

@@ -15,7 +15,7 @@ use Rattle.ring_rules.specs.Machine.{World}
 use Rattle.ring_rules.specs.Step.{opening}
 use Rattle.ring_rules.specs.Event.{IsRun, last, refusals_of}
 use Rattle.ring_rules.specs.Laws.{IsLawful, GoesOn}
-use Rattle.ring_rules.specs.Quiet.{IsQuiet}
+use Rattle.ring_rules.specs.Quiet.{RingRests}
 use Rattle.ring_cluster.specs.Seen.{Seen}
 use Rattle.ring_cluster.specs.Heard.{OpenersHaveNoBase, HasHeardAll}
 use Rattle.ring_cluster.specs.Plays.{Plays, AgendasAreEmpty}
@@ -81,7 +81,7 @@ given_of script = commands_on script.lines ++ Settle ∷ []
 pub record IsPlayed (script : Text Command) (journal : List Event) (text : List ℕ) : Type 0 where
   pub run : IsLawfulRun script.credit script.members journal
   pub plays : Plays script.credit script.members journal (given_of script)
-  pub quiet : IsQuiet (last (opening script.credit script.members) journal)
+  pub quiet : RingRests (last (opening script.credit script.members) journal)
   pub heard_all : HasHeardAll script.members (last (opening script.credit script.members) journal)
   pub report : text ≡ report_of (last (opening script.credit script.members) journal) (refusals_of journal)
 

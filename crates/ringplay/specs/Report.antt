@@ -2,8 +2,8 @@
 use Rattle.std.specs.Prelude.{ℕ, ◌-◌, Bool, true, false, List, [], ◌∷◌, ◌++◌, codes, Option, Some, None, bytes_eq}
 use Rattle.std.specs.List.{range_with_len, flat_map, filter}
 use Rattle.std.specs.Fmt.{decimal}
-use Rattle.ring_names.specs.declared.message.Message.{Message}
-use Rattle.ring_names.specs.declared.message.Message.TheVariants.{Cast}
+use Rattle.queue_core.specs.declared.message.Message.{Message}
+use Rattle.queue_core.specs.declared.message.Message.TheVariants.{Cast, Queue}
 use Rattle.ring_names.specs.declared.numbers.MemberId.{MemberId}
 use Rattle.group_view.specs.declared.entry.Entry.{Entry}
 use Rattle.group_view.specs.declared.entry.Mark.{Mark}
@@ -69,9 +69,10 @@ counts_lines c =
     codes "casts " ++ decimal c.casts ++ codes " confirmed " ++ decimal c.casts_confirmed ++ newline
     ++ codes "publishes " ++ decimal c.publishes ++ codes " confirmed " ++ decimal c.publishes_confirmed ++ newline
 
--- one message of the origin of that name, as a member received it
+-- one message of the origin of that name, as a member received it; of what a master does to its queue nothing is told
 abbrev pub heard_line : List ℕ → Message → List ℕ
 heard_line origin (Cast body) = codes "heard " ++ origin ++ codes " " ++ body ++ newline
+heard_line origin (Queue o) = []
 
 -- what the member x has received of the origin p, in order: from its first message on, or from its base on where x joined
 abbrev pub heard_from : World → ℕ → ℕ → List ℕ
@@ -90,6 +91,11 @@ while_up Stopped lines = []
 -- what a client asked for, in the words of a step file
 abbrev pub asked_text : Client → List ℕ
 asked_text (client.Cast by body) = codes "cast " ++ by ++ codes " " ++ body
+asked_text (client.Publish by body) = codes "publish " ++ by ++ codes " " ++ body
+asked_text (client.Get by) = codes "get " ++ by
+asked_text (client.Pop by) = codes "pop " ++ by
+asked_text (client.Ack by at) = codes "ack " ++ by ++ codes " " ++ decimal at.0
+asked_text (client.Requeue by at) = codes "requeue " ++ by ++ codes " " ++ decimal at.0
 asked_text (client.Stop by) = codes "stop " ++ by
 asked_text (client.Admit by name) = codes "admit " ++ by ++ codes " " ++ name
 

@@ -1,10 +1,11 @@
 //! What the report says of the refusals of a journal.
 ghost use Rattle.std.specs.Prelude.{◌≡◌, ◌∷◌, ◌++◌, [], IfOk, OnOk, codes};
+ghost use Rattle.std.specs.Fmt.{decimal};
 ghost use Rattle.ring_rules.specs.Event.{is_refusal as refusal_is, refusals_of};
 ghost use Rattle.ringplay.specs.Report.{asked_text, refusal_line, refusal_lines};
 ghost use Rattle.ringplay.specs.Lent.{lent_in};
 
-use ring_names::{Name, OutOfMemory};
+use ring_names::{Name, OutOfMemory, Position};
 use ring_rules::{Client, Event};
 use std::alloc::Global;
 
@@ -88,17 +89,22 @@ fn push_refused(
 {
     let number = format!(in alloc; "refused {code} ")?;
     out.extend_from_slice(number.as_bytes())?;
-    push_asked(out, inner)?;
+    push_asked(alloc, out, inner)?;
     out.extend_from_slice(b"\n")?;
     Ok(())
 }
 
 /// What a client asked for, in the words of a step file.
-fn push_asked(out: &mut Vec<u8>, inner: &Client) -> Result<(), OutOfMemory>
+fn push_asked(alloc: Global, out: &mut Vec<u8>, inner: &Client) -> Result<(), OutOfMemory>
     ensures { OnOk result (out.new.items ≡ out.old.items ++ asked_text inner.now) }
 {
     match inner {
         Client::Cast { by, body } => push_two(out, b"cast ", by, body.bytes()),
+        Client::Publish { by, body } => push_two(out, b"publish ", by, body.bytes()),
+        Client::Get { by } => push_one(out, b"get ", by),
+        Client::Pop { by } => push_one(out, b"pop ", by),
+        Client::Ack { by, at } => push_at(alloc, out, b"ack ", by, *at),
+        Client::Requeue { by, at } => push_at(alloc, out, b"requeue ", by, *at),
         Client::Stop { by } => push_one(out, b"stop ", by),
         Client::Admit { by, name } => push_two(out, b"admit ", by, name.bytes()),
     }
@@ -121,4 +127,18 @@ fn push_two(out: &mut Vec<u8>, word: &[u8], by: &Name, further: &[u8]) -> Result
     out.extend_from_slice(b" ")?;
     out.extend_from_slice(further)?;
     Ok(())
+}
+
+/// A word, a name, and a position behind a space.
+fn push_at(
+    alloc: Global,
+    out: &mut Vec<u8>,
+    word: &[u8],
+    by: &Name,
+    at: Position,
+) -> Result<(), OutOfMemory>
+    ensures { OnOk result (out.new.items ≡ out.old.items ++ (word.now ++ by.now ++ codes " " ++ decimal at.0)) }
+{
+    let place = format!(in alloc; "{}", at.0)?;
+    push_two(out, word, by, place.as_bytes())
 }

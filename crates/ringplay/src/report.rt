@@ -3,7 +3,7 @@ ghost use Rattle.std.specs.Prelude.{◌≡◌, ℕ, ◌+◌, ◌<◌, ◌≤◌,
 ghost use Rattle.std.specs.Prelude.{length, nat_eq, take, drop, slice_index_or};
 ghost use Rattle.std.specs.Fmt.{decimal};
 ghost use Rattle.std.specs.List.{flat_map};
-ghost use Rattle.ring_names.specs.declared.message.Message.TheVariants as message;
+ghost use Rattle.queue_core.specs.declared.message.Message.TheVariants as message;
 ghost use Rattle.group_view.specs.View.{entry_in, no_entry};
 ghost use Rattle.ring_rules.specs.Step.{size};
 ghost use Rattle.ring_rules.specs.Machine.{member_at as at_id};

@@ -1,8 +1,8 @@
 //! Playing a step file.
-ghost use Rattle.std.specs.Prelude.{◌≡◌, ℕ, ◌∷◌, ◌++◌, [], Some, None, IfOk, OnOk, IfErr, codes, string_bytes};
+ghost use Rattle.std.specs.Prelude.{◌≡◌, ℕ, ◌∷◌, ◌++◌, [], true, Some, None, IfOk, OnOk, IfErr, codes, string_bytes};
 ghost use Rattle.std.specs.Fmt.{decimal};
-ghost use Rattle.ring_script.specs.Reading.{CanOpen};
-ghost use Rattle.ring_rules.specs.Event.{refusal};
+ghost use Rattle.ring_script.specs.Reading.{CanOpen, AreMulticast};
+ghost use Rattle.ring_rules.specs.Event.{is_multicast, refusal};
 ghost use Rattle.ring_cluster.specs.Seen.{state_of};
 ghost use Rattle.ringplay.specs.Report.{newline};
 ghost use Rattle.ringplay.specs.Step.{happens, enabled_of, kept_text as the_kept_text};
@@ -22,6 +22,7 @@ use std::alloc::Global;
 /// line that is refused changes nothing and is told, and the next one follows.
 pub(crate) fn step(alloc: Global, steps: Steps) -> Result<Played, OutOfMemory>
     requires opens { CanOpen steps.members }
+    requires multicast { AreMulticast steps.lines }
     ensures { IfOk result (λ played. AreSteppedBy steps played.journal.items played.text.items (Some played.cluster)) }
 {
     let Steps {
@@ -50,6 +51,7 @@ fn try_lines(
     lines: &[(u32, Event)],
     text: &mut Vec<u8>,
 ) -> Result<(), OutOfMemory>
+    requires { AreMulticast lines.now }
     ensures stepped { OnOk result (HasStepped cluster.old cluster.new (enabled_of (state_of cluster.old) lines.now)) }
     ensures told { OnOk result (text.new.items ≡ text.old.items ++ refused_lines (state_of cluster.old) lines.now) }
 {
@@ -67,6 +69,7 @@ fn try_line(
     event: &Event,
     text: &mut Vec<u8>,
 ) -> Result<(), OutOfMemory>
+    requires { is_multicast event.now ≡ true }
     ensures stepped { OnOk result (HasStepped cluster.old cluster.new (happens (state_of cluster.old) event.now)) }
     ensures told { OnOk result (text.new.items ≡ text.old.items
         ++ if_refused number (refusal (state_of cluster.old) event.now)) }

@@ -1,5 +1,5 @@
-//! Changes of the group `a b c`, row by row, and behind `=` the view that each leaves, or why it is refused. `mark 2`
-//! and `erase 2` tell the id, `admit 1 d` the admitter's id and the name. A view is its version and then of each entry,
+//! Changes of the group `a b c`, row by row, and behind `=` the view that each leaves, or why it is refused. `mark 2`,
+//! `erase 2` and `sync 2` tell the id, `admit 1 d` the admitter's id and the name. A view is its version and then of each entry,
 //! in ring order, its id, its mark, the version of its admission and that of its left neighbour. A change is made
 //! again where an allocation failed.
 use super::{name, opened};
@@ -26,6 +26,21 @@ admit 3 a = refused 9
 admit 9 e = refused 6
 erase 9 = refused 6
 admit 3 e = 5: 1 Live 1 5, 2 Live 1 1, 4 Erased 2 2, 3 Live 1 3, 5 Live 5 5";
+
+/// Whoever came is registered as synchronised once, while it lives; nobody's neighbour changes by it.
+const ONE_IS_REGISTERED: &str = "\
+sync 1 = refused 11
+sync 9 = refused 6
+admit 2 d = 2: 1 Live 1 1, 2 Live 1 1, 4 Live 2 2, 3 Live 1 2
+admit 4 e = 3: 1 Live 1 1, 2 Live 1 1, 4 Live 2 2, 5 Live 3 3, 3 Live 1 3
+sync 4 = 4: 1 Live 1 1, 2 Live 1 1, 4 Live 2 2, 5 Live 3 3, 3 Live 1 3
+sync 4 = refused 11
+mark 4 = 5: 1 Live 1 1, 2 Live 1 1, 4 Dead 2 2, 5 Live 3 5, 3 Live 1 3
+sync 4 = refused 7
+mark 5 = 6: 1 Live 1 1, 2 Live 1 1, 4 Dead 2 2, 5 Dead 3 5, 3 Live 1 6
+sync 5 = refused 7
+erase 5 = 7: 1 Live 1 1, 2 Live 1 1, 4 Dead 2 2, 5 Erased 3 5, 3 Live 1 6
+sync 5 = refused 7";
 
 /// Whoever is left alone is its own neighbour until it admits one.
 const THE_LAST_ONE_ADMITS: &str = "\
@@ -54,7 +69,8 @@ fn shown(alloc: Global, view: &View) -> Result<String, Fail> {
     Ok(text)
 }
 
-/// A change is made, and whether whoever is admitted is found by its name, and whoever is erased as erased.
+/// A change is made, and whether whoever is admitted is found by its name, whoever is erased as erased, and whoever is
+/// registered as synchronised.
 fn change(view: &mut View, verb: &str, id: MemberId, new: Option<Name>) -> Result<bool, ViewFault> {
     match (verb, new) {
         ("admit", Some(new)) => {
@@ -64,6 +80,10 @@ fn change(view: &mut View, verb: &str, id: MemberId, new: Option<Name>) -> Resul
         ("erase", _) => {
             view.erase(id)?;
             Ok(view.is_erased(id))
+        }
+        ("sync", _) => {
+            view.mark_synced(id)?;
+            Ok(view.is_synced(id))
         }
         _ => {
             view.mark_dead(id)?;
@@ -107,6 +127,11 @@ fn expect_rows(rt: &impl Abort, alloc: Global, rows: &str) -> Result<(), Fail> {
 #[test]
 fn one_comes_and_goes(rt: HostRuntime) -> Result<(), Fail> {
     expect_rows(&rt, rt.alloc(), ONE_COMES_AND_GOES)
+}
+
+#[test]
+fn one_is_registered(rt: HostRuntime) -> Result<(), Fail> {
+    expect_rows(&rt, rt.alloc(), ONE_IS_REGISTERED)
 }
 
 #[test]

@@ -14,7 +14,7 @@ use Rattle.ring_rules.specs.declared.phase.Phase.TheVariants.{Waiting, Up, Stopp
 use Rattle.ring_rules.specs.Machine.{World, member_at}
 use Rattle.ring_rules.specs.Step.{size, opening}
 use Rattle.ring_rules.specs.Event.{refusal, effect, by_of, id_of, is_asked}
-use Rattle.ring_rules.specs.Quiet.{IsQuiet}
+use Rattle.ring_rules.specs.Quiet.{RingRests}
 use Rattle.ring_rules.specs.Work.{total, LeavesLess}
 use Rattle.ring_rules.proofs.events.Names.{same_bytes, own_bytes}
 use Rattle.ring_rules.proofs.runs.InOrder.{last_append}
@@ -287,14 +287,14 @@ go_plays c d turns goes eg h =
 pub same_plays : (c d : Seen) → HasGoneOn c d → d.given ≡ c.given → PlaysSoFar c → PlaysSoFar d
 same_plays c d goes eg h = plays_on c d goes.0 goes.1 eg h
 
-pub settle_plays : (c d : Seen) → IsGoing d → HasGoneOn c d → AgendasAreEmpty d → IsQuiet (state_of d) → d.given ≡ c.given ++ command.Settle ∷ [] → PlaysSoFar c → PlaysSoFar d
+pub settle_plays : (c d : Seen) → IsGoing d → HasGoneOn c d → AgendasAreEmpty d → RingRests (state_of d) → d.given ≡ c.given ++ command.Settle ∷ [] → PlaysSoFar c → PlaysSoFar d
 settle_plays c d g goes empty quiet eg h =
     let e : Seen = record d { given = c.given } in
     let on : PlaysSoFar e = plays_on c e goes.0 (GoesOn-given c d e goes.0 refl refl refl refl goes.1) refl h in
     let going : IsGoing e = record { are = g.are; run = g.run; few = g.few; rounds = g.rounds } in
     plays_noted e d command.Settle (λ name. refl) (λ _. settled_now d.credit d.names d.events c.given quiet (all_served e going empty on)) refl refl refl refl eg on
 
-pub settle_played : (c d : Seen) → IsGoing d → HasGoneOn c d → AgendasAreEmpty d → IsQuiet (state_of d) → d.given ≡ c.given ++ command.Settle ∷ [] → PlaysSoFar c → Plays d.credit d.names d.events d.given
+pub settle_played : (c d : Seen) → IsGoing d → HasGoneOn c d → AgendasAreEmpty d → RingRests (state_of d) → d.given ≡ c.given ++ command.Settle ∷ [] → PlaysSoFar c → Plays d.credit d.names d.events d.given
 settle_played c d g goes empty quiet eg h = settled_plays d g empty (settle_plays c d g goes empty quiet eg h)
 
 -- only what was given and the rounds differ

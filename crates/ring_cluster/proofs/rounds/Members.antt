@@ -15,7 +15,7 @@ use Rattle.ring_rules.specs.declared.phase.Phase.TheVariants.{Waiting, Up, Stopp
 use Rattle.ring_rules.specs.Refusal.{refuse_if, or_else, is_empty}
 use Rattle.ring_rules.specs.Machine.{World, member_at, link_at, view_in, newest, runs, runs_phase, is_waiting, oldest}
 use Rattle.ring_rules.specs.Step.{size, opening}
-use Rattle.ring_rules.specs.Event.{by_of, id_of, of_member, on_link, is_asked, is_told, is_passing, doing_refusal, refused_at, is_stopped, version_refusal, running_refusal, up_refusal, take_refusal, refresh_refusal, mark_refusal, erase_refusal, admit_refusal, refusal, effect, IsRun, last}
+use Rattle.ring_rules.specs.Event.{by_of, id_of, of_member, on_link, is_asked, is_told, is_passing, doing_refusal, refused_at, is_stopped, version_refusal, running_refusal, up_refusal, take_refusal, refresh_refusal, mark_refusal, erase_refusal, admit_refusal, is_multicast, refusal, effect, IsRun, last}
 use Rattle.ring_rules.specs.Work.{is_stale, LeavesLess}
 use Rattle.ring_rules.specs.Settling.{is_repair, stale_one}
 use Rattle.ring_rules.proofs.events.Names.{same_bytes}
@@ -39,7 +39,7 @@ use Rattle.ring_cluster.specs.Backlog.{backlog}
 use Rattle.ring_cluster.specs.Handed.{least_running}
 use Rattle.ring_cluster.specs.Plays.{asked_event, client_event, client_events, task_event, answer_by, answer_to, is_stop, takes_up}
 use Rattle.ring_cluster.specs.Turns.{IsMemberAt, MembersStay, NoneWaitsAgain}
-use Rattle.ring_cluster.specs.Published.{names_in, logs_of}
+use Rattle.ring_cluster.specs.Published.{names_in, told_of_each}
 use Rattle.ring_rules.specs.Published.{published_in}
 use Rattle.ring_cluster.proofs.work.Staying.{KeepsNames, waits_not_again, is_admission, event_same, event_keeps, run_keeps_names, run_behind}
 use Rattle.ring_cluster.proofs.work.Logged.{names_in_many, name_in_at, reached_different, id_in, run_all_logs}
@@ -84,18 +84,18 @@ names_stay c d more g credit names events = subst (KeepsNames (state_of c)) (sym
 -- ---- who acts
 
 -- an event is one of the first member of its name; where there is none, it is refused
-pub event_place_in : (w : World) (e : Event) (o : Option ℕ) → o ≡ place_among (names_in w) (by_of e) → MatchOption o (refusal w e ≡ Some reason.UnknownMember) (λ i. IsEventIn w i e)
-event_place_in w e None is = ap (λ o. of_member o (refused_at w e)) (id_in w (by_of e) ∙ ap (option_map (λ i. i + 1)) (sym is))
-event_place_in w e (Some i) is =
+pub event_place_in : (w : World) (e : Event) (o : Option ℕ) → is_multicast e ≡ true → o ≡ place_among (names_in w) (by_of e) → MatchOption o (refusal w e ≡ Some reason.UnknownMember) (λ i. IsEventIn w i e)
+event_place_in w e None cast is = ap (λ o. of_member o (refused_at w e)) (id_in w (by_of e) ∙ ap (option_map (λ i. i + 1)) (sym is))
+event_place_in w e (Some i) cast is =
     let there = position-Some (λ n. bytes_eq n (by_of e)) (names_in w) i [] (sym is) in
     let l : i + 1 < size w = omega (arith, there.0, names_in_many w) in
-    (l, sym (same_bytes (get_or (names_in w) i []) (by_of e) there.1) ∙ name_in_at w i [] l)
+    (l, sym (same_bytes (get_or (names_in w) i []) (by_of e) there.1) ∙ name_in_at w i [] l, cast)
 
 -- an event of the member of an id is one of that at its place
-pub event_at_place : (w : World) (e : Event) (x : ℕ) → 1 ≤ x → x < size w → by_of e ≡ (member_at w x).name → IsEventIn w (x - 1) e
-event_at_place w e x some lt is =
+pub event_at_place : (w : World) (e : Event) (x : ℕ) → 1 ≤ x → x < size w → by_of e ≡ (member_at w x).name → is_multicast e ≡ true → IsEventIn w (x - 1) e
+event_at_place w e x some lt is cast =
     let back : x - 1 + 1 ≡ x = omega arith in
-    (omega arith, is ∙ ap (λ k. (member_at w k).name) (sym back))
+    (omega arith, is ∙ ap (λ k. (member_at w k).name) (sym back), cast)
 
 -- ---- who does or refuses a task
 
@@ -331,6 +331,6 @@ stale_less c x by version g some lt e v was = repair_less (state_of c) (going_ri
 
 -- ---- what was published
 
--- the logs of the last state are what the journal published of the names of all its members
-pub all_logs : (c : Seen) → IsGoing c → map (λ name. published_in name c.events) (names_in (state_of c)) ≡ logs_of (state_of c)
+-- what is told of the logs of the last state is what the journal published of the names of all its members
+pub all_logs : (c : Seen) → IsGoing c → map (λ name. published_in name c.events) (names_in (state_of c)) ≡ told_of_each (state_of c)
 all_logs c g = run_all_logs c.credit c.names c.events g.are g.run

@@ -5,7 +5,7 @@ use Rattle.std.proofs.lemmas.Bool.{false≢true}
 use Rattle.ring_names.specs.declared.reason.Reason.{Reason}
 use Rattle.ring_rules.specs.declared.event.Event.TheVariants.{Mark, Erase}
 use Rattle.ring_rules.specs.Refusal.{is_empty}
-use Rattle.ring_rules.specs.Event.{by_of, asked_of}
+use Rattle.ring_rules.specs.Event.{by_of, asked_of, is_multicast, is_asked_multicast}
 use Rattle.ring_rules.specs.Work.{LeavesLess}
 use Rattle.ring_rules.specs.Settling.{is_repair}
 use Rattle.ring_rules.proofs.work.Fit as ring
@@ -45,7 +45,7 @@ going_ring c g = ring.reached_fit c.credit c.names c.events g.are g.run
 
 -- ---- tasks
 
-task_by : (name : List ℕ) (t : Task) → by_of (task_event name t) ≡ name
+pub task_by : (name : List ℕ) (t : Task) → by_of (task_event name t) ≡ name
 task_by name (task.Cast body) = refl
 task_by name task.Stop = refl
 task_by name (task.Admit newcomer) = refl
@@ -60,6 +60,21 @@ pub answered_by : (name : List ℕ) (t : Task) (o : Option Reason) → by_of (an
 answered_by name t None = task_by name t
 answered_by name t (Some r) = client_by name t
 
+-- each task is of the ring alone, and so is its answer
+pub task_multicast : (name : List ℕ) (t : Task) → is_multicast (task_event name t) ≡ true
+task_multicast name (task.Cast body) = refl
+task_multicast name task.Stop = refl
+task_multicast name (task.Admit newcomer) = refl
+
+client_multicast : (name : List ℕ) (t : Task) → is_asked_multicast (task_client name t) ≡ true
+client_multicast name (task.Cast body) = refl
+client_multicast name task.Stop = refl
+client_multicast name (task.Admit newcomer) = refl
+
+pub answered_multicast : (name : List ℕ) (t : Task) (o : Option Reason) → is_multicast (answer_by name t o) ≡ true
+answered_multicast name t None = task_multicast name t
+answered_multicast name t (Some r) = client_multicast name t
+
 -- ---- what leaves less to do
 
 pub step_by : (s : OwnStep) (name : List ℕ) → by_of (step_event s name) ≡ name
@@ -68,6 +83,14 @@ step_by step.Take name = refl
 step_by step.TakeEnd name = refl
 step_by step.Gain name = refl
 step_by step.Put name = refl
+
+-- and it is of the ring alone
+pub step_multicast : (s : OwnStep) (name : List ℕ) → is_multicast (step_event s name) ≡ true
+step_multicast step.Pick name = refl
+step_multicast step.Take name = refl
+step_multicast step.TakeEnd name = refl
+step_multicast step.Gain name = refl
+step_multicast step.Put name = refl
 
 pub step_less : (c : Seen) (s : OwnStep) (by : List ℕ) → IsGoing c → LeavesLess (state_of c) (step_event s by)
 step_less c s by g = repair_less (state_of c) (going_ring c g) (step_event s by) (by_step s)

@@ -8,7 +8,7 @@ use Rattle.ring_rules.specs.declared.phase.Phase.{Phase}
 use Rattle.ring_rules.specs.declared.phase.Phase.TheVariants.{Waiting, Up, Stopped}
 use Rattle.ring_rules.specs.Machine.{World, member_at, newest, right, runs, runs_phase}
 use Rattle.ring_rules.specs.Step.{size}
-use Rattle.ring_rules.specs.Event.{erase_refusal, refusal}
+use Rattle.ring_rules.specs.Event.{erase_refusal, is_multicast, refusal}
 use Rattle.ring_rules.specs.Idle.{NobodySteps, MarksNobody, ErasesNobody}
 use Rattle.ring_rules.specs.Work.{LeavesLess}
 use Rattle.ring_rules.proofs.walks.Ended.{runs_lt}
@@ -24,7 +24,7 @@ use Rattle.ring_parties.specs.States.{state}
 use Rattle.ring_cluster.specs.Turns.{turn_event, HasTurn, RestsAt}
 use Rattle.ring_parties.specs.OwnSteps.{step_event}
 use Rattle.ring_parties.specs.Refused.{IsRefusalAt}
-use Rattle.ring_cluster.proofs.rounds.Named.{going_fit, going_ring, step_by, step_less, mark_less, erase_less}
+use Rattle.ring_cluster.proofs.rounds.Named.{going_fit, going_ring, step_by, step_multicast, step_less, mark_less, erase_less}
 use Rattle.ring_cluster.proofs.rounds.Members.{stale_less, refresh_may, erase_may, waiting_takes_in}
 use Rattle.ring_cluster.proofs.rounds.Settling.{right_there}
 
@@ -33,16 +33,16 @@ use Rattle.ring_cluster.proofs.rounds.Settling.{right_there}
 -- of a step of the member at a place
 pub step_told : (c : Seen) (i : ℕ) (s : OwnStep) (r : Option Reason) → i + 1 < size (state_of c) → StandAfter c.credit c.names c.events c.shows → ((by : List ℕ) → IsRefusalAt i (step_event s by) c.shows r)
     → r ≡ refusal (state_of c) (step_event s (member_at (state_of c) (i + 1)).name)
-step_told c i s r l st h = let name = (member_at (state_of c) (i + 1)).name in h name c.credit c.names c.events st (l, step_by s name)
+step_told c i s r l st h = let name = (member_at (state_of c) (i + 1)).name in h name c.credit c.names c.events st (l, step_by s name, step_multicast s name)
 
 -- and of the one of a name being marked or erased by it
 pub mark_told : (c : Seen) (i : ℕ) (dead : List ℕ) (r : Option Reason) → i + 1 < size (state_of c) → StandAfter c.credit c.names c.events c.shows → ((by : List ℕ) → IsRefusalAt i (Mark by dead) c.shows r)
     → r ≡ refusal (state_of c) (Mark (member_at (state_of c) (i + 1)).name dead)
-mark_told c i dead r l st h = h (member_at (state_of c) (i + 1)).name c.credit c.names c.events st (l, refl)
+mark_told c i dead r l st h = h (member_at (state_of c) (i + 1)).name c.credit c.names c.events st (l, refl, refl)
 
 pub erase_told : (c : Seen) (i : ℕ) (origin : List ℕ) (r : Option Reason) → i + 1 < size (state_of c) → StandAfter c.credit c.names c.events c.shows → ((by : List ℕ) → IsRefusalAt i (Erase by origin) c.shows r)
     → r ≡ refusal (state_of c) (Erase (member_at (state_of c) (i + 1)).name origin)
-erase_told c i origin r l st h = h (member_at (state_of c) (i + 1)).name c.credit c.names c.events st (l, refl)
+erase_told c i origin r l st h = h (member_at (state_of c) (i + 1)).name c.credit c.names c.events st (l, refl, refl)
 
 -- ---- whom a member that is up may have erased, by its place and that one's name
 
@@ -59,6 +59,13 @@ pub erases_not : (w : World) (y p : ℕ) (name : List ℕ) → IsFit w → 1 ≤
 erases_not w y p name f some lt some_p lt_p up same h q = h (placed w y p name some same ∙ erase_may w y f some lt p some_p lt_p up q)
 
 -- ---- the event of a turn
+
+-- it is of the ring alone
+pub turn_multicast : (w : World) (y : ℕ) (t : OwnTurn) → is_multicast (turn_event w y t) ≡ true
+turn_multicast w y turn.Refresh = refl
+turn_multicast w y turn.Mark = refl
+turn_multicast w y (turn.Erase origin) = refl
+turn_multicast w y (turn.Step s) = step_multicast s (member_at w y).name
 
 -- it leaves less to do
 pub to_do_less : (c : Seen) (y : ℕ) (t : OwnTurn) → IsGoing c → 1 ≤ y → y < size (state_of c) → HasTurn (state_of c) y t → LeavesLess (state_of c) (turn_event (state_of c) y t)

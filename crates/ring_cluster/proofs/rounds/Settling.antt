@@ -11,12 +11,12 @@ use Rattle.group_view.proofs.Rings.{nat_eq-is}
 use Rattle.ring_rules.specs.View.{is_live}
 use Rattle.ring_rules.specs.Machine.{World, view_in, newest, right, runs}
 use Rattle.ring_rules.specs.Step.{size}
-use Rattle.ring_rules.specs.Quiet.{IsQuiet}
+use Rattle.ring_rules.specs.Quiet.{RingRests}
 use Rattle.ring_rules.proofs.invariants.Period.{right_lives}
 use Rattle.ring_rules.proofs.walks.Views.{right_is}
 use Rattle.ring_rules.specs.Event.{erase_refusal}
 use Rattle.ring_rules.proofs.code.Enables.{erase_dead}
-use Rattle.ring_rules.proofs.rests.Rests.{id_in, entry_at, run_worked_is_quiet}
+use Rattle.ring_rules.proofs.rests.Rests.{id_in, entry_at, run_worked_rests}
 use Rattle.ring_rules.specs.Idle.{NobodySteps, MarksNobody, ErasesNobody}
 use Rattle.ring_rules.proofs.work.Fit as ring
 use Rattle.ring_rules.proofs.work.Nobody.{ring_members}
@@ -66,5 +66,5 @@ erases_none w y h p lt none =
     at_id (λ k. erase_refusal w y k ≢ None) es p h (dead_in es p (erase_dead w y p none)) none
 
 -- where nobody has anything to do any more, it is quiet
-pub worked_is_quiet : (c : Seen) → IsGoing c → NobodySteps (state_of c) → MarksNobody (state_of c) → ErasesNobody (state_of c) → IsQuiet (state_of c)
-worked_is_quiet c g = run_worked_is_quiet c.credit c.names c.events g.are g.run
+pub worked_rests : (c : Seen) → IsGoing c → NobodySteps (state_of c) → MarksNobody (state_of c) → ErasesNobody (state_of c) → RingRests (state_of c)
+worked_rests c g = run_worked_rests c.credit c.names c.events g.are g.run

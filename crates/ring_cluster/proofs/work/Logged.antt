@@ -1,18 +1,16 @@
--- The names of the members of a state, and that their logs are what the events published of these.
+-- The names of the members of a state, and that what is told of their logs is what the events published of these.
 use Rattle.std.proofs.Common.{◌≡◌, ⊎_elim, ℕ, ◌+◌, ◌-◌, ◌<◌, ◌≤◌, Bool, true, false, List, [], ◌∷◌, ◌++◌, length, map, drop, get_or, bytes_eq, option_map, Option, Some, None, if◌then◌else◌, refl, sym, ap, subst, ◌∙◌, arith}
 use Rattle.std.proofs.lemmas.Bool.{cases_lt}
 use Rattle.std.proofs.lemmas.List.{append-nil, append_assoc, flat_map_more, same_lists, length-map, length-drop, get_or-map, get_or-drop}
 use Rattle.std.proofs.lemmas.List.FromFn.{length-map-range_with_len, get_or-map-range_with_len}
-use Rattle.ring_names.specs.declared.message.Message.{Message}
-use Rattle.ring_names.specs.declared.message.Message.TheVariants as message
 use Rattle.ring_names.specs.declared.numbers.CreditSpec.{CreditSpec}
 use Rattle.group_view.specs.Change.{AreOpeningNames, AreDifferent}
 use Rattle.ring_rules.specs.declared.event.Event.{Event}
-use Rattle.ring_rules.specs.declared.event.Event.TheVariants.{Cast, Put, Take, TakeEnd, Gain, Stop, Mark, Refresh, Admit, Pick, Erase, Refuse}
-use Rattle.ring_rules.specs.Published.{published_by, published_in}
+use Rattle.ring_rules.specs.declared.event.Event.TheVariants.{Cast, Publish, Get, Pop, Ack, Requeue, Depth, Start, Admit}
+use Rattle.ring_rules.specs.Published.{told_of, one_of, published_by, published_in}
 use Rattle.ring_rules.specs.Machine.{Member, World, no_member, member_at}
 use Rattle.ring_rules.specs.Step.{size, log_of, opening}
-use Rattle.ring_rules.specs.Event.{id_of, of_member, refused_at, refusal, effect, IsRun, last}
+use Rattle.ring_rules.specs.Event.{by_of, id_of, of_member, refused_at, refusal, effect, IsRun, last}
 use Rattle.ring_rules.proofs.events.First.{first_log}
 use Rattle.ring_rules.proofs.events.Names.{same_bytes}
 use Rattle.ring_rules.proofs.events.Refusals.{id_within}
@@ -21,7 +19,7 @@ use Rattle.ring_rules.proofs.invariants.Happens.{IsGood, event_good, opening_goo
 use Rattle.ring_rules.proofs.invariants.Named.{AreNamed, event_named, reached_named}
 use Rattle.ring_rules.proofs.runs.Published.{run_grows, found_name}
 use Rattle.ring_cluster.specs.Agendas.{place_among}
-use Rattle.ring_cluster.specs.Published.{names_in, logs_of}
+use Rattle.ring_cluster.specs.Published.{names_in, told_of_each}
 use Rattle.ring_cluster.proofs.work.Staying.{Joins, KeepsNames, is_admission, event_same, admit_joins, event_keeps}
 
 -- ---- names
@@ -58,9 +56,9 @@ id_in w name = ap (option_map (λ i. i + 1)) (sym (position_map (λ n. bytes_eq 
 abbrev IsUnknown : World → List ℕ → Type 0
 IsUnknown w name = (x : ℕ) → 1 ≤ x → x < size w → (member_at w x).name ≡ name → ⊥
 
--- each member's log is what the events published of its name, and of a name that nobody has they published nothing
+-- what is told of each member's log is what the events published of its name, and of a name that nobody has they published nothing
 record LogsAre (events : List Event) (w : World) : Type 0 where
-  known : (x : ℕ) → 1 ≤ x → x < size w → log_of w x ≡ published_in (member_at w x).name events
+  known : (x : ℕ) → 1 ≤ x → x < size w → map told_of (log_of w x) ≡ published_in (member_at w x).name events
   unknown : (name : List ℕ) → IsUnknown w name → published_in name events ≡ []
 
 -- what one event more publishes
@@ -72,30 +70,27 @@ published_alone : (name : List ℕ) (e : Event) → published_in name (e ∷ [])
 published_alone name e = append-nil (published_by name e)
 
 -- an event that may happen publishes of members alone
-by_test : (by body name : List ℕ) (b : Bool) → bytes_eq by name ≡ b → (b ≡ true → ⊥) → published_by name (Cast by body) ≡ []
-by_test by body name true e none = absurd (none refl)
-by_test by body name false e none = ap (λ t. if t then message.Cast body ∷ [] else []) e
+by_test : (name by : List ℕ) (m : Option (List ℕ)) (b : Bool) → bytes_eq by name ≡ b → (b ≡ true → ⊥) → one_of name by m ≡ []
+by_test name by m true e none = absurd (none refl)
+by_test name by m false e none = ap (λ t. if t then m ∷ [] else []) e
 
-stranger_cast : (w : World) (by body name : List ℕ) → refusal w (Cast by body) ≡ None → IsUnknown w name → published_by name (Cast by body) ≡ []
-stranger_cast w by body name r none = by_test by body name _ refl (λ same. by_id (id_of w by) refl r (same_bytes by name same))
+stranger_one : (w : World) (name : List ℕ) (e : Event) (m : Option (List ℕ)) → refusal w e ≡ None → IsUnknown w name → one_of name (by_of e) m ≡ []
+stranger_one w name e m r none = by_test name (by_of e) m _ refl (λ same. by_id (id_of w (by_of e)) refl r (same_bytes (by_of e) name same))
   where
-    by_id : (o : Option ℕ) → id_of w by ≡ o → of_member o (refused_at w (Cast by body)) ≡ None → by ≡ name → ⊥
-    by_id None e k is = cc
-    by_id (Some x) e k is = let i = id_within w by x e in none x i.0 i.1 (found_name w by x e ∙ is)
+    by_id : (o : Option ℕ) → id_of w (by_of e) ≡ o → of_member o (refused_at w e) ≡ None → by_of e ≡ name → ⊥
+    by_id None at k is = cc
+    by_id (Some x) at k is = let i = id_within w (by_of e) x at in none x i.0 i.1 (found_name w (by_of e) x at ∙ is)
 
 stranger_by : (w : World) (name : List ℕ) (e : Event) → refusal w e ≡ None → IsUnknown w name → published_by name e ≡ []
-stranger_by w name (Cast by body) r none = stranger_cast w by body name r none
-stranger_by w name (Put by) r none = refl
-stranger_by w name (Take by) r none = refl
-stranger_by w name (TakeEnd by) r none = refl
-stranger_by w name (Gain by) r none = refl
-stranger_by w name (Stop by) r none = refl
-stranger_by w name (Mark by dead) r none = refl
-stranger_by w name (Refresh by version) r none = refl
-stranger_by w name (Admit by new) r none = refl
-stranger_by w name (Pick by) r none = refl
-stranger_by w name (Erase by origin) r none = refl
-stranger_by w name (Refuse code inner) r none = refl
+stranger_by w name (Cast by body) r none = stranger_one w name (Cast by body) (Some body) r none
+stranger_by w name (Publish by body) r none = stranger_one w name (Publish by body) None r none
+stranger_by w name (Get by) r none = stranger_one w name (Get by) None r none
+stranger_by w name (Pop by) r none = stranger_one w name (Pop by) None r none
+stranger_by w name (Ack by at) r none = stranger_one w name (Ack by at) None r none
+stranger_by w name (Requeue by at) r none = stranger_one w name (Requeue by at) None r none
+stranger_by w name (Depth by) r none = stranger_one w name (Depth by) None r none
+stranger_by w name (Start by) r none = stranger_one w name (Start by) None r none
+stranger_by w name e r none = refl
 
 module _ (w : World) (before : List Event) (e : Event) (g : IsGood w) (n : AreNamed w) (r : refusal w e ≡ None) (h : LogsAre before w) where
   abbrev w' : World
@@ -105,7 +100,7 @@ module _ (w : World) (before : List Event) (e : Event) (g : IsGood w) (n : AreNa
   keeps = event_keeps w e r
 
   -- of a member that was there
-  known_before : (x : ℕ) → 1 ≤ x → x < size w → log_of w' x ≡ published_in (member_at w' x).name (before ++ e ∷ [])
+  known_before : (x : ℕ) → 1 ≤ x → x < size w → map told_of (log_of w' x) ≡ published_in (member_at w' x).name (before ++ e ∷ [])
   known_before x some lt =
       run_grows w (e ∷ []) x g n (r, tt) some lt
       ∙ ap (λ ms. ms ++ published_in (member_at w x).name (e ∷ [])) (h.known x some lt)
@@ -121,9 +116,9 @@ module _ (w : World) (before : List Event) (e : Event) (g : IsGood w) (n : AreNa
   nothing_of name none = published_more name before e ∙ ap (λ ms. ms ++ published_by name e) (h.unknown name none) ∙ stranger_by w name e r none
 
   -- of one that joins: it has a name that nobody had
-  known_new : (name : List ℕ) → Joins w name w' → (x : ℕ) → x ≡ size w → 1 ≤ x → log_of w' x ≡ published_in (member_at w' x).name (before ++ e ∷ [])
+  known_new : (name : List ℕ) → Joins w name w' → (x : ℕ) → x ≡ size w → 1 ≤ x → map told_of (log_of w' x) ≡ published_in (member_at w' x).name (before ++ e ∷ [])
   known_new name k x is some =
-      ap (log_of w') is ∙ k.nothing
+      ap (λ y. map told_of (log_of w' y)) is ∙ ap (map told_of) k.nothing
       ∙ sym (nothing_of name (λ y first lt same.
       let both : y ≡ size w = (event_named w e g r n).different y (size w) first (omega (arith, lt, k.many)) (omega (arith, is, some)) (omega (arith, k.many)) (k.keeps.name y lt ∙ same ∙ sym k.new) in
       absurd (omega (arith, both, lt))))
@@ -151,28 +146,28 @@ run_logs w before (e ∷ es) g n r h =
     subst (λ xs. LogsAre xs (last (effect w e) es)) (append_assoc before (e ∷ []) es)
     (run_logs (effect w e) (before ++ e ∷ []) es (event_good w e g r.0) (event_named w e g r.0 n) r.1 (event_logs w before e g n r.0 h))
 
--- each member's log, of the opening or joined, is what the events have published of its name
+-- what is told of each member's log, of the opening or joined, is what the events have published of its name
 pub run_publishes : (credit : CreditSpec) (names : List (List ℕ)) (events : List Event) (x : ℕ) → AreOpeningNames names → IsRun (opening credit names) events → 1 ≤ x → x < size (last (opening credit names) events)
-    → log_of (last (opening credit names) events) x ≡ published_in (member_at (last (opening credit names) events) x).name events
+    → map told_of (log_of (last (opening credit names) events) x) ≡ published_in (member_at (last (opening credit names) events) x).name events
 run_publishes credit names events x are r some lt =
-    (run_logs (opening credit names) [] events (opening_good credit names are) (reached_named credit names [] are tt) r (record { known = λ y _ _. first_log credit names y; unknown = λ name _. refl })).known x some lt
+    (run_logs (opening credit names) [] events (opening_good credit names are) (reached_named credit names [] are tt) r (record { known = λ y _ _. ap (map told_of) (first_log credit names y); unknown = λ name _. refl })).known x some lt
 
--- so the logs of a state, by places, are what was published of its members' names
+-- so what is told of the logs of a state, by places, is what was published of its members' names
 pub run_all_logs : (credit : CreditSpec) (names : List (List ℕ)) (events : List Event) → AreOpeningNames names → IsRun (opening credit names) events
-    → map (λ name. published_in name events) (names_in (last (opening credit names) events)) ≡ logs_of (last (opening credit names) events)
+    → map (λ name. published_in name events) (names_in (last (opening credit names) events)) ≡ told_of_each (last (opening credit names) events)
 run_all_logs credit names events are r = same_lists _ _ many each
   where
     w : World
     w = last (opening credit names) events
 
-    many : length (map (λ name. published_in name events) (names_in w)) ≡ length (logs_of w)
-    many = omega (arith, length-map (names_in w) (λ name. published_in name events), length-map-range_with_len (log_of w) 1 (size w - 1), names_in_many w)
+    many : length (map (λ name. published_in name events) (names_in w)) ≡ length (told_of_each w)
+    many = omega (arith, length-map (names_in w) (λ name. published_in name events), length-map-range_with_len (λ x. map told_of (log_of w x)) 1 (size w - 1), names_in_many w)
 
-    each : (k : ℕ) (d : List Message) → k < length (map (λ name. published_in name events) (names_in w)) → get_or (map (λ name. published_in name events) (names_in w)) k d ≡ get_or (logs_of w) k d
+    each : (k : ℕ) (d : List (Option (List ℕ))) → k < length (map (λ name. published_in name events) (names_in w)) → get_or (map (λ name. published_in name events) (names_in w)) k d ≡ get_or (told_of_each w) k d
     each k d l =
         let lt : k < length (names_in w) = omega (arith, length-map (names_in w) (λ name. published_in name events)) in
         let inside : k + 1 < size w = omega (arith, lt, names_in_many w) in
         get_or-map (λ name. published_in name events) (names_in w) k [] d lt
         ∙ ap (λ name. published_in name events) (name_in_at w k [] inside)
         ∙ sym (run_publishes credit names events (k + 1) are r (omega arith) inside)
-        ∙ sym (get_or-map-range_with_len (log_of w) 1 (size w - 1) k (k + 1) d (omega (arith, inside)) (omega arith))
+        ∙ sym (get_or-map-range_with_len (λ x. map told_of (log_of w x)) 1 (size w - 1) k (k + 1) d (omega (arith, inside)) (omega arith))

@@ -1,17 +1,21 @@
--- What the events of a journal publish of each name, and that this is what the logs are.
-use Rattle.std.proofs.Common.{◌≡◌, ◌≢◌, ℕ, zero, suc, ◌+◌, ◌<◌, Bool, true, false, List, [], ◌∷◌, ◌++◌, length, map, set, get_or, bytes_eq, Some, None, if◌then◌else◌, refl, sym, ap, ◌∙◌, ◌-◌, IsSome, subst, arith}
+-- What the events of a journal publish of each name, and that this tells what the logs are.
+use Rattle.std.proofs.Common.{◌≡◌, ◌≢◌, ℕ, zero, suc, ◌+◌, ◌<◌, Bool, true, false, List, [], ◌∷◌, ◌++◌, length, map, set, get_or, bytes_eq, Option, Some, None, if◌then◌else◌, refl, sym, ap, ◌∙◌, ◌-◌, IsSome, subst, arith, Bor}
 use Rattle.std.specs.List.{position}
+use Rattle.std.specs.declared.vec.Vec.{Vec}
+use Rattle.std.specs.declared.alloc.Global.{Global}
 use Rattle.std.proofs.lemmas.Bool.{false≢true}
 use Rattle.std.proofs.lemmas.List.{append-nil, flat_map_more}
 use Rattle.std.proofs.lemmas.List.Quantifiers.{position-Some}
-use Rattle.ring_names.specs.declared.message.Message.{Message}
-use Rattle.ring_names.specs.declared.message.Message.TheVariants as message
+use Rattle.queue_core.specs.declared.message.Message.{Message}
+use Rattle.queue_core.specs.declared.message.Message.TheVariants as message
 use Rattle.group_view.specs.Change.{AreDifferent}
 use Rattle.ring_rules.specs.declared.event.Event.{Event}
-use Rattle.ring_rules.specs.declared.event.Event.TheVariants.{Cast}
-use Rattle.ring_rules.specs.Published.{published_by, published_in}
+use Rattle.ring_rules.specs.declared.event.Event.TheVariants.{Cast, Publish, Get, Pop, Ack, Requeue, Depth, Start}
+use Rattle.ring_rules.specs.Event.{is_multicast}
+use Rattle.ring_rules.specs.Published.{told_of, published_by, published_in}
 use Rattle.ring_rules.proofs.events.Names.{same_bytes, own_bytes}
 use Rattle.ring_parties.proofs.lists.Places.{position_there}
+use Rattle.ring_cluster.specs.Published.{casts_with, logs_in, told_with, told_in}
 
 -- ---- lists alone
 
@@ -39,17 +43,17 @@ stands_nowhere p xs k d none l e = false≢true (subst IsSome none (position_the
 
 module _ (names : List (List ℕ)) (before : List Event) (e : Event) where
   -- what is published of a name
-  abbrev then_published : List ℕ → List Message
+  abbrev then_published : List ℕ → List (Option (List ℕ))
   then_published name = published_in name (before ++ e ∷ [])
 
-  grows : (name : List ℕ) (ms : List Message) → published_by name e ≡ ms → then_published name ≡ published_in name before ++ ms
+  grows : (name : List ℕ) (ms : List (Option (List ℕ))) → published_by name e ≡ ms → then_published name ≡ published_in name before ++ ms
   grows name ms is = sym (flat_map_more (published_by name) [] before e) ∙ ap (λ ks. published_in name before ++ ks) is
 
   stays : (name : List ℕ) → published_by name e ≡ [] → then_published name ≡ published_in name before
   stays name is = grows name [] is ∙ append-nil (published_in name before)
 
-by_test : (by body name : List ℕ) (b : Bool) → bytes_eq by name ≡ b → published_by name (Cast by body) ≡ (if b then message.Cast body ∷ [] else [])
-by_test by body name b e = ap (λ t. if t then message.Cast body ∷ [] else []) e
+by_test : (by body name : List ℕ) (b : Bool) → bytes_eq by name ≡ b → published_by name (Cast by body) ≡ (if b then Some body ∷ [] else [])
+by_test by body name b e = ap (λ t. if t then Some body ∷ [] else []) e
 
 of_other : (by body name : List ℕ) (b : Bool) → bytes_eq by name ≡ b → (by ≡ name → ⊥) → published_by name (Cast by body) ≡ []
 of_other by body name true e differ = absurd (differ (same_bytes by name e))
@@ -65,12 +69,55 @@ cast_of_none names before by body none =
 
 -- and of one that is
 pub cast_of_one : (names : List (List ℕ)) (before : List Event) (by body : List ℕ) (i : ℕ) → AreDifferent names → position (λ n. bytes_eq n by) names ≡ Some i
-    → set (map (λ name. published_in name before) names) i (get_or (map (λ name. published_in name before) names) i [] ++ message.Cast body ∷ [])
+    → set (map (λ name. published_in name before) names) i (get_or (map (λ name. published_in name before) names) i [] ++ Some body ∷ [])
     ≡ map (λ name. published_in name (before ++ Cast by body ∷ [])) names
 cast_of_one names before by body i differ found =
     let there = position-Some (λ n. bytes_eq n by) names i [] found in
     let is : get_or names i [] ≡ by = same_bytes (get_or names i []) by there.1 in
-    more_at (λ name. published_in name before) (λ name. published_in name (before ++ Cast by body ∷ [])) (message.Cast body ∷ []) names i [] there.0
-    (grows names before (Cast by body) (get_or names i []) (message.Cast body ∷ []) (by_test by body (get_or names i []) true (ap (bytes_eq by) is ∙ own_bytes by)))
+    more_at (λ name. published_in name before) (λ name. published_in name (before ++ Cast by body ∷ [])) (Some body ∷ []) names i [] there.0
+    (grows names before (Cast by body) (get_or names i []) (Some body ∷ []) (by_test by body (get_or names i []) true (ap (bytes_eq by) is ∙ own_bytes by)))
     (λ j l ne. stays names before (Cast by body) (get_or names j [])
     (of_other by body (get_or names j []) _ refl (λ same. ne (differ j i l there.0 (sym same ∙ sym is)))))
+
+-- an event of the ring alone that is no cast publishes nothing
+none_by : (e : Event) → is_multicast e ≡ true → ((by body : List ℕ) → e ≡ Cast by body → ⊥) → (name : List ℕ) → published_by name e ≡ []
+none_by (Cast by body) cast other name = absurd (other by body refl)
+none_by (Publish by body) cast other name = absurd (false≢true cast)
+none_by (Get by) cast other name = absurd (false≢true cast)
+none_by (Pop by) cast other name = absurd (false≢true cast)
+none_by (Ack by at) cast other name = absurd (false≢true cast)
+none_by (Requeue by at) cast other name = absurd (false≢true cast)
+none_by (Depth by) cast other name = absurd (false≢true cast)
+none_by (Start by) cast other name = absurd (false≢true cast)
+none_by e cast other name = refl
+
+pub cast_of_nobody : (names : List (List ℕ)) (before : List Event) (e : Event) → is_multicast e ≡ true → ((by body : List ℕ) → e ≡ Cast by body → ⊥)
+    → map (λ name. published_in name before) names ≡ map (λ name. published_in name (before ++ e ∷ [])) names
+cast_of_nobody names before e cast other =
+    same_each (λ name. published_in name before) (λ name. published_in name (before ++ e ∷ [])) names []
+    (λ j l. stays names before e (get_or names j []) (none_by e cast other (get_or names j [])))
+
+-- ---- the logs, by what is told of them
+
+cast_is : (body : List ℕ) (m : Message) → Some body ≡ told_of m → message.Cast body ≡ m
+cast_is body (message.Cast other) e = let same : body ≡ other = cc in ap message.Cast same
+cast_is body (message.Queue o) e = cc
+
+casts_are : (bodies : List (Bor (List ℕ))) (ms : List Message) → told_with bodies ≡ map told_of ms → casts_with bodies ≡ ms
+casts_are [] [] e = refl
+casts_are [] (m ∷ ms) e = cc
+casts_are (b ∷ bodies) [] e = cc
+casts_are (b ∷ bodies) (m ∷ ms) e =
+    let here : Some b.now ≡ told_of m = cc in
+    let rest : told_with bodies ≡ map told_of ms = cc in
+    ap (λ k. k ∷ casts_with bodies) (cast_is b.now m here) ∙ ap (λ ks. m ∷ ks) (casts_are bodies ms rest)
+
+-- where bodies alone are told of them, they are the casts of these
+pub logs_are : (all : List (Vec (Bor (List ℕ)) Global)) (log : ℕ → List Message) (ids : List ℕ) → told_in all ≡ map (λ x. map told_of (log x)) ids → logs_in all ≡ map log ids
+logs_are [] log [] e = refl
+logs_are [] log (x ∷ ids) e = cc
+logs_are (v ∷ all) log [] e = cc
+logs_are (v ∷ all) log (x ∷ ids) e =
+    let here : told_with v.items ≡ map told_of (log x) = cc in
+    let rest : told_in all ≡ map (λ y. map told_of (log y)) ids = cc in
+    ap (λ ms. ms ∷ logs_in all) (casts_are v.items (log x) here) ∙ ap (λ ls. log x ∷ ls) (logs_are all log ids rest)

@@ -1,9 +1,11 @@
 -- The members that are there stay, with their names, and their phases only go on; an admission alone adds one.
 use Rattle.std.proofs.Common.{◌≡◌, ◌≢◌, ◌⊎◌, inl, inr, ⊎_elim, ℕ, ◌+◌, ◌<◌, ◌≤◌, List, [], ◌∷◌, ◌++◌, length, get_or, Option, Some, None, true, refl, sym, ap, subst, ◌∙◌, arith}
-use Rattle.std.specs.Prelude.{⊤}
+use Rattle.std.specs.Prelude.{⊤, Result, Ok, Err}
 use Rattle.std.proofs.lemmas.Bool.{false≢true}
 use Rattle.std.proofs.lemmas.List.{length-set, length_push, get_or_append_left, get_or_push}
-use Rattle.ring_names.specs.declared.message.Message.TheVariants as message
+use Rattle.queue_core.specs.declared.message.Message.TheVariants as message
+use Rattle.queue_core.specs.declared.op.Op.{Op}
+use Rattle.ring_names.specs.declared.reason.Reason.{Reason}
 use Rattle.group_view.specs.View.{Group}
 use Rattle.group_view.specs.Change.{marked}
 use Rattle.ring_rules.specs.View.{right_of}
@@ -11,10 +13,10 @@ use Rattle.ring_rules.specs.declared.phase.Phase.{Phase}
 use Rattle.ring_rules.specs.declared.phase.Phase.TheVariants.{Waiting, Up, Stopped}
 use Rattle.ring_rules.specs.declared.phase.Ending.TheVariants.{Halted}
 use Rattle.ring_rules.specs.declared.event.Event.{Event}
-use Rattle.ring_rules.specs.declared.event.Event.TheVariants.{Cast, Put, Take, TakeEnd, Gain, Stop, Mark, Refresh, Admit, Pick, Erase, Refuse}
+use Rattle.ring_rules.specs.declared.event.Event.TheVariants.{Cast, Publish, Get, Pop, Ack, Requeue, Depth, Start, Put, Take, TakeEnd, Gain, Stop, Mark, Refresh, Admit, Pick, Erase, Synced, Refuse}
 use Rattle.ring_rules.specs.Machine.{Member, World, runs_phase, no_member, member_at, link_at, view_in, newest, oldest}
 use Rattle.ring_rules.specs.Step.{size, log_of, with_member, with_view, published, taker, begun, with_current, stopped, stop_at, moved_to, opened_link, joiner, come_to}
-use Rattle.ring_rules.specs.Event.{id_of, of_member, at_found, at_door, taken_by, refreshed, erased_view, by_of, refused_at, done_at, refusal, effect, IsRun, last}
+use Rattle.ring_rules.specs.Event.{id_of, of_member, at_found, at_door, taken_by, refreshed, erased_view, synced_view, op_at, op_done, by_of, refused_at, done_at, refusal, effect, IsRun, last}
 use Rattle.ring_rules.proofs.events.Composed.{end_composed, refresh_composed}
 use Rattle.ring_rules.proofs.events.Leaves.{member_leaves, with_opened}
 
@@ -109,9 +111,21 @@ take_names Waiting w y s e =
 take_names Up w y s e = links_of w _ (with_member w y (taker w y s)) refl (kept w y (taker w y s) refl refl)
 take_names Stopped w y s e = itself w
 
+-- what is done to the queue
+op_names : (w : World) (x : ℕ) (o : Result Op Reason) → SameNames w (op_done w x o)
+op_names w x (Ok o) = kept w x (published x (message.Queue o) (member_at w x)) refl refl
+op_names w x (Err r) = itself w
+
 -- what is done
 done_names : (w : World) (e : Event) (x : ℕ) → ((by name : List ℕ) → e ≡ Admit by name → ⊥) → SameNames w (done_at w e x)
 done_names w (Cast by body) x none = kept w x (published x (message.Cast body) (member_at w x)) refl refl
+done_names w (Publish by body) x none = op_names w x (op_at w (Publish by body) x)
+done_names w (Get by) x none = op_names w x (op_at w (Get by) x)
+done_names w (Pop by) x none = op_names w x (op_at w (Pop by) x)
+done_names w (Ack by at) x none = op_names w x (op_at w (Ack by at) x)
+done_names w (Requeue by at) x none = op_names w x (op_at w (Requeue by at) x)
+done_names w (Depth by) x none = op_names w x (op_at w (Depth by) x)
+done_names w (Start by) x none = op_names w x (op_at w (Start by) x)
 done_names w (Put by) x none = found w (member_at w x).out _ (λ o. links_of w _ w refl (itself w))
 done_names w (Take by) x none = found w (member_at w x).current (taken_by (member_at w x).phase w x) (λ s. take_names (member_at w x).phase w x s refl)
 done_names w (TakeEnd by) x none = found w (member_at w x).current _ (λ s. links_of w _ (with_member w x (with_current None (member_at w x))) refl (kept w x (with_current None (member_at w x)) refl refl))
@@ -122,6 +136,7 @@ done_names w (Refresh by version) x none = refresh_names w x version
 done_names w (Admit by name) x none = absurd (none by name refl)
 done_names w (Pick by) x none = found w (at_door w x) _ (λ s. kept w x (with_current (Some s) (member_at w x)) refl refl)
 done_names w (Erase by origin) x none = found w (id_of w origin) _ (λ d. view_names w x (erased_view w d))
+done_names w (Synced by) x none = view_names w x (synced_view w x)
 done_names w (Refuse code inner) x none = itself w
 
 -- an event that is no admission leaves the members, by their names

@@ -1,5 +1,6 @@
 -- A member that is found by its name refuses what it does by itself exactly where the ring does, for the same reason.
 use Rattle.std.proofs.Common.{◌≡◌, ℕ, ◌-◌, ◌<◌, ◌≤◌, Some, sym, ap, ◌∙◌}
+use Rattle.std.proofs.lemmas.Bool.{false≢true}
 use Rattle.ring_names.specs.declared.numbers.CreditSpec.{CreditSpec}
 use Rattle.ring_rules.specs.declared.event.Event.{Event}
 use Rattle.ring_rules.specs.declared.event.Event.TheVariants.{Cast, Put, Take, TakeEnd, Gain, Stop, Mark, Refresh, Admit, Pick, Erase, Refuse}
@@ -33,3 +34,4 @@ alone_refusal_is credit w q e x h st found alone =
     by_event (Pick by) a some lt = pick_refusal_is credit w q x h st some lt a
     by_event (Erase by origin) a some lt = absurd a
     by_event (Refuse code inner) a some lt = absurd a
+    by_event f a some lt = absurd (false≢true a)

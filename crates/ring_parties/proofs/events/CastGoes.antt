@@ -1,8 +1,8 @@
 -- Where a member has published, the parties stand in the state after the ring's cast.
 use Rattle.gm_member.specs.Parcels.{places}
 use Rattle.std.proofs.Common.{◌≡◌, ℕ, ◌+◌, ◌<◌, ◌≤◌, Bool, List, [], ◌∷◌, length, Option, Some, refl, ap, ◌∙◌, arith}
-use Rattle.ring_names.specs.declared.message.Message.{Message}
-use Rattle.ring_names.specs.declared.message.Message.TheVariants as message
+use Rattle.queue_core.specs.declared.message.Message.{Message}
+use Rattle.queue_core.specs.declared.message.Message.TheVariants as message
 use Rattle.ring_names.specs.declared.numbers.CreditSpec.{CreditSpec}
 use Rattle.group_view.specs.declared.link.LinkName.{LinkName}
 use Rattle.ring_rules.specs.declared.event.Event.TheVariants.{Cast}

@@ -2,7 +2,8 @@
 use Rattle.std.proofs.Common.{◌≡◌, ℕ, zero, suc, ◌+◌, ◌-◌, ◌<◌, ◌≤◌, ◌^◌, true, false, not, nat_lt, cond, List, [], ◌∷◌, ◌++◌, map, length, get_or, set, Option, Some, None, is_some, refl, sym, ap, subst, ◌∙◌, arith}
 use Rattle.std.specs.Prelude.{◌||◌}
 use Rattle.std.proofs.lemmas.List.{length_push, length-set, length-map}
-use Rattle.std.proofs.lemmas.Bool.{false≢true, le-ltb}
+use Rattle.std.proofs.lemmas.Bool.{false≢true, le-ltb, and_from}
+use Rattle.std.proofs.lemmas.List.Folds.{list_all-append}
 use Rattle.ring_names.specs.declared.numbers.CreditSpec.{CreditSpec}
 use Rattle.ring_names.specs.declared.reason.Reason.{Reason}
 use Rattle.ring_names.specs.declared.reason.Reason.TheVariants as reason
@@ -21,7 +22,7 @@ use Rattle.ring_rules.specs.View.{ids}
 use Rattle.ring_rules.specs.Machine.{World, member_at, is_waiting, runs_phase}
 use Rattle.ring_rules.specs.Machine as machine
 use Rattle.ring_rules.specs.Step.{opening}
-use Rattle.ring_rules.specs.Event.{by_of, id_of, of_member, is_stopped, up_refusal, refresh_refusal, pick_refusal, refusal, effect}
+use Rattle.ring_rules.specs.Event.{by_of, id_of, of_member, is_stopped, is_multicast, up_refusal, refresh_refusal, pick_refusal, refusal, effect}
 use Rattle.ring_rules.specs.Event as event
 use Rattle.ring_rules.proofs.runs.InOrder.{last_append, run_append}
 use Rattle.ring_rules.proofs.events.WhatRefuses.{MayLook}
@@ -108,8 +109,8 @@ module _ (credit : CreditSpec) (names : List (List ℕ)) (events : List Event) w
 
   -- a member refuses an event just where the ring does, for the same reason
   pub refused_is : (q : Parties) (e : Event) (i : ℕ) → StandAfter credit names events q → id_named q (by_of e) ≡ Some (i + 1) → ((node_at q i).held.phase ≡ Up → NothingWaits (i + 1) q)
-      → act_refused e i q ≡ refusal (state credit names events) e
-  refused_is q e i s named waits = by_event e (sym (found q (by_of e) s) ∙ named) (found_place q (by_of e) i named)
+      → is_multicast e ≡ true → act_refused e i q ≡ refusal (state credit names events) e
+  refused_is q e i s named waits cast = by_event e cast (sym (found q (by_of e) s) ∙ named) (found_place q (by_of e) i named)
     where
       w : World
       w = state credit names events
@@ -143,14 +144,14 @@ module _ (credit : CreditSpec) (names : List (List ℕ)) (events : List Event) w
       by_origin by origin (Some p) k e = subst (λ j. erase_refused (office_of q) (node_at q j) (Some p) ≡ refusal w (Erase by origin)) (place i)
           (erase_refuses credit w (office_of q) q (i + 1) p by origin (lawful_after credit names events s.journal) (record { views = s.stand.stand.views; stopped = s.stand.stand.stopped; nobody_else = s.stand.stand.nobody_else }) k e s.stand)
 
-      by_event : (f : Event) → id_of w (by_of f) ≡ Some (i + 1) → i < length q.nodes → act_refused f i q ≡ refusal w f
-      by_event (Mark by dead) k l = ap (mark_refused (office_of q) (node_at q i)) (found q dead s) ∙ by_dead by dead (id_of w dead) k refl l
-      by_event (Refresh by version) k l = subst (λ j. look_refused (newest_of q).version (node_at q j) version ≡ refusal w (Refresh by version)) (place i) (look_refuses credit w q (i + 1) version by (lawful_after credit names events s.journal) k s.stand)
-      by_event (Admit by name) k l = subst (λ j. up_refused (node_at q j).held (admission_refused (newest_of q) name) ≡ refusal w (Admit by name)) (place i) (admit_refuses credit w q (i + 1) by name k s.stand)
-      by_event (Erase by origin) k l = ap (erase_refused (office_of q) (node_at q i)) (found q origin s) ∙ by_origin by origin (id_of w origin) k refl
-      by_event (Refuse code inner) k l = subst (λ j. telling_refused (newest_of q) code inner (node_at q j) ≡ refusal w (Refuse code inner)) (place i) (telling_refuses credit w q (i + 1) code inner k s.stand)
-      by_event (Pick by) k l = pick_up by k l (node_at q i).held.phase refl
-      by_event f k l = alone f k tt
+      by_event : (f : Event) → is_multicast f ≡ true → id_of w (by_of f) ≡ Some (i + 1) → i < length q.nodes → act_refused f i q ≡ refusal w f
+      by_event (Mark by dead) m k l = ap (mark_refused (office_of q) (node_at q i)) (found q dead s) ∙ by_dead by dead (id_of w dead) k refl l
+      by_event (Refresh by version) m k l = subst (λ j. look_refused (newest_of q).version (node_at q j) version ≡ refusal w (Refresh by version)) (place i) (look_refuses credit w q (i + 1) version by (lawful_after credit names events s.journal) k s.stand)
+      by_event (Admit by name) m k l = subst (λ j. up_refused (node_at q j).held (admission_refused (newest_of q) name) ≡ refusal w (Admit by name)) (place i) (admit_refuses credit w q (i + 1) by name k s.stand)
+      by_event (Erase by origin) m k l = ap (erase_refused (office_of q) (node_at q i)) (found q origin s) ∙ by_origin by origin (id_of w origin) k refl
+      by_event (Refuse code inner) m k l = subst (λ j. telling_refused (newest_of q) code inner (node_at q j) ≡ refusal w (Refuse code inner)) (place i) (telling_refuses credit w q (i + 1) code inner m k s.stand)
+      by_event (Pick by) m k l = pick_up by k l (node_at q i).held.phase refl
+      by_event f m k l = alone f k m
 
   -- ---- the event happens
 
@@ -208,8 +209,8 @@ module _ (credit : CreditSpec) (names : List (List ℕ)) (events : List Event) w
 
   -- what the event needs besides
   may_go : (q : Parties) (e : Event) (i : ℕ) → StandAfter credit names events q → refusal (state credit names events) e ≡ None → id_named q (by_of e) ≡ Some (i + 1)
-      → ((node_at q i).held.phase ≡ Up → NothingWaits (i + 1) q) → MayGo (state credit names events) e (i + 1) (marked_in e q) q
-  may_go q e i s r named waits = by_event e r (sym (found q (by_of e) s) ∙ named) (found_place q (by_of e) i named)
+      → ((node_at q i).held.phase ≡ Up → NothingWaits (i + 1) q) → is_multicast e ≡ true → MayGo (state credit names events) e (i + 1) (marked_in e q) q
+  may_go q e i s r named waits cast = by_event e cast r (sym (found q (by_of e) s) ∙ named) (found_place q (by_of e) i named)
     where
       w : World
       w = state credit names events
@@ -227,18 +228,18 @@ module _ (credit : CreditSpec) (names : List (List ℕ)) (events : List Event) w
           let unknown : Some reason.UnknownMember ≡ None = sym (ap (λ o. of_member o (later (i + 1))) (sym (found q other s) ∙ k)) ∙ none in
           cc
 
-      by_event : (f : Event) → refusal w f ≡ None → id_of w (by_of f) ≡ Some (i + 1) → i < length q.nodes → MayGo w f (i + 1) (marked_in f q) q
-      by_event (Mark by dead) e k l = (other_is by dead (event.mark_refusal w) (id_named q dead) refl k e, up (λ y. of_member (id_of w dead) (event.mark_refusal w y)) (id_of w by) k e l)
-      by_event (Erase by origin) e k l = (other_is by origin (event.erase_refusal w) (id_named q origin) refl k e, up (λ y. of_member (id_of w origin) (event.erase_refusal w y)) (id_of w by) k e l)
-      by_event (Refresh by version) e k l = up (λ y. refresh_refusal w y version) (id_of w by) k e l
-      by_event (Admit by name) e k l = up (λ _. event.admit_refusal w name) (id_of w by) k e l
-      by_event (Pick by) e k l = up (λ y. or_else (refuse_if (is_some (member_at w y).current) reason.HasCurrentLink) (pick_refusal w y)) (id_of w by) k e l
-      by_event f e k l = tt
+      by_event : (f : Event) → is_multicast f ≡ true → refusal w f ≡ None → id_of w (by_of f) ≡ Some (i + 1) → i < length q.nodes → MayGo w f (i + 1) (marked_in f q) q
+      by_event (Mark by dead) m e k l = (other_is by dead (event.mark_refusal w) (id_named q dead) refl k e, up (λ y. of_member (id_of w dead) (event.mark_refusal w y)) (id_of w by) k e l)
+      by_event (Erase by origin) m e k l = (other_is by origin (event.erase_refusal w) (id_named q origin) refl k e, up (λ y. of_member (id_of w origin) (event.erase_refusal w y)) (id_of w by) k e l)
+      by_event (Refresh by version) m e k l = up (λ y. refresh_refusal w y version) (id_of w by) k e l
+      by_event (Admit by name) m e k l = up (λ _. event.admit_refusal w name) (id_of w by) k e l
+      by_event (Pick by) m e k l = up (λ y. or_else (refuse_if (is_some (member_at w y).current) reason.HasCurrentLink) (pick_refusal w y)) (id_of w by) k e l
+      by_event f m e k l = m
 
   pub acted : (q q' : Parties) (e : Event) (i : ℕ) (loose : Option (LinkName × OutSeen)) → StandAfter credit names events q → act_refused e i q ≡ None → id_named q (by_of e) ≡ Some (i + 1)
-      → ((node_at q i).held.phase ≡ Up → NothingWaits (i + 1) q) → length events + 1 < 2 ^ 59 → Acts e i (marked_in e q) q q' loose
+      → ((node_at q i).held.phase ≡ Up → NothingWaits (i + 1) q) → is_multicast e ≡ true → length events + 1 < 2 ^ 59 → Acts e i (marked_in e q) q q' loose
       → BetweenAfter credit names (events ++ e ∷ []) (moved_by (i + 1) (state credit names (events ++ e ∷ []))) q' loose
-  acted q q' e i loose s refused named waits few a = record {
+  acted q q' e i loose s refused named waits cast few a = record {
     journal = journal;
     stand = stand;
     goes = λ name o k. goes name o (subst (Acts e i (marked_in e q) q q') k a);
@@ -248,13 +249,14 @@ module _ (credit : CreditSpec) (names : List (List ℕ)) (events : List Event) w
       w = state credit names events
 
       enabled : refusal w e ≡ None
-      enabled = sym (refused_is q e i s named waits) ∙ refused
+      enabled = sym (refused_is q e i s named waits cast) ∙ refused
 
       journal : IsJournal credit names (events ++ e ∷ [])
       journal = record {
         are = s.journal.are;
         run = run_append (opening credit names) events (e ∷ []) s.journal.run (enabled, tt);
         few = subst (λ n. n < 2 ^ 59) (sym (length_push events e)) few;
+        multicast = list_all-append is_multicast events (e ∷ []) ∙ and_from _ _ s.journal.multicast (and_from _ _ cast refl);
       }
 
       after : state credit names (events ++ e ∷ []) ≡ effect w e
@@ -264,7 +266,7 @@ module _ (credit : CreditSpec) (names : List (List ℕ)) (events : List Event) w
       stand = subst (λ u. StandMoved credit.initial (i + 1) u q' loose) (sym after)
           (each_goes credit w e i (marked_in e q) q q' loose (lawful_after credit names events s.journal)
           (subst (IsLawfulAt credit) after (lawful_after credit names (events ++ e ∷ []) journal))
-          enabled (sym (found q (by_of e) s) ∙ named) (may_go q e i s enabled named waits) s.stand a)
+          enabled (sym (found q (by_of e) s) ∙ named) (may_go q e i s enabled named waits cast) s.stand a)
 
       goes : (name : LinkName) (o : OutSeen) → Acts e i (marked_in e q) q q' (Some (name, o)) → GoesIn (state credit names (events ++ e ∷ [])) name
       goes name o k =

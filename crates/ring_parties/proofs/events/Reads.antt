@@ -108,7 +108,7 @@ module _ (credit : CreditSpec) (names : List (List ℕ)) (events : List Event) (
 
   pub telling_reads : (code : ℕ) (inner : Client) → IsEventIn w i (Refuse code inner) → telling_refused (newest_of q) code inner (node_at q i) ≡ refusal w (Refuse code inner)
   telling_reads code inner at = subst (λ j. telling_refused (newest_of q) code inner (node_at q j) ≡ refusal w (Refuse code inner)) place
-      (telling_refuses credit w q (i + 1) code inner (named (Refuse code inner) at) s.stand)
+      (telling_refuses credit w q (i + 1) code inner at.2 (named (Refuse code inner) at) s.stand)
 
   -- the one that is named has the id by which it is found
   pub other_named : (other : List ℕ) → id_of w other ≡ id_named q other

@@ -2,7 +2,7 @@
 use Rattle.std.proofs.Common.{◌≡◌, ℕ, ◌-◌, ◌<◌, ◌≤◌, true, List, [], ◌∷◌, ◌++◌, length, Option, Some, None, is_some, refl, sym, ap, ◌∙◌, append-nil}
 use Rattle.std.proofs.lemmas.Option.{none-some}
 use Rattle.std.specs.Prelude.{option_map, slice_index_or}
-use Rattle.ring_names.specs.declared.message.Message.TheVariants as message
+use Rattle.queue_core.specs.declared.message.Message.TheVariants as message
 use Rattle.ring_names.specs.declared.numbers.CreditSpec.{CreditSpec}
 use Rattle.ring_names.specs.declared.reason.Reason.{Reason}
 use Rattle.ring_names.specs.declared.reason.Reason.TheVariants as reason
@@ -72,7 +72,7 @@ module _ (credit : CreditSpec) (w : World) (q : Parties) (x : ℕ) (h : IsLawful
   same = held_but_door w p x m stands
 
   pub cast_refusal_is : (body : List ℕ) → up_refused (node_at q (x - 1)).held None ≡ refusal w (Cast (member_at w x).name body)
-  cast_refusal_is body = ap (λ (g : Held). up_refused g None) same ∙ publish_refusal_is w x (message.Cast body) h.fit some lt
+  cast_refusal_is body = ap (λ (g : Held). up_refused g None) same ∙ publish_refusal_is w x (message.Cast body) h.fit some lt tt
 
   pub put_refusal_same : put_refused (node_at q (x - 1)).held ≡ refusal w (Put (member_at w x).name)
   put_refusal_same = ap put_refused same ∙ put_refusal_is w x h.fit some lt

@@ -2,6 +2,7 @@
 use Rattle.std.proofs.Common.{◌≡◌, ℕ, ◌+◌, ◌-◌, ◌<◌, ◌≤◌, Bool, true, false, cond, nat_eq, nat_lt, nat_le, List, [], ◌∷◌, ◌++◌, map, Option, Some, None, is_some, refl, sym, ap, ◌∙◌, arith, not}
 use Rattle.std.specs.Prelude.{◌&&◌, ◌||◌, option_map}
 use Rattle.std.specs.List.{filter}
+use Rattle.std.proofs.lemmas.Bool.{false≢true}
 use Rattle.ring_names.specs.declared.reason.Reason.{Reason}
 use Rattle.ring_names.specs.declared.reason.Reason.TheVariants as reason
 use Rattle.ring_names.specs.declared.numbers.CreditSpec.{CreditSpec}
@@ -19,7 +20,7 @@ use Rattle.ring_rules.specs.declared.event.Client.TheVariants as client
 use Rattle.ring_rules.specs.Machine.{World, member_at, newest, is_waiting}
 use Rattle.ring_rules.specs.Step.{size, log_of}
 use Rattle.ring_rules.specs.Lawful.{row_of}
-use Rattle.ring_rules.specs.Event.{id_of, of_member, is_stopped, is_told, asked_of, event_of, up_refusal, refresh_refusal, doing_refusal, refused_at, at_door, refusal}
+use Rattle.ring_rules.specs.Event.{id_of, of_member, is_stopped, is_told, is_asked_multicast, asked_of, event_of, up_refusal, refresh_refusal, doing_refusal, refused_at, at_door, refusal}
 use Rattle.ring_rules.specs.Event as event
 use Rattle.ring_rules.proofs.invariants.Happens.{IsGood}
 use Rattle.ring_rules.proofs.events.Refusals.{id_within, cond_or, up_is}
@@ -179,31 +180,32 @@ module _ {I : Type 0} where
 
 -- ---- what a client asks
 
--- a member doesn't do it just where the ring refuses it, for the same reason
-pub client_refuses : (credit : CreditSpec) (w : World) (q : Parties) (x : ℕ) (inner : Client) → 1 ≤ x → x < size w → Stand credit.initial w q → client_refused (newest_of q) inner (node_at q (x - 1)) ≡ doing_refusal w (event_of inner) x
-client_refuses credit w q x inner some lt st = by_client inner
+-- a member doesn't do it just where the ring refuses it, for the same reason, where it is of the ring alone
+pub client_refuses : (credit : CreditSpec) (w : World) (q : Parties) (x : ℕ) (inner : Client) → is_asked_multicast inner ≡ true → 1 ≤ x → x < size w → Stand credit.initial w q → client_refused (newest_of q) inner (node_at q (x - 1)) ≡ doing_refusal w (event_of inner) x
+client_refuses credit w q x inner cast some lt st = by_client inner cast
   where
     same : (node_at q (x - 1)).held ≡ record (held_in w x) { door = (node_at q (x - 1)).held.door }
     same = held_but_door w st.places x (node_at q (x - 1)) (st.stand.each x some lt)
 
-    by_client : (c : Client) → client_refused (newest_of q) c (node_at q (x - 1)) ≡ doing_refusal w (event_of c) x
-    by_client (client.Cast by body) = ap (λ (k : Held). up_refused k None) same
-    by_client (client.Stop by) = ap (λ (k : Held). active_refused k None) same
-    by_client (client.Admit by name) =
+    by_client : (c : Client) → is_asked_multicast c ≡ true → client_refused (newest_of q) c (node_at q (x - 1)) ≡ doing_refusal w (event_of c) x
+    by_client (client.Cast by body) m = ap (λ (k : Held). up_refused k None) same
+    by_client (client.Stop by) m = ap (λ (k : Held). active_refused k None) same
+    by_client (client.Admit by name) m =
         ap (λ (k : Held). up_refused k (admission_refused (newest_of q) name)) same
         ∙ ap (λ g. up_refusal w x (admission_refused g name)) (newest_is w q st.stand.views)
+    by_client c m = absurd (false≢true m)
 
 -- so it admits nobody just where the ring does
 pub admit_refuses : (credit : CreditSpec) (w : World) (q : Parties) (x : ℕ) (by name : List ℕ) → id_of w by ≡ Some x → Stand credit.initial w q → up_refused (node_at q (x - 1)).held (admission_refused (newest_of q) name) ≡ refusal w (Admit by name)
 admit_refuses credit w q x by name named st =
     let at : (1 ≤ x) × (x < size w) = id_within w by x named in
-    client_refuses credit w q x (client.Admit by name) at.0 at.1 st ∙ sym (ap (λ o. of_member o (refused_at w (Admit by name))) named)
+    client_refuses credit w q x (client.Admit by name) refl at.0 at.1 st ∙ sym (ap (λ o. of_member o (refused_at w (Admit by name))) named)
 
 -- and tells the client so just where the ring does
-pub telling_refuses : (credit : CreditSpec) (w : World) (q : Parties) (x code : ℕ) (inner : Client) → id_of w (asked_of inner) ≡ Some x → Stand credit.initial w q → telling_refused (newest_of q) code inner (node_at q (x - 1)) ≡ refusal w (Refuse code inner)
-telling_refuses credit w q x code inner named st =
+pub telling_refuses : (credit : CreditSpec) (w : World) (q : Parties) (x code : ℕ) (inner : Client) → is_asked_multicast inner ≡ true → id_of w (asked_of inner) ≡ Some x → Stand credit.initial w q → telling_refused (newest_of q) code inner (node_at q (x - 1)) ≡ refusal w (Refuse code inner)
+telling_refuses credit w q x code inner cast named st =
     let at : (1 ≤ x) × (x < size w) = id_within w (asked_of inner) x named in
-    ap (λ r. refuse_if (not (is_told code r)) reason.NotRefused) (client_refuses credit w q x inner at.0 at.1 st)
+    ap (λ r. refuse_if (not (is_told code r)) reason.NotRefused) (client_refuses credit w q x inner cast at.0 at.1 st)
     ∙ sym (ap (λ o. of_member o (refused_at w (Refuse code inner))) named)
 
 -- ---- the registrar, and what is shown of it

@@ -11,7 +11,7 @@ use Rattle.ring_rules.specs.Rows.{no_row}
 use Rattle.ring_rules.specs.View.{ids, left_of, right_of}
 use Rattle.ring_rules.specs.Machine.{Link, Member, no_link, member_at, link_at, row_at, numbers_at, left, runs, runs_phase}
 use Rattle.activity.specs.Kept.{no_kept}
-use Rattle.ring_names.specs.declared.message.Message.{Message}
+use Rattle.queue_core.specs.declared.message.Message.{Message}
 use Rattle.ring_rules.specs.Step.{size, log_of, opening, opening_link, opening_member}
 use Rattle.ring_rules.specs.Event.{is_stopped}
 use Rattle.ring_rules.proofs.events.First.{first_size, first_member}
@@ -147,7 +147,7 @@ module _ (credit : CreditSpec) (names : List (List ℕ)) (are : AreOpeningNames 
 
   pub opened_stand : StandAfter credit names [] (opened_parties credit names)
   opened_stand = record {
-    journal = record { are = are; run = tt; few = omega arith };
+    journal = record { are = are; run = tt; few = omega arith; multicast = refl };
     stand = record {
       places = first_places;
       stand = record {

@@ -12,7 +12,7 @@ use Rattle.ring_rules.specs.declared.phase.Ending.TheVariants.{Halted}
 use Rattle.ring_rules.specs.Machine.{Member, Link, World, no_link, no_member, member_at, link_at, view_in, newest, runs_phase, is_kept, is_kept_of, oldest}
 use Rattle.ring_rules.specs.OpenLinks.{is_place, is_current, is_door_link, passes}
 use Rattle.ring_rules.specs.Step.{size, published, publish_at, put_on, gain_on, taker, take_from, begun, begin_from, joiner, come_to, pushed, popped, next_packet, finished, stopped, stop_at, ended, end_out, kept_current, moved_to, look_at, opening}
-use Rattle.ring_rules.specs.Event.{erased_view, refreshed, refusal, effect, IsRun, last}
+use Rattle.ring_rules.specs.Event.{erased_view, synced_view, refreshed, refusal, effect, IsRun, last}
 use Rattle.ring_rules.proofs.rings.Lists.{get_or_beyond}
 use Rattle.ring_rules.proofs.events.Cases.{each_event, up_runs}
 use Rattle.ring_rules.proofs.events.Composed.{end_composed}
@@ -100,7 +100,7 @@ refresh_keeps w vs ms x v lt = refresh_cases (Keeps w) seen x v lt (λ _. keeps_
 -- each event
 event_keeps : (w : World) (e : Event) → IsGood w → refusal w e ≡ None → Keeps w (effect w e)
 event_keeps w e g r = each_event (Keeps w) w e g (record {
-  casts = λ x m u. keeps_links w w.views _;
+  casts = λ x m u _. keeps_links w w.views _;
   puts = λ x o u out k. keeps_set w w.members o (pushed (link_at w o) (next_packet (member_at w x) (link_at w o).sending)) (g.inv.linked.out_lt x o (ap runs_phase u.up) out) (λ _. refl);
   takes = λ y s u m. taken y s (ap runs_phase u.up) m.current _;
   begins = λ y s u m. taken y s u.runs_on m.current _;
@@ -109,6 +109,7 @@ event_keeps w e g r = each_event (Keeps w) w e g (record {
   stops = λ x u. stop_keeps w x (member_at w x).out (λ k out. g.inv.linked.out_lt x k u.runs_on out);
   marks = λ x d u m. refresh_keeps w (w.views ++ marked (view_in w (newest w)) d ∷ []) w.members x (newest w + 1) u.lt;
   erases = λ x d u m. refresh_keeps w (w.views ++ erased_view w d ∷ []) w.members x (newest w + 1) u.lt;
+  syncs = λ x u m. refresh_keeps w (w.views ++ synced_view w x ∷ []) w.members x (newest w + 1) u.lt;
   admits = λ x name u k. refresh_keeps w (come_to w x name).views (come_to w x name).members x (newest w + 1) (omega (arith, u.lt, length_push w.members (joiner w name)));
   refreshes = λ x v u m. refresh_keeps w w.views w.members x v u.lt;
   picks = λ y s u none at upto. keeps_links w w.views _;
@@ -217,7 +218,7 @@ admit_doors w x name g lt = refresh_cases (KeepsDoors w) seen x v within
 -- each event
 event_doors : (w : World) (e : Event) → IsGood w → refusal w e ≡ None → NoneComes w (effect w e)
 event_doors w e g r = each_event (KeepsDoors w) w e g (record {
-  casts = λ x m u. doors_of w _ (written_places w (publish_at w x m) x (published x m (member_at w x)) g (written w w.views x (published x m (member_at w x)) w.links u.lt) refl);
+  casts = λ x m u _. doors_of w _ (written_places w (publish_at w x m) x (published x m (member_at w x)) g (written w w.views x (published x m (member_at w x)) w.links u.lt) refl);
   puts = λ x o u out k. doors_of w _ (written_places w (put_on w x o) x (member_at w x) g (unwritten w x (put_on w x o).links) refl);
   takes = λ y s u m. doors_of w _ (written_places w (take_from w y s) y (taker w y s) g (written w w.views y (taker w y s) (take_from w y s).links u.lt) refl);
   begins = λ y s u m. doors_of w _ (written_places w (begin_from w y s) y (begun (size w) (member_at w y) (oldest (link_at w s))) g (written w w.views y (begun (size w) (member_at w y) (oldest (link_at w s))) (begin_from w y s).links u.lt) refl);
@@ -227,6 +228,7 @@ event_doors w e g r = each_event (KeepsDoors w) w e g (record {
       (end_composed (λ w'. IsWritten w w' x (stopped (member_at w x))) Halted (stop_at w x) (member_at w x).out (λ _ _ m. record { many = m.many; here = m.here; others = m.others }) (written w w.views x (stopped (member_at w x)) w.links u.lt)) refl);
   marks = λ x d u m. doors_of w _ (refresh_places w (w.views ++ marked (view_in w (newest w)) d ∷ []) x (newest w + 1) g u.lt);
   erases = λ x d u m. doors_of w _ (refresh_places w (w.views ++ erased_view w d ∷ []) x (newest w + 1) g u.lt);
+  syncs = λ x u m. doors_of w _ (refresh_places w (w.views ++ synced_view w x ∷ []) x (newest w + 1) g u.lt);
   admits = λ x name u k. admit_doors w x name g u.lt;
   refreshes = λ x v u m. doors_of w _ (refresh_places w w.views x v g u.lt);
   picks = λ y s u none at upto. doors_of w _ (pick_places w y s g u.lt none at upto);

@@ -4,8 +4,8 @@ use Rattle.std.proofs.lemmas.Bool.{false≢true}
 use Rattle.std.specs.Prelude.{Option, Some, None, nat_le, length}
 use Rattle.group_view.specs.View.{Group}
 use Rattle.group_view.specs.Since.{no_group}
-use Rattle.group_view.specs.View.{is_dead}
-use Rattle.group_view.specs.Change.{mark_refusal, erase_refusal, admit_refusal as group_refusal, is_taken, most_entries}
+use Rattle.group_view.specs.View.{is_dead, entry_in}
+use Rattle.group_view.specs.Change.{mark_refusal, erase_refusal, sync_refusal, admit_refusal as group_refusal, is_taken, most_entries}
 use Rattle.ring_names.specs.declared.reason.Reason.TheVariants as reason
 use Rattle.group_view.proofs.Passing.{live_in, dead_in}
 use Rattle.ring_rules.specs.View.{left_by, left_of, right_of, is_live}
@@ -66,6 +66,10 @@ nobody_refuses g d h = rw (live_in g.entries d h, h) refl
 -- nor to erase who is dead
 pub nobody_refuses_erasing : (g : Group) (p : ℕ) → is_dead g.entries p ≡ true → erase_refusal g.entries p ≡ None
 nobody_refuses_erasing g p h = rw (dead_in g.entries p h, h) refl
+
+-- nor to register who lives and isn't yet
+pub nobody_refuses_registering : (g : Group) (x : ℕ) → is_live g x ≡ true → (entry_in g.entries x).synced ≡ false → sync_refusal g.entries x ≡ None
+nobody_refuses_registering g x lives unsynced = rw (live_in g.entries x lives, lives, unsynced) refl
 
 -- nor that one who lives admits another, where the ring doesn't
 pub nobody_refuses_admitting : (w : World) (m : ℕ) (name : List ℕ) → is_live (view_in w (newest w)) m ≡ true → admit_refusal w name ≡ None → group_refusal (view_in w (newest w)).entries m name ≡ None

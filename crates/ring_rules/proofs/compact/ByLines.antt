@@ -1,18 +1,20 @@
 -- A take of the lines that a packet has does all that the packet does.
-use Rattle.std.proofs.Common.{◌≡◌, ℕ, zero, suc, ◌<◌, ◌≤◌, max, Bool, true, false, nat_eq, List, [], ◌∷◌, length, get_or, if◌then◌else◌, refl, sym, ap, subst, ◌∙◌, ⊎_elim, arith}
+use Rattle.std.proofs.Common.{◌≡◌, ℕ, zero, suc, ◌<◌, ◌≤◌, ◌+◌, max, Bool, true, false, nat_eq, List, [], ◌∷◌, ◌++◌, length, get_or, if◌then◌else◌, refl, sym, ap, subst, ◌∙◌, ⊎_elim, arith}
 use Rattle.std.proofs.lemmas.Bool.{and_parts, false≢true, cases_eq}
 use Rattle.std.proofs.lemmas.List.{append-nil}
-use Rattle.ring_names.specs.declared.message.Message.{Message}
+use Rattle.queue_core.specs.declared.message.Message.{Message}
+use Rattle.queue_mirror.specs.Mirror.{apply_ops}
+use Rattle.queue_laws.specs.Part.{ops}
 use Rattle.ring_names.specs.declared.numbers.CreditSpec.{CreditSpec}
 use Rattle.group_view.specs.Change.{AreOpeningNames}
 use Rattle.ring_rules.specs.declared.numbers.Numbers.{Numbers}
-use Rattle.ring_rules.specs.Rows.{Row, messages_between, taken_row}
+use Rattle.ring_rules.specs.Rows.{Row, messages_between, brought, taken_row}
 use Rattle.ring_rules.specs.Refusal.{is_empty}
 use Rattle.ring_rules.specs.Machine.{Packet, Link, World, no_packet, row_at, numbers_at, member_at, link_at, view_in, runs, runs_phase, oldest}
-use Rattle.ring_rules.specs.Step.{size, log_of, take_from, taker, is_owned, with_member, with_link, popped, opening}
+use Rattle.ring_rules.specs.Step.{size, log_of, brought_at, take_from, taker, is_owned, with_member, with_link, popped, opening}
 use Rattle.ring_rules.specs.Event.{Event, IsRun, last}
 use Rattle.ring_rules.specs.Lawful.{NumbersAreWithin}
-use Rattle.ring_rules.specs.Compact.{has_line, line_in, take_lines_from, TakesByLines, Has, HasTaken}
+use Rattle.ring_rules.specs.Compact.{has_line, line_in, line_news, take_lines_from, TakesByLines, Has, HasTaken}
 use Rattle.ring_rules.proofs.events.WhatRefuses.{MayTake}
 use Rattle.ring_rules.proofs.invariants.Kept.{Inv}
 use Rattle.ring_rules.proofs.invariants.Happens.{reached_good}
@@ -21,7 +23,7 @@ use Rattle.ring_rules.proofs.runs.Apart.{oldest_below}
 use Rattle.group_view.proofs.Rings.{nat_eq-is}
 use Rattle.ring_rules.proofs.events.Refusals.{not_false}
 use Rattle.ring_rules.proofs.walks.Take.{row_at-taker}
-use Rattle.ring_rules.proofs.rings.Maps.{map-range_same}
+use Rattle.ring_rules.proofs.rings.Maps.{map-range_same, flat-range_same}
 use Rattle.ring_rules.proofs.runs.NeverFalls.{RowRises, taker_rises_all}
 use Rattle.ring_rules.proofs.runs.OwnLogs.{IsLogged, oldest_within, run_logged}
 
@@ -112,9 +114,33 @@ module _ (w : World) (y s : ℕ) (m : MayTake w y s) (inv : Inv w) (lg : IsLogge
       by_line true e = row_at-taker w y s p pl
       by_line false e = sym (has_stays (own p) (log_of w p) r (numbers_at (oldest l) p) (without_line p pl e))
 
+  -- and an origin without a line brings nothing
+  same_news : (p : ℕ) → p < 0 + size w → (if line_in l.had (oldest l) p then brought_at w y s p else []) ≡ brought_at w y s p
+  same_news p lt = by_line (line_in l.had (oldest l) p) refl
+    where
+      r : Row
+      r = row_at (member_at w y) p
+
+      k : Numbers
+      k = numbers_at (oldest l) p
+
+      none_behind : (xs ys : List Message) → xs ++ ys ≡ xs → ys ≡ []
+      none_behind [] ys e = e
+      none_behind (x ∷ xs) ys e = none_behind xs ys cc
+
+      nothing : (b : Bool) → taken_row b (log_of w p) r k ≡ r → brought b (log_of w p) r k ≡ []
+      nothing true e = refl
+      nothing false e = none_behind r.heard _ (ap (λ (a : Row). a.heard) e)
+
+      by_line : (b : Bool) → line_in l.had (oldest l) p ≡ b → (if b then brought_at w y s p else []) ≡ brought_at w y s p
+      by_line true e = refl
+      by_line false e = sym (ap ops (nothing (own p) (has_stays (own p) (log_of w p) r k (without_line p (omega arith) e))))
+
   -- and so the state
   pub same_take : take_lines_from w y s ≡ take_from w y s
-  same_take = ap (λ rs. with_link (with_member w y (record (member_at w y) { rows = rs })) s (popped l)) (map-range_same _ _ (size w) same_row)
+  same_take =
+      ap (λ rs. with_link (with_member w y (record (member_at w y) { rows = rs; mirror = apply_ops (member_at w y).mirror (line_news w y s) })) s (popped l)) (map-range_same _ _ (size w) same_row)
+      ∙ ap (λ os. with_link (with_member w y (record (taker w y s) { mirror = apply_ops (member_at w y).mirror os })) s (popped l)) (flat-range_same _ (brought_at w y s) 0 (size w) same_news)
 
 -- ---- every state of every run
 

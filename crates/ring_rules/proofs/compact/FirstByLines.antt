@@ -51,7 +51,7 @@ module _ (w : World) (y s : ℕ) (waits : (member_at w y).phase ≡ Waiting) (cu
 
   -- so the state is the same
   pub same_begin : begin_lines_from w y s ≡ begin_from w y s
-  same_begin = ap (λ (rs : List Row). with_link (with_member w y (record (member_at w y) { phase = Up; rows = rs })) s (popped l)) (map-range_same _ _ (size w) same_row)
+  same_begin = ap (λ (rs : List Row). with_link (with_member w y (record (member_at w y) { phase = Up; rows = rs; whole = false })) s (popped l)) (map-range_same _ _ (size w) same_row)
 
 -- in every state of every run of a ring with these names
 pub reached_first_by_lines : (credit : CreditSpec) (names : List (List ℕ)) (es : List Event) → AreOpeningNames names → IsRun (opening credit names) es → BeginsByLines (last (opening credit names) es)

@@ -12,7 +12,7 @@ use Rattle.ring_rules.specs.Refusal.{is_empty}
 use Rattle.ring_rules.specs.View.{right_of}
 use Rattle.ring_rules.specs.Machine.{Up, Moved, Halted, Packet, Member, Sending, Link, World, no_packet, no_link, no_member, no_sending, row_at, numbers_at, member_at, link_at, view_in, newest, runs, runs_phase, oldest}
 use Rattle.ring_rules.specs.Step.{size, next_lines, next_packet, put_on, pushed, popped, gain_on, publish_at, published, take_from, taker, begun, begin_from, current_is, with_current, leave_link, stop_at, stopped, end_out, ended, with_member, with_link, with_view, look_at, moved_to, open_to, opened_link, joiner, come_to, opening}
-use Rattle.ring_rules.specs.Event.{Event, send_to, refreshed, erased_view, refusal, effect, IsRun, last}
+use Rattle.ring_rules.specs.Event.{Event, send_to, refreshed, erased_view, refusal, effect, IsRun, last, synced_view}
 use Rattle.ring_rules.specs.Compact.{passed, GoesOnFrom, IsInTurn, GoesInTurn}
 use Rattle.ring_rules.proofs.events.WhatRefuses.{MayTake, MayBegin}
 use Rattle.ring_rules.proofs.rings.Lists.{at_set, get_or_beyond}
@@ -21,7 +21,7 @@ use Rattle.ring_rules.proofs.walks.Packets.{reads_got, line_of_packet}
 use Rattle.ring_rules.proofs.invariants.Kept.{Inv}
 use Rattle.ring_rules.proofs.invariants.KeptAdmit.{CanJoin}
 use Rattle.ring_rules.proofs.invariants.FromLeft.{IsGood}
-use Rattle.ring_rules.proofs.invariants.Happens.{opening_good, mark_good, erase_good, can_join}
+use Rattle.ring_rules.proofs.invariants.Happens.{opening_good, mark_good, erase_good, sync_there, sync_good, can_join}
 use Rattle.ring_rules.proofs.events.Cases.{each_event}
 use Rattle.ring_rules.proofs.events.First.{first_link}
 use Rattle.ring_rules.proofs.runs.Lines.{Still}
@@ -246,7 +246,7 @@ admit_turned w m name j good h =
 -- one event more
 event_turned : (w : World) (e : Event) → IsGood w → IsLogged w → IsTurned w → refusal w e ≡ None → IsTurned (effect w e)
 event_turned w e g lg h r = each_event IsTurned w e g (record {
-  casts = λ x m u. still_turned w (publish_at w x m) (cast_still w x m u.lt) (same_outs w x (published x m (member_at w x)) w.links u.lt refl) h;
+  casts = λ x m u _. still_turned w (publish_at w x m) (cast_still w x m u.lt) (same_outs w x (published x m (member_at w x)) w.links u.lt refl) h;
   puts = λ x o u out _. put_turned w x o u.up out g.inv h;
   takes = λ y s u m. take_turned w y s m g.inv lg h;
   begins = λ y s u m. begin_turned w y s m g.inv lg h;
@@ -255,6 +255,7 @@ event_turned w e g lg h r = each_event IsTurned w e g (record {
   stops = λ x u. stop_turned w x u.lt u.runs_on g.inv h;
   marks = λ x d u m. mark_turned w x (marked (view_in w (newest w)) d) u.lt u.up g (mark_good w d m.rests m.lives g) h;
   erases = λ x d u m. mark_turned w x (erased_view w d) u.lt u.up g (erase_good w d m.dead g) h;
+  syncs = λ x u m. mark_turned w x (synced_view w x) u.lt u.up g (sync_good w x (sync_there w x m g) g) h;
   admits = λ x name u may. admit_turned w x name (can_join w x name u.lt u.up may g) g h;
   refreshes = λ x v u m.
       let rx : runs w x ≡ true = ap runs_phase u.up in

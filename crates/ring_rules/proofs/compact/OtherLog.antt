@@ -2,7 +2,7 @@
 use Rattle.std.proofs.Common.{◌≡◌, ℕ, ◌<◌, false, List, refl, sym, ap, ◌∙◌, arith}
 use Rattle.std.proofs.lemmas.List.{length-set}
 use Rattle.std.proofs.lemmas.List.Elements.{filter_agree}
-use Rattle.ring_names.specs.declared.message.Message.{Message}
+use Rattle.queue_core.specs.declared.message.Message.{Message}
 use Rattle.group_view.specs.Ring.{rotated}
 use Rattle.ring_rules.specs.Machine.{Up, Member, World, no_member, row_at, member_at, ring, runs, runs_phase, is_waiting}
 use Rattle.ring_rules.proofs.walks.CountedWalk.{walk}

@@ -1,17 +1,20 @@
 -- Two states that differ in one member's rows alone, and what steps do to both.
 use Rattle.std.proofs.Common.{◌≡◌, ◌≢◌, ℕ, ◌+◌, ◌-◌, ◌<◌, ◌≤◌, Bool, true, false, nat_eq, List, [], ◌∷◌, ◌++◌, length, map, get_or, set, Option, Some, None, refl, sym, ap, subst, ◌∙◌, ⊎_elim, if◌then◌else◌, arith}
-use Rattle.std.specs.List.{range_with_len}
+use Rattle.std.specs.List.{range_with_len, flat_map}
 use Rattle.std.proofs.lemmas.Bool.{cases_eq, cases_lt}
 use Rattle.std.proofs.lemmas.List.{length-set, length_push, get_or-set_other, get_or-set_same, get_or_append_left, get_or_push}
-use Rattle.ring_names.specs.declared.message.Message.{Message}
+use Rattle.queue_core.specs.declared.message.Message.{Message}
+use Rattle.queue_core.specs.declared.op.Op.{Op}
+use Rattle.queue_mirror.specs.Mirror.{apply_ops}
+use Rattle.queue_laws.specs.Part.{ops}
 use Rattle.group_view.specs.View.{Group}
-use Rattle.ring_rules.specs.Rows.{Row, born_row, taken_row}
+use Rattle.ring_rules.specs.Rows.{Row, born_row, brought, taken_row}
 use Rattle.ring_rules.specs.Machine.{Member, Moved, Halted, Link, World, no_link, no_member, row_at, numbers_at, member_at, link_at, view_in, newest, is_kept, is_kept_of, oldest}
 use Rattle.ring_rules.specs.Step.{size, log_of, taker, begun, is_owned, with_member, with_link, with_view, look_at, moved_to, kept_current, open_to, opened_link, ended, end_out, joiner, admitted_view, come_to, current_is, with_current}
 use Rattle.ring_rules.specs.Event.{send_to, refreshed}
 use Rattle.ring_rules.specs.View.{right_of}
 use Rattle.ring_rules.proofs.rings.Lists.{at_set, get_or_beyond}
-use Rattle.ring_rules.proofs.rings.Maps.{map-range_same}
+use Rattle.ring_rules.proofs.rings.Maps.{map-range_same, flat-range_same}
 
 -- v is w but for the rows of x
 pub record Like (w v : World) (x : ℕ) : Type 0 where
@@ -154,19 +157,29 @@ module _ (w v : World) (x : ℕ) (h : Like w v x) where
         ∙ ap (λ (vs : List Group). kept_current (λ s. is_kept_of vs (link_at w s).receiver (link_at w s).sender (link_at w s).opened ver) (member_at w x).current) h.views;
   })
 
-  -- the rows of another taker
+  -- another taker
   pub like_taker : (y s : ℕ) → y ≢ x → taker v y s ≡ taker w y s
   like_taker y s ne =
-      ap (λ (k : Member). record k { rows = map (λ p. row v k (link_at v s) p) (range_with_len 0 (size v)) }) (h.others y ne)
-      ∙ ap (λ (l : Link). record (member_at w y) { rows = map (λ p. row v (member_at w y) l p) (range_with_len 0 (size v)) }) (like_link s)
-      ∙ ap (λ (n : ℕ). record (member_at w y) { rows = map (λ p. row v (member_at w y) (link_at w s) p) (range_with_len 0 n) }) h.many
-      ∙ ap (λ (rs : List Row). record (member_at w y) { rows = rs })
+      ap (λ (k : Member). made v k (link_at v s) (size v)) (h.others y ne)
+      ∙ ap (λ (l : Link). made v (member_at w y) l (size v)) (like_link s)
+      ∙ ap (λ (n : ℕ). made v (member_at w y) (link_at w s) n) h.many
+      ∙ ap (λ (rs : List Row). record (made v (member_at w y) (link_at w s) (size w)) { rows = rs })
       (map-range_same (λ p. row v (member_at w y) (link_at w s) p) (λ p. row w (member_at w y) (link_at w s) p) (size w)
       (λ p _. ap (λ (g : Group). taken_row (is_owned g y (link_at w s).sender p) (log_of v p) (row_at (member_at w y) p) (numbers_at (oldest (link_at w s)) p)) (like_view (member_at w y).version)
       ∙ ap (λ (l : List Message). taken_row (is_owned (view_in w (member_at w y).version) y (link_at w s).sender p) l (row_at (member_at w y) p) (numbers_at (oldest (link_at w s)) p)) (like_log p)))
+      ∙ ap (λ (os : List Op). record (made w (member_at w y) (link_at w s) (size w)) { mirror = apply_ops (member_at w y).mirror os })
+      (flat-range_same (λ p. brings v (member_at w y) (link_at w s) p) (λ p. brings w (member_at w y) (link_at w s) p) 0 (size w)
+      (λ p _. ap (λ (g : Group). ops (brought (is_owned g y (link_at w s).sender p) (log_of v p) (row_at (member_at w y) p) (numbers_at (oldest (link_at w s)) p))) (like_view (member_at w y).version)
+      ∙ ap (λ (l : List Message). ops (brought (is_owned (view_in w (member_at w y).version) y (link_at w s).sender p) l (row_at (member_at w y) p) (numbers_at (oldest (link_at w s)) p))) (like_log p)))
     where
       row : World → Member → Link → ℕ → Row
       row u k l p = taken_row (is_owned (view_in u k.version) y l.sender p) (log_of u p) (row_at k p) (numbers_at (oldest l) p)
+
+      brings : World → Member → Link → ℕ → List Op
+      brings u k l p = ops (brought (is_owned (view_in u k.version) y l.sender p) (log_of u p) (row_at k p) (numbers_at (oldest l) p))
+
+      made : World → Member → Link → ℕ → Member
+      made u k l n = record k { rows = map (λ p. row u k l p) (range_with_len 0 n); mirror = apply_ops k.mirror (flat_map (λ p. brings u k l p) (range_with_len 0 n)) }
 
   pub like_begun : (y s : ℕ) → y ≢ x → begun (size v) (member_at v y) (oldest (link_at v s)) ≡ begun (size w) (member_at w y) (oldest (link_at w s))
   like_begun y s ne =

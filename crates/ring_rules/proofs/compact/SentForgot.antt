@@ -3,7 +3,7 @@
 use Rattle.std.proofs.Common.{◌≡◌, ◌≢◌, ℕ, ◌+◌, ◌<◌, ◌≤◌, Bool, true, false, nat_eq, List, [], ◌∷◌, ◌++◌, length, get_or, set, Option, Some, None, refl, sym, ap, subst, ◌∙◌, ⊎_elim, if◌then◌else◌, arith}
 use Rattle.std.proofs.lemmas.Bool.{false≢true, cases_eq, cases_lt}
 use Rattle.std.proofs.lemmas.List.{length-set, length_push, get_or-set_other, get_or-set_same, get_or_append_left, get_or_push}
-use Rattle.ring_names.specs.declared.message.Message.{Message}
+use Rattle.queue_core.specs.declared.message.Message.{Message}
 use Rattle.ring_names.specs.declared.numbers.CreditSpec.{CreditSpec}
 use Rattle.group_view.specs.View.{Group, is_dead}
 use Rattle.group_view.specs.Change.{AreOpeningNames, marked}
@@ -13,7 +13,8 @@ use Rattle.ring_rules.specs.Refusal.{is_empty}
 use Rattle.ring_rules.specs.View.{is_live, right_of}
 use Rattle.ring_rules.specs.Machine.{Waiting, Up, Stopped, Moved, Halted, Packet, Member, Link, World, no_packet, no_link, no_member, no_sending, row_at, numbers_at, member_at, link_at, view_in, newest, runs, runs_phase, is_kept, is_waiting, oldest}
 use Rattle.ring_rules.specs.Step.{size, log_of, put_on, pushed, popped, next_packet, publish_at, published, take_from, taker, begun, begin_from, is_owned, current_is, with_current, leave_link, finished, stop_at, stopped, end_out, ended, with_member, with_link, with_view, look_at, moved_to, open_to, opened_link, joiner, come_to, opening}
-use Rattle.ring_rules.specs.Event.{Event, send_to, refreshed, erased_view, admit_refusal, refusal, effect, IsRun, last}
+use Rattle.group_view.proofs.Syncing.{Unsynced}
+use Rattle.ring_rules.specs.Event.{Event, send_to, refreshed, erased_view, admit_refusal, refusal, effect, IsRun, last, synced_view}
 use Rattle.ring_rules.specs.Compact.{HasSentForgot}
 use Rattle.ring_rules.proofs.events.WhatRefuses.{MayTake, MayBegin, IsPickable, MayLook, IsSameWay}
 use Rattle.ring_rules.proofs.rings.Lists.{at_set, get_or_beyond}
@@ -25,7 +26,7 @@ use Rattle.ring_rules.proofs.invariants.Kept.{Inv, set_alike}
 use Rattle.ring_rules.proofs.invariants.KeptCast.{gained_rows}
 use Rattle.ring_rules.proofs.invariants.KeptAdmit.{CanJoin, receivers}
 use Rattle.ring_rules.proofs.invariants.FromLeft.{IsGood}
-use Rattle.ring_rules.proofs.invariants.Happens.{opening_good, cast_good, put_good, take_good, begin_good, way_good, current_good, nothing_pickable, stop_good, refresh_good, mark_good, erase_good, admit_good, can_join, door_pickable, right_in_come}
+use Rattle.ring_rules.proofs.invariants.Happens.{opening_good, cast_good, put_good, take_good, begin_good, way_good, current_good, nothing_pickable, stop_good, refresh_good, mark_good, erase_good, sync_there, sync_good, admit_good, can_join, door_pickable, right_in_come}
 use Rattle.ring_rules.proofs.events.Cases.{each_event}
 use Rattle.ring_rules.proofs.events.First.{first_each, first_link}
 use Rattle.ring_rules.proofs.events.Leaves.{come_each}
@@ -619,10 +620,14 @@ same_marked w v x d h = ap (λ n. marked (view_in v n) d) (like_newest w v x h) 
 same_erased : (w v : World) (x d : ℕ) → Like w v x → erased_view v d ≡ erased_view w d
 same_erased w v x d h = ap (λ vs. erased_view (record w { views = vs }) d) h.views
 
+-- and with a registration more
+same_synced : (w v : World) (x d : ℕ) → Like w v x → synced_view v d ≡ synced_view w d
+same_synced w v x d h = ap (λ vs. synced_view (record w { views = vs }) d) h.views
+
 -- one event more
 event_holds : (w : World) (e : Event) → IsGood w → IsLogged w → HoldsBack w → refusal w e ≡ None → HoldsBack (effect w e)
 event_holds w e g lg h r = each_event HoldsBack w e g (record {
-  casts = λ x m u. cast_holds w x m u.lt u.up lg h;
+  casts = λ x m u _. cast_holds w x m u.lt u.up lg h;
   puts = λ x o u out _. put_holds w x o u.up out g lg h;
   takes = λ y s u m. take_holds w y s m g lg h;
   begins = λ y s u m. begin_holds w y s m g lg h;
@@ -635,6 +640,9 @@ event_holds w e g lg h r = each_event HoldsBack w e g (record {
   erases = λ x d u m. mark_holds w x (erased_view w d) u.lt u.up g
       (λ v y k gv. subst (λ gr. IsGood (with_view v gr)) (same_erased w v y d k)
       (erase_good v d (ap (λ (gr : Group). is_dead gr.entries d) (ap (view_in v) (like_newest w v y k) ∙ like_view w v y k (newest w)) ∙ m.dead) gv)) lg h;
+  syncs = λ x u m. mark_holds w x (synced_view w x) u.lt u.up g
+      (λ v y k gv. subst (λ gr. IsGood (with_view v gr)) (same_synced w v y x k)
+      (sync_good v x (subst (λ gr. Unsynced gr.entries x) (sym (ap (view_in v) (like_newest w v y k) ∙ like_view w v y k (newest w))) (sync_there w x m g)) gv)) lg h;
   admits = λ x name u may. admit_holds w x name u.lt u.up may g lg h;
   refreshes = λ x v u m. refresh_holds w x v m g lg h;
   picks = λ y s u none door upto. pick_holds w y (Some s) u.lt u.up (door_pickable w y s door upto g) lg h;

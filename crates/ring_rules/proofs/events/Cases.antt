@@ -1,17 +1,19 @@
 -- What holds after an event that may happen, by what the event does and the conditions under which it may.
 use Rattle.std.proofs.Common.{◌≡◌, ℕ, ◌+◌, ◌<◌, ◌≤◌, Bool, true, false, List, Option, Some, None, is_some, refl, sym, ap, subst, ◌∙◌, not, nat_eq, ◌⊎◌, inl, inr, ⊎_elim}
 use Rattle.std.proofs.lemmas.Bool.{false≢true}
-use Rattle.ring_names.specs.declared.message.Message.{Message}
-use Rattle.ring_names.specs.declared.message.Message.TheVariants as message
+use Rattle.queue_core.specs.declared.message.Message.{Message}
+use Rattle.queue_core.specs.declared.message.Message.TheVariants as message
+use Rattle.std.specs.Prelude.{Result, Ok, Err}
+use Rattle.queue_core.specs.declared.op.Op.{Op}
 use Rattle.ring_names.specs.declared.reason.Reason.{Reason}
 use Rattle.ring_names.specs.declared.reason.Reason.TheVariants as reason
 use Rattle.group_view.specs.Change.{marked}
-use Rattle.group_view.specs.View.{is_dead, is_alias}
+use Rattle.group_view.specs.View.{is_dead, is_alias, entry_in}
 use Rattle.group_view.proofs.Rings.{nat_eq-is}
 use Rattle.ring_rules.specs.Machine.{Waiting, Up, Halted, World, row_at, member_at, link_at, view_in, newest, runs, runs_phase}
 use Rattle.ring_rules.specs.Step.{size, put_on, gain_on, publish_at, take_from, begin_from, come_to, current_is, leave_link, stop_at, end_out, with_view}
-use Rattle.ring_rules.specs.Event.{Event, Cast, Put, Take, TakeEnd, Gain, Stop, Mark, Refresh, Admit, Pick, Erase, Refuse, is_stopped, id_of, of_member, on_link, put_refusal, take_refusal, end_refusal, gain_refusal, version_refusal, refresh_refusal, at_door, mark_refusal, erase_refusal, not_retired, erased_view, admit_refusal, refreshed, by_of, is_for_up, phase_refusal, further_refusal, doing_refusal, refused_at, refusal, at_found, taken_by, done_at, effect}
-use Rattle.ring_rules.proofs.events.WhatRefuses.{MayTake, MayBegin, MayLook, MayMark, MayErase}
+use Rattle.ring_rules.specs.Event.{Event, Cast, Publish, Get, Pop, Ack, Requeue, Depth, Start, MayPublish, op_at, op_refusal, op_done, Put, Take, TakeEnd, Gain, Stop, Mark, Refresh, Admit, Pick, Erase, Synced, Refuse, missing_refusal, synced_view, is_stopped, id_of, of_member, on_link, put_refusal, take_refusal, end_refusal, gain_refusal, version_refusal, refresh_refusal, at_door, mark_refusal, erase_refusal, not_retired, erased_view, admit_refusal, refreshed, by_of, is_for_up, phase_refusal, further_refusal, doing_refusal, refused_at, refusal, at_found, taken_by, done_at, effect}
+use Rattle.ring_rules.proofs.events.WhatRefuses.{MayTake, MayBegin, MayLook, MayMark, MayErase, MaySync}
 use Rattle.ring_rules.proofs.events.Refusals.{none_of, refuse_none, none_there, id_within, not_less, not_false, up_or_waits}
 use Rattle.ring_rules.proofs.events.Enabled.{up_none, take_some, take_version, end_empty, mark_lives, mark_stops, refresh_later, refresh_upto}
 use Rattle.ring_rules.proofs.invariants.FromLeft.{IsGood, version_some}
@@ -49,7 +51,7 @@ EachPick P w = (y s : ℕ) → IsUp w y → (member_at w y).current ≡ None →
 
 -- each event by itself, under its conditions; who waits takes its first packet, or stops
 pub record Cases (P : World → Type 0) (w : World) : Type 0 where
-  pub casts : (x : ℕ) (m : Message) → IsUp w x → P (publish_at w x m)
+  pub casts : (x : ℕ) (m : Message) → IsUp w x → MayPublish w x m → P (publish_at w x m)
   pub puts : EachPut P w
   pub takes : (y s : ℕ) → IsUp w y → MayTake w y s → P (take_from w y s)
   pub begins : (y s : ℕ) → IsRunning w y → MayBegin w y s → P (begin_from w y s)
@@ -58,6 +60,7 @@ pub record Cases (P : World → Type 0) (w : World) : Type 0 where
   pub stops : (x : ℕ) → IsRunning w x → P (end_out Halted (stop_at w x) (member_at w x).out)
   pub marks : (x d : ℕ) → IsUp w x → MayMark w x d → P (refreshed (with_view w (marked (view_in w (newest w)) d)) x (newest w + 1))
   pub erases : (x d : ℕ) → IsUp w x → MayErase w x d → P (refreshed (with_view w (erased_view w d)) x (newest w + 1))
+  pub syncs : (x : ℕ) → IsUp w x → MaySync w x → P (refreshed (with_view w (synced_view w x)) x (newest w + 1))
   pub admits : (x : ℕ) (name : List ℕ) → IsUp w x → admit_refusal w name ≡ None → P (refreshed (come_to w x name) x (newest w + 1))
   pub refreshes : (x v : ℕ) → IsUp w x → MayLook w x v → P (refreshed w x v)
   pub picks : EachPick P w
@@ -96,6 +99,16 @@ may_erase w x d lt up h =
     let c = refuse_none (not (nat_eq (row_at (member_at w x) d).got (row_at (member_at w x) d).retired)) (not_retired w x d) b.1 in
     record { is_member = lt; up = up; dead = not_false _ a.0; owned = not_false _ b.0; come_round = nat_eq-is _ _ (not_false _ c) }
 
+-- a member that may be registered
+pub may_sync : (w : World) (x : ℕ) → IsUp w x → further_refusal w (Synced (member_at w x).name) x ≡ None → MaySync w x
+may_sync w x u h =
+    let a = none_of (entry_in (view_in w (newest w)).entries x).synced reason.AlreadySynced _ h in
+    record { is_member = u.lt; up = u.up; unsynced = a.0; full = nothing_missed (member_at w x).mirror.missing a.1 }
+  where
+    nothing_missed : (k : Option ℕ) → missing_refusal k ≡ None → k ≡ Some 0
+    nothing_missed None e = cc
+    nothing_missed (Some n) e = ap Some (nat_eq-is n 0 (not_false (nat_eq n 0) (refuse_none (not (nat_eq n 0)) (reason.StillMissing (Some n)) e)))
+
 -- a view that may be read
 pub may_look : (w : World) (x v : ℕ) → x < size w → (member_at w x).phase ≡ Up → refresh_refusal w x v ≡ None → MayLook w x v
 may_look w x v lt up h = record { is_member = lt; up = up; later = refresh_later w x v h; upto = refresh_upto w x v h }
@@ -115,11 +128,26 @@ at_named P w name later f h k = by_id (id_of w name) refl h
     by_id None e r = cc
     by_id (Some x) e r = let i = id_within w name x e in k x i.0 i.1 r
 
+-- what an event does to the queue is published
+each_op : (P : World → Type 0) (w : World) (e : Event) (x : ℕ) → Cases P w → IsUp w x → op_refusal (op_at w e x) ≡ None → P (op_done w x (op_at w e x))
+each_op P w e x c u h = by_op (op_at w e x) refl h
+  where
+    by_op : (o : Result Op Reason) → op_at w e x ≡ o → op_refusal o ≡ None → P (op_done w x o)
+    by_op (Ok o) is k = c.casts x (message.Queue o) u (e, is)
+    by_op (Err r) is k = cc
+
 -- ---- events
 
 -- of a member that is up
 each_up : (P : World → Type 0) (w : World) (e : Event) (x : ℕ) → Cases P w → IsUp w x → further_refusal w e x ≡ None → P (done_at w e x)
-each_up P w (Cast by body) x c u h = c.casts x (message.Cast body) u
+each_up P w (Cast by body) x c u h = c.casts x (message.Cast body) u tt
+each_up P w (Publish by body) x c u h = each_op P w (Publish by body) x c u h
+each_up P w (Get by) x c u h = each_op P w (Get by) x c u h
+each_up P w (Pop by) x c u h = each_op P w (Pop by) x c u h
+each_up P w (Ack by at) x c u h = each_op P w (Ack by at) x c u h
+each_up P w (Requeue by at) x c u h = each_op P w (Requeue by at) x c u h
+each_up P w (Depth by) x c u h = each_op P w (Depth by) x c u h
+each_up P w (Start by) x c u h = each_op P w (Start by) x c u h
 each_up P w (Put by) x c u h = at_link P w reason.NoOutLink (put_refusal w x) (put_on w x) (member_at w x).out h (λ o out k. c.puts x o u out k)
 each_up P w (Take by) x c u h = at_link P w reason.NoCurrentLink (take_refusal w x) (taken_by (member_at w x).phase w x) (member_at w x).current h
     (λ s current k. subst (λ f. P (taken_by f w x s)) (sym u.up) (c.takes x s u (may_take w x s u.lt u.up current k)))
@@ -135,6 +163,7 @@ each_up P w (Pick by) x c u h =
     (λ s e k. c.picks x s u (none_there (member_at w x).current a.0) e (not_less (member_at w x).version (link_at w s).opened _ k))
 each_up P w (Erase by origin) x c u h = at_named P w origin (erase_refusal w x) (λ d. refreshed (with_view w (erased_view w d)) x (newest w + 1)) h
     (λ d some lt k. c.erases x d u (may_erase w x d u.lt u.up k))
+each_up P w (Synced by) x c u h = c.syncs x u (may_sync w x u h)
 each_up P w (Refuse code inner) x c u h = c.refuses
 each_up P w (Admit by name) x c u h = c.admits x name u h
 

@@ -1,7 +1,7 @@
 -- The parts of an event, as the laws of logs, credit and numbers see them: what it does to rows, logs, packets and credit.
 use Rattle.std.proofs.Common.{◌≡◌, ℕ, ◌+◌, ◌<◌, ◌≤◌, false, List, length, set, Some, None, refl, ap}
 use Rattle.std.proofs.lemmas.List.{length-set}
-use Rattle.ring_names.specs.declared.message.Message.{Message}
+use Rattle.queue_core.specs.declared.message.Message.{Message}
 use Rattle.credit_flow.specs.Credit.{is_blocked}
 use Rattle.ring_rules.specs.Refusal.{is_empty}
 use Rattle.group_view.specs.Change.{marked}
@@ -9,7 +9,7 @@ use Rattle.group_view.specs.View.{Group}
 use Rattle.ring_rules.specs.View.{right_of}
 use Rattle.ring_rules.specs.Machine.{Member, Ending, Moved, Halted, Link, World, member_at, link_at, view_in, newest, runs_phase, row_at}
 use Rattle.ring_rules.specs.Step.{size, publish_at, put_on, gain_on, take_from, current_is, with_current, leave_link, finished, ended, stop_at, with_member, with_link, with_view, look_at, moved_to, open_to, begin_from, come_to}
-use Rattle.ring_rules.specs.Event.{Event, refreshed, refusal, effect, IsRun, last, erased_view}
+use Rattle.ring_rules.specs.Event.{Event, refreshed, refusal, effect, IsRun, last, erased_view, synced_view}
 use Rattle.ring_rules.proofs.events.WhatRefuses.{MayTake, MayBegin}
 use Rattle.ring_rules.proofs.events.Leaves.{member_leaves, link_leaves}
 use Rattle.ring_rules.proofs.events.Enabled.{put_credit, gain_some}
@@ -132,7 +132,7 @@ module _ (G P : World → Type 0) (keeps : (w w' : World) → Part G w w' → P 
   -- an event of a state that is good
   pub event_keeps : (w : World) (e : Event) → IsGood w → G w → refusal w e ≡ None → P w → P (effect w e)
   event_keeps w e g gw r h = each_event P w e g (record {
-    casts = λ x m u. keeps w _ (cast_part x m u.some u.lt refl) h;
+    casts = λ x m u _. keeps w _ (cast_part x m u.some u.lt refl) h;
     puts = λ x o u out k. keeps w _ (put_part x o (g.inv.linked.out_lt x o (ap runs_phase u.up) out) (put_credit w x o k) refl) h;
     takes = λ y s u m. keeps w _ (take_part y s u.some m (g.inv.current.lt y s (ap runs_phase u.up) m.current) gw refl) h;
     begins = λ y s u m. keeps w _ (begin_part y s u.some m (g.inv.current.lt y s (ap runs_phase m.waits) m.current) (λ p. g.inv.joining.rows y p m.waits) refl) h;
@@ -143,6 +143,7 @@ module _ (G P : World → Type 0) (keeps : (w w' : World) → Part G w w' → P 
     stops = λ x u. end_composed P Halted (stop_at w x) (member_at w x).out (λ o _. ends_keeps Halted (stop_at w x) o) (keeps w _ (stop_part x u.lt refl) h);
     marks = λ x d u m. view_keeps w x (marked (view_in w (newest w)) d) h;
     erases = λ x p u m. view_keeps w x (erased_view w p) h;
+    syncs = λ x u m. view_keeps w x (synced_view w x) h;
     admits = λ x name u k. refreshed_keeps (come_to w x name) x (newest w + 1) (keeps w (come_to w x name) (come_part x name refl) h);
     refreshes = λ x v u m. refreshed_keeps w x v h;
     picks = λ y s u none e upto. still_keeps w (current_is w y (Some s)) (member_still w y (with_current (Some s) (member_at w y)) refl refl refl) h;

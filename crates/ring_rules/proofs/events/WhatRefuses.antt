@@ -1,6 +1,6 @@
 -- When a step of a member may happen.
 use Rattle.std.specs.Prelude.{◌≡◌, ℕ, ◌<◌, ◌≤◌, true, false, length, Option, Some}
-use Rattle.group_view.specs.View.{is_dead, is_alias}
+use Rattle.group_view.specs.View.{is_dead, is_alias, entry_in}
 use Rattle.ring_rules.specs.View.{is_live}
 use Rattle.ring_rules.specs.Machine.{Up, Stopped, Link, World, row_at, member_at, link_at, view_in, newest, is_kept, oldest, Waiting}
 use Rattle.ring_rules.specs.Step.{size}
@@ -51,6 +51,13 @@ pub record MayErase (w : World) (x d : ℕ) : Type 0 where
   pub dead : is_dead (view_in w (newest w)).entries d ≡ true
   pub owned : is_alias (view_in w (member_at w x).version).entries x d ≡ true
   pub come_round : (row_at (member_at w x) d).got ≡ (row_at (member_at w x) d).retired
+
+-- x may be registered as synchronised
+pub record MaySync (w : World) (x : ℕ) : Type 0 where
+  pub is_member : x < size w
+  pub up : (member_at w x).phase ≡ Up
+  pub unsynced : (entry_in (view_in w (newest w)).entries x).synced ≡ false
+  pub full : (member_at w x).mirror.missing ≡ Some 0
 
 -- a link goes the same way with the same packets, whatever its credit and its end are
 pub record IsSameWay (l l' : Link) : Type 0 where

@@ -8,7 +8,7 @@ use Rattle.group_view.specs.Change.{marked}
 use Rattle.ring_rules.specs.View.{between}
 use Rattle.ring_rules.specs.Machine.{Waiting, World, Member, Link, no_link, member_at, link_at, view_in, newest, right, runs_phase, is_waiting, oldest}
 use Rattle.ring_rules.specs.Step.{size, pushed, popped, next_packet, published, taker, begun, with_current, stopped, moved_to, with_member, with_link, with_view, look_at, opened_link, open_to, opening}
-use Rattle.ring_rules.specs.Event.{erased_view}
+use Rattle.ring_rules.specs.Event.{erased_view, synced_view}
 use Rattle.ring_rules.proofs.rings.Lists.{at_set}
 use Rattle.ring_rules.proofs.walks.Views.{view_old}
 use Rattle.ring_rules.proofs.invariants.Kept.{Inv, set_alike, WaitersStay}
@@ -16,7 +16,7 @@ use Rattle.ring_rules.proofs.invariants.KeptOpen.{out_member}
 use Rattle.ring_rules.proofs.invariants.KeptAdmit.{join_beside}
 use Rattle.ring_rules.proofs.events.First.{first_none_waits}
 use Rattle.ring_rules.proofs.invariants.Happens.{IsGood}
-use Rattle.ring_rules.proofs.invariants.Moves.{Move, cast_move, put_move, take_move, begin_move, current_move, stop_move, way_move, look_move, open_move, mark_move, erase_move, join_move}
+use Rattle.ring_rules.proofs.invariants.Moves.{Move, cast_move, put_move, take_move, begin_move, current_move, stop_move, way_move, look_move, open_move, mark_move, erase_move, sync_move, join_move}
 
 -- in its view nobody stands between the sender of its current link and itself
 abbrev pub IsBeside : World → Type 0
@@ -78,6 +78,7 @@ move_beside w w' g (open_move x v m moves e) h = subst IsBeside (sym e) (same_be
     lt1 : x < size w1
     lt1 = omega (arith, m.is_member, length-set w.members x (moved_to w x v))
 move_beside w w' g (mark_move d rest live e) h = subst IsBeside (sym e) (same_beside w _ (view_waits w (marked (view_in w (newest w)) d) g.inv) g.inv h)
+move_beside w w' g (sync_move x m e) h = subst IsBeside (sym e) (same_beside w _ (view_waits w (synced_view w x) g.inv) g.inv h)
 move_beside w w' g (erase_move x d m e) h = subst IsBeside (sym e) (same_beside w _ (view_waits w (erased_view w d) g.inv) g.inv h)
 move_beside w w' g (join_move m name j here e) h = subst IsBeside (sym e) (join_beside w m name j h)
 

@@ -7,18 +7,18 @@ use Rattle.std.proofs.lemmas.List.{length_push, get_or_append_left, length-set}
 use Rattle.std.specs.List.{range_with_len}
 use Rattle.std.proofs.lemmas.Bool.Decides.{nat_tests}
 use Rattle.std.proofs.lemmas.List.FromFn.{length-map-range_with_len}
-use Rattle.ring_names.specs.declared.message.Message.{Message}
+use Rattle.queue_core.specs.declared.message.Message.{Message}
 use Rattle.ring_names.specs.declared.numbers.CreditSpec.{CreditSpec}
-use Rattle.group_view.specs.Change.{AreOpeningNames, marked, opening as opening_group, is_taken}
+use Rattle.group_view.specs.Change.{AreOpeningNames, marked, registered, opening as opening_group, is_taken}
 use Rattle.group_view.proofs.History.{Ends, opening_begins, Follows, goes_on, last_is, mark_follows}
 use Rattle.group_view.proofs.Passing.{live_in, dead_in}
 use Rattle.ring_rules.specs.View.{is_live, right_of, right_by, ids}
 use Rattle.ring_rules.specs.Machine.{ring, Waiting, Up, Stopped, Member, Ending, Moved, Halted, Link, World, no_link, no_member, member_at, link_at, view_in, newest, right, runs, runs_phase, is_kept, is_waiting, oldest}
 use Rattle.ring_rules.specs.Step.{size, publish_at, put_on, take_from, current_is, with_current, finished, ended, stop_at, stopped, end_out, with_link, with_view, look_at, moved_to, open_to, opened_link, taker, published, opening, begun, begin_from, joiner, admitted_view, come_to, opening_member}
-use Rattle.ring_rules.proofs.events.WhatRefuses.{IsSameWay, MayTake, IsPickable, MayLook, MayBegin}
-use Rattle.ring_rules.specs.Event.{Event, at_door, send_to, refreshed, refusal, effect, IsRun, last, erased_view, admit_refusal}
+use Rattle.ring_rules.proofs.events.WhatRefuses.{IsSameWay, MayTake, IsPickable, MayLook, MayBegin, MaySync}
+use Rattle.ring_rules.specs.Event.{Event, at_door, send_to, refreshed, refusal, effect, IsRun, last, erased_view, synced_view, admit_refusal}
 use Rattle.ring_rules.proofs.rings.Rounds.{nat_eq-is, nat_eq-same}
-use Rattle.ring_rules.proofs.walks.Views.{view_new, newest_view, IsMarked, marked_marks, erased_marks, dead_rests}
+use Rattle.ring_rules.proofs.walks.Views.{view_new, newest_view, IsMarked, marked_marks, erased_marks, synced_marks, dead_rests}
 use Rattle.ring_rules.proofs.invariants.Kept.{put_keeps, Inv, set_alike}
 use Rattle.ring_names.specs.declared.reason.Reason.TheVariants as reason
 use Rattle.group_view.specs.View.{Group, is_dead}
@@ -32,7 +32,9 @@ use Rattle.ring_rules.proofs.invariants.KeptMore.{stop_keeps, current_keeps, mar
 use Rattle.ring_rules.proofs.invariants.KeptLook.{look_has_later, look_keeps}
 use Rattle.ring_rules.proofs.invariants.KeptOpen.{open_keeps, out_member}
 use Rattle.ring_rules.proofs.invariants.KeptCast.{cast_keeps}
-use Rattle.promotion.proofs.Installing.{install_follows}
+use Rattle.promotion.proofs.Installing.{install_follows, follows_installed}
+use Rattle.group_view.proofs.Syncing.{Unsynced, sync_follows}
+use Rattle.ring_rules.proofs.rings.Lists.{get_or_beyond}
 use Rattle.ring_rules.proofs.invariants.Opening.{opening_inv}
 use Rattle.ring_rules.proofs.events.Refusals.{none_of, refuse_none, open_after_end, waits_when}
 use Rattle.ring_rules.proofs.events.Cases.{each_event}
@@ -334,6 +336,24 @@ admit_good w m name j h = admit_composed IsGood w m name j
     (λ o e there old. earlier_ends (joined_state w m name) o (link_at w o) (omega (arith, there, joined_links w m name)) old (join_good w m name j h))
     (join_good w m name j h)
 
+-- ---- a registration
+
+-- who may be registered is there
+pub sync_there : (w : World) (x : ℕ) → MaySync w x → IsGood w → Unsynced (view_in w (newest w)).entries x
+sync_there w x m h = record { there = h.inv.is_ring.stands x (newest w) (ap runs_phase m.up) (h.inv.is_ring.held x) (omega arith); unsynced = m.unsynced }
+
+-- and nobody is marked, as nobody has the id after the last
+pub sync_good : (w : World) (x : ℕ) → Unsynced (view_in w (newest w)).entries x → IsGood w → IsGood (with_view w (synced_view w x))
+sync_good w x u h =
+    let g = view_in w (newest w) in
+    mark_view_good w (size w) (synced_view w x) (synced_marks w x (size w) (by_live (is_live g (size w)) refl))
+    (ap (λ (a : Member). runs_phase a.phase) (get_or_beyond w.members (size w) no_member (omega arith)))
+    (follows_installed g (registered g x) (sync_follows g x (newest_is w h.views) u)) refl h
+  where
+    by_live : (b : Bool) → is_live (view_in w (newest w)) (size w) ≡ b → b ≡ false
+    by_live false e = refl
+    by_live true e = absurd (let l : size w < size w = ring_below w h (size w) (live_in (view_in w (newest w)).entries (size w) e) in omega (arith, l))
+
 -- ---- a pick
 
 -- the link that may be picked
@@ -356,7 +376,7 @@ door_pickable w y s e upto h = record {
 -- one event more
 pub event_good : (w : World) (e : Event) → IsGood w → refusal w e ≡ None → IsGood (effect w e)
 event_good w e h r = each_event IsGood w e h (record {
-  casts = λ x m u. cast_good w x m u.lt u.up h;
+  casts = λ x m u _. cast_good w x m u.lt u.up h;
   puts = λ x o u out k. put_good w x o u.up out h;
   takes = λ y s u m. take_good w y s m h;
   begins = λ y s u m. begin_good w y s m h;
@@ -367,6 +387,7 @@ event_good w e h r = each_event IsGood w e h (record {
   stops = λ x u. stop_good w x u.lt u.runs_on h;
   marks = λ x d u m. newer_good w x (marked (view_in w (newest w)) d) u.lt u.up h (mark_good w d m.rests m.lives h);
   erases = λ x d u m. newer_good w x (erased_view w d) u.lt u.up h (erase_good w d m.dead h);
+  syncs = λ x u m. newer_good w x (synced_view w x) u.lt u.up h (sync_good w x (sync_there w x m h) h);
   admits = λ x name u k. admit_good w x name (can_join w x name u.lt u.up k h) h;
   refreshes = λ x v u m. refresh_good w x v m h;
   picks = λ y s u none e upto. current_good w y (Some s) u.lt u.up (door_pickable w y s e upto h) h;

@@ -22,7 +22,7 @@ use Rattle.ring_rules.proofs.walks.Take.{blocks_same, head_once}
 use Rattle.ring_rules.proofs.walks.Back.{same_runners}
 use Rattle.ring_rules.proofs.walks.Cast.{cast_walk_other}
 use Rattle.ring_rules.proofs.invariants.Kept.{Inv, shaped_packed, shaped_current, shaped_keeps, set_alike, waits_alike}
-use Rattle.ring_names.specs.declared.message.Message.{Message}
+use Rattle.queue_core.specs.declared.message.Message.{Message}
 
 -- of a message
 module _ (m : Message) where

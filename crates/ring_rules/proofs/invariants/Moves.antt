@@ -1,16 +1,16 @@
 -- The single steps of an event, each from a good state to a good one: what they keep, events keep.
 use Rattle.std.proofs.Common.{◌≡◌, ◌≢◌, ℕ, ◌+◌, ◌<◌, true, List, length, Option, Some, None, refl, sym, ap, subst, arith}
 use Rattle.std.proofs.lemmas.List.{length_push}
-use Rattle.ring_names.specs.declared.message.Message.{Message}
+use Rattle.queue_core.specs.declared.message.Message.{Message}
 use Rattle.group_view.specs.View.{Group}
 use Rattle.group_view.specs.Change.{marked}
 use Rattle.ring_rules.specs.View.{is_live}
 use Rattle.ring_rules.specs.Machine.{Up, Stopped, Moved, Halted, Link, World, member_at, link_at, view_in, newest, right, runs, runs_phase}
 use Rattle.ring_rules.specs.Step.{size, publish_at, put_on, gain_on, take_from, begin_from, current_is, leave_link, finished, ended, stop_at, end_out, with_link, with_view, look_at, open_to, opened_link, come_to}
-use Rattle.ring_rules.specs.Event.{Event, IsRun, refusal, effect, last, refreshed, erased_view}
-use Rattle.ring_rules.proofs.events.WhatRefuses.{MayTake, MayBegin, IsPickable, MayLook, MayErase, IsSameWay}
+use Rattle.ring_rules.specs.Event.{Event, IsRun, refusal, effect, last, refreshed, erased_view, synced_view}
+use Rattle.ring_rules.proofs.events.WhatRefuses.{MayTake, MayBegin, IsPickable, MayLook, MayErase, MaySync, IsSameWay}
 use Rattle.ring_rules.proofs.invariants.KeptAdmit.{CanJoin, joined_state}
-use Rattle.ring_rules.proofs.invariants.Happens.{IsGood, run_events, current_good, nothing_pickable, mark_good, erase_good, join_good, can_join, door_pickable, stopped_good, open_good, ends_same_way, newer_look, refresh_ordered, admit_composed, joined_links}
+use Rattle.ring_rules.proofs.invariants.Happens.{IsGood, run_events, current_good, nothing_pickable, mark_good, erase_good, sync_there, sync_good, join_good, can_join, door_pickable, stopped_good, open_good, ends_same_way, newer_look, refresh_ordered, admit_composed, joined_links}
 use Rattle.ring_rules.proofs.events.Cases.{each_event}
 use Rattle.ring_rules.proofs.events.Composed.{end_composed}
 
@@ -27,6 +27,7 @@ pub data Move (G : World → Type 0) (w w' : World) : Type 0 where
   open_move : (x v : ℕ) → MayLook w x v → ((o : ℕ) → (member_at w x).out ≡ Some o → (link_at w o).receiver ≢ right w v x) → w' ≡ open_to (look_at w x v) x (right w v x) → Move G w w'
   mark_move : (d : ℕ) → (member_at w d).phase ≡ Stopped → is_live (view_in w (newest w)) d ≡ true → w' ≡ with_view w (marked (view_in w (newest w)) d) → Move G w w'
   erase_move : (x d : ℕ) → MayErase w x d → w' ≡ with_view w (erased_view w d) → Move G w w'
+  sync_move : (x : ℕ) → MaySync w x → w' ≡ with_view w (synced_view w x) → Move G w w'
   join_move : (m : ℕ) (name : List ℕ) → CanJoin w m → G w → w' ≡ joined_state w m name → Move G w w'
 
 module _ (G P : World → Type 0) (keeps : (w w' : World) → IsGood w → Move G w w' → P w → P w') where
@@ -66,7 +67,7 @@ module _ (G P : World → Type 0) (keeps : (w w' : World) → IsGood w → Move 
   -- any event
   pub event_moves : (w : World) (e : Event) → IsGood w → G w → refusal w e ≡ None → P w → P (effect w e)
   event_moves w e g gw r h = each_event P w e g (record {
-    casts = λ x m u. keeps w (publish_at w x m) g (cast_move x m u.lt u.up refl) h;
+    casts = λ x m u _. keeps w (publish_at w x m) g (cast_move x m u.lt u.up refl) h;
     puts = λ x o u out k. keeps w (put_on w x o) g (put_move x o u.up out refl) h;
     takes = λ y s u m. keeps w (take_from w y s) g (take_move y s m refl) h;
     begins = λ y s u m. keeps w (begin_from w y s) g (begin_move y s m refl) h;
@@ -77,6 +78,7 @@ module _ (G P : World → Type 0) (keeps : (w w' : World) → IsGood w → Move 
     stops = λ x u. stop_moves w x u.lt u.runs_on g h;
     marks = λ x d u m. newer_moves w x (marked (view_in w (newest w)) d) u.lt u.up g (mark_good w d m.rests m.lives g) (keeps w _ g (mark_move d m.rests m.lives refl) h);
     erases = λ x d u m. newer_moves w x (erased_view w d) u.lt u.up g (erase_good w d m.dead g) (keeps w _ g (erase_move x d m refl) h);
+    syncs = λ x u m. newer_moves w x (synced_view w x) u.lt u.up g (sync_good w x (sync_there w x m g) g) (keeps w _ g (sync_move x m refl) h);
     admits = λ x name u k. admit_moves w x name (can_join w x name u.lt u.up k g) g gw h;
     refreshes = λ x v u m. refresh_moves w x v m g h;
     picks = λ y s u none door upto. keeps w (current_is w y (Some s)) g (current_move y (Some s) u.lt u.up (door_pickable w y s door upto g) refl) h;

@@ -12,7 +12,8 @@ use Rattle.group_view.proofs.Named.{name-remarked, name-admitted, name-new, name
 use Rattle.ring_rules.specs.View.{right_of}
 use Rattle.ring_rules.specs.Machine.{Member, Link, Ending, Moved, Halted, World, no_member, member_at, link_at, view_in, newest, runs_phase, oldest}
 use Rattle.ring_rules.specs.Step.{size, published, taker, begun, with_current, ended, stop_at, stopped, end_out, with_member, with_link, with_view, look_at, moved_to, open_to, joiner, admitted_view, come_to, opening}
-use Rattle.ring_rules.specs.Event.{Event, id_of, send_to, refreshed, erased_view, refusal, effect, IsRun, last}
+use Rattle.group_view.proofs.Syncing.{name_registered}
+use Rattle.ring_rules.specs.Event.{Event, id_of, send_to, refreshed, erased_view, synced_view, refusal, effect, IsRun, last}
 use Rattle.ring_rules.proofs.rings.Lists.{at_set}
 use Rattle.ring_rules.proofs.events.Names.{same_bytes, own_bytes, found_at}
 use Rattle.ring_rules.proofs.rings.Rounds.{nat_eq-is, nat_eq-same}
@@ -92,6 +93,13 @@ erase_names w d g = record {
   entries = λ x some lt. ap (λ (a : Group). (entry_in a.entries x).name) (newest_view w (erased_view w d) g.inv.is_ring) ∙ name-remarked Erased (view_in w (newest w)) d x (g.inv.origins x some lt);
 }
 
+sync_names : (w : World) (d : ℕ) → IsGood w → SameNames w (with_view w (synced_view w d))
+sync_names w d g = record {
+  many = refl;
+  members = λ q. refl;
+  entries = λ x some lt. ap (λ (a : Group). (entry_in a.entries x).name) (newest_view w (synced_view w d) g.inv.is_ring) ∙ name_registered (view_in w (newest w)) d x (g.inv.origins x some lt);
+}
+
 -- one that comes has a new name
 come_named : (w : World) (m : ℕ) (name : List ℕ) → CanJoin w m → IsGood w → is_taken (view_in w (newest w)).entries name ≡ false → AreNamed w → AreNamed (come_to w m name)
 come_named w m name j g free h = record {
@@ -138,7 +146,7 @@ come_named w m name j g free h = record {
 
 pub event_named : (w : World) (e : Event) → IsGood w → refusal w e ≡ None → AreNamed w → AreNamed (effect w e)
 event_named w e g r h = each_event AreNamed w e g (record {
-  casts = λ x m u. same_named w _ (set_names w x (published x m (member_at w x)) u.lt refl) h;
+  casts = λ x m u _. same_named w _ (set_names w x (published x m (member_at w x)) u.lt refl) h;
   puts = λ x o u out k. record { same = h.same; different = h.different };
   takes = λ y s u m. same_links _ _ (same_named w _ (set_names w y (taker w y s) u.lt refl) h);
   begins = λ y s u m. same_links _ _ (same_named w _ (set_names w y (begun (size w) (member_at w y) (oldest (link_at w s))) u.lt refl) h);
@@ -147,6 +155,7 @@ event_named w e g r h = each_event AreNamed w e g (record {
   stops = λ x u. same_named w _ (then_names w (stop_at w x) _ (set_names w x (stopped (member_at w x)) u.lt refl) (end_names Halted (stop_at w x) (member_at w x).out)) h;
   marks = λ x d u m. newer_named x (marked (view_in w (newest w)) d) u.lt (mark_names w d g);
   erases = λ x d u m. newer_named x (erased_view w d) u.lt (erase_names w d g);
+  syncs = λ x u m. newer_named x (synced_view w x) u.lt (sync_names w x g);
   admits = λ x name u k.
       let free : is_taken (view_in w (newest w)).entries name ≡ false = (none_of (is_taken (view_in w (newest w)).entries name) reason.NameTaken _ k).0 in
       same_named (come_to w x name) _ (refreshed_names (come_to w x name) x (newest w + 1) (omega (arith, u.lt, length_push w.members (joiner w name)))) (come_named w x name (can_join w x name u.lt u.up k g) g free h);

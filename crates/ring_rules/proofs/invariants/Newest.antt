@@ -7,18 +7,19 @@ use Rattle.group_view.specs.Change.{marked}
 use Rattle.ring_rules.specs.View.{is_live}
 use Rattle.ring_rules.specs.Machine.{World, view_in, newest}
 use Rattle.ring_rules.specs.Step.{size, with_view, look_at, moved_to, admitted_view}
-use Rattle.ring_rules.specs.Event.{erased_view}
-use Rattle.ring_rules.proofs.events.WhatRefuses.{MayErase}
+use Rattle.ring_rules.specs.Event.{erased_view, synced_view}
+use Rattle.ring_rules.proofs.events.WhatRefuses.{MayErase, MaySync}
 use Rattle.ring_rules.proofs.walks.Views.{view_new}
 use Rattle.ring_rules.proofs.invariants.FromLeft.{IsGood}
 use Rattle.ring_rules.proofs.invariants.KeptAdmit.{CanJoin, join_view, many}
-use Rattle.ring_rules.proofs.invariants.Moves.{Move, cast_move, put_move, take_move, begin_move, current_move, stop_move, way_move, look_move, open_move, mark_move, erase_move, join_move}
+use Rattle.ring_rules.proofs.invariants.Moves.{Move, cast_move, put_move, take_move, begin_move, current_move, stop_move, way_move, look_move, open_move, mark_move, erase_move, sync_move, join_move}
 
--- it stays, or a live one dies in it, a dead one is erased, or one is admitted, who is then a member
+-- it stays, or a live one dies in it, a dead one is erased, one is registered, or one is admitted, who is then a member
 pub data NewestAfter (w w' : World) : Type 0 where
   newest_stays : size w' ≡ size w → view_in w' (newest w') ≡ view_in w (newest w) → NewestAfter w w'
   newest_marked : (d : ℕ) → is_live (view_in w (newest w)) d ≡ true → size w' ≡ size w → view_in w' (newest w') ≡ marked (view_in w (newest w)) d → NewestAfter w w'
   newest_erased : (x d : ℕ) → MayErase w x d → size w' ≡ size w → view_in w' (newest w') ≡ erased_view w d → NewestAfter w w'
+  newest_synced : (x : ℕ) → MaySync w x → size w' ≡ size w → view_in w' (newest w') ≡ synced_view w x → NewestAfter w w'
   newest_admitted : (m : ℕ) (name : List ℕ) → CanJoin w m → size w' ≡ size w + 1 → view_in w' (newest w') ≡ admitted_view w m name → NewestAfter w w'
 
 new_newest : (w : World) (g : Group) → IsGood w → view_in (with_view w g) (newest (with_view w g)) ≡ g
@@ -45,6 +46,7 @@ newest_after G w w' g k = by_move k
     by_move (open_move x v m moves e) = same _ (length-set (look_at w x v).members x _ ∙ length-set w.members x (moved_to w x v)) refl e
     by_move (mark_move d rest live e) = newest_marked d live (ap size e) (now (marked (view_in w (newest w)) d) e)
     by_move (erase_move x d m e) = newest_erased x d m (ap size e) (now (erased_view w d) e)
+    by_move (sync_move x m e) = newest_synced x m (ap size e) (now (synced_view w x) e)
     by_move (join_move m name j gw e) = newest_admitted m name j (ap size e ∙ many w m name j) (ap (λ (a : World). view_in a (newest a)) e ∙ join_view w m name j)
 
 -- there are no fewer members
@@ -55,4 +57,5 @@ move_more G w w' g k = by_newest (newest_after G w w' g k)
     by_newest (newest_stays sizes is) = omega (arith, sizes)
     by_newest (newest_marked d live sizes is) = omega (arith, sizes)
     by_newest (newest_erased x d m sizes is) = omega (arith, sizes)
+    by_newest (newest_synced x m sizes is) = omega (arith, sizes)
     by_newest (newest_admitted m name j sizes is) = omega (arith, sizes)

@@ -9,7 +9,7 @@ use Rattle.ring_rules.specs.View.{right_of}
 use Rattle.ring_rules.specs.Machine.{Ending, Moved, Halted, Member, Link, World, no_link, no_member, member_at, link_at, view_in, newest, runs, runs_phase, oldest}
 use Rattle.ring_rules.specs.Step.{size, published, taker, begun, joiner, come_to, popped, pushed, next_packet, current_is, with_current, finished, ended, ended_so, stop_at, stopped, end_out, with_member, with_link, with_view, look_at, moved_to, open_to, opened_link, opening, opening_member}
 use Rattle.group_view.specs.View.{Group}
-use Rattle.ring_rules.specs.Event.{erased_view, send_to, refreshed, refusal, effect, IsRun, last}
+use Rattle.ring_rules.specs.Event.{erased_view, send_to, refreshed, refusal, effect, IsRun, last, synced_view}
 use Rattle.ring_rules.proofs.rings.Lists.{at_set, at_push, get_or_beyond}
 use Rattle.ring_rules.proofs.invariants.Kept.{Inv}
 use Rattle.ring_rules.proofs.invariants.KeptAdmit.{CanJoin}
@@ -147,7 +147,7 @@ admit_goes w m name j h =
 -- one event more
 event_goes : (w : World) (e : Event) → IsGood w → refusal w e ≡ None → GoOn w → GoOn (effect w e)
 event_goes w e g r h = each_event GoOn w e g (record {
-  casts = λ x m u. member_goes w x (published x m (member_at w x)) u.lt refl refl h;
+  casts = λ x m u _. member_goes w x (published x m (member_at w x)) u.lt refl refl h;
   puts = λ x o u out k. link_goes w o (pushed (link_at w o) (next_packet (member_at w x) (link_at w o).sending)) (g.inv.linked.out_lt x o (ap runs_phase u.up) out) refl (λ e2. e2) h;
   takes = λ y s u m. pop_goes w y s (taker w y s) u.lt (g.inv.current.lt y s (ap runs_phase u.up) m.current) refl refl h;
   begins = λ y s u m. pop_goes w y s (begun (size w) (member_at w y) (oldest (link_at w s))) m.is_member (g.inv.current.lt y s (ap runs_phase m.waits) m.current) (sym (ap runs_phase m.waits)) refl h;
@@ -156,6 +156,7 @@ event_goes w e g r h = each_event GoOn w e g (record {
   stops = λ x u. stop_goes w x u.lt u.runs_on g.inv h;
   marks = λ x d u m. view_goes w x (marked (view_in w (newest w)) d) u.lt (ap runs_phase u.up) g.inv h;
   erases = λ x p u m. view_goes w x (erased_view w p) u.lt (ap runs_phase u.up) g.inv h;
+  syncs = λ x u m. view_goes w x (synced_view w x) u.lt (ap runs_phase u.up) g.inv h;
   admits = λ x name u k. admit_goes w x name (can_join w x name u.lt u.up k g) h;
   refreshes = λ x v u m. refresh_goes w x v u.lt (ap runs_phase u.up) (λ o e2. g.inv.linked.out_lt x o (ap runs_phase u.up) e2) h;
   picks = λ y s u none door upto. member_goes w y (with_current (Some s) (member_at w y)) u.lt refl refl h;

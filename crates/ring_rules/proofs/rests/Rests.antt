@@ -1,6 +1,6 @@
--- A ring whose members have nothing to do is quiet, whoever stopped and joined before.
+-- A ring whose members have nothing to do rests, whoever stopped and joined before.
 use Rattle.ring_rules.proofs.invariants.Good.{stands_now, lives_now}
-use Rattle.std.proofs.Common.{◌≡◌, ◌⊎◌, inl, inr, ℕ, zero, suc, ◌<◌, ◌≤◌, Bool, true, false, nat_eq, List, [], ◌∷◌, length, get_or, is_some, refl, sym, ap, subst, ◌∙◌, ⊎_elim, arith}
+use Rattle.std.proofs.Common.{◌≡◌, ◌≢◌, ◌⊎◌, inl, inr, ℕ, zero, suc, ◌<◌, ◌≤◌, Bool, true, false, nat_eq, List, [], ◌∷◌, length, get_or, is_some, refl, sym, ap, subst, ◌∙◌, ⊎_elim, arith, Some, None}
 use Rattle.std.specs.Prelude.{◌||◌, ◌&&◌}
 use Rattle.std.proofs.lemmas.Bool.{false≢true, cases_lt}
 use Rattle.ring_names.specs.declared.numbers.CreditSpec.{CreditSpec}
@@ -15,10 +15,10 @@ use Rattle.group_view.proofs.Rings.{sym_test, not_equal_in}
 use Rattle.ring_rules.specs.View.{is_live, left_of, right_of}
 use Rattle.ring_rules.specs.Machine.{Phase, Waiting, Up, Stopped, World, no_member, member_at, view_in, newest, ring, left, right, runs, runs_phase}
 use Rattle.ring_rules.specs.Step.{size, log_of, opening}
-use Rattle.ring_rules.specs.Event.{Event, IsRun, last, is_stopped, left_neighbour, is_neighbour, is_still_taken, at_door, mark_refusal}
+use Rattle.ring_rules.specs.Event.{Event, IsRun, last, is_stopped, left_neighbour, is_neighbour, is_still_taken, at_door, mark_refusal, synced_refusal}
 use Rattle.ring_rules.specs.Lawful.{row_of}
 use Rattle.ring_rules.specs.Idle.{NobodySteps, MarksNobody, ErasesNobody, HasNobodyGone, IsIdle}
-use Rattle.ring_rules.specs.Quiet.{IsAtRest, IsQuiet}
+use Rattle.ring_rules.specs.Quiet.{IsAtRest, RingRests}
 use Rattle.ring_rules.proofs.rings.Lists.{get_or_beyond}
 use Rattle.ring_rules.proofs.rings.Rounds.{nat_eq-is, nat_eq-same}
 use Rattle.ring_rules.proofs.walks.Views.{left_is, right_is}
@@ -183,11 +183,11 @@ somebody w (suc n) = by_runs (runs w n) refl (somebody w n)
     by_runs false e (inr k) = inr k
     by_runs false e (inl k) = inl (λ y lt. ⊎_elim (λ (l : y < n). k y l) (λ (ge : n ≤ y). let is : y ≡ n = omega arith in ap (runs w) is ∙ e) (cases_lt y n))
 
--- a ring is quiet where it rests if somebody runs
-pub quiet_where : (w : World) → ((y : ℕ) → runs w y ≡ true → IsAtRest w) → IsQuiet w
-quiet_where w rests = by_one (somebody w (size w))
+-- a ring rests where all of it does if somebody runs
+pub rests_where : (w : World) → ((y : ℕ) → runs w y ≡ true → IsAtRest w) → RingRests w
+rests_where w rests = by_one (somebody w (size w))
   where
-    by_one : ((y : ℕ) → y < size w → runs w y ≡ false) ⊎ ((y : ℕ) × (runs w y ≡ true)) → IsQuiet w
+    by_one : ((y : ℕ) → y < size w → runs w y ≡ false) ⊎ ((y : ℕ) × (runs w y ≡ true)) → RingRests w
     by_one (inl none) = inl (λ y. ⊎_elim (λ (l : y < size w). none y l) (λ (ge : size w ≤ y). ap (λ a. runs_phase a.phase) (get_or_beyond w.members y no_member ge)) (cases_lt y (size w)))
     by_one (inr k) = inr (rests k.0 k.1)
 
@@ -203,15 +203,15 @@ reached credit names events are r = record {
   old = reached_old credit names events are r;
 }
 
--- in each of them, an idle ring is quiet
-pub run_idle_is_quiet : (credit : CreditSpec) (names : List (List ℕ)) (events : List Event) → AreOpeningNames names → IsRun (opening credit names) events → IsIdle (last (opening credit names) events) → IsQuiet (last (opening credit names) events)
-run_idle_is_quiet credit names events are r idle =
+-- in each of them, an idle ring rests
+pub run_idle_rests : (credit : CreditSpec) (names : List (List ℕ)) (events : List Event) → AreOpeningNames names → IsRun (opening credit names) events → IsIdle (last (opening credit names) events) → RingRests (last (opening credit names) events)
+run_idle_rests credit names events are r idle =
     let w : World = last (opening credit names) events in
-    quiet_where w (λ y ry. idle_rests w (reached credit names events are r) (run_logged credit names events are r) idle y ry)
+    rests_where w (λ y ry. idle_rests w (reached credit names events are r) (run_logged credit names events are r) idle y ry)
 
--- and so is one in which nobody has a step to do, somebody at its right to have marked, or somebody to have erased
-pub run_worked_is_quiet : (credit : CreditSpec) (names : List (List ℕ)) (events : List Event) → AreOpeningNames names → IsRun (opening credit names) events
-    → NobodySteps (last (opening credit names) events) → MarksNobody (last (opening credit names) events) → ErasesNobody (last (opening credit names) events) → IsQuiet (last (opening credit names) events)
-run_worked_is_quiet credit names events are r steps marks erases =
+-- and one rests in which nobody has a step to do, somebody at its right to have marked, or somebody to have erased
+pub run_worked_rests : (credit : CreditSpec) (names : List (List ℕ)) (events : List Event) → AreOpeningNames names → IsRun (opening credit names) events
+    → NobodySteps (last (opening credit names) events) → MarksNobody (last (opening credit names) events) → ErasesNobody (last (opening credit names) events) → RingRests (last (opening credit names) events)
+run_worked_rests credit names events are r steps marks erases =
     let w : World = last (opening credit names) events in
-    quiet_where w (λ y ry. worked_rests w (reached credit names events are r) (run_logged credit names events are r) steps marks erases y ry)
+    rests_where w (λ y ry. worked_rests w (reached credit names events are r) (run_logged credit names events are r) steps marks erases y ry)

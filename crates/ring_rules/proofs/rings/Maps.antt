@@ -1,6 +1,6 @@
 -- Lists that are mapped: where an element is read, and where one is written.
 use Rattle.std.proofs.Common.{◌≡◌, ◌≢◌, subst, ℕ, zero, suc, ◌≤◌, arith, ◌+◌, List, [], ◌∷◌, length, map, Bool, true, false, cond, not, get_or, set, ◌<◌, refl, sym, ap, ◌∙◌}
-use Rattle.std.specs.List.{position, prefix_len, range_with_len}
+use Rattle.std.specs.List.{position, prefix_len, range_with_len, flat_map}
 use Rattle.std.proofs.lemmas.List.{length-map, get_or-map, map-set, set-get_or}
 use Rattle.ring_rules.proofs.rings.Writes.{at_set}
 
@@ -37,3 +37,8 @@ map-range_same_from f g a (suc n) h = ap (λ x. x ∷ map f (range_with_len (a +
 
 pub map-range_same : {A : Type 0} (f g : ℕ → A) (n : ℕ) → ((k : ℕ) → k < n → f k ≡ g k) → map f (range_with_len 0 n) ≡ map g (range_with_len 0 n)
 map-range_same f g n h = map-range_same_from f g 0 n (λ k l m. h k (omega arith))
+
+-- lists that are the same below a number
+pub flat-range_same : {A : Type 0} (f g : ℕ → List A) (a n : ℕ) → ((p : ℕ) → p < a + n → f p ≡ g p) → flat_map f (range_with_len a n) ≡ flat_map g (range_with_len a n)
+flat-range_same f g a zero h = refl
+flat-range_same f g a (suc n) h = rw (h a (omega arith), flat-range_same f g (a + 1) n (λ p lt. h p (omega arith))) refl

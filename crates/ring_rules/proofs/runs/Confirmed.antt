@@ -25,7 +25,7 @@ use Rattle.ring_rules.proofs.invariants.Happens.{IsGood, opening_good, reached_g
 use Rattle.ring_rules.proofs.walks.Twice.{gots, forgots, Edits}
 use Rattle.ring_rules.proofs.invariants.TwiceKept.{stop_edits}
 use Rattle.ring_rules.proofs.walks.Agreed.{AllFrom, all_from_at, all_from_each, all_from_kept}
-use Rattle.ring_rules.proofs.invariants.Moves.{Move, cast_move, put_move, take_move, begin_move, current_move, stop_move, way_move, look_move, open_move, mark_move, erase_move, join_move, run_moves}
+use Rattle.ring_rules.proofs.invariants.Moves.{Move, cast_move, put_move, take_move, begin_move, current_move, stop_move, way_move, look_move, open_move, mark_move, erase_move, sync_move, join_move, run_moves}
 use Rattle.ring_rules.proofs.walks.MoveEdits.{move_edits}
 
 -- each running member stands in the walk of each origin
@@ -142,6 +142,7 @@ moved_on w w' p g k some pl r = by_move k
         rest (record { pl = b.pl; rests = b.rests; forgot = a.forgot ∙ b.forgot })
     by_move (mark_move d rest live e) = unwritten _ refl e
     by_move (erase_move x d m e) = unwritten _ refl e
+    by_move (sync_move x m e) = unwritten _ refl e
     by_move (join_move m name j gw e) =
         let k = join_rests w m name j p (subst (λ u. p < size u) e pl) (subst (λ u. runs u p ≡ false) e r) in
         rest (record { pl = k.0; rests = k.1.0; forgot = ap (λ u. (row_of u p p).forgot) e ∙ ap (λ a. (row_at a p).forgot) k.1.1 })

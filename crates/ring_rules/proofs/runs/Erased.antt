@@ -10,7 +10,7 @@ use Rattle.group_view.specs.View.{Group, entry_in, is_live_mark, is_erased_mark,
 use Rattle.group_view.specs.Change.{AreOpeningNames}
 use Rattle.group_view.proofs.Neighbours.{passes_in}
 use Rattle.group_view.proofs.Erasing.{mark-remarked, mark-admitted}
-use Rattle.ring_rules.proofs.invariants.Newest.{NewestAfter, newest_stays, newest_marked, newest_erased, newest_admitted, newest_after, move_more}
+use Rattle.ring_rules.proofs.invariants.Newest.{NewestAfter, newest_stays, newest_marked, newest_erased, newest_synced, newest_admitted, newest_after, move_more}
 use Rattle.ring_rules.specs.View.{is_live}
 use Rattle.ring_rules.specs.declared.numbers.Numbers.{Numbers}
 use Rattle.ring_rules.specs.Rows.{Row}
@@ -31,6 +31,7 @@ use Rattle.ring_rules.proofs.invariants.Kept.{Inv}
 use Rattle.ring_rules.proofs.invariants.Opening.{opening_live_at}
 use Rattle.ring_rules.proofs.invariants.KeptAdmit.{live_in_new}
 use Rattle.ring_rules.proofs.invariants.Happens.{IsGood, opening_good, reached_good, run_good}
+use Rattle.group_view.proofs.Syncing.{mark_registered}
 use Rattle.ring_rules.proofs.events.WhatRefuses.{MayErase}
 use Rattle.ring_rules.proofs.walks.Ended.{EndsRight, ends_run}
 use Rattle.ring_rules.proofs.walks.OpenWalk.{counts, reached_ends}
@@ -137,6 +138,9 @@ erased_before w w' p g k some pl er = by_newest (newest_after IsGood w w' g k)
             let m2 : MayErase w x p = subst (MayErase w x) (sym (nat_eq-is p d t)) m in
             by_it x m2 (move_edits IsGood w w' p g k some lt (dead_rests w p g.inv.is_ring m2.dead))
         by_test false t er2 lt = before_it er2
+    by_newest (newest_synced x m sizes is) =
+        let lt : p < size w = omega (arith, pl, sizes) in
+        record { pl = lt; was = before_it (ap is_erased_mark (sym (mark_registered v x p (g.inv.origins p some lt))) ∙ ap (λ (a : Group). is_erased a.entries p) (sym is) ∙ er) }
     by_newest (newest_admitted m name j sizes is) = ⊎_elim
         (λ (old : p < size w). record { pl = old; was = before_it (ap is_erased_mark (sym (mark-admitted v m name j.may p (g.inv.origins p some old))) ∙ ap (λ (a : Group). is_erased a.entries p) (sym is) ∙ er) })
         (λ (ge : size w ≤ p).
@@ -165,6 +169,7 @@ erased_stays w w' p g k some pl er = by_newest (newest_after IsGood w w' g k)
         either : (b : Bool) → is_erased_mark (cond b Erased (entry_in v.entries p).mark) ≡ true
         either true = refl
         either false = er
+    by_newest (newest_synced x m sizes is) = ap (λ (a : Group). is_erased a.entries p) is ∙ ap is_erased_mark (mark_registered v x p (g.inv.origins p some pl)) ∙ er
     by_newest (newest_admitted m name j sizes is) = ap (λ (a : Group). is_erased a.entries p) is ∙ ap is_erased_mark (mark-admitted v m name j.may p (g.inv.origins p some pl)) ∙ er
 
 -- ---- states

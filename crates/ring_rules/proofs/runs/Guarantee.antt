@@ -1,7 +1,7 @@
 -- A member hears all that is published since its admission, up to what it has got.
 use Rattle.std.proofs.Common.{◌≡◌, ℕ, ◌+◌, ◌-◌, ◌<◌, ◌≤◌, List, length, take, get_or, ap, ◌∙◌, arith}
 use Rattle.std.proofs.lemmas.List.{get_or-drop, get_or-take, length-drop, length-take-le}
-use Rattle.ring_names.specs.declared.message.Message.{Message}
+use Rattle.queue_core.specs.declared.message.Message.{Message}
 use Rattle.ring_rules.specs.Rows.{messages_between}
 use Rattle.ring_rules.specs.Machine.{World}
 use Rattle.ring_rules.specs.Step.{log_of}

@@ -3,7 +3,7 @@ use Rattle.std.proofs.Common.{◌≡◌, ◌≢◌, ℕ, ◌+◌, ◌<◌, ◌�
 use Rattle.std.proofs.lemmas.Bool.{and_parts, false≢true, cases_eq, cases_lt, not-true}
 use Rattle.std.proofs.lemmas.List.{length-set, length_push, get_or-set_other}
 use Rattle.std.proofs.lemmas.List.Quantifiers.{position-Some}
-use Rattle.ring_names.specs.declared.message.Message.{Message}
+use Rattle.queue_core.specs.declared.message.Message.{Message}
 use Rattle.ring_names.specs.declared.numbers.CreditSpec.{CreditSpec}
 use Rattle.group_view.specs.Ring.{is_in}
 use Rattle.group_view.specs.View.{Group}
@@ -15,7 +15,7 @@ use Rattle.ring_rules.specs.Refusal.{is_empty}
 use Rattle.ring_rules.specs.View.{between}
 use Rattle.ring_rules.specs.Machine.{Up, Moved, Halted, Packet, Member, Link, World, no_packet, no_link, no_member, row_at, numbers_at, member_at, link_at, view_in, newest, runs, runs_phase, is_kept, oldest, Ending}
 use Rattle.ring_rules.specs.Step.{size, log_of, put_on, pushed, next_packet, gain_on, publish_at, published, take_from, taker, begun, begun_row, begin_from, is_owned, current_is, with_current, leave_link, stop_at, stopped, end_out, ended, with_member, with_link, with_view, look_at, moved_to, open_to, opened_link, opening_link, popped, joiner, admitted_view, come_to, opening}
-use Rattle.ring_rules.specs.Event.{Event, is_at_door, at_door, refreshed, erased_view, refusal, effect, IsRun, last}
+use Rattle.ring_rules.specs.Event.{Event, is_at_door, at_door, refreshed, erased_view, refusal, effect, IsRun, last, synced_view}
 use Rattle.ring_rules.specs.Lawful.{RowIsWithin, NumbersAreWithin}
 use Rattle.ring_rules.specs.Compact.{Has}
 use Rattle.ring_rules.proofs.events.WhatRefuses.{MayTake, MayBegin}
@@ -28,7 +28,7 @@ use Rattle.ring_rules.proofs.invariants.Kept.{Inv}
 use Rattle.ring_rules.proofs.invariants.KeptCast.{gained_rows}
 use Rattle.ring_rules.proofs.invariants.KeptBegin.{begin_row}
 use Rattle.ring_rules.proofs.invariants.KeptAdmit.{CanJoin}
-use Rattle.ring_rules.proofs.invariants.Happens.{IsGood, opening_good, can_join, door_pickable, mark_good, run_events, erase_good}
+use Rattle.ring_rules.proofs.invariants.Happens.{IsGood, opening_good, can_join, door_pickable, mark_good, run_events, erase_good, sync_there, sync_good}
 use Rattle.ring_rules.proofs.events.Cases.{each_event}
 use Rattle.ring_rules.proofs.events.First.{first_row, first_link}
 use Rattle.ring_rules.proofs.runs.Lines.{IsChain, HasFirst, LinesRight, SameLine, Still}
@@ -332,7 +332,7 @@ record IsTold (t : Last) (w : World) : Type 0 where
 -- one event more
 event_has : (t : Last) (w : World) (e : Event) → IsGood w → refusal w e ≡ None → IsTold t w → HasSaid t (effect w e)
 event_has t w e g r k = each_event (HasSaid t) w e g (record {
-  casts = λ x m u. still_has t w (publish_at w x m) (cast_still w x m u.lt) (cast_rows w x m u.lt) k.has;
+  casts = λ x m u _. still_has t w (publish_at w x m) (cast_still w x m u.lt) (cast_rows w x m u.lt) k.has;
   puts = λ x o u out _. put_has t w x o (g.inv.linked.out_lt x o (ap runs_phase u.up) out) k.has;
   takes = λ y s u m. take_has t w y s m g.inv k.lines k.has;
   begins = λ y s u m. begin_has t w y s m g.inv k.logged k.beside k.lines k.has;
@@ -341,6 +341,7 @@ event_has t w e g r k = each_event (HasSaid t) w e g (record {
   stops = λ x u. stop_has t w x u.lt u.runs_on g.inv k.has;
   marks = λ x d u m. mark_has t w x (marked (view_in w (newest w)) d) u.lt u.up g (mark_good w d m.rests m.lives g) k.has;
   erases = λ x p u m. mark_has t w x (erased_view w p) u.lt u.up g (erase_good w p m.dead g) k.has;
+  syncs = λ x u m. mark_has t w x (synced_view w x) u.lt u.up g (sync_good w x (sync_there w x m g) g) k.has;
   admits = λ x name u may. admit_has t w x name (can_join w x name u.lt u.up may g) g k.logged k.has;
   refreshes = λ x v u m.
       let rx : runs w x ≡ true = ap runs_phase u.up in

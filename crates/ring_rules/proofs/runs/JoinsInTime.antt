@@ -24,7 +24,7 @@ use Rattle.ring_rules.proofs.walks.Take.{row_at-taker}
 use Rattle.ring_rules.proofs.events.First.{first_row, first_none_waits}
 use Rattle.ring_rules.proofs.runs.OwnLogs.{IsLogged, joiner_rows, opening_logged, run_knowing, begun_at}
 use Rattle.ring_rules.proofs.invariants.Happens.{IsGood, opening_good}
-use Rattle.ring_rules.proofs.invariants.Moves.{Move, cast_move, put_move, take_move, begin_move, current_move, stop_move, way_move, look_move, open_move, mark_move, erase_move, join_move, event_moves}
+use Rattle.ring_rules.proofs.invariants.Moves.{Move, cast_move, put_move, take_move, begin_move, current_move, stop_move, way_move, look_move, open_move, mark_move, erase_move, sync_move, join_move, event_moves}
 
 -- ---- what changes nothing of it
 
@@ -207,6 +207,7 @@ move_stays w w' g (open_move x v m moves e) = twice w1 looked (subst (Alike w1) 
         g.inv.current.lt q s (ap runs_phase (sym (ap (λ a. a.phase) same) ∙ waits)) (sym (ap (λ a. a.current) same) ∙ current)
 move_stays w w' g (mark_move d rest live e) = once (subst (Alike w) (sym e) (record { rows = λ q p. stays_kept (row_of w q p); logs = λ p. omega arith; waits = λ q _. refl; links = λ q s _ _. refl }))
 move_stays w w' g (erase_move x d m e) = once (subst (Alike w) (sym e) (record { rows = λ q p. stays_kept (row_of w q p); logs = λ p. omega arith; waits = λ q _. refl; links = λ q s _ _. refl }))
+move_stays w w' g (sync_move x m e) = once (subst (Alike w) (sym e) (record { rows = λ q p. stays_kept (row_of w q p); logs = λ p. omega arith; waits = λ q _. refl; links = λ q s _ _. refl }))
 move_stays w w' g (join_move m name j here e) = joins m name j here e
 
 move_joins : (w w' : World) → IsGood w → Move IsHere w w' → JoinsInTime w → JoinsInTime w'

@@ -4,9 +4,9 @@ use Rattle.std.proofs.Common.{◌≡◌, ◌⊎◌, inl, inr, ℕ, ◌≤◌, Bo
 use Rattle.ring_names.specs.declared.numbers.CreditSpec.{CreditSpec}
 use Rattle.ring_names.specs.declared.numbers.MemberId.{MemberId}
 use Rattle.group_view.specs.View.{Group, as_id, is_erased, stands_in}
-use Rattle.group_view.specs.Change.{AreOpeningNames, marked, erased}
+use Rattle.group_view.specs.Change.{AreOpeningNames, marked, erased, registered}
 use Rattle.promotion.specs.Elect.{elected, term_after, installed}
-use Rattle.ring_rules.proofs.invariants.Newest.{NewestAfter, newest_stays, newest_marked, newest_erased, newest_admitted, newest_after, move_more}
+use Rattle.ring_rules.proofs.invariants.Newest.{NewestAfter, newest_stays, newest_marked, newest_erased, newest_synced, newest_admitted, newest_after, move_more}
 use Rattle.ring_rules.specs.Machine.{World, view_in, newest}
 use Rattle.ring_rules.specs.Step.{size, admitted_view, opening}
 use Rattle.ring_rules.specs.Event.{Event, IsRun, last}
@@ -56,6 +56,9 @@ move_leads w w' g k = by_newest (newest_after IsGood w w' g k)
     by_newest (newest_marked d live sizes is) = subst (LeadStep v) (sym is) (same_step v (marked v d) refl refl)
     by_newest (newest_erased x d m sizes is) =
         let step : LeadStep (erased v d) (installed (erased v d)) = install_step (erased v d) in
+        subst (LeadStep v) (sym is) (record { rises = step.rises; stays = step.stays; gone = step.gone })
+    by_newest (newest_synced x m sizes is) =
+        let step : LeadStep (registered v x) (installed (registered v x)) = install_step (registered v x) in
         subst (LeadStep v) (sym is) (record { rises = step.rises; stays = step.stays; gone = step.gone })
     by_newest (newest_admitted m name j sizes is) = subst (LeadStep v) (sym is) (same_step v (admitted_view w m name) refl refl)
 

@@ -6,12 +6,12 @@ use Rattle.group_view.specs.Change.{AreOpeningNames, marked, opening as opening_
 use Rattle.ring_rules.specs.View.{left_of}
 use Rattle.ring_rules.specs.Machine.{Packet, World, no_packet, row_at, numbers_at, member_at, link_at, view_in, left, runs, runs_phase, oldest, Waiting, Up, newest}
 use Rattle.ring_rules.specs.Step.{size, gain_on, publish_at, is_owned, leave_link, opening}
-use Rattle.ring_rules.specs.Event.{Event, refusal, effect, IsRun, last, erased_view}
+use Rattle.ring_rules.specs.Event.{Event, refusal, effect, IsRun, last, erased_view, synced_view}
 use Rattle.ring_rules.specs.NoGap.{NoGapAtTake}
 use Rattle.ring_rules.proofs.events.First.{first_each, first_link_is}
 use Rattle.ring_rules.proofs.walks.Views.{left_is}
 use Rattle.ring_rules.proofs.invariants.Kept.{Inv}
-use Rattle.ring_rules.proofs.invariants.Happens.{IsGood, opening_good, can_join, mark_good, erase_good}
+use Rattle.ring_rules.proofs.invariants.Happens.{IsGood, opening_good, can_join, mark_good, erase_good, sync_there, sync_good}
 use Rattle.ring_rules.proofs.events.Cases.{each_event}
 use Rattle.ring_rules.proofs.runs.LinesKept.{cast_still, gain_still, leave_still, stop_lines, put_lines, take_lines, pick_lines, begin_lines, takes_within, admit_lines, refresh_lines, owned_stays, mark_lines}
 use Rattle.ring_rules.proofs.runs.OwnLogs.{IsLogged, opening_logged, run_knowing}
@@ -50,7 +50,7 @@ module _ (credit : CreditSpec) (names : List (List ℕ)) where
 -- one event more
 pub event_lines : (w : World) (e : Event) → IsGood w → refusal w e ≡ None → IsLogged w → LinesRight w → LinesRight (effect w e)
 event_lines w e g r lg h = each_event LinesRight w e g (record {
-  casts = λ x m u. lines_still w (publish_at w x m) (cast_still w x m u.lt) h;
+  casts = λ x m u _. lines_still w (publish_at w x m) (cast_still w x m u.lt) h;
   puts = λ x o u out k. put_lines w x o u.up out g.inv h;
   takes = λ y s u m. take_lines w y s m g.inv h;
   begins = λ y s u m. begin_lines w y s m g.inv h;
@@ -59,6 +59,7 @@ event_lines w e g r lg h = each_event LinesRight w e g (record {
   stops = λ x u. stop_lines w x u.lt u.runs_on g.inv h;
   marks = λ x d u m. mark_lines w x (marked (view_in w (newest w)) d) u.lt u.up g (mark_good w d m.rests m.lives g) h;
   erases = λ x p u m. mark_lines w x (erased_view w p) u.lt u.up g (erase_good w p m.dead g) h;
+  syncs = λ x u m. mark_lines w x (synced_view w x) u.lt u.up g (sync_good w x (sync_there w x m g) g) h;
   admits = λ x name u k. admit_lines w x name (can_join w x name u.lt u.up k g) g lg h;
   refreshes = λ x v u m.
       let rx : runs w x ≡ true = ap runs_phase u.up in

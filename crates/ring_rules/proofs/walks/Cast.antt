@@ -8,7 +8,7 @@ use Rattle.ring_rules.specs.Step.{size, published, publish_at}
 use Rattle.ring_rules.proofs.rings.Weakens.{Weakens}
 use Rattle.ring_rules.proofs.walks.Back.{Closes, closes_walk}
 use Rattle.ring_rules.proofs.walks.Refresh.{blind}
-use Rattle.ring_names.specs.declared.message.Message.{Message}
+use Rattle.queue_core.specs.declared.message.Message.{Message}
 
 -- of a message
 module _ (m : Message) where

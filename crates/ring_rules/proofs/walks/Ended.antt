@@ -12,7 +12,7 @@ use Rattle.group_view.specs.Change.{marked}
 use Rattle.ring_rules.specs.View.{right_of}
 use Rattle.ring_rules.specs.Machine.{Phase, Waiting, Up, Stopped, Packet, Member, Ending, Moved, Halted, Link, World, no_link, no_member, member_at, link_at, view_in, newest, runs, runs_phase, oldest}
 use Rattle.ring_rules.specs.Step.{size, published, pushed, popped, next_packet, put_on, gain_on, taker, begun, current_is, with_current, leave_link, finished, ended, ended_so, stop_at, stopped, end_out, with_member, with_link, with_view, look_at, moved_to, kept_current, open_to, opened_link, opening_link, opening, come_to}
-use Rattle.ring_rules.specs.Event.{Event, end_refusal, holds_nothing, at_door, send_to, refreshed, refusal, taken_by, effect, IsRun, last, erased_view}
+use Rattle.ring_rules.specs.Event.{Event, end_refusal, holds_nothing, at_door, send_to, refreshed, refusal, taken_by, effect, IsRun, last, erased_view, synced_view}
 use Rattle.ring_rules.proofs.rings.Lists.{at_set, at_push, get_or_beyond}
 use Rattle.ring_rules.proofs.invariants.Kept.{Inv}
 use Rattle.ring_rules.proofs.invariants.Opening.{opening_inv}
@@ -347,7 +347,7 @@ end_none w s h =
 -- one event more
 pub ends_step : (w : World) (e : Event) → IsGood w → refusal w e ≡ None → EndsRight w → EndsRight (effect w e)
 ends_step w e g r h = each_event EndsRight w e g (record {
-  casts = λ x m u. ends_same w x (published x m (member_at w x)) (ap runs_phase u.up) refl refl h;
+  casts = λ x m u _. ends_same w x (published x m (member_at w x)) (ap runs_phase u.up) refl refl h;
   puts = λ x o u out k. ends_put w x o (ap runs_phase u.up) out h;
   takes = λ y s u m. ends_take w y s (ap runs_phase u.up) m.current h Up u.up;
   begins = λ y s u m. ends_take w y s u.runs_on m.current h Waiting m.waits;
@@ -356,6 +356,7 @@ ends_step w e g r h = each_event EndsRight w e g (record {
   stops = λ x u. ends_stop w x u.runs_on h;
   marks = λ x d u m. let v : Group = marked (view_in w (newest w)) d in ends_refresh (with_view w v) x (newest w + 1) (ap runs_phase u.up) (ends_view w v h);
   erases = λ x d u m. ends_refresh (with_view w (erased_view w d)) x (newest w + 1) (ap runs_phase u.up) (ends_view w (erased_view w d) h);
+  syncs = λ x u m. ends_refresh (with_view w (synced_view w x)) x (newest w + 1) (ap runs_phase u.up) (ends_view w (synced_view w x) h);
   admits = λ x name u k. ends_admit w x name (can_join w x name u.lt u.up k g) h;
   refreshes = λ x v u m. ends_refresh w x v (ap runs_phase u.up) h;
   picks = λ y s u none e upto. ends_pick w y s (ap runs_phase u.up) e h;

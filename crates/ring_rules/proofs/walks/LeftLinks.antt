@@ -7,7 +7,7 @@ use Rattle.group_view.specs.Change.{marked}
 use Rattle.ring_rules.specs.View.{right_of}
 use Rattle.ring_rules.specs.Machine.{Member, Ending, Moved, Halted, Link, World, oldest, member_at, link_at, view_in, newest, left, is_kept, no_member}
 use Rattle.ring_rules.specs.Step.{begun, begin_from, published, pushed, popped, next_packet, taker, take_from, current_is, with_current, leave_link, finished, ended, stop_at, stopped, end_out, with_member, with_link, with_view, look_at, moved_to, open_to, opened_link, size, admitted_view, come_to}
-use Rattle.ring_rules.specs.Event.{Event, refreshed, refusal, effect, erased_view}
+use Rattle.ring_rules.specs.Event.{Event, refreshed, refusal, effect, erased_view, synced_view}
 use Rattle.ring_rules.specs.OpenLinks.{version_of, passes}
 use Rattle.ring_rules.proofs.events.Leaves.{come_member, member_leaves, link_leaves, with_opened, new_link_leaves}
 use Rattle.ring_rules.proofs.rings.Lists.{get_or_beyond}
@@ -130,7 +130,7 @@ later_newer w x v h = later_then w (with_view w v) (refreshed (with_view w v) x 
 -- one event more
 pub event_later : (w : World) (e : Event) → IsGood w → refusal w e ≡ None → IsLater w (effect w e)
 event_later w e h = each_event (IsLater w) w e h (record {
-  casts = λ x m u. later_member w x (published x m (member_at w x)) (omega arith);
+  casts = λ x m u _. later_member w x (published x m (member_at w x)) (omega arith);
   puts = λ x o u out k. later_link w o (pushed (link_at w o) (next_packet (member_at w x) (link_at w o).sending)) (record { sender = refl; receiver = refl; opened = refl }) (λ b. b);
   takes = λ y s u m.
       let z : Member = taker w y s in
@@ -144,6 +144,7 @@ event_later w e h = each_event (IsLater w) w e h (record {
   stops = λ x u. later_then w (stop_at w x) (end_out Halted (stop_at w x) (member_at w x).out) (later_member w x (stopped (member_at w x)) (omega arith)) (end_composed (IsLater (stop_at w x)) Halted (stop_at w x) (member_at w x).out (λ k _ _. later_end (stop_at w x) Halted k) (later_same (stop_at w x)));
   marks = λ x d u m. later_newer w x (marked (view_in w (newest w)) d) h;
   erases = λ x d u m. later_newer w x (erased_view w d) h;
+  syncs = λ x u m. later_newer w x (synced_view w x) h;
   admits = λ x name u k.
       later_then w (come_to w x name) (refreshed (come_to w x name) x (newest w + 1)) (later_come w x name)
       (later_refresh (come_to w x name) x (newest w + 1) (come_member w x name x (λ i a. a.version ≤ newest w + 1) (omega (arith, h.inv.is_ring.some)) (omega (arith, h.inv.is_ring.held x))));

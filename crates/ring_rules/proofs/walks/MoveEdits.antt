@@ -5,7 +5,8 @@ use Rattle.std.proofs.lemmas.List.{length-set}
 use Rattle.group_view.specs.Change.{marked}
 use Rattle.ring_rules.specs.Machine.{World, member_at, link_at, view_in, newest, right, runs, runs_phase}
 use Rattle.ring_rules.specs.Step.{size, publish_at, look_at, moved_to, opened_link, open_to}
-use Rattle.ring_rules.specs.Event.{erased_view}
+use Rattle.group_view.proofs.Syncing.{same_ring_registered}
+use Rattle.ring_rules.specs.Event.{erased_view, synced_view}
 use Rattle.ring_rules.proofs.events.WhatRefuses.{MayLook}
 use Rattle.ring_rules.proofs.walks.Put.{runs_phase-Up}
 use Rattle.ring_rules.proofs.walks.Cast.{cast_closes}
@@ -23,7 +24,7 @@ use Rattle.ring_rules.proofs.invariants.Kept.{Inv}
 use Rattle.ring_rules.proofs.invariants.Happens.{IsGood, fresh_open}
 use Rattle.ring_rules.proofs.walks.Twice.{Edits, edits_then, closes_edits}
 use Rattle.ring_rules.proofs.invariants.TwiceKept.{put_edits, open_edits, take_edits, stop_edits}
-use Rattle.ring_rules.proofs.invariants.Moves.{Move, cast_move, put_move, take_move, begin_move, current_move, stop_move, way_move, look_move, open_move, mark_move, erase_move, join_move}
+use Rattle.ring_rules.proofs.invariants.Moves.{Move, cast_move, put_move, take_move, begin_move, current_move, stop_move, way_move, look_move, open_move, mark_move, erase_move, sync_move, join_move}
 
 -- a refresh that opens a link
 refresh_edits : (w : World) (x v p : ℕ) → MayLook w x v → ((o : ℕ) → (member_at w x).out ≡ Some o → (link_at w o).receiver ≢ right w v x) → Inv w → Edits w (open_to (look_at w x v) x (right w v x)) p
@@ -60,4 +61,5 @@ move_edits G w w' p g (look_move x v m e) some pl rests = subst (λ k. Edits w k
 move_edits G w w' p g (open_move x v m moves e) some pl rests = subst (λ k. Edits w k p) (sym e) (refresh_edits w x v p m moves g.inv)
 move_edits G w w' p g (mark_move d rest live e) some pl rests = subst (λ k. Edits w k p) (sym e) (closes_edits w _ p (view_closes w (marked (view_in w (newest w)) d) p (marked_marks w d).same_ids g.inv.is_ring))
 move_edits G w w' p g (erase_move x d m e) some pl rests = subst (λ k. Edits w k p) (sym e) (closes_edits w _ p (view_closes w (erased_view w d) p (erased_marks w d).same_ids g.inv.is_ring))
+move_edits G w w' p g (sync_move x m e) some pl rests = subst (λ k. Edits w k p) (sym e) (closes_edits w _ p (view_closes w (synced_view w x) p (same_ring_registered (view_in w (newest w)) x).same_ids g.inv.is_ring))
 move_edits G w w' p g (join_move m name j gw e) some pl rests = subst (λ k. Edits w k p) (sym e) (join_edits w m name j p pl)

@@ -22,7 +22,7 @@ use Rattle.group_view.proofs.Neighbours.{not_in_filter}
 use Rattle.ring_rules.proofs.walks.Back.{same_runners}
 use Rattle.ring_rules.proofs.invariants.Good.{IsWaitingRight}
 use Rattle.ring_rules.proofs.walks.Put.{counted_other, runs_phase-Up}
-use Rattle.ring_names.specs.declared.message.Message.{Message}
+use Rattle.queue_core.specs.declared.message.Message.{Message}
 
 -- what is known where y takes from its current link s
 pub record CanTake (w : World) (y s : ℕ) : Type 0 where

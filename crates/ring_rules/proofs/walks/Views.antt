@@ -9,11 +9,12 @@ use Rattle.ring_rules.specs.View.{ids, is_live, left_of, right_of, left_by, righ
 use Rattle.group_view.specs.Ring.{left_in, right_in, is_in, AreDistinct}
 use Rattle.ring_rules.specs.Machine.{World, member_at, view_in, newest, ring, left, right, runs, Phase, Waiting, Up, Stopped, Link, is_kept, is_kept_of, is_waiting, link_at, numbers_at}
 use Rattle.ring_rules.specs.Step.{with_view}
-use Rattle.group_view.specs.Change.{marked, remarked}
+use Rattle.group_view.specs.Change.{marked, remarked, registered}
 use Rattle.group_view.proofs.Lists.{all_range_agree}
-use Rattle.group_view.proofs.Rings.{nat_eq-not}
+use Rattle.group_view.proofs.Rings.{nat_eq-is, nat_eq-not}
 use Rattle.group_view.proofs.Passing.{are_mutual}
-use Rattle.ring_rules.specs.Event.{erased_view}
+use Rattle.ring_rules.specs.Event.{erased_view, synced_view}
+use Rattle.group_view.proofs.Syncing.{same_ring_registered}
 use Rattle.group_view.proofs.Neighbours.{left_marked}
 use Rattle.ring_rules.proofs.invariants.Good.{IsRing}
 use Rattle.ring_rules.specs.Rows.{Row}
@@ -131,6 +132,17 @@ marked_marks w d = remark_marks Dead w d (marked (view_in w (newest w)) d) refl 
 
 pub erased_marks : (w : World) (d : ℕ) → IsMarked w d (erased_view w d)
 erased_marks w d = remark_marks Erased w d (erased_view w d) refl refl
+
+-- by a registration nobody is marked
+pub synced_marks : (w : World) (x d : ℕ) → is_live (view_in w (newest w)) d ≡ false → IsMarked w d (synced_view w x)
+synced_marks w x d rests = let same = same_ring_registered (view_in w (newest w)) x in record {
+  same_ids = same.same_ids;
+  lives = λ q. same.same_live q ∙ by_case q (nat_eq q d) refl;
+}
+  where
+    by_case : (q : ℕ) (b : Bool) → nat_eq q d ≡ b → is_live (view_in w (newest w)) q ≡ cond b false (is_live (view_in w (newest w)) q)
+    by_case q true e = ap (is_live (view_in w (newest w))) (nat_eq-is q d e) ∙ rests
+    by_case q false e = refl
 
 -- no mark is both
 pub not_both : (m : Mark) → is_dead_mark m ≡ true → is_live_mark m ≡ true → ⊥

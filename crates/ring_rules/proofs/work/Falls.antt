@@ -36,10 +36,12 @@ current_falls w x c ms ls u m sending links =
       sent = λ q j _ _. sending j;
       marks = omega arith;
       stale = stale_written w w' x y 0 0 u.some u.lt refl m (omega arith);
+      views = λ q _. refl;
+      owed = omega arith;
       dirty = (let same : dirty_on (size w) w' y y.out ≡ dirty_at (size w) w x = dirty_same (size w) w w' (member_at w x) y y.out refl (λ j _. sending j) in omega (arith, same));
       lag = omega arith;
       links = links;
-    }) (inr (omega arith, inr (omega arith, inl (omega arith, refl)))) (omega arith)
+    }) (inr (omega arith, inr (omega arith, inr (omega arith, inl (omega arith, refl))))) (omega arith)
   where
     w' : World
     w' = record w { members = ms; links = ls }
@@ -94,11 +96,13 @@ put_falls w x o f u e r k =
       sent = λ q j ne c. ap (λ (a : Link). a.sending) (get_or-set_other w.links o j new no_link (other_out w x q o j f.own_ends e c ne));
       marks = omega arith;
       stale = omega arith;
+      views = λ q _. refl;
+      owed = omega arith;
       dirty = omega (arith, before, after);
       lag = omega arith;
       links = link_set w w.members o new 0 2 ol places
           (two_more (length new.packets) (length l.packets) (if is_some l.ending && not l.over then 1 else 0) (place_at w' o) (place_at w o) (length l.flow.grants) (length_push l.packets (next_packet y l.sending)) (places o ol));
-    }) (inr (omega arith, inr (omega arith, inl (omega arith, refl)))) (omega arith)
+    }) (inr (omega arith, inr (omega arith, inr (omega arith, inl (omega arith, refl))))) (omega arith)
   where
     y : Member
     y = member_at w x

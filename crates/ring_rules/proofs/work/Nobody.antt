@@ -9,8 +9,9 @@ use Rattle.group_view.specs.declared.entry.Mark.TheVariants.{Dead, Erased}
 use Rattle.group_view.specs.View.{Group, ids}
 use Rattle.group_view.specs.Change.{AreOpeningNames}
 use Rattle.group_view.proofs.Groups.{ids-remarked_group}
+use Rattle.group_view.proofs.Syncing.{same_ring_registered}
 use Rattle.group_view.proofs.Joining.{ids-admitted, not_in_after_other}
-use Rattle.ring_rules.proofs.invariants.Newest.{NewestAfter, newest_stays, newest_marked, newest_erased, newest_admitted, newest_after}
+use Rattle.ring_rules.proofs.invariants.Newest.{NewestAfter, newest_stays, newest_marked, newest_erased, newest_synced, newest_admitted, newest_after}
 use Rattle.ring_rules.specs.Machine.{World, view_in, newest, ring}
 use Rattle.ring_rules.specs.Step.{size, opening}
 use Rattle.ring_rules.specs.Event.{IsRun, last}
@@ -36,6 +37,7 @@ move_nobody w w' g k h = by_newest (newest_after IsGood w w' g k)
     by_newest (newest_stays sizes is) = ap (λ (a : Group). is_in 0 (ids a.entries)) is ∙ h
     by_newest (newest_marked d live sizes is) = ap (λ (a : Group). is_in 0 (ids a.entries)) is ∙ ap (is_in 0) (ids-remarked_group Dead v d) ∙ h
     by_newest (newest_erased x d m sizes is) = ap (λ (a : Group). is_in 0 (ids a.entries)) is ∙ ap (is_in 0) (ids-remarked_group Erased v d) ∙ h
+    by_newest (newest_synced x m sizes is) = ap (λ (a : Group). is_in 0 (ids a.entries)) is ∙ ap (is_in 0) (same_ring_registered v x).same_ids ∙ h
     by_newest (newest_admitted m name j sizes is) =
         ap (λ (a : Group). is_in 0 (ids a.entries)) is ∙ ap (is_in 0) (ids-admitted v m name j.may)
         ∙ not_in_after_other m v.next_id 0 (ids v.entries) (zero_not v.next_id (omega (arith, (newest_is w g.views).numbered))) h

@@ -10,7 +10,7 @@ use Rattle.ring_rules.specs.View.{right_of}
 use Rattle.ring_rules.specs.declared.phase.Ending.TheVariants.{Moved, Halted}
 use Rattle.ring_rules.specs.Machine.{Member, Link, World, no_link, no_member, member_at, link_at, view_in, newest, runs, runs_phase, is_kept, oldest}
 use Rattle.ring_rules.specs.Step.{size, published, taker, popped, pushed, next_packet, current_is, with_current, finished, ended, stop_at, stopped, with_member, with_link, with_view, look_at, moved_to, open_to, opened_link, opening, opening_member, come_to, begun}
-use Rattle.ring_rules.specs.Event.{at_door, is_at_door, refreshed, refusal, effect, IsRun, last, erased_view}
+use Rattle.ring_rules.specs.Event.{at_door, is_at_door, refreshed, refusal, effect, IsRun, last, erased_view, synced_view}
 use Rattle.ring_rules.proofs.rings.Lists.{at_set}
 use Rattle.ring_rules.proofs.rings.Rounds.{nat_eq-is}
 use Rattle.ring_rules.proofs.events.Cases.{Cases, each_event}
@@ -135,7 +135,7 @@ event_owns w e g r h = each_event OwnEnds w e g cases r
 
     cases : Cases OwnEnds w
     cases = record {
-      casts = λ x m u. set_owns w x (published x m (member_at w x)) u.lt (same_member x (published x m (member_at w x)) refl refl) h;
+      casts = λ x m u _. set_owns w x (published x m (member_at w x)) u.lt (same_member x (published x m (member_at w x)) refl refl) h;
       puts = λ x o u is k. link_owns w o (pushed (link_at w o) (next_packet (member_at w x) (link_at w o).sending)) (h.out x o is).0 refl refl h;
       takes = λ y s u m. pop_owns y s (taker w y s) u.lt m.current (same_member y (taker w y s) refl refl);
       begins = λ y s u m. pop_owns y s (begun (size w) (member_at w y) (oldest (link_at w s))) u.lt m.current (same_member y (begun (size w) (member_at w y) (oldest (link_at w s))) refl refl);
@@ -145,6 +145,7 @@ event_owns w e g r h = each_event OwnEnds w e g cases r
       stops = λ x u. end_composed OwnEnds Halted (stop_at w x) (member_at w x).out (λ k e. link_owns (stop_at w x) k (ended Halted (link_at w k)) (h.out x k e).0 refl refl) (set_owns w x (stopped (member_at w x)) u.lt (same_member x (stopped (member_at w x)) refl refl) h);
       marks = λ x d u m. refreshed_owns (with_view w (marked (view_in w (newest w)) d)) x (newest w + 1) u.lt (record { out = h.out; current = h.current });
       erases = λ x p u m. refreshed_owns (with_view w (erased_view w p)) x (newest w + 1) u.lt (record { out = h.out; current = h.current });
+      syncs = λ x u m. refreshed_owns (with_view w (synced_view w x)) x (newest w + 1) u.lt (record { out = h.out; current = h.current });
       admits = λ x name u k. admitted_owns w x name (can_join w x name u.lt u.up k g) h;
       refreshes = λ x v u m. refreshed_owns w x v u.lt h;
       picks = λ y s u none at upto. set_owns w y (with_current (Some s) (member_at w y)) u.lt

@@ -5,13 +5,13 @@ use Rattle.std.proofs.lemmas.Bool.{cases_eq}
 use Rattle.std.proofs.lemmas.List.{length-set, get_or-set_same, get_or-set_other}
 use Rattle.ring_rules.proofs.events.Cases.{IsRunning}
 use Rattle.ring_rules.specs.Rows.{no_row, is_sent}
-use Rattle.ring_rules.specs.Machine.{Member, Link, World, no_link, row_at, member_at, link_at, numbers_at, newest}
+use Rattle.ring_rules.specs.Machine.{Member, Link, World, no_link, row_at, member_at, link_at, numbers_at, view_in, newest}
 use Rattle.ring_rules.specs.Step.{size, log_of}
 use Rattle.ring_rules.specs.Event.{has_nothing_new, effect, refusal}
 use Rattle.ring_rules.specs.declared.event.Event.{Event}
 use Rattle.ring_rules.specs.Laws.{GoesOn}
 use Rattle.ring_rules.proofs.work.Fit.{IsFit}
-use Rattle.ring_rules.specs.Work.{items, place_at, weight_at, on_links, marks_left, stale_by, stale, dirty_on, dirty_at, dirty, lag_row, lag_at, lag_by, lag, work, sum_below, Falls, total, traffic}
+use Rattle.ring_rules.specs.Work.{items, place_at, weight_at, on_links, marks_left, stale_by, stale, dirty_on, dirty_at, dirty, lag_row, lag_at, lag_by, lag, owed_by, owed_at, owed, work, sum_below, Falls, total, traffic}
 use Rattle.ring_rules.proofs.work.Places.{IsWritten, NoneRises}
 use Rattle.ring_rules.proofs.work.Sums.{sum_le, sum_at, sum_ids}
 use Rattle.ring_rules.proofs.invariants.FromLeft.{IsGood}
@@ -25,33 +25,35 @@ use Rattle.ring_rules.proofs.invariants.Happens.{event_good}
 pub record Amount : Type 0 where
   pub marks : ℕ
   pub stale : ℕ
+  pub owed : ℕ
   pub dirty : ℕ
   pub lag : ℕ
   pub links : ℕ
 
 -- as `work` lists it
 abbrev pub listed : Amount → List ℕ
-listed a = a.marks ∷ a.stale ∷ (3 * a.dirty + 3 * a.lag + a.links) ∷ []
+listed a = a.marks ∷ a.stale ∷ a.owed ∷ (3 * a.dirty + 3 * a.lag + a.links) ∷ []
 
 -- and as `total` counts it
 abbrev pub worth : Amount → ℕ
-worth a = 585 * a.marks + 9 * a.stale + (3 * a.dirty + 3 * a.lag + a.links)
+worth a = 2600000 * a.marks + 39100 * a.stale + 600 * a.owed + (3 * a.dirty + 3 * a.lag + a.links)
 
 -- nothing of any
 abbrev pub nothing : Amount
-nothing = record { marks = 0; stale = 0; dirty = 0; lag = 0; links = 0 }
+nothing = record { marks = 0; stale = 0; owed = 0; dirty = 0; lag = 0; links = 0 }
 
 -- a state leaves less to do than another, in the list and in the one number
 pub record Lowers (w w' : World) : Type 0 where
   pub falls : Falls (work w) (work w')
   pub less : total w' < total w
 
--- what is left of three numbers falls where what is taken falls to what is added
-falls_by : (m m' s s' t t' a b c a' b' c' : ℕ) → m' + a ≤ m + a' → s' + b ≤ s + b' → t' + c ≤ t + c' → Falls (a ∷ b ∷ c ∷ []) (a' ∷ b' ∷ c' ∷ []) → Falls (m ∷ s ∷ t ∷ []) (m' ∷ s' ∷ t' ∷ [])
-falls_by m m' s s' t t' a b c a' b' c' h i j (inl k) = inl (omega (arith, k.0), refl)
-falls_by m m' s s' t t' a b c a' b' c' h i j (inr (k, inl l)) = inr (omega arith, inl (omega (arith, l.0), refl))
-falls_by m m' s s' t t' a b c a' b' c' h i j (inr (k, inr (l, inl n))) = inr (omega arith, inr (omega arith, inl (omega (arith, n.0), refl)))
-falls_by m m' s s' t t' a b c a' b' c' h i j (inr (k, inr (l, inr n))) = absurd n.1
+-- what is left of four numbers falls where what is taken falls to what is added
+falls_by : (m m' s s' o o' t t' a b d c a' b' d' c' : ℕ) → m' + a ≤ m + a' → s' + b ≤ s + b' → o' + d ≤ o + d' → t' + c ≤ t + c' → Falls (a ∷ b ∷ d ∷ c ∷ []) (a' ∷ b' ∷ d' ∷ c' ∷ []) → Falls (m ∷ s ∷ o ∷ t ∷ []) (m' ∷ s' ∷ o' ∷ t' ∷ [])
+falls_by m m' s s' o o' t t' a b d c a' b' d' c' h i e j (inl k) = inl (omega (arith, k.0), refl)
+falls_by m m' s s' o o' t t' a b d c a' b' d' c' h i e j (inr (k, inl l)) = inr (omega arith, inl (omega (arith, l.0), refl))
+falls_by m m' s s' o o' t t' a b d c a' b' d' c' h i e j (inr (k, inr (l, inl n))) = inr (omega arith, inr (omega arith, inl (omega (arith, n.0), refl)))
+falls_by m m' s s' o o' t t' a b d c a' b' d' c' h i e j (inr (k, inr (l, inr (n, inl q)))) = inr (omega arith, inr (omega arith, inr (omega arith, inl (omega (arith, q.0), refl))))
+falls_by m m' s s' o o' t t' a b d c a' b' d' c' h i e j (inr (k, inr (l, inr (n, inr q)))) = absurd q.1
 
 -- ---- a member is written
 
@@ -106,6 +108,8 @@ pub record Step (w w' : World) (x : ℕ) (y : Member) (less more : Amount) : Typ
   pub sent : (q j : ℕ) → q ≢ x → (member_at w q).out ≡ Some j → (link_at w' j).sending ≡ (link_at w j).sending
   pub marks : marks_left w' + less.marks ≤ marks_left w + more.marks
   pub stale : stale w' + less.stale ≤ stale w + more.stale
+  pub views : (q : ℕ) → q ≢ x → view_in w' (member_at w q).version ≡ view_in w (member_at w q).version
+  pub owed : owed_by (view_in w' y.version) x y + less.owed ≤ owed_at w x + more.owed
   pub dirty : dirty_on (size w) w' y y.out + less.dirty ≤ dirty_at (size w) w x + more.dirty
   pub lag : lag_with w y + less.lag ≤ lag_by w x + more.lag
   pub links : on_links w' + less.links ≤ on_links w + more.links
@@ -117,6 +121,15 @@ module _ (w w' : World) (x : ℕ) (y : Member) (less more : Amount) (u : IsRunni
       (λ (same : p ≡ x). ap (log_of w') same ∙ ap (λ (m : Member). m.log) k.member.here ∙ k.log ∙ ap (log_of w) (sym same))
       (λ (ne : p ≢ x). ap (λ (m : Member). m.log) (k.member.others p ne))
       (cases_eq p x)
+
+  -- what masters owe
+  owes : owed w' + less.owed ≤ owed w + more.owed
+  owes =
+      sum_ids (size w) (size w') (owed_at w) (owed_at w') x less.owed more.owed k.member.many u.some u.lt
+      (λ q ne.
+      let same : owed_at w' q ≡ owed_at w q = ap (λ (m : Member). owed_by (view_in w' m.version) q m) (k.member.others q ne) ∙ ap (λ g. owed_by g q (member_at w q)) (k.views q ne) in
+      omega (arith, same))
+      (subst (λ n. n + less.owed ≤ owed_at w x + more.owed) (sym (ap (λ (m : Member). owed_by (view_in w' m.version) x m) k.member.here)) k.owed)
 
   -- what a member has to send, as it is then
   dirty_now : (q : ℕ) (m : Member) → member_at w' q ≡ m → dirty_at (size w') w' q ≡ dirty_on (size w) w' m m.out
@@ -147,8 +160,8 @@ module _ (w w' : World) (x : ℕ) (y : Member) (less more : Amount) (u : IsRunni
   -- it leaves less to do, where what it takes falls to what it adds, and counts for more
   pub step_lowers : Falls (listed less) (listed more) → worth more < worth less → Lowers w w'
   step_lowers falls counts = record {
-    falls = falls_by (marks_left w) (marks_left w') (stale w) (stale w') (traffic w) (traffic w') less.marks less.stale (3 * less.dirty + 3 * less.lag + less.links) more.marks more.stale (3 * more.dirty + 3 * more.lag + more.links) k.marks k.stale traffics falls;
-    less = sum (marks_left w) (marks_left w') (stale w) (stale w') (traffic w) (traffic w') (3 * less.dirty + 3 * less.lag + less.links) (3 * more.dirty + 3 * more.lag + more.links) k.marks k.stale traffics counts;
+    falls = falls_by (marks_left w) (marks_left w') (stale w) (stale w') (owed w) (owed w') (traffic w) (traffic w') less.marks less.stale less.owed (3 * less.dirty + 3 * less.lag + less.links) more.marks more.stale more.owed (3 * more.dirty + 3 * more.lag + more.links) k.marks k.stale owes traffics falls;
+    less = sum (marks_left w) (marks_left w') (stale w) (stale w') (owed w) (owed w') (traffic w) (traffic w') (3 * less.dirty + 3 * less.lag + less.links) (3 * more.dirty + 3 * more.lag + more.links) k.marks k.stale owes traffics counts;
   }
     where
       traffics : traffic w' + (3 * less.dirty + 3 * less.lag + less.links) ≤ traffic w + (3 * more.dirty + 3 * more.lag + more.links)
@@ -158,9 +171,9 @@ module _ (w w' : World) (x : ℕ) (y : Member) (less more : Amount) (u : IsRunni
               → 3 * d' + 3 * g' + n' + (3 * less.dirty + 3 * less.lag + less.links) ≤ 3 * d + 3 * g + n + (3 * more.dirty + 3 * more.lag + more.links)
           three d d' g g' n n' a b c = omega arith
 
-      sum : (m m' s s' t t' l g : ℕ) → m' + less.marks ≤ m + more.marks → s' + less.stale ≤ s + more.stale → t' + l ≤ t + g
-          → 585 * more.marks + 9 * more.stale + g < 585 * less.marks + 9 * less.stale + l → 585 * m' + 9 * s' + t' < 585 * m + 9 * s + t
-      sum m m' s s' t t' l g a b c d = omega arith
+      sum : (m m' s s' o o' t t' l g : ℕ) → m' + less.marks ≤ m + more.marks → s' + less.stale ≤ s + more.stale → o' + less.owed ≤ o + more.owed → t' + l ≤ t + g
+          → 2600000 * more.marks + 39100 * more.stale + 600 * more.owed + g < 2600000 * less.marks + 39100 * less.stale + 600 * less.owed + l → 2600000 * m' + 39100 * s' + 600 * o' + t' < 2600000 * m + 39100 * s + 600 * o + t
+      sum m m' s s' o o' t t' l g a b e c d = omega arith
 
 -- ---- an enabled event
 

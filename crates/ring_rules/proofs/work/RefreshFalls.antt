@@ -2,6 +2,8 @@
 use Rattle.std.proofs.Common.{◌≡◌, ℕ, ◌+◌, ◌-◌, ◌*◌, ◌<◌, ◌≤◌, Bool, true, false, not, nat_eq, List, [], ◌∷◌, length, set, get_or, Option, Some, None, is_some, if◌then◌else◌, refl, sym, ap, subst, ◌∙◌, arith, inl, inr}
 use Rattle.std.specs.Prelude.{◌&&◌}
 use Rattle.std.specs.List.{sum_by}
+use Rattle.std.proofs.lemmas.List.Sums.{count_by-le-length}
+use Rattle.ring_rules.proofs.invariants.Happens.{newest_is}
 use Rattle.std.proofs.lemmas.Bool.{false≢true}
 use Rattle.std.proofs.lemmas.List.{get_or_append_left, get_or-set_same, get_or-set_other}
 use Rattle.group_view.specs.View.{Group}
@@ -15,7 +17,7 @@ use Rattle.ring_rules.specs.Event.{refreshed, has_nothing_new}
 use Rattle.ring_rules.proofs.rings.Rounds.{nat_eq-same}
 use Rattle.ring_rules.proofs.work.Fit.{IsFit}
 use Rattle.ring_rules.proofs.work.Refreshed.{sends_right, new_link, opened_world, old_links, old_many, link_old, link_new, links_more, refresh_cases, goes_to}
-use Rattle.ring_rules.specs.Work.{sum_below, entry_left, marks_left, is_stale, stale_by, stale, dirty_on, dirty_at, items, place_at, weight_at, on_links, Falls}
+use Rattle.ring_rules.specs.Work.{sum_below, entry_left, marks_left, is_stale, stale_by, stale, is_led, is_late, is_untold, untold, owed_by, owed_at, dirty_on, dirty_at, items, place_at, weight_at, on_links, Falls}
 use Rattle.ring_rules.proofs.work.Falls.{next_is_sent}
 use Rattle.ring_rules.proofs.work.Parts.{nothing, stale_written, dirty_same, Lowers, LowersThen, step_lowers, listed}
 use Rattle.ring_rules.proofs.work.Places.{IsWritten, written, place_most, NoneRises, refresh_places}
@@ -54,8 +56,19 @@ weighs_by w w' t b l same few grants place =
 pub record Pays (w : World) (vs : List Group) (x a b c : ℕ) : Type 0 where
   pub marks : sum_by entry_left (get_or vs (length vs - 1) no_group).entries + a ≤ marks_left w + 0
   pub stale : (w' : World) (y : Member) → IsWritten w w' x y → newest w' ≡ length vs - 1 → stale_by (length vs - 1) y ≡ 0 → stale w' + b ≤ stale w + c
-  pub falls : Falls (listed (record nothing { marks = a; stale = b })) (listed (record nothing { stale = c; links = 6 }))
-  pub enough : 9 * c + 6 < 585 * a + 9 * b
+  pub few : length (get_or vs (length vs - 1) no_group).entries ≤ 64
+  pub old : (q : ℕ) → get_or vs (member_at w q).version no_group ≡ view_in w (member_at w q).version
+  pub falls : Falls (listed (record nothing { marks = a; stale = b })) (listed (record nothing { stale = c; owed = 65; links = 6 }))
+  pub enough : 39100 * c + 39006 < 2600000 * a + 39100 * b
+
+-- no more is owed by a view than to start, and to tell each entry
+owed_most : (g : Group) (x : ℕ) (y : Member) → length g.entries ≤ 64 → owed_by g x y + 0 ≤ 65
+owed_most g x y few = by_case (is_led g.master x) (is_late g y.started) (untold g y) (count_by-le-length (is_untold y.version y.told) g.entries)
+  where
+    by_case : (a b : Bool) (n : ℕ) → n ≤ length g.entries → (if a then (if b then 1 else 0) + n else 0) + 0 ≤ 65
+    by_case true true n l = omega arith
+    by_case true false n l = omega arith
+    by_case false b n l = omega arith
 
 module _ (w : World) (vs : List Group) (x v a b c : ℕ) (f : IsFit w) (u : IsRunning w x) (top : v ≡ length vs - 1) (pays : Pays w vs x a b c) where
   -- the state with these views
@@ -78,13 +91,17 @@ module _ (w : World) (vs : List Group) (x v a b c : ℕ) (f : IsFit w) (u : IsRu
   pays_links : (o : Option ℕ) (ls : List Link) → is_some o ≡ true → ((j : ℕ) → j < length w.links → (get_or ls j no_link).sending ≡ (link_at w j).sending)
       → dirty_on (size w) (then_so o ls) (sends_on o) o ≤ dirty_at (size w) w x → on_links (then_so o ls) ≤ on_links w + 6 → Lowers w (then_so o ls)
   pays_links o ls some sending dirty links =
-      step_lowers w (then_so o ls) x (sends_on o) (record nothing { marks = a; stale = b }) (record nothing { stale = c; links = 6 }) u
+      step_lowers w (then_so o ls) x (sends_on o) (record nothing { marks = a; stale = b }) (record nothing { stale = c; owed = 65; links = 6 }) u
       (record {
         member = member o ls;
         log = refl;
         sent = λ q j _ e. sending j (f.own_ends.out q j e).0;
         marks = pays.marks;
         stale = pays.stale (then_so o ls) (sends_on o) (member o ls) refl (looks_not_stale (length vs - 1) (sends_on o) top some);
+        views = λ q _. pays.old q;
+        owed =
+            let most : owed_by (get_or vs v no_group) x (sends_on o) + 0 ≤ 65 = owed_most (get_or vs v no_group) x (sends_on o) (subst (λ n. length (get_or vs n no_group).entries ≤ 64) (sym top) pays.few) in
+            omega (arith, most);
         dirty = omega (arith, dirty);
         lag = omega arith;
         links = omega (arith, links);
@@ -160,6 +177,8 @@ pub stale_falls : (w : World) (x : ℕ) → IsFit w → IsRunning w x → is_sta
 stale_falls w x f u was = refresh_falls w w.views x (newest w) 0 1 0 f u refl
     (record {
       marks = omega arith;
+      few = (newest_is w f.good.views).few;
+      old = λ q. refl;
       stale = λ w' y m top fresh. stale_written w w' x y 1 0 u.some u.lt top m (let before : stale_by (newest w) (member_at w x) ≡ 1 = ap one_if was in omega (arith, fresh, before));
       falls = inr (omega arith, inl (omega arith, refl));
       enough = omega arith;

@@ -1,6 +1,6 @@
 -- Events of repair leave less to do, by whatever name their member goes; where none is left, the ring is idle.
-use Rattle.std.proofs.Common.{◌≡◌, ◌≢◌, ℕ, zero, suc, ◌+◌, ◌<◌, ◌≤◌, Bool, true, false, nat_eq, nat_lt, List, Option, Some, None, is_some, refl, sym, ap, subst, ◌∙◌, ◌⊎◌, inl, inr, ⊎_elim, arith}
-use Rattle.std.specs.Prelude.{◌&&◌}
+use Rattle.std.proofs.Common.{◌≡◌, ◌≢◌, ℕ, zero, suc, ◌+◌, ◌<◌, ◌≤◌, Bool, true, false, nat_eq, nat_lt, List, length, Option, Some, None, is_some, if◌then◌else◌, refl, sym, ap, subst, ◌∙◌, ◌⊎◌, inl, inr, ⊎_elim, arith}
+use Rattle.std.specs.Prelude.{◌&&◌, Ok}
 use Rattle.std.proofs.lemmas.Bool.{false≢true, and_parts, cases_eq, not-false, false_from_ne_true}
 use Rattle.ring_names.specs.declared.reason.Reason.{Reason}
 use Rattle.ring_names.specs.declared.reason.Reason.TheVariants as reason
@@ -13,22 +13,29 @@ use Rattle.ring_rules.specs.declared.phase.Phase.TheVariants.{Waiting, Up, Stopp
 use Rattle.ring_rules.specs.Machine.{World, member_at, view_in, newest, ring, runs, runs_phase, link_at, oldest, Up, Waiting}
 use Rattle.ring_rules.specs.Step.{size, current_is, gain_on, leave_link, put_on, with_view, begun, taker}
 use Rattle.ring_rules.specs.declared.event.Event.{Event}
-use Rattle.ring_rules.specs.declared.event.Event.TheVariants.{Cast, Put, Take, TakeEnd, Gain, Stop, Mark, Erase, Admit, Refresh, Pick, Refuse}
-use Rattle.ring_rules.specs.Event.{id_of, of_member, on_link, is_stopped, running_refusal, up_refusal, put_refusal, take_refusal, end_refusal, gain_refusal, pick_refusal, mark_refusal, erase_refusal, refresh_refusal, refusal, effect, at_door, at_found, by_of, done_at, erased_view, refused_at, taken_by, version_refusal, refreshed}
+use Rattle.ring_rules.specs.declared.event.Event.TheVariants.{Cast, Put, Take, TakeEnd, Gain, Depth, Start, Stop, Mark, Erase, Synced, Admit, Refresh, Pick, Refuse}
+use Rattle.ring_rules.specs.Event.{id_of, of_member, on_link, is_stopped, running_refusal, up_refusal, put_refusal, take_refusal, end_refusal, gain_refusal, pick_refusal, mark_refusal, erase_refusal, synced_refusal, refresh_refusal, refusal, effect, at_door, at_found, by_of, done_at, erased_view, refused_at, taken_by, version_refusal, refreshed}
 use Rattle.ring_rules.specs.Idle.{HasNoStep, HasNothingToDo, IsIdle}
 use Rattle.ring_rules.proofs.rings.Rounds.{nat_eq-is, nat_eq-same}
 use Rattle.ring_rules.proofs.events.Refusals.{id_within, refuse_none, none_of, none_there, not_less, runs_from, up_or_waits}
 use Rattle.ring_rules.proofs.rests.Asked.{no_version}
 use Rattle.ring_rules.proofs.events.Enabled.{mark_lives, take_some, up_none}
 use Rattle.ring_rules.proofs.walks.Ended.{runs_lt}
-use Rattle.ring_rules.proofs.events.Cases.{may_erase, may_mark, up_runs, IsRunning, at_link, at_named}
-use Rattle.ring_rules.specs.Work.{is_stale}
-use Rattle.ring_rules.specs.Settling.{is_repair, stale_one, NothingLeft, EachRepairLeavesLess}
+use Rattle.ring_rules.proofs.events.Cases.{may_erase, may_mark, up_runs, IsRunning, at_link, at_named, may_sync, IsUp}
+use Rattle.std.proofs.lemmas.Bool.Decides.{nat_tests}
+use Rattle.group_view.specs.View.{Group}
+use Rattle.ring_rules.specs.Work.{is_stale, is_led, is_late, untold, owed_at}
+use Rattle.ring_rules.specs.Settling.{is_repair, owes_telling, stale_one, NothingLeft, EachRepairLeavesLess}
 use Rattle.ring_rules.proofs.work.Fit.{IsFit}
 use Rattle.ring_rules.proofs.work.Nobody.{ring_members}
 use Rattle.ring_rules.proofs.work.Parts.{Lowers, LowersThen, event_follows}
 use Rattle.ring_rules.proofs.work.Moves.{end_falls, pick_falls}
-use Rattle.ring_rules.proofs.work.ViewFalls.{erase_falls, mark_falls}
+use Rattle.queue_core.specs.declared.message.Message.TheVariants as message
+use Rattle.queue_core.specs.declared.op.Op.TheVariants as op
+use Rattle.queue_mirror.specs.Master.{lead_refusal, or_refused}
+use Rattle.ring_rules.specs.Event.{start_refusal, op_at, op_refusal, op_done}
+use Rattle.ring_rules.proofs.work.TellFalls.{tells_falls, start_owed, depth_owed, led_none, late_none}
+use Rattle.ring_rules.proofs.work.ViewFalls.{erase_falls, mark_falls, sync_falls}
 use Rattle.ring_rules.proofs.work.Falls.{gain_falls, put_falls}
 use Rattle.ring_rules.proofs.work.RefreshFalls.{stale_falls}
 use Rattle.ring_rules.proofs.work.TakeFalls.{take_falls}
@@ -45,8 +52,8 @@ done_lowers w (Take by) x f is at some lt h =
     let u : IsRunning w x = record { some = some; lt = lt; runs_on = runs_from (member_at w x).phase a.0 } in
     at_link (LowersThen w) w reason.NoCurrentLink (take_refusal w x) (taken_by (member_at w x).phase w x) (member_at w x).current a.1
     (λ s takes k. ⊎_elim
-    (λ (up : (member_at w x).phase ≡ Up). subst (λ p. LowersThen w (taken_by p w x s)) (sym up) (take_falls w x s (taker w x s) f u takes (take_some w x s k) (record { version = refl; out = refl; current = refl; log = refl })))
-    (λ (waits : (member_at w x).phase ≡ Waiting). subst (λ p. LowersThen w (taken_by p w x s)) (sym waits) (take_falls w x s (begun (size w) (member_at w x) (oldest (link_at w s))) f u takes (take_some w x s k) (record { version = refl; out = refl; current = refl; log = refl })))
+    (λ (up : (member_at w x).phase ≡ Up). subst (λ p. LowersThen w (taken_by p w x s)) (sym up) (take_falls w x s (taker w x s) f u takes (take_some w x s k) (record { version = refl; out = refl; current = refl; log = refl; started = refl; told = refl })))
+    (λ (waits : (member_at w x).phase ≡ Waiting). subst (λ p. LowersThen w (taken_by p w x s)) (sym waits) (take_falls w x s (begun (size w) (member_at w x) (oldest (link_at w s))) f u takes (take_some w x s k) (record { version = refl; out = refl; current = refl; log = refl; started = refl; told = refl })))
     (up_or_waits (member_at w x).phase a.0))
 done_lowers w (TakeEnd by) x f is at some lt h =
     let a = none_of (is_stopped (member_at w x).phase) reason.Stopped _ h in
@@ -62,6 +69,30 @@ done_lowers w (Erase by origin) x f is at some lt h =
     let u = up_none w x _ h in
     at_named (LowersThen w) w origin (erase_refusal w x) (λ p. refreshed (with_view w (erased_view w p)) x (newest w + 1)) u.1
     (λ p _ _ k. erase_falls w x p f (up_runs w x (record { some = some; lt = lt; up = u.0 })) (may_erase w x p lt u.0 k))
+done_lowers w (Start by) x f is at some lt h =
+    let u = up_none w x _ h in
+    by_refusal (start_refusal (view_in w (member_at w x).version) x (member_at w x).started) refl u.1
+  where
+    by_refusal : (o : Option Reason) → start_refusal (view_in w (member_at w x).version) x (member_at w x).started ≡ o → op_refusal (or_refused o (Ok (op.Start (length (member_at w x).mirror.queue.items)))) ≡ None
+        → LowersThen w (op_done w x (or_refused o (Ok (op.Start (length (member_at w x).mirror.queue.items)))))
+    by_refusal None e k =
+        let u = up_none w x _ h in
+        tells_falls w x (message.Queue (op.Start (length (member_at w x).mirror.queue.items))) f (up_runs w x (record { some = some; lt = lt; up = u.0 })) (start_owed w x (length (member_at w x).mirror.queue.items) e)
+    by_refusal (Some r) e k = cc
+done_lowers w (Depth by) x f is at some lt h =
+    let u = up_none w x _ h in
+    by_refusal (lead_refusal (view_in w (member_at w x).version) x (member_at w x).started) refl u.1
+  where
+    by_refusal : (o : Option Reason) → lead_refusal (view_in w (member_at w x).version) x (member_at w x).started ≡ o → op_refusal (or_refused o (Ok (op.Depth (length (member_at w x).mirror.queue.items)))) ≡ None
+        → LowersThen w (op_done w x (or_refused o (Ok (op.Depth (length (member_at w x).mirror.queue.items)))))
+    by_refusal None e k =
+        let u = up_none w x _ h in
+        tells_falls w x (message.Queue (op.Depth (length (member_at w x).mirror.queue.items))) f (up_runs w x (record { some = some; lt = lt; up = u.0 })) (depth_owed w x (length (member_at w x).mirror.queue.items) e (ap (owes_telling w) (sym at) ∙ is))
+    by_refusal (Some r) e k = cc
+done_lowers w (Synced by) x f is at some lt h =
+    let u = up_none w x _ h in
+    let i : IsUp w x = record { some = some; lt = lt; up = u.0 } in
+    sync_falls w x f (up_runs w x i) (may_sync w x i u.1)
 done_lowers w (Refresh by version) x f is at some lt h =
     let u = up_none w x _ h in
     let both = and_parts (nat_eq version (newest w)) (stale_one w (id_of w by)) is in
@@ -72,10 +103,7 @@ done_lowers w (Pick by) x f is at some lt h =
     let a = none_of (is_some (member_at w x).current) reason.HasCurrentLink _ u.1 in
     at_link (LowersThen w) w reason.NoLinkAtDoor (λ s. version_refusal (link_at w s).opened (member_at w x).version) (λ s. current_is w x (Some s)) (at_door w x) a.1
     (λ s door k. pick_falls w x s f (up_runs w x (record { some = some; lt = lt; up = u.0 })) (none_there (member_at w x).current a.0) door (not_less (member_at w x).version (link_at w s).opened _ k))
-done_lowers w (Cast by body) x f is at some lt h = absurd (false≢true is)
-done_lowers w (Stop by) x f is at some lt h = absurd (false≢true is)
-done_lowers w (Admit by name) x f is at some lt h = absurd (false≢true is)
-done_lowers w (Refuse code inner) x f is at some lt h = absurd (false≢true is)
+done_lowers w e x f is at some lt h = absurd (false≢true is)
 
 pub repair_lowers : (w : World) (e : Event) → IsFit w → is_repair w e ≡ true → refusal w e ≡ None → Lowers w (effect w e)
 repair_lowers w e f is r = by_id (id_of w (by_of e)) refl r (event_follows w e f r)
@@ -104,6 +132,9 @@ pub record HasTried (w : World) (y : ℕ) : Type 0 where
   pub steps : HasTriedSteps w y
   pub mark : (d : ℕ) → d < size w → refusal w (Mark (member_at w y).name (member_at w d).name) ≢ None
   pub erase : (p : ℕ) → p < size w → refusal w (Erase (member_at w y).name (member_at w p).name) ≢ None
+  pub sync : refusal w (Synced (member_at w y).name) ≢ None
+  pub start : refusal w (Start (member_at w y).name) ≢ None
+  pub depth : nat_lt 0 (untold (view_in w (member_at w y).version) (member_at w y)) ≡ true → refusal w (Depth (member_at w y).name) ≢ None
 
 module _ (w : World) (f : IsFit w) where
   -- the name of a member finds it, and it runs
@@ -195,10 +226,36 @@ module _ (w : World) (f : IsFit w) where
       (asks y (λ x. up_refusal w x (of_member (id_of w (member_at w p).name) (erase_refusal w x))) (someone y ry) (runs_lt w y ry)
       (is_up y _ up (asks p (erase_refusal w y) (some_id p (dead_in (view_in w (newest w)).entries p (may_erase w y p (runs_lt w y ry) up q).dead)) pl q)))
 
+  -- nor is y registered
+  no_sync : (y : ℕ) → runs w y ≡ true → (member_at w y).phase ≡ Up → refusal w (Synced (member_at w y).name) ≢ None → synced_refusal w y ≢ None
+  no_sync y ry up t q = t (asks y (λ x. up_refusal w x (synced_refusal w x)) (someone y ry) (runs_lt w y ry) (is_up y _ up q))
+
+  -- and it owes nothing
+  no_owed : (y : ℕ) → runs w y ≡ true → (member_at w y).phase ≡ Up → HasTried w y → owed_at w y ≡ 0
+  no_owed y ry up t = by_case (is_led g.master y) refl (is_late g (member_at w y).started) refl (nat_lt 0 (untold g (member_at w y))) refl
+    where
+      g : Group
+      g = view_in w (member_at w y).version
+
+      starts : start_refusal g y (member_at w y).started ≡ None → ⊥
+      starts e = t.start (asks y (λ x. up_refusal w x (op_refusal (op_at w (Start (member_at w y).name) x))) (someone y ry) (runs_lt w y ry)
+          (is_up y _ up (ap (λ o. op_refusal (or_refused o (Ok (op.Start (length (member_at w y).mirror.queue.items))))) e)))
+
+      tells : lead_refusal g y (member_at w y).started ≡ None → nat_lt 0 (untold g (member_at w y)) ≡ true → ⊥
+      tells e some = t.depth some (asks y (λ x. up_refusal w x (op_refusal (op_at w (Depth (member_at w y).name) x))) (someone y ry) (runs_lt w y ry)
+          (is_up y _ up (ap (λ o. op_refusal (or_refused o (Ok (op.Depth (length (member_at w y).mirror.queue.items))))) e)))
+
+      by_case : (a : Bool) → is_led g.master y ≡ a → (b : Bool) → is_late g (member_at w y).started ≡ b → (c : Bool) → nat_lt 0 (untold g (member_at w y)) ≡ c → (if a then (if b then 1 else 0) + untold g (member_at w y) else 0) ≡ 0
+      by_case false ea b eb c ec = refl
+      by_case true ea true eb c ec = absurd (starts (late_none g y (member_at w y).started ea eb))
+      by_case true ea false eb true ec = absurd (tells (led_none g.master y (is_late g (member_at w y).started) ea eb) ec)
+      by_case true ea false eb false ec = grind (arith, nat_tests, ec)
+
   nothing_to_do : (y : ℕ) → runs w y ≡ true → HasTried w y → HasNothingToDo w y
   nothing_to_do y ry t = record {
     steps = no_step y ry t.steps;
     up = λ up. record { mark = λ d dl. no_mark y d ry up dl (t.mark d dl); erase = λ p pl. no_erase y p ry up pl (t.erase p pl) };
+    queue = λ up. record { sync = no_sync y ry up t.sync; owes = no_owed y ry up t };
   }
 
   -- where nobody can do more, the ring is idle
@@ -237,6 +294,9 @@ module _ (w : World) (f : IsFit w) where
   try_one : (y : ℕ) → runs w y ≡ true → HasTried w y ⊎ Found
   try_one y ry =
       by_all
+      (try_both _ _ (try (Start name) refl)
+      (try_both _ _ try_depth
+      (try_both _ _ (try (Synced name) refl)
       (try_both _ _ (try (Put name) refl)
       (try_both _ _ (try (Take name) refl)
       (try_both _ _ (try (TakeEnd name) refl)
@@ -244,10 +304,21 @@ module _ (w : World) (f : IsFit w) where
       (try_both _ _ (try (Pick name) refl)
       (try_both _ _ try_refresh
       (try_both _ _ (try_each (size w) (λ d. refusal w (Mark name (member_at w d).name) ≢ None) (λ d. try (Mark name (member_at w d).name) refl))
-      (try_each (size w) (λ p. refusal w (Erase name (member_at w p).name) ≢ None) (λ p. try (Erase name (member_at w p).name) refl)))))))))
+      (try_each (size w) (λ p. refusal w (Erase name (member_at w p).name) ≢ None) (λ p. try (Erase name (member_at w p).name) refl))))))))))))
     where
       name : List ℕ
       name = (member_at w y).name
+
+      try_depth : (nat_lt 0 (untold (view_in w (member_at w y).version) (member_at w y)) ≡ true → refusal w (Depth name) ≢ None) ⊎ Found
+      try_depth = by_some (nat_lt 0 (untold (view_in w (member_at w y).version) (member_at w y))) refl
+        where
+          by_some : (b : Bool) → nat_lt 0 (untold (view_in w (member_at w y).version) (member_at w y)) ≡ b → (nat_lt 0 (untold (view_in w (member_at w y).version) (member_at w y)) ≡ true → refusal w (Depth name) ≢ None) ⊎ Found
+          by_some false e = inl (λ k. absurd (false≢true (sym e ∙ k)))
+          by_some true e = by_try (try (Depth name) (ap (owes_telling w) (f.named y (someone y ry) (runs_lt w y ry)) ∙ e))
+            where
+              by_try : (refusal w (Depth name) ≢ None) ⊎ Found → (nat_lt 0 (untold (view_in w (member_at w y).version) (member_at w y)) ≡ true → refusal w (Depth name) ≢ None) ⊎ Found
+              by_try (inl a) = inl (λ _. a)
+              by_try (inr q) = inr q
 
       try_refresh : (is_stale (newest w) (member_at w y) ≡ true → refusal w (Refresh name (newest w)) ≢ None) ⊎ Found
       try_refresh = by_stale (is_stale (newest w) (member_at w y)) refl
@@ -260,11 +331,11 @@ module _ (w : World) (f : IsFit w) where
               by_try (inl a) = inl (λ _. a)
               by_try (inr q) = inr q
 
-      by_all : ((refusal w (Put name) ≢ None) × ((refusal w (Take name) ≢ None) × ((refusal w (TakeEnd name) ≢ None) × ((refusal w (Gain name) ≢ None) × ((refusal w (Pick name) ≢ None)
+      by_all : ((refusal w (Start name) ≢ None) × ((nat_lt 0 (untold (view_in w (member_at w y).version) (member_at w y)) ≡ true → refusal w (Depth name) ≢ None) × ((refusal w (Synced name) ≢ None) × ((refusal w (Put name) ≢ None) × ((refusal w (Take name) ≢ None) × ((refusal w (TakeEnd name) ≢ None) × ((refusal w (Gain name) ≢ None) × ((refusal w (Pick name) ≢ None)
           × ((is_stale (newest w) (member_at w y) ≡ true → refusal w (Refresh name (newest w)) ≢ None)
-          × (((d : ℕ) → d < size w → refusal w (Mark name (member_at w d).name) ≢ None) × ((p : ℕ) → p < size w → refusal w (Erase name (member_at w p).name) ≢ None)))))))) ⊎ Found → HasTried w y ⊎ Found
+          × (((d : ℕ) → d < size w → refusal w (Mark name (member_at w d).name) ≢ None) × ((p : ℕ) → p < size w → refusal w (Erase name (member_at w p).name) ≢ None))))))))))) ⊎ Found → HasTried w y ⊎ Found
       by_all (inr q) = inr q
-      by_all (inl a) = inl (record { steps = record { put = a.0; take = a.1.0; take_end = a.1.1.0; gain = a.1.1.1.0; pick = a.1.1.1.1.0; refresh = a.1.1.1.1.1.0 }; mark = a.1.1.1.1.1.1.0; erase = a.1.1.1.1.1.1.1 })
+      by_all (inl both) = let s = both.1.1.0 in let a = both.1.1.1 in inl (record { steps = record { put = a.0; take = a.1.0; take_end = a.1.1.0; gain = a.1.1.1.0; pick = a.1.1.1.1.0; refresh = a.1.1.1.1.1.0 }; mark = a.1.1.1.1.1.1.0; erase = a.1.1.1.1.1.1.1; sync = s; start = both.0; depth = both.1.0 })
 
   -- the ring is idle, or an event of repair is enabled
   pub idle_or_not : IsIdle w ⊎ ((e : Event) × ((is_repair w e ≡ true) × (refusal w e ≡ None)))

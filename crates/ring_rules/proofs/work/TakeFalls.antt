@@ -5,14 +5,14 @@ use Rattle.credit_flow.specs.Credit.{grant_due}
 use Rattle.ring_rules.proofs.events.Cases.{IsRunning}
 use Rattle.ring_rules.specs.declared.numbers.Numbers.{Numbers}
 use Rattle.ring_rules.specs.Rows.{Row, is_sent}
-use Rattle.ring_rules.specs.Machine.{Member, Sending, Link, World, no_link, row_at, numbers_at, member_at, link_at, newest}
+use Rattle.ring_rules.specs.Machine.{Member, Sending, Link, World, no_link, row_at, numbers_at, member_at, link_at, view_in, newest}
 use Rattle.ring_rules.specs.Step.{size, log_of, popped}
 use Rattle.ring_rules.specs.Lawful.{RowIsWithin, row_of}
 use Rattle.ring_rules.specs.Event.{has_nothing_new}
 use Rattle.ring_rules.proofs.rings.Lists.{at_set}
 use Rattle.group_view.proofs.Lists.{at_range}
 use Rattle.ring_rules.proofs.work.Fit.{IsFit}
-use Rattle.ring_rules.specs.Work.{dirty_on, dirty_at, lag_at, lag_by, place_at, lag_row, stale_by}
+use Rattle.ring_rules.specs.Work.{dirty_on, dirty_at, lag_at, lag_by, place_at, lag_row, stale_by, owed_by, owed_at}
 use Rattle.ring_rules.proofs.work.Sums.{one_fails, sum_le, sum_at}
 use Rattle.ring_rules.proofs.work.Rows.{with_grant-most, risen, length-rest}
 use Rattle.ring_rules.proofs.work.Parts.{nothing, stale_written, lag_with, Follows, Lowers, link_set, step_lowers}
@@ -28,7 +28,7 @@ less_left : (n g g' : ℕ) → g ≤ g' → n - g' ≤ n - g
 less_left n g g' h = omega arith
 
 -- where no number falls, a row is no more behind
-row_less : (n : ℕ) (r r' : Row) → r.got ≤ r'.got → r.forgot ≤ r'.forgot → r.retired ≤ r'.retired → lag_row n r' ≤ lag_row n r
+pub row_less : (n : ℕ) (r r' : Row) → r.got ≤ r'.got → r.forgot ≤ r'.forgot → r.retired ≤ r'.retired → lag_row n r' ≤ lag_row n r
 row_less n r r' a b c = omega (arith, less_left n r.got r'.got a, less_left n r.forgot r'.forgot b, less_left n r.retired r'.retired c)
 
 -- and less where one rises of those that are sent
@@ -49,6 +49,8 @@ pub record IsTaker (a b : Member) : Type 0 where
   pub out : b.out ≡ a.out
   pub current : b.current ≡ a.current
   pub log : b.log ≡ a.log
+  pub started : b.started ≡ a.started
+  pub told : b.told ≡ a.told
 
 -- y becomes new, and the oldest packet of its current link s is gone; no number has fallen, and none is above the length of the log
 module _ (w : World) (y s : ℕ) (new : Member) (f : IsFit w) (u : IsRunning w y) (takes : (member_at w y).current ≡ Some s) (has : is_empty (link_at w s).packets ≡ false) (same : IsTaker (member_at w y) new) (k : Follows w (popped_at w y s new)) where
@@ -114,12 +116,14 @@ module _ (w : World) (y s : ℕ) (new : Member) (f : IsFit w) (u : IsRunning w y
         sent = λ q j _ _. sending j;
         marks = omega arith;
         stale = stale_written w after y new 0 0 u.some u.lt refl member (let as_stale : stale_by (newest w) new ≡ stale_by (newest w) (member_at w y) = rw (same.version, same.out) refl in omega (arith, as_stale));
+        views = λ q _. refl;
+        owed = (let as_owed : owed_by (view_in w new.version) y new ≡ owed_at w y = rw (same.version, same.started, same.told) refl in omega (arith, as_owed));
         dirty = dirty;
         lag = lag;
         links = link_set w after.members s (popped l) 1 0 there places
             (goes (length l.packets) (length (drop 1 l.packets)) (if is_some l.ending && not l.over then 1 else 0) (place_at after s) (place_at w s) (length l.flow.grants) (length (popped l).flow.grants)
             (places s there) (length-rest l.packets has) (with_grant-most l.flow.grants (grant_due l.flow.receiver)));
-      }) (inr (omega arith, inr (omega arith, inl (omega (arith, pays), refl)))) (omega (arith, pays))
+      }) (inr (omega arith, inr (omega arith, inr (omega arith, inl (omega (arith, pays), refl))))) (omega (arith, pays))
     where
       l : Link
       l = link_at w s

@@ -1,7 +1,7 @@
 -- A mark and an erasure leave less to do, and so does each change of the newest view that counts as one and keeps the entries.
 use Rattle.std.proofs.Common.{◌≡◌, ℕ, suc, ◌+◌, ◌-◌, ◌*◌, ◌≤◌, Bool, true, false, List, [], ◌∷◌, ◌++◌, length, get_or, if◌then◌else◌, refl, ap, subst, ◌∙◌, arith, inl}
 use Rattle.std.specs.List.{sum_by}
-use Rattle.std.proofs.lemmas.List.{length_push}
+use Rattle.std.proofs.lemmas.List.{length_push, get_or_append_left}
 use Rattle.std.proofs.lemmas.List.Sums.{sum_by-cons}
 use Rattle.group_view.specs.declared.entry.Entry.{Entry}
 use Rattle.group_view.specs.View.{Group, entry_in}
@@ -16,9 +16,11 @@ use Rattle.group_view.specs.Ring.{is_in}
 use Rattle.ring_rules.proofs.events.Cases.{IsRunning}
 use Rattle.ring_rules.specs.Machine.{Member, World, member_at, view_in, newest, ring}
 use Rattle.ring_rules.specs.Step.{size, with_view}
-use Rattle.ring_rules.specs.Event.{refreshed, erased_view}
+use Rattle.ring_rules.specs.Event.{refreshed, erased_view, synced_view}
 use Rattle.ring_rules.proofs.walks.Views.{view_new}
-use Rattle.ring_rules.proofs.events.WhatRefuses.{MayMark, MayErase}
+use Rattle.group_view.proofs.Syncing.{length-registered, changes-registered}
+use Rattle.ring_rules.proofs.invariants.Happens.{sync_there, newest_is}
+use Rattle.ring_rules.proofs.events.WhatRefuses.{MayMark, MayErase, MaySync}
 use Rattle.ring_rules.proofs.work.Fit.{IsFit, few_members}
 use Rattle.ring_rules.specs.Work.{entry_left, marks_left, is_stale, stale_by, stale_at, stale}
 use Rattle.ring_rules.proofs.work.Sums.{sum_but_one}
@@ -78,6 +80,11 @@ module _ (w : World) (x : ℕ) (v : Group) (f : IsFit w) (u : IsRunning w x) (ma
         let left : sum_by entry_left (get_or vs (length vs - 1) no_group).entries + 1 ≡ marks_left w =
         ap (λ (k : Group). sum_by entry_left k.entries + 1) (view_new w v (length vs - 1) top) ∙ entries_left (view_in w (newest w)).entries v.entries many changed in
         omega (arith, left);
+    few =
+        let top : length w.views ≡ length vs - 1 = omega (arith, more) in
+        let is : length (get_or vs (length vs - 1) no_group).entries ≡ length (view_in w (newest w)).entries = ap (λ (g : Group). length g.entries) (view_new w v (length vs - 1) top) ∙ many in
+        omega (arith, is, (newest_is w f.good.views).few);
+    old = λ q. get_or_append_left w.views (v ∷ []) no_group (member_at w q).version (let held : (member_at w q).version ≤ newest w = f.good.inv.is_ring.held q in omega (arith, held, f.good.inv.is_ring.some));
     stale = λ w' y k top fresh. let most : stale w' + 1 ≤ size w - 1 = view_stale w w' x y (length vs - 1) u k top fresh in omega (arith, most, u.some, u.lt);
     falls = inl (omega arith, refl);
     enough = omega (arith, few_members w f.good);
@@ -102,3 +109,8 @@ mark_falls w x d f u m = remarked_falls w x d Dead (marked (view_in w (newest w)
 -- one that is dead is erased; an election changes no entry
 pub erase_falls : (w : World) (x p : ℕ) → IsFit w → IsRunning w x → MayErase w x p → LowersThen w (refreshed (with_view w (erased_view w p)) x (newest w + 1))
 erase_falls w x p f u m = remarked_falls w x p Erased (erased_view w p) f u refl (dead_in (view_in w (newest w)).entries p m.dead) (dead_changes (entry_in (view_in w (newest w)).entries p).mark m.dead)
+
+-- one that wasn't registered is; an election changes no entry
+pub sync_falls : (w : World) (x : ℕ) → IsFit w → IsRunning w x → MaySync w x → LowersThen w (refreshed (with_view w (synced_view w x)) x (newest w + 1))
+sync_falls w x f u m =
+    view_falls w x (synced_view w x) f u (length-registered (view_in w (newest w)) x) (changes-registered (view_in w (newest w)) x (f.good.inv.is_ring.distinct (newest w) (omega arith)) (sync_there w x m f.good))

@@ -38,16 +38,16 @@ two = opening (record { initial = 4; more = 2; positive = le_of 1 2 refl; covere
 abbrev joins : List Event
 joins = Cast a x ∷ Admit a n ∷ Take n ∷ Refresh n 2 ∷ Refresh b 2 ∷ []
 
-joining : works two joins ≡ (4 ∷ 0 ∷ 20 ∷ []) ∷ (7 ∷ 2 ∷ 31 ∷ []) ∷ (7 ∷ 2 ∷ 26 ∷ []) ∷ (7 ∷ 1 ∷ 30 ∷ []) ∷ (7 ∷ 0 ∷ 29 ∷ []) ∷ []
+joining : works two joins ≡ (4 ∷ 0 ∷ 0 ∷ 20 ∷ []) ∷ (7 ∷ 2 ∷ 1 ∷ 31 ∷ []) ∷ (7 ∷ 2 ∷ 1 ∷ 26 ∷ []) ∷ (7 ∷ 1 ∷ 1 ∷ 30 ∷ []) ∷ (7 ∷ 0 ∷ 1 ∷ 29 ∷ []) ∷ []
 unfolding left_by right_by is_kept_of
 joining = refl
 
 -- b takes from the new link, as it left the old one at its refresh, and the message goes on to a
-joined : works (last two joins) (Pick b ∷ Take b ∷ Put b ∷ Take a ∷ []) ≡ (7 ∷ 0 ∷ 28 ∷ []) ∷ (7 ∷ 0 ∷ 26 ∷ []) ∷ (7 ∷ 0 ∷ 25 ∷ []) ∷ (7 ∷ 0 ∷ 23 ∷ []) ∷ []
+joined : works (last two joins) (Pick b ∷ Take b ∷ Put b ∷ Take a ∷ []) ≡ (7 ∷ 0 ∷ 1 ∷ 28 ∷ []) ∷ (7 ∷ 0 ∷ 1 ∷ 26 ∷ []) ∷ (7 ∷ 0 ∷ 1 ∷ 25 ∷ []) ∷ (7 ∷ 0 ∷ 1 ∷ 23 ∷ []) ∷ []
 unfolding left_by right_by is_kept_of
 joined = refl
 
 -- b stops; a takes the end of its link, has it marked, takes its own first packet, and has it erased
-erasing : works two (Stop b ∷ TakeEnd a ∷ Mark a b ∷ Pick a ∷ Take a ∷ Erase a b ∷ []) ≡ (4 ∷ 0 ∷ 4 ∷ []) ∷ (4 ∷ 0 ∷ 1 ∷ []) ∷ (3 ∷ 1 ∷ 7 ∷ []) ∷ (3 ∷ 1 ∷ 6 ∷ []) ∷ (3 ∷ 1 ∷ 4 ∷ []) ∷ (2 ∷ 1 ∷ 4 ∷ []) ∷ []
+erasing : works two (Stop b ∷ TakeEnd a ∷ Mark a b ∷ Pick a ∷ Take a ∷ Erase a b ∷ []) ≡ (4 ∷ 0 ∷ 0 ∷ 4 ∷ []) ∷ (4 ∷ 0 ∷ 0 ∷ 1 ∷ []) ∷ (3 ∷ 1 ∷ 0 ∷ 7 ∷ []) ∷ (3 ∷ 1 ∷ 0 ∷ 6 ∷ []) ∷ (3 ∷ 1 ∷ 0 ∷ 4 ∷ []) ∷ (2 ∷ 1 ∷ 0 ∷ 4 ∷ []) ∷ []
 unfolding left_by right_by is_kept_of
 erasing = refl

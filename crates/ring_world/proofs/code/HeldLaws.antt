@@ -21,7 +21,7 @@ use Rattle.ring_world.proofs.code.Running.{reached_more}
 use Rattle.ring_rules.proofs.events.Refusals.{id_within}
 use Rattle.std.proofs.Math.Nat.{ℕ_set}
 use Rattle.std.proofs.Props.{props}
-use Rattle.ring_names.specs.declared.message.Message.{Message}
+use Rattle.queue_core.specs.declared.message.Message.{Message}
 use Rattle.ring_rules.specs.Asked.{heard_at, got_at, base_at, log_at}
 
 -- what is known of some run is known

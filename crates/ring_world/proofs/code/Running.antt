@@ -8,10 +8,12 @@ use Rattle.std.proofs.lemmas.List.{length_push}
 use Rattle.std.proofs.lemmas.List.Elements.{filter-append}
 use Rattle.ring_names.specs.declared.numbers.CreditSpec.{CreditSpec}
 use Rattle.group_view.specs.View.{Group}
-use Rattle.group_view.specs.Change.{AreOpeningNames, marked, erased, admitted}
+use Rattle.group_view.specs.Change.{AreOpeningNames, marked, erased, admitted, registered}
 use Rattle.group_view.proofs.Groups.{small_version}
 use Rattle.group_view.proofs.History.{Follows, mark_follows, erase_follows}
 use Rattle.group_view.proofs.Joining.{admit_follows}
+use Rattle.group_view.proofs.Syncing.{sync_follows}
+use Rattle.ring_rules.proofs.code.Enables.{sync_unsynced}
 use Rattle.group_view.proofs.Passing.{live_in, dead_in}
 use Rattle.ring_rules.specs.Machine.{World, member_at, link_at, view_in, newest, runs_phase}
 use Rattle.ring_rules.specs.Step.{opening}
@@ -24,6 +26,7 @@ use Rattle.ring_world.specs.declared.world.World.TheInside.{Inside}
 use Rattle.ring_rules.proofs.invariants.FromLeft.{nobody_first}
 use Rattle.ring_rules.proofs.invariants.FromLeft.{HasViews}
 use Rattle.ring_rules.proofs.invariants.Happens.{IsGood, newest_is, may_admit, opening_good, run_events, run_good}
+use Rattle.ring_rules.proofs.runs.InOrder.{last_append, run_append}
 use Rattle.ring_rules.proofs.work.Fit.{few_members}
 use Rattle.ring_world.proofs.code.Sized.{IsSized, opening_sized, event_sized}
 
@@ -68,6 +71,7 @@ good_ready w h s =
       lives = λ x up. h.inv.is_ring.lives x (newest w) (ap runs_phase up) (h.inv.is_ring.held x) (omega arith);
       marks = λ d lives. more_versions w h.views (marked g d) (mark_follows g d (newest_is w h.views) (record { there = live_in g.entries d lives; lives = lives }));
       erases = λ p dead. more_versions w h.views (erased g p) (erase_follows g p (newest_is w h.views) (record { there = dead_in g.entries p dead; dead = dead }));
+      syncs = λ x up k. more_versions w h.views (registered g x) (sync_follows g x (newest_is w h.views) (record { there = live_in g.entries x (h.inv.is_ring.lives x (newest w) (ap runs_phase up) (h.inv.is_ring.held x) (omega arith)); unsynced = sync_unsynced w x k }));
       admits = λ x name up k. more_versions w h.views (admitted g x name) (admit_follows g x name (may_admit w x name up k h));
     }
 
@@ -80,22 +84,14 @@ pub reached_sound : (seen : WorldSeen) (n : ℕ) → IsReachedIn seen n → IsGo
 reached_sound seen n r = subst (λ k. IsGood k × IsSized k) (sym r.is) (run_sound (opening r.credit r.names) r.events (opening_good r.credit r.names r.are, opening_sized r.credit r.names r.are) r.run)
 
 -- one more event
-IsRun-push : (w : World) (es : List Event) (e : Event) → IsRun w es → refusal (last w es) e ≡ None → IsRun w (es ++ e ∷ [])
-IsRun-push w [] e r x = (x, tt)
-IsRun-push w (f ∷ es) e r x = (r.0, IsRun-push (effect w f) es e r.1 x)
-
-pub last-push : (w : World) (es : List Event) (e : Event) → last w (es ++ e ∷ []) ≡ effect (last w es) e
-last-push w [] e = refl
-last-push w (f ∷ es) e = last-push (effect w f) es e
-
 pub reached_more : (seen seen' : WorldSeen) (n n' : ℕ) (e : Event) → IsReachedIn seen n → refusal seen.ring e ≡ None → seen'.ring ≡ effect seen.ring e → seen'.refusals ≡ seen.refusals ++ refusals_of (e ∷ []) → n' ≡ n + 1 → IsReachedIn seen' n'
 reached_more seen seen' n n' e r x is noted count = record {
   credit = r.credit;
   names = r.names;
   are = r.are;
   events = r.events ++ e ∷ [];
-  run = IsRun-push (opening r.credit r.names) r.events e r.run (ap (λ v. refusal v e) (sym r.is) ∙ x);
-  is = is ∙ ap (λ v. effect v e) r.is ∙ sym (last-push (opening r.credit r.names) r.events e);
+  run = run_append (opening r.credit r.names) r.events (e ∷ []) r.run (ap (λ v. refusal v e) (sym r.is) ∙ x, tt);
+  is = is ∙ ap (λ v. effect v e) r.is ∙ sym (last_append (opening r.credit r.names) r.events (e ∷ []));
   refused = noted ∙ ap (λ es. es ++ refusals_of (e ∷ [])) r.refused ∙ sym (filter-append is_refusal r.events (e ∷ []));
   count = length_push r.events e ∙ ap (λ k. k + 1) r.count ∙ sym count;
 }
@@ -120,6 +116,7 @@ ready_from seen n v r f = record {
   lives = λ x a. ∥∥₁_elim r (bools_set _ _) (λ h. (f h).lives x a);
   marks = λ d a. ∥∥₁_elim r le_prop (λ h. (f h).marks d a);
   erases = λ p a. ∥∥₁_elim r le_prop (λ h. (f h).erases p a);
+  syncs = λ x a b. ∥∥₁_elim r le_prop (λ h. (f h).syncs x a b);
   admits = λ x name a b. ∥∥₁_elim r le_prop (λ h. (f h).admits x name a b);
 }
   where

@@ -1,6 +1,6 @@
 -- The structs and what they show.
 use Rattle.std.proofs.Common.{◌≡◌, ℕ, zero, suc, ◌≤◌, arith, ◌-◌, List, ◌∷◌, length, map, get_or, set, ◌<◌, sym, ap, ◌∙◌}
-use Rattle.ring_names.specs.declared.message.Message.{Message}
+use Rattle.queue_core.specs.declared.message.Message.{Message}
 use Rattle.ring_rules.specs.Rows.{no_row, published_row}
 use Rattle.ring_world.specs.declared.seat.KnownOrigin.{KnownOrigin}
 use Rattle.ring_world.specs.declared.seat.Seat.{Seat}

@@ -3,7 +3,7 @@ use Rattle.std.proofs.Common.{◌≡◌, ℕ, zero, suc, ◌<◌, ◌≤◌, Boo
 use Rattle.std.specs.List.{range_with_len}
 use Rattle.std.proofs.lemmas.List.FromFn.{get_or-map-range_with_len, length-map-range_with_len}
 use Rattle.std.proofs.lemmas.List.{length-map, map-set}
-use Rattle.ring_names.specs.declared.message.Message.{Message}
+use Rattle.queue_core.specs.declared.message.Message.{Message}
 use Rattle.ring_rules.specs.declared.numbers.Numbers.{Numbers}
 use Rattle.ring_rules.specs.Rows.{Row, brought, taken_with}
 use Rattle.group_view.specs.View.{Group}
@@ -13,9 +13,11 @@ use Rattle.ring_world.specs.declared.state.Ring.{Ring}
 use Rattle.ring_world.specs.declared.seat.Seat.{Seat}
 use Rattle.ring_world.specs.declared.seat.Brought.{Brought}
 use Rattle.ring_rules.specs.Machine.{Packet, Member, Link, World, no_link, no_member, row_at, numbers_at, oldest}
-use Rattle.ring_rules.specs.Step.{is_owned, taken, begun, popped, take_from, begin_from}
+use Rattle.ring_rules.specs.Step.{is_owned, taken, begun, popped, take_from, begin_from, news_of as brought_operations}
+use Rattle.queue_laws.specs.Part.{ops}
+use Rattle.std.proofs.lemmas.List.Folds.{flat_map-map}
 use Rattle.ring_world.specs.Placed.{IsPlaced}
-use Rattle.ring_world.specs.Shows.{world_of, link_of, link_in, member_of, member_in, news_of, news_at, no_news, news_in, with_rows, News}
+use Rattle.ring_world.specs.Shows.{world_of, link_of, link_in, member_of, member_in, news_of, news_at, no_news, news_in, with_news, operations_in, News}
 use Rattle.ring_rules.proofs.rings.Maps.{map-range_same}
 use Rattle.ring_world.proofs.code.ShownParts.{mapped_read, mapped_write, mapped_rewrite}
 
@@ -50,20 +52,26 @@ logs_of seats p = (get_or (all_of seats) p no_member).log
 pub news_count : (seats : List Seat) (v : Group) (y s : ℕ) (k : Packet) (n : ℕ) (news : List Brought) → map news_of news ≡ map (news_at v (all_of seats) y s k) (range_with_len 0 n) → length news ≡ n
 news_count seats v y s k n news e = sym (length-map news news_of) ∙ ap length e ∙ length-map-range_with_len (news_at v (all_of seats) y s k) 0 n
 
+-- the operations that are taken are those of the machine's take
+news_operations : (seats : List Seat) (i s n : ℕ) (v : Group) (k : Packet) (news : List Brought) → map news_of news ≡ map (news_at v (all_of seats) (suc i) s k) (range_with_len 0 n) → operations_in (map news_of news) ≡ brought_operations n (is_owned v (suc i) s) (logs_of seats) (member_in seats i) k
+news_operations seats i s n v k news en = ap operations_in en ∙ flat_map-map (λ (b : News). ops b.messages) (news_at v (all_of seats) (suc i) s k) (range_with_len 0 n)
+
 -- the rows that are written are those of the machine's take
-pub taken_seat : (seats : List Seat) (i s m n : ℕ) (v : Group) (x y : Seat) (k : Packet) (news : List Brought) → i < length seats → x ≡ get_or seats i x → map news_of news ≡ map (news_at v (all_of seats) (suc i) s k) (range_with_len 0 n) → m ≡ n → member_of y ≡ with_rows (member_of x) (map (λ p. taken_with (news_in news p).own (row_at (member_of x) p) (numbers_at k p) (news_in news p).messages) (range_with_len 0 m)) → member_of y ≡ taken n (is_owned v (suc i) s) (logs_of seats) (member_in seats i) k
+pub taken_seat : (seats : List Seat) (i s m n : ℕ) (v : Group) (x y : Seat) (k : Packet) (news : List Brought) → i < length seats → x ≡ get_or seats i x → map news_of news ≡ map (news_at v (all_of seats) (suc i) s k) (range_with_len 0 n) → m ≡ n → member_of y ≡ with_news (member_of x) (map (λ p. taken_with (news_in news p).own (row_at (member_of x) p) (numbers_at k p) (news_in news p).messages) (range_with_len 0 m)) (operations_in (map news_of news)) → member_of y ≡ taken n (is_owned v (suc i) s) (logs_of seats) (member_in seats i) k
 taken_seat seats i s m n v x y k news l e en em ey =
     let member : member_of x ≡ member_in seats i = mapped_read member_of seats i x no_member l e in
     let f : Member → ℕ → Row = λ z p. taken_with (is_owned v (suc i) s p) (row_at z p) (numbers_at k p) (brought (is_owned v (suc i) s p) (logs_of seats p) (row_at z p) (numbers_at k p)) in
-    ey ∙ ap (λ rs. with_rows (member_of x) rs)
+    let rows : List Row = map (λ p. taken_with (is_owned v (suc i) s p) (row_at (member_of x) p) (numbers_at k p) (brought (is_owned v (suc i) s p) (logs_of seats p) (row_at (member_in seats i) p) (numbers_at k p))) (range_with_len 0 n) in
+    ey ∙ ap (λ rs. with_news (member_of x) rs (operations_in (map news_of news)))
     (ap (λ j. map (λ p. taken_with (news_in news p).own (row_at (member_of x) p) (numbers_at k p) (news_in news p).messages) (range_with_len 0 j)) em
     ∙ map-range_same _ (λ p. taken_with (is_owned v (suc i) s p) (row_at (member_of x) p) (numbers_at k p) (brought (is_owned v (suc i) s p) (logs_of seats p) (row_at (member_in seats i) p) (numbers_at k p))) n
     (λ p pl.
     let here : news_in news p ≡ news_at v (all_of seats) (suc i) s k p = ap (λ zs. get_or zs p no_news) en ∙ get_or-map-range_with_len (news_at v (all_of seats) (suc i) s k) 0 n p p no_news pl (omega arith) in
     ap (λ (b : News). taken_with b.own (row_at (member_of x) p) (numbers_at k p) b.messages) here))
-    ∙ ap (λ z. with_rows z (map (λ p. taken_with (is_owned v (suc i) s p) (row_at z p) (numbers_at k p) (brought (is_owned v (suc i) s p) (logs_of seats p) (row_at (member_in seats i) p) (numbers_at k p))) (range_with_len 0 n))) member
+    ∙ ap (with_news (member_of x) rows) (news_operations seats i s n v k news en)
+    ∙ ap (λ z. with_news z (map (λ p. taken_with (is_owned v (suc i) s p) (row_at z p) (numbers_at k p) (brought (is_owned v (suc i) s p) (logs_of seats p) (row_at (member_in seats i) p) (numbers_at k p))) (range_with_len 0 n)) (brought_operations n (is_owned v (suc i) s) (logs_of seats) (member_in seats i) k)) member
 
-pub taken_seats : (seats : List Seat) (i s m n : ℕ) (v : Group) (x y : Seat) (k : Packet) (news : List Brought) → i < length seats → x ≡ get_or seats i x → map news_of news ≡ map (news_at v (all_of seats) (suc i) s k) (range_with_len 0 n) → m ≡ n → member_of y ≡ with_rows (member_of x) (map (λ p. taken_with (news_in news p).own (row_at (member_of x) p) (numbers_at k p) (news_in news p).messages) (range_with_len 0 m)) → map member_of (set seats i y) ≡ set (map member_of seats) i (taken n (is_owned v (suc i) s) (logs_of seats) (member_in seats i) k)
+pub taken_seats : (seats : List Seat) (i s m n : ℕ) (v : Group) (x y : Seat) (k : Packet) (news : List Brought) → i < length seats → x ≡ get_or seats i x → map news_of news ≡ map (news_at v (all_of seats) (suc i) s k) (range_with_len 0 n) → m ≡ n → member_of y ≡ with_news (member_of x) (map (λ p. taken_with (news_in news p).own (row_at (member_of x) p) (numbers_at k p) (news_in news p).messages) (range_with_len 0 m)) (operations_in (map news_of news)) → map member_of (set seats i y) ≡ set (map member_of seats) i (taken n (is_owned v (suc i) s) (logs_of seats) (member_in seats i) k)
 taken_seats seats i s m n v x y k news l e en em ey = map-set member_of seats i y ∙ ap (set (map member_of seats) i) (taken_seat seats i s m n v x y k news l e en em ey)
 
 -- the state after a take

@@ -1,6 +1,9 @@
 //! Clusters of which some members stop, and to which others come, also where an allocation fails: tables of what is
 //! asked of them, with what is wanted to be seen then. What changes a ring is tried once more where it wants memory, but
 //! for a plain round.
+ghost use Rattle.std.specs.Prelude.{◌≡◌, true, IfOk};
+ghost use Rattle.ring_rules.specs.Event.{is_multicast};
+ghost use Rattle.ring_script.specs.Reading.{AreMulticast};
 
 use ring_cluster::Cluster;
 use ring_io::Gate;
@@ -97,7 +100,9 @@ fn count_of(counts: u64, who: u32) -> u64 {
 }
 
 /// The steps of a text.
-fn steps(alloc: Global, text: &str) -> Result<Steps, ScriptFault> {
+fn steps(alloc: Global, text: &str) -> Result<Steps, ScriptFault>
+    ensures { IfOk result (λ steps. AreMulticast steps.lines) }
+{
     match read_steps(alloc, text.as_bytes()) {
         Err(ScriptFault::OutOfMemory) => read_steps(alloc, text.as_bytes()),
         answer => answer,
@@ -113,7 +118,9 @@ fn happened(cluster: &Cluster) -> Result<usize, OutOfMemory> {
 }
 
 /// An event happens where the ring lets it.
-fn step(cluster: &mut Cluster, event: &Event) -> Result<(), OutOfMemory> {
+fn step(cluster: &mut Cluster, event: &Event) -> Result<(), OutOfMemory>
+    requires { is_multicast event.now ≡ true }
+{
     match cluster.step(event) {
         Err(Refused::OutOfMemory) => Err(OutOfMemory),
         _ => Ok(()),
@@ -121,7 +128,9 @@ fn step(cluster: &mut Cluster, event: &Event) -> Result<(), OutOfMemory> {
 }
 
 /// The same, again where memory was wanted and it hasn't happened.
-fn step_again(cluster: &mut Cluster, event: &Event) -> Result<(), OutOfMemory> {
+fn step_again(cluster: &mut Cluster, event: &Event) -> Result<(), OutOfMemory>
+    requires { is_multicast event.now ≡ true }
+{
     let before = happened(cluster)?;
     match step(cluster, event) {
         Err(OutOfMemory) if happened(cluster)? == before => step(cluster, event),

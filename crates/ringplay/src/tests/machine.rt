@@ -1,10 +1,13 @@
 //! The plain machine of the ring, played from texts, in which each line is an event as step files have it, or a
-//! question: `view`, `quiet`, `member a`, `state a`, `counts a`, `walk a`, `heard BY OF`, `refusals`. Behind its
-//! arrow stands the answer that the rules of the ring want. An event that has no arrow happens.
+//! question: `view`, `quiet`, `member a`, `state a`, `counts a`, `walk a`, `heard BY OF`, `items a`, `refusals`. Behind
+//! its arrow stands the answer that the rules of the ring want. An event that has no arrow happens. Of the items that a
+//! mirror holds each is a position and a body, with `+` where it is ready again, and with `*` where it is handed out.
 mod answers;
+mod queue;
 mod rows;
 
 use answers::answer;
+use queue::{NOBODY_LEADS, PROMOTED, REGISTERED, SERVED};
 use ring_script::read_steps;
 use ring_world::{World, are_opening_names};
 use rows::{
@@ -209,6 +212,16 @@ fn the_machine_erases_the_dead(rt: HostRuntime) -> Result<(), Fail> {
 fn the_machine_admits_newcomers(rt: HostRuntime) -> Result<(), Fail> {
     for text in [NEWCOMER, ADMITTER_STOPS, NEIGHBOUR_COMES_BACK, TOLD] {
         play(&rt, "members a b\ncredit 8 4", text)?;
+    }
+    Ok(())
+}
+
+#[test]
+fn the_machine_serves_and_promotes(rt: HostRuntime) -> Result<(), Fail> {
+    play(&rt, "members a b\ncredit 8 4", SERVED)?;
+    play(&rt, "members a b c\ncredit 8 4", PROMOTED)?;
+    for text in [REGISTERED, NOBODY_LEADS] {
+        play(&rt, "members a\ncredit 8 4", text)?;
     }
     Ok(())
 }

@@ -1,10 +1,10 @@
-use Rattle.std.proofs.Common.{◌≡◌, ◌+◌, ◌<◌, ℕ, Bool, true, false, cond, List, [], ◌∷◌, Option, Some, refl, ap, subst, sym, arith}
+use Rattle.std.proofs.Common.{◌≡◌, ◌<◌, ℕ, Bool, true, false, cond, List, [], ◌∷◌, Some, refl, ap, subst, arith}
 use Rattle.std.specs.Prelude.{slice_get}
 use Rattle.std.specs.Bool.{OnTrue}
 use Rattle.std.specs.List.{sum_by}
 use Rattle.std.proofs.lemmas.List.Sums.{sum_by-cons}
 use Rattle.group_view.specs.declared.entry.Entry.{Entry}
-use Rattle.group_view.specs.Kept.{changes_of, changes_of_mark}
+use Rattle.group_view.specs.Kept.{changes_of}
 use Rattle.group_view.proofs.tests.begins_synced.Goals as goal
 
 -- a synchronised entry stands for two changes at least

@@ -1,5 +1,5 @@
-use Rattle.ring_rules.proofs.rests.Rests.{run_worked_is_quiet}
+use Rattle.ring_rules.proofs.rests.Rests.{run_worked_rests}
 use Rattle.ring_cluster.proofs.laws.an_idle_ring_is_at_rest.Goals as goal
 
 pub returns : goal.returns
-returns c credit names events are r = run_worked_is_quiet credit names events are r
+returns c credit names events are r = run_worked_rests credit names events are r

@@ -2,7 +2,8 @@
 ghost use Rattle.std.specs.Prelude.{IsSome, IfOk};
 ghost use Rattle.ring_rules.specs.Event.{id_of};
 
-use ring_names::{Body, Message, Name};
+use queue_core::{CopyState, Message};
+use ring_names::{Body, Name, Position};
 use ring_rules::{Client, Event, Refused};
 use ring_script::{number, read_steps};
 use ring_world::World;
@@ -31,6 +32,7 @@ pub(crate) fn answer(
         "state" => state(alloc, world, of),
         "counts" => counts(alloc, world, of),
         "heard" => heard(alloc, world, of),
+        "items" => items(alloc, world, of),
         "refusals" => refusals(alloc, world.refusals()),
         _ => step(rt, world, line),
     }
@@ -42,7 +44,7 @@ fn step(rt: &(impl Abort + AllocGlobal), world: &mut World, line: &str) -> Resul
     happen(rt, world, &event)
 }
 
-/// The event of a line: one that a step file has, or an admission, an erasure or a refusal.
+/// The event of a line: one that a step file has, or an admission, an erasure, a refusal or one of the queue.
 fn event(alloc: Global, line: &str) -> Result<Event, Fail> {
     let (word, rest) = first_word(line);
     let (first, second) = first_word(rest);
@@ -59,8 +61,30 @@ fn event(alloc: Global, line: &str) -> Result<Event, Fail> {
             code: code(first)?,
             inner: client(alloc, second)?,
         }),
+        "publish" => Ok(Event::Publish {
+            by: name(first)?,
+            body: Body::read(alloc, second.as_bytes())?,
+        }),
+        "get" => Ok(Event::Get { by: name(first)? }),
+        "pop" => Ok(Event::Pop { by: name(first)? }),
+        "ack" => Ok(Event::Ack {
+            by: name(first)?,
+            at: position(second)?,
+        }),
+        "requeue" => Ok(Event::Requeue {
+            by: name(first)?,
+            at: position(second)?,
+        }),
+        "depth" => Ok(Event::Depth { by: name(first)? }),
+        "start" => Ok(Event::Start { by: name(first)? }),
+        "synced" => Ok(Event::Synced { by: name(first)? }),
         _ => step_event(alloc, line),
     }
+}
+
+/// A position.
+fn position(text: &str) -> Result<Position, Fail> {
+    Ok(Position(text.parse()?))
 }
 
 /// The number of a refusal.
@@ -81,7 +105,7 @@ fn step_event(alloc: Global, line: &str) -> Result<Event, Fail> {
     }
 }
 
-/// What a client asks by the words of a cast, a stop or an admission.
+/// What a client asks by the words of its event.
 fn client(alloc: Global, line: &str) -> Result<Client, Fail> {
     let (word, rest) = first_word(line);
     let (by, rest) = first_word(rest);
@@ -90,6 +114,20 @@ fn client(alloc: Global, line: &str) -> Result<Client, Fail> {
         "cast" => Ok(Client::Cast {
             by,
             body: Body::read(alloc, rest.as_bytes())?,
+        }),
+        "publish" => Ok(Client::Publish {
+            by,
+            body: Body::read(alloc, rest.as_bytes())?,
+        }),
+        "get" => Ok(Client::Get { by }),
+        "pop" => Ok(Client::Pop { by }),
+        "ack" => Ok(Client::Ack {
+            by,
+            at: position(rest)?,
+        }),
+        "requeue" => Ok(Client::Requeue {
+            by,
+            at: position(rest)?,
         }),
         "stop" => Ok(Client::Stop { by }),
         "admit" => Ok(Client::Admit {
@@ -123,6 +161,14 @@ fn asked(alloc: Global, client: &Client) -> Result<String, Fail> {
             let body = str::from_utf8(body.bytes())?;
             Ok(format!(in alloc; "cast {by} {body}")?)
         }
+        Client::Publish { by: _, body } => {
+            let body = str::from_utf8(body.bytes())?;
+            Ok(format!(in alloc; "publish {by} {body}")?)
+        }
+        Client::Get { by: _ } => Ok(format!(in alloc; "get {by}")?),
+        Client::Pop { by: _ } => Ok(format!(in alloc; "pop {by}")?),
+        Client::Ack { by: _, at } => Ok(format!(in alloc; "ack {by} {}", at.0)?),
+        Client::Requeue { by: _, at } => Ok(format!(in alloc; "requeue {by} {}", at.0)?),
         Client::Stop { by: _ } => Ok(format!(in alloc; "stop {by}")?),
         Client::Admit { by: _, name } => {
             let name = str::from_utf8(name.bytes())?;
@@ -180,6 +226,33 @@ fn counts(alloc: Global, world: &World, by: &str) -> Result<String, Fail> {
     )?)
 }
 
+/// How an item of a queue stands.
+fn sign(state: CopyState) -> &'static str {
+    match state {
+        CopyState::Ready => "",
+        CopyState::Again => "+",
+        CopyState::Unacked => "*",
+    }
+}
+
+/// The items of positions below 10 that the mirror of a member holds.
+fn items(alloc: Global, world: &World, of: &str) -> Result<String, Fail> {
+    let of = member(world, of)?;
+    let mut told = String::new(alloc);
+    for at in 1..10u64 {
+        if let Some(held) = world.item_from(&of, Position(at)) {
+            if held.at.0 == at {
+                if !told.is_empty() {
+                    told.push_str(", ")?;
+                }
+                let body = str::from_utf8(held.body.bytes())?;
+                write!(told, "{at}{} {body}", sign(held.state))?;
+            }
+        }
+    }
+    Ok(told)
+}
+
 /// The bodies of what one member has heard of another.
 fn heard(alloc: Global, world: &World, pair: &str) -> Result<String, Fail> {
     let (by, of) = first_word(pair);
@@ -188,12 +261,14 @@ fn heard(alloc: Global, world: &World, pair: &str) -> Result<String, Fail> {
     bodies(alloc, &world.heard(&by, &of)?)
 }
 
-/// The bodies of messages, each behind a space.
+/// The bodies of casts among messages, each behind a space.
 fn bodies(alloc: Global, messages: &[Message]) -> Result<String, Fail> {
     let mut told = String::new(alloc);
-    for Message::Cast(body) in messages {
-        told.push(' ')?;
-        told.push_str(str::from_utf8(body.bytes())?)?;
+    for message in messages {
+        if let Message::Cast(body) = message {
+            told.push(' ')?;
+            told.push_str(str::from_utf8(body.bytes())?)?;
+        }
     }
     Ok(told)
 }

@@ -2,7 +2,8 @@
 //! from what the walk is.
 
 /// The publisher stops when only its right neighbour has the message. That one erases it once the message and its
-/// acknowledgement have come round, and not before, and nobody else does.
+/// acknowledgement have come round, and not before, and nobody else does. It leads then, and the ring is quiet once its
+/// start has come round too.
 pub(crate) const PUBLISHER_STOPS: &str = "
     cast a x
     walk a -> [1, 0, 0, 0, 0, 0, 0]
@@ -50,6 +51,17 @@ pub(crate) const PUBLISHER_STOPS: &str = "
     walk a -> [1, 1, 1, 1, 1]
     refresh c 3
     walk a -> [1, 1, 1, 1, 1]
+    quiet -> false
+    start b
+    put b
+    take c
+    put c
+    take b
+    put b
+    take c
+    put c
+    quiet -> false
+    take b
     quiet -> true
     view -> 3
     heard b a -> x

@@ -1,26 +1,20 @@
-use Rattle.std.proofs.Common.{rules, ◌≡◌, ℕ, Bool, ap, sym, ◌∙◌, Option, Some}
-use Rattle.std.specs.Prelude.{option_map, slice_get}
-use Rattle.std.specs.Ordering.{nat_cmp}
-use Rattle.std.specs.BTreeMap.{get}
-use Rattle.queue_core.specs.Queue.{QueueState}
+use Rattle.std.proofs.Common.{◌<◌, Some, ap, ◌∙◌, refl, arith, deque_len}
+use Rattle.std.proofs.lemmas.Bool.{false≢true}
 use Rattle.queue_core.specs.Shown.{first_from}
-use Rattle.queue_core.specs.Tables.{item_by, state_of}
-use Rattle.queue_core.proofs.Found.{from_first}
+use Rattle.queue_core.specs.Seen.{QueueSeen}
+use Rattle.queue_core.proofs.Places.{first_there, first_past}
 use Rattle.queue_core.proofs.queue.Queue.item_from.Goals as goal
 
-pub returns-in-Some : goal.returns-in-Some
-returns-in-Some c =
-    let f : ℕ → Option Bool = get nat_cmp c.self.inside.ready in
-    let first : slice_get c.range.result 0 ≡ Some (c.in-Some.at.now, c.in-Some.body.now) = ap (λ xs. slice_get xs 0) c.in-Some.ensures.steps in
-    let all = c.range.ensures.between (search rules) in
-    let state : c.state_at.result ≡ state_of (f c.in-Some.at.now) = c.state_at.ensures ∙ ap state_of (c.copied.ensures ∙ c.get.ensures.value) in
-    ap (λ s. Some (record { at = c.in-Some.at.now; body = c.in-Some.body.now; state = s })) state
-    ∙ sym (from_first f c.args.from.0 c.self.inside.bodies.entries ∙ ap (λ es. option_map (item_by f) (slice_get es 0)) (sym all) ∙ ap (option_map (item_by f)) first)
-    ∙ ap (λ (q : QueueState). first_from c.args.from.0 q.items) c.self.view_is
+pub returns-in_err-slot : goal.returns-in_err-slot
+returns-in_err-slot c =
+    let none : c.place_from.result < deque_len c.self.inside.slots → ⊥ = λ h. false≢true (c.in_err-slot.ensures.variant.1 h) in
+    rw c.from_residual.ensures
+    (first_past c.args.from.0 c.self.inside.slots.items c.place_from.result c.place_from.ensures (omega (arith, none, c.self.inside.slots.ok.0))
+    ∙ ap (λ (s : QueueSeen). first_from c.args.from.0 s.queue.items) c.self.view_is)
 
-pub returns-in-None : goal.returns-in-None
-returns-in-None c =
-    let f : ℕ → Option Bool = get nat_cmp c.self.inside.ready in
-    let all = c.range.ensures.between (search rules) in
-    sym (from_first f c.args.from.0 c.self.inside.bodies.entries ∙ ap (λ es. option_map (item_by f) (slice_get es 0)) (sym all ∙ c.in-None.ensures.steps.0))
-    ∙ ap (λ (q : QueueState). first_from c.args.from.0 q.items) c.self.view_is
+pub returns : goal.returns
+returns c =
+    let within : c.place_from.result < deque_len c.self.inside.slots = c.in_ok-slot.ensures.variant.0 refl in
+    ap Some c.held.ensures
+    ∙ first_there c.args.from.0 c.self.inside.slots.items c.place_from.result c.in_ok-slot.slot.now c.place_from.ensures (omega (arith, within, c.self.inside.slots.ok.0)) c.in_ok-slot.ensures.lookup
+    ∙ ap (λ (s : QueueSeen). first_from c.args.from.0 s.queue.items) c.self.view_is

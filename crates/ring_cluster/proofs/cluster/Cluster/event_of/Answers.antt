@@ -1,10 +1,18 @@
 use Rattle.std.proofs.Common.{◌≡◌, Some, sym, ap, ◌∙◌}
 use Rattle.std.proofs.lemmas.Result.{IfOk-weaker}
-use Rattle.ring_rules.specs.Event.{refusal}
+use Rattle.ring_rules.specs.Event.{by_of, is_multicast, refusal}
 use Rattle.ring_cluster.specs.Plays.{task_event}
 use Rattle.ring_cluster.specs.Seen.{state_of}
 use Rattle.ring_cluster.proofs.rounds.Members.{refused_enabled}
+use Rattle.ring_cluster.proofs.rounds.Named.{task_by, task_multicast}
 use Rattle.ring_cluster.proofs.cluster.Cluster.event_of.Goals as goal
+
+pub refusal-requires : goal.refusal-requires
+refusal-requires c = (
+  c.requires.at.0,
+  ap by_of c.in_ok-event.ensures ∙ task_by c.args.name.now c.args.task.now ∙ sym c.requires.at.1,
+  ap is_multicast c.in_ok-event.ensures ∙ task_multicast c.args.name.now c.args.task.now,
+)
 
 pub returns-in-Some-clause-enabled : goal.returns-in-Some-clause-enabled
 returns-in-Some-clause-enabled c =

@@ -1,15 +1,19 @@
 use Rattle.std.proofs.Common.{◌≡◌, None, ap, sym, subst, ◌∙◌}
-use Rattle.ring_rules.specs.Event.{by_of, refusal}
+use Rattle.ring_rules.specs.Event.{by_of, is_multicast, refusal}
 use Rattle.ring_cluster.specs.Plays.{task_event}
 use Rattle.ring_cluster.specs.Seen.{state_of}
 use Rattle.ring_cluster.proofs.rounds.Doing.{performed_is}
-use Rattle.ring_cluster.proofs.rounds.Named.{answered_by, from_some}
+use Rattle.ring_cluster.proofs.rounds.Named.{answered_by, answered_multicast, from_some}
 use Rattle.ring_cluster.proofs.cluster.Cluster.perform.Goals as goal
 
 pub answer-requires-clause-at : goal.answer-requires-clause-at
 answer-requires-clause-at c =
     let f = from_some _ _ _ _ c.in-Some.is c.in_ok-event.ensures in
-    (c.requires.0, ap by_of f.3 ∙ answered_by c.args.name.now f.0 (refusal (state_of c.args.self.now) (task_event c.args.name.now f.0)) ∙ sym c.requires.1)
+    let told = refusal (state_of c.args.self.now) (task_event c.args.name.now f.0) in (
+      c.requires.0,
+      ap by_of f.3 ∙ answered_by c.args.name.now f.0 told ∙ sym c.requires.1,
+      ap is_multicast f.3 ∙ answered_multicast c.args.name.now f.0 told,
+    )
 
 pub returns-clause-done : goal.returns-clause-done
 returns-clause-done c = λ _.

@@ -7,13 +7,13 @@ use Rattle.ring_cluster.proofs.rounds.Doing.{gone_from}
 use Rattle.ring_cluster.proofs.rounds.Playing.{HasGoneOn-trans}
 use Rattle.ring_cluster.proofs.rounds.Turning.{works_same}
 use Rattle.ring_cluster.proofs.rounds.Numbers.{gives_within, gives_more, on_err}
-use Rattle.ring_cluster.proofs.rounds.Settling.{worked_is_quiet}
+use Rattle.ring_cluster.proofs.rounds.Settling.{worked_rests}
 use Rattle.ring_cluster.proofs.cluster.Cluster.work_out.Goals as goal
 
 pub returns-clause-quiet : goal.returns-clause-quiet
 returns-clause-quiet g c =
     let same = sym c.in_ok-deliver.ensures.ok in
-    worked_is_quiet c.deliver.new.self c.is_going.ensures
+    worked_rests c.deliver.new.self c.is_going.ensures
     (subst (λ x. NobodySteps (state_of x)) same c.in_ok-drain.ensures.idle)
     (subst (λ x. MarksNobody (state_of x)) same c.in_ok-drain.ensures.marks)
     (subst (λ x. ErasesNobody (state_of x)) same c.in_ok-drain.ensures.erases)

@@ -1,7 +1,8 @@
-use Rattle.std.proofs.Common.{◌≡◌, ◌+◌, sym, ap, subst, ⊎_elim, ◌∙◌}
+use Rattle.std.proofs.Common.{◌≡◌, ◌+◌, false, refl, sym, ap, subst, ⊎_elim, ◌∙◌}
+use Rattle.std.proofs.lemmas.Bool.{false≢true}
 use Rattle.ring_rules.specs.declared.event.Event.{Event}
-use Rattle.ring_rules.specs.declared.event.Event.TheVariants.{Cast, Put, Take, TakeEnd, Gain, Stop}
-use Rattle.ring_rules.specs.Event.{refusal}
+use Rattle.ring_rules.specs.declared.event.Event.TheVariants.{Cast, Publish, Get, Pop, Ack, Requeue, Depth, Start, Put, Take, TakeEnd, Gain, Stop, Synced}
+use Rattle.ring_rules.specs.Event.{is_multicast, refusal}
 use Rattle.gm_member.specs.Held.{up_refused}
 use Rattle.ring_parties.specs.Parties.{PartiesSeen, Shown, shown_in}
 use Rattle.ring_parties.specs.Acting.{alone_refused, look_refused, newest_of}
@@ -56,8 +57,8 @@ returns-in-Cast c = λ credit names events s at.
     let shown = shown_is c.self.inside c.args.self.now c.self.view_is c.args.i c.requires.within c.index.result.now c.index.ensures in
     let none : (f : Event) → IsAlone f (c.args.i + 1) q → c.args.event.now ≡ f → IsAlone c.args.event.now (c.args.i + 1) q = λ f a e. subst (λ g. IsAlone g (c.args.i + 1) q) (sym e) a in
     let alone : IsAlone c.args.event.now (c.args.i + 1) q =
-    ⊎_elim (λ w. none (Cast w.0 w.1) tt w.2)
-    (⊎_elim (λ w. none (Put w.0) tt w.1) (⊎_elim (λ w. none (Take w.0) tt w.1) (⊎_elim (λ w. none (TakeEnd w.0) tt w.1) (⊎_elim (λ w. none (Gain w.0) tt w.1) (λ w. none (Stop w.0) tt w.1)))))
+    ⊎_elim (λ w. none (Cast w.0 w.1) refl w.2)
+    (⊎_elim (λ w. none (Put w.0) refl w.1) (⊎_elim (λ w. none (Take w.0) refl w.1) (⊎_elim (λ w. none (TakeEnd w.0) refl w.1) (⊎_elim (λ w. none (Gain w.0) refl w.1) (λ w. none (Stop w.0) refl w.1)))))
     c.in-Cast.is in
     c.alone_refusal.ensures
     ∙ ap (alone_refused c.args.event.now) shown
@@ -76,3 +77,11 @@ returns-in-Admit c = λ credit names events s at.
     ∙ ap (λ (m : Shown). up_refused m.held (admission_refused (newest_of q) name)) shown
     ∙ admit_reads credit names events q s c.args.i c.in-Admit.by name (subst (IsEventIn (state credit names events) c.args.i) c.in-Admit.is at)
     ∙ ap (refusal (state credit names events)) (sym c.in-Admit.is)
+
+pub returns-in-Publish : goal.returns-in-Publish
+returns-in-Publish c = λ credit names events s at.
+    let never : (f : Event) → is_multicast f ≡ false → c.args.event.now ≡ f → ⊥ = λ f q e. false≢true (sym q ∙ ap is_multicast (sym e) ∙ at.2) in
+    absurd (⊎_elim (λ w. never (Publish w.0 w.1) refl w.2)
+    (⊎_elim (λ w. never (Get w.0) refl w.1) (⊎_elim (λ w. never (Pop w.0) refl w.1) (⊎_elim (λ w. never (Ack w.0 w.1) refl w.2) (⊎_elim (λ w. never (Requeue w.0 w.1) refl w.2)
+    (⊎_elim (λ w. never (Depth w.0) refl w.1) (⊎_elim (λ w. never (Start w.0) refl w.1) (λ w. never (Synced w.0) refl w.1)))))))
+    c.in-Publish.is)

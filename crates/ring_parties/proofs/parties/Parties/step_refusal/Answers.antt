@@ -1,4 +1,4 @@
-use Rattle.std.proofs.Common.{◌≡◌, ap, sym, subst, ◌∙◌}
+use Rattle.std.proofs.Common.{◌≡◌, refl, ap, sym, subst, ◌∙◌}
 use Rattle.ring_rules.specs.declared.event.Event.TheVariants.{Put, Take, TakeEnd, Gain, Pick}
 use Rattle.ring_rules.specs.Event.{refusal}
 use Rattle.ring_parties.specs.Acting.{alone_refused}
@@ -29,7 +29,7 @@ returns-in-Take c = λ by credit names events s at.
     let e : step_event c.args.step by ≡ Take by = ap (λ k. step_event k by) c.in-Take.is in
     c.packet_refusal.ensures
     ∙ ap (alone_refused (Take by)) (shown_is c.self.inside c.args.self.now c.self.view_is c.args.i c.requires.within c.index.result.now c.index.ensures)
-    ∙ alone_reads credit names events (c.args.self.now).all s c.args.i (Take by) (subst (IsEventIn (state credit names events) c.args.i) e at) tt
+    ∙ alone_reads credit names events (c.args.self.now).all s c.args.i (Take by) (subst (IsEventIn (state credit names events) c.args.i) e at) refl
     ∙ ap (refusal (state credit names events)) (sym e)
 
 pub returns-in-TakeEnd : goal.returns-in-TakeEnd
@@ -37,7 +37,7 @@ returns-in-TakeEnd c = λ by credit names events s at.
     let e : step_event c.args.step by ≡ TakeEnd by = ap (λ k. step_event k by) c.in-TakeEnd.is in
     c.link_end_refusal.ensures
     ∙ ap (alone_refused (TakeEnd by)) (shown_is c.self.inside c.args.self.now c.self.view_is c.args.i c.requires.within c.index.result.now c.index.ensures)
-    ∙ alone_reads credit names events (c.args.self.now).all s c.args.i (TakeEnd by) (subst (IsEventIn (state credit names events) c.args.i) e at) tt
+    ∙ alone_reads credit names events (c.args.self.now).all s c.args.i (TakeEnd by) (subst (IsEventIn (state credit names events) c.args.i) e at) refl
     ∙ ap (refusal (state credit names events)) (sym e)
 
 pub returns-in-Gain : goal.returns-in-Gain
@@ -45,7 +45,7 @@ returns-in-Gain c = λ by credit names events s at.
     let e : step_event c.args.step by ≡ Gain by = ap (λ k. step_event k by) c.in-Gain.is in
     c.grant_refusal.ensures
     ∙ ap (alone_refused (Gain by)) (shown_is c.self.inside c.args.self.now c.self.view_is c.args.i c.requires.within c.index.result.now c.index.ensures)
-    ∙ alone_reads credit names events (c.args.self.now).all s c.args.i (Gain by) (subst (IsEventIn (state credit names events) c.args.i) e at) tt
+    ∙ alone_reads credit names events (c.args.self.now).all s c.args.i (Gain by) (subst (IsEventIn (state credit names events) c.args.i) e at) refl
     ∙ ap (refusal (state credit names events)) (sym e)
 
 pub returns-in-Put : goal.returns-in-Put
@@ -53,5 +53,5 @@ returns-in-Put c = λ by credit names events s at.
     let e : step_event c.args.step by ≡ Put by = ap (λ k. step_event k by) c.in-Put.is in
     c.put_refusal.ensures
     ∙ ap (alone_refused (Put by)) (shown_is c.self.inside c.args.self.now c.self.view_is c.args.i c.requires.within c.index.result.now c.index.ensures)
-    ∙ alone_reads credit names events (c.args.self.now).all s c.args.i (Put by) (subst (IsEventIn (state credit names events) c.args.i) e at) tt
+    ∙ alone_reads credit names events (c.args.self.now).all s c.args.i (Put by) (subst (IsEventIn (state credit names events) c.args.i) e at) refl
     ∙ ap (refusal (state credit names events)) (sym e)

@@ -1,0 +1,13 @@
+-- The mirrors agree, and confirmed messages stand.
+pub mod Asked
+pub mod Facts
+pub mod Known
+pub mod Likes
+pub mod Masters
+pub mod Runs
+pub mod Sent
+pub mod Starts
+pub mod Steps
+pub mod Told
+pub mod ViewSteps
+pub mod Views

@@ -1,0 +1,2 @@
+-- The mirrors agree, and confirmed messages stand.
+pub mod QueueExamples
