@@ -8,7 +8,7 @@ use Rattle.std.proofs.lemmas.Bool.Decides.{nat_tests}
 use Rattle.std.proofs.lemmas.List.Sums.{prefix_len_is, prefix_len_passes, prefix_len_stops}
 use Rattle.std.proofs.lemmas.List.Folds.{find_at}
 use Rattle.std.proofs.lemmas.Option.{slice_get_read, slice_get_past}
-use Rattle.std.proofs.Math.Bool.{and-true}
+use Rattle.std.proofs.Math.Bool.{and-true, or-false}
 use Rattle.ring_names.specs.declared.reason.Reason.{Reason}
 use Rattle.ring_names.specs.declared.reason.Reason.TheVariants.{UnknownPosition, NotDelivered}
 use Rattle.queue_core.specs.Queue.{Item, is_at, is_ready, is_unacked, is_ready_at, is_unacked_at, is_above, new_item, rises}
@@ -106,10 +106,6 @@ one_any a t narrow (x ∷ xs) r zero d within is =
     let p = and_parts (list_all (λ j. nat_lt x.at j.at) xs) (rises xs) r in
     let behind : list_any (is_at a) xs ≡ false = none_behind a xs (ap (λ n. list_all (λ j. nat_lt n j.at) xs) (sym is) ∙ p.0) in
     ap (λ b. t x || b) (none_narrow (is_at a) t narrow xs behind) ∙ or-false (t x)
-  where
-    or-false : (b : Bool) → (b || false) ≡ b
-    or-false true = refl
-    or-false false = refl
 one_any a t narrow (x ∷ xs) r (suc k) d within is =
     let p = and_parts (list_all (λ j. nat_lt x.at j.at) xs) (rises xs) r in
     let below : x.at < a = omega (arith, below_all x.at xs p.0 k d (omega arith)) in

@@ -11,6 +11,7 @@ use Rattle.queue_core.specs.Queue.{greatest}
 use Rattle.queue_core.specs.Legal.{is_legal}
 use Rattle.queue_core.specs.Shown.{as_position, least_of, delivery_of}
 use Rattle.queue_mirror.specs.Mirror.{MirrorState}
+use Rattle.queue_mirror.specs.Refusal.{refuse_if, or_else}
 
 -- why a member may not speak for the queue: the view has no master, or another, or it has a start to publish first
 abbrev pub lead_by : Option MemberId → ℕ → Bool → Option Reason
@@ -20,16 +21,6 @@ lead_by (Some id) me late = cond (nat_eq id.0 me) (cond late (Some NotStarted) N
 -- the same by its view; only the master of the first term has none to publish
 abbrev pub lead_refusal : Group → ℕ → Bool → Option Reason
 lead_refusal g me started = lead_by g.master me (nat_lt 1 g.term && not started)
-
--- the refusal of a condition that fails
-abbrev pub refuse_if : Bool → Reason → Option Reason
-refuse_if true reason = Some reason
-refuse_if false reason = None
-
--- the first of two refusals
-abbrev pub or_else : Option Reason → Option Reason → Option Reason
-or_else (Some reason) later = Some reason
-or_else None later = later
 
 -- why a member has no start to publish: it doesn't lead by its view, or it leads in the first term, or it has published it
 abbrev pub start_refusal : Group → ℕ → Bool → Option Reason

@@ -1,2 +1,2 @@
--- Truth values, lists, rows and grants alone.
+-- Agendas by their names.
 pub mod Plans

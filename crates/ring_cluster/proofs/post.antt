@@ -1,2 +1,2 @@
--- Links that wait for their receivers at the registrar.
+-- States that only differ in what the registrar owes.
 pub mod Owed

@@ -1,4 +1,4 @@
--- What holds in every state that a cluster reaches: what its parties need, and that an idle ring rests.
+-- What holds of every journal of a cluster: who stays, what was published, and what was heard.
 pub mod Bases
 pub mod Heard
 pub mod Logged

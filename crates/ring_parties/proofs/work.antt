@@ -1,4 +1,4 @@
--- What holds in every state that a cluster reaches: what its parties need, and that an idle ring rests.
+-- What holds in every state of every run, as the parties of a cluster need it.
 pub mod Fresh
 pub mod Given
 pub mod Lawful

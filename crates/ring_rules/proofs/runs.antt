@@ -2,6 +2,7 @@
 pub mod AllRuns
 pub mod Apart
 pub mod BornStays
+pub mod Bounded
 pub mod CompactExamples
 pub mod Confirmed
 pub mod Erased

@@ -1,5 +1,5 @@
 -- What is asked of a state, by the ids of members.
-use Rattle.std.specs.Prelude.{ℕ, cond, List, [], Option, Some, None}
+use Rattle.std.specs.Prelude.{ℕ, List, [], Option, Some, None}
 use Rattle.queue_core.specs.declared.message.Message.{Message}
 use Rattle.queue_core.specs.Queue.{Item}
 use Rattle.queue_core.specs.Shown.{first_from}
@@ -7,10 +7,9 @@ use Rattle.ring_names.specs.declared.numbers.MemberId.{MemberId}
 use Rattle.ring_rules.specs.declared.shown.Counts.{Counts}
 use Rattle.ring_rules.specs.declared.shown.MemberState.{MemberState}
 use Rattle.ring_rules.specs.declared.shown.MemberState.TheVariants as state
-use Rattle.group_view.specs.declared.entry.Entry.{Entry}
-use Rattle.group_view.specs.View.{as_id, entry_in}
+use Rattle.group_view.specs.View.{as_id}
 use Rattle.ring_rules.specs.Shown.{counts_in}
-use Rattle.ring_rules.specs.Machine.{Phase, Waiting, Up, Stopped, Member, World, member_at, view_in, newest, row_at}
+use Rattle.ring_rules.specs.Machine.{Phase, Waiting, Up, Stopped, Member, World, member_at, row_at}
 use Rattle.ring_rules.specs.Step.{log_of}
 
 -- the id of one that was found

@@ -7,7 +7,8 @@ use Rattle.queue_core.specs.declared.op.Op.{Op}
 use Rattle.queue_core.specs.declared.op.Op.TheVariants as op
 use Rattle.queue_core.specs.Shown.{as_position}
 use Rattle.queue_mirror.specs.Mirror.{MirrorState}
-use Rattle.queue_mirror.specs.Master.{lead_by, lead_refusal, or_refused, get_of, pop_of, ack_of, requeue_of}
+use Rattle.queue_mirror.specs.Master.{lead_refusal, or_refused, get_of, pop_of, ack_of, requeue_of, depth_of, start_of}
+pub use Rattle.queue_mirror.specs.Master.{start_refusal}
 use Rattle.ring_names.specs.declared.reason.Reason.{Reason}
 use Rattle.ring_names.specs.declared.reason.Reason.TheVariants as reason
 use Rattle.ring_names.specs.Reason.{code_of}
@@ -191,10 +192,6 @@ refreshed w x v = send_to (look_at w x v) x (right_of (view_in w v) x) (member_a
 
 -- ---- the queue
 
--- why member x has no start to publish: it doesn't lead by this view, or it leads in the first term, or it has published it
-abbrev pub start_refusal : Group → ℕ → Bool → Option Reason
-start_refusal g x started = or_else (lead_by g.master x false) (refuse_if (nat_le g.term 1 || started) reason.AlreadyStarted)
-
 -- the operation that an event publishes, by the mirror of its member x, by x's view, and by whether x has started; or the
 -- first condition that fails
 abbrev pub asked_op : MirrorState → Group → ℕ → Bool → Event → Result Op Reason
@@ -203,8 +200,8 @@ asked_op m g x started (Get by) = get_of m g x started
 asked_op m g x started (Pop by) = pop_of m g x started
 asked_op m g x started (Ack by at) = ack_of m g x started at
 asked_op m g x started (Requeue by at) = requeue_of m g x started at
-asked_op m g x started (Depth by) = or_refused (lead_refusal g x started) (Ok (op.Depth (length m.queue.items)))
-asked_op m g x started (Start by) = or_refused (start_refusal g x started) (Ok (op.Start (length m.queue.items)))
+asked_op m g x started (Depth by) = depth_of m g x started
+asked_op m g x started (Start by) = start_of m g x started
 asked_op m g x started e = Err reason.NotMaster
 
 -- the same in a state

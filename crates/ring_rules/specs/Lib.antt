@@ -1,4 +1,5 @@
 pub mod Asked
+pub mod Bounded
 pub mod Compact
 pub mod Event
 pub mod Idle

@@ -1,5 +1,5 @@
 -- How much a ring still has to do, as a list of numbers, of which the first that changes falls at each step of repair.
-use Rattle.std.specs.Prelude.{ℕ, zero, suc, ◌+◌, ◌-◌, ◌*◌, if◌then◌else◌, ◌≡◌, ◌<◌, ◌≤◌, ◌⊎◌, Bool, true, false, ◌&&◌, not, nat_eq, nat_lt, length, List, [], ◌∷◌, is_some, Option, Some, None}
+use Rattle.std.specs.Prelude.{ℕ, zero, suc, ◌+◌, ◌-◌, ◌*◌, if◌then◌else◌, ◌≡◌, ◌<◌, ◌≤◌, ◌⊎◌, Bool, false, ◌&&◌, not, nat_eq, nat_lt, length, List, [], ◌∷◌, is_some, Option, Some, None}
 use Rattle.std.specs.List.{sum_by, count_by}
 use Rattle.ring_names.specs.declared.numbers.MemberId.{MemberId}
 use Rattle.group_view.specs.View.{Group, is_live_mark}

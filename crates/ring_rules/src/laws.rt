@@ -1,10 +1,11 @@
 //! The laws of the ring, over all runs.
-ghost use Rattle.std.specs.Prelude.{ℕ, List, length, ◌+◌, ◌≤◌, ◌<◌};
+ghost use Rattle.std.specs.Prelude.{ℕ, List, length, All, ◌+◌, ◌≤◌, ◌<◌};
 ghost use Rattle.queue_core.specs.Queue.{greatest};
 ghost use Rattle.ring_names.specs.declared.numbers.CreditSpec.{CreditSpec};
 ghost use Rattle.group_view.specs.Change.{AreOpeningNames};
 ghost use Rattle.ring_rules.specs.declared.event.Event.{Event};
 ghost use Rattle.ring_rules.specs.Step.{opening};
+ghost use Rattle.ring_rules.specs.Bounded.{IsBounded};
 ghost use Rattle.ring_rules.specs.Event.{IsRun, last};
 ghost use Rattle.ring_rules.specs.Laws.{IsLawful, GoesOn, IdleIsQuiet};
 ghost use Rattle.ring_rules.specs.QueueLaws.{QueueIsRight, LaterMastersStart};
@@ -92,4 +93,12 @@ pub fn later_masters_start_first()
     ensures { (credit : CreditSpec) (names : List (List ℕ)) (events : List Event)
         → AreOpeningNames names → IsRun (opening credit names) events
         → LaterMastersStart (last (opening credit names) events) }
+{}
+
+/// However a ring goes, each version that a member reads is from 1 to 255, and each number that a client is told from 6
+/// to 44: so whoever writes a run down meets no greater ones.
+pub fn every_number_is_bounded()
+    ensures { (credit : CreditSpec) (names : List (List ℕ)) (events : List Event)
+        → AreOpeningNames names → IsRun (opening credit names) events
+        → All IsBounded events }
 {}

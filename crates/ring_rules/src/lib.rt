@@ -70,8 +70,8 @@ mod shown;
 
 pub use event::{Client, Event};
 pub use laws::{
-    an_idle_ring_is_quiet, each_step_of_repair_leaves_less_to_do, every_queue_is_right,
-    every_ring_settles, every_state_is_lawful, later_masters_start_first,
+    an_idle_ring_is_quiet, each_step_of_repair_leaves_less_to_do, every_number_is_bounded,
+    every_queue_is_right, every_ring_settles, every_state_is_lawful, later_masters_start_first,
     nothing_falls_through_deaths,
 };
 pub use numbers::{Numbers, numbers_at};

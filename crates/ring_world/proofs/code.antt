@@ -1,6 +1,5 @@
 -- For the code of the plain machine.
 pub mod Agreed
-pub mod Asked
 pub mod Found
 pub mod HeldLaws
 pub mod HeldQueue

@@ -1,2 +1,2 @@
--- Lists alone, and rings of ids: what the proofs on walks use of them.
+-- Lists that grow from behind.
 pub mod Told

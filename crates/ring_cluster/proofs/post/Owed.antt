@@ -1,4 +1,4 @@
--- What only differs in what is owed.
+-- States of a cluster that only differ in what is owed, and steps among them.
 use Rattle.std.proofs.Common.{◌≡◌, ◌+◌, ◌-◌, ◌^◌, Bool, min, refl, ap, ◌∙◌}
 use Rattle.std.specs.Prelude.{Result, Ok, Err, OnErr}
 use Rattle.ring_rules.specs.declared.event.Event.{Event}

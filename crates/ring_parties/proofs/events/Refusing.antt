@@ -3,6 +3,7 @@ use Rattle.std.proofs.Common.{◌≡◌, ℕ, ◌+◌, ◌-◌, ◌<◌, ◌≤�
 use Rattle.std.specs.Prelude.{◌&&◌, ◌||◌, option_map}
 use Rattle.std.specs.List.{filter}
 use Rattle.std.proofs.lemmas.Bool.{false≢true}
+use Rattle.std.proofs.Math.Bool.{or-false}
 use Rattle.ring_names.specs.declared.reason.Reason.{Reason}
 use Rattle.ring_names.specs.declared.reason.Reason.TheVariants as reason
 use Rattle.ring_names.specs.declared.numbers.CreditSpec.{CreditSpec}
@@ -147,11 +148,7 @@ mark_asked_refuses credit w q x d name dead m g named there st none is =
     let office : StandsIn w (office_of q) = record { views = st.stand.views; stopped = st.stand.stopped; nobody_else = st.stand.nobody_else } in
     ap (λ (k : Held). up_refused k (mark_refusal (office_of q) x d k.view.version (is_some k.current || is_some (first_at_door k)))) held
     ∙ mark_refuses w (office_of q) x d name dead g.fit.good office named there
-    (λ left. ap (λ b. has_link (held_in w x) || b) (none_from d x (since_in (view_at q.views (member_at w x).version) x) q.post none) ∙ or_nothing (has_link (held_in w x)))
-  where
-    or_nothing : (b : Bool) → (b || false) ≡ b
-    or_nothing true = refl
-    or_nothing false = refl
+    (λ left. ap (λ b. has_link (held_in w x) || b) (none_from d x (since_in (view_at q.views (member_at w x).version) x) q.post none) ∙ or-false (has_link (held_in w x)))
 
 -- ---- an erasure
 

@@ -1,8 +1,7 @@
 -- What a member may publish is what the laws of the queue let it.
-use Rattle.std.proofs.Common.{◌≡◌, ℕ, Bool, true, false, cond, nat_eq, nat_le, List, length, refl, sym, ap, ◌∙◌, Option, Some, None, option_map, ⊎_elim}
-use Rattle.std.specs.Prelude.{Result, Ok, Err, ◌||◌}
+use Rattle.std.proofs.Common.{◌≡◌, ℕ, Bool, true, false, cond, nat_eq, List, length, refl, sym, ap, ◌∙◌, Option, Some, None, option_map}
+use Rattle.std.specs.Prelude.{Result, Ok, Err}
 use Rattle.std.specs.List.{list_any}
-use Rattle.std.proofs.lemmas.Bool.{false≢true}
 use Rattle.ring_names.specs.declared.numbers.MemberId.{MemberId}
 use Rattle.ring_names.specs.declared.numbers.Position.{Position}
 use Rattle.ring_names.specs.declared.reason.Reason.{Reason}
@@ -21,7 +20,7 @@ use Rattle.queue_mirror.specs.Master.{lead_by, lead_refusal, or_refused, on_posi
 use Rattle.queue_laws.specs.Moves.{IsLet, may}
 use Rattle.ring_rules.specs.Refusal.{refuse_if, or_else}
 use Rattle.ring_rules.specs.Machine.{World, member_at, view_in}
-use Rattle.ring_rules.specs.Event.{Event, Cast as CastEvent, Publish, Get, Pop, Ack, Requeue, Depth, Start, Put, Take, TakeEnd, Gain, Stop, Mark, Refresh, Admit, Pick, Erase, Refuse, start_refusal, asked_op, MayPublish}
+use Rattle.ring_rules.specs.Event.{Event, Publish, Get, Pop, Ack, Requeue, Depth, Start, start_refusal, asked_op, MayPublish}
 use Rattle.ring_rules.specs.QueuePart.{part_of}
 use Rattle.ring_rules.proofs.invariants.Happens.{IsGood}
 

@@ -1,17 +1,16 @@
 -- What the ring gives, by its own laws.
-use Rattle.std.proofs.Common.{◌≡◌, ℕ, zero, suc, ◌<◌, ◌≤◌, [], Bool, ◌⊎◌, inl, inr, true, false, List, length, get_or, refl, sym, ap, subst, ◌∙◌, ⊎_elim, arith, Option, Some, None, is_some}
-use Rattle.std.proofs.lemmas.Bool.{both_ways, cases_Bool, cases_lt, false≢true, ltb-true}
+use Rattle.std.proofs.Common.{◌≡◌, ℕ, zero, suc, ◌<◌, ◌≤◌, [], ◌⊎◌, inl, inr, true, false, List, length, refl, sym, ap, ◌∙◌, ⊎_elim, arith, Option, Some, None, is_some}
+use Rattle.std.proofs.lemmas.Bool.{cases_Bool, cases_lt, false≢true, ltb-true}
 use Rattle.ring_names.specs.declared.numbers.CreditSpec.{CreditSpec}
 use Rattle.group_view.specs.Ring.{is_in}
-use Rattle.group_view.specs.View.{ids, is_erased}
+use Rattle.group_view.specs.View.{ids}
 use Rattle.group_view.specs.Change.{AreOpeningNames}
 use Rattle.group_view.proofs.Joining.{below_at}
 use Rattle.ring_rules.specs.declared.event.Event.{Event}
 use Rattle.ring_rules.specs.declared.phase.Phase as ring
 use Rattle.ring_rules.specs.declared.phase.Phase.TheVariants as machine
-use Rattle.ring_rules.specs.Rows.{no_row}
-use Rattle.ring_rules.specs.Machine.{World, no_member, member_at, link_at, view_in, newest, runs, runs_phase, row_at, numbers_at, oldest}
-use Rattle.ring_rules.specs.OpenLinks.{first_packet, own_number, number}
+use Rattle.ring_rules.specs.Machine.{World, no_member, member_at, link_at, view_in, newest, runs, runs_phase, numbers_at}
+use Rattle.ring_rules.specs.OpenLinks.{first_packet, own_number}
 use Rattle.ring_rules.specs.Step.{size, log_of, opening}
 use Rattle.ring_rules.specs.Lawful.{row_of, has_erased}
 use Rattle.ring_rules.specs.Laws.{IsLawful, GoesOn}
@@ -21,7 +20,7 @@ use Rattle.ring_rules.proofs.walks.Put.{number_up}
 use Rattle.ring_rules.proofs.invariants.Happens.{IsGood, opening_good, reached_good, newest_is}
 use Rattle.ring_rules.proofs.runs.OwnLogs.{IsLogged, run_logged, oldest_within}
 use Rattle.ring_rules.proofs.runs.NoGap.{no_gap, reached_lines}
-use Rattle.ring_rules.proofs.runs.InOrder.{IsHeard, HasNoGap, EachHasHeard, opening_heard, run_heard}
+use Rattle.ring_rules.proofs.runs.InOrder.{HasNoGap, EachHasHeard, opening_heard, run_heard}
 use Rattle.ring_rules.proofs.runs.Erased.{erased_rests}
 use Rattle.ring_rules.proofs.runs.AllRuns.{every_state_lawful}
 use Rattle.queue_laws.specs.Part.{is_running, is_up}
@@ -120,9 +119,6 @@ round_within w p q f r = by_who (who w f.logged p)
         by_phase machine.Waiting e = by_link (member_at w q).current e refl (f.good.inv.joining.some q e)
 
 -- ---- who is erased
-
-is_erased_in : World → ℕ → Bool
-is_erased_in w p = (sight_of (view_in w (newest w))).is_erased p
 
 pub gone_erased : (w : World) (p : ℕ) → (sight_of (view_in w (newest w))).is_erased p ≡ true → has_erased w p ≡ true
 gone_erased w p h = (gone_there (view_in w (newest w)) p h).1

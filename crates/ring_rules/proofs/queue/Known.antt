@@ -1,24 +1,24 @@
 -- Where no member has anything to do, the queue rests too: everybody knows how many messages its mirror lacks.
-use Rattle.std.proofs.Common.{◌≡◌, ◌≢◌, ℕ, suc, ◌+◌, ◌-◌, ◌<◌, ◌≤◌, Bool, true, false, cond, nat_eq, nat_lt, not, List, [], ◌∷◌, ◌++◌, length, take, drop, refl, sym, ap, subst, ◌∙◌, ⊎_elim, ◌⊎◌, inl, inr, arith, Option, Some, None, option_map, if◌then◌else◌, append_assoc, length-append}
+use Rattle.std.proofs.Common.{◌≡◌, ◌≢◌, ℕ, ◌+◌, ◌-◌, ◌<◌, ◌≤◌, Bool, true, false, cond, nat_eq, nat_lt, not, List, [], ◌∷◌, ◌++◌, length, take, drop, refl, sym, ap, subst, ◌∙◌, inl, inr, arith, Option, Some, None, option_map, if◌then◌else◌, append_assoc, length-append}
 use Rattle.std.specs.Prelude.{◌&&◌, ◌||◌}
-use Rattle.std.specs.List.{list_any, count_by, flat_map}
-use Rattle.std.proofs.lemmas.Bool.{cases_Bool, cases_lt, false≢true}
+use Rattle.std.specs.List.{list_any, count_by}
+use Rattle.std.proofs.lemmas.Bool.{false≢true}
 use Rattle.std.proofs.lemmas.Bool.Decides.{nat_tests}
-use Rattle.std.proofs.lemmas.List.{drop-append-le, take-append-drop, take_all, drop-drop, append-nil, take-take}
+use Rattle.std.proofs.lemmas.List.{drop-append-le, take_all, drop-drop, append-nil, take-take}
 use Rattle.std.proofs.lemmas.Option.{none-some}
 use Rattle.std.proofs.lemmas.List.Sums.{sum_by-cons}
 use Rattle.std.proofs.lemmas.List.Folds.{list_any-append}
+use Rattle.std.proofs.Math.Bool.{or-true}
 use Rattle.ring_names.specs.declared.numbers.CreditSpec.{CreditSpec}
 use Rattle.ring_names.specs.declared.numbers.MemberId.{MemberId}
 use Rattle.queue_core.specs.Queue.{greatest}
 use Rattle.queue_core.specs.declared.message.Message.{Message}
 use Rattle.queue_core.specs.declared.op.Op.{Op}
 use Rattle.queue_mirror.specs.Mirror.{is_tell, is_told, from}
-use Rattle.queue_mirror.specs.Laws.{lacked}
 use Rattle.queue_mirror.specs.Placed.{published_before}
 use Rattle.queue_laws.specs.Part.{ops, past_of, seen}
 use Rattle.queue_laws.specs.Laws.{MirrorsAgree}
-use Rattle.queue_laws.proofs.Seen.{ops-append, ops_cut}
+use Rattle.queue_laws.proofs.Seen.{ops_cut}
 use Rattle.queue_laws.proofs.Before.{past_append}
 use Rattle.queue_laws.proofs.AllRuns.{good_agree}
 use Rattle.group_view.specs.declared.entry.Entry.{Entry}
@@ -27,23 +27,22 @@ use Rattle.group_view.specs.View.{Group, ids, entry_in, is_live_mark}
 use Rattle.group_view.specs.Change.{AreOpeningNames}
 use Rattle.group_view.proofs.Rings.{nat_eq-is, sym_test}
 use Rattle.ring_rules.specs.declared.event.Event.{Event}
-use Rattle.ring_rules.specs.Machine.{World, Member, member_at, view_in, newest, ring, runs, runs_phase}
-use Rattle.ring_rules.specs.Step.{size, log_of, opening}
+use Rattle.ring_rules.specs.Machine.{World, member_at, view_in, newest, ring, runs}
+use Rattle.ring_rules.specs.Step.{log_of, opening}
 use Rattle.ring_rules.specs.Event.{IsRun, last}
 use Rattle.ring_rules.specs.Lawful.{row_of}
 use Rattle.ring_rules.specs.Quiet.{IsAtRest, IsResting, RingRests, QueueRests, IsQuiet}
 use Rattle.ring_rules.specs.Idle.{OwesNothing, IsIdle}
 use Rattle.ring_rules.proofs.rests.Rests.{run_idle_rests}
 use Rattle.ring_rules.specs.Work.{is_led, is_late, is_untold, untold, owed_at}
-use Rattle.ring_rules.specs.Masters.{masters_of, earlier_of, last_of}
-use Rattle.ring_rules.specs.QueuePart.{phase_of, sight_of, got_of, masters_in, based, since_of, part_of}
+use Rattle.ring_rules.specs.Masters.{earlier_of, last_of}
+use Rattle.ring_rules.specs.QueuePart.{phase_of, got_of, masters_in, based, since_of, part_of}
 use Rattle.queue_laws.specs.Part.{is_up}
 use Rattle.ring_rules.proofs.walks.Put.{number_up}
-use Rattle.ring_rules.proofs.invariants.Happens.{ring_below}
 use Rattle.ring_rules.proofs.rests.Forgotten.{retired_is_forgotten}
 use Rattle.ring_rules.proofs.work.Nobody.{NobodyAtZero, ring_members, reached_nobody}
 use Rattle.ring_rules.proofs.queue.Masters.{earlier_last}
-use Rattle.ring_rules.proofs.queue.Facts.{Facts, HasMasters, reached_facts}
+use Rattle.ring_rules.proofs.queue.Facts.{Facts, reached_facts}
 use Rattle.ring_rules.proofs.queue.Told.{Tells, tells_behind, run_tells, newest_version}
 use Rattle.ring_rules.proofs.queue.Runs.{IsKnown, run_is_known}
 
@@ -53,11 +52,7 @@ use Rattle.ring_rules.proofs.queue.Runs.{IsKnown, run_is_known}
 any_rest : (k : ℕ) (l : List Message) → tells_behind k l ≡ true → list_any is_tell (ops l) ≡ true
 any_rest k l h =
     ap (list_any is_tell) (ops_cut k l) ∙ list_any-append is_tell (ops (take k l)) (ops (drop k l))
-    ∙ or_second (list_any is_tell (ops (take k l))) (list_any is_tell (ops (drop k l))) h
-  where
-    or_second : (a b : Bool) → b ≡ true → (a || b) ≡ true
-    or_second true b e = refl
-    or_second false b e = e
+    ∙ ap (λ b. list_any is_tell (ops (take k l)) || b) h ∙ or-true (list_any is_tell (ops (take k l)))
 
 -- and behind an earlier place
 tells_earlier : (j k : ℕ) (l : List Message) → j ≤ k → tells_behind k l ≡ true → tells_behind j l ≡ true
@@ -88,11 +83,7 @@ told_within f b front l le h =
     ∙ ap (λ os. list_any is_tell (drop f os)) (sym (append_assoc front (ops (take b l)) (ops (drop b l))))
     ∙ ap (list_any is_tell) (drop-append-le f (front ++ ops (take b l)) (ops (drop b l)) (omega (arith, le, long)))
     ∙ list_any-append is_tell (drop f (front ++ ops (take b l))) (ops (drop b l))
-    ∙ or_second (list_any is_tell (drop f (front ++ ops (take b l)))) (list_any is_tell (ops (drop b l))) h
-  where
-    or_second : (a c : Bool) → c ≡ true → (a || c) ≡ true
-    or_second true c e = refl
-    or_second false c e = e
+    ∙ ap (λ c. list_any is_tell (drop f (front ++ ops (take b l))) || c) h ∙ or-true (list_any is_tell (drop f (front ++ ops (take b l))))
 
 -- where none is counted, none passes
 none_counted : (p : Entry → Bool) (es : List Entry) (n : ℕ) → count_by p es ≡ 0 → is_in n (ids es) ≡ true → p (entry_in es n) ≡ false

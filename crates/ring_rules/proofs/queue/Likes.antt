@@ -1,17 +1,16 @@
 -- What leaves rows, logs, phases and the counted numbers, and what is then heard and recorded.
-use Rattle.std.proofs.Common.{◌≡◌, ◌≢◌, ℕ, zero, suc, ◌<◌, ◌≤◌, ◌+◌, Bool, true, false, nat_eq, List, [], ◌∷◌, ◌++◌, length, map, drop, set, get_or, refl, sym, ap, ◌∙◌, subst, arith, ⊎_elim, Option, Some, None, if◌then◌else◌}
+use Rattle.std.proofs.Common.{◌≡◌, ℕ, zero, suc, ◌<◌, ◌+◌, List, [], ◌∷◌, ◌++◌, length, set, get_or, refl, sym, ap, ◌∙◌, arith, Option, Some, None}
 use Rattle.std.specs.List.{flat_map, range_with_len}
-use Rattle.std.proofs.lemmas.Bool.{cases_eq, false≢true}
-use Rattle.std.proofs.lemmas.List.{drop_all, length-set, length_push, get_or_append_left}
+use Rattle.std.proofs.lemmas.List.{length-set, length_push, get_or_append_left}
 use Rattle.ring_rules.specs.declared.numbers.Numbers.{Numbers}
 use Rattle.ring_rules.specs.declared.phase.Phase.{Phase}
 use Rattle.ring_rules.specs.declared.phase.Phase.TheVariants.{Waiting, Up, Stopped}
 use Rattle.ring_rules.specs.declared.phase.Ending.{Ending}
 use Rattle.ring_rules.specs.declared.phase.Ending.TheVariants.{Moved}
 use Rattle.ring_rules.specs.Rows.{Row, no_row}
-use Rattle.ring_rules.specs.Machine.{Member, Link, World, no_link, no_member, no_packet, numbers_at, member_at, link_at, view_in, oldest, runs_phase, is_waiting}
+use Rattle.ring_rules.specs.Machine.{Member, Link, World, no_link, no_member, no_packet, numbers_at, member_at, link_at, view_in, oldest}
 use Rattle.ring_rules.specs.View.{right_of}
-use Rattle.ring_rules.specs.Step.{size, log_of, with_member, with_link, put_on, gain_on, current_is, with_current, leave_link, finished, open_to, look_at, moved_to, ended, end_out, opened_link}
+use Rattle.ring_rules.specs.Step.{size, with_member, with_link, put_on, gain_on, current_is, with_current, leave_link, finished, open_to, look_at, moved_to, ended, end_out, opened_link}
 use Rattle.ring_rules.specs.Event.{refreshed}
 use Rattle.ring_rules.specs.Lawful.{row_of}
 use Rattle.ring_rules.specs.OpenLinks.{first_packet, own_number, number}

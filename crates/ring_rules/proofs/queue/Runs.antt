@@ -1,22 +1,21 @@
 -- Every run of the ring is one of moves.
-use Rattle.std.proofs.Common.{◌≡◌, ℕ, zero, suc, ◌<◌, ◌≤◌, ◌+◌, ◌-◌, Bool, true, false, cond, List, [], ◌∷◌, ◌++◌, length, refl, sym, ap, ◌∙◌, subst, arith, Option, Some, None}
+use Rattle.std.proofs.Common.{◌≡◌, ℕ, zero, suc, ◌<◌, ◌≤◌, ◌+◌, ◌-◌, Bool, true, false, cond, List, [], ◌∷◌, ◌++◌, length, refl, sym, ap, ◌∙◌, subst, arith, Some, None}
 use Rattle.std.proofs.lemmas.Bool.{false≢true}
 use Rattle.std.proofs.lemmas.Option.{none-some, same_Some}
-use Rattle.std.proofs.lemmas.List.{length_push}
 use Rattle.ring_names.specs.declared.numbers.CreditSpec.{CreditSpec}
 use Rattle.group_view.specs.Change.{AreOpeningNames, opening as opening_group}
 use Rattle.queue_core.specs.Queue.{greatest}
 use Rattle.queue_mirror.specs.Mirror.{founding}
-use Rattle.queue_laws.specs.Part.{Part, is_waiting, is_up}
-use Rattle.queue_laws.specs.Moves.{RingGives, RingKeeps, IsOpening}
+use Rattle.queue_laws.specs.Part.{is_waiting, is_up}
+use Rattle.queue_laws.specs.Moves.{RingGives, IsOpening}
 use Rattle.queue_laws.proofs.Good as good
 use Rattle.queue_laws.proofs.Low.{AreLow, opening_low, move_low}
 use Rattle.queue_laws.proofs.AllRuns.{opening_good, move_good, good_agree, good_stands}
 use Rattle.ring_rules.specs.declared.phase.Phase as ring
 use Rattle.ring_rules.specs.declared.phase.Phase.TheVariants as machine
 use Rattle.ring_rules.specs.Rows.{Row}
-use Rattle.ring_rules.specs.Machine.{World, Member, member_at, link_at, view_in, newest, runs_phase}
-use Rattle.ring_rules.specs.Step.{size, log_of, opening, put_on, gain_on, leave_link, current_is}
+use Rattle.ring_rules.specs.Machine.{World, member_at, view_in, runs_phase}
+use Rattle.ring_rules.specs.Step.{opening, put_on, gain_on, leave_link, current_is}
 use Rattle.ring_rules.specs.Event.{Event, refusal, effect, refreshed, IsRun, last}
 use Rattle.ring_rules.specs.Laws.{GoesOn}
 use Rattle.ring_rules.specs.QueuePart.{phase_of, sight_of, based, sent_of, part_of}

@@ -1,12 +1,11 @@
 -- What a state records of the messages to its queue, and what it says of when a member joined.
-use Rattle.std.proofs.Common.{◌≡◌, ◌≢◌, ℕ, ◌≤◌, ◌+◌, Bool, true, false, cond, List, [], ◌∷◌, ◌++◌, length, take, nat_eq, refl, sym, ap, ◌∙◌, subst, arith, Option, Some, None}
+use Rattle.std.proofs.Common.{◌≡◌, ℕ, ◌+◌, Bool, true, false, cond, List, [], ◌∷◌, ◌++◌, length, take, nat_eq, refl, ap, ◌∙◌, arith, Some, None}
 use Rattle.std.proofs.lemmas.List.{append-nil}
 use Rattle.std.proofs.lemmas.List.Concat.{flat_map-append}
 use Rattle.group_view.proofs.Rings.{nat_eq-same}
-use Rattle.queue_core.specs.declared.op.Op.{Op}
 use Rattle.queue_core.specs.declared.message.Message.{Message}
 use Rattle.queue_core.specs.declared.message.Message.TheVariants.{Cast, Queue}
-use Rattle.queue_laws.specs.Part.{ops, ops_of, Sent, past_of, is_in}
+use Rattle.queue_laws.specs.Part.{ops, Sent, past_of, is_in}
 use Rattle.queue_laws.specs.Moves.{sent_after}
 use Rattle.queue_laws.proofs.Seen.{past_same, no_ops_front}
 use Rattle.ring_rules.specs.Machine.{World, member_at}

@@ -1,10 +1,11 @@
 -- A later master publishes Start before anything else.
-use Rattle.std.proofs.Common.{◌≡◌, ◌≢◌, ℕ, zero, suc, ◌+◌, ◌-◌, ◌<◌, ◌≤◌, Bool, true, false, cond, not, nat_eq, nat_lt, List, [], ◌∷◌, ◌++◌, length, get_or, refl, sym, ap, subst, ◌∙◌, ⊎_elim, ◌⊎◌, inl, inr, arith, Option, Some, None, Result, Ok, Err, append-nil}
+use Rattle.std.proofs.Common.{◌≡◌, ◌≢◌, ℕ, zero, suc, ◌+◌, ◌<◌, ◌≤◌, Bool, true, false, not, nat_lt, List, [], ◌∷◌, ◌++◌, length, get_or, refl, sym, ap, subst, ◌∙◌, ⊎_elim, ◌⊎◌, inl, inr, arith, Option, Some, None, Result, Ok, append-nil}
 use Rattle.std.specs.Prelude.{◌&&◌, ◌||◌}
 use Rattle.std.specs.List.{list_any}
 use Rattle.std.proofs.lemmas.Bool.{cases_eq, cases_lt, false≢true}
 use Rattle.std.proofs.lemmas.Bool.Decides.{nat_tests}
 use Rattle.std.proofs.lemmas.List.{length_push, get_or_append_left, get_or-set_same, get_or-set_other}
+use Rattle.std.proofs.Math.Bool.{or-false}
 use Rattle.ring_names.specs.declared.numbers.CreditSpec.{CreditSpec}
 use Rattle.ring_names.specs.declared.numbers.MemberId.{MemberId}
 use Rattle.ring_names.specs.declared.reason.Reason.{Reason}
@@ -26,8 +27,8 @@ use Rattle.ring_rules.specs.declared.event.Event.TheVariants as event
 use Rattle.ring_rules.specs.declared.phase.Ending.TheVariants.{Halted}
 use Rattle.ring_rules.specs.Refusal.{or_else}
 use Rattle.ring_rules.specs.Machine.{World, Member, no_member, member_at, view_in, newest}
-use Rattle.ring_rules.specs.Step.{size, log_of, published, publish_at, with_view, come_to, admitted_view, opening, stop_at, end_out}
-use Rattle.ring_rules.specs.Event.{MayPublish, op_at, asked_op, start_refusal, refreshed, refusal, effect, IsRun, last, erased_view, synced_view}
+use Rattle.ring_rules.specs.Step.{size, log_of, published, publish_at, with_view, come_to, admitted_view, opening, stop_at}
+use Rattle.ring_rules.specs.Event.{MayPublish, asked_op, start_refusal, refreshed, refusal, effect, IsRun, last, erased_view, synced_view}
 use Rattle.ring_rules.specs.Laws.{GoesOn}
 use Rattle.ring_rules.specs.Work.{is_led, is_late}
 use Rattle.ring_rules.specs.QueueLaws.{LaterMastersStart}
@@ -103,11 +104,6 @@ pub record Starts (w : World) : Type 0 where
   pub started : (x : ℕ) → (member_at w x).started ≡ true → ops (log_of w x) ≢ []
   pub starts : (x : ℕ) → x ≢ 1 → starts (ops (log_of w x)) ≡ true
 
--- a later operation changes no first one
-starts_on : (l more : List Op) → starts l ≡ true → l ≢ [] → starts (l ++ more) ≡ true
-starts_on [] more h ne = absurd (ne refl)
-starts_on (o ∷ l) more h ne = h
-
 not_nothing : (l more : List Op) → l ≢ [] → l ++ more ≢ []
 not_nothing [] more ne = absurd (ne refl)
 not_nothing (o ∷ l) more ne = λ e. cc
@@ -180,15 +176,11 @@ module _ (w : World) (e : Event) (g : IsGood w) (r : refusal w e ≡ None) (on :
               started_is : (m : Message) → w' ≡ publish_at w y m → (member_at w' x).started ≡ ((member_at w x).started || list_any is_start (ops_of m))
               started_is m is = ap (λ u. (member_at u x).started) is ∙ ap (λ q. (member_at (publish_at w q m) x).started) here ∙ ap (λ (a : Member). a.started) (get_or-set_same w.members x (published x m (member_at w x)) no_member xl)
 
-              or_false : (a : Bool) → (a || false) ≡ a
-              or_false true = refl
-              or_false false = refl
-
               by_message : (m : Message) → MayPublish w y m → w' ≡ publish_at w y m → Goes x
               by_message (message.Cast body) may is =
                   let same : ops (log_of w' x) ≡ ops (log_of w x) = log_is (message.Cast body) is ∙ append-nil (ops (log_of w x)) in
                   record {
-                    started = λ e2. subst (λ l. l ≢ []) (sym same) (h.started x (sym (started_is (message.Cast body) is ∙ or_false (member_at w x).started) ∙ e2));
+                    started = λ e2. subst (λ l. l ≢ []) (sym same) (h.started x (sym (started_is (message.Cast body) is ∙ or-false (member_at w x).started) ∙ e2));
                     starts = λ ne. ap starts same ∙ h.starts x ne;
                   }
               by_message (message.Queue o) may is =

@@ -1,25 +1,20 @@
 -- Each event of the ring is a move of the queue's laws.
-use Rattle.std.proofs.Common.{◌≡◌, ◌≢◌, ℕ, suc, ◌<◌, ◌≤◌, ◌+◌, ◌-◌, Bool, true, false, cond, not, max, List, [], ◌∷◌, ◌++◌, length, map, take, drop, get_or, refl, sym, ap, ◌∙◌, subst, arith, ⊎_elim, ◌⊎◌, inl, inr, Option, Some, None, option_map}
-use Rattle.std.specs.Prelude.{◌&&◌}
-use Rattle.std.specs.List.{range_with_len, flat_map}
+use Rattle.std.proofs.Common.{◌≡◌, ◌≢◌, ℕ, ◌<◌, ◌≤◌, ◌+◌, ◌-◌, Bool, true, false, cond, max, List, [], ◌∷◌, ◌++◌, length, take, drop, get_or, refl, sym, ap, ◌∙◌, subst, arith, ⊎_elim, Some, None}
 use Rattle.std.proofs.lemmas.Bool.{cases_eq, cases_lt, false≢true}
-use Rattle.std.proofs.lemmas.List.{take-append-le, take_all, drop_all, drop_at, length-set, length-take, get_or-set_same, get_or-set_other}
+use Rattle.std.proofs.lemmas.List.{take-append-le, take_all, drop_at, length-set, get_or-set_same, get_or-set_other}
 use Rattle.queue_core.specs.declared.message.Message.{Message}
 use Rattle.queue_core.specs.declared.message.Message.TheVariants.{Cast, Queue}
-use Rattle.queue_core.specs.declared.op.Op.{Op}
-use Rattle.queue_mirror.specs.Mirror.{MirrorState, apply_ops}
-use Rattle.queue_laws.specs.Part.{ops, ops_of, is_up, seen, past_of, Sent}
-use Rattle.queue_laws.specs.Part as part
-use Rattle.queue_laws.specs.Moves.{RingGives, IsLet, slice, sent_after, Move, rest, publish, grow, join, leave, SameMasters, SameViews, SameLogs, SamePhases, SameGot, SameMirrors, SameSent}
+use Rattle.queue_mirror.specs.Mirror.{apply_ops}
+use Rattle.queue_laws.specs.Part.{ops, is_up, seen, past_of}
+use Rattle.queue_laws.specs.Moves.{RingGives, IsLet, slice, sent_after, Move, rest, publish, grow, join, leave, SameMasters, SameViews, SameLogs, SamePhases, SameGot, SameSent}
 use Rattle.queue_laws.proofs.Good.{HaveTerms}
 use Rattle.queue_laws.proofs.Terms.{acting_last, not_earlier}
-use Rattle.group_view.specs.View.{Group}
 use Rattle.group_view.specs.Since.{no_group}
 use Rattle.ring_rules.specs.declared.phase.Phase as ring
 use Rattle.ring_rules.specs.declared.phase.Phase.TheVariants.{Waiting, Up, Stopped}
 use Rattle.ring_rules.specs.declared.phase.Ending.TheVariants.{Halted}
 use Rattle.ring_rules.specs.Rows.{Row, no_row, published_row, taken_row, brought, messages_between}
-use Rattle.ring_rules.specs.Machine.{World, Member, no_member, row_at, numbers_at, member_at, link_at, view_in, newest, runs, runs_phase, is_waiting, oldest}
+use Rattle.ring_rules.specs.Machine.{World, Member, no_member, row_at, numbers_at, member_at, link_at, view_in, runs, runs_phase, oldest}
 use Rattle.ring_rules.specs.Step.{size, log_of, published, publish_at, is_owned, brought_at, taker, take_from, begun, begin_from, stopped, stop_at, end_out}
 use Rattle.ring_rules.specs.Lawful.{row_of}
 use Rattle.ring_rules.specs.Laws.{GoesOn}
@@ -27,7 +22,7 @@ use Rattle.ring_rules.specs.Event.{MayPublish}
 use Rattle.ring_rules.specs.OpenLinks.{first_packet, own_number}
 use Rattle.ring_rules.specs.Masters.{masters_of, earlier_of, last_of, top}
 use Rattle.ring_rules.specs.QueuePart.{phase_of, sight_of, got_of, masters_in, based, since_of, sent_of, sent_by, sent_in, part_of}
-use Rattle.ring_rules.proofs.rings.Lists.{at_set, get_or_beyond}
+use Rattle.ring_rules.proofs.rings.Lists.{at_set}
 use Rattle.ring_rules.proofs.rings.Maps.{flat-range_same}
 use Rattle.ring_rules.proofs.events.WhatRefuses.{MayTake, MayBegin}
 use Rattle.ring_rules.proofs.walks.Put.{number_up}

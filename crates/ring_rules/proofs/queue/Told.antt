@@ -1,12 +1,13 @@
 -- Whom a member has told how many messages there are: each member that had come by the version at which it last did has a
 -- Depth or a Start of it behind its own admission.
-use Rattle.std.proofs.Common.{◌≡◌, ◌≢◌, ℕ, suc, ◌+◌, ◌-◌, ◌<◌, ◌≤◌, Bool, true, false, cond, nat_eq, nat_lt, List, [], ◌∷◌, ◌++◌, length, take, drop, map, refl, sym, ap, subst, ◌∙◌, ⊎_elim, ◌⊎◌, inl, inr, arith, Option, Some, None, Result, Ok, Err}
-use Rattle.std.specs.Prelude.{◌&&◌, ◌||◌}
+use Rattle.std.proofs.Common.{◌≡◌, ◌≢◌, ℕ, suc, ◌+◌, ◌<◌, ◌≤◌, Bool, true, false, cond, nat_eq, nat_lt, List, [], ◌∷◌, ◌++◌, length, take, drop, map, refl, sym, ap, subst, ◌∙◌, ⊎_elim, ◌⊎◌, inl, inr, arith, Option, Some, None, Result, Ok, Err}
+use Rattle.std.specs.Prelude.{◌||◌}
 use Rattle.std.specs.List.{list_any}
-use Rattle.std.proofs.lemmas.Bool.{cases_eq, cases_lt, cases_Bool, false≢true}
+use Rattle.std.proofs.lemmas.Bool.{cases_eq, cases_lt, false≢true}
 use Rattle.std.proofs.lemmas.Bool.Decides.{nat_tests}
-use Rattle.std.proofs.lemmas.List.{drop-append-le, take-append-drop, length-set, get_or-set_same, get_or-set_other}
+use Rattle.std.proofs.lemmas.List.{drop-append-le, take-append-drop, get_or-set_same, get_or-set_other}
 use Rattle.std.proofs.lemmas.List.Folds.{list_any-append}
+use Rattle.std.proofs.Math.Bool.{or-true}
 use Rattle.std.proofs.Math.ListN.{drop_of_length-le}
 use Rattle.ring_names.specs.declared.reason.Reason.{Reason}
 use Rattle.queue_core.specs.declared.message.Message.{Message}
@@ -31,15 +32,15 @@ use Rattle.group_view.proofs.Joining.{MayAdmit, entry_other, entry_new, below_at
 use Rattle.ring_rules.specs.declared.event.Event.{Event}
 use Rattle.ring_rules.specs.declared.event.Event.TheVariants.{Cast, Publish, Get, Pop, Ack, Requeue, Depth, Start, Put, Take, TakeEnd, Gain, Stop, Mark as MarkEvent, Refresh, Admit, Pick, Erase, Synced, Refuse}
 use Rattle.ring_rules.specs.Machine.{World, Member, no_member, member_at, view_in, newest, ring}
-use Rattle.ring_rules.specs.Step.{size, log_of, published, publish_at, admitted_view, opening}
+use Rattle.ring_rules.specs.Step.{size, log_of, published, publish_at, opening}
 use Rattle.ring_rules.specs.Lawful.{row_of, JoinsInTime}
 use Rattle.ring_rules.specs.Laws.{GoesOn}
 use Rattle.ring_rules.specs.Event.{id_of, of_member, up_refusal, MayPublish, op_at, op_refusal, op_done, by_of, refused_at, done_at, at_found, refusal, effect, IsRun, last, erased_view, synced_view}
-use Rattle.ring_rules.proofs.rings.Lists.{at_set, get_or_beyond}
+use Rattle.ring_rules.proofs.rings.Lists.{get_or_beyond}
 use Rattle.ring_rules.proofs.events.Refusals.{id_within}
 use Rattle.ring_rules.proofs.events.Enabled.{up_none}
 use Rattle.ring_rules.proofs.invariants.FromLeft.{IsGood, HasViews}
-use Rattle.ring_rules.proofs.invariants.Happens.{newest_is, ring_below, reached_good}
+use Rattle.ring_rules.proofs.invariants.Happens.{ring_below, reached_good}
 use Rattle.ring_rules.proofs.invariants.Moves.{Move, event_moves}
 use Rattle.ring_rules.proofs.invariants.Newest.{NewestAfter, newest_stays, newest_marked, newest_erased, newest_synced, newest_admitted, newest_after}
 use Rattle.ring_names.specs.declared.numbers.CreditSpec.{CreditSpec}
@@ -242,12 +243,8 @@ now_tells k l m ge h =
     ap (λ ms. list_any is_tell (ops ms)) (drop-append-le k l (m ∷ []) ge)
     ∙ ap (list_any is_tell) (ops-append (drop k l) (m ∷ []))
     ∙ list_any-append is_tell (ops (drop k l)) (ops (m ∷ []))
-    ∙ or_second (list_any is_tell (ops (drop k l))) (list_any is_tell (ops (m ∷ []))) (one m h)
+    ∙ ap (λ b. list_any is_tell (ops (drop k l)) || b) (one m h) ∙ or-true (list_any is_tell (ops (drop k l)))
   where
-    or_second : (a b : Bool) → b ≡ true → (a || b) ≡ true
-    or_second true b e = refl
-    or_second false b e = e
-
     one : (m : Message) → list_any is_tell (ops_of m) ≡ true → list_any is_tell (ops (m ∷ [])) ≡ true
     one (message.Cast body) e = e
     one (message.Queue o) e = e

@@ -1,34 +1,32 @@
 -- The events that make a view are moves of the queue's laws.
-use Rattle.std.proofs.Common.{◌≡◌, ◌≢◌, ℕ, ◌<◌, ◌≤◌, ◌+◌, ◌-◌, Bool, true, false, cond, not, List, [], ◌∷◌, ◌++◌, length, map, get_or, refl, sym, ap, ◌∙◌, subst, arith, ⊎_elim, ◌⊎◌, inl, inr, Option, Some, None, option_map}
+use Rattle.std.proofs.Common.{◌≡◌, ◌≢◌, ℕ, ◌<◌, ◌≤◌, ◌+◌, Bool, true, false, cond, not, List, [], ◌∷◌, ◌++◌, length, map, get_or, refl, sym, ap, ◌∙◌, subst, arith, ⊎_elim, ◌⊎◌, inl, inr, Option, Some, None, option_map}
 use Rattle.std.specs.Prelude.{◌&&◌}
-use Rattle.std.proofs.lemmas.Bool.{cases_eq, cases_Bool, both_ways, false≢true, and_from}
+use Rattle.std.proofs.lemmas.Bool.{cases_eq, cases_Bool, false≢true, and_from}
 use Rattle.std.proofs.lemmas.List.{length-set, length_push, get_or_append_left, get_or_push}
 use Rattle.ring_names.specs.declared.numbers.MemberId.{MemberId}
 use Rattle.group_view.specs.declared.entry.Mark.TheVariants.{Dead, Erased}
 use Rattle.group_view.specs.declared.entry.Entry.{Entry}
 use Rattle.group_view.specs.Ring.{is_in, AreDistinct}
-use Rattle.group_view.specs.View.{Group, ids, entry_in, is_live, is_erased, stands_in}
+use Rattle.group_view.specs.View.{Group, ids, entry_in, is_erased, stands_in}
 use Rattle.group_view.specs.Since.{no_group}
-use Rattle.group_view.specs.Change.{marked, erased, admitted, remarked, registered, with_mark, with_synced, next as next_group}
+use Rattle.group_view.specs.Change.{marked, erased, with_mark, with_synced, next as next_group}
 use Rattle.group_view.proofs.Groups.{ids-remarked_group}
 use Rattle.group_view.proofs.Syncing.{same_ring_registered}
-use Rattle.group_view.proofs.Passing.{dead_in}
 use Rattle.promotion.specs.Elect.{elected, term_after, installed, IsLeader}
 use Rattle.promotion.proofs.Leading.{elected_leads, leader_stands}
 use Rattle.ring_rules.specs.declared.phase.Phase.TheVariants.{Waiting, Up, Stopped}
 use Rattle.ring_rules.specs.declared.phase.Ending.TheVariants.{Moved}
 use Rattle.ring_rules.specs.Rows.{Row}
-use Rattle.ring_rules.specs.Machine.{World, Member, no_member, row_at, numbers_at, member_at, link_at, view_in, newest, runs, runs_phase, is_waiting, oldest}
-use Rattle.ring_rules.specs.Step.{size, log_of, with_view, with_member, with_link, look_at, moved_to, open_to, opened_link, joiner, come_to, admitted_view, ended}
+use Rattle.ring_rules.specs.Machine.{World, Member, no_member, row_at, numbers_at, member_at, link_at, view_in, newest, runs, runs_phase, oldest}
+use Rattle.ring_rules.specs.Step.{size, log_of, with_view, with_link, look_at, moved_to, opened_link, joiner, come_to, admitted_view, ended}
 use Rattle.ring_rules.specs.Event.{refreshed, erased_view, synced_view}
-use Rattle.ring_rules.specs.Lawful.{row_of}
 use Rattle.ring_rules.specs.OpenLinks.{first_packet, own_number}
 use Rattle.ring_rules.proofs.rings.Lists.{get_or_beyond}
 use Rattle.ring_rules.proofs.events.Leaves.{member_leaves, come_member}
 use Rattle.ring_rules.proofs.events.WhatRefuses.{MayMark, MayErase, MaySync}
 use Rattle.ring_rules.proofs.walks.Put.{number_up}
 use Rattle.ring_rules.proofs.invariants.KeptAdmit.{CanJoin, joined_state, JoinFirst, came, was, join_first, join_log}
-use Rattle.ring_rules.proofs.invariants.Happens.{IsGood, newest_is, admit_composed}
+use Rattle.ring_rules.proofs.invariants.Happens.{newest_is, admit_composed}
 use Rattle.queue_mirror.specs.Mirror.{joining}
 use Rattle.queue_laws.specs.Part.{ops, is_up}
 use Rattle.queue_laws.specs.Moves.{IsNextView, see, elect, enter}
@@ -38,10 +36,10 @@ use Rattle.queue_laws.proofs.Good.{IsGood as IsGoodPart}
 use Rattle.queue_laws.proofs.Seen.{in_cases}
 use Rattle.ring_rules.specs.Masters.{masters_of, earlier_of, last_of, top}
 use Rattle.ring_rules.specs.QueuePart.{phase_of, sight_of, got_of, masters_in, sent_of, sent_by, part_of}
-use Rattle.ring_rules.proofs.queue.Views.{remarked_synced, admitted_synced, synced_there, gone_there, remarked_gone, erased_gone, admitted_gone, registered_gone, registered_synced, registered_newly}
+use Rattle.ring_rules.proofs.queue.Views.{remarked_synced, admitted_synced, synced_there, remarked_gone, admitted_gone, registered_gone, registered_synced, registered_newly}
 use Rattle.ring_rules.proofs.queue.Masters.{same_top, next_top, earlier_push, last_push, earlier_last}
-use Rattle.ring_rules.proofs.queue.Likes.{IsLike, IsQuiet, IsLooking, quiet_then, link_quiet, number_alike, refreshed_quiet, same_row}
-use Rattle.ring_rules.proofs.queue.Facts.{Facts, HasMasters, Rises, entry_below, running_is}
+use Rattle.ring_rules.proofs.queue.Likes.{IsLike, IsQuiet, link_quiet, number_alike, refreshed_quiet, same_row}
+use Rattle.ring_rules.proofs.queue.Facts.{Facts, HasMasters, entry_below, running_is}
 use Rattle.ring_rules.proofs.queue.Steps.{Result, not_both, logs_sent, logs_same, masters_are, same_front, like_phases, like_since, like_got, like_rises}
 use Rattle.ring_rules.proofs.queue.Sent.{sent_casts, sent_same, sent_more, since_kept, since_more}
 

@@ -1,6 +1,5 @@
 -- What the queue reads of views, where an entry is marked dead, erased or registered, or one comes.
 use Rattle.std.proofs.Common.{◌≡◌, ℕ, ◌+◌, Bool, true, false, cond, nat_eq, List, [], ◌∷◌, ◌++◌, map, refl, sym, ap, ◌∙◌, ◌⊎◌, inl, inr, ⊎_elim}
-use Rattle.std.specs.Prelude.{◌&&◌}
 use Rattle.std.proofs.lemmas.Bool.{false≢true, and_parts, and_from}
 use Rattle.group_view.specs.declared.entry.Entry.{Entry}
 use Rattle.group_view.specs.declared.entry.Mark.{Mark}
@@ -131,10 +130,6 @@ registered_newly g p q e = synced_newly p g.entries q (sym (registered_same g p 
 
 abbrev is_gone : Group → ℕ → Bool
 is_gone g q = (sight_of g).is_erased q
-
--- of who has an entry it is the mark
-pub gone_is : (g : Group) (q : ℕ) → is_in q (ids g.entries) ≡ true → is_gone g q ≡ is_erased g.entries q
-gone_is g q i = ap (λ b. b && is_erased g.entries q) i
 
 pub gone_there : (g : Group) (q : ℕ) → is_gone g q ≡ true → (is_in q (ids g.entries) ≡ true) × (is_erased g.entries q ≡ true)
 gone_there g q h = and_parts (is_in q (ids g.entries)) (is_erased g.entries q) h

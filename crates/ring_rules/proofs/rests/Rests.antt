@@ -1,6 +1,6 @@
 -- A ring whose members have nothing to do rests, whoever stopped and joined before.
 use Rattle.ring_rules.proofs.invariants.Good.{stands_now, lives_now}
-use Rattle.std.proofs.Common.{◌≡◌, ◌≢◌, ◌⊎◌, inl, inr, ℕ, zero, suc, ◌<◌, ◌≤◌, Bool, true, false, nat_eq, List, [], ◌∷◌, length, get_or, is_some, refl, sym, ap, subst, ◌∙◌, ⊎_elim, arith, Some, None}
+use Rattle.std.proofs.Common.{◌≡◌, ◌⊎◌, inl, inr, ℕ, zero, suc, ◌<◌, ◌≤◌, Bool, true, false, nat_eq, List, [], ◌∷◌, length, get_or, is_some, refl, sym, ap, subst, ◌∙◌, ⊎_elim, arith}
 use Rattle.std.specs.Prelude.{◌||◌, ◌&&◌}
 use Rattle.std.proofs.lemmas.Bool.{false≢true, cases_lt}
 use Rattle.ring_names.specs.declared.numbers.CreditSpec.{CreditSpec}
@@ -15,7 +15,7 @@ use Rattle.group_view.proofs.Rings.{sym_test, not_equal_in}
 use Rattle.ring_rules.specs.View.{is_live, left_of, right_of}
 use Rattle.ring_rules.specs.Machine.{Phase, Waiting, Up, Stopped, World, no_member, member_at, view_in, newest, ring, left, right, runs, runs_phase}
 use Rattle.ring_rules.specs.Step.{size, log_of, opening}
-use Rattle.ring_rules.specs.Event.{Event, IsRun, last, is_stopped, left_neighbour, is_neighbour, is_still_taken, at_door, mark_refusal, synced_refusal}
+use Rattle.ring_rules.specs.Event.{Event, IsRun, last, is_stopped, left_neighbour, is_neighbour, is_still_taken, at_door, mark_refusal}
 use Rattle.ring_rules.specs.Lawful.{row_of}
 use Rattle.ring_rules.specs.Idle.{NobodySteps, MarksNobody, ErasesNobody, HasNobodyGone, IsIdle}
 use Rattle.ring_rules.specs.Quiet.{IsAtRest, RingRests}

@@ -9,7 +9,7 @@ use Rattle.ring_rules.specs.View.{ids, is_live, left_of, right_of, left_by, righ
 use Rattle.group_view.specs.Ring.{left_in, right_in, is_in, AreDistinct}
 use Rattle.ring_rules.specs.Machine.{World, member_at, view_in, newest, ring, left, right, runs, Phase, Waiting, Up, Stopped, Link, is_kept, is_kept_of, is_waiting, link_at, numbers_at}
 use Rattle.ring_rules.specs.Step.{with_view}
-use Rattle.group_view.specs.Change.{marked, remarked, registered}
+use Rattle.group_view.specs.Change.{marked, remarked}
 use Rattle.group_view.proofs.Lists.{all_range_agree}
 use Rattle.group_view.proofs.Rings.{nat_eq-is, nat_eq-not}
 use Rattle.group_view.proofs.Passing.{are_mutual}

@@ -17,7 +17,7 @@ use Rattle.ring_rules.specs.Event.{refreshed, has_nothing_new}
 use Rattle.ring_rules.proofs.rings.Rounds.{nat_eq-same}
 use Rattle.ring_rules.proofs.work.Fit.{IsFit}
 use Rattle.ring_rules.proofs.work.Refreshed.{sends_right, new_link, opened_world, old_links, old_many, link_old, link_new, links_more, refresh_cases, goes_to}
-use Rattle.ring_rules.specs.Work.{sum_below, entry_left, marks_left, is_stale, stale_by, stale, is_led, is_late, is_untold, untold, owed_by, owed_at, dirty_on, dirty_at, items, place_at, weight_at, on_links, Falls}
+use Rattle.ring_rules.specs.Work.{sum_below, entry_left, marks_left, is_stale, stale_by, stale, is_led, is_late, is_untold, untold, owed_by, dirty_on, dirty_at, items, place_at, weight_at, on_links, Falls}
 use Rattle.ring_rules.proofs.work.Falls.{next_is_sent}
 use Rattle.ring_rules.proofs.work.Parts.{nothing, stale_written, dirty_same, Lowers, LowersThen, step_lowers, listed}
 use Rattle.ring_rules.proofs.work.Places.{IsWritten, written, place_most, NoneRises, refresh_places}

@@ -13,7 +13,7 @@ use Rattle.ring_rules.specs.declared.phase.Phase.TheVariants.{Waiting, Up, Stopp
 use Rattle.ring_rules.specs.Machine.{World, member_at, view_in, newest, ring, runs, runs_phase, link_at, oldest, Up, Waiting}
 use Rattle.ring_rules.specs.Step.{size, current_is, gain_on, leave_link, put_on, with_view, begun, taker}
 use Rattle.ring_rules.specs.declared.event.Event.{Event}
-use Rattle.ring_rules.specs.declared.event.Event.TheVariants.{Cast, Put, Take, TakeEnd, Gain, Depth, Start, Stop, Mark, Erase, Synced, Admit, Refresh, Pick, Refuse}
+use Rattle.ring_rules.specs.declared.event.Event.TheVariants.{Put, Take, TakeEnd, Gain, Depth, Start, Mark, Erase, Synced, Refresh, Pick}
 use Rattle.ring_rules.specs.Event.{id_of, of_member, on_link, is_stopped, running_refusal, up_refusal, put_refusal, take_refusal, end_refusal, gain_refusal, pick_refusal, mark_refusal, erase_refusal, synced_refusal, refresh_refusal, refusal, effect, at_door, at_found, by_of, done_at, erased_view, refused_at, taken_by, version_refusal, refreshed}
 use Rattle.ring_rules.specs.Idle.{HasNoStep, HasNothingToDo, IsIdle}
 use Rattle.ring_rules.proofs.rings.Rounds.{nat_eq-is, nat_eq-same}

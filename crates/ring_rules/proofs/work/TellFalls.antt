@@ -1,8 +1,8 @@
 -- A Start and a Depth leave less to do, where they are owed.
-use Rattle.std.proofs.Common.{◌≡◌, ◌≢◌, ℕ, zero, suc, ◌+◌, ◌-◌, ◌*◌, ◌<◌, ◌≤◌, Bool, true, false, not, nat_eq, nat_lt, nat_le, List, [], ◌∷◌, ◌++◌, length, Option, Some, None, cond, if◌then◌else◌, refl, sym, ap, subst, ◌∙◌, ⊎_elim, arith, inl, inr}
+use Rattle.std.proofs.Common.{◌≡◌, ◌≢◌, ℕ, zero, suc, ◌+◌, ◌-◌, ◌*◌, ◌<◌, ◌≤◌, Bool, true, false, not, nat_eq, nat_lt, nat_le, List, [], ◌∷◌, length, Option, Some, None, cond, if◌then◌else◌, refl, sym, ap, subst, ◌∙◌, arith, inl, inr}
 use Rattle.std.specs.Prelude.{◌&&◌, ◌||◌}
 use Rattle.std.specs.List.{count_by}
-use Rattle.std.proofs.lemmas.Bool.{false≢true, cases_eq}
+use Rattle.std.proofs.lemmas.Bool.{false≢true}
 use Rattle.std.proofs.lemmas.Bool.Decides.{nat_tests}
 use Rattle.std.proofs.lemmas.List.{length_push}
 use Rattle.std.proofs.lemmas.List.Sums.{sum_by-cons}
@@ -11,25 +11,23 @@ use Rattle.ring_names.specs.declared.reason.Reason.{Reason}
 use Rattle.ring_names.specs.declared.reason.Reason.TheVariants as reason
 use Rattle.queue_core.specs.declared.message.Message.{Message}
 use Rattle.queue_core.specs.declared.message.Message.TheVariants as message
-use Rattle.queue_core.specs.declared.op.Op.{Op}
 use Rattle.queue_core.specs.declared.op.Op.TheVariants as op
 use Rattle.queue_mirror.specs.Master.{lead_by, lead_refusal}
 use Rattle.group_view.specs.declared.entry.Entry.{Entry}
 use Rattle.group_view.specs.View.{Group, is_live_mark}
 use Rattle.ring_rules.specs.Refusal.{refuse_if, or_else}
 use Rattle.ring_rules.specs.Rows.{Row}
-use Rattle.ring_rules.specs.Machine.{Member, Link, World, member_at, link_at, view_in, newest}
+use Rattle.ring_rules.specs.Machine.{Member, World, member_at, link_at, view_in}
 use Rattle.ring_rules.specs.Step.{size, log_of, published, publish_at}
 use Rattle.ring_rules.specs.Event.{start_refusal, has_nothing_new}
 use Rattle.ring_rules.specs.Lawful.{row_of}
-use Rattle.ring_rules.specs.Work.{sum_below, items, place_at, weight_at, on_links, marks_left, stale_by, stale, dirty_on, dirty_at, dirty, lag_row, lag_at, lag_by, lag, traffic, is_led, is_late, is_untold, untold, owed_by, owed_at, owed, total}
+use Rattle.ring_rules.specs.Work.{sum_below, items, place_at, weight_at, on_links, marks_left, stale, dirty_on, dirty_at, dirty, lag_row, lag_at, lag_by, lag, is_led, is_late, is_untold, untold, owed_by, owed_at, owed}
 use Rattle.ring_rules.proofs.events.Cases.{IsRunning}
 use Rattle.ring_rules.proofs.events.Refusals.{refuse_none}
-use Rattle.ring_rules.proofs.rings.Rounds.{nat_eq-is}
 use Rattle.ring_rules.proofs.work.Fit.{IsFit, few_members}
 use Rattle.ring_rules.proofs.work.Sums.{sum_le, sum_at, sum_ids}
 use Rattle.ring_rules.proofs.work.TakeFalls.{row_less}
-use Rattle.ring_rules.proofs.work.Parts.{stale_written, dirty_same, Lowers, LowersThen}
+use Rattle.ring_rules.proofs.work.Parts.{stale_written, dirty_same, LowersThen}
 use Rattle.ring_rules.proofs.work.Places.{IsWritten, written, NoneRises, written_places}
 
 -- ---- sums

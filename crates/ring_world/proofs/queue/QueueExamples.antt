@@ -1,19 +1,17 @@
 -- Small rings with a queue, computed.
-use Rattle.std.proofs.Common.{◌≡◌, ℕ, ◌++◌, List, [], ◌∷◌, Some, None, Option, refl}
+use Rattle.std.proofs.Common.{◌≡◌, ℕ, ◌++◌, List, [], ◌∷◌, Some, None, refl}
 use Rattle.std.proofs.lemmas.Bool.{leb-true as le_of}
 use Rattle.ring_names.specs.declared.numbers.CreditSpec.{CreditSpec}
 use Rattle.ring_names.specs.declared.numbers.Position.{Position}
-use Rattle.ring_names.specs.declared.reason.Reason.{Reason}
 use Rattle.ring_names.specs.declared.reason.Reason.TheVariants as reason
-use Rattle.queue_core.specs.declared.held.CopyState.TheVariants.{Ready, Again, Unacked}
-use Rattle.queue_core.specs.Queue.{Item}
+use Rattle.queue_core.specs.declared.held.CopyState.TheVariants.{Ready, Again}
 use Rattle.queue_mirror.specs.Mirror.{MirrorState}
 use Rattle.ring_rules.specs.View.{left_by, right_by}
 use Rattle.ring_rules.specs.Machine.{World, is_kept_of, member_at, view_in, newest}
 use Rattle.ring_rules.specs.Step.{opening}
 use Rattle.ring_rules.specs.Asked.{counts_of}
 use Rattle.ring_rules.specs.QueuePart.{masters_in, since_of}
-use Rattle.ring_rules.specs.declared.event.Event.TheVariants.{Publish, Get, Pop, Ack, Requeue, Depth, Start, Put, Take, TakeEnd, Stop, Mark, Erase, Synced, Admit, Refresh, Pick}
+use Rattle.ring_rules.specs.declared.event.Event.TheVariants.{Publish, Get, Ack, Requeue, Depth, Start, Put, Take, TakeEnd, Stop, Mark, Erase, Synced, Admit, Refresh, Pick}
 use Rattle.ring_rules.specs.declared.event.Event.{Event}
 use Rattle.ring_rules.proofs.runs.Examples.{a, b, c}
 use Rattle.ring_rules.proofs.runs.JoinExamples.{reasons, ends_in}

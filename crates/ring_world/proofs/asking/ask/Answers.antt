@@ -1,4 +1,4 @@
-use Rattle.std.proofs.Common.{◌≡◌, suc, ap, ◌∙◌}
+use Rattle.std.proofs.Common.{suc, ap, ◌∙◌}
 use Rattle.ring_rules.specs.Event.{op_refusal, op_at}
 use Rattle.ring_rules.proofs.events.Enabled.{up_later}
 use Rattle.ring_world.specs.Asking.{as_event}
