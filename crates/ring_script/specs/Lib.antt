@@ -4,5 +4,6 @@ pub mod Fault
 pub mod Line
 pub mod Script
 pub mod Steps
+pub mod QueueWords
 pub mod Reading
 pub mod Standing

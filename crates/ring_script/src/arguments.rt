@@ -32,7 +32,7 @@ pub(crate) fn read_members(alloc: Global, rest: Words) -> Result<Vec<Name>, Line
 }
 
 /// The word as a further name behind these.
-pub(crate) fn further_name(names: &[Name], word: &[u8]) -> Result<Name, Kind>
+pub fn further_name(names: &[Name], word: &[u8]) -> Result<Name, Kind>
     ensures ok { IfOk result (λ name. (name ≡ word.now) × (further_fault names.now word.now ≡ None)) }
     ensures fault { IfErr result (λ kind. further_fault names.now word.now ≡ Some kind) }
 {

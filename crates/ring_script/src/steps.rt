@@ -23,7 +23,7 @@ pub type Steps = Text<Event>;
 
 /// The event that the first word of a line begins.
 #[derive(Clone, Copy, PartialEq, Eq, Debug)]
-pub(crate) enum EventWord {
+pub enum EventWord {
     /// A member multicasts a body.
     Cast,
     /// A member has another marked dead.
@@ -42,32 +42,41 @@ pub(crate) enum EventWord {
 
 /// What a client asks of a member, by the word that begins it.
 #[derive(Clone, Copy, PartialEq, Eq, Debug)]
-pub(crate) enum ClientWord {
+pub enum ClientWord {
+    /// To multicast a body.
     Cast,
+    /// To stop.
     Stop,
+    /// To admit a newcomer.
     Admit,
 }
 
 /// A step of a member that its name alone tells.
 #[derive(Clone, Copy, PartialEq, Eq, Debug)]
-pub(crate) enum OwnStep {
+pub enum OwnStep {
+    /// It puts a packet.
     Put,
+    /// It takes a packet.
     Take,
+    /// It takes the end of a link.
     TakeEnd,
+    /// It gains a grant as credit.
     Gain,
+    /// It stops.
     Stop,
+    /// It picks the link that it takes from.
     Pick,
 }
 
 /// The greatest version that a line may name.
-const MOST_VERSION: u32 = 1_000_000;
+pub const MOST_VERSION: u32 = 1_000_000;
 
 /// The greatest number of a refusal that a line may name.
-const MOST_CODE: u32 = 99;
+pub const MOST_CODE: u32 = 99;
 
 impl EventWord {
     /// What this word begins, if it does.
-    fn of(word: &[u8]) -> Option<EventWord>
+    pub fn of(word: &[u8]) -> Option<EventWord>
         ensures { result ≡ event_word_of word.now }
     {
         by_word!(word;
@@ -84,7 +93,7 @@ impl EventWord {
 
 impl ClientWord {
     /// What a client asks for that this word begins, if it begins that.
-    fn of(word: &[u8]) -> Option<ClientWord>
+    pub fn of(word: &[u8]) -> Option<ClientWord>
         ensures { result ≡ client_word_of word.now }
     {
         by_word!(word;
@@ -98,7 +107,7 @@ impl ClientWord {
 
 impl OwnStep {
     /// The step that this word names, if it does.
-    fn of(word: &[u8]) -> Option<OwnStep>
+    pub fn of(word: &[u8]) -> Option<OwnStep>
         ensures { result ≡ own_step_of word.now }
     {
         by_word!(word;
@@ -113,7 +122,7 @@ impl OwnStep {
     }
 
     /// The step as an event of the member of this name.
-    fn event(self, by: Name) -> Event
+    pub fn event(self, by: Name) -> Event
         ensures { result ≡ own_event self by }
     {
         match self {

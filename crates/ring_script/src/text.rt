@@ -65,7 +65,7 @@ pub fn line_count(bytes: &[u8]) -> u64
 
 /// The first line, and the text behind its line feed.
 #[tactic(auto, using(crate::proofs::FirstLine::lines_of_found, crate::proofs::FirstLine::lines_of_missed))]
-fn next_line(text: &[u8]) -> (&[u8], &[u8])
+pub fn next_line(text: &[u8]) -> (&[u8], &[u8])
     requires { 0 < length text.now }
     ensures lines { lines_of text.now ≡ result.0.now ∷ lines_of result.1.now }
     ensures shorter { length result.1.now < length text.now }
