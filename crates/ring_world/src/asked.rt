@@ -15,6 +15,7 @@ use crate::places::place_in;
 use crate::seat::Seat;
 use crate::state::Ring;
 use queue_core::{Held, Message};
+use queue_mirror::Mirror;
 use ring_names::{MemberId, Name, OutOfMemory, Position};
 use ring_rules::{Counts, MemberState, Phase, counts_in};
 use std::alloc::Global;
@@ -44,6 +45,24 @@ pub(crate) fn heard_at(
 {
     let all = heard_from(alloc, &ring.seats[place], id_at(origin) as usize)?;
     Ok(all)
+}
+
+/// The name of the member at a place.
+#[tactic(auto, using(crate::proofs::code::ShownParts::read_member))]
+pub(crate) fn name_at(ring: &Ring, place: usize) -> &Name
+    requires { place < length ring.now.seats.items }
+    ensures { result.now ≡ (member_at (world_of ring.now) (suc place)).name }
+{
+    &ring.seats[place].name
+}
+
+/// Its mirror of the queue.
+#[tactic(auto, using(crate::proofs::code::ShownParts::read_member))]
+pub(crate) fn mirror_at(ring: &Ring, place: usize) -> &Mirror
+    requires { place < length ring.now.seats.items }
+    ensures { result.now.mirror ≡ (member_at (world_of ring.now) (suc place)).mirror }
+{
+    &ring.seats[place].mirror
 }
 
 /// Where a member stands whose mirror lacks so many messages.

@@ -1,13 +1,13 @@
 //! The machine.
-ghost use Rattle.std.specs.Prelude.{◌≡◌, ◌↔◌, IsTrue, ◌++◌, ◌∷◌, [], Some, None, Result, Ok, Err, IsSome, IfOk};
+ghost use Rattle.std.specs.Prelude.{◌≡◌, ◌↔◌, ℕ, ◌+◌, ◌<◌, ◌≤◌, IsTrue, ◌++◌, ◌∷◌, [], Some, None, Result, Ok, Err, IsSome, IfOk};
 ghost use Rattle.std.specs.Prelude.{option_map};
 ghost use Rattle.std.specs.Prelude.{IfErr, OnOk};
 ghost use Rattle.std.specs.Prelude.{OnErr};
 ghost use Rattle.ring_names.specs.declared.reason.Reason.{Reason};
 ghost use Rattle.ring_rules.specs.Refusal.{answer_of};
 ghost use Rattle.group_view.specs.Change.{AreOpeningNames};
-ghost use Rattle.ring_rules.specs.Step.{opening as the_opening};
-ghost use Rattle.ring_rules.specs.Machine.{view_in, newest};
+ghost use Rattle.ring_rules.specs.Step.{opening as the_opening, size};
+ghost use Rattle.ring_rules.specs.Machine.{view_in, newest, member_at};
 ghost use Rattle.ring_rules.specs.Rows.{messages_between};
 ghost use Rattle.ring_world.specs.Placed.{IsReady};
 ghost use Rattle.ring_world.specs.Shows.{world_of};
@@ -28,6 +28,7 @@ use crate::walk::walk_of_name;
 use crate::{asked, dispatch, quiet, starting};
 use group_view::View;
 use queue_core::{Held, Message};
+use queue_mirror::Mirror;
 use ring_names::{CreditSpec, MemberId, Name, OutOfMemory, Position, Reason};
 use ring_rules::{Counts, Event, MemberState, Refused};
 use std::alloc::Global;
@@ -143,6 +144,40 @@ impl World {
         ensures { result ≡ id_at (id_of (self.now).ring name.now) }
     {
         asked::member_named(&self.ring, name)
+    }
+
+    /// How many members the ring has ever had, those that joined among them: their ids go from 1 to this number. It
+    /// wants no memory.
+    #[tactic(auto, using(crate::proofs::code::Running::running_placed))]
+    pub fn members(&self) -> u32
+        ensures value { result + 1 ≡ size (self.now).ring }
+        ensures few { result ≤ 64 }
+    {
+        self.ring.seats.len() as u32
+    }
+
+    /// The name of the member of an id, by which the other calls find it. It wants no memory.
+    #[tactic(auto, using(crate::proofs::code::HeldLaws::name_found, crate::proofs::code::ShownParts::read_member))]
+    pub fn name_of(&self, id: MemberId) -> &Name
+        requires some { 1 ≤ id.0 }
+        requires there { id.0 < size (self.now).ring }
+        ensures name { result.now ≡ (member_at (self.now).ring id.0).name }
+        ensures found { id_of (self.now).ring result.now ≡ Some id.0 }
+    {
+        asked::name_at(&self.ring, id.0 as usize - 1)
+    }
+
+    /// The mirror of the queue at a member: also of one that has stopped, as it was then; of one that waits it holds
+    /// nothing yet. It wants no memory.
+    pub fn mirror(&self, of: &Name) -> &Mirror
+        requires { IsSome (id_of (self.now).ring of.now) }
+        ensures { (x : ℕ) → id_of (self.now).ring of.now ≡ Some x
+            → result.now.mirror ≡ (member_at (self.now).ring x).mirror }
+    {
+        match place_in(&self.ring, of) {
+            Some(place) => asked::mirror_at(&self.ring, place),
+            None => unreachable!(),
+        }
     }
 
     /// Where a member stands, and of one that is up how many messages its mirror of the queue lacks: none where it was

@@ -19,6 +19,7 @@ use Rattle.ring_rules.proofs.runs.LinkCredit.{run_credited}
 use Rattle.ring_world.proofs.code.Agreed.{agreed_from}
 use Rattle.ring_world.proofs.code.Running.{reached_more}
 use Rattle.ring_rules.proofs.events.Refusals.{id_within}
+use Rattle.ring_rules.proofs.invariants.Named.{reached_named, named_found}
 use Rattle.std.proofs.Math.Nat.{ℕ_set}
 use Rattle.std.proofs.Props.{props}
 use Rattle.queue_core.specs.declared.message.Message.{Message}
@@ -143,3 +144,17 @@ pub lawful_more : (seen : WorldSeen) (w : World) (n : ℕ) (e : Event) → ∥ I
 lawful_more seen w n e r x is =
     let after : WorldSeen = record { ring = w; refusals = seen.refusals ++ refusals_of (e ∷ []) } in
     lawful_from seen n w.initial w r (λ h. reached_lawful after (n + 1) (reached_more seen after n (n + 1) e h x is refl refl))
+
+-- ---- names
+
+places_set : (p q : Option ℕ) → IsProp (p ≡ q)
+places_set p q = hlevel props
+
+reached_found : (seen : WorldSeen) (n x : ℕ) → 1 ≤ x → x < size seen.ring → IsReachedIn seen n → id_of seen.ring (member_at seen.ring x).name ≡ Some x
+reached_found seen n x some lt r =
+    subst (λ v. id_of v (member_at v x).name ≡ Some x) (sym r.is)
+    (named_found (last (opening r.credit r.names) r.events) x (reached_named r.credit r.names r.events r.are r.run) some (subst (λ v. x < size v) r.is lt))
+
+-- each member is the one that its name finds
+pub name_found : (a : Inside) (x : ℕ) → IsRunning a → 1 ≤ x → x < size (state_of a) → id_of (state_of a) (member_at (state_of a) x).name ≡ Some x
+name_found a x r some lt = ∥∥₁_elim r.reached (places_set _ _) (reached_found (seen_of a) a.applied x some lt)
