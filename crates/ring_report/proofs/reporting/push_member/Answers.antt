@@ -1,0 +1,12 @@
+use Rattle.ring_report.proofs.Telling.{lines_stand}
+use Rattle.ring_report.proofs.reporting.push_member.Goals as goal
+
+pub returns : goal.returns
+returns c =
+    let w = c.args.world.now.ring in
+    let x = c.args.id.0 in
+    let found = c.name_of-name.ensures.found in
+    lines_stand w c.args.world.now.refusals c.refusals.result.now x c.name_of-name.result.now c.view.result.now c.state-stands.result c.counts.result
+    c.args.out.now.items c.push_state.new.out.items c.push_counts.new.out.items c.push_heard.new.out.items c.push_held.new.out.items c.push_refusals.new.out.items
+    c.name_of-name.ensures.name found c.view.ensures c.state-stands.ensures c.counts.ensures c.refusals.ensures
+    c.in_ok-push_state.ensures c.in_ok-push_counts.ensures (c.in_ok-push_heard.ensures x found) (c.in_ok-push_held.ensures x found) c.in_ok-push_refusals.ensures

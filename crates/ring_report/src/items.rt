@@ -1,0 +1,74 @@
+//! The items of a mirror.
+ghost use Rattle.std.specs.Prelude.{◌≡◌, ◌++◌, OnOk, codes};
+ghost use Rattle.std.specs.Fmt.{decimal};
+ghost use Rattle.std.specs.List.{flat_map};
+ghost use Rattle.queue_core.specs.Shown.{item_of};
+ghost use Rattle.ring_report.specs.Report.{item_line, item_lines, told_line};
+
+use queue_core::{CopyState, Held, Queue};
+use ring_names::{Body, OutOfMemory, Position};
+use std::alloc::Global;
+
+/// The ready items by their positions, and then those that are handed out.
+pub(crate) fn push_items(alloc: Global, out: &mut Vec<u8>, queue: &Queue) -> Result<(), OutOfMemory>
+    ensures { OnOk result (out.new.items ≡ out.old.items ++ item_lines (queue.now).queue.items) }
+{
+    push_told(alloc, out, queue, false)?;
+    push_told(alloc, out, queue, true)?;
+    Ok(())
+}
+
+/// Those that are handed out, or the others.
+fn push_told(
+    alloc: Global,
+    out: &mut Vec<u8>,
+    queue: &Queue,
+    handed: bool,
+) -> Result<(), OutOfMemory>
+    ensures { OnOk result (out.new.items ≡ out.old.items ++ flat_map (told_line handed) (queue.now).queue.items) }
+{
+    let _next = queue.next();
+    let mut from = 0;
+    for _place in 0..queue.depth() {
+        let Some(held) = queue.item_from(Position(from)) else {
+            unreachable!()
+        };
+        from = held.at.0 + 1;
+        push_item(alloc, out, &held, handed)?;
+    }
+    Ok(())
+}
+
+/// An item among those that are handed out, or among the others.
+fn push_item(
+    alloc: Global,
+    out: &mut Vec<u8>,
+    held: &Held<'_>,
+    handed: bool,
+) -> Result<(), OutOfMemory>
+    ensures { OnOk result (out.new.items ≡ out.old.items ++ told_line handed (item_of held.now)) }
+{
+    let word = match (handed, held.state) {
+        (false, CopyState::Ready) => "ready",
+        (false, CopyState::Again) => "again",
+        (true, CopyState::Unacked) => "unacked",
+        _ => return Ok(()),
+    };
+    push_line(alloc, out, word, held.at, held.body)
+}
+
+fn push_line(
+    alloc: Global,
+    out: &mut Vec<u8>,
+    word: &str,
+    at: Position,
+    body: &Body,
+) -> Result<(), OutOfMemory>
+    ensures { OnOk result (out.new.items ≡ out.old.items ++ item_line word.now at.0 body.now) }
+{
+    let line = format!(in alloc; "{word} {} ", at.0)?;
+    out.extend_from_slice(line.as_bytes())?;
+    out.extend_from_slice(body.bytes())?;
+    out.extend_from_slice(b"\n")?;
+    Ok(())
+}

@@ -1,0 +1,108 @@
+//! The report of the plain machine.
+ghost use Rattle.std.specs.Prelude.{◌≡◌, ℕ, ◌<◌, ◌≤◌, ◌++◌, Some, IsSome, IfOk, OnOk};
+ghost use Rattle.ring_rules.specs.Step.{size};
+ghost use Rattle.ring_rules.specs.Event.{id_of};
+ghost use Rattle.ring_rules.specs.Machine.{member_at};
+ghost use Rattle.ring_report.specs.Report.{report_of, lines_of_member, heard_from, heard_lines, item_lines, stands_at, while_up};
+
+use crate::items::push_items;
+use crate::members::{push_counts, push_messages, push_state};
+use crate::refusals::push_refusals;
+use crate::view::push_ring;
+use ring_names::{MemberId, Name, OutOfMemory};
+use ring_rules::MemberState;
+use ring_world::World;
+use std::alloc::Global;
+
+/// The report of a ring's state: its newest view, and of each member that it has ever had, by ids, where it stands, how
+/// much it has published and how much of that is confirmed; of one that is up the casts that it has heard, origin by
+/// origin, and the items of its mirror; and what it refused.
+pub fn report(alloc: Global, world: &World) -> Result<Vec<u8>, OutOfMemory>
+    ensures { IfOk result (λ text. text.items ≡ report_of (world.now).ring (world.now).refusals) }
+{
+    let mut text = Vec::new(alloc);
+    push_ring(alloc, &mut text, world.view())?;
+    for place in 0..world.members() {
+        push_member(alloc, &mut text, world, MemberId(place + 1))?;
+    }
+    Ok(text)
+}
+
+/// The lines of the member of an id.
+fn push_member(
+    alloc: Global,
+    out: &mut Vec<u8>,
+    world: &World,
+    id: MemberId,
+) -> Result<(), OutOfMemory>
+    requires some { 1 ≤ id.0 }
+    requires there { id.0 < size (world.now).ring }
+    ensures { OnOk result (out.new.items ≡ out.old.items
+        ++ lines_of_member (world.now).ring (world.now).refusals id.0) }
+{
+    let name = world.name_of(id);
+    let stands = world.state(name);
+    push_state(alloc, out, name, id, stands, world.view())?;
+    push_counts(alloc, out, &world.counts(name))?;
+    push_heard(out, world, name, stands)?;
+    push_held(alloc, out, world, name, stands)?;
+    push_refusals(alloc, out, world.refusals(), name)?;
+    Ok(())
+}
+
+/// What the member of a name has heard, where it is up.
+fn push_heard(
+    out: &mut Vec<u8>,
+    world: &World,
+    name: &Name,
+    stands: MemberState,
+) -> Result<(), OutOfMemory>
+    requires { IsSome (id_of (world.now).ring name.now) }
+    ensures { OnOk result ((x : ℕ) → id_of (world.now).ring name.now ≡ Some x → out.new.items ≡ out.old.items
+        ++ while_up stands (heard_lines (world.now).ring x)) }
+{
+    match stands {
+        MemberState::Up { .. } => {}
+        MemberState::Waiting | MemberState::Stopped => return Ok(()),
+    }
+    for place in 0..world.members() {
+        push_heard_of(out, world, name, MemberId(place + 1))?;
+    }
+    Ok(())
+}
+
+/// What it has heard of the member of an id.
+fn push_heard_of(
+    out: &mut Vec<u8>,
+    world: &World,
+    name: &Name,
+    origin: MemberId,
+) -> Result<(), OutOfMemory>
+    requires by { IsSome (id_of (world.now).ring name.now) }
+    requires some { 1 ≤ origin.0 }
+    requires there { origin.0 < size (world.now).ring }
+    ensures { OnOk result ((x : ℕ) → id_of (world.now).ring name.now ≡ Some x → out.new.items ≡ out.old.items
+        ++ heard_from (world.now).ring x origin.0) }
+{
+    let origin = world.name_of(origin);
+    let messages = world.heard(name, origin)?;
+    push_messages(out, origin.bytes(), &messages)
+}
+
+/// The items of its mirror, where it is up.
+fn push_held(
+    alloc: Global,
+    out: &mut Vec<u8>,
+    world: &World,
+    name: &Name,
+    stands: MemberState,
+) -> Result<(), OutOfMemory>
+    requires { IsSome (id_of (world.now).ring name.now) }
+    ensures { OnOk result ((x : ℕ) → id_of (world.now).ring name.now ≡ Some x → out.new.items ≡ out.old.items
+        ++ while_up stands (item_lines (member_at (world.now).ring x).mirror.queue.items)) }
+{
+    match stands {
+        MemberState::Up { .. } => push_items(alloc, out, world.mirror(name).queue()),
+        MemberState::Waiting | MemberState::Stopped => Ok(()),
+    }
+}
