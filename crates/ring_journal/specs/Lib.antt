@@ -1,0 +1,9 @@
+pub mod Fault
+pub mod Fields
+pub mod Asked
+pub mod Event
+pub mod Header
+pub mod Text
+pub mod Written
+pub mod Played
+pub mod Laws

@@ -1,0 +1,36 @@
+//! What journals promise, whatever their bytes.
+ghost use Rattle.std.specs.Prelude.{◌≡◌, ℕ, List};
+ghost use Rattle.ring_rules.specs.declared.event.Event.{Event};
+ghost use Rattle.ring_world.specs.Reached.{WorldSeen};
+ghost use Rattle.ring_journal.specs.declared.verdict.Verdict.{Verdict};
+ghost use Rattle.ring_journal.specs.declared.verdict.Verdict.TheVariants.{Legal};
+ghost use Rattle.ring_journal.specs.Text.{IsVerdictOf};
+ghost use Rattle.ring_journal.specs.Laws.{IsOfRun};
+
+use ring_rules::{
+    an_idle_ring_is_quiet, each_step_of_repair_leaves_less_to_do, every_number_is_bounded,
+    every_queue_is_right, every_ring_settles, every_state_is_lawful, later_masters_start_first,
+    nothing_falls_through_deaths,
+};
+
+/// A journal is legal only where its events are a run of the ring, and then its world is the state that they leave: in
+/// it every law of every run holds, of the ring and of its queue, and from each earlier state on nothing has fallen.
+pub fn a_legal_journal_is_a_run()
+    ensures { (bytes : List ℕ) (w : WorldSeen) (events : List Event) → IsVerdictOf bytes (Legal w events) → IsOfRun w events }
+{
+    every_state_is_lawful();
+    nothing_falls_through_deaths();
+    every_queue_is_right();
+    later_masters_start_first();
+    an_idle_ring_is_quiet();
+    each_step_of_repair_leaves_less_to_do();
+    every_ring_settles();
+    every_number_is_bounded();
+}
+
+/// Each text has a verdict, and one alone.
+pub fn each_text_has_one_verdict()
+    ensures some { (bytes : List ℕ) → (verdict : Verdict) × IsVerdictOf bytes verdict }
+    ensures one { (bytes : List ℕ) (verdict other : Verdict) → IsVerdictOf bytes verdict → IsVerdictOf bytes other
+        → verdict ≡ other }
+{}
