@@ -20,31 +20,25 @@ use ring_names::{MemberId, Name, OutOfMemory, Position};
 use ring_rules::{Counts, MemberState, Phase, counts_in};
 use std::alloc::Global;
 
-/// What a member has heard of an origin.
-fn heard_from(alloc: Global, seat: &Seat, origin: usize) -> Result<Vec<Message>, OutOfMemory>
-    ensures { IfOk result (λ v. v.items ≡ (row_at (member_of seat.now) origin).heard) }
+/// What a member has heard of an origin: nothing where it has no row of it yet.
+fn heard_from(seat: &Seat, origin: usize) -> &[Message]
+    ensures { result.now ≡ (row_at (member_of seat.now) origin).heard }
 {
     match seat.rows.get(origin) {
-        Some(row) => copied(alloc, &row.heard),
-        None => Ok(Vec::new(alloc)),
+        Some(row) => &row.heard,
+        None => &[],
     }
 }
 
 /// What the member at a place has heard of that at another.
 #[tactic(auto, using(crate::proofs::code::ShownParts::read_member, crate::proofs::code::Found::few_seats))]
-pub(crate) fn heard_at(
-    alloc: Global,
-    ring: &Ring,
-    place: usize,
-    origin: usize,
-) -> Result<Vec<Message>, OutOfMemory>
+pub(crate) fn heard_at(ring: &Ring, place: usize, origin: usize) -> &[Message]
     requires placed { IsPlaced (world_of ring.now) }
     requires place { place < length ring.now.seats.items }
     requires origin { origin < length ring.now.seats.items }
-    ensures { IfOk result (λ v. v.items ≡ (row_at (member_at (world_of ring.now) (suc place)) (suc origin)).heard) }
+    ensures { result.now ≡ (row_at (member_at (world_of ring.now) (suc place)) (suc origin)).heard }
 {
-    let all = heard_from(alloc, &ring.seats[place], id_at(origin) as usize)?;
-    Ok(all)
+    heard_from(&ring.seats[place], id_at(origin) as usize)
 }
 
 /// The name of the member at a place.
@@ -100,7 +94,7 @@ pub(crate) fn item_from(ring: &Ring, place: usize, from: Position) -> Option<Hel
     }
 }
 
-/// What the member of one name has heard of that of another.
+/// A copy of what the member of one name has heard of that of another.
 pub(crate) fn heard_named(
     alloc: Global,
     ring: &Ring,
@@ -119,7 +113,7 @@ pub(crate) fn heard_named(
     let Some(origin) = place_in(ring, of) else {
         unreachable!()
     };
-    let all = heard_at(alloc, ring, place, origin)?;
+    let all = copied(alloc, heard_at(ring, place, origin))?;
     Ok(all)
 }
 

@@ -7,7 +7,7 @@ ghost use Rattle.ring_names.specs.declared.reason.Reason.{Reason};
 ghost use Rattle.ring_rules.specs.Refusal.{answer_of};
 ghost use Rattle.group_view.specs.Change.{AreOpeningNames};
 ghost use Rattle.ring_rules.specs.Step.{opening as the_opening, size};
-ghost use Rattle.ring_rules.specs.Machine.{view_in, newest, member_at};
+ghost use Rattle.ring_rules.specs.Machine.{view_in, newest, member_at, row_at};
 ghost use Rattle.ring_rules.specs.Rows.{messages_between};
 ghost use Rattle.ring_world.specs.Placed.{IsReady};
 ghost use Rattle.ring_world.specs.Shows.{world_of};
@@ -136,6 +136,19 @@ impl World {
     {
         let all = asked::heard_named(self.alloc, &self.ring, by, of)?;
         Ok(all)
+    }
+
+    /// The messages of one member that another has heard, as `heard` has them, by their ids, and lent. It wants no
+    /// memory.
+    #[tactic(auto, using(crate::proofs::code::Running::running_placed))]
+    pub fn heard_by(&self, by: MemberId, of: MemberId) -> &[Message]
+        requires by_some { 1 ≤ by.0 }
+        requires by_there { by.0 < size (self.now).ring }
+        requires of_some { 1 ≤ of.0 }
+        requires of_there { of.0 < size (self.now).ring }
+        ensures { result.now ≡ (row_at (member_at (self.now).ring by.0) of.0).heard }
+    {
+        asked::heard_at(&self.ring, by.0 as usize - 1, of.0 as usize - 1)
     }
 
     /// The id of the member of a name, also of one that waits, or has stopped: none where nobody of the name was
