@@ -1,8 +1,10 @@
 //! The report of a ring: the newest view, and of each member where it stands, what it has published, what it has heard,
-//! what its mirror of the queue holds and what it refused. Begin at `report`, and at specs/Report.antt for its text.
+//! what its mirror of the queue holds and what it refused. Begin at `report`, and at specs/Report.antt for its text. Its
+//! pieces are public too, for who tells of a ring of another kind.
 #![tactic(auto)]
 
 mod items;
+mod laws;
 mod members;
 mod refusals;
 mod reporting;
@@ -10,4 +12,8 @@ mod reporting;
 mod tests;
 mod view;
 
+pub use laws::multicasts_leave_the_queue_unused;
+pub use members::{push_cast, push_counts, push_state};
+pub use refusals::{push_refusals, refusals_in};
 pub use reporting::report;
+pub use view::push_ring;

@@ -13,8 +13,9 @@ use ring_names::{Body, MemberId, Name, OutOfMemory};
 use ring_rules::{Counts, MemberState};
 use std::alloc::Global;
 
-/// The line of a member of this id and name.
-pub(crate) fn push_state(
+/// What the report says first of a member: the line of this id and name, which says where the member stands, and in
+/// this view.
+pub fn push_state(
     alloc: Global,
     out: &mut Vec<u8>,
     name: &Name,
@@ -82,12 +83,8 @@ fn stopped_text(mark: Mark) -> &'static [u8]
     }
 }
 
-/// How many messages of its own it has published, and how many of them are confirmed.
-pub(crate) fn push_counts(
-    alloc: Global,
-    out: &mut Vec<u8>,
-    counts: &Counts,
-) -> Result<(), OutOfMemory>
+/// What the report says next: how many messages of its own it has published, and how many of them are confirmed.
+pub fn push_counts(alloc: Global, out: &mut Vec<u8>, counts: &Counts) -> Result<(), OutOfMemory>
     ensures { OnOk result (out.new.items ≡ out.old.items ++ counts_lines counts.now) }
 {
     push_count(alloc, out, "casts", counts.casts, counts.casts_confirmed)?;
@@ -139,9 +136,9 @@ fn push_message(out: &mut Vec<u8>, origin: &[u8], message: &Message) -> Result<(
     }
 }
 
-fn push_cast(out: &mut Vec<u8>, origin: &[u8], body: &Body) -> Result<(), OutOfMemory>
-    ensures { OnOk result (out.new.items ≡ out.old.items
-        ++ (codes "heard " ++ origin.now ++ codes " " ++ body.now ++ newline)) }
+/// The line of a cast that a member has heard, of the origin of this name.
+pub fn push_cast(out: &mut Vec<u8>, origin: &[u8], body: &Body) -> Result<(), OutOfMemory>
+    ensures { OnOk result (out.new.items ≡ out.old.items ++ heard_line origin.now (Message.Cast body.now)) }
 {
     out.extend_from_slice(b"heard ")?;
     out.extend_from_slice(origin)?;

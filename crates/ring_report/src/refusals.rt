@@ -1,20 +1,54 @@
 //! Refusals.
-ghost use Rattle.std.specs.Prelude.{◌≡◌, ◌∷◌, ◌++◌, [], OnOk, codes};
+ghost use Rattle.std.specs.Prelude.{◌≡◌, ◌∷◌, ◌++◌, [], IfOk, OnOk, codes};
 ghost use Rattle.std.specs.Fmt.{decimal};
+ghost use Rattle.ring_rules.specs.Event.{refusals_of};
+ghost use Rattle.ring_report.specs.Lent.{lent_in};
 ghost use Rattle.ring_report.specs.Report.{asked_text, refusal_line, refusal_lines};
 
 use ring_names::{Name, OutOfMemory, Position};
 use ring_rules::{Client, Event};
 use std::alloc::Global;
 
-/// The lines of those that are refusals of the member of this name.
-pub(crate) fn push_refusals(
+/// The refusals among these events, in their order, and lent: what `push_refusals` wants of a journal.
+pub fn refusals_in<'a>(alloc: Global, events: &'a [Event]) -> Result<Vec<&'a Event>, OutOfMemory>
+    ensures { IfOk result (λ all. lent_in all.items ≡ refusals_of events.now) }
+{
+    let mut all = Vec::new(alloc);
+    for event in events {
+        note_refusal(&mut all, event)?;
+    }
+    Ok(all)
+}
+
+/// One event more joins the refusals, where it is one.
+fn note_refusal<'a>(all: &mut Vec<&'a Event>, event: &'a Event) -> Result<(), OutOfMemory>
+    ensures { OnOk result (lent_in all.new.items ≡ lent_in all.old.items ++ refusals_of (event.now ∷ [])) }
+{
+    if event.is_refusal() {
+        all.push(event)?;
+    }
+    Ok(())
+}
+
+/// All of these events, lent.
+pub(crate) fn lent<'a>(alloc: Global, events: &'a [Event]) -> Result<Vec<&'a Event>, OutOfMemory>
+    ensures { IfOk result (λ all. lent_in all.items ≡ events.now) }
+{
+    let mut all = Vec::new(alloc);
+    for event in events {
+        all.push(event)?;
+    }
+    Ok(all)
+}
+
+/// What the report says last of a member: a line for each of these that is a refusal of the member of this name.
+pub fn push_refusals(
     alloc: Global,
     out: &mut Vec<u8>,
-    refusals: &[Event],
+    refusals: &[&Event],
     name: &Name,
 ) -> Result<(), OutOfMemory>
-    ensures { OnOk result (out.new.items ≡ out.old.items ++ refusal_lines name.now refusals.now) }
+    ensures { OnOk result (out.new.items ≡ out.old.items ++ refusal_lines name.now (lent_in refusals.now)) }
 {
     for refusal in refusals {
         push_if_by(alloc, out, refusal, name)?;

@@ -65,8 +65,8 @@ fn master_of(view: &View) -> &[u8]
     }
 }
 
-/// The view, the term and the master.
-pub(crate) fn push_ring(alloc: Global, out: &mut Vec<u8>, view: &View) -> Result<(), OutOfMemory>
+/// What a report begins with, of the newest view: the line of the ring, with the view, the term and the master.
+pub fn push_ring(alloc: Global, out: &mut Vec<u8>, view: &View) -> Result<(), OutOfMemory>
     ensures { OnOk result (out.new.items ≡ out.old.items ++ ring_line view.now) }
 {
     let line = format!(in alloc; "ring view={} term={} master=", view.version, view.term)?;
