@@ -87,3 +87,10 @@ IsWithin (event.Requeue by at) = IsNameable at
 IsWithin (event.Refresh by version) = (1 ≤ version) × (version ≤ most_version)
 IsWithin (event.Refuse code inner) = (1 ≤ code) × (code ≤ most_code) × IsAskedWithin inner
 IsWithin e = ⊤
+
+-- the positions that an event names are within those limits
+abbrev pub HasNameablePositions : Event → Type 0
+HasNameablePositions (event.Ack by at) = IsNameable at
+HasNameablePositions (event.Requeue by at) = IsNameable at
+HasNameablePositions (event.Refuse code inner) = IsAskedWithin inner
+HasNameablePositions e = ⊤

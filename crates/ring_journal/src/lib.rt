@@ -22,6 +22,6 @@ mod write;
 
 pub use fault::Kind;
 pub use judging::check;
-pub use laws::{a_legal_journal_is_a_run, each_text_has_one_verdict};
+pub use laws::{a_legal_journal_is_a_run, a_run_is_within, each_text_has_one_verdict};
 pub use verdict::Verdict;
 pub use write::write_journal;
