@@ -1,12 +1,13 @@
 -- What is seen of a cluster.
 use Rattle.std.specs.Prelude.{◌≡◌, ℕ, ◌+◌, ◌-◌, ◌<◌, ◌^◌, ◌++◌, ◌∷◌, Bool, true, false, List, [], length, min}
+use Rattle.std.specs.List.{list_all}
 use Rattle.ring_names.specs.declared.numbers.CreditSpec.{CreditSpec}
 use Rattle.ring_script.specs.declared.command.Command.{Command}
 use Rattle.group_view.specs.Change.{AreOpeningNames}
 use Rattle.ring_rules.specs.declared.event.Event.{Event}
 use Rattle.ring_rules.specs.Machine.{World, member_at}
 use Rattle.ring_rules.specs.Step.{size, opening}
-use Rattle.ring_rules.specs.Event.{IsRun}
+use Rattle.ring_rules.specs.Event.{IsRun, is_multicast}
 use Rattle.ring_cluster.specs.Agendas.{Plan}
 use Rattle.ring_parties.specs.Parties.{Parties}
 use Rattle.ring_parties.specs.Opened.{opened_parties}
@@ -38,11 +39,13 @@ state_of c = state c.credit c.names c.events
 abbrev pub opening_seen : CreditSpec → List (List ℕ) → Seen
 opening_seen credit names = record { credit = credit; names = names; events = []; agendas = []; rounds = 0; given = []; owes = false; shows = opened_parties credit names }
 
--- what every cluster keeps of this: its journal is a run of the ring of fewer than 2^59 events, and the count of rounds is a u32
+-- what every cluster keeps of this: its journal is a run of the ring of fewer than 2^59 events, none of which is of the queue, and
+-- the count of rounds is a u32
 pub record IsGoing (c : Seen) : Type 0 where
   pub are : AreOpeningNames c.names
   pub run : IsRun (opening c.credit c.names) c.events
   pub few : length c.events < 2 ^ 59
+  pub multicast : list_all is_multicast c.events ≡ true
   pub rounds : c.rounds < 2 ^ 32
 
 -- c, but that it owes a link or nothing

@@ -115,7 +115,7 @@ impl Cluster {
         })
     }
 
-    /// A law of every cluster: its journal is a run of the ring from its opening.
+    /// A law of every cluster: its journal is a run of the ring from its opening, without an event of the queue.
     pub fn is_going(&self)
         ensures { IsGoing self.now }
     {

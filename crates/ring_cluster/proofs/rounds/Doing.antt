@@ -291,7 +291,7 @@ pub settle_plays : (c d : Seen) → IsGoing d → HasGoneOn c d → AgendasAreEm
 settle_plays c d g goes empty quiet eg h =
     let e : Seen = record d { given = c.given } in
     let on : PlaysSoFar e = plays_on c e goes.0 (GoesOn-given c d e goes.0 refl refl refl refl goes.1) refl h in
-    let going : IsGoing e = record { are = g.are; run = g.run; few = g.few; rounds = g.rounds } in
+    let going : IsGoing e = record { are = g.are; run = g.run; few = g.few; multicast = g.multicast; rounds = g.rounds } in
     plays_noted e d command.Settle (λ name. refl) (λ _. settled_now d.credit d.names d.events c.given quiet (all_served e going empty on)) refl refl refl refl eg on
 
 pub settle_played : (c d : Seen) → IsGoing d → HasGoneOn c d → AgendasAreEmpty d → RingRests (state_of d) → d.given ≡ c.given ++ command.Settle ∷ [] → PlaysSoFar c → Plays d.credit d.names d.events d.given
