@@ -1,5 +1,5 @@
 pub mod Playing
 pub mod Stepping
-pub mod Telling
+pub mod Keeping
 pub mod Reports
 pub mod Dues

@@ -1,5 +1,5 @@
 -- What the journal of a played script has.
-use Rattle.std.proofs.Common.{◌≡◌, ℕ, zero, suc, ◌<◌, ◌≤◌, ◌^◌, List, [], ◌∷◌, ◌++◌, length, take, drop, Some, refl, sym, ap, subst, ◌∙◌, arith}
+use Rattle.std.proofs.Common.{◌≡◌, ℕ, zero, suc, ◌<◌, ◌≤◌, ◌^◌, true, List, [], ◌∷◌, ◌++◌, length, take, drop, Some, refl, sym, ap, subst, ◌∙◌, arith}
 use Rattle.std.proofs.lemmas.List.{take-take, take-append-drop}
 use Rattle.ring_names.specs.declared.numbers.CreditSpec.{CreditSpec}
 use Rattle.ring_script.specs.declared.command.Command.{Command}
@@ -8,7 +8,7 @@ use Rattle.group_view.specs.Change.{AreOpeningNames}
 use Rattle.ring_rules.specs.declared.event.Event.{Event}
 use Rattle.ring_rules.specs.Machine.{World}
 use Rattle.ring_rules.specs.Step.{opening}
-use Rattle.ring_rules.specs.Event.{IsRun, effect, last, refusals_of}
+use Rattle.ring_rules.specs.Event.{IsRun, effect, last, is_multicast, refusals_of}
 use Rattle.ring_rules.specs.Laws.{IsLawful, GoesOn}
 use Rattle.ring_rules.specs.Quiet.{RingRests}
 use Rattle.ring_rules.proofs.runs.InOrder.{last_append}
@@ -18,12 +18,12 @@ use Rattle.ring_cluster.specs.Plays.{IsOfMember, Plays, HasGoneOn, AgendasAreEmp
 use Rattle.ring_cluster.specs.Heard.{OpenersHaveNoBase}
 use Rattle.ring_cluster.proofs.work.Bases.{reached_bases}
 use Rattle.ring_cluster.proofs.work.Heard.{run_quiet_has_heard}
-use Rattle.std.specs.List.{All}
+use Rattle.std.specs.List.{All, list_all}
 use Rattle.ring_script.specs.declared.text.Text.{Text}
 use Rattle.ring_script.specs.Script.{joined_by}
 use Rattle.ring_script.specs.Reading.{MayBeGiven, MayEachBeGiven}
-use Rattle.ringplay.specs.Report.{report_of}
-use Rattle.ringplay.specs.Call.{state_after, IsLawfulRun, SameRing, HasTurns, commands_on, given_of, IsPlayedBy}
+use Rattle.ring_report.specs.Report.{report_of}
+use Rattle.ringplay.specs.Performed.{state_after, IsLawfulRun, SameRing, HasTurns, commands_on, given_of, IsPlayedBy}
 
 -- ---- commands
 
@@ -99,13 +99,14 @@ module _ (credit : CreditSpec) (names : List (List ℕ)) (journal : List Event) 
 pub record HasRun (credit : CreditSpec) (names : List (List ℕ)) (journal : List Event) (c : Seen) : Type 0 where
   pub are : AreOpeningNames names
   pub run : IsLawfulRun credit names journal
+  pub multicast : list_all is_multicast journal ≡ true
   pub state : state_of c ≡ last (opening credit names) journal
 
 pub has_run : (credit : CreditSpec) (names : List (List ℕ)) (journal : List Event) (c : Seen) → c.credit ≡ credit → c.names ≡ names → journal ≡ c.events → IsGoing c → HasRun credit names journal c
 has_run credit names journal c ec en ej going =
     let are : AreOpeningNames names = subst AreOpeningNames en going.are in
     let run : IsRun (opening credit names) journal = rw (sym ec, sym en, ej) going.run in
-    record { are = are; run = lawful_run credit names journal are run (rw ej going.few); state = rw (ec, en, sym ej) refl }
+    record { are = are; run = lawful_run credit names journal are run (rw ej going.few); multicast = rw ej going.multicast; state = rw (ec, en, sym ej) refl }
 
 -- ---- a played script
 
@@ -127,14 +128,24 @@ played_by script c journal text ec en eg going quiet empty plays ej et =
       by = record { seen = c; is = refl; names = en; credit = ec; events = sym ej; given = eg; empty = empty };
     }
 
+-- A cluster's ring opened with this credit and these members.
+pub record IsOf (initial : CreditSpec) (members : List (List ℕ)) (c : Seen) : Type 0 where
+  pub credit : c.credit ≡ initial
+  pub names : c.names ≡ members
+
+-- what opened as a, performed commands to b and went on to c
+pub performed_of : (credit : CreditSpec) (names : List (List ℕ)) (a b c : Seen) → a ≡ opening_seen credit names → SameRing a b → HasGoneOn b c → IsOf credit names c
+performed_of credit names a b c ea ring goes = record {
+  credit = goes.1.credit ∙ ring.1 ∙ ap (λ s. s.credit) ea;
+  names = goes.1.names ∙ ring.0 ∙ ap (λ s. s.names) ea;
+}
+
 -- a cluster that opened as a, performed the commands of a script to b and settled to c
-pub played_all : (script : Text Command) (a b c : Seen) (journal : List Event) (text : List ℕ) → a ≡ opening_seen script.credit script.members
-    → SameRing a b → b.given ≡ a.given ++ commands_on script.lines → HasGoneOn b c → c.given ≡ b.given ++ command.Settle ∷ []
+pub played_all : (script : Text Command) (a b c : Seen) (journal : List Event) (text : List ℕ) → a ≡ opening_seen script.credit script.members → IsOf script.credit script.members c
+    → b.given ≡ a.given ++ commands_on script.lines → c.given ≡ b.given ++ command.Settle ∷ []
     → IsGoing c → RingRests (state_of c) → AgendasAreEmpty c → Plays c.credit c.names c.events c.given → journal ≡ c.events
     → text ≡ report_of (state_of c) (refusals_of c.events) → IsPlayedBy script journal text (Some c)
-played_all script a b c journal text ea ring given goes settled going quiet empty plays ej et =
-    played_by script c journal text
-    (goes.1.credit ∙ ring.1 ∙ ap (λ s. s.credit) ea)
-    (goes.1.names ∙ ring.0 ∙ ap (λ s. s.names) ea)
+played_all script a b c journal text ea of given settled going quiet empty plays ej et =
+    played_by script c journal text of.credit of.names
     (settled ∙ ap (λ xs. xs ++ command.Settle ∷ []) (given ∙ ap (λ s. s.given ++ commands_on script.lines) ea))
     going quiet empty plays ej et

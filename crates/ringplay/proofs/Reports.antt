@@ -1,9 +1,9 @@
 -- What members that stand in a state, and what they have published, show of it.
-use Rattle.std.proofs.lemmas.List.{flat_map_more, map-id, take-map, drop-map, length-map, length-take-le}
-use Rattle.std.proofs.lemmas.List.FromFn.{map-range_with_len_more, length-map-range_with_len, get_or-map-range_with_len}
-use Rattle.std.specs.List.{flat_map, range_with_len}
-use Rattle.std.proofs.Common.{◌≡◌, ℕ, ◌+◌, ◌-◌, ◌<◌, ◌≤◌, List, [], ◌∷◌, ◌++◌, length, take, drop, get_or, refl, ap, sym, ◌∙◌, arith, append_assoc, Bor}
-use Rattle.std.specs.Prelude.{count_by, cond}
+use Rattle.std.proofs.lemmas.List.{append-nil, take-map, drop-map, length-map, length-take-le}
+use Rattle.std.proofs.lemmas.List.FromFn.{length-map-range_with_len, get_or-map-range_with_len}
+use Rattle.std.specs.List.{flat_map}
+use Rattle.std.proofs.Common.{◌≡◌, ℕ, ◌+◌, ◌-◌, ◌<◌, ◌≤◌, Bool, true, false, List, [], ◌∷◌, ◌++◌, length, take, drop, get_or, Option, None, refl, ap, sym, ◌∙◌, arith, Bor}
+use Rattle.std.specs.Prelude.{codes, count_by, cond}
 use Rattle.std.specs.declared.vec.Vec.{Vec}
 use Rattle.std.specs.declared.alloc.Global.{Global}
 use Rattle.std.proofs.lemmas.List.Sums.{sum_by-cons}
@@ -16,24 +16,16 @@ use Rattle.ring_rules.specs.Shown.{is_cast, is_publish, counts_in}
 use Rattle.group_view.specs.View.{Group, entry_in}
 use Rattle.ring_rules.specs.Machine.{World, row_at, member_at}
 use Rattle.ring_rules.specs.Step.{size, log_of}
-use Rattle.ring_rules.specs.Asked.{counts_of}
+use Rattle.ring_rules.specs.Asked.{counts_of, state_of as stands_of}
+use Rattle.ring_rules.specs.declared.phase.Phase.{Phase}
+use Rattle.ring_rules.specs.declared.phase.Phase.TheVariants.{Waiting, Up, Stopped}
 use Rattle.gm_member.specs.Held.{Held}
 use Rattle.gm_member.proofs.Fit.{IsFit}
 use Rattle.ring_cluster.specs.Holds.{HoldsOf}
 use Rattle.ring_cluster.specs.Published.{casts_with, logs_in, logs_of}
-use Rattle.ringplay.specs.Report.{name_of, newest_view, member_line, counts_lines, heard_line, heard_from, heard_lines, while_up, refusal_lines, lines_of_member}
-
--- the numbers from a on, and the next one
-range_more : (a n k : ℕ) → a + n ≡ k → range_with_len a (n + 1) ≡ range_with_len a n ++ k ∷ []
-range_more a n k e = sym (map-id (range_with_len a (n + 1))) ∙ map-range_with_len_more (λ x. x) a n k e ∙ ap (λ xs. xs ++ k ∷ []) (map-id (range_with_len a n))
-
--- the text of the ids up to n, and that of the next one
-pub ids_more : {A : Type 0} (f : ℕ → List A) (before : List A) (n : ℕ) → (before ++ flat_map f (range_with_len 1 n)) ++ f (n + 1) ≡ before ++ flat_map f (range_with_len 1 (n + 1))
-ids_more f before n = flat_map_more f before (range_with_len 1 n) (n + 1) ∙ ap (λ ns. before ++ flat_map f ns) (sym (range_more 1 n (n + 1) (omega arith)))
-
--- three pieces pushed one after another
-pub joined : {A : Type 0} (old a b c first second third : List A) → first ≡ old ++ a → second ≡ first ++ b → third ≡ second ++ c → third ≡ old ++ (a ++ b ++ c)
-joined old a b c first second third e f g = simp append_assoc (g ∙ ap (λ xs. xs ++ c) f ∙ ap (λ xs. (xs ++ b) ++ c) e ∙ simp append_assoc)
+use Rattle.ring_report.specs.Report.{newline, name_of, newest_view, up_text, state_text, member_line, counts_lines, heard_line, heard_from, heard_lines, item_lines, while_up, stands_at, refusal_lines, lines_of_member}
+use Rattle.ring_report.specs.Unused.{QueueIsUnused}
+use Rattle.ring_report.proofs.Telling.{joined}
 
 -- ---- what was published
 
@@ -91,24 +83,52 @@ heard_tells w x p base got name bodies f named log from all =
 
 -- ---- one member
 
+-- where nobody uses the queue, nobody has to be told what a mirror lacks
+state_unused : (w : World) (x : ℕ) → QueueIsUnused w → 1 ≤ x → x < size w
+    → state_text (stands_of None (member_at w x).phase) (entry_in (newest_view w).entries x) ≡ state_text (stands_at w x) (entry_in (newest_view w).entries x)
+state_unused w x u some lt = by_phase (member_at w x).phase refl
+  where
+    by_synced : (b : Bool) → (entry_in (newest_view w).entries x).synced ≡ b → (member_at w x).phase ≡ Up → up_text b None ≡ up_text b (member_at w x).mirror.missing
+    by_synced true s up = refl
+    by_synced false s up = ap (up_text false) (sym (u.unknown x some lt up s))
+
+    by_phase : (f : Phase) → (member_at w x).phase ≡ f → state_text (stands_of None f) (entry_in (newest_view w).entries x) ≡ state_text (stands_of (member_at w x).mirror.missing f) (entry_in (newest_view w).entries x)
+    by_phase Waiting p = refl
+    by_phase Up p = by_synced (entry_in (newest_view w).entries x).synced refl p
+    by_phase Stopped p = refl
+
+-- and there are no items to tell
+items_unused : (w : World) (x : ℕ) → QueueIsUnused w → [] ≡ while_up (stands_at w x) (item_lines (member_at w x).mirror.queue.items)
+items_unused w x u = by_phase (member_at w x).phase refl
+  where
+    by_phase : (f : Phase) → (member_at w x).phase ≡ f → [] ≡ while_up (stands_of (member_at w x).mirror.missing f) (item_lines (member_at w x).mirror.queue.items)
+    by_phase Waiting p = refl
+    by_phase Up p = ap item_lines (sym (u.empty x p))
+    by_phase Stopped p = refl
+
+-- what is told of one that is up doesn't depend on what its mirror lacks
+while_alike : (missing : Option ℕ) (f : Phase) (lines : List ℕ) → while_up (stands_of None f) lines ≡ while_up (stands_of missing f) lines
+while_alike missing Waiting lines = refl
+while_alike missing Up lines = refl
+while_alike missing Stopped lines = refl
+
 -- what is pushed for a member that stands at the id x is what the report says of it
-pub lines_stand : (w : World) (refusals : List Event) (x : ℕ) (h : Held) (g : Group) (counts : Counts) (old named counted heard refused : List ℕ) → HoldsOf w x h → g ≡ newest_view w
-    → named ≡ old ++ member_line h.name h.phase (entry_in g.entries h.id)
+pub lines_stand : (w : World) (refusals : List Event) (x : ℕ) (h : Held) (g : Group) (counts : Counts) (old named counted heard refused : List ℕ) → QueueIsUnused w → 1 ≤ x → x < size w → HoldsOf w x h → g ≡ newest_view w
+    → named ≡ old ++ member_line h.name (stands_of None h.phase) (entry_in g.entries h.id)
     → counts ≡ counts_of x (member_at w x)
     → counted ≡ named ++ counts_lines counts
-    → heard ≡ counted ++ while_up h.phase (heard_lines w h.id)
+    → heard ≡ counted ++ while_up (stands_of None h.phase) (heard_lines w h.id)
     → refused ≡ heard ++ refusal_lines h.name refusals
     → refused ≡ old ++ lines_of_member w refusals x
-lines_stand w refusals x h g counts old named counted heard refused holds v a n b c d =
-    let line = member_line (name_of w x) (member_at w x).phase (entry_in (newest_view w).entries x) in
-    let a' : named ≡ old ++ line =
-    a ∙ ap (λ m. old ++ member_line m h.phase (entry_in g.entries h.id)) holds.name ∙ ap (λ f. old ++ member_line (name_of w x) f (entry_in g.entries h.id)) holds.phase
-    ∙ ap (λ i. old ++ member_line (name_of w x) (member_at w x).phase (entry_in g.entries i)) holds.id
-    ∙ ap (λ u. old ++ member_line (name_of w x) (member_at w x).phase (entry_in u.entries x)) v in
-    let told = line ++ counts_lines (counts_of x (member_at w x)) ++ while_up (member_at w x).phase (heard_lines w x) in
-    let all : heard ≡ old ++ told =
-    joined old line (counts_lines (counts_of x (member_at w x))) (while_up (member_at w x).phase (heard_lines w x)) named counted heard a'
+lines_stand w refusals x h g counts old named counted heard refused u some lt holds v a n b c d =
+    joined old (member_line (name_of w x) (stands_at w x) (entry_in (newest_view w).entries x)) (counts_lines (counts_of x (member_at w x)))
+    (while_up (stands_at w x) (heard_lines w x)) (while_up (stands_at w x) (item_lines (member_at w x).mirror.queue.items)) (refusal_lines (name_of w x) refusals) named counted heard heard refused
+    (a ∙ ap (λ m. old ++ member_line m (stands_of None h.phase) (entry_in g.entries h.id)) holds.name ∙ ap (λ f. old ++ member_line (name_of w x) (stands_of None f) (entry_in g.entries h.id)) holds.phase
+    ∙ ap (λ i. old ++ member_line (name_of w x) (stands_of None (member_at w x).phase) (entry_in g.entries i)) holds.id
+    ∙ ap (λ u. old ++ member_line (name_of w x) (stands_of None (member_at w x).phase) (entry_in u.entries x)) v
+    ∙ ap (λ t. old ++ (codes "member " ++ name_of w x ++ t ++ newline)) (state_unused w x u some lt))
     (b ∙ ap (λ k. named ++ counts_lines k) n)
-    (c ∙ ap (λ f. counted ++ while_up f (heard_lines w h.id)) holds.phase ∙ ap (λ i. counted ++ while_up (member_at w x).phase (heard_lines w i)) holds.id) in
-    d ∙ ap (λ m. heard ++ refusal_lines m refusals) holds.name ∙ ap (λ t. t ++ refusal_lines (name_of w x) refusals) all
-    ∙ append_assoc old told (refusal_lines (name_of w x) refusals)
+    (c ∙ ap (λ f. counted ++ while_up (stands_of None f) (heard_lines w h.id)) holds.phase ∙ ap (λ i. counted ++ while_up (stands_of None (member_at w x).phase) (heard_lines w i)) holds.id
+    ∙ ap (λ t. counted ++ t) (while_alike (member_at w x).mirror.missing (member_at w x).phase (heard_lines w x)))
+    (sym (append-nil heard) ∙ ap (λ t. heard ++ t) (items_unused w x u))
+    (d ∙ ap (λ m. heard ++ refusal_lines m refusals) holds.name)

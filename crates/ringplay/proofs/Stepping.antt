@@ -1,6 +1,7 @@
 -- What has become of the lines of a step file, one more after another.
 use Rattle.std.proofs.Common.{◌≡◌, ℕ, ◌+◌, List, ◌∷◌, ◌++◌, drop, Some, refl, sym, ap, ◌∙◌}
 use Rattle.std.proofs.lemmas.List.{append_assoc}
+use Rattle.ring_names.specs.declared.numbers.CreditSpec.{CreditSpec}
 use Rattle.ring_script.specs.declared.text.Text.{Text}
 use Rattle.ring_rules.specs.declared.event.Event.{Event}
 use Rattle.ring_rules.specs.Step.{opening}
@@ -8,10 +9,10 @@ use Rattle.ring_rules.specs.Event.{refusal, last, refusals_of}
 use Rattle.ring_rules.proofs.runs.InOrder.{last_append}
 use Rattle.ring_cluster.specs.Seen.{Seen, IsGoing, state_of, opening_seen}
 use Rattle.ring_cluster.specs.Agendas.{tasks_in}
-use Rattle.ringplay.specs.Report.{report_of}
+use Rattle.ring_report.specs.Report.{report_of}
 use Rattle.ringplay.specs.Step.{happens, enabled_of, if_refused, refused_lines, HasStepped}
-use Rattle.ringplay.specs.Call.{AreSteppedBy}
-use Rattle.ringplay.proofs.Playing.{has_run}
+use Rattle.ringplay.specs.Performed.{AreSteppedBy}
+use Rattle.ringplay.proofs.Playing.{IsOf, has_run}
 
 -- ---- events that have happened
 
@@ -60,15 +61,18 @@ tried_more {c} {d} {e} {before} {told} {lines} {k} h line rest more here after s
 
 -- ---- a step file
 
+-- of a cluster that opened as a and in which these events have happened to b
+pub stepped_of : (credit : CreditSpec) (names : List (List ℕ)) (a b : Seen) (events : List Event) → a ≡ opening_seen credit names → HasStepped a b events → IsOf credit names b
+stepped_of credit names a b events ea h = record { credit = h.credit ∙ ap (λ s. s.credit) ea; names = h.names ∙ ap (λ s. s.names) ea }
+
 -- a cluster that opened as a and in which the lines' events have happened to b
 pub stepped_all : (steps : Text Event) (a b : Seen) (journal : List Event) (text told : List ℕ) → a ≡ opening_seen steps.credit steps.members → IsGoing b
     → HasStepped a b (enabled_of (state_of a) steps.lines) → told ≡ refused_lines (state_of a) steps.lines → text ≡ told ++ report_of (state_of b) (refusals_of b.events) → journal ≡ b.events
     → AreSteppedBy steps journal text (Some b)
 stepped_all steps a b journal text told ea going h et er ej =
     let opens : state_of a ≡ opening steps.credit steps.members = ap state_of ea in
-    let credit : b.credit ≡ steps.credit = h.credit ∙ ap (λ s. s.credit) ea in
-    let names : b.names ≡ steps.members = h.names ∙ ap (λ s. s.names) ea in
-    let ran = has_run steps.credit steps.members journal b credit names ej going in
+    let of = stepped_of steps.credit steps.members a b (enabled_of (state_of a) steps.lines) ea h in
+    let ran = has_run steps.credit steps.members journal b of.credit of.names ej going in
     record {
       stepped = record {
         run = ran.run;
@@ -80,8 +84,8 @@ stepped_all steps a b journal text told ea going h et er ej =
       by = record {
         seen = b;
         is = refl;
-        names = names;
-        credit = credit;
+        names = of.names;
+        credit = of.credit;
         events = sym ej;
         given = h.given ∙ ap (λ s. s.given) ea;
         empty = λ i name at. ap (λ plans. tasks_in plans name) (h.agendas ∙ ap (λ s. s.agendas) ea);

@@ -1,6 +1,6 @@
 pub mod Words
-pub mod Report
-pub mod Lent
+pub mod Cause
 pub mod Step
+pub mod Performed
 pub mod Call
 pub mod Due

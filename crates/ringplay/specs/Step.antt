@@ -8,7 +8,7 @@ use Rattle.ring_rules.specs.declared.event.Event.{Event}
 use Rattle.ring_rules.specs.Machine.{World}
 use Rattle.ring_rules.specs.Event.{refusal, last}
 use Rattle.ring_cluster.specs.Seen.{Seen}
-use Rattle.ringplay.specs.Report.{newline}
+use Rattle.ring_report.specs.Report.{newline, missing_text}
 
 -- ---- the events that happen
 
@@ -27,11 +27,6 @@ enabled_of w [] = []
 enabled_of w (line ∷ lines) = happens w line.1 ++ enabled_of (last w (happens w line.1)) lines
 
 -- ---- the lines that are refused
-
--- how many messages a mirror is known to lack
-abbrev pub missing_text : Option ℕ → List ℕ
-missing_text None = codes "?"
-missing_text (Some n) = decimal n
 
 -- the numbers that a refusal keeps
 abbrev pub kept_text : Reason → List ℕ

@@ -1,17 +1,13 @@
--- The words that the program takes.
-use Rattle.std.specs.Prelude.{◌≡◌, ℕ, List, [], ◌∷◌, codes}
-use Rattle.ringplay.specs.declared.word.Mode.{Mode}
-use Rattle.ringplay.specs.declared.word.Mode.TheVariants.{Play, Step}
+-- What the words of the command line ask for.
+use Rattle.std.specs.Prelude.{◌≡◌, ℕ, List, Some}
+use Rattle.ring_words.specs.declared.asked.Asked.{Asked}
+use Rattle.ring_words.specs.Words.{IsRefused, means, named_by}
 
--- the word that asks for this
-abbrev pub word_of : Mode → List ℕ
-word_of Play = codes "play"
-word_of Step = codes "step"
+-- the command doesn't refuse the words, and this is what they name
+pub record Asks (words : List (List ℕ)) (asked : Asked) : Type 0 where
+  pub taken : IsRefused words → ⊥
+  pub named : named_by words ≡ Some (means asked)
 
--- the words ask for this: they are its word alone
-abbrev pub Asks : List (List ℕ) → Mode → Type 0
-Asks words mode = words ≡ word_of mode ∷ []
-
--- they ask for nothing that the program does
+-- the command refuses them
 abbrev pub AsksNothing : List (List ℕ) → Type 0
-AsksNothing words = (mode : Mode) → Asks words mode → ⊥
+AsksNothing words = IsRefused words

@@ -1,44 +1,29 @@
 //! The top call: all that the program does, over any source and sink.
-ghost use Rattle.std.specs.Prelude.{◌≡◌, ◌⊎◌, ℕ, List, [], Some, IfSome};
+ghost use Rattle.std.specs.Prelude.{◌≡◌, ℕ, List, Some};
 ghost use Rattle.std.specs.Io.KnownBytes.{IsAtEnd};
 ghost use Rattle.ring_io.specs.Contents.{Gains};
 ghost use Rattle.ring_io.specs.Count.{Rose};
-ghost use Rattle.ringplay.specs.declared.word.Mode.{Mode};
+ghost use Rattle.ring_words.specs.declared.asked.Asked.{Asked};
 ghost use Rattle.ringplay.specs.Words.{Asks, AsksNothing};
-ghost use Rattle.ring_script.specs.Reading.{IsRight, IsFirstFault};
+ghost use Rattle.ringplay.specs.Cause.{status_of};
 ghost use Rattle.ringplay.specs.Due.{IsLineDue, DoesAsAsked, IsDueToInput};
-ghost use Rattle.ringplay.specs.Call.{Answers, IsDue, IsWritten, IsUnlessFailed, IsWithin, IsTooLarge, IsRefused};
-ghost use Rattle.ringplay.specs.Call.{grammar_of, fault_line, status_of};
+ghost use Rattle.ringplay.specs.Call.{Answers, IsDue, IsWritten, IsUnlessFailed, IsWithin, IsTooLarge, IsAskedTooMuch};
+ghost use Rattle.ringplay.specs.Call.{IsInGrammar, IsRefused, IsRefusedFor, IsComplete};
+ghost use Rattle.ringplay.specs.Call.{most_bytes as the_most_bytes, most_lines as the_most_lines};
 
+use crate::cause::Cause;
+use crate::judge::judge;
 use crate::play::{Played, play};
 use crate::step::step;
-use crate::word::{Mode, Word, mode_of};
+use crate::word::{Word, asked_by};
 use ring_cluster::Cluster;
 use ring_io::{Gate, ReadEnd, Sink, Source, read_all, write_all};
 use ring_names::Items;
 use ring_rules::Event;
-use ring_script::{ScriptFault, line_count, read_script, read_steps};
+use ring_script::{line_count, read_script, read_steps};
+use ring_words::Asked;
 use std::alloc::Global;
 use std::thread::Threads;
-
-/// Why the call ended as it did.
-#[derive(Clone, Copy, PartialEq, Eq, Debug)]
-pub enum Cause {
-    /// The input was read to its end, and the command's text was written whole.
-    Done,
-    /// The words are none that the program takes.
-    Usage,
-    /// The input is no script, or no step file: its first bad line, and what is wrong with it.
-    Script { line: u32, kind: u32 },
-    /// The source failed.
-    ReadFault,
-    /// The sink failed.
-    WriteFault,
-    /// Memory was wanted and not found.
-    OutOfMemory,
-    /// The input has more than 1,048,576 bytes, or more than 20,000 lines.
-    TooLarge,
-}
 
 /// How a call ended.
 #[derive(Drop)]
@@ -47,9 +32,9 @@ pub struct Ended {
     pub status: u8,
     /// Why it ended.
     pub cause: Cause,
-    /// What has happened in the ring, where a script was played or steps were taken.
+    /// What has happened in the ring, where a script was played, steps were taken, or a journal was checked.
     pub journal: Items<Event>,
-    /// The cluster in which it happened.
+    /// The cluster in which it happened: none where a journal was checked.
     pub cluster: Option<Cluster>,
     /// How many bytes the sink took.
     pub written: u64,
@@ -64,35 +49,40 @@ struct Due {
     cluster: Option<Cluster>,
 }
 
-/// How many bytes of input are taken.
+/// How many bytes of input are taken: of a script or a step file, and of a journal.
 const MOST_BYTES: u64 = 1_048_576;
 
-/// How many lines of input are taken.
+const MOST_JOURNAL_BYTES: u64 = 16_777_216;
+
+/// How many lines of input are taken, likewise.
 const MOST_LINES: u64 = 20_000;
 
-impl Cause {
-    /// The status with which the program ends.
-    pub fn status(&self) -> u8
-        ensures { result ≡ status_of self.now }
-    {
-        match self {
-            Cause::Done => 0,
-            Cause::Usage => 1,
-            Cause::Script { .. } => 2,
-            Cause::ReadFault => 3,
-            Cause::WriteFault => 4,
-            Cause::OutOfMemory => 5,
-            Cause::TooLarge => 6,
-        }
+const MOST_JOURNAL_LINES: u64 = 400_000;
+
+fn most_bytes(asked: Asked) -> u64
+    ensures { result ≡ the_most_bytes asked }
+{
+    match asked {
+        Asked::Play { .. } | Asked::Step { .. } => MOST_BYTES,
+        Asked::Check => MOST_JOURNAL_BYTES,
     }
 }
 
-/// An answer that writes one line, or nothing, and has no journal and no cluster.
-fn line_due(alloc: Global, cause: Cause, line: &[u8]) -> Due
-    ensures { IsLineDue cause line.now result }
+fn most_lines(asked: Asked) -> u64
+    ensures { result ≡ the_most_lines asked }
+{
+    match asked {
+        Asked::Play { .. } | Asked::Step { .. } => MOST_LINES,
+        Asked::Check => MOST_JOURNAL_LINES,
+    }
+}
+
+/// An answer that writes the line of its cause, and has no journal and no cluster.
+fn line_due(alloc: Global, cause: Cause) -> Due
+    ensures { IsLineDue cause result }
 {
     let journal = Vec::new(alloc);
-    match Vec::from_slice(alloc, line) {
+    match cause.line(alloc) {
         Ok(text) => Due {
             cause,
             journal,
@@ -112,24 +102,23 @@ fn line_due(alloc: Global, cause: Cause, line: &[u8]) -> Due
 fn due_to_input<T: Threads, G: Gate>(
     threads: &T,
     alloc: Global,
-    mode: Mode,
+    asked: Asked,
     bytes: Vec<u8>,
     gate: &G,
 ) -> Due
-    ensures { IsDueToInput mode bytes.items result }
+    ensures { IsDueToInput asked bytes.items result }
 {
-    if line_count(&bytes) > MOST_LINES {
-        return line_due(alloc, Cause::TooLarge, b"too large\n");
+    if line_count(&bytes) > most_lines(asked) {
+        return line_due(alloc, Cause::TooLarge);
     }
-    match done(threads, alloc, mode, bytes, gate) {
+    match done(threads, alloc, asked, bytes, gate) {
         Ok(played) => Due {
             cause: Cause::Done,
             journal: played.journal,
             text: played.text,
-            cluster: Some(played.cluster),
+            cluster: played.cluster,
         },
-        Err(ScriptFault::At { line, kind }) => fault_due(alloc, line, kind),
-        Err(ScriptFault::OutOfMemory) => line_due(alloc, Cause::OutOfMemory, b""),
+        Err(cause) => line_due(alloc, cause),
     }
 }
 
@@ -137,49 +126,41 @@ fn due_to_input<T: Threads, G: Gate>(
 fn done<T: Threads, G: Gate>(
     threads: &T,
     alloc: Global,
-    mode: Mode,
+    asked: Asked,
     bytes: Vec<u8>,
     gate: &G,
-) -> Result<Played, ScriptFault>
-    ensures { DoesAsAsked mode bytes.items result }
+) -> Result<Played, Cause>
+    ensures { DoesAsAsked asked bytes.items result }
 {
-    match mode {
-        Mode::Play => done_by_script(threads, alloc, bytes, gate),
-        Mode::Step => done_by_steps(alloc, bytes),
+    match asked {
+        Asked::Play { journal } => done_by_script(threads, alloc, journal, bytes, gate),
+        Asked::Step { journal } => done_by_steps(alloc, journal, bytes),
+        Asked::Check => judge(alloc, bytes),
     }
 }
 
 fn done_by_script<T: Threads, G: Gate>(
     threads: &T,
     alloc: Global,
+    journal: bool,
     bytes: Vec<u8>,
     gate: &G,
-) -> Result<Played, ScriptFault>
-    ensures { DoesAsAsked Mode.Play bytes.items result }
+) -> Result<Played, Cause>
+    ensures { DoesAsAsked (Asked.Play journal) bytes.items result }
 {
     let script = read_script(alloc, &bytes)?;
     drop(bytes);
-    let played = play(threads, alloc, script, gate)?;
+    let played = play(threads, alloc, script, journal, gate)?;
     Ok(played)
 }
 
-fn done_by_steps(alloc: Global, bytes: Vec<u8>) -> Result<Played, ScriptFault>
-    ensures { DoesAsAsked Mode.Step bytes.items result }
+fn done_by_steps(alloc: Global, journal: bool, bytes: Vec<u8>) -> Result<Played, Cause>
+    ensures { DoesAsAsked (Asked.Step journal) bytes.items result }
 {
     let steps = read_steps(alloc, &bytes)?;
     drop(bytes);
-    let played = step(alloc, steps)?;
+    let played = step(alloc, steps, journal)?;
     Ok(played)
-}
-
-/// The first fault of an input that is no script, or no step file.
-fn fault_due(alloc: Global, line: u32, kind: u32) -> Due
-    ensures { IsLineDue (Cause.Script line kind) (fault_line line kind) result }
-{
-    match format!(in alloc; "script {line} {kind}\n") {
-        Ok(text) => line_due(alloc, Cause::Script { line, kind }, text.as_bytes()),
-        Err(_) => line_due(alloc, Cause::OutOfMemory, b""),
-    }
 }
 
 /// What is due for these words and this source.
@@ -195,21 +176,24 @@ fn due_for<T: Threads, S: Source, G: Gate>(
     ensures unread { AsksNothing words.now → source.new ≡ source.old }
     ensures whole { result.cause ≡ Cause.Done → IsAtEnd (S.remaining source.new) }
 {
-    let Some(mode) = mode_of(words) else {
-        return line_due(alloc, Cause::Usage, b"usage\n");
+    let asked = match asked_by(alloc, words) {
+        Ok(Some(asked)) => asked,
+        Ok(None) => return line_due(alloc, Cause::Usage),
+        Err(_) => return line_due(alloc, Cause::OutOfMemory),
     };
-    match read_all(alloc, source, MOST_BYTES) {
-        Ok(bytes) => due_to_input(threads, alloc, mode, bytes, gate),
-        Err(ReadEnd::Fault) => line_due(alloc, Cause::ReadFault, b""),
-        Err(ReadEnd::TooLarge) => line_due(alloc, Cause::TooLarge, b"too large\n"),
-        Err(ReadEnd::OutOfMemory) => line_due(alloc, Cause::OutOfMemory, b""),
+    match read_all(alloc, source, most_bytes(asked)) {
+        Ok(bytes) => due_to_input(threads, alloc, asked, bytes, gate),
+        Err(ReadEnd::Fault) => line_due(alloc, Cause::ReadFault),
+        Err(ReadEnd::TooLarge) => line_due(alloc, Cause::TooLarge),
+        Err(ReadEnd::OutOfMemory) => line_due(alloc, Cause::OutOfMemory),
     }
 }
 
-/// Does what the words ask for: `play` alone plays the script that the source gives, and writes the report of the
-/// ring's last state to the sink; `step` alone tries the events of the step file that it gives, one by one, and
-/// writes a line for each that is refused, and then the report. The whole text stands before its first byte is
-/// written. The cluster runs its rounds with the thread handle and the gate.
+/// Does what the words ask for. `play` plays the script that the source gives, and writes the report of the ring's last
+/// state to the sink; `step` tries the events of the step file that it gives, one by one, and writes a line for each that
+/// is refused, and then the report; with `--journal` the journal follows. `check` judges the journal that it gives, and
+/// writes the report of the state that it leaves. The whole text stands before its first byte is written. The cluster runs
+/// its rounds with the thread handle and the gate.
 pub fn ring_call<T: Threads, S: Source, K: Sink, G: Gate>(
     threads: &T,
     alloc: Global,
@@ -234,24 +218,27 @@ pub fn ring_call<T: Threads, S: Source, K: Sink, G: Gate>(
     ensures usage { AsksNothing words.now → IsUnlessFailed result.cause Cause.Usage }
     ensures read_fault_only { result.cause ≡ Cause.ReadFault → Rose (S.faults source.old) (S.faults source.new) }
     ensures write_fault_only { result.cause ≡ Cause.WriteFault → Rose (K.faults sink.old) (K.faults sink.new) }
-    ensures too_large_only { result.cause ≡ Cause.TooLarge → IfSome (S.remaining source.old) IsTooLarge }
-    ensures too_large { (mode : Mode) (all : List ℕ) → Asks words.now mode → S.remaining source.old ≡ Some all
-        → IsTooLarge all
+    ensures too_large_only { result.cause ≡ Cause.TooLarge → IsAskedTooMuch words.now (S.remaining source.old) }
+    ensures too_large { (asked : Asked) (all : List ℕ) → Asks words.now asked → S.remaining source.old ≡ Some all
+        → IsTooLarge asked all
         → (Rose (S.faults source.old) (S.faults source.new) → ⊥) → IsUnlessFailed result.cause Cause.TooLarge }
     ensures script_only { (line kind : ℕ) → result.cause ≡ Cause.Script line kind
-        → IsRefused words.now (S.remaining source.old) line kind }
-    ensures script { (mode : Mode) (all : List ℕ) (line kind : ℕ) → Asks words.now mode → S.remaining source.old
-        ≡ Some all → IsWithin all
-        → IsFirstFault (grammar_of mode) all line kind
-        → (Rose (S.faults source.old) (S.faults source.new) → ⊥)
-        → IsUnlessFailed result.cause (Cause.Script line kind) }
+        → IsRefused words.now (S.remaining source.old) (Cause.Script line kind) }
+    ensures illegal_only { (line code : ℕ) → result.cause ≡ Cause.Illegal line code
+        → IsRefused words.now (S.remaining source.old) (Cause.Illegal line code) }
+    ensures unreadable_only { (line kind : ℕ) → result.cause ≡ Cause.Unreadable line kind
+        → IsRefused words.now (S.remaining source.old) (Cause.Unreadable line kind) }
+    ensures refused { (asked : Asked) (all : List ℕ) (cause : Cause) → Asks words.now asked → S.remaining source.old
+        ≡ Some all → IsWithin asked all
+        → IsRefusedFor asked all cause
+        → (Rose (S.faults source.old) (S.faults source.new) → ⊥) → IsUnlessFailed result.cause cause }
 
-    // With words and input in the grammar and within the limits, and no fault, it is done.
-    ensures complete { (mode : Mode) (all : List ℕ) → Asks words.now mode → S.remaining source.old ≡ Some all
-        → IsWithin all
-        → IsRight (grammar_of mode) all
+    // With words and input in the grammar and within the limits, and no fault, it is done; or a journal isn't legal.
+    ensures complete { (asked : Asked) (all : List ℕ) → Asks words.now asked → S.remaining source.old ≡ Some all
+        → IsWithin asked all
+        → IsInGrammar asked all
         → (Rose (S.faults source.old) (S.faults source.new) → ⊥) → (Rose (K.faults sink.old) (K.faults sink.new) → ⊥)
-        → (result.cause ≡ Cause.Done) ⊎ (result.cause ≡ Cause.OutOfMemory) }
+        → IsComplete asked result.cause }
 {
     let due = due_for(threads, alloc, words, source, gate);
     written(sink, due)

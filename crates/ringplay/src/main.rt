@@ -1,22 +1,26 @@
-//! Plays a ring of members that multicast to one another as RabbitMQ's `gm` does, by a script or event by event:
-//! reads that from standard input and writes the report of the ring's last state to standard output. Begin at `call`,
-//! whose `ring_call` does all that the program does, and at specs/Call.antt for what it answers.
+//! Plays a ring of members that multicast to one another as RabbitMQ's `gm` does, by a script or event by event, and
+//! checks journals of such rings: reads that from standard input and writes the report of the ring's last state to
+//! standard output. Begin at `call`, whose `ring_call` does all that the program does, and at specs/Call.antt for what it
+//! answers.
 #![tactic(auto)]
 
 ghost use Rattle.std.specs.Prelude.{◌≡◌};
 ghost use Rattle.std.specs.Process.{exit_status};
-ghost use Rattle.ringplay.specs.Call.{status_of};
+ghost use Rattle.ringplay.specs.Cause.{status_of};
 
 mod call;
+mod cause;
+mod judge;
+mod keep;
 mod play;
-mod refusals;
 mod report;
 mod step;
 #[cfg(test)]
 mod tests;
 mod word;
 
-use call::{Cause, ring_call};
+use call::ring_call;
+use cause::Cause;
 use ring_io::{ReadSource, ShutGate, WriteSink};
 use ring_names::OutOfMemory;
 use std::env;

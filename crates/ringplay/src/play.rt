@@ -2,34 +2,39 @@
 ghost use Rattle.std.specs.Prelude.{◌≡◌, ◌∷◌, ◌++◌, [], Some, All, IfOk, OnOk};
 ghost use Rattle.ring_script.specs.Reading.{IsPlayable};
 ghost use Rattle.ring_cluster.specs.Plays.{PlaysSoFar};
-ghost use Rattle.ringplay.specs.Call.{SameRing, HasTurns, IsPlayedBy, commands_on};
+ghost use Rattle.ringplay.specs.Performed.{SameRing, HasTurns, IsPlayedBy, Tells, commands_on};
 
+use crate::keep::with_journal;
 use crate::report::report;
 use ring_cluster::Cluster;
 use ring_io::Gate;
+use ring_journal::a_run_is_within;
 use ring_names::OutOfMemory;
 use ring_rules::Event;
 use ring_script::{Command, Script};
 use std::alloc::Global;
 use std::thread::Threads;
 
-/// What has happened, the report of it, and the cluster among whose members it happened.
+/// What has happened, what is told of it, and the cluster among whose members it happened, if it did in one.
 #[derive(Drop)]
 pub(crate) struct Played {
     pub(crate) journal: Vec<Event>,
     pub(crate) text: Vec<u8>,
-    pub(crate) cluster: Cluster,
+    pub(crate) cluster: Option<Cluster>,
 }
 
-/// Plays the script: the commands on its lines in order, and at its end the ring settles once more.
+/// Plays the script: the commands on its lines in order, and at its end the ring settles once more. The journal is told
+/// behind the report, where it is to be kept.
 pub(crate) fn play<T: Threads, G: Gate>(
     threads: &T,
     alloc: Global,
     script: Script,
+    kept: bool,
     gate: &G,
 ) -> Result<Played, OutOfMemory>
     requires { IsPlayable script }
-    ensures { IfOk result (λ played. IsPlayedBy script played.journal.items played.text.items (Some played.cluster)) }
+    ensures { IfOk result (λ played. Tells kept script.credit script.members played.journal.items
+        (λ report. IsPlayedBy script played.journal.items report played.cluster) played.text.items) }
 {
     let Script {
         members,
@@ -44,11 +49,13 @@ pub(crate) fn play<T: Threads, G: Gate>(
     cluster.settle(threads, gate)?;
     cluster.is_going();
     let journal = cluster.journal()?;
-    let text = report(alloc, &cluster, heard)?;
+    a_run_is_within();
+    let report = report(alloc, &cluster, heard)?;
+    let text = with_journal(alloc, kept, &names, credit, &journal, report)?;
     Ok(Played {
         journal,
         text,
-        cluster,
+        cluster: Some(cluster),
     })
 }
 

@@ -1,29 +1,26 @@
 //! The report: the ring, and of each member what it has published, what it has received and what was refused.
-ghost use Rattle.std.specs.Prelude.{◌≡◌, ℕ, ◌+◌, ◌<◌, ◌≤◌, ◌++◌, [], IfOk, OnOk, MatchOption, codes};
-ghost use Rattle.std.specs.Prelude.{length, nat_eq, take, drop, slice_index_or};
-ghost use Rattle.std.specs.Fmt.{decimal};
+ghost use Rattle.std.specs.Prelude.{◌≡◌, ◌+◌, ◌<◌, ◌≤◌, ◌++◌, [], None, IfOk, OnOk, length, take, drop, slice_index_or};
 ghost use Rattle.std.specs.List.{flat_map};
-ghost use Rattle.queue_core.specs.declared.message.Message.TheVariants as message;
-ghost use Rattle.group_view.specs.View.{entry_in, no_entry};
 ghost use Rattle.ring_rules.specs.Step.{size};
 ghost use Rattle.ring_rules.specs.Machine.{member_at as at_id};
 ghost use Rattle.ring_rules.specs.Event.{refusals_of};
-ghost use Rattle.ring_rules.specs.Asked.{counts_of};
+ghost use Rattle.ring_rules.specs.Asked.{counts_of, state_of as stands_of};
 ghost use Rattle.gm_member.specs.Shown.{held_of};
 ghost use Rattle.ring_cluster.specs.Seen.{state_of};
 ghost use Rattle.ring_cluster.specs.Holds.{HoldsOf};
 ghost use Rattle.ring_cluster.specs.Published.{casts_with, logs_in, logs_of};
-ghost use Rattle.ringplay.specs.Report.{report_of, newline, ring_line, master_name, state_text as the_state_text};
-ghost use Rattle.ringplay.specs.Report.{up_text as the_up_text, stopped_text as the_stopped_text, member_line};
-ghost use Rattle.ringplay.specs.Lent.{lent_in};
-ghost use Rattle.ringplay.specs.Report.{counts_lines, heard_line, heard_from, heard_lines, while_up, lines_of_member};
+ghost use Rattle.ring_report.specs.Report.{report_of, heard_line, heard_from, heard_lines, while_up, lines_of_member};
+ghost use Rattle.ring_report.specs.Lent.{lent_in};
+ghost use Rattle.ring_report.specs.Unused.{QueueIsUnused};
 
-use crate::refusals::{push_refusals, refusals_in};
-use group_view::{Entry, Mark, View};
 use ring_cluster::Cluster;
 use ring_names::{Body, MemberId, OutOfMemory};
 use ring_parties::Node;
-use ring_rules::{Counts, Event, Phase};
+use ring_report::{
+    multicasts_leave_the_queue_unused, push_cast, push_counts, push_refusals, push_ring,
+    push_state, refusals_in,
+};
+use ring_rules::{Counts, Event, MemberState, Phase};
 use std::alloc::Global;
 
 /// The bytes of the shortest line of a message that was received, its line feed with it.
@@ -54,6 +51,8 @@ pub(crate) fn push_report(
     let published = cluster.published()?;
     let all = refusals_in(alloc, cluster.events())?;
     let refusals = all.as_slice();
+    multicasts_leave_the_queue_unused();
+    cluster.is_going();
     push_ring(alloc, out, cluster.view())?;
     for place in 0..published.len() {
         push_member(alloc, out, cluster, &published, refusals, place)?;
@@ -81,74 +80,6 @@ fn id_at(cluster: &Cluster, place: usize) -> MemberId
     MemberId(place as u32 + 1)
 }
 
-fn has_id(entry: &Entry, id: MemberId) -> bool
-    ensures { result ≡ nat_eq entry.now.id.0 id.0 }
-{
-    entry.id.0 == id.0
-}
-
-/// The entry of an id.
-fn entry_of(entries: &[Entry], id: MemberId) -> Option<&Entry>
-    ensures { MatchOption result (entry_in entries.now id.0 ≡ no_entry) (λ entry. entry.now
-        ≡ entry_in entries.now id.0) }
-{
-    for entry in entries {
-        if has_id(entry, id) {
-            return Some(entry);
-        }
-    }
-    None
-}
-
-/// The name of the entry of an id.
-fn name_in(entries: &[Entry], id: MemberId) -> &[u8]
-    ensures { result.now ≡ (entry_in entries.now id.0).name }
-{
-    match entry_of(entries, id) {
-        Some(entry) => entry.name.bytes(),
-        None => b"",
-    }
-}
-
-/// Whether the entry of an id is registered as synchronised.
-fn is_synced(entries: &[Entry], id: MemberId) -> bool
-    ensures { result ≡ (entry_in entries.now id.0).synced }
-{
-    match entry_of(entries, id) {
-        Some(entry) => entry.synced,
-        None => false,
-    }
-}
-
-/// The mark of the entry of an id.
-fn mark_in(entries: &[Entry], id: MemberId) -> Mark
-    ensures { result ≡ (entry_in entries.now id.0).mark }
-{
-    match entry_of(entries, id) {
-        Some(entry) => entry.mark,
-        None => Mark::Erased,
-    }
-}
-
-fn master_of(view: &View) -> &[u8]
-    ensures { result.now ≡ master_name (view.now).entries (view.now).master }
-{
-    match view.master {
-        Some(id) => name_in(view.entries.as_slice(), id),
-        None => b"none",
-    }
-}
-
-fn push_ring(alloc: Global, out: &mut Vec<u8>, view: &View) -> Result<(), OutOfMemory>
-    ensures { OnOk result (out.new.items ≡ out.old.items ++ ring_line view.now) }
-{
-    let line = format!(in alloc; "ring view={} term={} master=", view.version, view.term)?;
-    out.extend_from_slice(line.as_bytes())?;
-    out.extend_from_slice(master_of(view))?;
-    out.extend_from_slice(b"\n")?;
-    Ok(())
-}
-
 /// What the report says of the member at a place, where these are the bodies that each has published, and the refusals.
 fn push_member(
     alloc: Global,
@@ -160,57 +91,34 @@ fn push_member(
 ) -> Result<(), OutOfMemory>
     requires within { place + 1 < size (state_of cluster.now) }
     requires logs { logs_in published.now ≡ logs_of (state_of cluster.now) }
+    requires unused { QueueIsUnused (state_of cluster.now) }
     ensures { OnOk result (out.new.items ≡ out.old.items
         ++ lines_of_member (state_of cluster.now) (lent_in refusals.now) (place + 1)) }
 {
     let member = member_at(cluster, place);
-    push_state(out, member, cluster.view())?;
+    let state = stands(member.phase());
+    push_state(
+        alloc,
+        out,
+        member.name(),
+        member.id(),
+        state,
+        cluster.view(),
+    )?;
     push_counts(alloc, out, &counts(cluster, published, place))?;
     push_heard(out, cluster, published, member)?;
     push_refusals(alloc, out, refusals, member.name())?;
     Ok(())
 }
 
-fn push_state(out: &mut Vec<u8>, member: &Node, view: &View) -> Result<(), OutOfMemory>
-    ensures { OnOk result (out.new.items ≡ out.old.items
-        ++ member_line (held_of member.now).name (held_of member.now).phase
-        (entry_in (view.now).entries (held_of member.now).id)) }
-{
-    out.extend_from_slice(b"member ")?;
-    out.extend_from_slice(member.name().bytes())?;
-    out.extend_from_slice(state_text(member.phase(), view, member.id()))?;
-    out.extend_from_slice(b"\n")?;
-    Ok(())
-}
-
-/// Where a member of this id stands.
-fn state_text(phase: Phase, view: &View, id: MemberId) -> &'static [u8]
-    ensures { result.now ≡ the_state_text phase (entry_in (view.now).entries id.0) }
+/// Where a member of this phase stands. Nobody knows what a mirror lacks, as the queue isn't used.
+fn stands(phase: Phase) -> MemberState
+    ensures { result ≡ stands_of None phase }
 {
     match phase {
-        Phase::Waiting => b" waiting",
-        Phase::Up => up_text(is_synced(view.entries.as_slice(), id)),
-        Phase::Stopped => stopped_text(mark_in(view.entries.as_slice(), id)),
-    }
-}
-
-/// Of a member that is up, whether it is registered as synchronised: one that joined isn't.
-fn up_text(synced: bool) -> &'static [u8]
-    ensures { result.now ≡ the_up_text synced }
-{
-    if synced {
-        b" up synced"
-    } else {
-        b" up missing=?"
-    }
-}
-
-fn stopped_text(mark: Mark) -> &'static [u8]
-    ensures { result.now ≡ the_stopped_text mark }
-{
-    match mark {
-        Mark::Live | Mark::Dead => b" stopped",
-        Mark::Erased => b" erased",
+        Phase::Waiting => MemberState::Waiting,
+        Phase::Up => MemberState::Up { missing: None },
+        Phase::Stopped => MemberState::Stopped,
     }
 }
 
@@ -239,35 +147,6 @@ fn bodies_at<'a, 'b>(published: &'a [Vec<&'b Body>], place: usize) -> &'a [&'b B
     &published[place]
 }
 
-fn push_counts(alloc: Global, out: &mut Vec<u8>, counts: &Counts) -> Result<(), OutOfMemory>
-    ensures { OnOk result (out.new.items ≡ out.old.items ++ counts_lines counts.now) }
-{
-    push_count(alloc, out, "casts", counts.casts, counts.casts_confirmed)?;
-    push_count(
-        alloc,
-        out,
-        "publishes",
-        counts.publishes,
-        counts.publishes_confirmed,
-    )?;
-    Ok(())
-}
-
-fn push_count(
-    alloc: Global,
-    out: &mut Vec<u8>,
-    kind: &str,
-    published: u64,
-    confirmed: u64,
-) -> Result<(), OutOfMemory>
-    ensures { OnOk result (out.new.items ≡ out.old.items
-        ++ (kind.now ++ codes " " ++ decimal published ++ codes " confirmed " ++ decimal confirmed ++ newline)) }
-{
-    let line = format!(in alloc; "{kind} {published} confirmed {confirmed}\n")?;
-    out.extend_from_slice(line.as_bytes())?;
-    Ok(())
-}
-
 /// What a member that is up has received of each, its own messages among them.
 fn push_heard(
     out: &mut Vec<u8>,
@@ -278,7 +157,7 @@ fn push_heard(
     requires member { (1 ≤ (held_of member.now).id) × ((held_of member.now).id < size (state_of cluster.now)) }
     requires logs { logs_in published.now ≡ logs_of (state_of cluster.now) }
     ensures { OnOk result (out.new.items ≡ out.old.items
-        ++ while_up (held_of member.now).phase (heard_lines (state_of cluster.now) (held_of member.now).id)) }
+        ++ while_up (stands_of None (held_of member.now).phase) (heard_lines (state_of cluster.now) (held_of member.now).id)) }
 {
     match member.phase() {
         Phase::Up => {}
@@ -342,16 +221,5 @@ fn push_casts(out: &mut Vec<u8>, origin: &[u8], bodies: &[&Body]) -> Result<(), 
     for body in bodies {
         push_cast(out, origin, body)?;
     }
-    Ok(())
-}
-
-fn push_cast(out: &mut Vec<u8>, origin: &[u8], body: &Body) -> Result<(), OutOfMemory>
-    ensures { OnOk result (out.new.items ≡ out.old.items ++ heard_line origin.now (message.Cast body.now)) }
-{
-    out.extend_from_slice(b"heard ")?;
-    out.extend_from_slice(origin)?;
-    out.extend_from_slice(b" ")?;
-    out.extend_from_slice(body.bytes())?;
-    out.extend_from_slice(b"\n")?;
     Ok(())
 }

@@ -4,26 +4,30 @@ ghost use Rattle.std.specs.Fmt.{decimal};
 ghost use Rattle.ring_script.specs.Reading.{CanOpen, AreMulticast};
 ghost use Rattle.ring_rules.specs.Event.{is_multicast, refusal};
 ghost use Rattle.ring_cluster.specs.Seen.{state_of};
-ghost use Rattle.ringplay.specs.Report.{newline};
+ghost use Rattle.ring_report.specs.Report.{newline, missing_text as the_missing_text};
 ghost use Rattle.ringplay.specs.Step.{happens, enabled_of, kept_text as the_kept_text};
-ghost use Rattle.ringplay.specs.Step.{missing_text as the_missing_text, refused_line, if_refused, refused_lines};
+ghost use Rattle.ringplay.specs.Step.{refused_line, if_refused, refused_lines};
 ghost use Rattle.ringplay.specs.Step.{HasStepped};
-ghost use Rattle.ringplay.specs.Call.{AreSteppedBy};
+ghost use Rattle.ringplay.specs.Performed.{AreSteppedBy, Tells};
 
+use crate::keep::with_journal;
 use crate::play::Played;
 use crate::report::push_report;
 use ring_cluster::Cluster;
+use ring_journal::a_run_is_within;
 use ring_names::{OutOfMemory, Reason};
 use ring_rules::{Event, Refused};
 use ring_script::Steps;
 use std::alloc::Global;
 
 /// Takes the steps: each line's event is tried among the members of a cluster, where the earlier ones leave it. A
-/// line that is refused changes nothing and is told, and the next one follows.
-pub(crate) fn step(alloc: Global, steps: Steps) -> Result<Played, OutOfMemory>
+/// line that is refused changes nothing and is told, and the next one follows. The journal is told behind the report,
+/// where it is to be kept.
+pub(crate) fn step(alloc: Global, steps: Steps, kept: bool) -> Result<Played, OutOfMemory>
     requires opens { CanOpen steps.members }
     requires multicast { AreMulticast steps.lines }
-    ensures { IfOk result (λ played. AreSteppedBy steps played.journal.items played.text.items (Some played.cluster)) }
+    ensures { IfOk result (λ played. Tells kept steps.credit steps.members played.journal.items
+        (λ report. AreSteppedBy steps played.journal.items report played.cluster) played.text.items) }
 {
     let Steps {
         members,
@@ -32,15 +36,17 @@ pub(crate) fn step(alloc: Global, steps: Steps) -> Result<Played, OutOfMemory>
     } = steps;
     let names = members.into_vec();
     let mut cluster = Cluster::opening(alloc, &names, credit)?;
-    let mut text = Vec::new(alloc);
-    try_lines(alloc, &mut cluster, lines.as_slice(), &mut text)?;
+    let mut report = Vec::new(alloc);
+    try_lines(alloc, &mut cluster, lines.as_slice(), &mut report)?;
     cluster.is_going();
-    push_report(alloc, &mut text, &cluster)?;
+    a_run_is_within();
+    push_report(alloc, &mut report, &cluster)?;
     let journal = cluster.journal()?;
+    let text = with_journal(alloc, kept, &names, credit, &journal, report)?;
     Ok(Played {
         journal,
         text,
-        cluster,
+        cluster: Some(cluster),
     })
 }
 

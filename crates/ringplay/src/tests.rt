@@ -7,7 +7,8 @@ mod cluster;
 mod machine;
 mod member;
 
-use crate::call::{Cause, Ended, ring_call};
+use crate::call::{Ended, ring_call};
+use crate::cause::Cause;
 use crate::word::Word;
 use ring_io::{MemorySink, MemorySource, ShutGate};
 use ring_rules::Event;
@@ -1357,6 +1358,70 @@ cast fox hello
 script 3 57
 ";
 
+/// What is written of journals, and with them.
+const JOURNALS: &str = "==== A journal is that of a run
+check
+{\"credit\":[8,4],\"members\":[\"a\"],\"v\":1}
+[\"cast\",\"a\",\"hi\"]
+[\"put\",\"a\"]
+[\"take\",\"a\"]
+=> Done, status 0
+ring view=1 term=1 master=a
+member a up synced
+casts 1 confirmed 1
+publishes 0 confirmed 0
+heard a hi
+==== Two of its lines are exchanged
+check
+{\"credit\":[8,4],\"members\":[\"a\"],\"v\":1}
+[\"cast\",\"a\",\"hi\"]
+[\"take\",\"a\"]
+[\"put\",\"a\"]
+=> Illegal { line: 3, code: 17 }, status 7
+illegal 3 17
+==== A line is cut
+check
+{\"credit\":[8,4],\"members\":[\"a\"],\"v\":1}
+[\"cast\",\"a\",\"hi\"]
+[\"put\",\"a\"]
+[\"ta
+=> Unreadable { line: 4, kind: 70 }, status 8
+unreadable 4 70
+==== Nothing is given
+check
+=> Unreadable { line: 1, kind: 72 }, status 8
+unreadable 1 72
+==== Steps with their journal
+step --journal
+members a
+cast a hi
+put a
+take a
+=> Done, status 0
+ring view=1 term=1 master=a
+member a up synced
+casts 1 confirmed 1
+publishes 0 confirmed 0
+heard a hi
+{\"credit\":[8,4],\"members\":[\"a\"],\"v\":1}
+[\"cast\",\"a\",\"hi\"]
+[\"put\",\"a\"]
+[\"take\",\"a\"]
+==== A mirror holds what the master has published
+check
+{\"credit\":[8,4],\"members\":[\"a\"],\"v\":1}
+[\"publish\",\"a\",\"x\"]
+[\"publish\",\"a\",\"y\"]
+[\"get\",\"a\"]
+=> Done, status 0
+ring view=1 term=1 master=a
+member a up synced
+casts 0 confirmed 0
+publishes 2 confirmed 0
+ready 2 y
+unacked 1 x
+";
+
 /// The streams of a call: how many bytes they move at once, and the calls of the source and of the sink that fail, or
 /// 0.
 #[derive(Clone, Copy)]
@@ -1416,14 +1481,12 @@ fn told(alloc: Global, called: &Called) -> Result<String, Fail> {
     Ok(format!(in alloc; "{:?}, status {}\n{text}", ended.cause, ended.status)?)
 }
 
-/// Whether a call counted what it wrote, and has a cluster where it was done, and else no journal.
+/// Whether a call counted what it wrote, and has a journal only where something was done.
 fn is_whole(called: &Called) -> bool {
     let Called { ended, sink } = called;
     let counted = ended.written == sink.bytes().len() as u64;
-    match ended.cluster {
-        Some(_) => counted,
-        None => counted && ended.status != 0 && ended.journal.as_slice().is_empty(),
-    }
+    let done = ended.status == 0 || ended.status == 4;
+    counted && (done || ended.cluster.is_none() && ended.journal.as_slice().is_empty())
 }
 
 /// How many events happen in a call that ends so, and writes so.
@@ -1480,14 +1543,23 @@ fn takes_steps(rt: HostRuntime) -> Result<(), Fail> {
 }
 
 #[test]
+fn judges_journals(rt: HostRuntime) -> Result<(), Fail> {
+    expect(&rt, JOURNALS, false)
+}
+
+#[test]
 fn tells_the_first_fault(rt: HostRuntime) -> Result<(), Fail> {
     expect(&rt, FAULTS, false)
 }
 
 /// A line of so many bytes, without its end.
 fn endless_line(alloc: Global, len: usize) -> Result<Vec<u8>, Fail> {
+    let block = [b'x'; 4096];
     let mut line = Vec::new(alloc);
-    for _place in 0..len {
+    for _block in 0..len / 4096 {
+        line.extend_from_slice(&block)?;
+    }
+    for _place in 0..len % 4096 {
         line.push(b'x')?;
     }
     Ok(line)
@@ -1541,6 +1613,102 @@ fn ends_at_the_most_lines(rt: HostRuntime) -> Result<(), Fail> {
     Ok(())
 }
 
+/// A journal, and the report of its run.
+const JOURNAL: &str =
+    "{\"credit\":[8,4],\"members\":[\"a\"],\"v\":1}\n[\"cast\",\"a\",\"hi\"]\n[\"put\",\"a\"]\n[\"take\",\"a\"]\n";
+
+/// How many lines end in these bytes.
+fn ended_lines(bytes: &[u8]) -> u32 {
+    let mut ended = 0u32;
+    for byte in bytes {
+        if *byte == b'\n' {
+            ended = ended.saturating_add(1);
+        }
+    }
+    ended
+}
+
+/// The journal cut after so many bytes is unreadable on the line in which it is cut, unless the cut is at a line's end or
+/// before it.
+fn cut_ends(rt: &(impl Threads + Abort + AllocGlobal), len: usize) -> Result<(), Fail> {
+    let Some(front) = JOURNAL.as_bytes().get(..len) else {
+        return Err(Fail::from("no such cut"));
+    };
+    let called = call(rt, "check", front.to_vec(rt.alloc())?, SOUND)?;
+    let line = ended_lines(front).saturating_add(1);
+    let cut = match (front.last(), JOURNAL.as_bytes().get(len)) {
+        (None, _) => Cause::Unreadable { line: 1, kind: 72 },
+        (Some(b'\n'), _) | (Some(_), Some(b'\n')) => Cause::Done,
+        (Some(_), _) => Cause::Unreadable { line, kind: 70 },
+    };
+    assert_eq!(rt; called.ended.cause, cut, "cut after {len}");
+    Ok(())
+}
+
+#[test]
+fn judges_each_cut_of_a_journal(rt: HostRuntime) -> Result<(), Fail> {
+    for len in 0..=JOURNAL.len() {
+        cut_ends(&rt, len)?;
+    }
+    Ok(())
+}
+
+/// What `play --journal` writes of a script is a report, and a journal of which `check` writes the same report.
+fn keeps_its_journal<R: Threads + Abort + AllocGlobal>(rt: &R, script: &str) -> Result<(), Fail> {
+    let played = call(
+        rt,
+        "play --journal",
+        script.as_bytes().to_vec(rt.alloc())?,
+        SOUND,
+    )?;
+    let text = str::from_utf8(played.sink.bytes())?;
+    let place = text.find('{').ok_or("no journal")?;
+    let (report, journal) = text.split_at(place);
+    let checked = call(rt, "check", journal.as_bytes().to_vec(rt.alloc())?, SOUND)?;
+    assert_eq!(rt; checked.ended.cause, Cause::Done);
+    assert_eq!(rt; str::from_utf8(checked.sink.bytes())?, report);
+    assert_eq!(rt;
+        checked.ended.journal.as_slice().len(),
+        played.ended.journal.as_slice().len()
+    );
+    Ok(())
+}
+
+#[test]
+fn keeps_journals_that_are_legal(rt: HostRuntime) -> Result<(), Fail> {
+    for script in [
+        THREE,
+        "members a b c\ncast a x\ngo 2\nkill b\ncast b y\njoin c n\ncast n z\nsettle\nkill a\ncast n u\n",
+        "members a\ncredit 2 1\ncast a x\nkill a\njoin a n\n",
+    ] {
+        keeps_its_journal(&rt, script)?;
+    }
+    Ok(())
+}
+
+#[test]
+fn judges_no_larger_journal(rt: HostRuntime) -> Result<(), Fail> {
+    for (len, wanted) in [
+        (
+            16_777_216,
+            "Unreadable { line: 1, kind: 74 }, status 8\nunreadable 1 74\n",
+        ),
+        (16_777_217, TOO_LARGE),
+    ] {
+        events_of(&rt, "check", endless_line(rt.alloc(), len)?, wanted)?;
+    }
+    for (lines, wanted) in [
+        (
+            400_000,
+            "Unreadable { line: 1, kind: 70 }, status 8\nunreadable 1 70\n",
+        ),
+        (400_001, TOO_LARGE),
+    ] {
+        events_of(&rt, "check", long_text(rt.alloc(), lines)?, wanted)?;
+    }
+    Ok(())
+}
+
 /// Whether a call ends by a fault of its source, and has done and written nothing.
 fn is_unread(called: &Called) -> bool {
     called.ended.cause == Cause::ReadFault && called.ended.status == 3 && called.ended.written == 0
@@ -1578,14 +1746,13 @@ const NOTHING: &str =
 const HEARD: &str =
     "ring view=1 term=1 master=a\nmember a up synced\ncasts 1 confirmed 1\npublishes 0 confirmed 0\nheard a hi\n";
 
-/// Whether a call ends by a fault of its sink, and has written so many bytes of that report, and has its cluster.
+/// Whether a call ends by a fault of its sink, and has written so many bytes of that report.
 fn is_unwritten(called: &Called, report: &str, written: u64) -> bool {
     let Called { ended, sink } = called;
     ended.cause == Cause::WriteFault
         && ended.status == 4
         && ended.written == written
         && report.as_bytes().starts_with(sink.bytes())
-        && ended.cluster.is_some()
 }
 
 #[test]
@@ -1594,6 +1761,7 @@ fn ends_at_a_fault_of_the_sink(rt: HostRuntime) -> Result<(), Fail> {
         ("play", "members a b\n", NOTHING),
         ("play", "members a\ncast a hi\n", HEARD),
         ("step", "members a\ncast a hi\nput a\ntake a\n", HEARD),
+        ("check", JOURNAL, HEARD),
     ] {
         for write_fails in 1..=20 {
             let streams = Streams {

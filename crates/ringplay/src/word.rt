@@ -1,8 +1,9 @@
 //! The words of the command line.
-ghost use Rattle.std.specs.Prelude.{◌≡◌, ◌↔◌, IsTrue, IfOk, IfSome, IfNone};
+ghost use Rattle.std.specs.Prelude.{◌≡◌, None, map, IfOk, IfSome};
 ghost use Rattle.ringplay.specs.Words.{Asks, AsksNothing};
 
 use ring_names::OutOfMemory;
+use ring_words::{Asked, read_words};
 use std::alloc::Global;
 use std::marker::Model;
 
@@ -20,15 +21,6 @@ impl Model for Word {
     ghost view = { λ w. string_bytes w.text };
 }
 
-/// What the program does.
-#[derive(Clone, Copy, PartialEq, Eq, Debug)]
-pub enum Mode {
-    /// It plays a script.
-    Play,
-    /// It tries the events of a step file, one by one.
-    Step,
-}
-
 impl Word {
     /// The word with this text.
     pub fn new(alloc: Global, text: &str) -> Result<Word, OutOfMemory>
@@ -38,51 +30,28 @@ impl Word {
         Ok(Word { text })
     }
 
-    fn is(&self, text: &str) -> bool
-        ensures { IsTrue result ↔ (self.now ≡ text.now) }
+    fn text(&self) -> &str
+        ensures { result.now ≡ self.now }
     {
-        self.text.as_str() == text
+        self.text.as_str()
     }
 }
 
-/// What the words ask for, if they ask for something: one word, and no other.
-pub(crate) fn mode_of(words: &[Word]) -> Option<Mode>
-    ensures asks { IfSome result (Asks words.now) }
-    ensures nothing { IfNone result (AsksNothing words.now) }
+/// What the words ask for, if they ask for something.
+pub(crate) fn asked_by(alloc: Global, words: &[Word]) -> Result<Option<Asked>, OutOfMemory>
+    ensures asks { IfOk result (λ answer. IfSome answer (Asks words.now)) }
+    ensures nothing { IfOk result (λ answer. answer ≡ None → AsksNothing words.now) }
 {
-    let [word] = words else {
-        return None;
-    };
-    if word.is("play") {
-        return Some(Mode::Play);
-    }
-    if word.is("step") {
-        return Some(Mode::Step);
-    }
-    None
+    let texts = texts_of(alloc, words)?;
+    read_words(alloc, texts.as_slice())
 }
 
-#[cfg(test)]
-mod tests {
-    use super::*;
-    use std::test::Fail;
-
-    #[test]
-    fn takes_each_word_alone(rt: HostRuntime) -> Result<(), Fail> {
-        for (texts, mode) in [
-            ([].as_slice(), None),
-            (["fly"].as_slice(), None),
-            (["play"].as_slice(), Some(Mode::Play)),
-            (["step"].as_slice(), Some(Mode::Step)),
-            (["play", "x"].as_slice(), None),
-            (["step", "play"].as_slice(), None),
-        ] {
-            let mut words = Vec::new(rt.alloc());
-            for text in texts {
-                words.push(Word::new(rt.alloc(), text)?)?;
-            }
-            assert_eq!(rt; mode_of(&words), mode);
-        }
-        Ok(())
+fn texts_of<'a>(alloc: Global, words: &'a [Word]) -> Result<Vec<&'a str>, OutOfMemory>
+    ensures { IfOk result (λ texts. map (λ text. text.now) texts.items ≡ words.now) }
+{
+    let mut texts = Vec::with_capacity(alloc, words.len())?;
+    for word in words {
+        texts.push(word.text())?;
     }
+    Ok(texts)
 }

@@ -1,9 +1,16 @@
-use Rattle.std.proofs.Common.{rules}
+use Rattle.std.proofs.Common.{Err, rules, ap, ◌∙◌}
 use Rattle.ring_io.specs.Count.{Rose}
-use Rattle.ringplay.proofs.Dues.{input_due}
+use Rattle.ringplay.specs.declared.cause.Cause.TheVariants as causes
+use Rattle.ringplay.proofs.Dues.{input_due, line_is_due, bytes_large}
 use Rattle.ringplay.proofs.call.due_for.Goals as goal
 
 pub returns-in-Ok-clause-due : goal.returns-in-Ok-clause-due
 returns-in-Ok-clause-due g c =
-    input_due c.args.words.now (g.S.Source.remaining c.args.source.now) (Rose (g.S.Source.faults c.args.source.now) (g.S.Source.faults c.read_all.new.source)) c.in-Some.mode
+    input_due c.args.words.now (g.S.Source.remaining c.args.source.now) (Rose (g.S.Source.faults c.args.source.now) (g.S.Source.faults c.read_all.new.source)) c.in-Ok-Some.asked
     c.in-Ok.bytes.items c.due_to_input.result (search rules) (search rules) c.in-Ok.ensures.bytes c.due_to_input.ensures
+
+pub returns-in-Err-TooLarge-clause-due : goal.returns-in-Err-TooLarge-clause-due
+returns-in-Err-TooLarge-clause-due g c =
+    let told = g.S.Source.remaining c.args.source.now in
+    line_is_due c.args.words.now told (Rose (g.S.Source.faults c.args.source.now) (g.S.Source.faults c.read_all.new.source)) causes.TooLarge c.line_due-in-Err-TooLarge.result c.line_due-in-Err-TooLarge.ensures
+    (c.in-Ok-Some.asked, search rules, bytes_large c.in-Ok-Some.asked told c.most_bytes.result c.most_bytes.ensures (c.read_all.ensures.large (c.in-Err-TooLarge.is ∙ ap Err c.in-Err-TooLarge.field-0-is)))

@@ -1,7 +1,7 @@
 use Rattle.std.proofs.Common.{◌≡◌, ◌++◌, length}
 use Rattle.std.specs.List.{All}
 use Rattle.ring_cluster.specs.Plays.{PlaysSoFar}
-use Rattle.ringplay.specs.Call.{SameRing, HasTurns, commands_on}
+use Rattle.ringplay.specs.Performed.{SameRing, HasTurns, commands_on}
 use Rattle.ringplay.proofs.play.perform.Given as goal
 
 abbrev pub invariant-loop-command : goal.invariant-loop-command

@@ -1,7 +1,7 @@
 use Rattle.std.proofs.Common.{◌≡◌, ◌++◌, take}
 use Rattle.std.specs.List.{flat_map}
 use Rattle.ring_cluster.specs.Published.{casts_with}
-use Rattle.ringplay.specs.Report.{heard_line}
+use Rattle.ring_report.specs.Report.{heard_line}
 use Rattle.ringplay.proofs.report.push_casts.Given as goal
 
 abbrev pub invariant-loop-body : goal.invariant-loop-body

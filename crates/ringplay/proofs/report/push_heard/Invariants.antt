@@ -2,7 +2,7 @@ use Rattle.std.proofs.Common.{◌≡◌, ◌++◌}
 use Rattle.std.specs.List.{flat_map, range_with_len}
 use Rattle.gm_member.specs.Shown.{held_of}
 use Rattle.ring_cluster.specs.Seen.{state_of}
-use Rattle.ringplay.specs.Report.{heard_from}
+use Rattle.ring_report.specs.Report.{heard_from}
 use Rattle.ringplay.proofs.report.push_heard.Given as goal
 
 abbrev pub invariant-loop-origin : goal.invariant-loop-origin

@@ -5,7 +5,7 @@ use Rattle.ring_rules.specs.Step.{log_of}
 use Rattle.ring_cluster.specs.Published.{casts_with, logs_in}
 use Rattle.ring_cluster.specs.Seen.{state_of}
 use Rattle.ring_cluster.proofs.rounds.Named.{going_fit}
-use Rattle.ringplay.specs.Report.{name_of, heard_line}
+use Rattle.ring_report.specs.Report.{name_of, heard_line}
 use Rattle.ringplay.proofs.Reports.{log_at_place, logs_many, heard_tells}
 use Rattle.ringplay.proofs.report.push_heard_of.Goals as goal
 

@@ -3,13 +3,20 @@ use Rattle.std.specs.List.{flat_map, range_with_len}
 use Rattle.ring_rules.specs.Step.{size}
 use Rattle.ring_rules.specs.Event.{refusals_of}
 use Rattle.ring_cluster.specs.Seen.{state_of}
-use Rattle.ringplay.specs.Lent.{lent_in}
-use Rattle.ringplay.specs.Report.{ring_line, lines_of_member, report_of}
-use Rattle.ringplay.proofs.Reports.{ids_more, logs_many}
+use Rattle.ring_report.specs.Lent.{lent_in}
+use Rattle.ring_report.specs.Report.{ring_line, lines_of_member, report_of}
+use Rattle.ring_report.proofs.Telling.{ids_more}
+use Rattle.ringplay.proofs.Reports.{logs_many}
 use Rattle.ringplay.proofs.report.push_report.Goals as goal
 
 pub push_member-requires-clause-within : goal.push_member-requires-clause-within
 push_member-requires-clause-within c = omega (arith, c.loop-place-test.true, logs_many (state_of c.args.cluster.now) c.in_ok-published.published.items c.in_ok-published.ensures)
+
+pub push_member-requires-clause-unused : goal.push_member-requires-clause-unused
+push_member-requires-clause-unused c =
+    let k = c.args.cluster.now in
+    let going = c.is_going.ensures in
+    c.multicasts_leave_the_queue_unused.ensures k.credit k.names k.events going.are going.run going.multicast
 
 pub loop-place-preserved : goal.loop-place-preserved
 loop-place-preserved c =

@@ -1,8 +1,8 @@
 use Rattle.std.proofs.Common.{◌≡◌, ◌++◌}
 use Rattle.std.specs.List.{flat_map, range_with_len}
 use Rattle.ring_cluster.specs.Seen.{state_of}
-use Rattle.ringplay.specs.Lent.{lent_in}
-use Rattle.ringplay.specs.Report.{lines_of_member}
+use Rattle.ring_report.specs.Lent.{lent_in}
+use Rattle.ring_report.specs.Report.{lines_of_member}
 use Rattle.ringplay.proofs.report.push_report.Given as goal
 
 abbrev pub invariant-loop-place : goal.invariant-loop-place

@@ -1,7 +1,0 @@
-use Rattle.std.proofs.Common.{◌≡◌, take}
-use Rattle.ring_rules.specs.Event.{refusals_of}
-use Rattle.ringplay.specs.Lent.{lent_in}
-use Rattle.ringplay.proofs.refusals.refusals_in.Given as goal
-
-abbrev pub invariant-loop-event : goal.invariant-loop-event
-invariant-loop-event l = lent_in l.all.items ≡ refusals_of (take l.event-index l.events)
