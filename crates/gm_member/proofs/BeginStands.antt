@@ -65,7 +65,7 @@ first_lo w x s p f b = by_packets (link_at w s).packets refl
     by_packets [] e = absurd (false≢true (sym b.has ∙ ap is_empty e))
     by_packets (j ∷ ks) e =
         let first : oldest (link_at w s) ≡ j = ap (λ js. get_or js 0 no_packet) e in
-        let turn = subst (λ js. IsInTurn (link_at w s).had js (link_at w s).sending) e (f.lawful.compact.turn s) in
+        let turn = subst (λ js. IsInTurn (link_at w s).had js (link_at w s).sending) e (f.compact.turn s) in
         subst (λ i. (numbers_at i p).lo ≡ (numbers_at i p).forgot) (sym first)
         (turn.0 p ∙ ap (λ t. lo_of t (numbers_at j p).forgot (numbers_at (link_at w s).had.sent p)) (f.lines.waits x s b.waits b.current))
 

@@ -118,7 +118,7 @@ next_is w x o p f rx is =
     let k : Numbers = numbers_at (next_packet (member_at w x) s) p in
     let got : k.got ≡ (row_of w x p).got = line_of_packet (λ j. j.got) (λ r. r.got) (member_at w x) s p reads_got in
     let forgot : k.forgot ≡ (row_of w x p).forgot = line_of_packet (λ j. j.forgot) (λ r. r.forgot) (member_at w x) s p reads_forgot in
-    let lo : k.lo ≡ lo_of s.fresh (row_of w x p).forgot (numbers_at s.sent p) = f.lawful.compact.next x o rx is p ∙ ap (λ n. lo_of s.fresh n (numbers_at s.sent p)) forgot in
+    let lo : k.lo ≡ lo_of s.fresh (row_of w x p).forgot (numbers_at s.sent p) = f.compact.next x o rx is p ∙ ap (λ n. lo_of s.fresh n (numbers_at s.sent p)) forgot in
     ap (λ n. record { lo = n; got = k.got; forgot = k.forgot }) lo
     ∙ ap (λ n. record { lo = lo_of s.fresh (row_of w x p).forgot (numbers_at s.sent p); got = n; forgot = k.forgot }) got
     ∙ ap (λ n. record { lo = lo_of s.fresh (row_of w x p).forgot (numbers_at s.sent p); got = (row_of w x p).got; forgot = n }) forgot

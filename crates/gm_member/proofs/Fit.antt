@@ -6,7 +6,9 @@ use Rattle.ring_rules.specs.declared.event.Event.{Event}
 use Rattle.ring_rules.specs.Machine.{World}
 use Rattle.ring_rules.specs.Step.{size, log_of, opening}
 use Rattle.ring_rules.specs.Event.{IsRun, last}
+use Rattle.ring_rules.specs.Compact.{IsCompact}
 use Rattle.ring_rules.specs.Laws.{IsLawful}
+use Rattle.ring_rules.proofs.compact.AllCompact.{reached_compact}
 use Rattle.ring_rules.proofs.invariants.Happens.{IsGood}
 use Rattle.ring_rules.proofs.walks.Ended.{EndsRight}
 use Rattle.ring_rules.proofs.runs.AllRuns.{every_state_lawful}
@@ -23,6 +25,8 @@ pub record IsFit (w : World) : Type 0 where
   pub good : IsGood w
   pub ends : EndsRight w
   pub lawful : IsLawful w.initial w
+  -- packets may be compact
+  pub compact : IsCompact w
   -- each member is the one that its name finds
   pub named : ring.NamesFind w
   -- an enabled event lowers no number
@@ -54,6 +58,7 @@ reached_fit credit names events are r =
       good = fit.good;
       ends = fit.ends;
       lawful = subst (λ n. IsLawful n w) (sym (run_credited credit names events are r).initial_is) lawful;
+      compact = reached_compact credit names events are r;
       named = fit.named;
       goes = fit.goes;
       few = ring.few_members w fit.good;

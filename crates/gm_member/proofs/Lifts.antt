@@ -18,7 +18,7 @@ use Rattle.activity.specs.Kept.{got_of}
 use Rattle.gm_member.specs.Parcels.{ByOrigin, known_at}
 use Rattle.gm_member.specs.Held.{Held, Outgoing, active_refused, up_refused, published_held, put_refused, put_held, parcel_on, take_refused, took_held, gain_refused, gained_held, ended_held, stopped_held, pick_refused, picked_held, refresh_refused, refreshed_held}
 use Rattle.gm_member.specs.News.{news_of}
-use Rattle.gm_member.specs.Stands.{held_in, outgoing_in, WhereItStands, StepsTo, publishing, PublishesIn, StandsFor, IsPutPacket, IsNextPacket, IsNextGrant, IsNextEnd, taken_in, with_own_link}
+use Rattle.gm_member.specs.Stands.{held_in, outgoing_in, WhereItStands, StepsTo, SaysIn, StandsFor, IsPutPacket, IsNextPacket, IsNextGrant, IsNextEnd, taken_in, with_own_link}
 use Rattle.gm_member.proofs.Fit.{IsFit, reached_fit}
 use Rattle.gm_member.proofs.Facts.{right_row, version_is, refused_there, done_there}
 use Rattle.gm_member.proofs.PublishStands.{publish_stands, publish_number, IsPublished, published_there}
@@ -51,10 +51,10 @@ running_is w x later runs = ap (λ b. or_else (refuse_if b reason.Stopped) later
 steps_there : (w : World) (x : ℕ) (e : Event) (h : Held) → id_of w (by_of e) ≡ Some x → refused_at w e x ≡ None → h ≡ held_in (done_at w e x) x → StepsTo w x e h
 steps_there w x e h named en is = (refused_there w x e named ∙ en, is ∙ ap (λ v. held_in v x) (sym (done_there w x e named)))
 
-pub publish_steps : (w : World) (x : ℕ) (m : Message) → IsFit w → 1 ≤ x → x < size w → up_refused (held_in w x) None ≡ None → PublishesIn w x (member_at w x).name m → StepsTo w x (publishing (member_at w x).name m) (published_held (held_in w x) m)
-publish_steps w x m f some lt e is =
-    let k : IsPublished w x (member_at w x).name m = published_there w x (member_at w x).name m is in
-    steps_there w x (publishing (member_at w x).name m) (published_held (held_in w x) m) (ap (id_of w) k.by ∙ f.named x some lt) (k.refused ∙ e)
+pub publish_steps : (w : World) (x : ℕ) (m : Message) (e : Event) → IsFit w → 1 ≤ x → x < size w → up_refused (held_in w x) None ≡ None → SaysIn w x (member_at w x).name m e → StepsTo w x e (published_held (held_in w x) m)
+publish_steps w x m e f some lt en says =
+    let k : IsPublished w x m e = published_there w x (member_at w x).name m e says in
+    steps_there w x e (published_held (held_in w x) m) (ap (id_of w) says.by ∙ f.named x some lt) (k.refused ∙ en)
     (publish_stands w x m f some lt ∙ ap (λ v. held_in v x) (sym k.done))
 
 pub put_steps : (w : World) (x : ℕ) → IsFit w → 1 ≤ x → x < size w → put_refused (held_in w x) ≡ None → StepsTo w x (event.Put (member_at w x).name) (put_held (held_in w x))
@@ -221,18 +221,18 @@ pub refuses_too : {A : Type 0} (failing : Held → Option Reason) (event : List 
 refuses_too failing event a answer each h refused credit names events x are r some lt s =
     refuses_where failing (λ _ _. Unit {0}) event a answer (λ w y f b l _. each w y f b l) h refused credit names events x are r some lt s tt
 
--- a message is published by its event, where that publishes it
-pub publish_lifts : (h h' : Held) (m : Message) → up_refused h None ≡ None → h' ≡ published_held h m → WhereItStands h (λ w x. PublishesIn w x h.name m → StepsTo w x (publishing h.name m) h')
-publish_lifts h h' m en is credit names events x are r some lt s publishes =
-    let t : StepsTo (last (opening credit names) events) x (publishing h.name m) (published_held h m) =
-    lifts h (λ w y k. up_refused k None ≡ None → PublishesIn w y k.name m → StepsTo w y (publishing k.name m) (published_held k m)) (λ w y f a b. publish_steps w y m f a b) credit names events x are r some lt s en publishes in
+-- a message is published by each event that says it
+pub publish_lifts : (h h' : Held) (m : Message) → up_refused h None ≡ None → h' ≡ published_held h m → WhereItStands h (λ w x. (e : Event) → SaysIn w x h.name m e → StepsTo w x e h')
+publish_lifts h h' m en is credit names events x are r some lt s e says =
+    let t : StepsTo (last (opening credit names) events) x e (published_held h m) =
+    lifts h (λ w y k. up_refused k None ≡ None → SaysIn w y k.name m e → StepsTo w y e (published_held k m)) (λ w y f a b. publish_steps w y m e f a b) credit names events x are r some lt s en says in
     (t.0, is ∙ t.1)
 
--- and where the ring refuses that, it is refused
+-- and where the ring refuses one, it is refused
 pub publish_refuses : {A : Type 0} (h : Held) (m : Message) (a : A) (answer : Reason → A) → ((r : Reason) → up_refused h None ≡ Some r → a ≡ answer r)
-    → WhereItStands h (λ w x. PublishesIn w x h.name m → (r : Reason) → refusal w (publishing h.name m) ≡ Some r → a ≡ answer r)
-publish_refuses h m a answer refused credit names events x are r some lt s publishes q e =
-    refused q (lifts h (λ w y k. PublishesIn w y k.name m → up_refused k None ≡ refusal w (publishing k.name m)) (λ w y f a b. publish_refusal_is w y m f a b) credit names events x are r some lt s publishes ∙ e)
+    → WhereItStands h (λ w x. (e : Event) → SaysIn w x h.name m e → (r : Reason) → refusal w e ≡ Some r → a ≡ answer r)
+publish_refuses h m a answer refused credit names events x are r some lt s e says q is =
+    refused q (lifts h (λ w y k. SaysIn w y k.name m e → up_refused k None ≡ refusal w e) (λ w y f a b. publish_refusal_is w y m e f a b) credit names events x are r some lt s says ∙ is)
 
 pub number_lifts : (h : Held) (n : ℕ) → n ≡ got_of (known_at h.known (h.id - 1)) + 1 → WhereItStands h (λ w x. n ≡ length (log_of w x) + 1)
 number_lifts h n e credit names events x are r some lt s =

@@ -1,21 +1,21 @@
 -- A member that publishes stands where the ring's publish leaves it.
-use Rattle.std.proofs.Common.{◌≡◌, ℕ, ◌+◌, ◌-◌, ◌<◌, ◌≤◌, List, [], ◌∷◌, ◌++◌, length, set, None, refl, sym, ap, ◌∙◌, arith}
+use Rattle.std.proofs.Common.{◌≡◌, ℕ, ◌+◌, ◌-◌, ◌<◌, ◌≤◌, List, [], ◌∷◌, ◌++◌, length, set, None, Result, Ok, Err, refl, sym, ap, ◌∙◌, arith}
 use Rattle.std.proofs.lemmas.List.{get_or-set_same, get_or-set_other}
 use Rattle.queue_core.specs.declared.message.Message.{Message}
-use Rattle.queue_core.specs.declared.message.Message.TheVariants.{Cast, Queue}
+use Rattle.queue_core.specs.declared.message.Message.TheVariants as message
 use Rattle.queue_core.specs.declared.op.Op.{Op}
-use Rattle.queue_core.specs.declared.op.Op.TheVariants as op
+use Rattle.ring_names.specs.declared.reason.Reason.{Reason}
 use Rattle.activity.specs.Kept.{no_kept, got_of, joined}
 use Rattle.ring_rules.specs.declared.event.Event.{Event}
 use Rattle.ring_rules.specs.Rows.{no_row, published_row}
 use Rattle.ring_rules.specs.Machine.{World, Member, row_at, member_at}
 use Rattle.ring_rules.specs.Step.{size, log_of, published, publish_at}
-use Rattle.ring_rules.specs.Event.{by_of, up_refusal, op_at, op_refusal, op_done, refused_at, done_at}
+use Rattle.ring_rules.specs.Event.{Saying, Own, OfQueue, up_refusal, op_as, op_refusal, op_done, queue_message, message_of, saying_refusal, said, refused_as, refused_at, done_as, done_at}
 use Rattle.ring_rules.specs.Lawful.{row_of}
 use Rattle.ring_rules.proofs.runs.OwnLogs.{cast_log, cast_log_other}
 use Rattle.gm_member.specs.Parcels.{places, known_at}
 use Rattle.gm_member.specs.Held.{published_held}
-use Rattle.gm_member.specs.Stands.{kept_by, held_in, operating, publishing, PublishesIn}
+use Rattle.gm_member.specs.Stands.{kept_by, held_in, SaysIn}
 use Rattle.gm_member.proofs.Places.{tabled_set}
 use Rattle.gm_member.proofs.Fit.{IsFit}
 use Rattle.gm_member.proofs.Knowing.{kept_published}
@@ -51,34 +51,24 @@ publish_number w x f some lt = ap (λ n. n + 1) (own_row w x f some lt)
 
 -- ---- the event
 
--- An event of member x, which has this name, is refused by x's phase and then as its operation is, and publishes that.
-record IsOperation (w : World) (x : ℕ) (name : List ℕ) (e : Event) : Type 0 where
-  by : by_of e ≡ name
-  refused : refused_at w e x ≡ up_refusal w x (op_refusal (op_at w e x))
-  done : done_at w e x ≡ op_done w x (op_at w e x)
+-- what a member says that may say it
+said_there : (w : World) (x : ℕ) (m : Message) (s : Saying) → message_of w x s ≡ Ok m → (saying_refusal w x s ≡ None) × (said w x s ≡ publish_at w x m)
+said_there w x m (Own body) is = let same : message.Cast body ≡ m = cc in (refl, ap (publish_at w x) same)
+said_there w x m (OfQueue q) is = by_op (op_as w x q) is
+  where
+    by_op : (o : Result Op Reason) → queue_message o ≡ Ok m → (op_refusal o ≡ None) × (op_done w x o ≡ publish_at w x m)
+    by_op (Ok o) k = let same : message.Queue o ≡ m = cc in (refl, ap (publish_at w x) same)
+    by_op (Err r) k = cc
 
-operation_is : (w : World) (x : ℕ) (name : List ℕ) (o : Op) → IsOperation w x name (operating name o)
-operation_is w x name (op.Publish at body) = record { by = refl; refused = refl; done = refl }
-operation_is w x name (op.Deliver at) = record { by = refl; refused = refl; done = refl }
-operation_is w x name (op.Drop at) = record { by = refl; refused = refl; done = refl }
-operation_is w x name (op.Ack at) = record { by = refl; refused = refl; done = refl }
-operation_is w x name (op.Requeue at) = record { by = refl; refused = refl; done = refl }
-operation_is w x name (op.Depth depth) = record { by = refl; refused = refl; done = refl }
-operation_is w x name (op.Start depth) = record { by = refl; refused = refl; done = refl }
-operation_is w x name (op.SyncMark target) = record { by = refl; refused = refl; done = refl }
+-- An event by which member x says a message is refused by x's phase alone, and publishes the message.
+pub record IsPublished (w : World) (x : ℕ) (m : Message) (e : Event) : Type 0 where
+  pub refused : refused_at w e x ≡ up_refusal w x None
+  pub done : done_at w e x ≡ publish_at w x m
 
--- The event by which member x, which has this name, publishes a message is refused by x's phase alone, and publishes the message.
-pub record IsPublished (w : World) (x : ℕ) (name : List ℕ) (m : Message) : Type 0 where
-  pub by : by_of (publishing name m) ≡ name
-  pub refused : refused_at w (publishing name m) x ≡ up_refusal w x None
-  pub done : done_at w (publishing name m) x ≡ publish_at w x m
-
-pub published_there : (w : World) (x : ℕ) (name : List ℕ) (m : Message) → PublishesIn w x name m → IsPublished w x name m
-published_there w x name (Cast body) is = record { by = refl; refused = refl; done = refl }
-published_there w x name (Queue o) is =
-    let k : IsOperation w x name (operating name o) = operation_is w x name o in
+pub published_there : (w : World) (x : ℕ) (name : List ℕ) (m : Message) (e : Event) → SaysIn w x name m e → IsPublished w x m e
+published_there w x name m e says =
+    let may = said_there w x m says.saying says.message in
     record {
-      by = k.by;
-      refused = k.refused ∙ ap (λ r. up_refusal w x (op_refusal r)) is;
-      done = k.done ∙ ap (op_done w x) is;
+      refused = ap (refused_as w x) says.kind ∙ ap (up_refusal w x) may.0;
+      done = ap (done_as w x) says.kind ∙ may.1;
     }

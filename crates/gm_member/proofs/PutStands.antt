@@ -113,7 +113,7 @@ pub sent_forgotten : (w : World) (x o p : ℕ) → IsFit w → 1 ≤ x → x < s
 sent_forgotten w x o p f some lt up is e =
     ⊎_elim
     (λ (z : p ≡ 0). silent (ap (log_of w) z ∙ f.nobody))
-    (λ (ne : p ≢ 0). ⊎_elim (λ (pl : p < size w). f.lawful.compact.sent x o p up is e (omega arith) pl) (λ (ge : size w ≤ p). silent (log_past w p ge)) (cases_lt p (size w)))
+    (λ (ne : p ≢ 0). ⊎_elim (λ (pl : p < size w). f.compact.sent x o p up is e (omega arith) pl) (λ (ge : size w ≤ p). silent (log_past w p ge)) (cases_lt p (size w)))
     (cases_eq p 0)
   where
     silent : log_of w p ≡ [] → (row_of w x p).forgot ≤ (numbers_at (link_at w o).sending.sent p).got

@@ -3,12 +3,13 @@ use Rattle.std.proofs.Common.{◌≡◌, ℕ, ◌<◌, ◌≤◌, Option, Some, 
 use Rattle.queue_core.specs.declared.message.Message.{Message}
 use Rattle.ring_names.specs.declared.reason.Reason.{Reason}
 use Rattle.ring_names.specs.declared.reason.Reason.TheVariants as reason
+use Rattle.ring_rules.specs.declared.event.Event.{Event}
 use Rattle.ring_rules.specs.declared.event.Event.TheVariants as event
 use Rattle.ring_rules.specs.Machine.{World, member_at}
 use Rattle.ring_rules.specs.Step.{size}
 use Rattle.ring_rules.specs.Event.{id_of, on_link, running_refusal, up_refusal, take_refusal, end_refusal, gain_refusal, refusal}
 use Rattle.gm_member.specs.Held.{active_refused, up_refused, put_refused, take_refused, pick_refused, on_some}
-use Rattle.gm_member.specs.Stands.{held_in, outgoing_in, publishing, PublishesIn}
+use Rattle.gm_member.specs.Stands.{held_in, outgoing_in, SaysIn}
 use Rattle.gm_member.proofs.Fit.{IsFit}
 use Rattle.gm_member.proofs.Facts.{refused_there}
 use Rattle.gm_member.proofs.TakeStands.{take_refuses}
@@ -21,10 +22,10 @@ on_link_is : (o : Option ℕ) (missing : Reason) (later : Option Reason) (then :
 on_link_is None missing later then h = refl
 on_link_is (Some k) missing later then h = sym (h k refl)
 
-pub publish_refusal_is : (w : World) (x : ℕ) (m : Message) → IsFit w → 1 ≤ x → x < size w → PublishesIn w x (member_at w x).name m → up_refused (held_in w x) None ≡ refusal w (publishing (member_at w x).name m)
-publish_refusal_is w x m f some lt is =
-    let k : IsPublished w x (member_at w x).name m = published_there w x (member_at w x).name m is in
-    sym k.refused ∙ sym (refused_there w x (publishing (member_at w x).name m) (ap (id_of w) k.by ∙ f.named x some lt))
+pub publish_refusal_is : (w : World) (x : ℕ) (m : Message) (e : Event) → IsFit w → 1 ≤ x → x < size w → SaysIn w x (member_at w x).name m e → up_refused (held_in w x) None ≡ refusal w e
+publish_refusal_is w x m e f some lt says =
+    let k : IsPublished w x m e = published_there w x (member_at w x).name m e says in
+    sym k.refused ∙ sym (refused_there w x e (ap (id_of w) says.by ∙ f.named x some lt))
 
 pub put_refusal_is : (w : World) (x : ℕ) → IsFit w → 1 ≤ x → x < size w → put_refused (held_in w x) ≡ refusal w (event.Put (member_at w x).name)
 put_refusal_is w x f some lt = put_refuses w x f ∙ sym (refused_there w x (event.Put (member_at w x).name) (f.named x some lt))

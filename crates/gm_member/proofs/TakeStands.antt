@@ -172,9 +172,9 @@ begins_before w x s p f t pl own is = by_packets (link_at w s).packets refl
     low_rises false h = h.got
 
     by_fresh : (b : Bool) → (link_at w s).had.fresh ≡ b → k.lo ≡ lo_of b k.forgot (numbers_at (link_at w s).had.sent p) → k.lo ≤ k.got
-    by_fresh true e lo = let less = oldest_says w x s (may_take_it w x s t) f.good.inv f.logged f.lawful.compact.taken p pl in omega (arith, lo, less)
+    by_fresh true e lo = let less = oldest_says w x s (may_take_it w x s t) f.good.inv f.logged f.compact.taken p pl in omega (arith, lo, less)
     by_fresh false e lo =
-        let has = f.lawful.compact.taken x s p t.up t.current pl e in
+        let has = f.compact.taken x s p t.up t.current pl e in
         let up : low own (row_of w x p) ≤ k.got = low_rises own rises in
         let at : low own (row_of w x p) ≡ (numbers_at (link_at w s).had.sent p).got = ap (λ b. low b (row_of w x p)) (sym is) ∙ has.got in
         omega (arith, lo, up, at)
@@ -183,7 +183,7 @@ begins_before w x s p f t pl own is = by_packets (link_at w s).packets refl
     by_packets [] e = absurd (false≢true (sym t.has ∙ ap is_empty e))
     by_packets (j ∷ ks) e =
         let first : oldest (link_at w s) ≡ j = ap (λ js. get_or js 0 no_packet) e in
-        let turn = subst (λ js. IsInTurn (link_at w s).had js (link_at w s).sending) e (f.lawful.compact.turn s) in
+        let turn = subst (λ js. IsInTurn (link_at w s).had js (link_at w s).sending) e (f.compact.turn s) in
         by_fresh (link_at w s).had.fresh refl (subst (λ i. (numbers_at i p).lo ≡ lo_of (link_at w s).had.fresh (numbers_at i p).forgot (numbers_at (link_at w s).had.sent p)) (sym first) (turn.0 p))
 
 -- of what x answers for, all comes round
@@ -244,7 +244,7 @@ accepted_there w x s q p f t some pl = by_line (line_in (link_at w s).had (oldes
     by_line : (b : Bool) → line_in (link_at w s).had (oldest (link_at w s)) p ≡ b
         → accepted (owned w x s p) (kept_by (log_of w p) r) (cond b (Some (whole_line (log_of w p) q k)) None) ≡ kept_by (log_of w p) (taken_row (owned w x s p) (log_of w p) r k)
     by_line true e = by_own (owned w x s p) refl
-    by_line false e = sym (ap (kept_by (log_of w p)) (has_stays (owned w x s p) (log_of w p) r k (without_line w x s (may_take_it w x s t) f.good.inv f.logged f.lawful.compact.taken p pl e)))
+    by_line false e = sym (ap (kept_by (log_of w p)) (has_stays (owned w x s p) (log_of w p) r k (without_line w x s (may_take_it w x s t) f.good.inv f.logged f.compact.taken p pl e)))
 
 -- and so of each
 pub accepted_at : (w : World) (x s q p : ℕ) → IsFit w → TakesFrom w x s → 1 ≤ p → accepted (owned w x s p) (kept_by (log_of w p) (row_of w x p)) (line_of_packet w s q p) ≡ kept_by (log_of w p) (row_at (taker w x s) p)
@@ -341,7 +341,7 @@ news_there w x s q p f t some pl = by_line (line_in (link_at w s).had (oldest (l
     by_line : (b : Bool) → line_in (link_at w s).had (oldest (link_at w s)) p ≡ b
         → line_news (owned w x s p) q (kept_by (log_of w p) r) (cond b (Some (whole_line (log_of w p) q k)) None) ≡ taken_of (owned w x s p) q (log_of w p) r.got k
     by_line true e = by_own (owned w x s p) refl
-    by_line false e = sym (no_news (owned w x s p) q (log_of w p) r.got k (same_got (owned w x s p) refl (without_line w x s (may_take_it w x s t) f.good.inv f.logged f.lawful.compact.taken p pl e)))
+    by_line false e = sym (no_news (owned w x s p) q (log_of w p) r.got k (same_got (owned w x s p) refl (without_line w x s (may_take_it w x s t) f.good.inv f.logged f.compact.taken p pl e)))
 
 -- and of one that the ring doesn't have
 news_past : (w : World) (x s q p : ℕ) → IsFit w → TakesFrom w x s → size w ≤ p

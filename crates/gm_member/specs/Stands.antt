@@ -1,16 +1,12 @@
 -- When a member stands in a state of the ring.
-use Rattle.std.specs.Prelude.{◌≡◌, ℕ, zero, suc, ◌+◌, ◌<◌, ◌≤◌, ◌∷◌, ◌++◌, Bool, false, ◌&&◌, cond, nat_eq, List, [], length, map, Option, Some, None, option_map, Ok, ⊤}
+use Rattle.std.specs.Prelude.{◌≡◌, ℕ, zero, suc, ◌+◌, ◌<◌, ◌≤◌, ◌∷◌, ◌++◌, Bool, false, ◌&&◌, cond, nat_eq, List, [], length, map, Option, Some, None, option_map, Ok}
 use Rattle.std.specs.List.{filter, range_with_len}
 use Rattle.queue_core.specs.declared.message.Message.{Message}
-use Rattle.queue_core.specs.declared.message.Message.TheVariants.{Cast, Queue}
-use Rattle.queue_core.specs.declared.op.Op.{Op}
-use Rattle.queue_core.specs.declared.op.Op.TheVariants as op
 use Rattle.ring_names.specs.declared.numbers.CreditSpec.{CreditSpec}
 use Rattle.credit_flow.specs.Link.{oldest as oldest_grant}
 use Rattle.group_view.specs.View.{Group, as_id}
 use Rattle.group_view.specs.Change.{AreOpeningNames, marked}
 use Rattle.ring_rules.specs.declared.event.Event.{Event}
-use Rattle.ring_rules.specs.declared.event.Event.TheVariants as event
 use Rattle.ring_rules.specs.declared.numbers.Numbers.{Numbers}
 use Rattle.ring_rules.specs.Rows.{Row, most_members, messages_between}
 use Rattle.ring_rules.specs.declared.phase.Phase.TheVariants.{Waiting}
@@ -20,7 +16,7 @@ use Rattle.ring_rules.specs.Compact.{has_line}
 use Rattle.ring_rules.specs.Machine.{World, Packet, Sending, row_at, numbers_at, member_at, link_at, view_in, newest, is_waiting, oldest}
 use Rattle.ring_rules.specs.OpenLinks.{is_door_link, passes}
 use Rattle.ring_rules.specs.Step.{size, log_of, is_owned, next_packet, admitted_view, opening}
-use Rattle.ring_rules.specs.Event.{id_of, erased_view, op_at, refusal, effect, IsRun, last}
+use Rattle.ring_rules.specs.Event.{Saying, Says, kind_of, message_of, id_of, by_of, erased_view, refusal, effect, IsRun, last}
 use Rattle.gm_member.specs.declared.taken.Taken.{Taken}
 use Rattle.activity.specs.Kept.{Kept}
 use Rattle.activity.specs.Told.{Told}
@@ -133,27 +129,12 @@ StandsWhereItWaits credit name x v h = (names : List (List ℕ)) (events : List 
     → AreOpeningNames names → IsRun (opening credit names) events
     → WaitsThere (last (opening credit names) events) x name v → Stands (last (opening credit names) events) x h
 
--- the event that publishes an operation of the queue; none publishes the mark of a copy, for which that of Depth stands
-abbrev pub operating : List ℕ → Op → Event
-operating name (op.Publish at body) = event.Publish name body
-operating name (op.Deliver at) = event.Get name
-operating name (op.Drop at) = event.Pop name
-operating name (op.Ack at) = event.Ack name at
-operating name (op.Requeue at) = event.Requeue name at
-operating name (op.Depth depth) = event.Depth name
-operating name (op.Start depth) = event.Start name
-operating name (op.SyncMark target) = event.Depth name
-
--- the event by which a message is published
-abbrev pub publishing : List ℕ → Message → Event
-publishing name (Cast body) = event.Cast name body
-publishing name (Queue o) = operating name o
-
--- in this state that event publishes just this message: a multicast of the member's own always, and an operation of the queue where it
--- is the one that the event of the member of this id does
-abbrev pub PublishesIn : World → ℕ → List ℕ → Message → Type 0
-PublishesIn w x name (Cast body) = ⊤
-PublishesIn w x name (Queue o) = op_at w (operating name o) x ≡ Ok o
+-- By this event the member of this id, which has this name, says just this message in a state.
+pub record SaysIn (w : World) (x : ℕ) (name : List ℕ) (m : Message) (e : Event) : Type 0 where
+  pub by : by_of e ≡ name
+  pub saying : Saying
+  pub kind : kind_of e ≡ Says saying
+  pub message : message_of w x saying ≡ Ok m
 
 -- A packet stands for one of the ring, behind what passed before it on its link: its version and its lines.
 pub record StandsFor (w : World) (before : Sending) (k : ByOrigin) (packet : Packet) : Type 0 where

@@ -69,6 +69,7 @@ impl<O: LinkPair<Load, In = I>, I: LinkIn<Load> + Drop> Member<O, I> {
     ghost use Rattle.std.specs.Prelude.{MatchOption, ◌++◌};
     ghost use Rattle.ring_names.specs.declared.reason.Reason.{Reason};
     ghost use Rattle.ring_rules.specs.Rows.{most_members};
+    ghost use Rattle.ring_rules.specs.declared.event.Event.{Event};
     ghost use Rattle.ring_rules.specs.declared.event.Event.TheVariants.{Put, Take, TakeEnd, Gain, Stop, Pick, Refresh};
     ghost use Rattle.ring_rules.specs.Machine.{member_at, is_waiting, runs_phase, view_in, newest};
     ghost use Rattle.ring_rules.specs.Step.{log_of};
@@ -86,7 +87,7 @@ impl<O: LinkPair<Load, In = I>, I: LinkIn<Load> + Drop> Member<O, I> {
     ghost use Rattle.gm_member.specs.Held.{first_out, refresh_refused, refreshed_held};
     ghost use Rattle.gm_member.specs.Held.{first_at_door as the_first_at_door, pick_refused, picked_held, picked_at};
     ghost use Rattle.gm_member.specs.Held.{Outgoing, parcel_on};
-    ghost use Rattle.gm_member.specs.Stands.{WhereItStands, StepsTo, with_own_link, publishing, PublishesIn};
+    ghost use Rattle.gm_member.specs.Stands.{WhereItStands, StepsTo, SaysIn, with_own_link};
     ghost use Rattle.gm_member.specs.Stands.{IsPutPacket, IsNextPacket, IsNextGrant, IsNextEnd, taken_in};
     ghost use Rattle.gm_member.specs.Stands.{StandsWhereItWaits};
     ghost use Rattle.gm_member.specs.News.{news_of};
@@ -287,16 +288,14 @@ impl<O: LinkPair<Load, In = I>, I: LinkIn<Load> + Drop> Member<O, I> {
         ensures back { HandsBack (up_refused (held_of self.old) None) message result }
         ensures publishes { Publishes message self.old self.new result }
 
-        // Wherever the member stands in a state of a run in which its event publishes the message, this is the ring's
-        // event.
+        // Wherever the member stands in a state of a run, and an event of its name says the message there, this is the
+        // ring's event.
         ensures steps { OnOk result (WhereItStands (held_of self.old) (λ w x.
-            PublishesIn w x (held_of self.old).name message
-            → StepsTo w x (publishing (held_of self.old).name message) (held_of self.new))) }
+            (e : Event) → SaysIn w x (held_of self.old).name message e → StepsTo w x e (held_of self.new))) }
         ensures logged { IfOk result (λ n.
             WhereItStands (held_of self.old) (λ w x. n ≡ length (log_of w x) + 1)) }
         ensures not_enabled { WhereItStands (held_of self.old) (λ w x.
-            PublishesIn w x (held_of self.old).name message → (r : Reason)
-            → refusal w (publishing (held_of self.old).name message) ≡ Some r
+            (e : Event) → SaysIn w x (held_of self.old).name message e → (r : Reason) → refusal w e ≡ Some r
             → result ≡ Err (message, MemberFault.Refused r)) }
     {
         self.log(message)

@@ -1,5 +1,5 @@
 -- What of a state of the ring the registrar has: its views, and who has stopped. Each event in which it has no part keeps both.
-use Rattle.std.proofs.Common.{List, ◌≡◌, ℕ, ◌++◌, ◌∷◌, [], length, Option, Some, None, Result, Ok, Err, refl, sym, ap, ◌∙◌, get_or, zero, suc, Bool, map}
+use Rattle.std.proofs.Common.{List, ◌≡◌, ℕ, ◌++◌, ◌∷◌, [], length, Option, Some, None, Result, Ok, Err, refl, sym, ap, ◌∙◌, get_or, zero, suc, Bool, false, map}
 use Rattle.ring_rules.specs.View.{right_of}
 use Rattle.ring_rules.specs.declared.phase.Phase.{Phase}
 use Rattle.ring_rules.specs.declared.phase.Phase.TheVariants.{Waiting, Up, Stopped}
@@ -7,11 +7,11 @@ use Rattle.queue_core.specs.declared.message.Message.TheVariants as message
 use Rattle.queue_core.specs.declared.op.Op.{Op}
 use Rattle.ring_names.specs.declared.reason.Reason.{Reason}
 use Rattle.ring_rules.specs.declared.event.Event.{Event}
-use Rattle.ring_rules.specs.declared.event.Event.TheVariants.{Cast, Publish, Get, Pop, Ack, Requeue, Depth, Start, Put, Take, TakeEnd, Gain, Stop, Mark, Refresh, Admit, Pick, Erase, Synced, Refuse}
+use Rattle.ring_rules.specs.declared.kind.LinkStep.TheVariants as step
 use Rattle.registrar.specs.Stands.{IsOwn}
 use Rattle.ring_rules.specs.Machine.{Member, World, no_member, member_at, link_at, view_in, oldest}
 use Rattle.ring_rules.specs.Step.{size, with_member, moved_to, opened_link, end_out, begun, taker, published, with_current}
-use Rattle.ring_rules.specs.Event.{is_stopped, refreshed, at_found, taken_by, effect, at_door, id_of, by_of, op_at, op_done, done_at}
+use Rattle.ring_rules.specs.Event.{Saying, Own, OfQueue, Kind, Says, Steps, Changes, Stops, Reads, Tells, kind_of, is_registered_kind, is_stopped, refreshed, at_found, taken_by, effect, at_door, id_of, by_of, op_as, op_done, said, done_as, done_at}
 use Rattle.ring_rules.proofs.events.Composed.{refresh_composed}
 use Rattle.std.proofs.Math.Seq.{map-set_same}
 use Rattle.std.proofs.lemmas.Bool.{false≢true}
@@ -76,29 +76,24 @@ told_op : (w : World) (x : ℕ) (o : Result Op Reason) → told (op_done w x o) 
 told_op w x (Ok o) = told_member w x (published x (message.Queue o) (member_at w x)) refl
 told_op w x (Err r) = refl
 
+-- what a member says
+told_said : (w : World) (x : ℕ) (s : Saying) → told (said w x s) ≡ told w
+told_said w x (Own body) = told_member w x (published x (message.Cast body) (member_at w x)) refl
+told_said w x (OfQueue q) = told_op w x (op_as w x q)
+
 -- ---- the events of a member by itself
 
-told_done : (w : World) (e : Event) (x : ℕ) → IsOwn e → told (done_at w e x) ≡ told w
-told_done w (Cast by body) x h = told_member w x (published x (message.Cast body) (member_at w x)) refl
-told_done w (Publish by body) x h = told_op w x (op_at w (Publish by body) x)
-told_done w (Get by) x h = told_op w x (op_at w (Get by) x)
-told_done w (Pop by) x h = told_op w x (op_at w (Pop by) x)
-told_done w (Ack by at) x h = told_op w x (op_at w (Ack by at) x)
-told_done w (Requeue by at) x h = told_op w x (op_at w (Requeue by at) x)
-told_done w (Depth by) x h = told_op w x (op_at w (Depth by) x)
-told_done w (Start by) x h = told_op w x (op_at w (Start by) x)
-told_done w (Put by) x h = told_found w (member_at w x).out _ (λ o. refl)
-told_done w (Take by) x h = told_found w (member_at w x).current _ (λ s. told_taken w x s (member_at w x).phase refl)
-told_done w (TakeEnd by) x h = told_found w (member_at w x).current _ (λ s. told_member w x (with_current None (member_at w x)) refl)
-told_done w (Gain by) x h = told_found w (member_at w x).out _ (λ o. refl)
-told_done w (Stop by) x h = absurd (false≢true (sym h))
-told_done w (Mark by dead) x h = absurd (false≢true (sym h))
-told_done w (Refresh by version) x h = told_refreshed w x version
-told_done w (Admit by name) x h = absurd (false≢true (sym h))
-told_done w (Pick by) x h = told_found w (at_door w x) _ (λ s. told_member w x (with_current (Some s) (member_at w x)) refl)
-told_done w (Erase by origin) x h = absurd (false≢true (sym h))
-told_done w (Synced by) x h = absurd (false≢true (sym h))
-told_done w (Refuse code inner) x h = refl
+told_done : (w : World) (x : ℕ) (k : Kind) → is_registered_kind k ≡ false → told (done_as w x k) ≡ told w
+told_done w x (Says s) h = told_said w x s
+told_done w x (Steps step.Put) h = told_found w (member_at w x).out _ (λ o. refl)
+told_done w x (Steps step.Take) h = told_found w (member_at w x).current _ (λ s. told_taken w x s (member_at w x).phase refl)
+told_done w x (Steps step.TakeEnd) h = told_found w (member_at w x).current _ (λ s. told_member w x (with_current None (member_at w x)) refl)
+told_done w x (Steps step.Gain) h = told_found w (member_at w x).out _ (λ o. refl)
+told_done w x (Steps step.Pick) h = told_found w (at_door w x) _ (λ s. told_member w x (with_current (Some s) (member_at w x)) refl)
+told_done w x (Changes c) h = absurd (false≢true (sym h))
+told_done w x Stops h = absurd (false≢true (sym h))
+told_done w x (Reads version) h = told_refreshed w x version
+told_done w x (Tells code inner) h = refl
 
 pub told_effect : (w : World) (e : Event) → IsOwn e → told (effect w e) ≡ told w
-told_effect w e h = told_found w (id_of w (by_of e)) (done_at w e) (λ x. told_done w e x h)
+told_effect w e h = told_found w (id_of w (by_of e)) (done_at w e) (λ x. told_done w x (kind_of e) h)

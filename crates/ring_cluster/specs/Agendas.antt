@@ -1,12 +1,17 @@
 -- What is still to be done, by the name of the member that was asked. One that nobody has yet may have an agenda too.
-use Rattle.std.specs.Prelude.{ℕ, List, [], ◌∷◌, ◌++◌, length, map, position, bytes_eq, slice_set, slice_index_or, Option, Some, None}
+use Rattle.std.specs.Prelude.{◌≡◌, ℕ, true, List, [], ◌∷◌, ◌++◌, length, map, position, bytes_eq, slice_set, slice_index_or, Option, Some, None}
 use Rattle.std.specs.List.{sum_by}
-use Rattle.ring_cluster.specs.declared.agenda.Task.{Task}
+use Rattle.ring_rules.specs.declared.event.Client.{Client}
+use Rattle.ring_rules.specs.Event.{asked_of, is_asked_multicast}
 
--- An agenda: whose it is, and what is on it, the next task first.
+-- this is asked of the member of that name, and is of the ring alone
+abbrev pub IsAskedOf : List ℕ → Client → Type 0
+IsAskedOf name t = (asked_of t ≡ name) × (is_asked_multicast t ≡ true)
+
+-- An agenda: whose it is, and what clients asked of that one, what is to be done next first.
 pub record Plan : Type 0 where
   pub name : List ℕ
-  pub tasks : List Task
+  pub tasks : List Client
 
 -- the names of those that have an agenda
 abbrev pub names_of : List Plan → List (List ℕ)
@@ -21,31 +26,36 @@ abbrev pub plan_at : List Plan → ℕ → Plan
 plan_at plans i = slice_index_or plans i (record { name = []; tasks = [] })
 
 -- what is on the one at a place that was found
-abbrev pub tasks_found : List Plan → Option ℕ → List Task
+abbrev pub tasks_found : List Plan → Option ℕ → List Client
 tasks_found plans None = []
 tasks_found plans (Some i) = (plan_at plans i).tasks
 
 -- what is on the agenda of that name; nothing where there is none
-abbrev pub tasks_in : List Plan → List ℕ → List Task
+abbrev pub tasks_in : List Plan → List ℕ → List Client
 tasks_in plans name = tasks_found plans (place_among (names_of plans) name)
 
 -- the agendas, with these tasks on the one at a place that was found
-abbrev pub with_found : List Plan → Option ℕ → List Task → List Plan
+abbrev pub with_found : List Plan → Option ℕ → List Client → List Plan
 with_found plans None ts = plans
 with_found plans (Some i) ts = slice_set plans i (record (plan_at plans i) { tasks = ts })
 
 -- with these tasks on the one of that name
-abbrev pub with_tasks : List Plan → List ℕ → List Task → List Plan
+abbrev pub with_tasks : List Plan → List ℕ → List Client → List Plan
 with_tasks plans name ts = with_found plans (place_among (names_of plans) name) ts
 
--- the agendas, with one more task at the end of the one of that name, at a place that was found; where there is none it begins one
-abbrev pub with_more : List Plan → Option ℕ → List ℕ → Task → List Plan
-with_more plans None name t = plans ++ record { name = name; tasks = t ∷ [] } ∷ []
-with_more plans (Some i) name t = with_found plans (Some i) ((plan_at plans i).tasks ++ t ∷ [])
+-- the agendas, with one more task at the end of the one at a place that was found; where there is none it begins one
+abbrev pub with_more : List Plan → Option ℕ → Client → List Plan
+with_more plans None t = plans ++ record { name = asked_of t; tasks = t ∷ [] } ∷ []
+with_more plans (Some i) t = with_found plans (Some i) ((plan_at plans i).tasks ++ t ∷ [])
 
--- with one more task at its end
-abbrev pub with_task : List Plan → List ℕ → Task → List Plan
-with_task plans name t = with_more plans (place_among (names_of plans) name) name t
+-- with one more task at the end of the one of its member
+abbrev pub with_task : List Plan → Client → List Plan
+with_task plans t = with_more plans (place_among (names_of plans) (asked_of t)) t
+
+-- with what was asked there, where anything was
+abbrev pub with_asked : List Plan → Option Client → List Plan
+with_asked plans None = plans
+with_asked plans (Some t) = with_task plans t
 
 -- how many tasks are on all of them
 abbrev pub tasks_on_all : List Plan → ℕ

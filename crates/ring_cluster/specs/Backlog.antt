@@ -1,9 +1,9 @@
 -- How much is left of what clients asked, as one number that falls at each task that is done, refused, or handed on.
 use Rattle.std.specs.Prelude.{ℕ, ◌+◌, ◌-◌, ◌*◌, bytes_eq, if◌then◌else◌, List, Option, Some, None}
 use Rattle.std.specs.List.{sum_by}
+use Rattle.ring_rules.specs.declared.event.Client.{Client}
+use Rattle.ring_rules.specs.declared.event.Client.TheVariants as client
 use Rattle.ring_rules.specs.Machine.{World, member_at}
-use Rattle.ring_cluster.specs.declared.agenda.Task.{Task}
-use Rattle.ring_cluster.specs.declared.agenda.Task.TheVariants as task
 use Rattle.ring_cluster.specs.Agendas.{Plan}
 use Rattle.ring_cluster.specs.Handed.{least_running}
 use Rattle.ring_cluster.specs.Seen.{Seen, state_of}
@@ -18,16 +18,15 @@ abbrev pub is_no_heir : World → Option ℕ → List ℕ → ℕ
 is_no_heir w None name = 1
 is_no_heir w (Some i) name = if bytes_eq (member_at w (i + 1)).name name then 0 else 1
 
--- What is left by a task on the agenda of this name. A join may be handed on from each member that runs now to the next, and
--- once from one that isn't the next.
-abbrev pub cost : World → List ℕ → Task → ℕ
-cost w name (task.Cast body) = 1
-cost w name task.Stop = 1
-cost w name (task.Admit newcomer) = 1 + 2 * heirs_from (least_running w) + is_no_heir w (least_running w) name
+-- What is left by what a client asked. A join may be handed on from each member that runs now to the next, and once from one that
+-- isn't the next.
+abbrev pub cost : World → Client → ℕ
+cost w (client.Admit by newcomer) = 1 + 2 * heirs_from (least_running w) + is_no_heir w (least_running w) by
+cost w t = 1
 
 -- by all on an agenda
 abbrev pub left_on : World → Plan → ℕ
-left_on w a = sum_by (cost w a.name) a.tasks
+left_on w a = sum_by (cost w) a.tasks
 
 -- and by all agendas
 abbrev pub backlog : World → List Plan → ℕ

@@ -1,5 +1,5 @@
 -- When a journal plays what a cluster was given.
-use Rattle.std.specs.Prelude.{◌≡◌, ℕ, ◌+◌, ◌&&◌, ◌<◌, ◌≤◌, Bool, true, false, not, List, [], ◌∷◌, ◌++◌, length, map, take, slice_get, bytes_eq, Option, Some, None, if◌then◌else◌, Contains, ⊤}
+use Rattle.std.specs.Prelude.{◌≡◌, ℕ, ◌+◌, ◌&&◌, ◌<◌, ◌≤◌, Bool, true, false, not, List, [], ◌∷◌, ◌++◌, length, map, take, slice_get, bytes_eq, Option, Some, None, IsSome, if◌then◌else◌, Contains}
 use Rattle.std.specs.List.{flat_map, filter}
 use Rattle.ring_names.specs.declared.numbers.CreditSpec.{CreditSpec}
 use Rattle.ring_names.specs.declared.reason.Reason.{Reason}
@@ -7,7 +7,7 @@ use Rattle.ring_names.specs.Reason.{code_of}
 use Rattle.ring_script.specs.declared.command.Command.{Command}
 use Rattle.ring_script.specs.declared.command.Command.TheVariants as command
 use Rattle.ring_rules.specs.declared.event.Event.{Event}
-use Rattle.ring_rules.specs.declared.event.Event.TheVariants.{Cast, Stop, Admit, Refuse}
+use Rattle.ring_rules.specs.declared.event.Event.TheVariants.{Refuse}
 use Rattle.ring_rules.specs.declared.event.Client.{Client}
 use Rattle.ring_rules.specs.declared.event.Client.TheVariants as client
 use Rattle.ring_rules.specs.declared.phase.Phase.{Phase}
@@ -16,10 +16,8 @@ use Rattle.ring_rules.specs.Machine.{World, member_at}
 use Rattle.ring_rules.specs.Step.{opening}
 use Rattle.ring_rules.specs.Event.{by_of, is_asked, event_of, refusal, last}
 use Rattle.ring_rules.specs.Quiet.{RingRests}
-use Rattle.ring_cluster.specs.declared.agenda.Task.{Task}
-use Rattle.ring_cluster.specs.declared.agenda.Task.TheVariants as task
-use Rattle.ring_cluster.specs.Agendas.{Plan, tasks_in, with_tasks, with_task}
-use Rattle.ring_cluster.specs.Handed.{handing, handed}
+use Rattle.ring_cluster.specs.Agendas.{tasks_in, with_tasks, with_asked}
+use Rattle.ring_cluster.specs.Handed.{handing, given_to, handed}
 use Rattle.ring_cluster.specs.Seen.{Seen, state_of, IsMemberIn}
 use Rattle.ring_parties.specs.States.{state}
 
@@ -38,13 +36,17 @@ client_event name e = if is_asked e && bytes_eq (by_of e) name then asked_event 
 abbrev pub client_events : List ℕ → List Event → List Event
 client_events name events = flat_map (client_event name) events
 
+-- what a command asks of a member; one of the whole ring asks nothing of any
+abbrev pub client_of : Command → Option Client
+client_of (command.Cast by body) = Some (client.Cast by body)
+client_of (command.Join by newcomer) = Some (client.Admit by newcomer)
+client_of (command.Kill by) = Some (client.Stop by)
+client_of (command.Go turns) = None
+client_of command.Settle = None
+
 -- what a command asks of this member
 abbrev pub asked_by : List ℕ → Command → List Event
-asked_by name (command.Cast by body) = if bytes_eq by name then Cast by body ∷ [] else []
-asked_by name (command.Join by newcomer) = if bytes_eq by name then Admit by newcomer ∷ [] else []
-asked_by name (command.Kill by) = if bytes_eq by name then Stop by ∷ [] else []
-asked_by name (command.Go turns) = []
-asked_by name command.Settle = []
+asked_by name x = given_to name (client_of x)
 
 -- what commands ask of it, in their order
 abbrev pub asked : List ℕ → List Command → List Event
@@ -52,48 +54,36 @@ asked name commands = flat_map (asked_by name) commands
 
 -- ---- what a member has still to do
 
--- the event of a task, by its member
-abbrev pub task_event : List ℕ → Task → Event
-task_event name (task.Cast body) = Cast name body
-task_event name task.Stop = Stop name
-task_event name (task.Admit newcomer) = Admit name newcomer
-
--- what a client asks of this member by it
-abbrev pub task_client : List ℕ → Task → Client
-task_client name (task.Cast body) = client.Cast name body
-task_client name task.Stop = client.Stop name
-task_client name (task.Admit newcomer) = client.Admit name newcomer
-
--- the event by which its member does a task, where the ring doesn't refuse it, and else tells that it does, and why
-abbrev pub answer_by : List ℕ → Task → Option Reason → Event
-answer_by name t None = task_event name t
-answer_by name t (Some r) = Refuse (code_of r) (task_client name t)
+-- the event by which its member does what was asked, where the ring doesn't refuse it, and else tells that it does, and why
+abbrev pub answer_by : Client → Option Reason → Event
+answer_by t None = event_of t
+answer_by t (Some r) = Refuse (code_of r) t
 
 -- the same in a state of the ring
-abbrev pub answer_to : World → List ℕ → Task → Event
-answer_to w name t = answer_by name t (refusal w (task_event name t))
+abbrev pub answer_to : World → Client → Event
+answer_to w t = answer_by t (refusal w (event_of t))
 
 -- the events of an agenda
-abbrev pub todo : List ℕ → List Task → List Event
-todo name tasks = map (task_event name) tasks
+abbrev pub todo : List Client → List Event
+todo tasks = map event_of tasks
 
 -- what is on the agenda of the member of that name
-abbrev pub agenda_of : Seen → List ℕ → List Task
+abbrev pub agenda_of : Seen → List ℕ → List Client
 agenda_of c name = tasks_in c.agendas name
 
 -- whether it is to stop
-abbrev pub is_stop : Task → Bool
-is_stop task.Stop = true
+abbrev pub is_stop : Client → Bool
+is_stop (client.Stop by) = true
 is_stop t = false
 
 -- whether a member does a task at once: one that waits for its state leaves all but its stop
-abbrev pub takes_up : Phase → Task → Bool
+abbrev pub takes_up : Phase → Client → Bool
 takes_up Waiting t = is_stop t
 takes_up Up t = true
 takes_up Stopped t = true
 
 -- whether it has something on its agenda that it does at once
-abbrev pub is_due : Phase → List Task → Bool
+abbrev pub is_due : Phase → List Client → Bool
 is_due phase [] = false
 is_due phase (t ∷ ts) = takes_up phase t
 
@@ -105,31 +95,11 @@ IsDue c i name = is_due (member_at (state_of c) (i + 1)).phase (agenda_of c name
 
 -- a command of a member, not of the whole ring
 abbrev pub IsOfMember : Command → Type 0
-IsOfMember (command.Cast by body) = ⊤
-IsOfMember (command.Join by newcomer) = ⊤
-IsOfMember (command.Kill by) = ⊤
-IsOfMember (command.Go turns) = ⊥
-IsOfMember command.Settle = ⊥
+IsOfMember x = IsSome (client_of x)
 
--- the agendas after a command was taken
-abbrev pub tasked : List Plan → Command → List Plan
-tasked plans (command.Cast by body) = with_task plans by (task.Cast body)
-tasked plans (command.Join by newcomer) = with_task plans by (task.Admit newcomer)
-tasked plans (command.Kill by) = with_task plans by task.Stop
-tasked plans (command.Go turns) = plans
-tasked plans command.Settle = plans
-
--- whom a command asks, and for which task
-abbrev pub IsTaskOf : Command → List ℕ → Task → Type 0
-IsTaskOf (command.Cast by body) name t = (name ≡ by) × (t ≡ task.Cast body)
-IsTaskOf (command.Join by newcomer) name t = (name ≡ by) × (t ≡ task.Admit newcomer)
-IsTaskOf (command.Kill by) name t = (name ≡ by) × (t ≡ task.Stop)
-IsTaskOf (command.Go turns) name t = ⊥
-IsTaskOf command.Settle name t = ⊥
-
--- a command was given
+-- a command was given, and what it asks joins the agenda of its member
 abbrev pub commanded : Seen → Command → Seen
-commanded c x = record c { agendas = tasked c.agendas x; given = c.given ++ x ∷ [] }
+commanded c x = record c { agendas = with_asked c.agendas (client_of x); given = c.given ++ x ∷ [] }
 
 -- ---- playing
 
@@ -177,7 +147,7 @@ pub record Plays (credit : CreditSpec) (names : List (List ℕ)) (events : List 
 -- The journal of a cluster plays what it was given so far: what each member has done and refused, followed by what it has
 -- still to do, is what it was asked, and what was handed on to it. A cluster on which `step` was never called does so.
 pub record PlaysSoFar (c : Seen) : Type 0 where
-  pub serves : (name : List ℕ) → Serves (opening c.credit c.names) name c.events c.given (todo name (agenda_of c name))
+  pub serves : (name : List ℕ) → Serves (opening c.credit c.names) name c.events c.given (todo (agenda_of c name))
   pub settled : HasSettledEach c.credit c.names c.events c.given
 
 -- ---- going on
@@ -188,21 +158,16 @@ pub record GoesOn (c d : Seen) (more : List Event) : Type 0 where
   pub credit : d.credit ≡ c.credit
   pub names : d.names ≡ c.names
   pub events : d.events ≡ c.events ++ more
-  pub serves : (name : List ℕ) → client_events name more ++ todo name (agenda_of d name) ≡ todo name (agenda_of c name) ++ handed (state_of c) name more
+  pub serves : (name : List ℕ) → client_events name more ++ todo (agenda_of d name) ≡ todo (agenda_of c name) ++ handed (state_of c) name more
   pub later : (name : List ℕ) (count : ℕ) → count ≤ length more → length (client_events name (take count more)) ≤ length (agenda_of c name) + length (handed (state_of c) name (take count more))
 
 -- they have, by some events
 abbrev pub HasGoneOn : Seen → Seen → Type 0
 HasGoneOn c d = (more : List Event) × GoesOn c d more
 
--- the agendas with what is handed on
-abbrev pub with_handed : List Plan → Option (List ℕ × List ℕ) → List Plan
-with_handed plans None = plans
-with_handed plans (Some h) = with_task plans h.0 (task.Admit h.1)
-
 -- this event has happened, what it hands on joins its agenda, and these tasks are left to the member of that name
-abbrev pub performed : Seen → List ℕ → Event → List Task → Seen
-performed c name e ts = record c { events = c.events ++ e ∷ []; agendas = with_tasks (with_handed c.agendas (handing (state_of c) e)) name ts }
+abbrev pub performed : Seen → List ℕ → Event → List Client → Seen
+performed c name e ts = record c { events = c.events ++ e ∷ []; agendas = with_tasks (with_asked c.agendas (handing (state_of c) e)) name ts }
 
 -- what was given and how many rounds were given a number stay
 abbrev pub SameGiven : Seen → Seen → Type 0
@@ -214,7 +179,7 @@ HasBegun i name c d = IsDue c i name → length (client_events name c.events) < 
 
 -- of each member that had something to do at once these events have done or refused the head of its agenda
 abbrev pub HeadsAre : Seen → List Event → Type 0
-HeadsAre c more = (i : ℕ) (name : List ℕ) (t : Task) (ts : List Task) → IsMemberIn (state_of c) i name → agenda_of c name ≡ t ∷ ts → IsDue c i name → Contains (client_events name more) (task_event name t)
+HeadsAre c more = (i : ℕ) (name : List ℕ) (t : Client) (ts : List Client) → IsMemberIn (state_of c) i name → agenda_of c name ≡ t ∷ ts → IsDue c i name → Contains (client_events name more) (event_of t)
 
 -- no member has anything left to do that it was asked
 abbrev pub AgendasAreEmpty : Seen → Type 0

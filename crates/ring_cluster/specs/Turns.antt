@@ -8,14 +8,14 @@ use Rattle.ring_rules.specs.declared.phase.Phase.TheVariants.{Waiting, Up}
 use Rattle.ring_rules.specs.Machine.{World, member_at, newest, right, runs}
 use Rattle.ring_rules.specs.Step.{size}
 use Rattle.ring_rules.specs.Event.{by_of, erase_refusal, refusal}
-use Rattle.ring_parties.specs.declared.own_step.OwnStep.{OwnStep}
+use Rattle.ring_rules.specs.declared.kind.LinkStep.{LinkStep}
 use Rattle.ring_cluster.specs.declared.driver.OwnTurn.{OwnTurn}
 use Rattle.ring_cluster.specs.declared.driver.OwnTurn.TheVariants as turn
 use Rattle.ring_cluster.specs.Seen.{Seen, state_of, IsMemberIn, SameButOwed}
 use Rattle.ring_rules.specs.Work.{is_stale, total}
 use Rattle.ring_cluster.specs.Plays.{HasGoneOn, SameGiven, IsDue}
 use Rattle.ring_cluster.specs.Backlog.{backlog_of}
-use Rattle.ring_parties.specs.OwnSteps.{step_event}
+use Rattle.ring_rules.specs.Kind.{step_event}
 
 -- the member at place i has this name
 abbrev pub IsMemberAt : Seen → ℕ → List ℕ → Type 0
@@ -72,12 +72,12 @@ abbrev pub EachDoesAtMost : ℕ → Seen → Seen → Type 0
 EachDoesAtMost turns c d = (more : List Event) × (d.events ≡ c.events ++ more) × ((name : List ℕ) → length (events_of name more) ≤ turns)
 
 -- member y may do this step
-abbrev pub MayStep : World → ℕ → OwnStep → Type 0
+abbrev pub MayStep : World → ℕ → LinkStep → Type 0
 MayStep w y s = refusal w (step_event s (member_at w y).name) ≡ None
 
 -- it may do none
 abbrev pub MayStepNowhere : World → ℕ → Type 0
-MayStepNowhere w y = (s : OwnStep) → MayStep w y s → ⊥
+MayStepNowhere w y = (s : LinkStep) → MayStep w y s → ⊥
 
 -- it can't have its right neighbour in the newest view marked dead
 abbrev pub MarksNoneAt : World → ℕ → Type 0

@@ -1,32 +1,25 @@
 //! What each member has still to do.
-ghost use Rattle.std.specs.Prelude.{◌≡◌, ◌<◌, ◌≤◌, ◌∷◌, ◌++◌, [], List, drop, length, is_some, Some, MatchOption, IfOk};
+ghost use Rattle.std.specs.Prelude.{◌≡◌, ◌+◌, ◌<◌, ◌∷◌, ◌++◌, [], List, true, drop, length, is_some, MatchOption};
 ghost use Rattle.std.specs.Prelude.{IfSome, OnOk, OnErr, bytes_eq, nat_lt, position};
-ghost use Rattle.ring_cluster.specs.Agendas.{Plan, names_of, place_among, tasks_in, tasks_on_all, with_tasks, with_task};
-ghost use Rattle.ring_cluster.specs.Plays.{task_event, task_client, answer_by, is_stop as the_stop};
-ghost use Rattle.ring_cluster.specs.declared.agenda.Task.{Task};
+ghost use Rattle.std.specs.List.{All};
+ghost use Rattle.ring_rules.specs.declared.event.Client.{Client};
+ghost use Rattle.ring_rules.specs.Event.{asked_of, is_asked_multicast};
+ghost use Rattle.ring_cluster.specs.Agendas.{Plan, IsAskedOf, names_of, place_among, tasks_in, tasks_on_all};
+ghost use Rattle.ring_cluster.specs.Agendas.{with_tasks, with_task};
 
-use ring_names::{Body, Name, OutOfMemory, Reason};
-use ring_rules::{Client, Event};
+use ring_names::{Name, OutOfMemory};
+use ring_rules::Client;
 use std::alloc::Global;
 use std::collections::VecDeque;
 use std::marker::Model;
 
-/// A command of a member, without the member.
-#[derive(Drop, Debug)]
-pub enum Task {
-    /// It multicasts a message.
-    Cast(Body),
-    /// It stops.
-    Stop,
-    /// It has a newcomer of this name join the ring.
-    Admit(Name),
-}
-
-/// The tasks of one member, by its name, the next one first. A name may have an agenda before a member has it.
+/// The tasks of one member, by its name, the next one first: what clients have asked of it. A name may have an agenda
+/// before a member has it.
 #[derive(Drop)]
 pub struct Agenda {
     name: Name,
-    tasks: VecDeque<Task>,
+    tasks: VecDeque<Client>,
+    ghost asked: { All (IsAskedOf name) tasks.items },
 }
 
 impl Model for Agenda {
@@ -37,66 +30,10 @@ impl Model for Agenda {
     ghost view = { λ a. record { name = a.name; tasks = a.tasks.items } };
 }
 
-impl Task {
-    /// The event by which this member does it.
-    pub(crate) fn event(&self, by: &Name) -> Result<Event, OutOfMemory>
-        ensures { IfOk result (λ event. event ≡ task_event by.now self.now) }
-    {
-        match self {
-            Task::Cast(body) => Ok(Event::Cast {
-                by: *by,
-                body: body.copy()?,
-            }),
-            Task::Stop => Ok(Event::Stop { by: *by }),
-            Task::Admit(name) => Ok(Event::Admit {
-                by: *by,
-                name: *name,
-            }),
-        }
-    }
-
-    /// What a client asks of this member by it.
-    fn client(&self, by: &Name) -> Result<Client, OutOfMemory>
-        ensures { IfOk result (λ client. client ≡ task_client by.now self.now) }
-    {
-        match self {
-            Task::Cast(body) => Ok(Client::Cast {
-                by: *by,
-                body: body.copy()?,
-            }),
-            Task::Stop => Ok(Client::Stop { by: *by }),
-            Task::Admit(name) => Ok(Client::Admit {
-                by: *by,
-                name: *name,
-            }),
-        }
-    }
-
-    /// The event by which this member refuses it, for this reason.
-    pub(crate) fn refused(&self, by: &Name, reason: Reason) -> Result<Event, OutOfMemory>
-        ensures { IfOk result (λ event. event ≡ answer_by by.now self.now (Some reason)) }
-    {
-        let inner = self.client(by)?;
-        Ok(Event::Refuse {
-            code: reason.code(),
-            inner,
-        })
-    }
-
-    /// Whether it is to stop.
-    pub(crate) fn is_stop(&self) -> bool
-        ensures { result ≡ the_stop self.now }
-    {
-        match self {
-            Task::Stop => true,
-            Task::Cast(_) => false,
-            Task::Admit(_) => false,
-        }
-    }
-}
-
 impl Agenda {
-    ghost use Rattle.std.specs.Prelude.{◌≡◌, ◌≤◌, ◌∷◌, ◌++◌, [], List, drop, length, nat_lt, OnOk, OnErr};
+    ghost use Rattle.std.specs.Prelude.{◌≡◌, ◌+◌, ◌∷◌, ◌++◌, [], List, drop, length, nat_lt, IfSome, OnOk, OnErr};
+    ghost use Rattle.ring_rules.specs.declared.event.Client.{Client};
+    ghost use Rattle.ring_cluster.specs.Agendas.{IsAskedOf};
 
     /// An agenda with nothing on it.
     fn new(alloc: Global, name: Name) -> Agenda
@@ -115,8 +52,9 @@ impl Agenda {
         self.name.bytes() == name.bytes()
     }
 
-    /// A task joins its end.
-    fn push(&mut self, task: Task) -> Result<(), OutOfMemory>
+    /// A task of its member joins its end.
+    fn push(&mut self, task: Client) -> Result<(), OutOfMemory>
+        requires { IsAskedOf (self.old).name task }
         ensures ok { OnOk result (self.new ≡ record self.old { tasks = (self.old).tasks ++ task ∷ [] }) }
         ensures err { OnErr result (self.new ≡ self.old) }
     {
@@ -127,9 +65,10 @@ impl Agenda {
     }
 
     /// The next task.
-    fn head(&self) -> Option<&Task>
-        ensures { MatchOption result ((self.now).tasks ≡ [])
-            (λ task. (rest : List Task) × ((self.now).tasks ≡ task.now ∷ rest)) }
+    fn head(&self) -> Option<&Client>
+        ensures next { MatchOption result ((self.now).tasks ≡ [])
+            (λ task. (rest : List Client) × ((self.now).tasks ≡ task.now ∷ rest)) }
+        ensures asked { IfSome result (λ task. IsAskedOf (self.now).name task.now) }
     {
         self.tasks.front()
     }
@@ -142,23 +81,33 @@ impl Agenda {
         self.tasks.pop_front().is_some()
     }
 
-    /// The last task is taken back.
-    fn take_back(&mut self)
-        ensures back { (ts : List Task) (t : Task) → (self.old).tasks ≡ ts ++ t ∷ []
+    /// The last task is taken back: how many are gone by that, one or none.
+    fn take_back(&mut self) -> usize
+        ensures back { (ts : List Client) (t : Client) → (self.old).tasks ≡ ts ++ t ∷ []
             → self.new ≡ record self.old { tasks = ts } }
-        ensures less { length (self.new).tasks ≤ length (self.old).tasks }
+        ensures less { length (self.new).tasks + result ≡ length (self.old).tasks }
     {
-        let _ = self.tasks.pop_back();
+        match self.tasks.pop_back() {
+            Some(_) => 1,
+            None => 0,
+        }
+    }
+
+    /// How many tasks are on it.
+    fn len(&self) -> usize
+        ensures { result ≡ length (self.now).tasks }
+    {
+        self.tasks.len()
     }
 }
 
 /// The agendas of all names that were given a task, in the order in which they were first given one. It is kept how
-/// many tasks are left at most, so that nobody is looked for where there are none.
+/// many tasks are left, so that nobody is looked for where there are none.
 #[derive(Drop)]
 pub struct Agendas {
     list: Vec<Agenda>,
-    most: usize,
-    ghost counted: { tasks_on_all list.items ≤ most },
+    count: usize,
+    ghost counted: { tasks_on_all list.items ≡ count },
 }
 
 impl Model for Agendas {
@@ -171,9 +120,10 @@ impl Model for Agendas {
 }
 
 impl Agendas {
-    ghost use Rattle.std.specs.Prelude.{◌≡◌, ◌∷◌, ◌++◌, [], List, MatchOption, OnOk, OnErr, drop, is_some};
-    ghost use Rattle.ring_cluster.specs.Agendas.{Plan, names_of, place_among, tasks_in, with_tasks, with_task};
-    ghost use Rattle.ring_cluster.specs.declared.agenda.Task.{Task};
+    ghost use Rattle.std.specs.Prelude.{◌≡◌, ◌∷◌, ◌++◌, [], List, true, MatchOption, IfSome, OnOk, OnErr, drop, is_some};
+    ghost use Rattle.ring_rules.specs.declared.event.Client.{Client};
+    ghost use Rattle.ring_rules.specs.Event.{asked_of, is_asked_multicast};
+    ghost use Rattle.ring_cluster.specs.Agendas.{Plan, IsAskedOf, names_of, place_among, tasks_in, with_tasks, with_task};
 
     /// Nobody has an agenda.
     pub(crate) fn none(alloc: Global) -> Agendas
@@ -181,16 +131,17 @@ impl Agendas {
     {
         Agendas {
             list: Vec::new(alloc),
-            most: 0,
+            count: 0,
         }
     }
 
     /// The next task of the member of that name.
-    pub(crate) fn next_task(&self, name: &Name) -> Option<&Task>
-        ensures { MatchOption result (tasks_in self.now name.now ≡ [])
-            (λ task. (rest : List Task) × (tasks_in self.now name.now ≡ task.now ∷ rest)) }
+    pub(crate) fn next_task(&self, name: &Name) -> Option<&Client>
+        ensures next { MatchOption result (tasks_in self.now name.now ≡ [])
+            (λ task. (rest : List Client) × (tasks_in self.now name.now ≡ task.now ∷ rest)) }
+        ensures asked { IfSome result (λ task. IsAskedOf name.now task.now) }
     {
-        if self.most == 0 {
+        if self.count == 0 {
             return None;
         }
         next_task(&self.list, name)
@@ -201,7 +152,7 @@ impl Agendas {
         ensures { self.new ≡ with_tasks self.old name.now (drop 1 (tasks_in self.old name.now)) }
     {
         if strike_off(&mut self.list, name) {
-            self.most -= 1;
+            self.count -= 1;
         }
     }
 
@@ -212,25 +163,26 @@ impl Agendas {
         has_agenda(&self.list, name)
     }
 
-    /// A task joins the end of the agenda of that name, or begins one. Without memory for that nothing changes.
-    pub(crate) fn give(&mut self, alloc: Global, name: &Name, task: Task) -> Result<(), OutOfMemory>
-        ensures ok { OnOk result (self.new ≡ with_task self.old name.now task) }
+    /// A task joins the end of the agenda of its member, or begins one. Without memory for that nothing changes.
+    pub(crate) fn give(&mut self, alloc: Global, task: Client) -> Result<(), OutOfMemory>
+        requires { is_asked_multicast task ≡ true }
+        ensures ok { OnOk result (self.new ≡ with_task self.old task) }
         ensures err { OnErr result (self.new ≡ self.old) }
     {
-        let Some(most) = self.most.checked_add(1) else {
+        let Some(count) = self.count.checked_add(1) else {
             return Err(OutOfMemory);
         };
-        give_task(alloc, &mut self.list, name, task)?;
-        self.most = most;
+        give_task(alloc, &mut self.list, task)?;
+        self.count = count;
         Ok(())
     }
 
     /// Takes back the task that was given last, to the agenda of that name, and the agenda where there was none before.
     pub(crate) fn take_back(&mut self, name: &Name, had_one: bool)
-        ensures { (plans : List Plan) (t : Task) → self.old ≡ with_task plans name.now t
+        ensures { (plans : List Plan) (t : Client) → self.old ≡ with_task plans t → asked_of t ≡ name.now
             → had_one ≡ is_some (place_among (names_of plans) name.now) → self.new ≡ plans }
     {
-        take_back(&mut self.list, name, had_one);
+        self.count -= take_back(&mut self.list, name, had_one);
     }
 }
 
@@ -243,9 +195,10 @@ fn place_of(agendas: &[Agenda], name: &Name) -> Option<usize>
 }
 
 /// The next task of the member of that name.
-fn next_task<'a>(agendas: &'a [Agenda], name: &Name) -> Option<&'a Task>
-    ensures { MatchOption result (tasks_in agendas.now name.now ≡ [])
-        (λ task. (rest : List Task) × (tasks_in agendas.now name.now ≡ task.now ∷ rest)) }
+fn next_task<'a>(agendas: &'a [Agenda], name: &Name) -> Option<&'a Client>
+    ensures next { MatchOption result (tasks_in agendas.now name.now ≡ [])
+        (λ task. (rest : List Client) × (tasks_in agendas.now name.now ≡ task.now ∷ rest)) }
+    ensures asked { IfSome result (λ task. IsAskedOf name.now task.now) }
 {
     match place_of(agendas, name) {
         Some(place) => agendas[place].head(),
@@ -272,34 +225,26 @@ fn has_agenda(agendas: &[Agenda], name: &Name) -> bool
     place_of(agendas, name).is_some()
 }
 
-/// A task joins the end of the agenda of that name, or begins one. Without memory for that nothing changes.
-fn give_task(
-    alloc: Global,
-    agendas: &mut Vec<Agenda>,
-    name: &Name,
-    task: Task,
-) -> Result<(), OutOfMemory>
-    ensures ok { OnOk result (agendas.new.items ≡ with_task agendas.old.items name.now task) }
+/// A task joins the end of the agenda of its member, or begins one. Without memory for that nothing changes.
+fn give_task(alloc: Global, agendas: &mut Vec<Agenda>, task: Client) -> Result<(), OutOfMemory>
+    requires { is_asked_multicast task ≡ true }
+    ensures ok { OnOk result (agendas.new.items ≡ with_task agendas.old.items task) }
     ensures err { OnErr result (agendas.new.items ≡ agendas.old.items) }
 {
-    let Some(place) = place_of(agendas, name) else {
-        return begin(alloc, agendas, name, task);
+    let Some(place) = place_of(agendas, task.by()) else {
+        return begin(alloc, agendas, task);
     };
     agendas[place].push(task)
 }
 
 /// A task begins an agenda.
-fn begin(
-    alloc: Global,
-    agendas: &mut Vec<Agenda>,
-    name: &Name,
-    task: Task,
-) -> Result<(), OutOfMemory>
+fn begin(alloc: Global, agendas: &mut Vec<Agenda>, task: Client) -> Result<(), OutOfMemory>
+    requires { is_asked_multicast task ≡ true }
     ensures ok { OnOk result (agendas.new.items
-        ≡ agendas.old.items ++ record { name = name.now; tasks = task ∷ [] } ∷ []) }
+        ≡ agendas.old.items ++ record { name = asked_of task; tasks = task ∷ [] } ∷ []) }
     ensures err { OnErr result (agendas.new.items ≡ agendas.old.items) }
 {
-    let mut agenda = Agenda::new(alloc, *name);
+    let mut agenda = Agenda::new(alloc, *task.by());
     agenda.push(task)?;
     if agendas.push(agenda).is_err() {
         return Err(OutOfMemory);
@@ -307,17 +252,29 @@ fn begin(
     Ok(())
 }
 
-/// Takes back the task that was given last, to the agenda of that name, and the agenda where there was none before.
-fn take_back(agendas: &mut Vec<Agenda>, name: &Name, had_one: bool)
-    ensures back { (plans : List Plan) (t : Task) → agendas.old.items ≡ with_task plans name.now t
+/// Takes back the task that was given last, to the agenda of that name, and the agenda where there was none before: how
+/// many tasks are gone by that.
+fn take_back(agendas: &mut Vec<Agenda>, name: &Name, had_one: bool) -> usize
+    ensures back { (plans : List Plan) (t : Client) → agendas.old.items ≡ with_task plans t → asked_of t ≡ name.now
         → had_one ≡ is_some (place_among (names_of plans) name.now) → agendas.new.items ≡ plans }
-    ensures less { tasks_on_all agendas.new.items ≤ tasks_on_all agendas.old.items }
+    ensures less { tasks_on_all agendas.new.items + result ≡ tasks_on_all agendas.old.items }
 {
     if !had_one {
-        let _ = agendas.pop();
-        return;
+        return take_last(agendas);
     }
-    if let Some(place) = place_of(agendas, name) {
-        agendas[place].take_back();
+    match place_of(agendas, name) {
+        Some(place) => agendas[place].take_back(),
+        None => 0,
+    }
+}
+
+/// The agenda that was begun last is gone: how many tasks were on it.
+fn take_last(agendas: &mut Vec<Agenda>) -> usize
+    ensures back { (plans : List Plan) (a : Plan) → agendas.old.items ≡ plans ++ a ∷ [] → agendas.new.items ≡ plans }
+    ensures less { tasks_on_all agendas.new.items + result ≡ tasks_on_all agendas.old.items }
+{
+    match agendas.pop() {
+        Some(agenda) => agenda.len(),
+        None => 0,
     }
 }

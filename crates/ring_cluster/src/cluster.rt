@@ -1,16 +1,16 @@
 //! The cluster.
 ghost use Rattle.std.specs.Prelude.{◌≡◌, ℕ, ◌<◌, ◌∷◌, ◌++◌, [], List, IfOk, vec_len, vec_capacity};
-ghost use Rattle.ring_cluster.specs.Plays.{IsOfMember, IsTaskOf};
 
-use crate::agenda::{Agendas, Task};
+use crate::agenda::Agendas;
+use crate::clients::{client_of, event_of, is_stop, refusal_of};
 use crate::driver::{drain, round};
 use crate::numbering::Rounds;
 use crate::published::casts_of;
 use group_view::View;
 use ring_io::Gate;
 use ring_names::{Body, CreditSpec, MemberId, Name, OutOfMemory, Reason};
-use ring_parties::{Node, OwnStep, Parties};
-use ring_rules::{Client, Event, Phase, Refused};
+use ring_parties::{Node, Parties};
+use ring_rules::{Client, Event, LinkStep, Phase, Refused};
 use ring_script::Command;
 use std::alloc::Global;
 use std::marker::Model;
@@ -63,7 +63,7 @@ impl Cluster {
     ghost use Rattle.ring_rules.specs.Step.{size};
     ghost use Rattle.ring_rules.specs.Quiet.{RingRests};
     ghost use Rattle.ring_rules.specs.Refusal.{is_empty};
-    ghost use Rattle.ring_rules.specs.Event.{is_multicast, refusal};
+    ghost use Rattle.ring_rules.specs.Event.{asked_of, is_asked_multicast, is_multicast, refusal};
     ghost use Rattle.gm_member.specs.Stands.{held_in};
     ghost use Rattle.gm_member.specs.Shown.{held_of};
     ghost use Rattle.ring_rules.specs.Idle.{NobodySteps, MarksNobody, ErasesNobody};
@@ -73,10 +73,10 @@ impl Cluster {
     ghost use Rattle.ring_cluster.specs.Seen.{Seen, IsGoing, SameButOwed, MayHandOver, state_of};
     ghost use Rattle.ring_parties.specs.States.{IsEventIn};
     ghost use Rattle.ring_cluster.specs.Seen.{IsStepped, opening_seen, with_event, owing};
-    ghost use Rattle.ring_cluster.specs.declared.agenda.Task.{Task};
+    ghost use Rattle.ring_rules.specs.declared.event.Client.{Client};
     ghost use Rattle.ring_cluster.specs.Plays.{PlaysSoFar, Plays, IsOfMember, commanded, takes_up as is_taken_up};
-    ghost use Rattle.ring_cluster.specs.Agendas.{Plan, names_of, place_among, with_tasks, with_task};
-    ghost use Rattle.ring_cluster.specs.Plays.{performed, with_handed, answer_to, agenda_of, GoesOn, HasGoneOn};
+    ghost use Rattle.ring_cluster.specs.Agendas.{Plan, IsAskedOf, names_of, place_among, with_tasks, with_task, with_asked};
+    ghost use Rattle.ring_cluster.specs.Plays.{performed, answer_to, agenda_of, GoesOn, HasGoneOn};
     ghost use Rattle.ring_cluster.specs.Plays.{HasBegun, HeadsAre, IsDue, AgendasAreEmpty};
     ghost use Rattle.ring_cluster.specs.Handed.{handing as is_handed, heir as the_heir};
     ghost use Rattle.ring_cluster.specs.Turns.{MayStep, TakesRound, EachDoesAtMost, IsMemberAt};
@@ -143,13 +143,13 @@ impl Cluster {
         ensures err { OnErr result (self.new ≡ self.old) }
         ensures back { IfErr result (λ e. e.0 ≡ command) }
     {
-        let Ok((name, task)) = task_of(&command) else {
+        let Ok(task) = client_of(&command) else {
             return Err((command, OutOfMemory));
         };
         if self.given.reserve(1).is_err() {
             return Err((command, OutOfMemory));
         }
-        if self.agendas.give(self.alloc, &name, task).is_err() {
+        if self.agendas.give(self.alloc, task).is_err() {
             return Err((command, OutOfMemory));
         }
         push_reserved(&mut self.given, command);
@@ -211,7 +211,7 @@ impl Cluster {
     }
 
     /// Whether the member at a place may do a step on its links.
-    pub(crate) fn may_step(&self, place: usize, step: OwnStep) -> bool
+    pub(crate) fn may_step(&self, place: usize, step: LinkStep) -> bool
         requires { place + 1 < size (state_of self.now) }
         ensures may { result ≡ true → MayStep (state_of self.now) (place + 1) step }
         ensures may_not { result ≡ false → MayStep (state_of self.now) (place + 1) step → ⊥ }
@@ -262,10 +262,10 @@ impl Cluster {
     #[tactic(auto, using(crate::proofs::post::Owed::but_refl, crate::proofs::post::Owed::but_handed))]
     pub(crate) fn perform(&mut self, place: usize, name: &Name) -> Result<bool, OutOfMemory>
         requires { IsMemberAt self.old place name.now }
-        ensures done { IfOk result (λ b. b ≡ true → (t : Task) × (ts : List Task)
-            × (agenda_of self.old name.now ≡ t ∷ ts)
-            × (refusal (state_of self.old) (answer_to (state_of self.old) name.now t) ≡ None)
-            × SameButOwed (performed self.old name.now (answer_to (state_of self.old) name.now t) ts) self.new) }
+        ensures done { IfOk result (λ b. b ≡ true → (t : Client) × (ts : List Client)
+            × (agenda_of self.old name.now ≡ t ∷ ts) × IsAskedOf name.now t
+            × (refusal (state_of self.old) (answer_to (state_of self.old) t) ≡ None)
+            × SameButOwed (performed self.old name.now (answer_to (state_of self.old) t) ts) self.new) }
         ensures none { IfOk result (λ b. b ≡ false → SameButOwed self.old self.new
             × (IsDue self.old place name.now → ⊥)) }
         ensures err { OnErr result (SameButOwed self.old self.new) }
@@ -284,16 +284,17 @@ impl Cluster {
         requires at { IsEventIn (state_of self.old) place event.now }
         requires enabled { refusal (state_of self.old) event.now ≡ None }
         ensures ok { OnOk result (SameButOwed (record (with_event self.old event.now) {
-          agendas = with_handed (self.old).agendas (is_handed (state_of self.old) event.now);
+          agendas = with_asked (self.old).agendas (is_handed (state_of self.old) event.now);
         }) self.new) }
         ensures err { OnErr result (SameButOwed self.old self.new) }
     {
-        let Some((heir, newcomer)) = self.handing(event) else {
+        let Some(join) = self.handing(event) else {
             self.happen_enabled(place, event)?;
             return Ok(());
         };
+        let heir = *join.by();
         let had_one = self.agendas.has(&heir);
-        self.give(&heir, Task::Admit(newcomer))?;
+        self.give(join)?;
         match self.happen_enabled(place, event) {
             Ok(()) => Ok(()),
             Err(OutOfMemory) => {
@@ -317,26 +318,28 @@ impl Cluster {
         }
     }
 
-    /// A task joins the end of the agenda of that name.
-    fn give(&mut self, name: &Name, task: Task) -> Result<(), OutOfMemory>
-        ensures ok { OnOk result (self.new ≡ record self.old { agendas = with_task (self.old).agendas name.now task }) }
+    /// A task joins the end of the agenda of its member.
+    fn give(&mut self, task: Client) -> Result<(), OutOfMemory>
+        requires { is_asked_multicast task ≡ true }
+        ensures ok { OnOk result (self.new ≡ record self.old { agendas = with_task (self.old).agendas task }) }
         ensures err { OnErr result (self.new ≡ self.old) }
     {
-        self.agendas.give(self.alloc, name, task)
+        self.agendas.give(self.alloc, task)
     }
 
     /// The task is taken back that was given last, to the agenda of that name, which it had before or not.
     fn take_back(&mut self, name: &Name, had_one: bool)
-        ensures { (plans : List Plan) (t : Task) → (self.old).agendas ≡ with_task plans name.now t
+        ensures { (plans : List Plan) (t : Client) → (self.old).agendas ≡ with_task plans t → asked_of t ≡ name.now
             → had_one ≡ is_some (place_among (names_of plans) name.now)
             → self.new ≡ record self.old { agendas = plans } }
     {
         self.agendas.take_back(name, had_one);
     }
 
-    /// To whom an event hands a join on, and the name that is to join.
-    fn handing(&self, event: &Event) -> Option<(Name, Name)>
-        ensures { result ≡ is_handed (state_of self.now) event.now }
+    /// The join that an event hands on, as it is asked of the heir.
+    fn handing(&self, event: &Event) -> Option<Client>
+        ensures handed { result ≡ is_handed (state_of self.now) event.now }
+        ensures multicast { IfSome result (λ task. is_asked_multicast task ≡ true) }
     {
         match event {
             Event::Refuse {
@@ -344,7 +347,10 @@ impl Cluster {
                 inner: Client::Admit { by: _, name },
             } if *code == Reason::Stopped.code() => {
                 let heir = self.heir()?;
-                Some((heir, *name))
+                Some(Client::Admit {
+                    by: heir,
+                    name: *name,
+                })
             }
             _ => None,
         }
@@ -369,8 +375,8 @@ impl Cluster {
     fn next_event(&self, place: usize, name: &Name) -> Result<Option<Event>, OutOfMemory>
         requires { IsMemberAt self.now place name.now }
         ensures { IfOk result (λ next. MatchOption next (IsDue self.now place name.now → ⊥)
-            (λ event. (t : Task) × (ts : List Task) × (agenda_of self.now name.now ≡ t ∷ ts)
-            × (event ≡ answer_to (state_of self.now) name.now t) × (refusal (state_of self.now) event ≡ None))) }
+            (λ event. (t : Client) × (ts : List Client) × (agenda_of self.now name.now ≡ t ∷ ts) × IsAskedOf name.now t
+            × (event ≡ answer_to (state_of self.now) t) × (refusal (state_of self.now) event ≡ None))) }
     {
         let Some(task) = self.agendas.next_task(name) else {
             return Ok(None);
@@ -378,12 +384,12 @@ impl Cluster {
         if !self.takes_up(place, task) {
             return Ok(None);
         }
-        let event = self.event_of(place, name, task)?;
+        let event = self.answer_to(place, task)?;
         Ok(Some(event))
     }
 
     /// Whether the member at a place does a task at once: one that waits leaves all but its stop.
-    fn takes_up(&self, place: usize, task: &Task) -> bool
+    fn takes_up(&self, place: usize, task: &Client) -> bool
         requires { place + 1 < size (state_of self.now) }
         ensures { result ≡ is_taken_up (member_at (state_of self.now) (place + 1)).phase task.now }
     {
@@ -392,24 +398,25 @@ impl Cluster {
             unreachable!()
         };
         match member.phase() {
-            Phase::Waiting => task.is_stop(),
+            Phase::Waiting => is_stop(task),
             Phase::Up => true,
             Phase::Stopped => true,
         }
     }
 
-    /// The event by which the member at a place, which has this name, does a task that it takes up, or refuses it.
-    fn event_of(&self, place: usize, name: &Name, task: &Task) -> Result<Event, OutOfMemory>
-        requires at { IsMemberAt self.now place name.now }
+    /// The event by which the member at a place, of which a task is asked that it takes up, does or refuses it.
+    fn answer_to(&self, place: usize, task: &Client) -> Result<Event, OutOfMemory>
+        requires at { IsMemberAt self.now place (asked_of task.now) }
+        requires multicast { is_asked_multicast task.now ≡ true }
         requires takes { is_taken_up (member_at (state_of self.now) (place + 1)).phase task.now ≡ true }
-        ensures does { IfOk result (λ event. event ≡ answer_to (state_of self.now) name.now task.now) }
+        ensures does { IfOk result (λ event. event ≡ answer_to (state_of self.now) task.now) }
         ensures enabled { IfOk result (λ event. refusal (state_of self.now) event ≡ None) }
     {
         self.is_going();
-        let event = task.event(name)?;
+        let event = event_of(task)?;
         match self.refusal(place, &event) {
             None => Ok(event),
-            Some(reason) => task.refused(name, reason),
+            Some(reason) => refusal_of(task, reason),
         }
     }
 
@@ -492,7 +499,8 @@ impl Cluster {
     }
 
     /// One round: each member that runs or has a task takes at least one and at most so many turns, the first of which
-    /// does the head of its agenda, where it has one, or refuses it where the ring does; one that waits for its state
+    /// does the head of its agenda, where it has one, or refuses it where the ring does. From there on its own work and
+    /// its agenda come first alternately, so that neither waits until the other is done. One that waits for its state
     /// leaves its agenda, but stops at once where that is to be done next. A join that a member refuses since it has
     /// stopped goes to the end of the agenda of the running member of least id. Who joins in a round takes turns from
     /// the next one on. After it nothing is owed. Before and after each turn the gate is passed. Want of memory leaves
@@ -756,19 +764,6 @@ fn copied_events(alloc: Global, events: &[Event]) -> Result<Vec<Event>, OutOfMem
         }
     }
     Ok(all)
-}
-
-/// Whom a command asks, and for which task.
-fn task_of(command: &Command) -> Result<(Name, Task), OutOfMemory>
-    requires { IsOfMember command.now }
-    ensures { IfOk result (λ r. IsTaskOf command.now r.0 r.1) }
-{
-    match command {
-        Command::Cast { by, body } => Ok((*by, Task::Cast(body.copy()?))),
-        Command::Join { by, name } => Ok((*by, Task::Admit(*name))),
-        Command::Kill { by } => Ok((*by, Task::Stop)),
-        Command::Go { .. } | Command::Settle => unreachable!(),
-    }
 }
 
 /// A push for which there is room.

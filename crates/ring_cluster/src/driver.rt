@@ -19,8 +19,7 @@ use crate::cluster::Cluster;
 use group_view::{Entry, Mark};
 use ring_io::Gate;
 use ring_names::{MemberId, Name, OutOfMemory};
-use ring_parties::OwnStep;
-use ring_rules::{Event, Phase, Refused};
+use ring_rules::{Event, LinkStep, Phase, Refused};
 
 /// What a member has to do by itself.
 #[derive(Clone, Copy, PartialEq, Eq, Debug)]
@@ -32,7 +31,35 @@ pub(crate) enum OwnTurn {
     /// It has that one erased.
     Erase(MemberId),
     /// It does a step on its links.
-    Step(OwnStep),
+    Step(LinkStep),
+}
+
+/// In how many further turns of a round a member prefers its own work once.
+const OWN_EVERY: u32 = 8;
+
+/// What a member does first in a turn.
+#[derive(Clone, Copy, PartialEq, Eq, Debug)]
+enum Preference {
+    /// What is next on its agenda; where it does nothing of that at once, a step of its own.
+    Agenda,
+    /// A step of its own; where it has none to do, what is next on its agenda.
+    Own,
+}
+
+/// Whether a member prefers its own work in a further turn of a round, by the number of that turn from 0 on: in the
+/// first, directly behind the head of its agenda, and then in every eighth. So what it publishes goes out before its
+/// agenda is done, and a long agenda is still done in few packets.
+fn prefers_own(turn: u32) -> bool {
+    turn % OWN_EVERY == 0
+}
+
+/// What a member does first in a further turn of a round.
+fn preference_in(turn: u32) -> Preference {
+    if prefers_own(turn) {
+        Preference::Own
+    } else {
+        Preference::Agenda
+    }
 }
 
 /// An event of the member of an id, of its own, that leaves less to do, where it is enabled: whether it was.
@@ -164,25 +191,25 @@ fn may_erase(cluster: &Cluster, id: MemberId, entry: &Entry) -> bool
 }
 
 /// The first step on its links that a member may do.
-fn next_step(cluster: &Cluster, id: MemberId) -> Option<OwnStep>
+fn next_step(cluster: &Cluster, id: MemberId) -> Option<LinkStep>
     requires { (1 ≤ id.0) × (id.0 < size (state_of cluster.now)) }
     ensures { MatchOption result (MayStepNowhere (state_of cluster.now) id.0) (MayStep (state_of cluster.now) id.0) }
 {
     let place = id.0 as usize - 1;
-    if cluster.may_step(place, OwnStep::Pick) {
-        return Some(OwnStep::Pick);
+    if cluster.may_step(place, LinkStep::Pick) {
+        return Some(LinkStep::Pick);
     }
-    if cluster.may_step(place, OwnStep::Take) {
-        return Some(OwnStep::Take);
+    if cluster.may_step(place, LinkStep::Take) {
+        return Some(LinkStep::Take);
     }
-    if cluster.may_step(place, OwnStep::TakeEnd) {
-        return Some(OwnStep::TakeEnd);
+    if cluster.may_step(place, LinkStep::TakeEnd) {
+        return Some(LinkStep::TakeEnd);
     }
-    if cluster.may_step(place, OwnStep::Gain) {
-        return Some(OwnStep::Gain);
+    if cluster.may_step(place, LinkStep::Gain) {
+        return Some(LinkStep::Gain);
     }
-    if cluster.may_step(place, OwnStep::Put) {
-        return Some(OwnStep::Put);
+    if cluster.may_step(place, LinkStep::Put) {
+        return Some(LinkStep::Put);
     }
     None
 }
@@ -293,10 +320,10 @@ fn work_turn(cluster: &mut Cluster, place: usize) -> Result<bool, OutOfMemory>
     Ok(did)
 }
 
-/// The member at a place, which has this name, takes a turn: it does the head of its agenda, or refuses it, where it
-/// has one that it does at once; else a step of its own. Whether it did any.
+/// The member at a place, which has this name, does the head of its agenda, or refuses it, where it has one that it
+/// does at once; else a step of its own. Whether it did any.
 #[tactic(auto, using(crate::proofs::rounds::Turning::one_turn))]
-fn turn(cluster: &mut Cluster, place: usize, name: &Name) -> Result<bool, OutOfMemory>
+fn agenda_first(cluster: &mut Cluster, place: usize, name: &Name) -> Result<bool, OutOfMemory>
     requires { IsMemberAt cluster.old place name.now }
     ensures round { TakesRound cluster.old cluster.new }
     ensures once { DoesAtMost 1 name.now cluster.old cluster.new }
@@ -310,7 +337,42 @@ fn turn(cluster: &mut Cluster, place: usize, name: &Name) -> Result<bool, OutOfM
     Ok(did)
 }
 
-/// The member at a place takes at least one and at most so many turns, where it runs or has a task.
+/// The member at a place, which has this name, does a step of its own, where it runs and has any to do; else the head
+/// of its agenda, or refuses it, where it has one that it does at once. Whether it did any.
+fn own_first(cluster: &mut Cluster, place: usize, name: &Name) -> Result<bool, OutOfMemory>
+    requires { IsMemberAt cluster.old place name.now }
+    ensures round { TakesRound cluster.old cluster.new }
+    ensures once { DoesAtMost 1 name.now cluster.old cluster.new }
+{
+    if work_turn(cluster, place)? {
+        return Ok(true);
+    }
+    cluster.is_going();
+    let did = cluster.perform(place, name)?;
+    Ok(did)
+}
+
+/// The member at a place, which has this name, takes a turn: what it prefers, where it has any of that to do; else the
+/// other. Whether it did any.
+fn turn(
+    cluster: &mut Cluster,
+    place: usize,
+    name: &Name,
+    first: Preference,
+) -> Result<bool, OutOfMemory>
+    requires { IsMemberAt cluster.old place name.now }
+    ensures round { TakesRound cluster.old cluster.new }
+    ensures once { DoesAtMost 1 name.now cluster.old cluster.new }
+    ensures begun { first ≡ Preference.Agenda → OnOk result (HasBegun place name.now cluster.old cluster.new) }
+{
+    match first {
+        Preference::Agenda => agenda_first(cluster, place, name),
+        Preference::Own => own_first(cluster, place, name),
+    }
+}
+
+/// The member at a place takes at least one and at most so many turns, where it runs or has a task. In the first it
+/// prefers its agenda.
 #[tactic(auto, using(crate::proofs::rounds::Turning::more_turns))]
 fn turns_of<G: Gate>(
     cluster: &mut Cluster,
@@ -329,7 +391,7 @@ fn turns_of<G: Gate>(
     if !has_turns(cluster, place, name) {
         return Ok(());
     }
-    if gated_turn(cluster, place, name, gate)? {
+    if gated_turn(cluster, place, name, Preference::Agenda, gate)? {
         more_turns(cluster, place, name, turns - 1, gate)?;
     }
     Ok(())
@@ -346,7 +408,7 @@ fn has_turns(cluster: &Cluster, place: usize, name: &Name) -> bool
     either(cluster.runs(MemberId(place as u32 + 1)), has_task)
 }
 
-/// Up to so many further turns, while it has anything to do.
+/// Up to so many further turns, while it has anything to do. Its own work and its agenda take turns.
 #[tactic(auto, using(crate::proofs::rounds::Turning::more_turns))]
 fn more_turns<G: Gate>(
     cluster: &mut Cluster,
@@ -359,8 +421,8 @@ fn more_turns<G: Gate>(
     ensures round { TakesRound cluster.old cluster.new }
     ensures few { DoesAtMost turns name.now cluster.old cluster.new }
 {
-    for _turn in 0..turns {
-        if !gated_turn(cluster, place, name, gate)? {
+    for turn in 0..turns {
+        if !gated_turn(cluster, place, name, preference_in(turn), gate)? {
             return Ok(());
         }
     }
@@ -372,17 +434,18 @@ fn gated_turn<G: Gate>(
     cluster: &mut Cluster,
     place: usize,
     name: &Name,
+    first: Preference,
     gate: &G,
 ) -> Result<bool, OutOfMemory>
     requires { IsMemberAt cluster.old place name.now }
     ensures round { TakesRound cluster.old cluster.new }
     ensures once { DoesAtMost 1 name.now cluster.old cluster.new }
-    ensures begun { OnOk result (HasBegun place name.now cluster.old cluster.new) }
+    ensures begun { first ≡ Preference.Agenda → OnOk result (HasBegun place name.now cluster.old cluster.new) }
 {
     cluster.is_going();
     let who = MemberId(place as u32 + 1);
     gate.pass(who, BEFORE);
-    let did = turn(cluster, place, name);
+    let did = turn(cluster, place, name, first);
     gate.pass(who, AFTER);
     did
 }

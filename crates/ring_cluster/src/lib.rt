@@ -5,13 +5,13 @@
 #![tactic(auto)]
 
 mod agenda;
+mod clients;
 mod cluster;
 mod driver;
 mod laws;
 mod numbering;
 mod published;
 
-pub use agenda::Task;
 pub use cluster::Cluster;
 pub use laws::{a_quiet_ring_has_heard_all, an_idle_ring_is_at_rest};
 pub use ring_parties::Node;

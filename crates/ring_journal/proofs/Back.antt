@@ -1,23 +1,27 @@
 -- What is written is read back: each line, and the whole journal.
-use Rattle.std.proofs.Common.{◌≡◌, ℕ, ◌+◌, ◌≤◌, true, false, ◌==◌, List, [], ◌∷◌, ◌++◌, codes, Ok, refl, ap, ◌∙◌, arith}
+use Rattle.std.proofs.Common.{◌≡◌, ℕ, ◌+◌, true, false, ◌==◌, List, [], ◌∷◌, ◌++◌, codes, Ok, refl, ap, ◌∙◌, arith}
 use Rattle.std.specs.List.{list_all}
 use Rattle.std.proofs.lemmas.Bool.{and_parts}
 use Rattle.std.proofs.lemmas.Bool.Decides.{nat_tests}
-use Rattle.ring_rules.specs.declared.event.Client.TheVariants as client
 use Rattle.ring_rules.specs.declared.event.Event.{Event}
-use Rattle.ring_rules.specs.declared.event.Event.TheVariants as event
+use Rattle.ring_rules.specs.declared.event.Event.TheVariants.{Refuse}
 use Rattle.ring_world.specs.Reached.{WorldSeen}
 use Rattle.ring_rules.specs.Event.{refusal}
 use Rattle.serde_json.specs.Data.{Data, string, no_items}
+use Rattle.serde_json.specs.View.{items_of}
 use Rattle.serde_json.specs.Written.{compact_text}
+use Rattle.ring_script.specs.declared.vocabulary.Further.{Further}
+use Rattle.ring_script.specs.declared.vocabulary.Further.TheVariants as further
+use Rattle.ring_script.specs.declared.vocabulary.Phrase.{Phrase}
+use Rattle.ring_script.specs.Vocabulary.{text_of, asked_phrase, phrase_of}
 use Rattle.ring_script.specs.Words.{is_text_byte, lines_of}
 use Rattle.ring_journal.specs.Text.{value_on, event_on, event_or_fault, said_by, judged, behind, unless_wrong, unless_refused}
 use Rattle.ring_journal.specs.Event.{event_in}
-use Rattle.ring_journal.specs.Written.{fields, whole, data_of, events_text}
-use Rattle.ring_journal.specs.Played.{played, IsWritable}
+use Rattle.ring_journal.specs.Written.{whole, further_fields, phrase_fields, data_of, events_text}
+use Rattle.ring_journal.specs.Played.{played, IsFit, IsWritable}
 use Rattle.ring_journal.proofs.Ascii.{IsUtf8-text}
 use Rattle.ring_journal.proofs.Lines.{value_on-read}
-use Rattle.ring_journal.proofs.ReadBack.{IsSaid, IsSpelled, read-compact_text, said-string, said-whole, said-nil, said-cons, said-array, spelled_from}
+use Rattle.ring_journal.proofs.ReadBack.{AreSaid, IsSpelled, read-compact_text, said-string, said-whole, said-nil, said-cons, said-array, spelled_from}
 use Rattle.ring_journal.proofs.EventBack.{event_in-data_of}
 use Rattle.ring_journal.proofs.Sized.{Fits, text-data_of}
 
@@ -39,64 +43,20 @@ value_on-compact_text d fits spelled = value_on-read (compact_text d) d fits.tex
 
 -- ---- events
 
-two_said : (c d : Data) → IsSaid 0 c → IsSaid 0 d → IsSpelled (fields (c ∷ d ∷ []))
-two_said c d a b = spelled_from 1 _ (omega arith) (said-array 0 _ (said-cons 0 c _ a (said-cons 0 d no_items b said-nil)))
+said_further : (f : Further) → IsFit f → AreSaid 0 (items_of (further_fields f))
+said_further further.Nothing h = said-nil
+said_further (further.Body body) h = said-cons 0 (string body) no_items (said-string body) said-nil
+said_further (further.Name name) h = said-cons 0 (string name) no_items (said-string name) said-nil
+said_further (further.Position at) h = said-cons 0 (whole at.0) no_items (said-whole at.0 (omega (arith, h.1))) said-nil
+said_further (further.Version version) h = said-cons 0 (whole version) no_items (said-whole version (omega (arith, h.1))) said-nil
 
-three_said : (c d e : Data) → IsSaid 0 c → IsSaid 0 d → IsSaid 0 e → IsSpelled (fields (c ∷ d ∷ e ∷ []))
-three_said c d e x y z = spelled_from 1 _ (omega arith) (said-array 0 _ (said-cons 0 c _ x (said-cons 0 d _ y (said-cons 0 e no_items z said-nil))))
-
-four_said : (c d e f : Data) → IsSaid 0 c → IsSaid 0 d → IsSaid 0 e → IsSaid 0 f → IsSpelled (fields (c ∷ d ∷ e ∷ f ∷ []))
-four_said c d e f x y z w = spelled_from 1 _ (omega arith) (said-array 0 _ (said-cons 0 c _ x (said-cons 0 d _ y (said-cons 0 e _ z (said-cons 0 f no_items w said-nil)))))
-
-five_said : (c d e f g : Data) → IsSaid 0 c → IsSaid 0 d → IsSaid 0 e → IsSaid 0 f → IsSaid 0 g → IsSpelled (fields (c ∷ d ∷ e ∷ f ∷ g ∷ []))
-five_said c d e f g x y z w v =
-    spelled_from 1 _ (omega arith) (said-array 0 _ (said-cons 0 c _ x (said-cons 0 d _ y (said-cons 0 e _ z (said-cons 0 f _ w (said-cons 0 g no_items v said-nil))))))
-
-own_said : (word by : List ℕ) → IsSpelled (fields (string word ∷ string by ∷ []))
-own_said word by = two_said (string word) (string by) (said-string word) (said-string by)
-
-named_said : (word by name : List ℕ) → IsSpelled (fields (string word ∷ string by ∷ string name ∷ []))
-named_said word by name = three_said (string word) (string by) (string name) (said-string word) (said-string by) (said-string name)
-
-numbered_said : (word by : List ℕ) (number : ℕ) → number ≤ 1000000 → IsSpelled (fields (string word ∷ string by ∷ whole number ∷ []))
-numbered_said word by number h = three_said (string word) (string by) (whole number) (said-string word) (said-string by) (said-whole number (omega (arith, h)))
-
-refused_own : (code : ℕ) (word by : List ℕ) → code ≤ 99 → IsSpelled (fields (string (codes "refuse") ∷ whole code ∷ string word ∷ string by ∷ []))
-refused_own code word by c =
-    four_said (string (codes "refuse")) (whole code) (string word) (string by) (said-string _) (said-whole code (omega (arith, c))) (said-string word) (said-string by)
-
-refused_more : (code : ℕ) (word by : List ℕ) (d : Data) → code ≤ 99 → IsSaid 0 d → IsSpelled (fields (string (codes "refuse") ∷ whole code ∷ string word ∷ string by ∷ d ∷ []))
-refused_more code word by d c s =
-    five_said (string (codes "refuse")) (whole code) (string word) (string by) d (said-string _) (said-whole code (omega (arith, c))) (said-string word) (said-string by) s
+said_phrase : (p : Phrase) → IsFit p.further → AreSaid 0 (items_of (phrase_fields p))
+said_phrase p h = said-cons 0 (string (text_of p.word)) _ (said-string (text_of p.word)) (said-cons 0 (string p.by) _ (said-string p.by) (said_further p.further h))
 
 spelled-data_of : (e : Event) → IsWritable e → IsSpelled (data_of e)
-spelled-data_of (event.Cast by body) h = named_said (codes "cast") by body
-spelled-data_of (event.Publish by body) h = named_said (codes "publish") by body
-spelled-data_of (event.Get by) h = own_said (codes "get") by
-spelled-data_of (event.Pop by) h = own_said (codes "pop") by
-spelled-data_of (event.Ack by at) h = numbered_said (codes "ack") by at.0 h.1.1
-spelled-data_of (event.Requeue by at) h = numbered_said (codes "requeue") by at.0 h.1.1
-spelled-data_of (event.Depth by) h = own_said (codes "depth") by
-spelled-data_of (event.Start by) h = own_said (codes "start") by
-spelled-data_of (event.Put by) h = own_said (codes "put") by
-spelled-data_of (event.Take by) h = own_said (codes "take") by
-spelled-data_of (event.TakeEnd by) h = own_said (codes "takeend") by
-spelled-data_of (event.Gain by) h = own_said (codes "gain") by
-spelled-data_of (event.Stop by) h = own_said (codes "stop") by
-spelled-data_of (event.Mark by dead) h = named_said (codes "mark") by dead
-spelled-data_of (event.Refresh by version) h = numbered_said (codes "refresh") by version h.2
-spelled-data_of (event.Admit by name) h = named_said (codes "admit") by name
-spelled-data_of (event.Pick by) h = own_said (codes "pick") by
-spelled-data_of (event.Erase by origin) h = named_said (codes "erase") by origin
-spelled-data_of (event.Synced by) h = own_said (codes "synced") by
-spelled-data_of (event.Refuse code (client.Cast by body)) h = refused_more code (codes "cast") by (string body) h.1 (said-string body)
-spelled-data_of (event.Refuse code (client.Publish by body)) h = refused_more code (codes "publish") by (string body) h.1 (said-string body)
-spelled-data_of (event.Refuse code (client.Get by)) h = refused_own code (codes "get") by h.1
-spelled-data_of (event.Refuse code (client.Pop by)) h = refused_own code (codes "pop") by h.1
-spelled-data_of (event.Refuse code (client.Ack by at)) h = refused_more code (codes "ack") by (whole at.0) h.1 (said-whole at.0 (omega (arith, h.2.1.1)))
-spelled-data_of (event.Refuse code (client.Requeue by at)) h = refused_more code (codes "requeue") by (whole at.0) h.1 (said-whole at.0 (omega (arith, h.2.1.1)))
-spelled-data_of (event.Refuse code (client.Stop by)) h = refused_own code (codes "stop") by h.1
-spelled-data_of (event.Refuse code (client.Admit by name)) h = refused_more code (codes "admit") by (string name) h.1 (said-string name)
+spelled-data_of (Refuse code inner) h =
+    spelled_from 1 _ (omega arith) (said-array 0 _ (said-cons 0 (string (codes "refuse")) _ (said-string (codes "refuse")) (said-cons 0 (whole code) _ (said-whole code (omega (arith, h.0.1))) (said_phrase (asked_phrase inner) h.2))))
+spelled-data_of e h = spelled_from 1 _ (omega arith) (said-array 0 _ (said_phrase (phrase_of e) h.2))
 
 -- the line of an event says the event
 pub event_on-line : (e : Event) → IsWritable e → event_on (compact_text (data_of e)) ≡ Ok e

@@ -4,45 +4,26 @@ use Rattle.std.proofs.lemmas.List.{take_more, take_all}
 use Rattle.std.proofs.lemmas.List.Elements.{All-append, All-cons, All-nil}
 use Rattle.std.proofs.Common.{◌≡◌, ℕ, ◌+◌, map, ◌<◌, ◌≤◌, false, subst, List, [], ◌∷◌, ◌++◌, take, length, get_or, refl, sym, ap, ◌∙◌, append_assoc}
 use Rattle.ring_names.specs.declared.numbers.CreditSpec.{CreditSpec}
-use Rattle.ring_rules.specs.declared.event.Client.TheVariants as client
 use Rattle.ring_rules.specs.declared.event.Event.{Event}
-use Rattle.ring_rules.specs.declared.event.Event.TheVariants as event
+use Rattle.ring_rules.specs.declared.event.Event.TheVariants.{Refuse}
+use Rattle.ring_script.specs.declared.vocabulary.Further.{Further}
+use Rattle.ring_script.specs.declared.vocabulary.Further.TheVariants as further
+use Rattle.ring_script.specs.Vocabulary.{asked_phrase, phrase_of}
 use Rattle.serde_json.specs.Data.{Data, string}
 use Rattle.serde_json.specs.View.{items_of, view}
 use Rattle.serde_json.specs.declared.value.Value.{Value}
 use Rattle.serde_json.specs.Written.{compact_text, has_float, items_have_float}
-use Rattle.ring_journal.specs.Written.{data_of, header_data, events_text, journal_text}
+use Rattle.ring_journal.specs.Written.{further_fields, data_of, header_data, events_text, journal_text}
 
 -- ---- no floats
 
+float_further : (f : Further) → items_have_float (items_of (further_fields f)) ≡ false
+float_further further.Nothing = refl
+float_further f = refl
+
 pub float-data_of : (e : Event) → has_float (data_of e) ≡ false
-float-data_of (event.Cast by body) = refl
-float-data_of (event.Publish by body) = refl
-float-data_of (event.Get by) = refl
-float-data_of (event.Pop by) = refl
-float-data_of (event.Ack by at) = refl
-float-data_of (event.Requeue by at) = refl
-float-data_of (event.Depth by) = refl
-float-data_of (event.Start by) = refl
-float-data_of (event.Put by) = refl
-float-data_of (event.Take by) = refl
-float-data_of (event.TakeEnd by) = refl
-float-data_of (event.Gain by) = refl
-float-data_of (event.Stop by) = refl
-float-data_of (event.Mark by dead) = refl
-float-data_of (event.Refresh by version) = refl
-float-data_of (event.Admit by name) = refl
-float-data_of (event.Pick by) = refl
-float-data_of (event.Erase by origin) = refl
-float-data_of (event.Synced by) = refl
-float-data_of (event.Refuse code (client.Cast by body)) = refl
-float-data_of (event.Refuse code (client.Publish by body)) = refl
-float-data_of (event.Refuse code (client.Get by)) = refl
-float-data_of (event.Refuse code (client.Pop by)) = refl
-float-data_of (event.Refuse code (client.Ack by at)) = refl
-float-data_of (event.Refuse code (client.Requeue by at)) = refl
-float-data_of (event.Refuse code (client.Stop by)) = refl
-float-data_of (event.Refuse code (client.Admit by name)) = refl
+float-data_of (Refuse code inner) = float_further (asked_phrase inner).further
+float-data_of e = float_further (phrase_of e).further
 
 -- ---- one line more
 
@@ -79,7 +60,7 @@ all_more P xs i x h item p before =
 pub all_taken : {X : Type 0} (P : X → Type 0) (xs : List X) (i : ℕ) → length xs ≤ i → All P (take i xs) → All P xs
 all_taken P xs i h a = subst (All P) (take_all i xs h) a
 
-map_push : {A B : Type 0} (f : A → B) (xs : List A) (x : A) → map f (xs ++ x ∷ []) ≡ map f xs ++ f x ∷ []
+pub map_push : {A B : Type 0} (f : A → B) (xs : List A) (x : A) → map f (xs ++ x ∷ []) ≡ map f xs ++ f x ∷ []
 map_push f [] x = refl
 map_push f (y ∷ xs) x = ap (λ zs. f y ∷ zs) (map_push f xs x)
 

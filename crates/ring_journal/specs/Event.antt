@@ -1,44 +1,49 @@
--- The event that a JSON value is.
-use Rattle.std.specs.Prelude.{Option, Some, None, option_map, option_and_then, List, ℕ}
+-- The event that a JSON value is: a phrase of the ring's words, or the refusal of one.
+use Rattle.std.specs.Prelude.{ℕ, ◌+◌, ◌==◌, if◌then◌else◌, Option, Some, None, option_map, option_and_then, List, codes, bytes_eq}
 use Rattle.serde_json.specs.Data.{Data}
 use Rattle.ring_rules.specs.declared.event.Event.{Event}
-use Rattle.ring_rules.specs.declared.event.Event.TheVariants as event
-use Rattle.ring_script.specs.declared.steps.EventWord.{EventWord}
-use Rattle.ring_script.specs.declared.steps.EventWord.TheVariants as begins
-use Rattle.ring_script.specs.declared.queue_words.QueueWord.{QueueWord}
-use Rattle.ring_script.specs.declared.queue_words.QueueWord.TheVariants as queues
-use Rattle.ring_script.specs.Steps.{event_word_of, own_event, most_version, most_code}
-use Rattle.ring_script.specs.QueueWords.{queue_word_of, queue_event}
-use Rattle.ring_journal.specs.Fields.{text_at, number_at, both, name_alone, name_and_body, two_names, name_and_number, name_and_position}
-use Rattle.ring_journal.specs.Asked.{asked_in}
+use Rattle.ring_rules.specs.declared.event.Event.TheVariants.{Refuse}
+use Rattle.ring_script.specs.declared.vocabulary.Further.{Further}
+use Rattle.ring_script.specs.declared.vocabulary.Further.TheVariants as further
+use Rattle.ring_script.specs.declared.vocabulary.Phrase.{Phrase}
+use Rattle.ring_script.specs.declared.vocabulary.Shape.{Shape}
+use Rattle.ring_script.specs.declared.vocabulary.Shape.TheVariants as shape
+use Rattle.ring_script.specs.declared.vocabulary.Word.{Word}
+use Rattle.ring_script.specs.Steps.{most_code}
+use Rattle.ring_script.specs.Vocabulary.{word_of, shape_of, most_version, phrase, event_said, client_said}
+use Rattle.ring_journal.specs.Fields.{count, text_at, name_at, body_at, number_at, position_at}
 
--- an event of the ring, by what its word begins: `cast` has a name and a body; `mark`, `erase` and `admit` have two names,
--- `refresh` a name and a version, `refuse` a number and what a client asked for, and each other a name
-abbrev pub ring_event_by : EventWord → Data → Option Event
-ring_event_by begins.Cast d = option_map (λ two. event.Cast two.0 two.1) (name_and_body 1 d)
-ring_event_by begins.Mark d = option_map (λ two. event.Mark two.0 two.1) (two_names 1 d)
-ring_event_by begins.Erase d = option_map (λ two. event.Erase two.0 two.1) (two_names 1 d)
-ring_event_by begins.Refresh d = option_map (λ two. event.Refresh two.0 two.1) (name_and_number most_version 1 d)
-ring_event_by begins.Admit d = option_map (λ two. event.Admit two.0 two.1) (two_names 1 d)
-ring_event_by begins.Refuse d = option_map (λ two. event.Refuse two.0 two.1) (both (number_at most_code 1 d) (asked_in d))
-ring_event_by (begins.Own step) d = option_map (own_event step) (name_alone 1 d)
+-- how many fields a phrase has: its word, the member's name, and what stands behind the name
+abbrev pub fields_of : Shape → ℕ
+fields_of shape.Nothing = 2
+fields_of s = 3
 
--- one of the queue: `publish` has a name and a body, `ack` and `requeue` have a name and a position, and each other a name
-abbrev pub queue_event_by : QueueWord → Data → Option Event
-queue_event_by queues.Publish d = option_map (λ two. event.Publish two.0 two.1) (name_and_body 1 d)
-queue_event_by queues.Ack d = option_map (λ two. event.Ack two.0 two.1) (name_and_position 1 d)
-queue_event_by queues.Requeue d = option_map (λ two. event.Requeue two.0 two.1) (name_and_position 1 d)
-queue_event_by (queues.Own step) d = option_map (queue_event step) (name_alone 1 d)
+-- what stands at a place behind the name
+abbrev pub further_at : Shape → ℕ → Data → Option Further
+further_at shape.Nothing place d = Some further.Nothing
+further_at shape.Body place d = option_map further.Body (body_at place d)
+further_at shape.Name place d = option_map further.Name (name_at place d)
+further_at shape.Newcomer place d = option_map further.Name (name_at place d)
+further_at shape.Position place d = option_map further.Position (position_at place d)
+further_at shape.Version place d = option_map further.Version (number_at most_version place d)
 
--- by its word, if that begins one of the queue
-abbrev pub queue_event_in : List ℕ → Data → Option Event
-queue_event_in word d = option_and_then (λ which. queue_event_by which d) (queue_word_of word)
+-- the phrase that a word of this shape begins at a place, where no field stands behind it
+abbrev pub phrase_by : ℕ → Data → Word → Shape → Option Phrase
+phrase_by place d w s =
+    if count d == place + fields_of s then option_and_then (λ by. option_map (phrase w by) (further_at s (place + 2) d)) (name_at (place + 1) d) else None
 
--- an event, by its word and by what of the ring that begins
-abbrev pub event_by : Option EventWord → List ℕ → Data → Option Event
-event_by (Some which) word d = ring_event_by which d
-event_by None word d = queue_event_in word d
+-- the phrase that begins at a place
+abbrev pub phrase_at : ℕ → Data → Option Phrase
+phrase_at place d = option_and_then (λ w. phrase_by place d w (shape_of w)) (option_and_then word_of (text_at place d))
+
+-- a refusal: behind its word stand its number, and the phrase of what a client asked for
+abbrev pub refusal_in : Data → Option Event
+refusal_in d = option_and_then (λ code. option_map (Refuse code) (option_and_then client_said (phrase_at 2 d))) (number_at most_code 1 d)
+
+-- the event that a value with this word is
+abbrev pub event_by : Data → List ℕ → Option Event
+event_by d word = if bytes_eq word (codes "refuse") then refusal_in d else option_and_then event_said (phrase_at 0 d)
 
 -- the event that a value is, if it is one: its first field is the word
 abbrev pub event_in : Data → Option Event
-event_in d = option_and_then (λ word. event_by (event_word_of word) word d) (text_at 0 d)
+event_in d = option_and_then (event_by d) (text_at 0 d)

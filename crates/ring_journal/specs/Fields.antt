@@ -1,11 +1,11 @@
 -- The fields of a JSON array.
-use Rattle.std.specs.Prelude.{ℕ, ◌+◌, Bool, ◌&&◌, not, nat_le, ◌==◌, if◌then◌else◌, Option, Some, None, is_some, option_map, option_and_then, List, length, position}
+use Rattle.std.specs.Prelude.{ℕ, Bool, ◌&&◌, not, nat_le, if◌then◌else◌, Option, Some, None, is_some, option_map, option_and_then, List, length, position}
 use Rattle.std.specs.Result.{result_ok}
 use Rattle.ring_names.specs.Name.{name_or_fault}
 use Rattle.ring_names.specs.Body.{is_bad_body_byte}
 use Rattle.ring_names.specs.declared.numbers.Position.{Position}
 use Rattle.queue_core.specs.Shown.{as_position}
-use Rattle.ring_script.specs.QueueWords.{most_position}
+use Rattle.ring_script.specs.Vocabulary.{most_position}
 use Rattle.serde_json.specs.Data.{Data, null, boolean, number, string, array, object}
 use Rattle.serde_json.specs.Events.{items_len}
 use Rattle.serde_json.specs.Find.{at, as_str, as_number, as_u64}
@@ -42,33 +42,3 @@ number_at most place d = option_and_then (λ n. if nat_le 1 n && nat_le n most t
 -- the position there
 abbrev pub position_at : ℕ → Data → Option Position
 position_at place d = option_map as_position (number_at most_position place d)
-
--- two values that are both there
-abbrev pub both : {A B : Type 0} → Option A → Option B → Option (A × B)
-both None b = None
-both (Some a) None = None
-both (Some a) (Some b) = Some (a, b)
-
--- what an array of so many fields says
-abbrev pub of_fields : {A : Type 0} → ℕ → Data → Option A → Option A
-of_fields n d said = if count d == n then said else None
-
--- the name behind so many fields, where it is the last
-abbrev pub name_alone : ℕ → Data → Option (List ℕ)
-name_alone start d = of_fields (start + 1) d (name_at start d)
-
--- a name and a body likewise
-abbrev pub name_and_body : ℕ → Data → Option (List ℕ × List ℕ)
-name_and_body start d = of_fields (start + 2) d (both (name_at start d) (body_at (start + 1) d))
-
--- two names
-abbrev pub two_names : ℕ → Data → Option (List ℕ × List ℕ)
-two_names start d = of_fields (start + 2) d (both (name_at start d) (name_at (start + 1) d))
-
--- a name and a number from 1 up to a limit
-abbrev pub name_and_number : ℕ → ℕ → Data → Option (List ℕ × ℕ)
-name_and_number most start d = of_fields (start + 2) d (both (name_at start d) (number_at most (start + 1) d))
-
--- a name and a position
-abbrev pub name_and_position : ℕ → Data → Option (List ℕ × Position)
-name_and_position start d = of_fields (start + 2) d (both (name_at start d) (position_at (start + 1) d))

@@ -1,18 +1,17 @@
 -- What a journal says that was written: its events, one after another, up to the first that isn't enabled.
-use Rattle.std.specs.Prelude.{◌≤◌, ℕ, ◌+◌, ◌++◌, List, [], ◌∷◌}
+use Rattle.std.specs.Prelude.{ℕ, ◌+◌, ◌++◌, List, [], ◌∷◌}
 use Rattle.ring_names.specs.Name.{IsName}
 use Rattle.ring_names.specs.Body.{IsBody}
-use Rattle.ring_rules.specs.declared.event.Client.{Client}
-use Rattle.ring_rules.specs.declared.event.Client.TheVariants as client
 use Rattle.ring_rules.specs.declared.event.Event.{Event}
-use Rattle.ring_rules.specs.declared.event.Event.TheVariants as event
 use Rattle.ring_world.specs.Reached.{WorldSeen}
 use Rattle.ring_rules.specs.Event.{refusal, last, refusals_of}
-use Rattle.ring_script.specs.Steps.{most_version, most_code}
+use Rattle.ring_script.specs.declared.vocabulary.Further.{Further}
+use Rattle.ring_script.specs.declared.vocabulary.Further.TheVariants as further
+use Rattle.ring_script.specs.Vocabulary.{phrase_of}
 use Rattle.ring_journal.specs.declared.verdict.Verdict.{Verdict}
 use Rattle.ring_journal.specs.declared.verdict.Verdict.TheVariants.{Legal}
 use Rattle.ring_journal.specs.Text.{behind, unless_refused}
-use Rattle.ring_journal.specs.Written.{IsNameable}
+use Rattle.ring_journal.specs.Written.{IsFitNumber, HasFitCode}
 
 -- the verdict on these events, the first of which is told on the line of this number
 abbrev pub played : WorldSeen → List Event → ℕ → List Event → Verdict
@@ -23,36 +22,12 @@ played w done number (e ∷ es) = unless_refused number (refusal w.ring e) (play
 abbrev pub left_by : WorldSeen → List Event → WorldSeen
 left_by w events = record { ring = last w.ring events; refusals = w.refusals ++ refusals_of events }
 
--- the names of what a client asked for are names, its body is a body, and its position is within the limit
-abbrev pub IsAsked : Client → Type 0
-IsAsked (client.Cast by body) = IsName by × IsBody body
-IsAsked (client.Publish by body) = IsName by × IsBody body
-IsAsked (client.Get by) = IsName by
-IsAsked (client.Pop by) = IsName by
-IsAsked (client.Ack by at) = IsName by × IsNameable at
-IsAsked (client.Requeue by at) = IsName by × IsNameable at
-IsAsked (client.Stop by) = IsName by
-IsAsked (client.Admit by name) = IsName by × IsName name
+-- what stands behind a name can be written: a body is one, a name is one, and a number is within its limit
+abbrev pub IsFit : Further → Type 0
+IsFit (further.Body body) = IsBody body
+IsFit (further.Name name) = IsName name
+IsFit f = IsFitNumber f
 
 -- an event that a line can say: its names are names, its body is a body, and its numbers are within the limits
 abbrev pub IsWritable : Event → Type 0
-IsWritable (event.Cast by body) = IsName by × IsBody body
-IsWritable (event.Publish by body) = IsName by × IsBody body
-IsWritable (event.Get by) = IsName by
-IsWritable (event.Pop by) = IsName by
-IsWritable (event.Ack by at) = IsName by × IsNameable at
-IsWritable (event.Requeue by at) = IsName by × IsNameable at
-IsWritable (event.Depth by) = IsName by
-IsWritable (event.Start by) = IsName by
-IsWritable (event.Put by) = IsName by
-IsWritable (event.Take by) = IsName by
-IsWritable (event.TakeEnd by) = IsName by
-IsWritable (event.Gain by) = IsName by
-IsWritable (event.Stop by) = IsName by
-IsWritable (event.Mark by dead) = IsName by × IsName dead
-IsWritable (event.Refresh by version) = IsName by × (1 ≤ version) × (version ≤ most_version)
-IsWritable (event.Admit by name) = IsName by × IsName name
-IsWritable (event.Pick by) = IsName by
-IsWritable (event.Erase by origin) = IsName by × IsName origin
-IsWritable (event.Synced by) = IsName by
-IsWritable (event.Refuse code inner) = (1 ≤ code) × (code ≤ most_code) × IsAsked inner
+IsWritable e = HasFitCode e × IsName (phrase_of e).by × IsFit (phrase_of e).further

@@ -7,7 +7,6 @@
 //! and which value a line is, serde_json says: spaces, and escapes in texts, are free.
 #![tactic(auto)]
 
-mod asked;
 mod event;
 mod fault;
 mod fields;

@@ -1,5 +1,5 @@
 //! Journals as text.
-ghost use Rattle.std.specs.Prelude.{◌≡◌, ◌++◌, ◌∷◌, [], false, All, map, IfOk, OnOk, codes};
+ghost use Rattle.std.specs.Prelude.{◌≡◌, ◌++◌, ◌∷◌, [], false, All, map, IfOk, OnOk};
 ghost use Rattle.serde_json.specs.Data.{string};
 ghost use Rattle.serde_json.specs.View.{view};
 ghost use Rattle.serde_json.specs.Written.{compact_text, has_float};
@@ -8,14 +8,16 @@ ghost use Rattle.ring_journal.specs.declared.verdict.Verdict.{Verdict};
 ghost use Rattle.ring_rules.specs.Step.{opening};
 ghost use Rattle.ring_rules.specs.Event.{IsRun};
 ghost use Rattle.ring_journal.specs.Text.{opened, IsVerdictOf};
-ghost use Rattle.ring_journal.specs.Played.{played, left_by, IsAsked, IsWritable};
+ghost use Rattle.ring_journal.specs.Played.{played, left_by, IsFit, IsWritable};
 ghost use Rattle.ring_names.specs.Name.{IsName};
 ghost use Rattle.ring_names.specs.Body.{IsBody};
-ghost use Rattle.ring_journal.specs.Written.{fields, whole, asked_fields, data_of, header_data, journal_text, IsWithin};
-ghost use Rattle.ring_journal.specs.Written.{IsNameable, IsAskedWithin};
+ghost use Rattle.ring_script.specs.Vocabulary.{text_of};
+ghost use Rattle.ring_journal.specs.Written.{fields, further_fields, front_of, data_of, header_data, journal_text};
+ghost use Rattle.ring_journal.specs.Written.{IsFitNumber, IsWithin};
 
-use ring_names::{Body, CreditSpec, Name, OutOfMemory, Position};
-use ring_rules::{Client, Event};
+use ring_names::{Body, CreditSpec, Name, OutOfMemory};
+use ring_rules::Event;
+use ring_script::{Further, Phrase, Word};
 use serde_json::{Value, json};
 use std::alloc::Global;
 
@@ -41,115 +43,53 @@ fn body_text(body: &Body) -> &str
     }
 }
 
-/// An event of which nothing more is said.
-fn own(alloc: Global, word: &str, by: &Name) -> Result<Value, OutOfMemory>
-    ensures value { IfOk result (λ value. view value ≡ fields (string word.now ∷ string by.now ∷ [])) }
-    ensures grammar { OnOk result (IsName by.now) }
+/// The word as text.
+fn word_text(word: Word) -> &'static str
+    ensures { result.now ≡ text_of word }
 {
-    Ok(json!(in alloc; [word, name_text(by)])?)
-}
-
-/// An event with a body.
-fn with_body(alloc: Global, word: &str, by: &Name, body: &Body) -> Result<Value, OutOfMemory>
-    ensures value { IfOk result (λ value. view value ≡ fields (string word.now ∷ string by.now ∷ string body.now ∷ [])) }
-    ensures grammar { OnOk result (IsName by.now × IsBody body.now) }
-{
-    Ok(json!(in alloc; [word, name_text(by), body_text(body)])?)
-}
-
-/// An event with a further name.
-fn with_name(alloc: Global, word: &str, by: &Name, name: &Name) -> Result<Value, OutOfMemory>
-    ensures value { IfOk result (λ value. view value ≡ fields (string word.now ∷ string by.now ∷ string name.now ∷ [])) }
-    ensures grammar { OnOk result (IsName by.now × IsName name.now) }
-{
-    Ok(json!(in alloc; [word, name_text(by), name_text(name)])?)
-}
-
-/// An event with a position.
-fn with_position(alloc: Global, word: &str, by: &Name, at: Position) -> Result<Value, OutOfMemory>
-    ensures value { IfOk result (λ value. view value ≡ fields (string word.now ∷ string by.now ∷ whole at.0 ∷ [])) }
-    ensures grammar { OnOk result (IsName by.now) }
-{
-    Ok(json!(in alloc; [word, name_text(by), at.0])?)
-}
-
-/// A refresh.
-fn refresh(alloc: Global, by: &Name, version: u32) -> Result<Value, OutOfMemory>
-    ensures value { IfOk result (λ value. view value ≡ fields (string (codes "refresh") ∷ string by.now ∷ whole version ∷ [])) }
-    ensures grammar { OnOk result (IsName by.now) }
-{
-    Ok(json!(in alloc; ["refresh", name_text(by), version])?)
-}
-
-/// A refusal of what has a name alone.
-fn refused(alloc: Global, code: u32, word: &str, by: &Name) -> Result<Value, OutOfMemory>
-    ensures value { IfOk result (λ value. view value ≡ fields (string (codes "refuse") ∷ whole code ∷ string word.now ∷ string by.now ∷ [])) }
-    ensures grammar { OnOk result (IsName by.now) }
-{
-    Ok(json!(in alloc; ["refuse", code, word, name_text(by)])?)
-}
-
-/// A refusal of what has a body.
-fn refused_body(
-    alloc: Global,
-    code: u32,
-    word: &str,
-    by: &Name,
-    body: &Body,
-) -> Result<Value, OutOfMemory>
-    ensures value { IfOk result (λ value. view value
-        ≡ fields (string (codes "refuse") ∷ whole code ∷ string word.now ∷ string by.now ∷ string body.now ∷ [])) }
-    ensures grammar { OnOk result (IsName by.now × IsBody body.now) }
-{
-    Ok(json!(in alloc; ["refuse", code, word, name_text(by), body_text(body)])?)
-}
-
-/// A refusal of what has a further name.
-fn refused_name(
-    alloc: Global,
-    code: u32,
-    word: &str,
-    by: &Name,
-    name: &Name,
-) -> Result<Value, OutOfMemory>
-    ensures value { IfOk result (λ value. view value
-        ≡ fields (string (codes "refuse") ∷ whole code ∷ string word.now ∷ string by.now ∷ string name.now ∷ [])) }
-    ensures grammar { OnOk result (IsName by.now × IsName name.now) }
-{
-    Ok(json!(in alloc; ["refuse", code, word, name_text(by), name_text(name)])?)
-}
-
-/// A refusal of what has a position.
-fn refused_position(
-    alloc: Global,
-    code: u32,
-    word: &str,
-    by: &Name,
-    at: Position,
-) -> Result<Value, OutOfMemory>
-    ensures value { IfOk result (λ value. view value
-        ≡ fields (string (codes "refuse") ∷ whole code ∷ string word.now ∷ string by.now ∷ whole at.0 ∷ [])) }
-    ensures grammar { OnOk result (IsName by.now) }
-{
-    Ok(json!(in alloc; ["refuse", code, word, name_text(by), at.0])?)
-}
-
-/// A refusal.
-fn refuse(alloc: Global, code: u32, inner: &Client) -> Result<Value, OutOfMemory>
-    requires { IsAskedWithin inner.now }
-    ensures value { IfOk result (λ value. view value ≡ fields (string (codes "refuse") ∷ whole code ∷ asked_fields inner.now)) }
-    ensures grammar { OnOk result (IsAsked inner.now) }
-{
-    match inner {
-        Client::Cast { by, body } => refused_body(alloc, code, "cast", by, body),
-        Client::Publish { by, body } => refused_body(alloc, code, "publish", by, body),
-        Client::Get { by } => refused(alloc, code, "get", by),
-        Client::Pop { by } => refused(alloc, code, "pop", by),
-        Client::Ack { by, at } => refused_position(alloc, code, "ack", by, *at),
-        Client::Requeue { by, at } => refused_position(alloc, code, "requeue", by, *at),
-        Client::Stop { by } => refused(alloc, code, "stop", by),
-        Client::Admit { by, name } => refused_name(alloc, code, "admit", by, name),
+    match str::from_utf8(word.text()) {
+        Ok(text) => text,
+        Err(_) => unreachable!(),
     }
+}
+
+/// A text joins the fields.
+fn push_text(alloc: Global, fields: &mut Vec<Value>, text: &str) -> Result<(), OutOfMemory>
+    ensures { OnOk result (map view fields.new.items ≡ map view fields.old.items ++ string text.now ∷ []) }
+{
+    fields.push(Value::try_from_str(alloc, text)?)?;
+    Ok(())
+}
+
+/// What stands in front of the event's phrase joins the fields: of a refusal its word and its number.
+fn push_front(alloc: Global, fields: &mut Vec<Value>, event: &Event) -> Result<(), OutOfMemory>
+    ensures { OnOk result (map view fields.new.items ≡ map view fields.old.items ++ front_of event.now) }
+{
+    if let Event::Refuse { code, inner: _ } = event {
+        push_text(alloc, fields, "refuse")?;
+        fields.push(Value::from(*code))?;
+    }
+    Ok(())
+}
+
+/// What stands behind the member's name joins them.
+fn push_further(
+    alloc: Global,
+    fields: &mut Vec<Value>,
+    further: &Further,
+) -> Result<(), OutOfMemory>
+    requires { IsFitNumber further.now }
+    ensures fields { OnOk result (map view fields.new.items ≡ map view fields.old.items ++ further_fields further.now) }
+    ensures fit { OnOk result (IsFit further.now) }
+{
+    match further {
+        Further::Nothing => {}
+        Further::Body(body) => push_text(alloc, fields, body_text(body))?,
+        Further::Name(name) => push_text(alloc, fields, name_text(name))?,
+        Further::Position(at) => fields.push(Value::from(at.0))?,
+        Further::Version(version) => fields.push(Value::from(*version))?,
+    }
+    Ok(())
 }
 
 /// The event as JSON.
@@ -158,28 +98,13 @@ fn value_of(alloc: Global, event: &Event) -> Result<Value, OutOfMemory>
     ensures value { IfOk result (λ value. view value ≡ data_of event.now) }
     ensures writable { OnOk result (IsWritable event.now) }
 {
-    match event {
-        Event::Cast { by, body } => with_body(alloc, "cast", by, body),
-        Event::Publish { by, body } => with_body(alloc, "publish", by, body),
-        Event::Get { by } => own(alloc, "get", by),
-        Event::Pop { by } => own(alloc, "pop", by),
-        Event::Ack { by, at } => with_position(alloc, "ack", by, *at),
-        Event::Requeue { by, at } => with_position(alloc, "requeue", by, *at),
-        Event::Depth { by } => own(alloc, "depth", by),
-        Event::Start { by } => own(alloc, "start", by),
-        Event::Put { by } => own(alloc, "put", by),
-        Event::Take { by } => own(alloc, "take", by),
-        Event::TakeEnd { by } => own(alloc, "takeend", by),
-        Event::Gain { by } => own(alloc, "gain", by),
-        Event::Stop { by } => own(alloc, "stop", by),
-        Event::Mark { by, dead } => with_name(alloc, "mark", by, dead),
-        Event::Refresh { by, view } => refresh(alloc, by, *view),
-        Event::Admit { by, name } => with_name(alloc, "admit", by, name),
-        Event::Pick { by } => own(alloc, "pick", by),
-        Event::Erase { by, origin } => with_name(alloc, "erase", by, origin),
-        Event::Synced { by } => own(alloc, "synced", by),
-        Event::Refuse { code, inner } => refuse(alloc, *code, inner),
-    }
+    let Phrase { word, by, further } = Phrase::of_event(event)?;
+    let mut fields = Vec::new(alloc);
+    push_front(alloc, &mut fields, event)?;
+    push_text(alloc, &mut fields, word_text(word))?;
+    push_text(alloc, &mut fields, name_text(&by))?;
+    push_further(alloc, &mut fields, &further)?;
+    Ok(Value::Array(fields))
 }
 
 /// The names as JSON.

@@ -2,14 +2,13 @@
 pub mod Acted
 pub mod Admitting
 pub mod After
-pub mod AloneGoes
-pub mod AloneRefusals
 pub mod CastGoes
 pub mod Closing
 pub mod EachGoes
 pub mod EndGoes
 pub mod Found
 pub mod GainGoes
+pub mod Kinds
 pub mod Marking
 pub mod Newcomers
 pub mod OneEvent

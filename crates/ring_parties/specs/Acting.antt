@@ -13,12 +13,16 @@ use Rattle.group_view.specs.View.{Group}
 use Rattle.group_view.specs.Change.{marked, erased, admitted}
 use Rattle.group_view.specs.Since.{view_at}
 use Rattle.promotion.specs.Elect.{installed}
-use Rattle.ring_rules.specs.declared.event.Event.{Event}
-use Rattle.ring_rules.specs.declared.event.Event.TheVariants.{Cast, Put, Take, TakeEnd, Gain, Stop, Mark, Refresh, Admit, Pick, Erase, Refuse}
+use Rattle.ring_rules.specs.declared.kind.LinkStep.{LinkStep}
+use Rattle.ring_rules.specs.declared.kind.LinkStep.TheVariants as step
+use Rattle.ring_rules.specs.declared.kind.ViewChange.TheVariants as change
+use Rattle.ring_rules.specs.declared.kind.Kind.{Kind as ShownKind}
+use Rattle.ring_rules.specs.declared.kind.Kind.TheVariants as shown
+use Rattle.ring_rules.specs.Kind.{Own, Kind, Says, Steps, Changes, Stops, Reads, Tells}
 use Rattle.ring_rules.specs.Refusal.{refuse_if, is_empty}
 use Rattle.ring_rules.specs.View.{right_of}
 use Rattle.ring_rules.specs.Machine.{runs_phase}
-use Rattle.ring_rules.specs.Event.{version_refusal, is_registered}
+use Rattle.ring_rules.specs.Event.{version_refusal}
 use Rattle.gm_member.specs.Parcels.{ByOrigin}
 use Rattle.gm_member.specs.Held.{Held, joining_held, Outgoing, Incoming, at_some, active_refused, up_refused, on_some, published_held, put_held, parcel_on, put_refused, pick_refused, take_refused, took_held, gained_held, ended_held, stopped_held, is_for, stays, sends_to, fresh_out as unsent_on, fresh_in as arriving_in, refreshed_held, first_at_door, picked_held, without, collected_held}
 use Rattle.gm_member.specs.View.{ring_link}
@@ -82,7 +86,7 @@ end_refused (Some k ∷ items) = Some reason.PacketNext
 abbrev pub back_of : Option OutSeen → List ℕ
 back_of end = at_some end [] (λ o. o.back)
 
--- ---- of each event that a member does by itself, the first condition that fails
+-- ---- of what a member does by itself, the first condition that fails
 
 -- of the taking of a packet
 abbrev pub packet_refused : Shown → Option Reason
@@ -145,8 +149,8 @@ EndsIts None b = b ≡ None
 EndsIts (Some o) b = (o' : OutSeen) × ActsOut (None ∷ []) [] true o o' × (b ≡ Some o')
 
 -- it has stopped
-abbrev pub Stops : Shown → Shown → Type 0
-Stops a b = EndsIts a.ends.out b.ends.out × (b ≡ record { held = stopped_held a.held; ends = record a.ends { out = b.ends.out } })
+abbrev pub Halts : Shown → Shown → Type 0
+Halts a b = EndsIts a.ends.out b.ends.out × (b ≡ record { held = stopped_held a.held; ends = record a.ends { out = b.ends.out } })
 
 -- it has picked the first link at its door that it may
 abbrev pub Picks : Shown → Shown → Type 0
@@ -154,34 +158,42 @@ Picks a b =
     (i : ℕ) × (first_at_door a.held ≡ Some i)
     × (b ≡ record { held = picked_held a.held; ends = record a.ends { link = slice_index_or a.ends.door i None; door = without i a.ends.door } })
 
--- ---- an event that a member does by itself, on its own links alone; of the queue's none can come yet, as no party keeps a mirror
+-- ---- what a member does by itself: it says something, or does a step on its links; of the queue it says nothing yet, as no party keeps a mirror
 
--- whether it does so, without the registrar
-abbrev pub is_alone : Event → Bool
-is_alone (Refresh by version) = false
-is_alone (Refuse code inner) = false
-is_alone e = not (is_registered e)
+-- whether what is read of a kind is that
+abbrev pub is_alone : ShownKind → Bool
+is_alone shown.Says = true
+is_alone (shown.Links s) = true
+is_alone k = false
 
--- the first condition that fails
-abbrev pub alone_refused : Event → Shown → Option Reason
-alone_refused (Cast by body) a = up_refused a.held None
-alone_refused (Put by) a = put_refused a.held
-alone_refused (Take by) a = packet_refused a
-alone_refused (TakeEnd by) a = link_end_refused a
-alone_refused (Gain by) a = grant_refused a
-alone_refused (Stop by) a = stop_refused a
-alone_refused (Pick by) a = pick_refused a.held
-alone_refused e a = None
+-- the first condition of a step that fails
+abbrev pub step_refused : LinkStep → Shown → Option Reason
+step_refused step.Put a = put_refused a.held
+step_refused step.Take a = packet_refused a
+step_refused step.TakeEnd a = link_end_refused a
+step_refused step.Gain a = grant_refused a
+step_refused step.Pick a = pick_refused a.held
 
--- what it does
-abbrev pub DoesAlone : Event → Shown → Shown → Type 0
-DoesAlone (Cast by body) a b = Casts (message.Cast body) a b
-DoesAlone (Put by) a b = PutsPacket a b
-DoesAlone (Take by) a b = TakesPacket a b
-DoesAlone (TakeEnd by) a b = TakesEnd a b
-DoesAlone (Gain by) a b = Gains a b
-DoesAlone (Pick by) a b = Picks a b
-DoesAlone e a b = ⊥
+-- what a step does
+abbrev pub DoesStep : LinkStep → Shown → Shown → Type 0
+DoesStep step.Put = PutsPacket
+DoesStep step.Take = TakesPacket
+DoesStep step.TakeEnd = TakesEnd
+DoesStep step.Gain = Gains
+DoesStep step.Pick = Picks
+
+-- the first condition that fails of what it does by itself, or of its stop
+abbrev pub alone_refused : Kind → Shown → Option Reason
+alone_refused (Says s) a = up_refused a.held None
+alone_refused (Steps s) a = step_refused s a
+alone_refused Stops a = stop_refused a
+alone_refused k a = None
+
+-- what it does by itself
+abbrev pub DoesAlone : Kind → Shown → Shown → Type 0
+DoesAlone (Says (Own body)) a b = Casts (message.Cast body) a b
+DoesAlone (Steps s) a b = DoesStep s a b
+DoesAlone k a b = ⊥
 
 -- ---- a member that has another view
 
@@ -272,15 +284,15 @@ LetsIn v credit name id i q q' loose =
 abbrev pub AdmitsAt : List ℕ → ℕ → Parties → Parties → Option (LinkName × OutSeen) → Type 0
 AdmitsAt name i q q' loose = (credit : CreditSpec) × HasCredit credit (node_at q i).held × LetsIn (admitting q i name) credit name (newest_of q).next_id i q q' loose
 
--- the event of the member at place i; d is the id of the one that is marked or erased; a refusal changes nothing
-abbrev pub Acts : Event → ℕ → ℕ → Parties → Parties → Option (LinkName × OutSeen) → Type 0
-Acts (Stop by) i d q q' loose = (b : Shown) × Stops (node_at q i) b × (q' ≡ record (with_node q i b) { stopped = q.stopped ++ (i + 1) ∷ [] }) × (loose ≡ None)
-Acts (Mark by dead) i d q q' loose = LooksAt (marked (newest_of q) d) i (viewing (marked (newest_of q) d) q) q' loose
-Acts (Refresh by version) i d q q' loose = LooksAt (view_at q.views version) i q q' loose
-Acts (Erase by origin) i d q q' loose = LooksAt (erasing q d) i (viewing (erasing q d) q) q' loose
-Acts (Admit by name) i d q q' loose = AdmitsAt name i q q' loose
-Acts (Refuse code inner) i d q q' loose = (q' ≡ q) × (loose ≡ None)
-Acts e i d q q' loose = (b : Shown) × DoesAlone e (node_at q i) b × (q' ≡ with_node q i b) × (loose ≡ None)
+-- what the member at place i does of a kind; d is the id of the one that is marked or erased; a refusal changes nothing
+abbrev pub Acts : Kind → ℕ → ℕ → Parties → Parties → Option (LinkName × OutSeen) → Type 0
+Acts Stops i d q q' loose = (b : Shown) × Halts (node_at q i) b × (q' ≡ record (with_node q i b) { stopped = q.stopped ++ (i + 1) ∷ [] }) × (loose ≡ None)
+Acts (Changes (change.Mark dead)) i d q q' loose = LooksAt (marked (newest_of q) d) i (viewing (marked (newest_of q) d) q) q' loose
+Acts (Changes (change.Erase origin)) i d q q' loose = LooksAt (erasing q d) i (viewing (erasing q d) q) q' loose
+Acts (Changes (change.Admit name)) i d q q' loose = AdmitsAt name i q q' loose
+Acts (Reads version) i d q q' loose = LooksAt (view_at q.views version) i q q' loose
+Acts (Tells code inner) i d q q' loose = (q' ≡ q) × (loose ≡ None)
+Acts k i d q q' loose = (b : Shown) × DoesAlone k (node_at q i) b × (q' ≡ with_node q i b) × (loose ≡ None)
 
 -- ---- collecting
 

@@ -7,7 +7,6 @@ pub mod Looking
 pub mod Loose
 pub mod Meeting
 pub mod Opened
-pub mod OwnSteps
 pub mod Parties
 pub mod Refused
 pub mod Standing

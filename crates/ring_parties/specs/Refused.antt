@@ -1,5 +1,5 @@
 -- Why an event is refused, by what the parties show.
-use Rattle.std.specs.Prelude.{◌≡◌, ℕ, ◌+◌, ◌-◌, ◌&&◌, ◌||◌, Bool, cond, not, nat_le, bytes_eq, List, [], ◌∷◌, length, Option, Some, None, map, option_map, position, is_some}
+use Rattle.std.specs.Prelude.{◌≡◌, ℕ, ◌+◌, ◌-◌, ◌<◌, ◌&&◌, ◌||◌, Bool, true, cond, not, nat_le, bytes_eq, List, [], ◌∷◌, length, Option, Some, None, map, option_map, position, is_some}
 use Rattle.std.specs.List.{filter}
 use Rattle.ring_names.specs.declared.reason.Reason.{Reason}
 use Rattle.ring_names.specs.declared.reason.Reason.TheVariants as reason
@@ -7,11 +7,13 @@ use Rattle.ring_names.specs.declared.numbers.CreditSpec.{CreditSpec}
 use Rattle.group_view.specs.View.{Group}
 use Rattle.group_view.specs.Change.{is_taken, most_entries}
 use Rattle.ring_rules.specs.declared.event.Event.{Event}
-use Rattle.ring_rules.specs.declared.event.Event.TheVariants.{Mark, Refresh, Admit, Erase, Refuse}
 use Rattle.ring_rules.specs.declared.event.Client.{Client}
 use Rattle.ring_rules.specs.declared.event.Client.TheVariants as client
+use Rattle.ring_rules.specs.declared.kind.ViewChange.TheVariants as change
+use Rattle.ring_rules.specs.Kind.{Kind, Changes, Reads, Tells}
 use Rattle.ring_rules.specs.Refusal.{refuse_if, or_else}
-use Rattle.ring_rules.specs.Event.{refusal, is_told}
+use Rattle.ring_rules.specs.Step.{size}
+use Rattle.ring_rules.specs.Event.{refusal, refused_as, is_multicast_kind, is_told}
 use Rattle.registrar.specs.declared.standing.Standing.{Standing}
 use Rattle.registrar.specs.Registry.{Registry}
 use Rattle.registrar.specs.Asked.{mark_refusal, erase_refusal}
@@ -67,20 +69,24 @@ client_refused g inner m = None
 abbrev pub telling_refused : Group → ℕ → Client → Shown → Option Reason
 telling_refused g code inner m = refuse_if (not (is_told code (client_refused g inner m))) reason.NotRefused
 
--- the first failing condition of an event of the member at place i
-abbrev pub act_refused : Event → ℕ → Parties → Option Reason
-act_refused (Mark by dead) i q = mark_refused (office_of q) (node_at q i) (id_named q dead)
-act_refused (Refresh by version) i q = look_refused (newest_of q).version (node_at q i) version
-act_refused (Erase by origin) i q = erase_refused (office_of q) (node_at q i) (id_named q origin)
-act_refused (Admit by name) i q = up_refused (node_at q i).held (admission_refused (newest_of q) name)
-act_refused (Refuse code inner) i q = telling_refused (newest_of q) code inner (node_at q i)
-act_refused e i q = alone_refused e (node_at q i)
+-- why it doesn't do what makes no view, where this is the newest
+abbrev pub own_refused : Group → Kind → Shown → Option Reason
+own_refused g (Reads version) m = look_refused g.version m version
+own_refused g (Tells code inner) m = telling_refused g code inner m
+own_refused g k m = alone_refused k m
+
+-- the first failing condition of what the member at place i does of a kind
+abbrev pub act_refused : Kind → ℕ → Parties → Option Reason
+act_refused (Changes (change.Mark dead)) i q = mark_refused (office_of q) (node_at q i) (id_named q dead)
+act_refused (Changes (change.Erase origin)) i q = erase_refused (office_of q) (node_at q i) (id_named q origin)
+act_refused (Changes (change.Admit name)) i q = up_refused (node_at q i).held (admission_refused (newest_of q) name)
+act_refused k i q = own_refused (newest_of q) k (node_at q i)
 
 -- the id of the one that is to be marked or erased
-abbrev pub marked_in : Event → Parties → ℕ
-marked_in (Mark by dead) q = at_some (id_named q dead) 0 (λ d. d)
-marked_in (Erase by origin) q = at_some (id_named q origin) 0 (λ d. d)
-marked_in e q = 0
+abbrev pub marked_in : Kind → Parties → ℕ
+marked_in (Changes (change.Mark dead)) q = at_some (id_named q dead) 0 (λ d. d)
+marked_in (Changes (change.Erase origin)) q = at_some (id_named q origin) 0 (λ d. d)
+marked_in k q = 0
 
 -- ---- before the member has collected what waits for it
 
@@ -100,3 +106,7 @@ first_for h (d ∷ ps) = cond (comes_for h d) (Some d.name.view) (first_for h ps
 -- wherever these parties stand, this is the first failing condition of an event of the member at a place
 abbrev pub IsRefusalAt : ℕ → Event → Parties → Option Reason → Type 0
 IsRefusalAt i e q r = (credit : CreditSpec) (names : List (List ℕ)) (events : List Event) → StandAfter credit names events q → IsEventIn (state credit names events) i e → r ≡ refusal (state credit names events) e
+
+-- wherever they stand, this is the first failing condition of what the member at a place does of a kind, where that isn't of the queue
+abbrev pub IsRefusedAs : ℕ → Kind → Parties → Option Reason → Type 0
+IsRefusedAs i k q r = (credit : CreditSpec) (names : List (List ℕ)) (events : List Event) → StandAfter credit names events q → i + 1 < size (state credit names events) → is_multicast_kind k ≡ true → r ≡ refused_as (state credit names events) (i + 1) k

@@ -15,7 +15,7 @@ use Rattle.gm_member.specs.View.{ring_link}
 use Rattle.gm_member.specs.Stands.{incoming_in, door_links, held_in}
 use Rattle.ring_parties.specs.Ends.{OutSeen, InSeen, Carries, HaveMet, HasRested}
 use Rattle.ring_parties.specs.States.{state}
-use Rattle.ring_parties.specs.Parties.{Shown, Parties, node_at}
+use Rattle.ring_parties.specs.Parties.{Shown, Parties, PartiesSeen, node_at}
 
 -- Of each link of the ring, by its place: what its out end shows, and last showed where it was dropped; what its in end shows; and the
 -- places of the links that wait for their receivers.
@@ -107,6 +107,12 @@ pub record StandAfter (credit : CreditSpec) (names : List (List ℕ)) (events : 
 -- they stand after the journal of some cluster
 abbrev pub StandSomewhere : Parties → Type 0
 StandSomewhere q = (credit : CreditSpec) × (names : List (List ℕ)) × (events : List Event) × StandAfter credit names events q
+
+-- The member at a place may act: the parties stand somewhere, and owe the registrar nothing.
+pub record MayAct (q : PartiesSeen) (i : ℕ) : Type 0 where
+  pub within : i < length q.all.nodes
+  pub delivered : q.owes ≡ false
+  pub standing : StandSomewhere q.all
 
 -- the others stand wherever these do
 abbrev pub StandStill : Parties → Parties → Type 0

@@ -4,24 +4,25 @@ ghost use Rattle.std.specs.Prelude.{OnErr, Some, None, map, length, position, by
 ghost use Rattle.registrar.specs.Registry.{AreHere};
 ghost use Rattle.registrar.specs.Handled.{with_stopped};
 ghost use Rattle.registrar.specs.Asked.{stop_refusal as the_stop_refusal};
+ghost use Rattle.ring_rules.specs.Kind.{kind_of, shown_kind};
 ghost use Rattle.ring_rules.specs.Event.{is_multicast};
 ghost use Rattle.ring_parties.specs.Parties.{shown_of, shown_in};
-ghost use Rattle.ring_parties.specs.Acting.{IsReady};
-ghost use Rattle.ring_parties.specs.Acting.{is_alone as the_alone, alone_refused, DoesAlone};
-ghost use Rattle.ring_parties.specs.Tried.{IsJudged};
+ghost use Rattle.ring_parties.specs.Acting.{IsReady, step_refused, DoesStep};
+ghost use Rattle.ring_parties.specs.Acting.{is_alone, alone_refused, DoesAlone};
+ghost use Rattle.ring_parties.specs.Tried.{IsJudged, Tries};
 
 use crate::looking::{Loose, ask, look};
 use crate::node::{Node, cast, gain, pick, put, stop, take, take_end};
 use crate::parties::Parties;
 use crate::party::Party;
-use crate::refusing::{look_refusal, stop_refusal, telling_refusal, unknown};
+use crate::refusing::{look_refusal, own_refusal, stop_refusal, unknown};
 use activity::Load;
 use gm_member::Ask;
 use group_view::Request;
 use ordered_link::PlainIn;
 use registrar::Registrar;
 use ring_names::{CreditSpec, MemberId, Name};
-use ring_rules::{Client, Event, Refused};
+use ring_rules::{Event, Kind, LinkStep, Refused, ViewChange};
 
 /// Whether the member has that name.
 fn has_name(node: &Node, name: &Name) -> bool
@@ -38,53 +39,49 @@ fn first_named(members: &[Party], name: &Name) -> Option<usize>
     members.iter().position(|party| has_name(&party.node, name))
 }
 
-/// The event of a member that does it by itself happens, where it is enabled. It is none of the queue.
-fn do_alone(node: &mut Node, event: &Event) -> Result<(), Refused>
-    requires alone { the_alone event.now ≡ true }
+/// The member says what it does by the event, where that is enabled. It is none of the queue, so a message of its own.
+fn say(node: &mut Node, event: &Event) -> Result<(), Refused>
+    requires says { shown_kind (kind_of event.now) ≡ Kind.Says }
     requires multicast { is_multicast event.now ≡ true }
-    requires ready { IsReady (shown_of node.old) }
-    ensures judged { IsJudged (alone_refused event.now (shown_of node.old)) result }
-    ensures ok { OnOk result (DoesAlone event.now (shown_of node.old) (shown_of node.new)) }
+    ensures judged { IsJudged (alone_refused (kind_of event.now) (shown_of node.old)) result }
+    ensures ok { OnOk result (DoesAlone (kind_of event.now) (shown_of node.old) (shown_of node.new)) }
     ensures err { OnErr result (shown_of node.new ≡ shown_of node.old) }
 {
     match event {
         Event::Cast { by: _, body } => cast(node, body),
-        Event::Put { by: _ } => put(node),
-        Event::Take { by: _ } => take(node),
-        Event::TakeEnd { by: _ } => take_end(node),
-        Event::Gain { by: _ } => gain(node),
-        Event::Pick { by: _ } => pick(node),
-        Event::Stop { by: _ }
-        | Event::Mark { by: _, dead: _ }
-        | Event::Refresh { by: _, view: _ }
-        | Event::Admit { by: _, name: _ }
-        | Event::Erase { by: _, origin: _ }
-        | Event::Refuse { code: _, inner: _ } => unreachable!(),
-        Event::Publish { .. }
-        | Event::Get { .. }
-        | Event::Pop { .. }
-        | Event::Ack { .. }
-        | Event::Requeue { .. }
-        | Event::Depth { .. }
-        | Event::Start { .. }
-        | Event::Synced { .. } => unreachable!(),
+        _ => unreachable!(),
     }
 }
 
-/// Whether the member does the event by itself, on its own links alone.
-pub(crate) fn is_alone(event: &Event) -> bool
-    ensures { result ≡ the_alone event.now }
+/// The member does a step on its links, where it is enabled.
+fn do_step(node: &mut Node, step: LinkStep) -> Result<(), Refused>
+    requires { IsReady (shown_of node.old) }
+    ensures { Tries (step_refused step (shown_of node.old)) (DoesStep step)
+        (shown_of node.old) (shown_of node.new) result }
 {
-    !matches!(
-        event,
-        Event::Stop { .. }
-            | Event::Mark { .. }
-            | Event::Refresh { .. }
-            | Event::Admit { .. }
-            | Event::Erase { .. }
-            | Event::Synced { .. }
-            | Event::Refuse { .. }
-    )
+    match step {
+        LinkStep::Pick => pick(node),
+        LinkStep::Take => take(node),
+        LinkStep::TakeEnd => take_end(node),
+        LinkStep::Gain => gain(node),
+        LinkStep::Put => put(node),
+    }
+}
+
+/// The event of a member that does it by itself happens, where it is enabled. It is none of the queue.
+fn do_alone(node: &mut Node, event: &Event) -> Result<(), Refused>
+    requires alone { is_alone (shown_kind (kind_of event.now)) ≡ true }
+    requires multicast { is_multicast event.now ≡ true }
+    requires ready { IsReady (shown_of node.old) }
+    ensures judged { IsJudged (alone_refused (kind_of event.now) (shown_of node.old)) result }
+    ensures ok { OnOk result (DoesAlone (kind_of event.now) (shown_of node.old) (shown_of node.new)) }
+    ensures err { OnErr result (shown_of node.new ≡ shown_of node.old) }
+{
+    match event.kind() {
+        Kind::Says => say(node, event),
+        Kind::Links(step) => do_step(node, step),
+        _ => unreachable!(),
+    }
 }
 
 /// The registrar hears that a member stops, of which it hasn't heard before.
@@ -107,16 +104,16 @@ impl Parties {
     ghost use Rattle.std.specs.Prelude.{option_map};
     ghost use Rattle.group_view.specs.View.{number};
     ghost use Rattle.group_view.specs.Since.{view_at};
-    ghost use Rattle.ring_rules.specs.declared.event.Event.TheVariants.{Stop, Mark, Erase};
-    ghost use Rattle.ring_rules.specs.Event.{is_multicast};
+    ghost use Rattle.ring_rules.specs.Kind.{kind_of, shown_kind, Changes, Stops};
+    ghost use Rattle.ring_rules.specs.Event.{is_multicast, is_multicast_kind};
     ghost use Rattle.ring_parties.specs.Parties.{node_at};
-    ghost use Rattle.ring_parties.specs.Standing.{StandSomewhere};
+    ghost use Rattle.ring_parties.specs.Standing.{StandSomewhere, MayAct};
     ghost use Rattle.ring_parties.specs.Tried.{IsJudged};
     ghost use Rattle.ring_parties.specs.Looking.{loose_seen};
-    ghost use Rattle.ring_parties.specs.Acting.{is_alone as the_alone, alone_refused, stop_refused, look_refused};
+    ghost use Rattle.ring_parties.specs.Acting.{is_alone, alone_refused, stop_refused, look_refused};
     ghost use Rattle.ring_parties.specs.Acting.{newest_of, viewing, LooksAt, HasCredit, Acts};
-    ghost use Rattle.ring_parties.specs.Refused.{id_named, mark_refused, erase_refused, office_of, act_refused};
-    ghost use Rattle.ring_parties.specs.Refused.{telling_refused, marked_in};
+    ghost use Rattle.ring_parties.specs.Refused.{id_named, mark_refused, erase_refused, office_of, own_refused};
+    ghost use Rattle.ring_parties.specs.Refused.{act_refused, marked_in};
     ghost use Rattle.ring_parties.specs.Looking.{makes_view, ask_refused, view_for};
 
     /// The place of the member of that name.
@@ -146,58 +143,38 @@ impl Parties {
         event: &Event,
     ) -> Result<Option<Loose>, Refused>
         requires multicast { is_multicast event.now ≡ true }
-        requires within { i < length (self.old).all.nodes }
+        requires may { MayAct self.old i }
         requires credit { HasCredit credit (node_at (self.old).all i).held }
-        requires delivered { (self.old).owes ≡ false }
-        requires standing { StandSomewhere (self.old).all }
-        ensures judged { IsJudged (act_refused event.now i (self.old).all) result }
-        ensures ok { IfOk result (λ loose. Acts event.now i (marked_in event.now (self.old).all)
+        ensures judged { IsJudged (act_refused (kind_of event.now) i (self.old).all) result }
+        ensures ok { IfOk result (λ loose. Acts (kind_of event.now) i (marked_in (kind_of event.now) (self.old).all)
             (self.old).all (self.new).all (loose_seen loose)) }
         ensures err { OnErr result (self.new ≡ self.old) }
     {
-        if is_alone(event) {
-            self.act_alone(i, event)?;
-            return Ok(None);
-        }
-        match event {
-            Event::Stop { by: _ } => {
+        match event.kind() {
+            Kind::Says | Kind::Links(_) => {
+                self.act_alone(i, event)?;
+                Ok(None)
+            }
+            Kind::Changes(change) => self.act_change(credit, i, change),
+            Kind::Stops => {
                 self.act_stop(i)?;
                 Ok(None)
             }
-            Event::Mark { by: _, dead } => Ok(self.act_mark(i, dead)?),
-            Event::Admit { by: _, name } => Ok(self.act_admit(credit, i, name)?),
-            Event::Erase { by: _, origin } => Ok(self.act_erase(i, origin)?),
-            Event::Refresh { by: _, view } => Ok(self.act_refresh(i, *view)?),
-            Event::Refuse { code, inner } => {
-                self.act_refuse(i, *code, inner)?;
+            Kind::Reads(version) => self.act_refresh(i, version),
+            Kind::Tells => {
+                self.act_refuse(i, event)?;
                 Ok(None)
             }
-            Event::Cast { by: _, body: _ }
-            | Event::Put { by: _ }
-            | Event::Take { by: _ }
-            | Event::TakeEnd { by: _ }
-            | Event::Gain { by: _ }
-            | Event::Pick { by: _ } => unreachable!(),
-            Event::Publish { .. }
-            | Event::Get { .. }
-            | Event::Pop { .. }
-            | Event::Ack { .. }
-            | Event::Requeue { .. }
-            | Event::Depth { .. }
-            | Event::Start { .. }
-            | Event::Synced { .. } => unreachable!(),
         }
     }
 
     /// The member at a place does the event by itself, where it is enabled.
     fn act_alone(&mut self, i: usize, event: &Event) -> Result<(), Refused>
-        requires within { i < length (self.old).all.nodes }
-        requires alone { the_alone event.now ≡ true }
+        requires may { MayAct self.old i }
+        requires alone { is_alone (shown_kind (kind_of event.now)) ≡ true }
         requires multicast { is_multicast event.now ≡ true }
-        requires delivered { (self.old).owes ≡ false }
-        requires standing { StandSomewhere (self.old).all }
-        ensures judged { IsJudged (alone_refused event.now (node_at (self.old).all i)) result }
-        ensures ok { OnOk result ((d : ℕ) → Acts event.now i d (self.old).all (self.new).all None) }
+        ensures judged { IsJudged (alone_refused (kind_of event.now) (node_at (self.old).all i)) result }
+        ensures ok { OnOk result ((d : ℕ) → Acts (kind_of event.now) i d (self.old).all (self.new).all None) }
         ensures err { OnErr result (self.new ≡ self.old) }
     {
         do_alone(&mut self.members[i].node, event)?;
@@ -206,11 +183,9 @@ impl Parties {
 
     /// The member at a place stops, where it may, and the registrar hears of it first.
     fn act_stop(&mut self, i: usize) -> Result<(), Refused>
-        requires within { i < length (self.old).all.nodes }
-        requires delivered { (self.old).owes ≡ false }
-        requires standing { StandSomewhere (self.old).all }
+        requires { MayAct self.old i }
         ensures judged { IsJudged (stop_refused (node_at (self.old).all i)) result }
-        ensures ok { OnOk result ((by : List ℕ) (d : ℕ) → Acts (Stop by) i d (self.old).all (self.new).all None) }
+        ensures ok { OnOk result ((d : ℕ) → Acts Stops i d (self.old).all (self.new).all None) }
         ensures err { OnErr result (self.new ≡ self.old) }
     {
         if let Some(reason) = stop_refusal(&self.members[i].node) {
@@ -225,9 +200,7 @@ impl Parties {
 
     /// The member at a place reads the view of a version, where it may.
     fn act_refresh(&mut self, i: usize, version: u32) -> Result<Option<Loose>, Refused>
-        requires within { i < length (self.old).all.nodes }
-        requires delivered { (self.old).owes ≡ false }
-        requires standing { StandSomewhere (self.old).all }
+        requires { MayAct self.old i }
         ensures judged { IsJudged (look_refused (newest_of (self.old).all).version
             (node_at (self.old).all i) version) result }
         ensures ok { IfOk result (λ loose. LooksAt (view_at (self.old).all.views version) i
@@ -255,28 +228,50 @@ impl Parties {
     }
 
     /// The member at a place tells a client that what it asks isn't done, where that is so: nothing changes.
-    fn act_refuse(&self, i: usize, code: u32, asked: &Client) -> Result<(), Refused>
+    fn act_refuse(&self, i: usize, event: &Event) -> Result<(), Refused>
         requires within { i < length (self.now).all.nodes }
         requires standing { StandSomewhere (self.now).all }
-        ensures { IsJudged (telling_refused (newest_of (self.now).all) code asked.now
+        ensures { IsJudged (own_refused (newest_of (self.now).all) (kind_of event.now)
             (node_at (self.now).all i)) result }
     {
-        let node = &self.members[i].node;
-        match telling_refusal(self.registrar.view(), node, code, asked) {
+        match own_refusal(self.registrar.view(), &self.members[i].node, event) {
             Some(reason) => Err(Refused::NotEnabled(reason)),
             None => Ok(()),
         }
     }
 
+    /// The member at a place has the view changed, where it may. Nobody is registered, as the parties keep no mirrors
+    /// yet.
+    fn act_change(
+        &mut self,
+        credit: CreditSpec,
+        i: usize,
+        change: ViewChange,
+    ) -> Result<Option<Loose>, Refused>
+        requires multicast { is_multicast_kind (Changes change) ≡ true }
+        requires may { MayAct self.old i }
+        requires credit { HasCredit credit (node_at (self.old).all i).held }
+        ensures judged { IsJudged (act_refused (Changes change) i (self.old).all) result }
+        ensures ok { IfOk result (λ loose. Acts (Changes change) i (marked_in (Changes change) (self.old).all)
+            (self.old).all (self.new).all (loose_seen loose)) }
+        ensures err { OnErr result (self.new ≡ self.old) }
+    {
+        match change {
+            ViewChange::Mark(dead) => self.act_mark(i, &dead),
+            ViewChange::Erase(origin) => self.act_erase(i, &origin),
+            ViewChange::Admit(name) => self.act_admit(credit, i, &name),
+            ViewChange::Register => unreachable!(),
+        }
+    }
+
     /// The member at a place has the one of a name marked dead by the registrar, where it may.
     fn act_mark(&mut self, i: usize, dead: &Name) -> Result<Option<Loose>, Refused>
-        requires within { i < length (self.old).all.nodes }
-        requires delivered { (self.old).owes ≡ false }
-        requires standing { StandSomewhere (self.old).all }
+        requires { MayAct self.old i }
         ensures judged { IsJudged (mark_refused (office_of (self.old).all) (node_at (self.old).all i)
             (id_named (self.old).all dead.now)) result }
-        ensures ok { IfOk result (λ loose. (by : List ℕ) → Acts (Mark by dead.now) i
-            (marked_in (Mark by dead.now) (self.old).all) (self.old).all (self.new).all (loose_seen loose)) }
+        ensures ok { IfOk result (λ loose. Acts (Changes (ViewChange.Mark dead.now)) i
+            (marked_in (Changes (ViewChange.Mark dead.now)) (self.old).all) (self.old).all (self.new).all
+            (loose_seen loose)) }
         ensures err { OnErr result (self.new ≡ self.old) }
     {
         let Some(id) = self.id_named(dead) else {
@@ -287,13 +282,12 @@ impl Parties {
 
     /// It has the one of a name erased, likewise.
     fn act_erase(&mut self, i: usize, origin: &Name) -> Result<Option<Loose>, Refused>
-        requires within { i < length (self.old).all.nodes }
-        requires delivered { (self.old).owes ≡ false }
-        requires standing { StandSomewhere (self.old).all }
+        requires { MayAct self.old i }
         ensures judged { IsJudged (erase_refused (office_of (self.old).all) (node_at (self.old).all i)
             (id_named (self.old).all origin.now)) result }
-        ensures ok { IfOk result (λ loose. (by : List ℕ) → Acts (Erase by origin.now) i
-            (marked_in (Erase by origin.now) (self.old).all) (self.old).all (self.new).all (loose_seen loose)) }
+        ensures ok { IfOk result (λ loose. Acts (Changes (ViewChange.Erase origin.now)) i
+            (marked_in (Changes (ViewChange.Erase origin.now)) (self.old).all) (self.old).all (self.new).all
+            (loose_seen loose)) }
         ensures err { OnErr result (self.new ≡ self.old) }
     {
         let Some(id) = self.id_named(origin) else {
@@ -305,9 +299,7 @@ impl Parties {
     /// The member at a place asks the registrar to make a view, and has it, where it may.
     fn act_ask(&mut self, i: usize, what: Ask) -> Result<Option<Loose>, Refused>
         requires makes { makes_view what ≡ true }
-        requires within { i < length (self.old).all.nodes }
-        requires delivered { (self.old).owes ≡ false }
-        requires standing { StandSomewhere (self.old).all }
+        requires may { MayAct self.old i }
         ensures judged { IsJudged (ask_refused (office_of (self.old).all) (node_at (self.old).all i) what) result }
         ensures ok { IfOk result (λ loose. LooksAt (view_for (office_of (self.old).all) (i + 1) what) i
             (viewing (view_for (office_of (self.old).all) (i + 1) what) (self.old).all) (self.new).all

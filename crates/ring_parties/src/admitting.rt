@@ -77,10 +77,9 @@ fn push_reserved(members: &mut Vec<Party>, party: Party)
 
 impl Parties {
     ghost use Rattle.std.specs.Prelude.{◌≡◌, ℕ, ◌<◌, List, false, length, IfOk, OnErr};
-    ghost use Rattle.ring_rules.specs.declared.event.Event.TheVariants.{Admit};
     ghost use Rattle.gm_member.specs.Held.{up_refused};
     ghost use Rattle.ring_parties.specs.Parties.{node_at};
-    ghost use Rattle.ring_parties.specs.Standing.{StandSomewhere};
+    ghost use Rattle.ring_parties.specs.Standing.{MayAct};
     ghost use Rattle.ring_parties.specs.Tried.{IsJudged};
     ghost use Rattle.ring_parties.specs.Looking.{loose_seen};
     ghost use Rattle.ring_parties.specs.Acting.{newest_of, HasCredit, AdmitsAt};
@@ -94,10 +93,8 @@ impl Parties {
         i: usize,
         name: &Name,
     ) -> Result<Option<Loose>, Refused>
-        requires within { i < length (self.old).all.nodes }
+        requires may { MayAct self.old i }
         requires credit { HasCredit credit (node_at (self.old).all i).held }
-        requires delivered { (self.old).owes ≡ false }
-        requires standing { StandSomewhere (self.old).all }
         ensures judged { IsJudged (up_refused (node_at (self.old).all i).held
             (admission_refused (newest_of (self.old).all) name.now)) result }
         ensures ok { IfOk result (λ loose. AdmitsAt name.now i (self.old).all (self.new).all (loose_seen loose)) }

@@ -42,15 +42,13 @@ impl Parties {
     ghost use Rattle.std.specs.Prelude.{◌≡◌, ◌+◌, ◌<◌, false, OnOk, length};
     ghost use Rattle.ring_rules.specs.declared.phase.Phase.TheVariants.{Up};
     ghost use Rattle.ring_parties.specs.Parties.{node_at};
-    ghost use Rattle.ring_parties.specs.Standing.{StandSomewhere, StandStill};
+    ghost use Rattle.ring_parties.specs.Standing.{MayAct, StandStill};
     ghost use Rattle.ring_parties.specs.Refused.{NothingWaits};
 
     /// The links that wait for the member at a place come to its door, where it is up, and none waits for it then. Want
     /// of memory leaves everything as it was.
     pub(crate) fn collect(&mut self, i: usize) -> Result<(), OutOfMemory>
-        requires within { i < length (self.old).all.nodes }
-        requires delivered { (self.old).owes ≡ false }
-        requires standing { StandSomewhere (self.old).all }
+        requires { MayAct self.old i }
         ensures standing { StandStill (self.old).all (self.new).all }
         ensures delivered { (self.new).owes ≡ false }
         ensures none { OnOk result ((node_at (self.new).all i).held.phase ≡ Up

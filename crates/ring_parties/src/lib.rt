@@ -10,7 +10,6 @@ mod looking;
 mod meeting;
 mod node;
 mod opening;
-mod own_step;
 mod parties;
 mod party;
 mod refusing;
@@ -18,5 +17,4 @@ mod stepping;
 mod undelivered;
 
 pub use node::Node;
-pub use own_step::OwnStep;
 pub use parties::Parties;

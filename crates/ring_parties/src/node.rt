@@ -4,7 +4,7 @@ ghost use Rattle.queue_core.specs.declared.message.Message.TheVariants as messag
 ghost use Rattle.gm_member.specs.Held.{up_refused, put_refused, pick_refused};
 ghost use Rattle.ring_parties.specs.Parties.{shown_of};
 ghost use Rattle.ring_parties.specs.Acting.{IsReady, packet_refused, link_end_refused, grant_refused};
-ghost use Rattle.ring_parties.specs.Acting.{stop_refused, Casts, PutsPacket, TakesPacket, TakesEnd, Gains, Stops};
+ghost use Rattle.ring_parties.specs.Acting.{stop_refused, Casts, PutsPacket, TakesPacket, TakesEnd, Gains, Halts};
 ghost use Rattle.ring_parties.specs.Acting.{Picks};
 ghost use Rattle.ring_parties.specs.Tried.{IsJudged, Tries};
 
@@ -89,7 +89,7 @@ pub(crate) fn gain(node: &mut Node) -> Result<(), Refused>
 /// The member stops, where it acts.
 pub(crate) fn stop(node: &mut Node) -> Result<(), Refused>
     requires { IsReady (shown_of node.old) }
-    ensures tries { Tries (stop_refused (shown_of node.old)) Stops (shown_of node.old) (shown_of node.new) result }
+    ensures tries { Tries (stop_refused (shown_of node.old)) Halts (shown_of node.old) (shown_of node.new) result }
     ensures succeeds { stop_refused (shown_of node.old) ≡ None → IsOk result }
 {
     node.stop()?;

@@ -1,6 +1,7 @@
 //! Why an event of a member of the cluster is refused. What is here only reads, and wants no memory.
 ghost use Rattle.std.specs.Prelude.{◌≡◌, ◌∷◌, List, [], true, false, Some, None, Option, MatchOption, map};
 ghost use Rattle.ring_rules.specs.Refusal.{is_empty};
+ghost use Rattle.ring_rules.specs.Kind.{kind_of, shown_kind};
 ghost use Rattle.ring_rules.specs.Event.{is_told as told, is_passing as passes};
 ghost use Rattle.ring_names.specs.declared.reason.Reason.{Reason};
 ghost use Rattle.gm_member.specs.Held.{up_refused, take_refused};
@@ -8,11 +9,10 @@ ghost use Rattle.ring_parties.specs.Ends.{Sent};
 ghost use Rattle.ring_parties.specs.Behind.{behind};
 ghost use Rattle.ring_parties.specs.Parties.{shown_of, content, posted};
 ghost use Rattle.ring_parties.specs.Acting.{stop_refused, look_refused, packet_refused, link_end_refused};
-ghost use Rattle.ring_parties.specs.Acting.{grant_refused, alone_refused, back_of, first_item as the_first};
-ghost use Rattle.ring_parties.specs.Refused.{first_for, admission_refused, client_refused, telling_refused};
+ghost use Rattle.ring_parties.specs.Acting.{grant_refused, step_refused, back_of, first_item as the_first};
+ghost use Rattle.ring_parties.specs.Refused.{first_for, admission_refused, client_refused, own_refused};
 
 use crate::node::Node;
-use crate::own_step::OwnStep;
 use crate::parties::Parties;
 use crate::undelivered::Undelivered;
 use activity::Load;
@@ -21,7 +21,7 @@ use group_view::{Request, View};
 use ordered_link::{Item, PlainIn};
 use registrar::Registrar;
 use ring_names::{Name, Reason};
-use ring_rules::{Client, Event, Phase};
+use ring_rules::{Client, Event, Kind, LinkStep, Phase, ViewChange};
 
 /// The most entries of a view.
 const MOST_MEMBERS: usize = 64;
@@ -105,11 +105,7 @@ fn client_refusal(view: &View, node: &Node, asked: &Client) -> Option<Reason>
         Client::Cast { by: _, body: _ } => up_refusal(node),
         Client::Stop { by: _ } => stop_refusal(node),
         Client::Admit { by: _, name } => admit_refusal(view, node, name),
-        Client::Publish { .. }
-        | Client::Get { .. }
-        | Client::Pop { .. }
-        | Client::Ack { .. }
-        | Client::Requeue { .. } => None,
+        _ => None,
     }
 }
 
@@ -130,15 +126,21 @@ fn is_told(code: u32, refusal: &Option<Reason>) -> bool
     }
 }
 
-/// Why a member doesn't tell a client with this number that what it asks isn't done.
-pub(crate) fn telling_refusal(view: &View, node: &Node, code: u32, asked: &Client) -> Option<Reason>
-    requires { (shown_of node.now).held.asks ≡ false }
-    ensures { result ≡ telling_refused view.now code asked.now (shown_of node.now) }
+/// Why a member doesn't tell a client what the event tells it: that what it asks isn't done.
+fn telling_refusal(view: &View, node: &Node, event: &Event) -> Option<Reason>
+    requires tells { shown_kind (kind_of event.now) ≡ Kind.Tells }
+    requires free { (shown_of node.now).held.asks ≡ false }
+    ensures { result ≡ own_refused view.now (kind_of event.now) (shown_of node.now) }
 {
-    if !is_told(code, &client_refusal(view, node, asked)) {
-        return Some(Reason::NotRefused);
+    match event {
+        Event::Refuse { code, inner } => {
+            if !is_told(*code, &client_refusal(view, node, inner)) {
+                return Some(Reason::NotRefused);
+            }
+            None
+        }
+        _ => unreachable!(),
     }
-    None
 }
 
 /// Why the member may take nothing, before its link is looked at.
@@ -221,32 +223,32 @@ fn grant_refusal(node: &Node) -> Option<Reason>
     None
 }
 
-/// Why a member doesn't do what it does by itself, or stop; of a pick, by its door alone.
-fn alone_refusal(node: &Node, event: &Event) -> Option<Reason>
+/// Why it doesn't do a step on its links; of a pick, by its door alone.
+fn own_step_refusal(node: &Node, step: LinkStep) -> Option<Reason>
     requires { (shown_of node.now).held.asks ≡ false }
-    ensures { result ≡ alone_refused event.now (shown_of node.now) }
+    ensures { result ≡ step_refused step (shown_of node.now) }
 {
-    match event {
-        Event::Cast { by: _, body: _ } => up_refusal(node),
-        Event::Put { by: _ } => node.put_refusal(),
-        Event::Take { by: _ } => packet_refusal(node),
-        Event::TakeEnd { by: _ } => link_end_refusal(node),
-        Event::Gain { by: _ } => grant_refusal(node),
-        Event::Stop { by: _ } => stop_refusal(node),
-        Event::Pick { by: _ } => node.pick_refusal(),
-        Event::Mark { by: _, dead: _ }
-        | Event::Refresh { by: _, view: _ }
-        | Event::Admit { by: _, name: _ }
-        | Event::Erase { by: _, origin: _ }
-        | Event::Refuse { code: _, inner: _ }
-        | Event::Publish { .. }
-        | Event::Get { .. }
-        | Event::Pop { .. }
-        | Event::Ack { .. }
-        | Event::Requeue { .. }
-        | Event::Depth { .. }
-        | Event::Start { .. }
-        | Event::Synced { .. } => None,
+    match step {
+        LinkStep::Pick => node.pick_refusal(),
+        LinkStep::Take => packet_refusal(node),
+        LinkStep::TakeEnd => link_end_refusal(node),
+        LinkStep::Gain => grant_refusal(node),
+        LinkStep::Put => node.put_refusal(),
+    }
+}
+
+/// Why a member doesn't do what makes no view, where this is the newest; of a pick, by its door alone.
+pub(crate) fn own_refusal(view: &View, node: &Node, event: &Event) -> Option<Reason>
+    requires { (shown_of node.now).held.asks ≡ false }
+    ensures { result ≡ own_refused view.now (kind_of event.now) (shown_of node.now) }
+{
+    match event.kind() {
+        Kind::Says => up_refusal(node),
+        Kind::Links(step) => own_step_refusal(node, step),
+        Kind::Changes(_) => None,
+        Kind::Stops => stop_refusal(node),
+        Kind::Reads(version) => look_refusal(node, view.version, version),
+        Kind::Tells => telling_refusal(view, node, event),
     }
 }
 
@@ -287,13 +289,13 @@ impl Parties {
     ghost use Rattle.std.specs.Prelude.{◌≡◌, ◌<◌, ℕ, List, None, length};
     ghost use Rattle.ring_names.specs.declared.reason.Reason.{Reason};
     ghost use Rattle.ring_rules.specs.declared.event.Event.TheVariants.{Mark, Erase};
+    ghost use Rattle.ring_rules.specs.Kind.{Changes, step_event};
     ghost use Rattle.ring_rules.specs.Event.{version_refusal};
     ghost use Rattle.gm_member.specs.Held.{on_some, up_refused, pick_refused};
     ghost use Rattle.gm_member.specs.Questions.{has_link};
     ghost use Rattle.ring_parties.specs.Parties.{shown_of, node_at};
     ghost use Rattle.ring_parties.specs.Standing.{StandSomewhere};
-    ghost use Rattle.ring_parties.specs.Refused.{first_for, with_post, IsRefusalAt};
-    ghost use Rattle.ring_parties.specs.OwnSteps.{step_event};
+    ghost use Rattle.ring_parties.specs.Refused.{first_for, with_post, IsRefusalAt, IsRefusedAs};
 
     /// Why the event of the member at a place is refused, where it is: the first condition that fails. Links that wait
     /// for the member count as if they had come to its door. An event of the queue is none of the parties yet, which keep
@@ -303,48 +305,38 @@ impl Parties {
         requires standing { StandSomewhere (self.now).all }
         ensures { IsRefusalAt i event.now (self.now).all result }
     {
-        let node = &self.members[i].node;
-        match event {
-            Event::Mark { by: _, dead } => self.mark_refusal(i, dead),
-            Event::Erase { by: _, origin } => self.erase_refusal(i, origin),
-            Event::Refresh { by: _, view } => {
-                look_refusal(node, self.registrar.view().version, *view)
+        match event.kind() {
+            Kind::Changes(change) => self.change_refusal(i, change),
+            Kind::Links(step) => self.step_refusal(i, step),
+            _ => own_refusal(self.registrar.view(), &self.members[i].node, event),
+        }
+    }
+
+    /// Why the member at a place doesn't have the view changed, likewise.
+    fn change_refusal(&self, i: usize, change: ViewChange) -> Option<Reason>
+        requires within { i < length (self.now).all.nodes }
+        requires standing { StandSomewhere (self.now).all }
+        ensures { IsRefusedAs i (Changes change) (self.now).all result }
+    {
+        match change {
+            ViewChange::Mark(dead) => self.mark_refusal(i, &dead),
+            ViewChange::Erase(origin) => self.erase_refusal(i, &origin),
+            ViewChange::Admit(name) => {
+                admit_refusal(self.registrar.view(), &self.members[i].node, &name)
             }
-            Event::Refuse { code, inner } => {
-                telling_refusal(self.registrar.view(), node, *code, inner)
-            }
-            Event::Pick { by: _ } => self.pick_refusal(i),
-            Event::Cast { by: _, body: _ }
-            | Event::Put { by: _ }
-            | Event::Take { by: _ }
-            | Event::TakeEnd { by: _ }
-            | Event::Gain { by: _ }
-            | Event::Stop { by: _ } => alone_refusal(node, event),
-            Event::Admit { by: _, name } => admit_refusal(self.registrar.view(), node, name),
-            Event::Publish { .. }
-            | Event::Get { .. }
-            | Event::Pop { .. }
-            | Event::Ack { .. }
-            | Event::Requeue { .. }
-            | Event::Depth { .. }
-            | Event::Start { .. }
-            | Event::Synced { .. } => None,
+            ViewChange::Register => None,
         }
     }
 
     /// Why the member at a place doesn't do a step on its links, likewise.
-    pub fn step_refusal(&self, i: usize, step: OwnStep) -> Option<Reason>
+    pub fn step_refusal(&self, i: usize, step: LinkStep) -> Option<Reason>
         requires within { i < length (self.now).all.nodes }
         requires standing { StandSomewhere (self.now).all }
         ensures { (by : List ℕ) → IsRefusalAt i (step_event step by) (self.now).all result }
     {
-        let node = &self.members[i].node;
         match step {
-            OwnStep::Pick => self.pick_refusal(i),
-            OwnStep::Take => packet_refusal(node),
-            OwnStep::TakeEnd => link_end_refusal(node),
-            OwnStep::Gain => grant_refusal(node),
-            OwnStep::Put => node.put_refusal(),
+            LinkStep::Pick => self.pick_refusal(i),
+            _ => own_step_refusal(&self.members[i].node, step),
         }
     }
 

@@ -15,11 +15,11 @@ use Rattle.group_view.specs.View.{Group, entry_in}
 use Rattle.group_view.specs.Change.{AreOpeningNames, opening_entry, opening_entries}
 use Rattle.ring_rules.specs.declared.numbers.Numbers.{Numbers}
 use Rattle.ring_rules.specs.declared.event.Event.{Event}
-use Rattle.ring_rules.specs.declared.event.Event.TheVariants.{Cast, Publish, Get, Pop, Ack, Requeue, Depth, Start}
+use Rattle.ring_rules.specs.Kind.{Saying, Own, OfQueue, Says, kind_of}
 use Rattle.ring_rules.specs.Rows.{Row, brought}
 use Rattle.ring_rules.specs.Machine.{World, Member, no_member, row_at, numbers_at, member_at, link_at, view_in, newest, right, oldest}
 use Rattle.ring_rules.specs.Step.{size, log_of, published, publish_at, is_owned, brought_at, taker, take_from, begun, with_current, stopped, moved_to, look_at, open_to, joiner, come_to, opening}
-use Rattle.ring_rules.specs.Event.{is_multicast, by_of, id_of, at_found, done_at, effect, IsRun, last}
+use Rattle.ring_rules.specs.Event.{is_multicast, is_multicast_kind, by_of, id_of, at_found, said, done_as, done_at, effect, IsRun, last}
 use Rattle.ring_rules.proofs.rings.Lists.{get_or_beyond}
 use Rattle.ring_rules.proofs.events.First.{first_each, first_size, first_log}
 use Rattle.ring_rules.proofs.events.Leaves.{member_leaves, come_each}
@@ -31,7 +31,7 @@ use Rattle.ring_rules.proofs.invariants.Newest.{NewestAfter, newest_stays, newes
 use Rattle.ring_rules.proofs.queue.Likes.{flat_nil}
 use Rattle.ring_rules.proofs.queue.Views.{remarked_synced, registered_synced, admitted_synced, synced_there}
 use Rattle.ring_rules.proofs.runs.OwnLogs.{take_log, come_log}
-use Rattle.ring_rules.proofs.runs.Published.{found_keeps, done_keeps}
+use Rattle.ring_rules.proofs.runs.Published.{KindStep, keeps_all, says_one, kind_step}
 use Rattle.ring_report.specs.Unused.{QueueIsUnused}
 
 -- ---- logs
@@ -42,19 +42,19 @@ IsSilent w = (p : ℕ) → ops (log_of w p) ≡ []
 
 -- no event of the ring alone does
 event_silent : (w : World) (e : Event) → is_multicast e ≡ true → IsSilent w → IsSilent (effect w e)
-event_silent w (Cast by body) m h p = by_found (id_of w by)
+event_silent w e m h p = by_id (id_of w (by_of e))
   where
-    by_found : (o : Option ℕ) → ops (log_of (at_found o w (done_at w (Cast by body))) p) ≡ []
-    by_found None = h p
-    by_found (Some x) = member_leaves (λ _ a b. ops a.log ≡ [] → ops b.log ≡ []) w x (published x (message.Cast body) (member_at w x)) (λ k. ops_push (log_of w x) (message.Cast body) ∙ ap (λ os. os ++ []) k) (λ _ k. k) p (h p)
-event_silent w (Publish by body) m h p = absurd (false≢true m)
-event_silent w (Get by) m h p = absurd (false≢true m)
-event_silent w (Pop by) m h p = absurd (false≢true m)
-event_silent w (Ack by at) m h p = absurd (false≢true m)
-event_silent w (Requeue by at) m h p = absurd (false≢true m)
-event_silent w (Depth by) m h p = absurd (false≢true m)
-event_silent w (Start by) m h p = absurd (false≢true m)
-event_silent w e m h p = ap ops ((found_keeps w (id_of w (by_of e)) (done_at w e) (λ y. done_keeps w e y refl)).log p) ∙ h p
+    by_id : (o : Option ℕ) → ops (log_of (at_found o w (done_at w e)) p) ≡ []
+    by_id None = h p
+    by_id (Some x) = by_step (kind_step w x (kind_of e))
+      where
+        by_saying : (s : Saying) → is_multicast_kind (Says s) ≡ true → ops (log_of (said w x s) p) ≡ []
+        by_saying (Own body) own = member_leaves (λ _ a b. ops a.log ≡ [] → ops b.log ≡ []) w x (published x (message.Cast body) (member_at w x)) (λ k. ops_push (log_of w x) (message.Cast body) ∙ ap (λ os. os ++ []) k) (λ _ k. k) p (h p)
+        by_saying (OfQueue q) own = absurd (false≢true own)
+
+        by_step : KindStep w x (kind_of e) → ops (log_of (done_as w x (kind_of e)) p) ≡ []
+        by_step (keeps_all kept nothing) = ap ops (kept.log p) ∙ h p
+        by_step (says_one s same) = subst (λ k. ops (log_of (done_as w x k) p) ≡ []) (sym same) (by_saying s (ap is_multicast_kind (sym same) ∙ m))
 
 run_silent : (w : World) (es : List Event) → list_all is_multicast es ≡ true → IsSilent w → IsSilent (last w es)
 run_silent w [] all h = h

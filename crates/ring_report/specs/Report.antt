@@ -12,8 +12,6 @@ use Rattle.group_view.specs.declared.entry.Entry.{Entry}
 use Rattle.group_view.specs.declared.entry.Mark.{Mark}
 use Rattle.group_view.specs.declared.entry.Mark.TheVariants.{Live, Dead, Erased}
 use Rattle.group_view.specs.View.{Group, entry_in}
-use Rattle.ring_rules.specs.declared.event.Client.{Client}
-use Rattle.ring_rules.specs.declared.event.Client.TheVariants as client
 use Rattle.ring_rules.specs.declared.event.Event.{Event}
 use Rattle.ring_rules.specs.declared.event.Event.TheVariants.{Refuse}
 use Rattle.ring_rules.specs.declared.shown.MemberState.{MemberState}
@@ -23,6 +21,10 @@ use Rattle.ring_rules.specs.Machine.{World, member_at, row_at, view_in, newest}
 use Rattle.ring_rules.specs.Step.{size}
 use Rattle.ring_rules.specs.Event.{by_of}
 use Rattle.ring_rules.specs.Asked.{counts_of, state_of}
+use Rattle.ring_script.specs.declared.vocabulary.Further.{Further}
+use Rattle.ring_script.specs.declared.vocabulary.Further.TheVariants as further
+use Rattle.ring_script.specs.declared.vocabulary.Phrase.{Phrase}
+use Rattle.ring_script.specs.Vocabulary.{text_of, asked_phrase}
 
 -- the name of the member of an id
 abbrev pub name_of : World → ℕ → List ℕ
@@ -129,20 +131,21 @@ while_up state.Waiting lines = []
 while_up (state.Up missing) lines = lines
 while_up state.Stopped lines = []
 
--- what a client asked for, in the words of a step file
-abbrev pub asked_text : Client → List ℕ
-asked_text (client.Cast by body) = codes "cast " ++ by ++ codes " " ++ body
-asked_text (client.Publish by body) = codes "publish " ++ by ++ codes " " ++ body
-asked_text (client.Get by) = codes "get " ++ by
-asked_text (client.Pop by) = codes "pop " ++ by
-asked_text (client.Ack by at) = codes "ack " ++ by ++ codes " " ++ decimal at.0
-asked_text (client.Requeue by at) = codes "requeue " ++ by ++ codes " " ++ decimal at.0
-asked_text (client.Stop by) = codes "stop " ++ by
-asked_text (client.Admit by name) = codes "admit " ++ by ++ codes " " ++ name
+-- what stands behind the member's name, if anything does, behind a space
+abbrev pub further_text : Further → List ℕ
+further_text further.Nothing = []
+further_text (further.Body body) = codes " " ++ body
+further_text (further.Name name) = codes " " ++ name
+further_text (further.Position at) = codes " " ++ decimal at.0
+further_text (further.Version version) = codes " " ++ decimal version
+
+-- a phrase, in the words of a step file
+abbrev pub phrase_text : Phrase → List ℕ
+phrase_text p = text_of p.word ++ codes " " ++ p.by ++ further_text p.further
 
 -- the line of a refusal: its number, and what was refused
 abbrev pub refusal_line : Event → List ℕ
-refusal_line (Refuse code inner) = codes "refused " ++ decimal code ++ codes " " ++ asked_text inner ++ newline
+refusal_line (Refuse code inner) = codes "refused " ++ decimal code ++ codes " " ++ phrase_text (asked_phrase inner) ++ newline
 refusal_line e = []
 
 -- the lines of those among refusals that are of the member of this name, in their order

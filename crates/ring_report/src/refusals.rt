@@ -3,10 +3,12 @@ ghost use Rattle.std.specs.Prelude.{◌≡◌, ◌∷◌, ◌++◌, [], IfOk, On
 ghost use Rattle.std.specs.Fmt.{decimal};
 ghost use Rattle.ring_rules.specs.Event.{refusals_of};
 ghost use Rattle.ring_report.specs.Lent.{lent_in};
-ghost use Rattle.ring_report.specs.Report.{asked_text, refusal_line, refusal_lines};
+ghost use Rattle.ring_script.specs.Vocabulary.{asked_phrase};
+ghost use Rattle.ring_report.specs.Report.{further_text, phrase_text, refusal_line, refusal_lines};
 
-use ring_names::{Name, OutOfMemory, Position};
+use ring_names::{Name, OutOfMemory};
 use ring_rules::{Client, Event};
+use ring_script::{Further, Phrase};
 use std::alloc::Global;
 
 /// The refusals among these events, in their order, and lent: what `push_refusals` wants of a journal.
@@ -98,49 +100,41 @@ fn push_refused(
 
 /// What a client asked for, in the words of a step file.
 fn push_asked(alloc: Global, out: &mut Vec<u8>, inner: &Client) -> Result<(), OutOfMemory>
-    ensures { OnOk result (out.new.items ≡ out.old.items ++ asked_text inner.now) }
+    ensures { OnOk result (out.new.items ≡ out.old.items ++ phrase_text (asked_phrase inner.now)) }
 {
-    match inner {
-        Client::Cast { by, body } => push_two(out, b"cast ", by, body.bytes()),
-        Client::Publish { by, body } => push_two(out, b"publish ", by, body.bytes()),
-        Client::Get { by } => push_one(out, b"get ", by),
-        Client::Pop { by } => push_one(out, b"pop ", by),
-        Client::Ack { by, at } => push_at(alloc, out, b"ack ", by, *at),
-        Client::Requeue { by, at } => push_at(alloc, out, b"requeue ", by, *at),
-        Client::Stop { by } => push_one(out, b"stop ", by),
-        Client::Admit { by, name } => push_two(out, b"admit ", by, name.bytes()),
+    let Phrase { word, by, further } = Phrase::of_client(inner)?;
+    out.extend_from_slice(word.text())?;
+    out.extend_from_slice(b" ")?;
+    out.extend_from_slice(by.bytes())?;
+    push_further(alloc, out, &further)
+}
+
+/// What stands behind the member's name.
+fn push_further(alloc: Global, out: &mut Vec<u8>, further: &Further) -> Result<(), OutOfMemory>
+    ensures { OnOk result (out.new.items ≡ out.old.items ++ further_text further.now) }
+{
+    match further {
+        Further::Nothing => Ok(()),
+        Further::Body(body) => push_word(out, body.bytes()),
+        Further::Name(name) => push_word(out, name.bytes()),
+        Further::Position(at) => push_number(alloc, out, at.0),
+        Further::Version(version) => push_number(alloc, out, *version as u64),
     }
 }
 
-/// A word and a name.
-fn push_one(out: &mut Vec<u8>, word: &[u8], by: &Name) -> Result<(), OutOfMemory>
-    ensures { OnOk result (out.new.items ≡ out.old.items ++ (word.now ++ by.now)) }
+/// A word behind a space.
+fn push_word(out: &mut Vec<u8>, word: &[u8]) -> Result<(), OutOfMemory>
+    ensures { OnOk result (out.new.items ≡ out.old.items ++ codes " " ++ word.now) }
 {
-    out.extend_from_slice(word)?;
-    out.extend_from_slice(by.bytes())?;
-    Ok(())
-}
-
-/// A word, a name, and further bytes behind a space.
-fn push_two(out: &mut Vec<u8>, word: &[u8], by: &Name, further: &[u8]) -> Result<(), OutOfMemory>
-    ensures { OnOk result (out.new.items ≡ out.old.items ++ (word.now ++ by.now ++ codes " " ++ further.now)) }
-{
-    push_one(out, word, by)?;
     out.extend_from_slice(b" ")?;
-    out.extend_from_slice(further)?;
+    out.extend_from_slice(word)?;
     Ok(())
 }
 
-/// A word, a name, and a position behind a space.
-fn push_at(
-    alloc: Global,
-    out: &mut Vec<u8>,
-    word: &[u8],
-    by: &Name,
-    at: Position,
-) -> Result<(), OutOfMemory>
-    ensures { OnOk result (out.new.items ≡ out.old.items ++ (word.now ++ by.now ++ codes " " ++ decimal at.0)) }
+/// A number behind a space.
+fn push_number(alloc: Global, out: &mut Vec<u8>, number: u64) -> Result<(), OutOfMemory>
+    ensures { OnOk result (out.new.items ≡ out.old.items ++ codes " " ++ decimal number) }
 {
-    let place = format!(in alloc; "{}", at.0)?;
-    push_two(out, word, by, place.as_bytes())
+    let digits = format!(in alloc; "{number}")?;
+    push_word(out, digits.as_bytes())
 }

@@ -16,6 +16,7 @@ pub mod Linked
 pub mod Marked
 pub mod Moves
 pub mod Named
+pub mod NeverSent
 pub mod Newest
 pub mod Opening
 pub mod Ordered

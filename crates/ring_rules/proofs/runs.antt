@@ -16,6 +16,8 @@ pub mod Leads
 pub mod Lines
 pub mod LinesKept
 pub mod LinkCredit
+pub mod LinksStand
+pub mod LongerWalk
 pub mod NeverFalls
 pub mod NoGap
 pub mod OpenExamples

@@ -25,6 +25,11 @@ pub use Rattle.ring_rules.specs.declared.event.Event.{Event}
 pub use Rattle.ring_rules.specs.declared.event.Event.TheVariants.{Cast, Publish, Get, Pop, Ack, Requeue, Depth, Start, Put, Take, TakeEnd, Gain, Stop, Mark, Refresh, Admit, Pick, Erase, Synced, Refuse}
 use Rattle.ring_rules.specs.declared.event.Client.{Client}
 use Rattle.ring_rules.specs.declared.event.Client.TheVariants as client
+pub use Rattle.ring_rules.specs.Kind.{QueueSaying, Publishes, Does, Saying, Own, OfQueue, Kind, Says, Steps, Changes, Stops, Reads, Tells, kind_of}
+use Rattle.ring_rules.specs.declared.kind.Asking.{Asking}
+use Rattle.ring_rules.specs.declared.kind.Asking.TheVariants as asking
+use Rattle.ring_rules.specs.declared.kind.LinkStep.TheVariants as step
+use Rattle.ring_rules.specs.declared.kind.ViewChange.TheVariants as change
 
 -- ---- conditions
 
@@ -192,21 +197,29 @@ refreshed w x v = send_to (look_at w x v) x (right_of (view_in w v) x) (member_a
 
 -- ---- the queue
 
--- the operation that an event publishes, by the mirror of its member x, by x's view, and by whether x has started; or the
--- first condition that fails
-abbrev pub asked_op : MirrorState → Group → ℕ → Bool → Event → Result Op Reason
-asked_op m g x started (Publish by body) = or_refused (lead_refusal g x started) (Ok (op.Publish (as_position m.queue.next) body))
-asked_op m g x started (Get by) = get_of m g x started
-asked_op m g x started (Pop by) = pop_of m g x started
-asked_op m g x started (Ack by at) = ack_of m g x started at
-asked_op m g x started (Requeue by at) = requeue_of m g x started at
-asked_op m g x started (Depth by) = depth_of m g x started
-asked_op m g x started (Start by) = start_of m g x started
-asked_op m g x started e = Err reason.NotMaster
+-- the operation by which the member x does it, by its mirror, by its view, and by whether it has started; or the first
+-- condition that fails
+abbrev pub asked_op : MirrorState → Group → ℕ → Bool → QueueSaying → Result Op Reason
+asked_op m g x started (Publishes body) = or_refused (lead_refusal g x started) (Ok (op.Publish (as_position m.queue.next) body))
+asked_op m g x started (Does asking.Get) = get_of m g x started
+asked_op m g x started (Does asking.Pop) = pop_of m g x started
+asked_op m g x started (Does (asking.Ack at)) = ack_of m g x started at
+asked_op m g x started (Does (asking.Requeue at)) = requeue_of m g x started at
+asked_op m g x started (Does asking.Depth) = depth_of m g x started
+asked_op m g x started (Does asking.Start) = start_of m g x started
 
 -- the same in a state
+abbrev pub op_as : World → ℕ → QueueSaying → Result Op Reason
+op_as w x q = asked_op (member_at w x).mirror (view_in w (member_at w x).version) x (member_at w x).started q
+
+-- and of an event of this kind; no other does anything to a queue
+abbrev pub op_by : World → ℕ → Kind → Result Op Reason
+op_by w x (Says (OfQueue q)) = op_as w x q
+op_by w x k = Err reason.NotMaster
+
+-- of an event
 abbrev pub op_at : World → Event → ℕ → Result Op Reason
-op_at w e x = asked_op (member_at w x).mirror (view_in w (member_at w x).version) x (member_at w x).started e
+op_at w e x = op_by w x (kind_of e)
 
 -- why it isn't published
 abbrev pub op_refusal : Result Op Reason → Option Reason
@@ -218,10 +231,31 @@ abbrev pub op_done : World → ℕ → Result Op Reason → World
 op_done w x (Ok o) = publish_at w x (message.Queue o)
 op_done w x (Err r) = w
 
--- a member may publish anything of its own, and to the queue what an event of it publishes
+-- ---- what a member says
+
+-- an operation as a message
+abbrev pub queue_message : Result Op Reason → Result Message Reason
+queue_message (Ok o) = Ok (message.Queue o)
+queue_message (Err r) = Err r
+
+-- the message that it publishes, or the first condition that fails
+abbrev pub message_of : World → ℕ → Saying → Result Message Reason
+message_of w x (Own body) = Ok (message.Cast body)
+message_of w x (OfQueue q) = queue_message (op_as w x q)
+
+-- that condition
+abbrev pub saying_refusal : World → ℕ → Saying → Option Reason
+saying_refusal w x (Own body) = None
+saying_refusal w x (OfQueue q) = op_refusal (op_as w x q)
+
+-- it is published
+abbrev pub said : World → ℕ → Saying → World
+said w x (Own body) = publish_at w x (message.Cast body)
+said w x (OfQueue q) = op_done w x (op_as w x q)
+
+-- a member may publish what it may say
 abbrev pub MayPublish : World → ℕ → Message → Type 0
-MayPublish w x (message.Cast body) = ⊤
-MayPublish w x (message.Queue o) = (e : Event) × (op_at w e x ≡ Ok o)
+MayPublish w x m = (s : Saying) × (message_of w x s ≡ Ok m)
 
 -- ---- events
 
@@ -277,79 +311,89 @@ is_asked_multicast (client.Stop by) = true
 is_asked_multicast (client.Admit by name) = true
 is_asked_multicast c = false
 
--- whether a client asks for it; the others a member does by itself
+-- whether a client asks for what a master says of its queue; else the master does it by itself
+abbrev pub is_asked_of_master : QueueSaying → Bool
+is_asked_of_master (Does asking.Depth) = false
+is_asked_of_master (Does asking.Start) = false
+is_asked_of_master q = true
+
+-- whether a client asks for an event of this kind; the others a member does by itself
+abbrev pub is_asked_kind : Kind → Bool
+is_asked_kind (Says (Own body)) = true
+is_asked_kind (Says (OfQueue q)) = is_asked_of_master q
+is_asked_kind Stops = true
+is_asked_kind (Changes (change.Admit name)) = true
+is_asked_kind (Tells code inner) = true
+is_asked_kind k = false
+
+-- for an event
 abbrev pub is_asked : Event → Bool
-is_asked (Cast by body) = true
-is_asked (Publish by body) = true
-is_asked (Get by) = true
-is_asked (Pop by) = true
-is_asked (Ack by at) = true
-is_asked (Requeue by at) = true
-is_asked (Stop by) = true
-is_asked (Admit by name) = true
-is_asked (Refuse code inner) = true
-is_asked e = false
+is_asked e = is_asked_kind (kind_of e)
 
--- whether the event is one of the ring alone, and not of the queue that stands on it
+-- whether a kind is of the ring alone, and not of the queue that stands on it
+abbrev pub is_multicast_kind : Kind → Bool
+is_multicast_kind (Says (OfQueue q)) = false
+is_multicast_kind (Changes change.Register) = false
+is_multicast_kind (Tells code inner) = is_asked_multicast inner
+is_multicast_kind k = true
+
+-- whether an event is
 abbrev pub is_multicast : Event → Bool
-is_multicast (Publish by body) = false
-is_multicast (Get by) = false
-is_multicast (Pop by) = false
-is_multicast (Ack by at) = false
-is_multicast (Requeue by at) = false
-is_multicast (Depth by) = false
-is_multicast (Start by) = false
-is_multicast (Synced by) = false
-is_multicast (Refuse code inner) = is_asked_multicast inner
-is_multicast e = true
+is_multicast e = is_multicast_kind (kind_of e)
 
--- whether the registrar has a part in it: it hears of a stop, and makes the view of a mark, an admission, an erasure and a registration
+-- whether the registrar has a part in it: it hears of a stop, and makes the view of a change
+abbrev pub is_registered_kind : Kind → Bool
+is_registered_kind Stops = true
+is_registered_kind (Changes c) = true
+is_registered_kind k = false
+
+-- in an event
 abbrev pub is_registered : Event → Bool
-is_registered (Stop by) = true
-is_registered (Mark by dead) = true
-is_registered (Admit by name) = true
-is_registered (Erase by origin) = true
-is_registered (Synced by) = true
-is_registered e = false
+is_registered e = is_registered_kind (kind_of e)
 
 -- whether only a member that is up does it; else one that waits does it too
+abbrev pub is_for_up_kind : Kind → Bool
+is_for_up_kind (Steps step.Take) = false
+is_for_up_kind (Steps step.TakeEnd) = false
+is_for_up_kind Stops = false
+is_for_up_kind k = true
+
+-- such an event
 abbrev pub is_for_up : Event → Bool
-is_for_up (Take by) = false
-is_for_up (TakeEnd by) = false
-is_for_up (Stop by) = false
-is_for_up e = true
+is_for_up e = is_for_up_kind (kind_of e)
 
 -- the conditions on the phase of the acting member, and then the others
 abbrev pub phase_refusal : Bool → World → ℕ → Option Reason → Option Reason
 phase_refusal true w x later = up_refusal w x later
 phase_refusal false w x later = running_refusal w x later
 
--- these others, of an event of member x; a refusal has none
-abbrev pub further_refusal : World → Event → ℕ → Option Reason
-further_refusal w (Cast by body) x = None
-further_refusal w (Publish by body) x = op_refusal (op_at w (Publish by body) x)
-further_refusal w (Get by) x = op_refusal (op_at w (Get by) x)
-further_refusal w (Pop by) x = op_refusal (op_at w (Pop by) x)
-further_refusal w (Ack by at) x = op_refusal (op_at w (Ack by at) x)
-further_refusal w (Requeue by at) x = op_refusal (op_at w (Requeue by at) x)
-further_refusal w (Depth by) x = op_refusal (op_at w (Depth by) x)
-further_refusal w (Start by) x = op_refusal (op_at w (Start by) x)
-further_refusal w (Put by) x = on_link (member_at w x).out reason.NoOutLink (put_refusal w x)
-further_refusal w (Take by) x = on_link (member_at w x).current reason.NoCurrentLink (take_refusal w x)
-further_refusal w (TakeEnd by) x = on_link (member_at w x).current reason.NoCurrentLink (end_refusal w)
-further_refusal w (Gain by) x = on_link (member_at w x).out reason.NoOutLink (gain_refusal w)
-further_refusal w (Stop by) x = None
-further_refusal w (Mark by dead) x = of_member (id_of w dead) (mark_refusal w x)
-further_refusal w (Refresh by version) x = refresh_refusal w x version
-further_refusal w (Admit by name) x = admit_refusal w name
-further_refusal w (Pick by) x = or_else (refuse_if (is_some (member_at w x).current) reason.HasCurrentLink) (pick_refusal w x)
-further_refusal w (Erase by origin) x = of_member (id_of w origin) (erase_refusal w x)
-further_refusal w (Synced by) x = synced_refusal w x
-further_refusal w (Refuse code inner) x = None
+-- these others, of an event of this kind of member x; a refusal has none
+abbrev pub further_as : World → ℕ → Kind → Option Reason
+further_as w x (Says s) = saying_refusal w x s
+further_as w x (Steps step.Put) = on_link (member_at w x).out reason.NoOutLink (put_refusal w x)
+further_as w x (Steps step.Take) = on_link (member_at w x).current reason.NoCurrentLink (take_refusal w x)
+further_as w x (Steps step.TakeEnd) = on_link (member_at w x).current reason.NoCurrentLink (end_refusal w)
+further_as w x (Steps step.Gain) = on_link (member_at w x).out reason.NoOutLink (gain_refusal w)
+further_as w x (Steps step.Pick) = or_else (refuse_if (is_some (member_at w x).current) reason.HasCurrentLink) (pick_refusal w x)
+further_as w x (Changes (change.Mark dead)) = of_member (id_of w dead) (mark_refusal w x)
+further_as w x (Changes (change.Erase origin)) = of_member (id_of w origin) (erase_refusal w x)
+further_as w x (Changes (change.Admit name)) = admit_refusal w name
+further_as w x (Changes change.Register) = synced_refusal w x
+further_as w x Stops = None
+further_as w x (Reads version) = refresh_refusal w x version
+further_as w x (Tells code inner) = None
 
--- the first failing condition of an event that member x does
+-- of an event
+abbrev pub further_refusal : World → Event → ℕ → Option Reason
+further_refusal w e x = further_as w x (kind_of e)
+
+-- the first failing condition of an event of this kind that member x does
+abbrev pub doing_as : World → ℕ → Kind → Option Reason
+doing_as w x k = phase_refusal (is_for_up_kind k) w x (further_as w x k)
+
+-- of an event
 abbrev pub doing_refusal : World → Event → ℕ → Option Reason
-doing_refusal w e x = phase_refusal (is_for_up e) w x (further_refusal w e x)
+doing_refusal w e x = doing_as w x (kind_of e)
 
 -- whether a client is told that the member waits for its state, or hasn't started as master: it isn't, its command stays
 abbrev pub is_passing : Reason → Bool
@@ -362,10 +406,14 @@ abbrev pub is_told : ℕ → Option Reason → Bool
 is_told code None = false
 is_told code (Some r) = nat_eq (code_of r) code && not (is_passing r)
 
--- the first failing condition of an event of member x: a refusal is told only where what the client asked for is refused with its number
+-- the same where a refusal is told: only where what the client asked for is refused with its number
+abbrev pub refused_as : World → ℕ → Kind → Option Reason
+refused_as w x (Tells code inner) = refuse_if (not (is_told code (doing_refusal w (event_of inner) x))) reason.NotRefused
+refused_as w x k = doing_as w x k
+
+-- of an event of member x
 abbrev pub refused_at : World → Event → ℕ → Option Reason
-refused_at w (Refuse code inner) x = refuse_if (not (is_told code (doing_refusal w (event_of inner) x))) reason.NotRefused
-refused_at w e x = doing_refusal w e x
+refused_at w e x = refused_as w x (kind_of e)
 
 -- the first failing condition of an event, if one fails
 abbrev pub refusal : World → Event → Option Reason
@@ -382,28 +430,25 @@ taken_by Waiting w y s = begin_from w y s
 taken_by Up w y s = take_from w y s
 taken_by Stopped w y s = w
 
--- what member x does; a refusal leaves the ring as it is, and stands in the journal
+-- what member x does by an event of this kind; a refusal leaves the ring as it is, and stands in the journal
+abbrev pub done_as : World → ℕ → Kind → World
+done_as w x (Says s) = said w x s
+done_as w x (Steps step.Put) = at_found (member_at w x).out w (put_on w x)
+done_as w x (Steps step.Take) = at_found (member_at w x).current w (taken_by (member_at w x).phase w x)
+done_as w x (Steps step.TakeEnd) = at_found (member_at w x).current w (leave_link w x)
+done_as w x (Steps step.Gain) = at_found (member_at w x).out w (gain_on w)
+done_as w x (Steps step.Pick) = at_found (at_door w x) w (λ s. current_is w x (Some s))
+done_as w x (Changes (change.Mark dead)) = at_found (id_of w dead) w (λ d. refreshed (with_view w (marked (view_in w (newest w)) d)) x (newest w + 1))
+done_as w x (Changes (change.Erase origin)) = at_found (id_of w origin) w (λ p. refreshed (with_view w (erased_view w p)) x (newest w + 1))
+done_as w x (Changes (change.Admit name)) = refreshed (come_to w x name) x (newest w + 1)
+done_as w x (Changes change.Register) = refreshed (with_view w (synced_view w x)) x (newest w + 1)
+done_as w x Stops = end_out Halted (stop_at w x) (member_at w x).out
+done_as w x (Reads version) = refreshed w x version
+done_as w x (Tells code inner) = w
+
+-- by an event
 abbrev pub done_at : World → Event → ℕ → World
-done_at w (Cast by body) x = publish_at w x (message.Cast body)
-done_at w (Publish by body) x = op_done w x (op_at w (Publish by body) x)
-done_at w (Get by) x = op_done w x (op_at w (Get by) x)
-done_at w (Pop by) x = op_done w x (op_at w (Pop by) x)
-done_at w (Ack by at) x = op_done w x (op_at w (Ack by at) x)
-done_at w (Requeue by at) x = op_done w x (op_at w (Requeue by at) x)
-done_at w (Depth by) x = op_done w x (op_at w (Depth by) x)
-done_at w (Start by) x = op_done w x (op_at w (Start by) x)
-done_at w (Put by) x = at_found (member_at w x).out w (put_on w x)
-done_at w (Take by) x = at_found (member_at w x).current w (taken_by (member_at w x).phase w x)
-done_at w (TakeEnd by) x = at_found (member_at w x).current w (leave_link w x)
-done_at w (Gain by) x = at_found (member_at w x).out w (gain_on w)
-done_at w (Stop by) x = end_out Halted (stop_at w x) (member_at w x).out
-done_at w (Mark by dead) x = at_found (id_of w dead) w (λ d. refreshed (with_view w (marked (view_in w (newest w)) d)) x (newest w + 1))
-done_at w (Refresh by version) x = refreshed w x version
-done_at w (Admit by name) x = refreshed (come_to w x name) x (newest w + 1)
-done_at w (Pick by) x = at_found (at_door w x) w (λ s. current_is w x (Some s))
-done_at w (Erase by origin) x = at_found (id_of w origin) w (λ p. refreshed (with_view w (erased_view w p)) x (newest w + 1))
-done_at w (Synced by) x = refreshed (with_view w (synced_view w x)) x (newest w + 1)
-done_at w (Refuse code inner) x = w
+done_at w e x = done_as w x (kind_of e)
 
 -- the state after an event
 abbrev pub effect : World → Event → World

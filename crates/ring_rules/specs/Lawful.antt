@@ -1,10 +1,11 @@
 -- The laws of the ring: of single states, and from one state to the next.
-use Rattle.std.specs.Prelude.{Bool, ◌≡◌, ◌⊎◌, None, ℕ, ◌+◌, ◌-◌, ◌<◌, ◌≤◌, true, Some, slice_index_or, List, [], ◌∷◌, ◌++◌, length, take, max, sum, ⊤}
+use Rattle.std.specs.Prelude.{Bool, ◌≡◌, ◌⊎◌, None, ℕ, ◌+◌, ◌-◌, ◌<◌, ◌≤◌, true, Some, slice_index_or, List, [], ◌∷◌, ◌++◌, length, take, drop, max, sum, ⊤}
 use Rattle.queue_core.specs.declared.message.Message.{Message}
 use Rattle.credit_flow.specs.Link.{oldest as oldest_grant}
 use Rattle.ring_rules.specs.declared.numbers.Numbers.{Numbers}
 use Rattle.ring_rules.specs.Rows.{Row, messages_between, regained}
 use Rattle.group_view.specs.View.{as_id, is_erased}
+use Rattle.group_view.specs.Since.{KeepsSince}
 use Rattle.ring_rules.specs.Machine.{Waiting, Up, Packet, Link, World, no_packet, row_at, numbers_at, member_at, link_at, view_in, newest, runs, oldest}
 use Rattle.ring_rules.specs.OpenLinks.{number, is_open, packets_of}
 use Rattle.ring_rules.specs.Step.{size, log_of}
@@ -58,10 +59,11 @@ pub record CreditIsKept (initial : ℕ) (l : Link) : Type 0 where
 abbrev pub KeepsCredit : ℕ → World → Type 0
 KeepsCredit initial w = (s : ℕ) → s < length w.links → CreditIsKept initial (link_at w s)
 
--- ---- confirmed means everywhere
+-- ---- confirmed
 
--- a message that has come round to its publisher, whether that runs still or has stopped, is at every member that is up, and
--- before the first packet of every member that waits
+-- A message that has come round to its publisher, whether that runs still or has stopped, each member that is up has received,
+-- or counted by its first packet: what was published after its admission it has received. And the first packet of every
+-- member that waits counts it.
 pub record ConfirmedEverywhere (w : World) : Type 0 where
   pub up : (q p : ℕ) → 1 ≤ p → p < size w → (member_at w q).phase ≡ Up → (row_of w p p).forgot ≤ (row_of w q p).got
   pub waits : (q p s : ℕ) → 1 ≤ p → p < size w → (member_at w q).phase ≡ Waiting → (member_at w q).current ≡ Some s → (row_of w p p).forgot ≤ (numbers_at (oldest (link_at w s)) p).got
@@ -102,6 +104,13 @@ pub record LeadsOn (w w' : World) : Type 0 where
   pub rises : (view_in w (newest w)).term ≤ (view_in w' (newest w')).term
   pub stays : (view_in w' (newest w')).term ≡ (view_in w (newest w)).term → ((view_in w' (newest w')).master ≡ (view_in w (newest w)).master) ⊎ ((view_in w' (newest w')).master ≡ None)
   pub gone : (m : ℕ) → 1 ≤ m → m < size w → (view_in w (newest w)).master ≡ Some (as_id m) → ((view_in w' (newest w')).master ≡ (view_in w (newest w)).master) ⊎ (has_erased w' m ≡ true)
+
+-- ---- since
+
+-- In each view of a run, whatever change it came by, each entry has just the version from which its left neighbour has been it.
+-- The views are those from version 1 on: before them stands nobody.
+abbrev pub ViewsKeepSince : World → Type 0
+ViewsKeepSince w = KeepsSince (drop 1 w.views)
 
 -- ---- joining
 
@@ -144,6 +153,13 @@ pub record StandsAt (heard log : List Message) (base k : ℕ) : Type 0 where
 -- of each member and origin
 abbrev pub HearsAllSince : World → Type 0
 HearsAllSince w = (q p k : ℕ) → (row_of w q p).born ≤ k → k < (row_of w q p).got → StandsAt (row_of w q p).heard (log_of w p) (row_of w q p).base k
+
+-- a message that has come round to its publisher stands, at its place, in what each member that is up has heard, where it was
+-- published after that member's admission
+abbrev pub ConfirmedIsHeard : World → Type 0
+ConfirmedIsHeard w =
+    (q p k : ℕ) → 1 ≤ p → p < size w → (member_at w q).phase ≡ Up → (row_of w q p).born ≤ k → k < (row_of w p p).forgot
+    → StandsAt (row_of w q p).heard (log_of w p) (row_of w q p).base k
 
 -- from one state to a later one, what a member hears is what follows in the publisher's log: after what it has got, and from
 -- its base on where it takes its first packet meanwhile

@@ -3,8 +3,10 @@ pub mod Bounded
 pub mod Compact
 pub mod Event
 pub mod Idle
+pub mod Kind
 pub mod Lawful
 pub mod Laws
+pub mod LinksStand
 pub mod Machine
 pub mod Masters
 pub mod NoGap

@@ -6,6 +6,7 @@ ghost use Rattle.group_view.specs.Change.{AreOpeningNames};
 ghost use Rattle.ring_rules.specs.declared.event.Event.{Event};
 ghost use Rattle.ring_rules.specs.Step.{opening};
 ghost use Rattle.ring_rules.specs.Bounded.{IsBounded};
+ghost use Rattle.ring_rules.specs.Compact.{IsCompact};
 ghost use Rattle.ring_rules.specs.Event.{IsRun, last};
 ghost use Rattle.ring_rules.specs.Laws.{IsLawful, GoesOn, IdleIsQuiet};
 ghost use Rattle.ring_rules.specs.QueueLaws.{QueueIsRight, LaterMastersStart};
@@ -18,8 +19,11 @@ ghost use Rattle.ring_rules.specs.Work.{total};
 /// between the members, the numbers for that origin never rise; so no take of a member that is up leaves a gap, but
 /// for origins that the member answers for against the sender; each member has heard of each publisher just its
 /// messages in their order, each once, from a number on that isn't later than its own admission; what has come round
-/// to a publisher, running or stopped, is at every member that is up; and of an erased origin nobody says anything
-/// different.
+/// to a publisher, running or stopped, each member that is up has received, or counted by its first packet, and of
+/// that it has heard all that was published after its admission; of an erased origin nobody says anything different;
+/// each view, also one that an election or a registration made, says of each entry since when its left neighbour has
+/// been it; and the links go from left neighbours to right ones, each in its time, and what is put on them fits into
+/// the walks, as specs/LinksStand.antt says part by part.
 pub fn every_state_is_lawful()
     ensures { (credit : CreditSpec) (names : List (List ℕ)) (events : List Event)
         → AreOpeningNames names → IsRun (opening credit names) events
@@ -34,6 +38,14 @@ pub fn nothing_falls_through_deaths()
         → AreOpeningNames names → IsRun (opening credit names) earlier
         → IsRun (last (opening credit names) earlier) later
         → GoesOn (last (opening credit names) earlier) (last (last (opening credit names) earlier) later) }
+{}
+
+/// In every state that a ring reaches each packet of a link goes on where the one before it ended, and those of its
+/// lines that say something new, taken alone, do all that the packet does. So a member may send these lines alone.
+pub fn packets_may_be_compact()
+    ensures { (credit : CreditSpec) (names : List (List ℕ)) (events : List Event)
+        → AreOpeningNames names → IsRun (opening credit names) events
+        → IsCompact (last (opening credit names) events) }
 {}
 
 /// Where no running member has anything to do, as an event of its own, the ring is quiet: nobody waits, all that was

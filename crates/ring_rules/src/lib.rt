@@ -12,7 +12,8 @@
 //! packet of its own.
 //!
 //! So a message comes round to its publisher, which doesn't receive it again: there the packet's `got` becomes the
-//! publisher's `forgot`. The message is now at every member that is up, and is confirmed. The publisher's next packet
+//! publisher's `forgot`. The message is now confirmed: each member that is up has received it, or, where it was
+//! published before that member's admission, may only have counted it by its first packet. The publisher's next packet
 //! says so. As this acknowledgement passes a member, the message is forgotten there; when it has come round too, the
 //! publisher's `retired` rises, and of the message nothing is left to say. Going round from the publisher past members
 //! and the packets on the links between them, `got` never rises, then `forgot`, then `retired`: that is the walk
@@ -62,6 +63,7 @@
 #![tactic(auto)]
 
 mod event;
+mod kind;
 mod laws;
 mod numbers;
 mod phase;
@@ -69,10 +71,11 @@ mod refused;
 mod shown;
 
 pub use event::{Client, Event};
+pub use kind::{Asking, Kind, LinkStep, ViewChange};
 pub use laws::{
     an_idle_ring_is_quiet, each_step_of_repair_leaves_less_to_do, every_number_is_bounded,
     every_queue_is_right, every_ring_settles, every_state_is_lawful, later_masters_start_first,
-    nothing_falls_through_deaths,
+    nothing_falls_through_deaths, packets_may_be_compact,
 };
 pub use numbers::{Numbers, numbers_at};
 pub use phase::{Ending, Phase};

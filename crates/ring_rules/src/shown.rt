@@ -5,7 +5,7 @@ ghost use Rattle.ring_rules.specs.Shown.{is_cast as cast_is, is_publish as publi
 use queue_core::{Message, Op};
 
 /// How many messages of its own a member has published, by kind, and how many of them have come
-/// round, so that every member that is up has them.
+/// round: these each member that is up has received, or counted by its first packet.
 #[derive(Clone, Copy, PartialEq, Eq, Debug)]
 pub struct Counts {
     /// The casts in its log.

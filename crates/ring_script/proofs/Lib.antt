@@ -1,4 +1,5 @@
 pub mod FirstWord
+pub mod ReadBack
 pub mod Numbers
 pub mod FirstLine
 pub mod Bodies
@@ -6,6 +7,7 @@ pub mod Taking
 pub mod Lines
 pub mod Walk
 pub mod Fitting
+pub mod Phrases
 pub mod Playable
 pub mod Names
 pub mod Exact

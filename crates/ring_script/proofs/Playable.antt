@@ -1,6 +1,6 @@
 -- What a text spells as a script can be played; a ring can open with the members of a step file, and its events are of the
 -- ring alone.
-use Rattle.std.proofs.Common.{◌≡◌, ℕ, zero, suc, ◌+◌, ◌*◌, ◌≤◌, Bool, true, false, ◌&&◌, ◌==◌, not, nat_le, nat_lt, is_some, unwrap_or, List, [], ◌∷◌, ◌++◌, Option, Some, None, length, get_or, map, refl, sym, ap, subst, ◌∙◌, if◌then◌else◌, arith}
+use Rattle.std.proofs.Common.{◌≡◌, ℕ, zero, suc, ◌+◌, ◌*◌, ◌≤◌, Bool, true, false, ◌&&◌, ◌==◌, not, nat_le, nat_lt, is_some, unwrap_or, List, [], ◌∷◌, ◌++◌, Option, Some, None, length, get_or, map, refl, sym, ap, subst, ◌∙◌, if◌then◌else◌, option_and_then, codes, bytes_eq, arith}
 use Rattle.std.specs.List.{list_all, Contains}
 use Rattle.std.specs.Str.Parse.{digits_value, digits_value_after}
 use Rattle.std.specs.Char.{digit_value}
@@ -14,25 +14,24 @@ use Rattle.ring_rules.specs.declared.event.Event.{Event}
 use Rattle.ring_rules.specs.Event.{is_multicast, is_asked_multicast}
 use Rattle.ring_script.specs.declared.fault.Kind.{Kind}
 use Rattle.ring_script.specs.declared.fault.Kind.TheVariants.{UnknownName, BodyTooLong, BadNumber}
-use Rattle.ring_script.specs.declared.steps.ClientWord.{ClientWord}
-use Rattle.ring_script.specs.declared.steps.ClientWord.TheVariants as asks
-use Rattle.ring_script.specs.declared.steps.EventWord.{EventWord}
-use Rattle.ring_script.specs.declared.steps.EventWord.TheVariants as begins
-use Rattle.ring_script.specs.declared.steps.OwnStep.{OwnStep}
-use Rattle.ring_script.specs.declared.steps.OwnStep.TheVariants as own
 use Rattle.ring_script.specs.declared.script.Keyword.{Keyword}
-use Rattle.ring_script.specs.declared.script.Keyword.TheVariants.{Cast, Join, Kill, Go, Settle}
+use Rattle.ring_script.specs.declared.script.Keyword.TheVariants.{Asks, Go, Settle}
 use Rattle.ring_script.specs.declared.line.Head.{Head}
 use Rattle.ring_script.specs.declared.line.Head.TheVariants as head
 use Rattle.ring_script.specs.declared.command.Command.{Command}
 use Rattle.ring_script.specs.declared.text.Text.{Text}
+use Rattle.ring_script.specs.declared.vocabulary.Word.{Word}
+use Rattle.ring_script.specs.declared.vocabulary.Word.TheVariants as word
 use Rattle.ring_script.specs.Words.{lines_of, words_of, first_word, behind_word, is_text_byte, is_digit, is_number, number_of, has_byte}
-use Rattle.ring_script.specs.Line.{operand_in, second_in, body_in, is_name, is_among, head_in, one_word, two_words, name_fault, known_fault, further_fault, number_fault, body_fault, cast_fault}
-use Rattle.ring_script.specs.Script.{keyword_of, join_fault, command_fault, script_grammar, command_by, command_of, joined_by, joined, most_turns}
-use Rattle.ring_script.specs.Steps.{step_grammar, client_word_of, event_word_of, own_event, client_by, event_by, event_of}
+use Rattle.ring_script.specs.Line.{operand_in, second_in, body_in, is_name, is_among, head_in, one_word, name_fault, known_fault, further_fault, number_fault, body_fault}
+use Rattle.ring_script.specs.Vocabulary.{word_of, shape_of}
+use Rattle.ring_script.specs.Phrase.{phrase_fault}
+use Rattle.ring_script.specs.Script.{keyword_of, command_fault, script_grammar, command_by, command_of, joined_by, joined, most_turns}
+use Rattle.ring_script.specs.Steps.{is_step, is_asked_step, word_among, step_grammar, client_by, event_by, refusal_in, event_of}
 use Rattle.ring_script.specs.Reading.{used_of, members_of, said_in, statements_of, joined_in, known_of, IsScriptOf, AreStepsOf, MayBeGiven, MayEachBeGiven, commands_of, IsPlayable, CanOpen, AreMulticast}
 use Rattle.ring_script.proofs.Bodies.{behind_word_text, behind_space_text, IsBody-from}
 use Rattle.ring_script.proofs.Names.{AreNames, none_of_both, among_contains, IsName-from, new_name, further_by, further_right}
+use Rattle.ring_script.proofs.Phrases.{one_right, two_right, body_right}
 use Rattle.ring_script.proofs.Taking.{fault_as, said_on, members_taken, credit_taken, statement_taken}
 use Rattle.ring_script.proofs.Fitting.{text_fits, no_names, members_open, text_opens}
 
@@ -69,11 +68,9 @@ some_by None e = cc
 some_by (Some n) e = refl
 
 turns_right : (words : List (List ℕ)) → one_word (number_fault most_turns) words ≡ None → (1 ≤ unwrap_or (number_of most_turns (get_or words 0 [])) 0) × (unwrap_or (number_of most_turns (get_or words 0 [])) 0 ≤ most_turns)
-turns_right [] e = cc
-turns_right (word ∷ []) e = turns_by word _ refl (some_by (number_of most_turns word) e)
-turns_right (word ∷ other ∷ words) e = cc
+turns_right words e = turns_by (get_or words 0 []) _ refl (some_by (number_of most_turns (get_or words 0 [])) (one_right (number_fault most_turns) words e))
 
--- ---- names and casts
+-- ---- names and bodies
 
 none_by : (b : Bool) (kind : Kind) → (if b then None else Some kind) ≡ None → b ≡ true
 none_by true kind h = refl
@@ -88,44 +85,40 @@ short_by : (b : Bool) → (if b then Some BodyTooLong else None) ≡ None → b 
 short_by true h = cc
 short_by false h = refl
 
-cast_right : (known words : List (List ℕ)) (body : List ℕ) → list_all is_text_byte body ≡ true → cast_fault (known_fault known) body words ≡ None
-    → Contains known (get_or words 0 []) × IsBody body
-cast_right known [] body text e = cc
-cast_right known (name ∷ words) body text e =
-    let both = none_of_both (known_fault known name) (body_fault body) e in
-    (known_right known name both.0, IsBody-from body (ltb-false 256 (length body) (short_by (nat_lt 256 (length body)) both.1)) text)
-
--- ---- kills
-
-kill_right : (known words : List (List ℕ)) → one_word (known_fault known) words ≡ None → Contains known (get_or words 0 [])
-kill_right known [] e = cc
-kill_right known (name ∷ []) e = known_right known name e
-kill_right known (name ∷ other ∷ words) e = cc
-
--- ---- joins
+is_body : (body : List ℕ) → list_all is_text_byte body ≡ true → body_fault body ≡ None → IsBody body
+is_body body text e = IsBody-from body (ltb-false 256 (length body) (short_by (nat_lt 256 (length body)) e)) text
 
 -- who joins is new, and then all names are as those of a ring
-join_right : (known words : List (List ℕ)) → AreNames known → two_words (join_fault known) words ≡ None
-    → (Contains known (get_or words 0 []) × (Contains known (get_or words 1 []) → ⊥) × IsName (get_or words 1 [])) × AreNames (known ++ get_or words 1 [] ∷ [])
-join_right known [] names e = cc
-join_right known (by ∷ []) names e = cc
-join_right known (by ∷ name ∷ []) names e =
-    let both = none_of_both (known_fault known by) (further_fault known name) e in
-    let is = further_by (is_name name) (is_among known name) (nat_le 64 (length known)) both.1 in
-    ((known_right known by both.0, new_name known name is.1, IsName-from name is.0), further_right known name names both.1)
-join_right known (by ∷ name ∷ other ∷ words) names e = cc
+joiner_right : (known : List (List ℕ)) (name : List ℕ) → AreNames known → further_fault known name ≡ None
+    → ((Contains known name → ⊥) × IsName name) × AreNames (known ++ name ∷ [])
+joiner_right known name names e =
+    let is = further_by (is_name name) (is_among known name) (nat_le 64 (length known)) e in
+    ((new_name known name is.1, IsName-from name is.0), further_right known name names e)
 
 -- ---- a command
 
 same_names : (known : List (List ℕ)) → AreNames known → AreNames (known ++ [])
 same_names known names = subst AreNames (sym (append-nil known)) names
 
--- a right command may be given, and leaves all names as those of a ring
+-- a command may be given, and leaves all names as those of a ring
+abbrev IsGiven : List (List ℕ) → Command → Type 0
+IsGiven known x = MayBeGiven known x × AreNames (known ++ joined_by x)
+
+asked_right : (known : List (List ℕ)) (w : Word) (rest : List ℕ) → AreNames known → list_all is_text_byte rest ≡ true
+    → phrase_fault (known_fault known) (further_fault known) (shape_of w) rest ≡ None → IsGiven known (command_by (Some (Asks w)) rest)
+asked_right known word.Cast rest names text e =
+    let both = body_right (known_fault known) (body_in rest) (words_of rest) e in
+    ((known_right known (operand_in rest) both.0, is_body (body_in rest) (behind_space_text (behind_word rest) (behind_word_text rest text)) both.1), same_names known names)
+asked_right known word.Admit rest names text e =
+    let both = two_right (known_fault known) (further_fault known) (words_of rest) e in
+    let joins = joiner_right known (second_in rest) names both.1 in
+    ((known_right known (operand_in rest) both.0, joins.0.0, joins.0.1), joins.1)
+asked_right known word.Stop rest names text e = (known_right known (operand_in rest) (one_right (known_fault known) (words_of rest) e), same_names known names)
+asked_right known w rest names text e = (tt, same_names known names)
+
 command_right : (known : List (List ℕ)) (keyword : Option Keyword) (rest : List ℕ) → AreNames known → list_all is_text_byte rest ≡ true → command_fault known keyword rest ≡ None
-    → MayBeGiven known (command_by keyword rest) × AreNames (known ++ joined_by (command_by keyword rest))
-command_right known (Some Cast) rest names text e = (cast_right known (words_of rest) (body_in rest) (behind_space_text (behind_word rest) (behind_word_text rest text)) e, same_names known names)
-command_right known (Some Join) rest names text e = join_right known (words_of rest) names e
-command_right known (Some Kill) rest names text e = (kill_right known (words_of rest) e, same_names known names)
+    → IsGiven known (command_by keyword rest)
+command_right known (Some (Asks w)) rest names text e = asked_right known w rest names text e
 command_right known (Some Go) rest names text e = (turns_right (words_of rest) e, same_names known names)
 command_right known (Some Settle) rest names text e = (tt, same_names known names)
 command_right known None rest names text e = cc
@@ -205,34 +198,29 @@ steps_open bytes steps h = subst CanOpen (sym h.members) (text_opens step_gramma
 
 -- ---- events of the ring alone
 
-own_multicast : (which : OwnStep) (by : List ℕ) → is_multicast (own_event which by) ≡ true
-own_multicast own.Put by = refl
-own_multicast own.Take by = refl
-own_multicast own.TakeEnd by = refl
-own_multicast own.Gain by = refl
-own_multicast own.Stop by = refl
-own_multicast own.Pick by = refl
+step_multicast : (o : Option Word) (rest : List ℕ) → is_multicast (event_by (option_and_then (λ w. if is_step w then Some w else None) o) rest) ≡ true
+step_multicast None rest = refl
+step_multicast (Some word.Cast) rest = refl
+step_multicast (Some w) rest = refl
 
-asked_multicast : (word : Option ClientWord) (rest : List ℕ) → is_asked_multicast (client_by word rest) ≡ true
-asked_multicast (Some asks.Cast) rest = refl
-asked_multicast (Some asks.Stop) rest = refl
-asked_multicast (Some asks.Admit) rest = refl
+asked_multicast : (o : Option Word) (rest : List ℕ) → is_asked_multicast (client_by (option_and_then (λ w. if is_asked_step w then Some w else None) o) rest) ≡ true
 asked_multicast None rest = refl
+asked_multicast (Some word.Cast) rest = refl
+asked_multicast (Some w) rest = refl
+
+either_multicast : (b : Bool) (e f : Event) → is_multicast e ≡ true → is_multicast f ≡ true → is_multicast (if b then e else f) ≡ true
+either_multicast true e f h k = h
+either_multicast false e f h k = k
 
 -- the event that a line tells is
-event_multicast : (word : Option EventWord) (rest : List ℕ) → is_multicast (event_by word rest) ≡ true
-event_multicast (Some begins.Cast) rest = refl
-event_multicast (Some begins.Mark) rest = refl
-event_multicast (Some begins.Erase) rest = refl
-event_multicast (Some begins.Admit) rest = refl
-event_multicast (Some begins.Refuse) rest = asked_multicast (client_word_of (second_in rest)) (behind_word (behind_word rest))
-event_multicast (Some begins.Refresh) rest = refl
-event_multicast (Some (begins.Own which)) rest = own_multicast which (operand_in rest)
-event_multicast None rest = refl
+event_multicast : (text rest : List ℕ) → is_multicast (event_of text rest) ≡ true
+event_multicast text rest =
+    either_multicast (bytes_eq text (codes "refuse")) (refusal_in rest) (event_by (word_among is_step text) rest)
+    (asked_multicast (word_of (second_in rest)) (behind_word (behind_word rest))) (step_multicast (word_of text) rest)
 
 said_multicast : (used : List (ℕ × List ℕ)) → AreMulticast (map (said_on event_of) used)
 said_multicast [] k d l = absurd (omega (arith, l))
-said_multicast (line ∷ used) zero d l = event_multicast (event_word_of (first_word line.1)) (behind_word line.1)
+said_multicast (line ∷ used) zero d l = event_multicast (first_word line.1) (behind_word line.1)
 said_multicast (line ∷ used) (suc k) d l = said_multicast used k d (omega (arith, l))
 
 -- each event of a step file is

@@ -1,9 +1,10 @@
 pub mod Words
+pub mod Vocabulary
 pub mod Place
 pub mod Fault
 pub mod Line
+pub mod Phrase
 pub mod Script
 pub mod Steps
-pub mod QueueWords
 pub mod Reading
 pub mod Standing

@@ -1,49 +1,52 @@
 -- What a line of a script says behind the opening ones, and what is wrong with it.
-use Rattle.std.specs.Prelude.{ℕ, if◌then◌else◌, Option, Some, None, unwrap_or, List, [], ◌∷◌, codes, bytes_eq}
+use Rattle.std.specs.Prelude.{ℕ, if◌then◌else◌, Option, Some, None, unwrap_or, option_map, List, [], ◌∷◌, codes, bytes_eq}
 use Rattle.std.specs.List.{flat_map}
-use Rattle.std.specs.Option.{option_or}
+use Rattle.ring_rules.specs.declared.event.Client.{Client}
+use Rattle.ring_rules.specs.declared.event.Client.TheVariants as client
 use Rattle.ring_script.specs.declared.command.Command.{Command}
 use Rattle.ring_script.specs.declared.command.Command.TheVariants as command
 use Rattle.ring_script.specs.declared.fault.Kind.{Kind}
 use Rattle.ring_script.specs.declared.fault.Kind.TheVariants.{UnknownCommand}
 use Rattle.ring_script.specs.declared.script.Keyword.{Keyword}
-use Rattle.ring_script.specs.declared.script.Keyword.TheVariants.{Cast, Join, Kill, Go, Settle}
+use Rattle.ring_script.specs.declared.script.Keyword.TheVariants.{Asks, Go, Settle}
+use Rattle.ring_script.specs.declared.vocabulary.Word.TheVariants as word
 use Rattle.ring_script.specs.Words.{words_of, number_of}
-use Rattle.ring_script.specs.Line.{Grammar, operand_in, second_in, body_in, no_word, one_word, two_words, known_fault, further_fault, number_fault, cast_fault}
+use Rattle.ring_script.specs.Line.{Grammar, operand_in, no_word, one_word, known_fault, further_fault, number_fault}
+use Rattle.ring_script.specs.Vocabulary.{shape_of, client_said}
+use Rattle.ring_script.specs.Phrase.{phrase_fault, phrase_in}
 
 -- the command that a word begins
 abbrev pub keyword_of : List ℕ → Option Keyword
-keyword_of word =
-    if bytes_eq word (codes "cast") then Some Cast
-    else (if bytes_eq word (codes "join") then Some Join
-    else (if bytes_eq word (codes "kill") then Some Kill
-    else (if bytes_eq word (codes "go") then Some Go
-    else (if bytes_eq word (codes "settle") then Some Settle
+keyword_of text =
+    if bytes_eq text (codes "cast") then Some (Asks word.Cast)
+    else (if bytes_eq text (codes "join") then Some (Asks word.Admit)
+    else (if bytes_eq text (codes "kill") then Some (Asks word.Stop)
+    else (if bytes_eq text (codes "go") then Some Go
+    else (if bytes_eq text (codes "settle") then Some Settle
     else None))))
 
 -- how many turns a round has at most
 abbrev pub most_turns : ℕ
 most_turns = 1000
 
--- what is wrong with two words as a known name and a further one
-abbrev pub join_fault : List (List ℕ) → List ℕ → List ℕ → Option Kind
-join_fault known by name = option_or (known_fault known by) (further_fault known name)
-
--- `cast` has a known name and a body; `join` has a known name and a further one; `kill` has a known name; `go` has the number
--- of turns; `settle` has no further word
+-- of a member that is asked the name is known, and a newcomer's is a further one; `go` has the number of turns; `settle` has no
+-- further word
 abbrev pub command_fault : List (List ℕ) → Option Keyword → List ℕ → Option Kind
-command_fault known (Some Cast) rest = cast_fault (known_fault known) (body_in rest) (words_of rest)
-command_fault known (Some Join) rest = two_words (join_fault known) (words_of rest)
-command_fault known (Some Kill) rest = one_word (known_fault known) (words_of rest)
+command_fault known (Some (Asks w)) rest = phrase_fault (known_fault known) (further_fault known) (shape_of w) rest
 command_fault known (Some Go) rest = one_word (number_fault most_turns) (words_of rest)
 command_fault known (Some Settle) rest = no_word (words_of rest)
 command_fault known None rest = Some UnknownCommand
 
+-- the command that has a member do what a client asks; of the queue a script asks nothing yet
+abbrev pub command_asking : Client → Command
+command_asking (client.Cast by body) = command.Cast by body
+command_asking (client.Admit by name) = command.Join by name
+command_asking (client.Stop by) = command.Kill by
+command_asking _ = command.Settle
+
 -- the command that a line gives, by its keyword and its rest
 abbrev pub command_by : Option Keyword → List ℕ → Command
-command_by (Some Cast) rest = command.Cast (operand_in rest) (body_in rest)
-command_by (Some Join) rest = command.Join (operand_in rest) (second_in rest)
-command_by (Some Kill) rest = command.Kill (operand_in rest)
+command_by (Some (Asks w)) rest = unwrap_or (option_map command_asking (client_said (phrase_in w rest))) command.Settle
 command_by (Some Go) rest = command.Go (unwrap_or (number_of most_turns (operand_in rest)) 0)
 command_by (Some Settle) rest = command.Settle
 command_by None rest = command.Settle

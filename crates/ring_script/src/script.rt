@@ -6,18 +6,19 @@ ghost use Rattle.ring_script.specs.Place.{left_in};
 ghost use Rattle.ring_script.specs.Fault.{Tells};
 ghost use Rattle.ring_script.specs.Line.{no_word, one_word, number_fault};
 ghost use Rattle.ring_script.specs.Script.{most_turns, keyword_of, script_grammar, command_fault, command_by};
-ghost use Rattle.ring_script.specs.Script.{command_of};
+ghost use Rattle.ring_script.specs.Script.{command_of, command_asking};
 ghost use Rattle.ring_script.specs.Reading.{IsScriptOf, IsFirstFault, IsPlayable, JudgesEachText};
 
-use crate::arguments::{
-    further_name, known_name, nothing_left, number_from, one_left, read_body, two_left,
-};
+use crate::arguments::{nothing_left, number_from, one_left};
 use crate::command::Command;
 use crate::fault::{Kind, LineFault, ScriptFault};
+use crate::phrase::{Names, read_phrase};
 use crate::statement::Statement;
 use crate::text::{Text, read_text};
+use crate::vocabulary::Word;
 use crate::words::{Words, by_word};
 use ring_names::Name;
+use ring_rules::Client;
 use std::alloc::Global;
 
 /// What a script says: the commands that the ring is then given.
@@ -26,10 +27,11 @@ pub type Script = Text<Command>;
 /// The command that the first word of a line begins.
 #[derive(Clone, Copy, PartialEq, Eq, Debug)]
 pub(crate) enum Keyword {
-    Cast,
-    Join,
-    Kill,
+    /// A member is asked what this word says.
+    Asks(Word),
+    /// The members take turns.
     Go,
+    /// The ring works until nothing is left to do.
     Settle,
 }
 
@@ -42,9 +44,9 @@ impl Keyword {
         ensures { result ≡ keyword_of word.now }
     {
         by_word!(word;
-            b"cast" => Some(Keyword::Cast),
-            b"join" => Some(Keyword::Join),
-            b"kill" => Some(Keyword::Kill),
+            b"cast" => Some(Keyword::Asks(Word::Cast)),
+            b"join" => Some(Keyword::Asks(Word::Admit)),
+            b"kill" => Some(Keyword::Asks(Word::Stop)),
             b"go" => Some(Keyword::Go),
             b"settle" => Some(Keyword::Settle),
             _ => None
@@ -59,9 +61,7 @@ impl Statement for Command {
 
     fn read(alloc: Global, known: &[Name], word: &[u8], rest: Words) -> Result<Command, LineFault> {
         match Keyword::of(word) {
-            Some(Keyword::Cast) => read_cast(alloc, known, rest),
-            Some(Keyword::Join) => read_join(known, rest),
-            Some(Keyword::Kill) => read_kill(known, rest),
+            Some(Keyword::Asks(word)) => read_asked(alloc, known, word, rest),
             Some(Keyword::Go) => read_go(rest),
             Some(Keyword::Settle) => read_settle(rest),
             None => Err(LineFault::Wrong(Kind::UnknownCommand)),
@@ -73,37 +73,29 @@ impl Statement for Command {
     }
 }
 
-/// The cast of what is left on a line.
-fn read_cast(alloc: Global, known: &[Name], rest: Words) -> Result<Command, LineFault>
+/// What a member is asked by this word and what is left on a line.
+fn read_asked(alloc: Global, known: &[Name], word: Word, rest: Words) -> Result<Command, LineFault>
     requires text { list_all is_text_byte (left_in rest) ≡ true }
-    ensures fault { Tells (command_fault known.now (Some Keyword.Cast) (left_in rest.entry)) result }
-    ensures cast { IfOk result (λ command. command ≡ command_by (Some Keyword.Cast) (left_in rest.entry)) }
+    ensures fault { Tells (command_fault known.now (Some (Keyword.Asks word)) (left_in rest.entry)) result }
+    ensures asked { IfOk result (λ command. command ≡ command_by (Some (Keyword.Asks word)) (left_in rest.entry)) }
 {
-    let mut words = rest;
-    let word = words.next_word().ok_or(Kind::MissingWord)?;
-    let by = known_name(known, word)?;
-    let body = read_body(alloc, words.body())?;
-    Ok(Command::Cast { by, body })
+    let phrase = read_phrase(alloc, Names::Known(known), word, rest)?;
+    match phrase.client() {
+        Some(client) => Ok(command_for(client)),
+        None => Ok(Command::Settle),
+    }
 }
 
-/// The joining of what is left on a line.
-fn read_join(known: &[Name], rest: Words) -> Result<Command, LineFault>
-    ensures fault { Tells (command_fault known.now (Some Keyword.Join) (left_in rest.entry)) result }
-    ensures join { IfOk result (λ command. command ≡ command_by (Some Keyword.Join) (left_in rest.entry)) }
+/// The command that has a member do what a client asks. Of the queue a script asks nothing yet.
+fn command_for(client: Client) -> Command
+    ensures { result ≡ command_asking client }
 {
-    let (by, name) = two_left(rest)?;
-    let by = known_name(known, by)?;
-    let name = further_name(known, name)?;
-    Ok(Command::Join { by, name })
-}
-
-/// The kill of what is left on a line.
-fn read_kill(known: &[Name], rest: Words) -> Result<Command, LineFault>
-    ensures fault { Tells (command_fault known.now (Some Keyword.Kill) (left_in rest.entry)) result }
-    ensures kill { IfOk result (λ command. command ≡ command_by (Some Keyword.Kill) (left_in rest.entry)) }
-{
-    let by = known_name(known, one_left(rest)?)?;
-    Ok(Command::Kill { by })
+    match client {
+        Client::Cast { by, body } => Command::Cast { by, body },
+        Client::Admit { by, name } => Command::Join { by, name },
+        Client::Stop { by } => Command::Kill { by },
+        _ => Command::Settle,
+    }
 }
 
 /// The round of what is left on a line.

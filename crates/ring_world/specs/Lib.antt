@@ -1,5 +1,4 @@
 pub mod Placed
 pub mod Reached
 pub mod Shows
-pub mod Asking
 pub mod Walking

@@ -1,9 +1,8 @@
 //! What is asked of a master, and what it does to its queue by itself: each is an operation that it publishes.
-ghost use Rattle.std.specs.Prelude.{◌≡◌, ◌<◌, ℕ, List, [], suc, length, None, Ok, OnOk, OnErr};
+ghost use Rattle.std.specs.Prelude.{◌≡◌, ◌<◌, ℕ, List, suc, length, None, Ok, OnOk, OnErr};
 ghost use Rattle.ring_rules.specs.Refusal.{answer_of};
-ghost use Rattle.ring_rules.specs.declared.event.Event.TheVariants as event;
-ghost use Rattle.ring_rules.specs.Event.{asked_op, op_at, op_done, op_refusal, up_refusal};
-ghost use Rattle.ring_world.specs.Asking.{as_event};
+ghost use Rattle.ring_rules.specs.Kind.{Publishes, Does};
+ghost use Rattle.ring_rules.specs.Event.{asked_op, op_as, op_done, op_refusal, up_refusal};
 ghost use Rattle.ring_world.specs.Placed.{IsPlaced, IsUpAt};
 ghost use Rattle.ring_world.specs.Shows.{world_of, member_of};
 
@@ -14,29 +13,13 @@ use crate::state::Ring;
 use group_view::View;
 use queue_core::{Message, Op};
 use queue_mirror::Master;
-use ring_names::{Body, MemberId, OutOfMemory, Position, Reason};
-
-/// What is done to the queue, but for a publish: as a client asks, or by the master itself.
-#[derive(Clone, Copy, Debug)]
-pub(crate) enum Asking {
-    /// The first ready message is handed out.
-    Get,
-    /// It is taken off for good.
-    Pop,
-    /// The message of a position, which was handed out, is acknowledged.
-    Ack(Position),
-    /// It is handed back.
-    Requeue(Position),
-    /// The master tells how many messages there are.
-    Depth,
-    /// A new master begins.
-    Start,
-}
+use ring_names::{Body, MemberId, OutOfMemory, Reason};
+use ring_rules::Asking;
 
 /// The operation by which a member does it in this view, or the first condition that fails.
 fn answered(seat: &Seat, view: &View, me: MemberId, asking: Asking) -> Result<Op, Reason>
     ensures { result ≡ asked_op (member_of seat.now).mirror view.now me.0 (member_of seat.now).started
-        (as_event asking) }
+        (Does asking) }
 {
     match asking {
         Asking::Get => Master::get(&seat.mirror, view, me, seat.started),
@@ -52,7 +35,7 @@ fn answered(seat: &Seat, view: &View, me: MemberId, asking: Asking) -> Result<Op
 #[tactic(auto, using(crate::proofs::code::ShownParts::read_member, crate::proofs::code::Found::few_seats))]
 fn operation_at(ring: &Ring, place: usize, asking: Asking) -> Result<Op, Reason>
     requires { IsUpAt ring.now place }
-    ensures { result ≡ op_at (world_of ring.now) (as_event asking) (suc place) }
+    ensures { result ≡ op_as (world_of ring.now) (suc place) (Does asking) }
 {
     let view = view_at_place(ring, place);
     answered(&ring.seats[place], view, MemberId(id_at(place)), asking)
@@ -85,7 +68,7 @@ pub(crate) fn may_publish(ring: &Ring, place: usize) -> Result<(), Reason>
     requires placed { IsPlaced (world_of ring.now) }
     requires place { place < length ring.now.seats.items }
     ensures { (body : List ℕ) → result ≡ answer_of (up_refusal (world_of ring.now) (suc place)
-        (op_refusal (op_at (world_of ring.now) (event.Publish [] body) (suc place)))) }
+        (op_refusal (op_as (world_of ring.now) (suc place) (Publishes body)))) }
 {
     let seat = &ring.seats[place];
     seat.phase.is_up()?;
@@ -102,7 +85,7 @@ pub(crate) fn may_ask(ring: &Ring, place: usize, asking: Asking) -> Result<(), R
     requires placed { IsPlaced (world_of ring.now) }
     requires place { place < length ring.now.seats.items }
     ensures { result ≡ answer_of (up_refusal (world_of ring.now) (suc place)
-        (op_refusal (op_at (world_of ring.now) (as_event asking) (suc place)))) }
+        (op_refusal (op_as (world_of ring.now) (suc place) (Does asking)))) }
 {
     ring.seats[place].phase.is_up()?;
     allowed(operation_at(ring, place, asking))
@@ -114,9 +97,9 @@ pub(crate) fn publish(ring: &mut Ring, place: usize, body: &Body) -> Result<(), 
     requires placed { IsPlaced (world_of ring.old) }
     requires place { place < length ring.old.seats.items }
     requires enabled { up_refusal (world_of ring.old) (suc place)
-        (op_refusal (op_at (world_of ring.old) (event.Publish [] body.now) (suc place))) ≡ None }
+        (op_refusal (op_as (world_of ring.old) (suc place) (Publishes body.now))) ≡ None }
     ensures ok { OnOk result (world_of ring.new ≡ op_done (world_of ring.old) (suc place)
-        (op_at (world_of ring.old) (event.Publish [] body.now) (suc place))) }
+        (op_as (world_of ring.old) (suc place) (Publishes body.now))) }
     ensures err { OnErr result (world_of ring.new ≡ world_of ring.old) }
 {
     let body = body.copy()?;
@@ -130,9 +113,9 @@ pub(crate) fn ask(ring: &mut Ring, place: usize, asking: Asking) -> Result<(), O
     requires placed { IsPlaced (world_of ring.old) }
     requires place { place < length ring.old.seats.items }
     requires enabled { up_refusal (world_of ring.old) (suc place)
-        (op_refusal (op_at (world_of ring.old) (as_event asking) (suc place))) ≡ None }
+        (op_refusal (op_as (world_of ring.old) (suc place) (Does asking))) ≡ None }
     ensures ok { OnOk result (world_of ring.new ≡ op_done (world_of ring.old) (suc place)
-        (op_at (world_of ring.old) (as_event asking) (suc place))) }
+        (op_as (world_of ring.old) (suc place) (Does asking))) }
     ensures err { OnErr result (world_of ring.new ≡ world_of ring.old) }
 {
     let operation = granted(operation_at(ring, place, asking));

@@ -5,7 +5,7 @@ ghost use Rattle.ring_rules.specs.Event.{refusal, refused_at, effect, done_at};
 ghost use Rattle.ring_world.specs.Placed.{IsPlaced, IsReady};
 ghost use Rattle.ring_world.specs.Shows.{world_of};
 
-use crate::asking::{Asking, ask, may_ask, may_publish, publish};
+use crate::asking::{ask, may_ask, may_publish, publish};
 use crate::erasing::erase;
 use crate::joining::admit;
 use crate::marking::mark;
@@ -39,12 +39,6 @@ fn enabled_at(ring: &Ring, place: usize, event: &Event) -> Result<(), Reason>
     match event {
         Event::Cast { .. } => conditions::may_cast(ring, place),
         Event::Publish { .. } => may_publish(ring, place),
-        Event::Get { .. } => may_ask(ring, place, Asking::Get),
-        Event::Pop { .. } => may_ask(ring, place, Asking::Pop),
-        Event::Ack { at, .. } => may_ask(ring, place, Asking::Ack(*at)),
-        Event::Requeue { at, .. } => may_ask(ring, place, Asking::Requeue(*at)),
-        Event::Depth { .. } => may_ask(ring, place, Asking::Depth),
-        Event::Start { .. } => may_ask(ring, place, Asking::Start),
         Event::Put { .. } => conditions::may_put(ring, place),
         Event::Take { .. } => conditions::may_take(ring, place),
         Event::TakeEnd { .. } => conditions::may_take_end(ring, place),
@@ -57,6 +51,10 @@ fn enabled_at(ring: &Ring, place: usize, event: &Event) -> Result<(), Reason>
         Event::Erase { origin, .. } => membership::may_erase(ring, place, origin),
         Event::Synced { .. } => membership::may_sync(ring, place),
         Event::Refuse { code, inner } => may_refuse(ring, place, *code, inner),
+        _ => match event.asking() {
+            Some(asking) => may_ask(ring, place, asking),
+            None => unreachable!(),
+        },
     }
 }
 
@@ -85,12 +83,6 @@ fn step_at(alloc: Global, ring: &mut Ring, place: usize, event: &Event) -> Resul
     match event {
         Event::Cast { body, .. } => arms::cast(ring, place, body),
         Event::Publish { body, .. } => publish(ring, place, body),
-        Event::Get { .. } => ask(ring, place, Asking::Get),
-        Event::Pop { .. } => ask(ring, place, Asking::Pop),
-        Event::Ack { at, .. } => ask(ring, place, Asking::Ack(*at)),
-        Event::Requeue { at, .. } => ask(ring, place, Asking::Requeue(*at)),
-        Event::Depth { .. } => ask(ring, place, Asking::Depth),
-        Event::Start { .. } => ask(ring, place, Asking::Start),
         Event::Put { .. } => arms::put(alloc, ring, place),
         Event::Take { .. } => arms::take(alloc, ring, place),
         Event::TakeEnd { .. } => {
@@ -121,5 +113,9 @@ fn step_at(alloc: Global, ring: &mut Ring, place: usize, event: &Event) -> Resul
         },
         Event::Synced { .. } => sync(alloc, ring, place),
         Event::Refuse { .. } => Ok(()),
+        _ => match event.asking() {
+            Some(asking) => ask(ring, place, asking),
+            None => unreachable!(),
+        },
     }
 }

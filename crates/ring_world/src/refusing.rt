@@ -7,7 +7,7 @@ ghost use Rattle.ring_rules.specs.Event.{event_of, doing_refusal, is_passing as 
 ghost use Rattle.ring_world.specs.Placed.{IsPlaced};
 ghost use Rattle.ring_world.specs.Shows.{world_of};
 
-use crate::asking::{Asking, may_ask, may_publish};
+use crate::asking::{may_ask, may_publish};
 use crate::state::Ring;
 use crate::{conditions, membership};
 use ring_names::Reason;
@@ -39,12 +39,12 @@ fn may_do(ring: &Ring, place: usize, asked: &Client) -> Result<(), Reason>
     match asked {
         Client::Cast { .. } => conditions::may_cast(ring, place),
         Client::Publish { .. } => may_publish(ring, place),
-        Client::Get { .. } => may_ask(ring, place, Asking::Get),
-        Client::Pop { .. } => may_ask(ring, place, Asking::Pop),
-        Client::Ack { at, .. } => may_ask(ring, place, Asking::Ack(*at)),
-        Client::Requeue { at, .. } => may_ask(ring, place, Asking::Requeue(*at)),
         Client::Stop { .. } => conditions::may_stop(ring, place),
         Client::Admit { name, .. } => membership::may_admit(ring, place, name),
+        _ => match asked.asking() {
+            Some(asking) => may_ask(ring, place, asking),
+            None => unreachable!(),
+        },
     }
 }
 

@@ -219,8 +219,8 @@ impl World {
         }
     }
 
-    /// What a member has published, and how much of it has come round to it, so that every member that is up
-    /// has it. It wants no memory.
+    /// What a member has published, and how much of it has come round to it: every member that is up has received
+    /// that, or counted it by its first packet. It wants no memory.
     pub fn counts(&self, by: &Name) -> Counts
         requires { IsSome (id_of (self.now).ring by.now) }
         ensures { result ≡ counts_at (self.now).ring (id_of (self.now).ring by.now) }

@@ -29,11 +29,11 @@ use Rattle.ringplay.specs.Performed.{state_after, IsLawfulRun, SameRing, HasTurn
 
 -- a command of a script, but for rounds and settlings, is one of a member
 pub member_command : (x : Command) → ((turns : ℕ) → x ≡ command.Go turns → ⊥) → (x ≡ command.Settle → ⊥) → IsOfMember x
-member_command (command.Cast by body) ng ns = tt
-member_command (command.Join by newcomer) ng ns = tt
-member_command (command.Kill by) ng ns = tt
-member_command (command.Go turns) ng ns = ng turns refl
-member_command command.Settle ng ns = ns refl
+member_command (command.Cast by body) ng ns = refl
+member_command (command.Join by newcomer) ng ns = refl
+member_command (command.Kill by) ng ns = refl
+member_command (command.Go turns) ng ns = absurd (ng turns refl)
+member_command command.Settle ng ns = absurd (ns refl)
 
 -- a round of a script has turns
 one_turns : (names : List (List ℕ)) (x : Command) → MayBeGiven names x → HasTurns x

@@ -255,8 +255,8 @@ publishes 0 confirmed 0
 refused 12 cast a x
 ==== examples/publisher_killed.script
 play
-# A publisher is killed in mid-stream. What it has put on its link is heard by all others. Its last cast, in the turn
-# before its kill, is at nobody else.
+# A publisher is killed in mid-stream. What it has put on its link is heard by all others. Its last cast, which it
+# hasn't put yet, is at nobody else.
 members a b c
 
 cast a a1
@@ -280,7 +280,7 @@ heard a a2
 heard b b1
 heard c c1
 member b erased
-casts 2 confirmed 0
+casts 2 confirmed 1
 publishes 0 confirmed 0
 refused 12 cast b b3
 member c up synced

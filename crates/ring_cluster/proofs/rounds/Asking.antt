@@ -8,7 +8,7 @@ use Rattle.ring_rules.specs.Step.{size}
 use Rattle.ring_rules.specs.Event.{id_of, of_member, up_refusal, mark_refusal, refusal}
 use Rattle.ring_rules.proofs.events.Enabled.{up_none, mark_stops}
 use Rattle.gm_member.proofs.Fit.{IsFit}
-use Rattle.ring_parties.specs.declared.own_step.OwnStep.TheVariants as step
+use Rattle.ring_rules.specs.declared.kind.LinkStep.TheVariants as step
 use Rattle.ring_cluster.specs.Turns.{MayStep, MayStepNowhere}
 
 -- whether there is none

@@ -5,11 +5,11 @@ use Rattle.std.proofs.lemmas.List.{length-append}
 use Rattle.std.proofs.lemmas.List.Elements.{All-nil, All-cons, All-head, All-tail, All-append, filter-append}
 use Rattle.std.proofs.lemmas.List.Sums.{length-filter, count_by-le-length}
 use Rattle.ring_rules.specs.declared.event.Event.{Event}
-use Rattle.ring_rules.specs.Event.{by_of, refusal}
+use Rattle.ring_rules.specs.declared.event.Client.{Client}
+use Rattle.ring_rules.specs.Event.{by_of, asked_of, event_of, refusal}
 use Rattle.ring_rules.proofs.events.Names.{same_bytes}
-use Rattle.ring_cluster.specs.declared.agenda.Task.{Task}
 use Rattle.ring_cluster.specs.Seen.{Seen, state_of, IsGoing, SameButOwed, with_event}
-use Rattle.ring_cluster.specs.Plays.{task_event, answer_to, performed}
+use Rattle.ring_cluster.specs.Plays.{answer_to, performed}
 use Rattle.ring_cluster.specs.Turns.{IsMemberAt, DoesAtMost, events_of, EachDoesAtMost}
 use Rattle.ring_cluster.proofs.rounds.Named.{answered_by}
 use Rattle.ring_cluster.proofs.rounds.Members.{names_differ}
@@ -22,10 +22,10 @@ did_none turns name c d s = ([], ap (λ x. x.events) s.1 ∙ sym (append-nil c.e
 pub did_one : (name : List ℕ) (c d : Seen) (e : Event) → by_of e ≡ name → SameButOwed (with_event c e) d → DoesAtMost 1 name c d
 did_one name c d e at s = (e ∷ [], ap (λ x. x.events) s.1, omega arith, All-cons (λ k. by_of k ≡ name) e [] at (All-nil (λ k. by_of k ≡ name)))
 
-pub did_task : (by : List ℕ) (c d : Seen) (t : Task) (ts : List Task) → SameButOwed (performed c by (answer_to (state_of c) by t) ts) d → DoesAtMost 1 by c d
-did_task by c d t ts s =
-    let e : Event = answer_to (state_of c) by t in
-    (e ∷ [], ap (λ x. x.events) s.1, omega arith, All-cons (λ x. by_of x ≡ by) e [] (answered_by by t (refusal (state_of c) (task_event by t))) (All-nil (λ x. by_of x ≡ by)))
+pub did_task : (by : List ℕ) (c d : Seen) (t : Client) (ts : List Client) → asked_of t ≡ by → SameButOwed (performed c by (answer_to (state_of c) t) ts) d → DoesAtMost 1 by c d
+did_task by c d t ts asks s =
+    let e : Event = answer_to (state_of c) t in
+    (e ∷ [], ap (λ x. x.events) s.1, omega arith, All-cons (λ x. by_of x ≡ by) e [] (answered_by t (refusal (state_of c) (event_of t)) ∙ asks) (All-nil (λ x. by_of x ≡ by)))
 
 pub did_fewer : (m n : ℕ) (name : List ℕ) (c d : Seen) → m ≤ n → DoesAtMost m name c d → DoesAtMost n name c d
 did_fewer m n name c d le h = (h.0, h.1, omega (arith, le, h.2), h.3)

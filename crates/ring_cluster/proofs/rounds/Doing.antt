@@ -3,37 +3,33 @@ use Rattle.std.proofs.Common.{◌≡◌, ◌≢◌, ℕ, ◌+◌, ◌<◌, ◌�
 use Rattle.std.specs.Prelude.{◌&&◌, Contains}
 use Rattle.std.proofs.lemmas.Bool.{false≢true}
 use Rattle.std.proofs.lemmas.List.{length-append, map-append}
-use Rattle.ring_names.specs.declared.reason.Reason.{Reason}
-use Rattle.ring_names.specs.Reason.{code_of}
 use Rattle.ring_script.specs.declared.command.Command.{Command}
 use Rattle.ring_script.specs.declared.command.Command.TheVariants as command
 use Rattle.ring_rules.specs.declared.event.Event.{Event}
-use Rattle.ring_rules.specs.declared.event.Event.TheVariants.{Cast, Stop, Admit, Refuse}
+use Rattle.ring_rules.specs.declared.event.Client.{Client}
 use Rattle.ring_rules.specs.declared.phase.Phase.{Phase}
 use Rattle.ring_rules.specs.declared.phase.Phase.TheVariants.{Waiting, Up, Stopped}
 use Rattle.ring_rules.specs.Machine.{World, member_at}
 use Rattle.ring_rules.specs.Step.{size, opening}
-use Rattle.ring_rules.specs.Event.{refusal, effect, by_of, id_of, is_asked}
+use Rattle.ring_rules.specs.Event.{refusal, effect, by_of, asked_of, event_of, id_of, is_asked}
 use Rattle.ring_rules.specs.Quiet.{RingRests}
 use Rattle.ring_rules.specs.Work.{total, LeavesLess}
 use Rattle.ring_rules.proofs.events.Names.{same_bytes, own_bytes}
 use Rattle.ring_rules.proofs.runs.InOrder.{last_append}
-use Rattle.ring_cluster.specs.declared.agenda.Task.{Task}
-use Rattle.ring_cluster.specs.declared.agenda.Task.TheVariants as task
-use Rattle.ring_cluster.specs.Agendas.{Plan, names_of, place_among, tasks_in, with_tasks, with_task}
+use Rattle.ring_cluster.specs.Agendas.{Plan, IsAskedOf, names_of, place_among, tasks_in, with_tasks, with_asked}
 use Rattle.ring_cluster.specs.Backlog.{backlog, backlog_of}
 use Rattle.ring_cluster.specs.Handed.{handing, given_to, handed}
 use Rattle.ring_cluster.specs.Seen.{Seen, state_of, IsGoing, SameButOwed, showing, with_event}
 use Rattle.ring_parties.specs.States.{state}
-use Rattle.ring_cluster.specs.Plays.{IsOfMember, tasked, commanded, asked_event, asked, asked_by, Serves, Plays, PlaysSoFar, client_event, client_events, task_event, task_client, answer_by, answer_to, todo, agenda_of, is_stop, takes_up, is_due, IsDue, with_handed, performed, GoesOn, HasGoneOn, HasBegun, HeadsAre, AgendasAreEmpty}
+use Rattle.ring_cluster.specs.Plays.{IsOfMember, client_of, commanded, asked_event, Serves, Plays, PlaysSoFar, client_event, client_events, answer_to, todo, agenda_of, is_stop, takes_up, is_due, IsDue, performed, GoesOn, HasGoneOn, HasBegun, HeadsAre, AgendasAreEmpty}
 use Rattle.ring_cluster.specs.Turns.{IsMemberAt}
 use Rattle.ring_parties.proofs.lists.Lists.{flat_map-append}
-use Rattle.ring_cluster.proofs.lists.Plans.{tasked_there, tasks_new, tasks_other, other_name, given_new, given_other}
+use Rattle.ring_cluster.proofs.lists.Plans.{tasked_there, tasks_new, tasks_other, other_name, names_apart, given_other, asked_todo}
 use Rattle.ring_cluster.proofs.rounds.Heirs.{own_hands_none, answer_differs, answered_less}
 use Rattle.ring_cluster.proofs.rounds.Members.{found_in, left_in}
-use Rattle.ring_cluster.proofs.rounds.Named.{answered_by}
+use Rattle.ring_cluster.proofs.rounds.Named.{answer_asked, answer_of_other, same_stop}
 use Rattle.ring_cluster.proofs.rounds.Playing.{by_one, is_own, GoesOn-given, plays_on, plays_noted, settled_each_more, settled_now, all_served, settled_plays, asked_push}
-use Rattle.ring_cluster.proofs.rounds.Serving.{serves_more, serves_still}
+use Rattle.ring_cluster.proofs.rounds.Serving.{serves_more}
 
 -- ---- a member's own steps
 
@@ -52,58 +48,30 @@ own_left c d e g r is =
     subst (λ x. backlog_of x ≤ backlog_of c) (sym is.1)
     (subst (λ w. backlog w c.agendas ≤ backlog_of c) (sym (last_append (opening c.credit c.names) c.events (e ∷ []))) (left_in c e c.agendas g r))
 
--- ---- tasks
-
--- what comes of a task that its member has done or refused is what it was asked
-task_asked : (name by : List ℕ) (t : Task) → bytes_eq by name ≡ true → by ≡ name → client_event name (task_event by t) ≡ task_event name t ∷ []
-task_asked name by (task.Cast body) b e = rw b (ap (λ n. Cast n body ∷ []) e)
-task_asked name by task.Stop b e = rw b (ap (λ n. Stop n ∷ []) e)
-task_asked name by (task.Admit newcomer) b e = rw b (ap (λ n. Admit n newcomer ∷ []) e)
-
-client_asked : (name by : List ℕ) (t : Task) (code : ℕ) → bytes_eq by name ≡ true → by ≡ name → client_event name (Refuse code (task_client by t)) ≡ task_event name t ∷ []
-client_asked name by (task.Cast body) code b e = rw b (ap (λ n. Cast n body ∷ []) e)
-client_asked name by task.Stop code b e = rw b (ap (λ n. Stop n ∷ []) e)
-client_asked name by (task.Admit newcomer) code b e = rw b (ap (λ n. Admit n newcomer ∷ []) e)
-
-answer_asked : (name by : List ℕ) (t : Task) (o : Option Reason) → bytes_eq by name ≡ true → by ≡ name → client_event name (answer_by by t o) ≡ task_event name t ∷ []
-answer_asked name by t None b same = task_asked name by t b same
-answer_asked name by t (Some r) b same = client_asked name by t (code_of r) b same
-
--- and of nobody else
-is_other : (e : Event) (a b : Bool) → b ≡ false → (if a && b then asked_event e ∷ [] else []) ≡ []
-is_other e true b h = rw h refl
-is_other e false b h = refl
-
-answer_of_other : (name by : List ℕ) (t : Task) (o : Option Reason) → bytes_eq by name ≡ false → client_event name (answer_by by t o) ≡ []
-answer_of_other name by t o b = let e : Event = answer_by by t o in is_other e (is_asked e) (bytes_eq (by_of e) name) (ap (λ n. bytes_eq n name) (answered_by by t o) ∙ b)
-
-differ : (by name : List ℕ) → bytes_eq by name ≡ false → by ≢ name
-differ by name b same = false≢true (sym b ∙ ap (bytes_eq by) (sym same) ∙ own_bytes by)
-
 -- ---- a task that is answered
 
 -- the member at a place, of that name, has done the first of its tasks, or refused it
 abbrev pub Performs : ℕ → List ℕ → Seen → Seen → Type 0
-Performs i by c d = (t : Task) × (ts : List Task) × (agenda_of c by ≡ t ∷ ts) × (refusal (state_of c) (answer_to (state_of c) by t) ≡ None) × SameButOwed (performed c by (answer_to (state_of c) by t) ts) d
+Performs i by c d = (t : Client) × (ts : List Client) × (agenda_of c by ≡ t ∷ ts) × IsAskedOf by t × (refusal (state_of c) (answer_to (state_of c) t) ≡ None) × SameButOwed (performed c by (answer_to (state_of c) t) ts) d
 
 -- by this event, of a task t before the others
-module _ (c : Seen) (i : ℕ) (by : List ℕ) (t : Task) (ts : List Task) (g : IsGoing c) (at : IsMemberAt c i by) (a : agenda_of c by ≡ t ∷ ts) where
+module _ (c : Seen) (i : ℕ) (by : List ℕ) (t : Client) (ts : List Client) (g : IsGoing c) (at : IsMemberAt c i by) (a : agenda_of c by ≡ t ∷ ts) (asks : asked_of t ≡ by) where
   abbrev w : World
   w = state_of c
 
   abbrev e : Event
-  e = answer_to w by t
+  e = answer_to w t
 
   named : (k : ℕ) → k + 1 < size w → id_of w (member_at w (k + 1)).name ≡ Some (k + 1)
   named k lt = found_in c k g lt
 
   -- the agendas, with what it hands on
   abbrev plans : List Plan
-  plans = with_handed c.agendas (handing w e)
+  plans = with_asked c.agendas (handing w e)
 
-  mine_stay : (o : Option (List ℕ × List ℕ)) → handing w e ≡ o → tasks_in (with_handed c.agendas o) by ≡ t ∷ ts
+  mine_stay : (o : Option Client) → handing w e ≡ o → tasks_in (with_asked c.agendas o) by ≡ t ∷ ts
   mine_stay None h = a
-  mine_stay (Some k) h = given_other c.agendas k.0 by (task.Admit k.1) (answer_differs w i by named at t k h) ∙ a
+  mine_stay (Some k) h = given_other c.agendas k by (answer_differs w i by named at t k asks h) ∙ a
 
   mine : tasks_in plans by ≡ t ∷ ts
   mine = mine_stay (handing w e) refl
@@ -115,39 +83,24 @@ module _ (c : Seen) (i : ℕ) (by : List ℕ) (t : Task) (ts : List Task) (g : I
   left_mine = tasks_new plans by ts there
 
   -- nothing is handed on to itself
-  none_mine : (o : Option (List ℕ × List ℕ)) → handing w e ≡ o → given_to by o ≡ []
+  none_mine : (o : Option Client) → handing w e ≡ o → given_to by o ≡ []
   none_mine None h = refl
-  none_mine (Some k) h = ap (λ b. if b then Admit by k.1 ∷ [] else []) (other_name k.0 by (answer_differs w i by named at t k h))
+  none_mine (Some k) h = ap (λ b. if b then event_of k ∷ [] else []) (other_name (asked_of k) by (answer_differs w i by named at t k asks h))
 
-  -- to each other what is handed on joins its agenda
-  theirs : (name : List ℕ) (o : Option (List ℕ × List ℕ)) → todo name (tasks_in (with_handed c.agendas o) name) ≡ todo name (agenda_of c name) ++ given_to name o
-  theirs name None = sym (append-nil (todo name (agenda_of c name)))
-  theirs name (Some k) = by_name (bytes_eq k.0 name) refl
-    where
-      by_name : (b : Bool) → bytes_eq k.0 name ≡ b → todo name (tasks_in (with_task c.agendas k.0 (task.Admit k.1)) name) ≡ todo name (agenda_of c name) ++ (if b then Admit name k.1 ∷ [] else [])
-      by_name true h =
-          let same : k.0 ≡ name = same_bytes k.0 name h in
-          ap (λ n. todo name (tasks_in (with_task c.agendas n (task.Admit k.1)) name)) same
-          ∙ ap (todo name) (given_new c.agendas name (task.Admit k.1))
-          ∙ map-append (task_event name) (agenda_of c name) (task.Admit k.1 ∷ [])
-      by_name false h =
-          ap (todo name) (given_other c.agendas k.0 name (task.Admit k.1) (differ k.0 name h)) ∙ sym (append-nil (todo name (agenda_of c name)))
-
-  performed_serves : (name : List ℕ) (b : Bool) → bytes_eq by name ≡ b → client_events name (e ∷ []) ++ todo name (agenda_of (performed c by e ts) name) ≡ todo name (agenda_of c name) ++ handed w name (e ∷ [])
+  performed_serves : (name : List ℕ) (b : Bool) → bytes_eq by name ≡ b → client_events name (e ∷ []) ++ todo (agenda_of (performed c by e ts) name) ≡ todo (agenda_of c name) ++ handed w name (e ∷ [])
   performed_serves name true n =
-      let same : by ≡ name = same_bytes by name n in
-      subst (λ k. client_events k (e ∷ []) ++ todo k (agenda_of (performed c by e ts) k) ≡ todo k (agenda_of c k) ++ handed w k (e ∷ [])) same (
-      ap (λ zs. (zs ++ []) ++ todo by (agenda_of (performed c by e ts) by)) (answer_asked by by t (refusal w (task_event by t)) (own_bytes by) refl)
-      ∙ ap (λ us. task_event by t ∷ todo by us) left_mine
-      ∙ ap (todo by) (sym a)
-      ∙ sym (append-nil (todo by (agenda_of c by)))
-      ∙ ap (λ zs. todo by (agenda_of c by) ++ (zs ++ [])) (sym (none_mine (handing w e) refl))
+      subst (λ k. client_events k (e ∷ []) ++ todo (agenda_of (performed c by e ts) k) ≡ todo (agenda_of c k) ++ handed w k (e ∷ [])) (same_bytes by name n) (
+      ap (λ zs. (zs ++ []) ++ todo (agenda_of (performed c by e ts) by)) (answer_asked by t (refusal w (event_of t)) (ap (λ k. bytes_eq k by) asks ∙ own_bytes by))
+      ∙ ap (λ us. event_of t ∷ todo us) left_mine
+      ∙ ap todo (sym a)
+      ∙ sym (append-nil (todo (agenda_of c by)))
+      ∙ ap (λ zs. todo (agenda_of c by) ++ (zs ++ [])) (sym (none_mine (handing w e) refl))
       )
   performed_serves name false n =
-      ap (λ zs. (zs ++ []) ++ todo name (agenda_of (performed c by e ts) name)) (answer_of_other name by t (refusal w (task_event by t)) n)
-      ∙ ap (todo name) (tasks_other plans by name ts (differ by name n))
-      ∙ theirs name (handing w e)
-      ∙ ap (λ zs. todo name (agenda_of c name) ++ zs) (sym (append-nil (given_to name (handing w e))))
+      ap (λ zs. (zs ++ []) ++ todo (agenda_of (performed c by e ts) name)) (answer_of_other name t (refusal w (event_of t)) (ap (λ k. bytes_eq k name) asks ∙ n))
+      ∙ ap todo (tasks_other plans by name ts (names_apart by name n))
+      ∙ asked_todo c.agendas name (handing w e)
+      ∙ ap (λ zs. todo (agenda_of c name) ++ zs) (sym (append-nil (given_to name (handing w e))))
 
   performed_on : GoesOn c (performed c by e ts) (e ∷ [])
   performed_on = by_one c (performed c by e ts) e refl refl refl (λ name. performed_serves name (bytes_eq by name) refl)
@@ -155,36 +108,36 @@ module _ (c : Seen) (i : ℕ) (by : List ℕ) (t : Task) (ts : List Task) (g : I
   performed_left : refusal w e ≡ None → backlog_of (performed c by e ts) < backlog_of c
   performed_left none =
       let after : backlog_of (performed c by e ts) ≡ backlog (effect w e) (with_tasks plans by ts) = ap (λ u. backlog u (with_tasks plans by ts)) (last_append (opening c.credit c.names) c.events (e ∷ [])) in
-      omega (arith, after, left_in c e (with_tasks plans by ts) g none, answered_less w i by named at c.agendas t ts a)
+      omega (arith, after, left_in c e (with_tasks plans by ts) g none, answered_less w i by named at c.agendas t ts asks a)
 
 -- the first of its tasks is struck off behind that
-pub performed_is : (i : ℕ) (by : List ℕ) (t : Task) (ts : List Task) (c c1 d : Seen) (e : Event) → IsGoing c → IsMemberAt c i by → agenda_of c by ≡ t ∷ ts → e ≡ answer_to (state_of c) by t
-    → SameButOwed (record (with_event c e) { agendas = with_handed c.agendas (handing (state_of c) e) }) c1
+pub performed_is : (i : ℕ) (by : List ℕ) (t : Client) (ts : List Client) (c c1 d : Seen) (e : Event) → IsGoing c → IsMemberAt c i by → agenda_of c by ≡ t ∷ ts → asked_of t ≡ by → e ≡ answer_to (state_of c) t
+    → SameButOwed (record (with_event c e) { agendas = with_asked c.agendas (handing (state_of c) e) }) c1
     → d ≡ record c1 { agendas = with_tasks c1.agendas by (drop 1 (agenda_of c1 by)) }
-    → SameButOwed (performed c by (answer_to (state_of c) by t) ts) d
-performed_is i by t ts c c1 d e g at a answer s is =
+    → SameButOwed (performed c by (answer_to (state_of c) t) ts) d
+performed_is i by t ts c c1 d e g at a asks answer s is =
     subst (λ x. SameButOwed (performed c by x ts) d) answer (
       s.0,
       is
           ∙ ap (λ (y : Seen). record y { agendas = with_tasks y.agendas by (drop 1 (agenda_of y by)) }) s.1
-          ∙ ap (λ us. showing s.0 (record (with_event c e) { agendas = with_tasks (with_handed c.agendas (handing (state_of c) e)) by (drop 1 us) }))
-          (ap (λ x. tasks_in (with_handed c.agendas (handing (state_of c) x)) by) answer ∙ mine c i by t ts g at a),
+          ∙ ap (λ us. showing s.0 (record (with_event c e) { agendas = with_tasks (with_asked c.agendas (handing (state_of c) e)) by (drop 1 us) }))
+          (ap (λ x. tasks_in (with_asked c.agendas (handing (state_of c) x)) by) answer ∙ mine c i by t ts g at a asks),
     )
 
 pub performed_goes : (i : ℕ) (by : List ℕ) (c d : Seen) → IsGoing c → IsMemberAt c i by → Performs i by c d → HasGoneOn c d
 performed_goes i by c d g at p =
-    let e : Event = answer_to (state_of c) by p.0 in
+    let e : Event = answer_to (state_of c) p.0 in
     let k : Seen = performed c by e p.1 in
-    subst (HasGoneOn c) (sym p.4.1) (e ∷ [], GoesOn-given c k (showing p.4.0 k) (e ∷ []) refl refl refl refl (performed_on c i by p.0 p.1 g at p.2))
+    subst (HasGoneOn c) (sym p.5.1) (e ∷ [], GoesOn-given c k (showing p.5.0 k) (e ∷ []) refl refl refl refl (performed_on c i by p.0 p.1 g at p.2 p.3.0))
 
 -- it has done or refused one thing more that clients asked of it
 pub performed_more : (i : ℕ) (by : List ℕ) (c d : Seen) → Performs i by c d → length (client_events by c.events) < length (client_events by d.events)
 performed_more i by c d p =
-    let e : Event = answer_to (state_of c) by p.0 in
-    omega (arith, ap (λ x. length (client_events by x.events)) p.4.1, ap length (flat_map-append (client_event by) c.events (e ∷ [])), length-append (client_events by c.events) (client_events by (e ∷ [])), ap (λ zs. length (zs ++ [])) (answer_asked by by p.0 (refusal (state_of c) (task_event by p.0)) (own_bytes by) refl))
+    let e : Event = answer_to (state_of c) p.0 in
+    omega (arith, ap (λ x. length (client_events by x.events)) p.5.1, ap length (flat_map-append (client_event by) c.events (e ∷ [])), length-append (client_events by c.events) (client_events by (e ∷ [])), ap (λ zs. length (zs ++ [])) (answer_asked by p.0 (refusal (state_of c) (event_of p.0)) (ap (λ k. bytes_eq k by) p.3.0 ∙ own_bytes by)))
 
 pub performed_less : (i : ℕ) (by : List ℕ) (c d : Seen) → IsGoing c → IsMemberAt c i by → Performs i by c d → backlog_of d < backlog_of c
-performed_less i by c d g at p = subst (λ x. backlog_of x < backlog_of c) (sym p.4.1) (performed_left c i by p.0 p.1 g at p.2 p.3)
+performed_less i by c d g at p = subst (λ x. backlog_of x < backlog_of c) (sym p.5.1) (performed_left c i by p.0 p.1 g at p.2 p.3.0 p.4)
 
 -- ---- heads
 
@@ -199,38 +152,27 @@ asked_more c d name more e = ap (λ es. length (client_events name es)) e ∙ ap
 -- each member that had something to do at once has begun with its head
 pub heads_are : (c d : Seen) (more : List Event) → GoesOn c d more → ((i : ℕ) (name : List ℕ) → IsMemberAt c i name → HasBegun i name c d) → HeadsAre c more
 heads_are c d more g begun i name t ts at a due =
-    first_of (client_events name more) (todo name (agenda_of d name)) (todo name ts ++ handed (state_of c) name more) (task_event name t)
-    (g.serves name ∙ ap (λ us. todo name us ++ handed (state_of c) name more) a)
+    first_of (client_events name more) (todo (agenda_of d name)) (todo ts ++ handed (state_of c) name more) (event_of t)
+    (g.serves name ∙ ap (λ us. todo us ++ handed (state_of c) name more) a)
     (omega (arith, begun i name at due, asked_more c d name more g.events))
 
 -- what was due is so still, where nothing was done of it
-same_stop : (name : List ℕ) (t u : Task) → task_event name t ≡ task_event name u → is_stop t ≡ is_stop u
-same_stop name (task.Cast body) (task.Cast other) e = refl
-same_stop name (task.Cast body) task.Stop e = cc
-same_stop name (task.Cast body) (task.Admit other) e = cc
-same_stop name task.Stop (task.Cast other) e = cc
-same_stop name task.Stop task.Stop e = refl
-same_stop name task.Stop (task.Admit other) e = cc
-same_stop name (task.Admit newcomer) (task.Cast other) e = cc
-same_stop name (task.Admit newcomer) task.Stop e = cc
-same_stop name (task.Admit newcomer) (task.Admit other) e = refl
-
-takes_up_still : (f g : Phase) (t u : Task) → (f ≢ Waiting → g ≢ Waiting) → is_stop t ≡ is_stop u → takes_up f t ≡ true → takes_up g u ≡ true
+takes_up_still : (f g : Phase) (t u : Client) → (f ≢ Waiting → g ≢ Waiting) → is_stop t ≡ is_stop u → takes_up f t ≡ true → takes_up g u ≡ true
 takes_up_still f Up t u on same due = refl
 takes_up_still f Stopped t u on same due = refl
 takes_up_still Waiting Waiting t u on same due = sym same ∙ due
 takes_up_still Up Waiting t u on same due = absurd (on (λ e. cc) refl)
 takes_up_still Stopped Waiting t u on same due = absurd (on (λ e. cc) refl)
 
-due_by : (name : List ℕ) (f g : Phase) (old new : List Task) (behind : List Event) → (f ≢ Waiting → g ≢ Waiting) → todo name new ≡ todo name old ++ behind → is_due f old ≡ true → is_due g new ≡ true
-due_by name f g [] new behind on e due = absurd (false≢true due)
-due_by name f g (t ∷ ts) [] behind on e due = let both : [] ≡ task_event name t ∷ (todo name ts ++ behind) = e in cc
-due_by name f g (t ∷ ts) (u ∷ us) behind on e due = let same : task_event name u ≡ task_event name t = cc in takes_up_still f g t u on (sym (same_stop name u t same)) due
+due_by : (f g : Phase) (old new : List Client) (behind : List Event) → (f ≢ Waiting → g ≢ Waiting) → todo new ≡ todo old ++ behind → is_due f old ≡ true → is_due g new ≡ true
+due_by f g [] new behind on e due = absurd (false≢true due)
+due_by f g (t ∷ ts) [] behind on e due = let both : [] ≡ event_of t ∷ (todo ts ++ behind) = e in cc
+due_by f g (t ∷ ts) (u ∷ us) behind on e due = let same : event_of u ≡ event_of t = cc in takes_up_still f g t u on (sym (same_stop u t same)) due
 
 pub due_still : (c d : Seen) (i : ℕ) (name : List ℕ) (more : List Event) → GoesOn c d more → ((member_at (state_of c) (i + 1)).phase ≢ Waiting → (member_at (state_of d) (i + 1)).phase ≢ Waiting) → length (client_events name more) ≡ 0 → IsDue c i name → IsDue d i name
 due_still c d i name more g on none due =
-    due_by name (member_at (state_of c) (i + 1)).phase (member_at (state_of d) (i + 1)).phase (agenda_of c name) (agenda_of d name) (handed (state_of c) name more) on
-    (sym (ap (λ zs. zs ++ todo name (agenda_of d name)) (nothing (client_events name more) none)) ∙ g.serves name) due
+    due_by (member_at (state_of c) (i + 1)).phase (member_at (state_of d) (i + 1)).phase (agenda_of c name) (agenda_of d name) (handed (state_of c) name more) on
+    (sym (ap (λ zs. zs ++ todo (agenda_of d name)) (nothing (client_events name more) none)) ∙ g.serves name) due
   where
     nothing : (xs : List Event) → length xs ≡ 0 → xs ≡ []
     nothing [] e = refl
@@ -238,43 +180,14 @@ due_still c d i name more g on none due =
 
 -- ---- commands
 
--- a command x that asks the member of the name by for the task t
-module _ (c : Seen) (by : List ℕ) (t : Task) (x : Command) (asks : (name : List ℕ) → asked_by name x ≡ (if bytes_eq by name then task_event by t ∷ [] else [])) (gives : tasked c.agendas x ≡ with_task c.agendas by t) where
-  abbrev d : Seen
-  d = commanded c x
-
-  given_serves : (name : List ℕ) (b : Bool) → bytes_eq by name ≡ b → PlaysSoFar c → Serves (opening c.credit c.names) name c.events (c.given ++ x ∷ []) (todo name (agenda_of d name))
-  given_serves name true e h =
-      let same : by ≡ name = same_bytes by name e in
-      let agenda : todo name (agenda_of d name) ≡ todo name (agenda_of c name) ++ task_event name t ∷ [] =
-      ap (λ ags. todo name (tasks_in ags name)) gives
-      ∙ ap (λ n. todo name (tasks_in (with_task c.agendas n t) name)) same
-      ∙ ap (todo name) (given_new c.agendas name t)
-      ∙ map-append (task_event name) (agenda_of c name) (t ∷ []) in
-      let one : asked_by name x ≡ task_event name t ∷ [] = asks name ∙ ap (λ b. if b then task_event by t ∷ [] else []) e ∙ ap (λ n. task_event n t ∷ []) same in
-      subst (Serves (opening c.credit c.names) name c.events (c.given ++ x ∷ [])) (sym agenda)
-      (serves_more (opening c.credit c.names) name c.events c.given (todo name (agenda_of c name)) (h.serves name) (c.given ++ x ∷ []) (task_event name t ∷ [])
-      (asked_push name c.given x ∙ ap (λ zs. asked name c.given ++ zs) one))
-  given_serves name false e h =
-      let agenda : agenda_of d name ≡ agenda_of c name = ap (λ ags. tasks_in ags name) gives ∙ given_other c.agendas by name t (differ by name e) in
-      let none : asked_by name x ≡ [] = asks name ∙ ap (λ b. if b then task_event by t ∷ [] else []) e in
-      subst (λ ts. Serves (opening c.credit c.names) name c.events (c.given ++ x ∷ []) (todo name ts)) (sym agenda)
-      (serves_still (opening c.credit c.names) name c.events c.given (todo name (agenda_of c name)) (h.serves name) (c.given ++ x ∷ [])
-      (asked_push name c.given x ∙ ap (λ zs. asked name c.given ++ zs) none ∙ append-nil (asked name c.given)))
-
-  given_plays : (x ≡ command.Settle → ⊥) → PlaysSoFar c → PlaysSoFar d
-  given_plays differs h = record {
-    serves = λ name. given_serves name (bytes_eq by name) refl h;
-    settled = settled_each_more c.credit c.names c.events c.given x h.settled (λ e. absurd (differs e));
-  }
-
 -- a command that was taken keeps what is played
 pub commanded_plays : (c d : Seen) (x : Command) → IsOfMember x → d ≡ commanded c x → PlaysSoFar c → PlaysSoFar d
-commanded_plays c d (command.Cast by body) k is h = subst PlaysSoFar (sym is) (given_plays c by (task.Cast body) (command.Cast by body) (λ name. refl) refl (λ e. cc) h)
-commanded_plays c d (command.Join by newcomer) k is h = subst PlaysSoFar (sym is) (given_plays c by (task.Admit newcomer) (command.Join by newcomer) (λ name. refl) refl (λ e. cc) h)
-commanded_plays c d (command.Kill by) k is h = subst PlaysSoFar (sym is) (given_plays c by task.Stop (command.Kill by) (λ name. refl) refl (λ e. cc) h)
-commanded_plays c d (command.Go turns) k is h = absurd k
-commanded_plays c d command.Settle k is h = absurd k
+commanded_plays c d x of is h = subst PlaysSoFar (sym is) (record {
+  serves = λ name.
+      subst (Serves (opening c.credit c.names) name c.events (c.given ++ x ∷ [])) (sym (asked_todo c.agendas name (client_of x)))
+      (serves_more (opening c.credit c.names) name c.events c.given (todo (agenda_of c name)) (h.serves name) (c.given ++ x ∷ []) (given_to name (client_of x)) (asked_push name c.given x));
+  settled = settled_each_more c.credit c.names c.events c.given x h.settled (λ settles. absurd (false≢true (subst IsOfMember settles of)));
+})
 
 -- ---- rounds and settling
 
@@ -306,10 +219,10 @@ gone_beside c c1 d d1 c1c c1n c1e c1a dc dn de da h = (
     names = dn ∙ h.1.names ∙ c1n;
     events = de ∙ h.1.events ∙ ap (λ es. es ++ h.0) c1e;
     serves = λ name.
-        ap (λ ags. client_events name h.0 ++ todo name (tasks_in ags name)) da
+        ap (λ ags. client_events name h.0 ++ todo (tasks_in ags name)) da
         ∙ h.1.serves name
-        ∙ ap (λ ags. todo name (tasks_in ags name) ++ handed (state_of c1) name h.0) c1a
-        ∙ ap (λ w. todo name (agenda_of c name) ++ handed w name h.0) same;
+        ∙ ap (λ ags. todo (tasks_in ags name) ++ handed (state_of c1) name h.0) c1a
+        ∙ ap (λ w. todo (agenda_of c name) ++ handed w name h.0) same;
     later = λ name count le.
         subst (λ w. length (client_events name (take count h.0)) ≤ length (agenda_of c name) + length (handed w name (take count h.0))) same
         (subst (λ ags. length (client_events name (take count h.0)) ≤ length (tasks_in ags name) + length (handed (state_of c1) name (take count h.0))) c1a (h.1.later name count le));

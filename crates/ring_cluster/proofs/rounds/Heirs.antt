@@ -11,18 +11,18 @@ use Rattle.ring_names.specs.Reason.{code_of}
 use Rattle.group_view.specs.Change.{is_taken, most_entries}
 use Rattle.ring_rules.specs.declared.event.Event.{Event}
 use Rattle.ring_rules.specs.declared.event.Event.TheVariants.{Admit, Refuse}
+use Rattle.ring_rules.specs.declared.event.Client.{Client}
+use Rattle.ring_rules.specs.declared.event.Client.TheVariants as client
 use Rattle.ring_rules.specs.declared.phase.Phase.{Phase}
 use Rattle.ring_rules.specs.declared.phase.Phase.TheVariants.{Waiting, Up, Stopped}
 use Rattle.ring_rules.specs.Refusal.{refuse_if, or_else}
 use Rattle.ring_rules.specs.Machine.{World, member_at, view_in, newest, runs, runs_phase, is_waiting}
 use Rattle.ring_rules.specs.Step.{size}
-use Rattle.ring_rules.specs.Event.{id_of, of_member, is_asked, is_stopped, admit_refusal, up_refusal, refused_at, refusal, effect, last}
+use Rattle.ring_rules.specs.Event.{id_of, of_member, event_of, asked_of, is_asked, is_stopped, admit_refusal, up_refusal, refused_at, refusal, effect, last}
 use Rattle.ring_rules.proofs.events.Names.{own_bytes}
-use Rattle.ring_cluster.specs.declared.agenda.Task.{Task}
-use Rattle.ring_cluster.specs.declared.agenda.Task.TheVariants as task
-use Rattle.ring_cluster.specs.Agendas.{Plan, names_of, place_among, plan_at, tasks_found, tasks_in, with_found, with_tasks, with_more, with_task}
+use Rattle.ring_cluster.specs.Agendas.{Plan, names_of, place_among, plan_at, tasks_found, tasks_in, with_found, with_tasks, with_more, with_task, with_asked}
 use Rattle.ring_cluster.specs.Handed.{least_running, handing, given_to, handed}
-use Rattle.ring_cluster.specs.Plays.{task_event, answer_by, answer_to, with_handed}
+use Rattle.ring_cluster.specs.Plays.{answer_by, answer_to}
 use Rattle.ring_cluster.specs.Seen.{IsMemberIn}
 use Rattle.ring_cluster.specs.Backlog.{heirs_from, is_no_heir, cost, left_on, backlog}
 use Rattle.ring_parties.proofs.lists.Places.{position_is, position_none, passes_nowhere}
@@ -127,24 +127,22 @@ no_heir_few w (Some i) name = by_test (bytes_eq (member_at w (i + 1)).name name)
     by_test false = omega arith
 
 -- it is no more after an event
-pub cost_later : (w w' : World) → KeepsNames w w' → IsNext (least_running w) (least_running w') → (name : List ℕ) (t : Task) → cost w' name t ≤ cost w name t
-cost_later w w' k n name (task.Cast body) = omega arith
-cost_later w w' k n name task.Stop = omega arith
-cost_later w w' k n name (task.Admit newcomer) = ⊎_elim
+pub cost_later : (w w' : World) → KeepsNames w w' → IsNext (least_running w) (least_running w') → (t : Client) → cost w' t ≤ cost w t
+cost_later w w' k n (client.Admit by newcomer) = ⊎_elim
     (λ (same : least_running w' ≡ least_running w).
-    let still : is_no_heir w' (least_running w) name ≡ is_no_heir w (least_running w) name = by_heir (least_running w) refl in
-    omega (arith, ap heirs_from same, ap (λ o. is_no_heir w' o name) same, still))
-    (λ (later : heirs_from (least_running w') < heirs_from (least_running w)). omega (arith, later, no_heir_few w' (least_running w') name))
+    let still : is_no_heir w' (least_running w) by ≡ is_no_heir w (least_running w) by = by_heir (least_running w) refl in
+    omega (arith, ap heirs_from same, ap (λ o. is_no_heir w' o by) same, still))
+    (λ (later : heirs_from (least_running w') < heirs_from (least_running w)). omega (arith, later, no_heir_few w' (least_running w') by))
     n
   where
-    by_heir : (o : Option ℕ) → least_running w ≡ o → is_no_heir w' o name ≡ is_no_heir w o name
+    by_heir : (o : Option ℕ) → least_running w ≡ o → is_no_heir w' o by ≡ is_no_heir w o by
     by_heir None e = refl
-    by_heir (Some i) e = ap (λ n. if bytes_eq n name then 0 else 1) (k.name (i + 1) (least_runs w i e).0)
+    by_heir (Some i) e = ap (λ n. if bytes_eq n by then 0 else 1) (k.name (i + 1) (least_runs w i e).0)
+cost_later w w' k n t = omega arith
 
-some_cost : (w : World) (name : List ℕ) (t : Task) → 1 ≤ cost w name t
-some_cost w name (task.Cast body) = omega arith
-some_cost w name task.Stop = omega arith
-some_cost w name (task.Admit newcomer) = omega arith
+some_cost : (w : World) (t : Client) → 1 ≤ cost w t
+some_cost w (client.Admit by newcomer) = omega arith
+some_cost w t = omega arith
 
 -- ---- by all of them
 
@@ -153,25 +151,23 @@ sum_less f g [] h = omega arith
 sum_less f g (x ∷ xs) h = omega (arith, sum_by-cons f x xs, sum_by-cons g x xs, h x, sum_less f g xs h)
 
 pub backlog_later : (w w' : World) (plans : List Plan) → KeepsNames w w' → IsNext (least_running w) (least_running w') → backlog w' plans ≤ backlog w plans
-backlog_later w w' plans k n = sum_less (left_on w') (left_on w) plans (λ a. sum_less (cost w' a.name) (cost w a.name) a.tasks (cost_later w w' k n a.name))
+backlog_later w w' plans k n = sum_less (left_on w') (left_on w) plans (λ a. sum_less (cost w') (cost w) a.tasks (cost_later w w' k n))
 
 -- with other tasks on the agenda of a name
-tasks_left : (w : World) (plans : List Plan) (name : List ℕ) (ts : List Task) (i : ℕ) → place_among (names_of plans) name ≡ Some i → backlog w (with_found plans (Some i) ts) + sum_by (cost w name) (tasks_found plans (Some i)) ≡ backlog w plans + sum_by (cost w name) ts
+tasks_left : (w : World) (plans : List Plan) (name : List ℕ) (ts : List Client) (i : ℕ) → place_among (names_of plans) name ≡ Some i → backlog w (with_found plans (Some i) ts) + sum_by (cost w) (tasks_found plans (Some i)) ≡ backlog w plans + sum_by (cost w) ts
 tasks_left w plans name ts i e =
-    let at = found_at plans name i e in
     let b : Plan = record (plan_at plans i) { tasks = ts } in
-    let named : (us : List Task) → sum_by (cost w (plan_at plans i).name) us ≡ sum_by (cost w name) us = λ us. ap (λ n. sum_by (cost w n) us) at.1 in
-    omega (arith, sum_by-set (left_on w) plans i b (plan_at [] 0) at.0, named ts, named (plan_at plans i).tasks)
+    omega (arith, sum_by-set (left_on w) plans i b (plan_at [] 0) (found_at plans name i e).0)
 
 -- with one task more
-task_left : (w : World) (plans : List Plan) (name : List ℕ) (t : Task) → backlog w (with_task plans name t) ≡ backlog w plans + cost w name t
-task_left w plans name t = by_place (place_among (names_of plans) name) refl
+task_left : (w : World) (plans : List Plan) (t : Client) → backlog w (with_task plans t) ≡ backlog w plans + cost w t
+task_left w plans t = by_place (place_among (names_of plans) (asked_of t)) refl
   where
-    by_place : (o : Option ℕ) → place_among (names_of plans) name ≡ o → backlog w (with_more plans o name t) ≡ backlog w plans + cost w name t
+    by_place : (o : Option ℕ) → place_among (names_of plans) (asked_of t) ≡ o → backlog w (with_more plans o t) ≡ backlog w plans + cost w t
     by_place None e =
-        omega (arith, sum_by_push (left_on w) plans (record { name = name; tasks = t ∷ [] }), sum_by-cons (cost w name) t [])
+        omega (arith, sum_by_push (left_on w) plans (record { name = asked_of t; tasks = t ∷ [] }), sum_by-cons (cost w) t [])
     by_place (Some i) e =
-        omega (arith, tasks_left w plans name ((plan_at plans i).tasks ++ t ∷ []) i e, sum_by_push (cost w name) (plan_at plans i).tasks t)
+        omega (arith, tasks_left w plans (asked_of t) ((plan_at plans i).tasks ++ t ∷ []) i e, sum_by_push (cost w) (plan_at plans i).tasks t)
 
 -- ---- a task that is answered
 
@@ -200,63 +196,71 @@ module _ (w : World) (i : ℕ) (name : List ℕ) (named : (k : ℕ) → k + 1 < 
   found : id_of w name ≡ Some (i + 1)
   found = ap (id_of w) (sym at.1) ∙ named i at.0
 
-  -- what its answer hands on is what it was to do, and goes to the running member of least id
-  pub answer_hands : (t : Task) (h : List ℕ × List ℕ) → handing w (answer_to w name t) ≡ Some h → (j : ℕ) × (least_running w ≡ Some j) × (h.0 ≡ (member_at w (j + 1)).name) × (t ≡ task.Admit h.1) × (runs w (i + 1) ≡ false)
-  answer_hands t h e = by_refusal (refusal w (task_event name t)) refl t refl e
+  -- the join h is handed on by the answer to the join t: h is asked of the running member of least id
+  abbrev pub IsHandedOn : Client → Client → Type 0
+  IsHandedOn t h = (j : ℕ) × (newcomer : List ℕ) × (least_running w ≡ Some j) × (h ≡ client.Admit (member_at w (j + 1)).name newcomer) × (t ≡ client.Admit name newcomer) × (runs w (i + 1) ≡ false)
+
+  -- what is done hands nothing on
+  done_hands_none : (t : Client) → handing w (event_of t) ≡ None
+  done_hands_none (client.Cast by body) = refl
+  done_hands_none t = refl
+
+  -- what the answer to what it was asked hands on
+  pub answer_hands : (t h : Client) → asked_of t ≡ name → handing w (answer_to w t) ≡ Some h → IsHandedOn t h
+  answer_hands t h asks e = by_refusal (refusal w (event_of t)) refl t refl e
     where
-      by_refusal : (o : Option Reason) → refusal w (task_event name t) ≡ o → (u : Task) → t ≡ u → handing w (answer_by name u o) ≡ Some h → (j : ℕ) × (least_running w ≡ Some j) × (h.0 ≡ (member_at w (j + 1)).name) × (t ≡ task.Admit h.1) × (runs w (i + 1) ≡ false)
-      by_refusal None r (task.Cast body) is e = cc
-      by_refusal None r task.Stop is e = cc
-      by_refusal None r (task.Admit newcomer) is e = cc
-      by_refusal (Some r) told (task.Cast body) is e = cc
-      by_refusal (Some r) told task.Stop is e = cc
-      by_refusal (Some r) told (task.Admit newcomer) is e = by_code (nat_eq (code_of r) (code_of reason.Stopped)) refl (least_running w) refl e
+      by_refusal : (o : Option Reason) → refusal w (event_of t) ≡ o → (u : Client) → t ≡ u → handing w (answer_by u o) ≡ Some h → IsHandedOn t h
+      by_refusal None r u is e = let none : None ≡ Some h = sym (done_hands_none u) ∙ e in cc
+      by_refusal (Some r) told (client.Admit by newcomer) is e = by_code (nat_eq (code_of r) (code_of reason.Stopped)) refl (least_running w) refl e
         where
           by_code : (b : Bool) → nat_eq (code_of r) (code_of reason.Stopped) ≡ b → (o : Option ℕ) → least_running w ≡ o
-              → (if b then option_map (λ to. (to, newcomer)) (option_map (λ k. (member_at w (k + 1)).name) o) else None) ≡ Some h
-              → (j : ℕ) × (least_running w ≡ Some j) × (h.0 ≡ (member_at w (j + 1)).name) × (t ≡ task.Admit h.1) × (runs w (i + 1) ≡ false)
+              → (if b then option_map (λ to. client.Admit to newcomer) (option_map (λ k. (member_at w (k + 1)).name) o) else None) ≡ Some h
+              → IsHandedOn t h
           by_code false n o l e = cc
           by_code true n None l e = cc
           by_code true n (Some j) l e =
-              let both : ((member_at w (j + 1)).name, newcomer) ≡ h = cc in
+              let both : client.Admit (member_at w (j + 1)).name newcomer ≡ h = cc in
+              let mine : t ≡ client.Admit name newcomer = is ∙ ap (λ n. client.Admit n newcomer) (ap asked_of (sym is) ∙ asks) in
               let refused : up_refusal w (i + 1) (admit_refusal w newcomer) ≡ Some r =
-              sym (ap (λ o. of_member o (refused_at w (Admit name newcomer))) found) ∙ ap (λ u. refusal w (task_event name u)) (sym is) ∙ told in
-              (j, l, ap (λ k. k.0) (sym both), is ∙ ap (λ k. task.Admit k.1) both, refused_stopped w i newcomer r (member_at w (i + 1)).phase refl refused n)
+              sym (ap (λ o. of_member o (refused_at w (Admit name newcomer))) found) ∙ ap (λ u. refusal w (event_of u)) (sym mine) ∙ told in
+              (j, newcomer, l, sym both, mine, refused_stopped w i newcomer r (member_at w (i + 1)).phase refl refused n)
+      by_refusal (Some r) told u is e = cc
 
-  -- so it is another
-  pub answer_differs : (t : Task) (h : List ℕ × List ℕ) → handing w (answer_to w name t) ≡ Some h → h.0 ≢ name
-  answer_differs t h e same =
-      let a = answer_hands t h e in
-      let r = least_runs w a.0 a.1 in
-      let one : Some (a.0 + 1) ≡ Some (i + 1) = sym (named a.0 r.0) ∙ ap (id_of w) (sym a.2 ∙ same) ∙ found in
+  -- so it is asked of another
+  pub answer_differs : (t h : Client) → asked_of t ≡ name → handing w (answer_to w t) ≡ Some h → asked_of h ≢ name
+  answer_differs t h asks e same =
+      let a = answer_hands t h asks e in
+      let r = least_runs w a.0 a.2 in
+      let one : Some (a.0 + 1) ≡ Some (i + 1) = sym (named a.0 r.0) ∙ ap (id_of w) (sym (ap asked_of a.3) ∙ same) ∙ found in
       let is : a.0 + 1 ≡ i + 1 = cc in
-      false≢true (sym a.4 ∙ ap (runs w) (sym is) ∙ r.1)
+      false≢true (sym a.5 ∙ ap (runs w) (sym is) ∙ r.1)
 
-  -- the agenda without the task that it has answered, and what that hands on on its agenda
-  pub answered_less : (plans : List Plan) (t : Task) (ts : List Task) → tasks_in plans name ≡ t ∷ ts → backlog w (with_tasks (with_handed plans (handing w (answer_to w name t))) name ts) < backlog w plans
-  answered_less plans t ts a = by_handing (handing w (answer_to w name t)) refl
+  -- the agenda without the task that it has answered, and what that hands on on the agenda of its member
+  pub answered_less : (plans : List Plan) (t : Client) (ts : List Client) → asked_of t ≡ name → tasks_in plans name ≡ t ∷ ts → backlog w (with_tasks (with_asked plans (handing w (answer_to w t))) name ts) < backlog w plans
+  answered_less plans t ts asks a = by_handing (handing w (answer_to w t)) refl
     where
       -- where these tasks stand on the agenda of that name
-      taken : (all : List Plan) → tasks_in all name ≡ t ∷ ts → backlog w (with_tasks all name ts) + cost w name t ≡ backlog w all
+      taken : (all : List Plan) → tasks_in all name ≡ t ∷ ts → backlog w (with_tasks all name ts) + cost w t ≡ backlog w all
       taken all k = by_place (place_among (names_of all) name) refl
         where
-          by_place : (o : Option ℕ) → place_among (names_of all) name ≡ o → backlog w (with_found all o ts) + cost w name t ≡ backlog w all
+          by_place : (o : Option ℕ) → place_among (names_of all) name ≡ o → backlog w (with_found all o ts) + cost w t ≡ backlog w all
           by_place None e = let none : t ∷ ts ≡ [] = sym k ∙ ap (tasks_found all) e in cc
           by_place (Some p) e =
-              omega (arith, tasks_left w all name ts p e, ap (sum_by (cost w name)) (sym (ap (tasks_found all) e) ∙ k), sum_by-cons (cost w name) t ts)
+              omega (arith, tasks_left w all name ts p e, ap (sum_by (cost w)) (sym (ap (tasks_found all) e) ∙ k), sum_by-cons (cost w) t ts)
 
-      by_handing : (o : Option (List ℕ × List ℕ)) → handing w (answer_to w name t) ≡ o → backlog w (with_tasks (with_handed plans o) name ts) < backlog w plans
-      by_handing None e = omega (arith, taken plans a, some_cost w name t)
+      by_handing : (o : Option Client) → handing w (answer_to w t) ≡ o → backlog w (with_tasks (with_asked plans o) name ts) < backlog w plans
+      by_handing None e = omega (arith, taken plans a, some_cost w t)
       by_handing (Some h) e =
-          let k = answer_hands t h e in
-          let all : List Plan = with_task plans h.0 (task.Admit h.1) in
-          let still : tasks_in all name ≡ t ∷ ts = given_other plans h.0 name (task.Admit h.1) (answer_differs t h e) ∙ a in
-          let mine : cost w name t ≡ 1 + 2 * heirs_from (least_running w) + 1 =
-          ap (cost w name) k.3
-          ∙ ap (λ o. 1 + 2 * heirs_from (least_running w) + is_no_heir w o name) k.1
-          ∙ ap (λ b. 1 + 2 * heirs_from (least_running w) + (if b then 0 else 1)) (other_name (member_at w (k.0 + 1)).name name (λ same. answer_differs t h e (k.2 ∙ same))) in
-          let theirs : cost w h.0 (task.Admit h.1) ≡ 1 + 2 * heirs_from (least_running w) + 0 =
-          ap (λ o. 1 + 2 * heirs_from (least_running w) + is_no_heir w o h.0) k.1
-          ∙ ap (λ n. 1 + 2 * heirs_from (least_running w) + (if bytes_eq n h.0 then 0 else 1)) (sym k.2)
-          ∙ ap (λ b. 1 + 2 * heirs_from (least_running w) + (if b then 0 else 1)) (own_bytes h.0) in
-          omega (arith, taken all still, task_left w plans h.0 (task.Admit h.1), mine, theirs)
+          let k = answer_hands t h asks e in
+          let differs = answer_differs t h asks e in
+          let heir : List ℕ = (member_at w (k.0 + 1)).name in
+          let still : tasks_in (with_task plans h) name ≡ t ∷ ts = given_other plans h name differs ∙ a in
+          let mine : cost w t ≡ 1 + 2 * heirs_from (least_running w) + 1 =
+          ap (cost w) k.4
+          ∙ ap (λ o. 1 + 2 * heirs_from (least_running w) + is_no_heir w o name) k.2
+          ∙ ap (λ b. 1 + 2 * heirs_from (least_running w) + (if b then 0 else 1)) (other_name heir name (λ same. differs (ap asked_of k.3 ∙ same))) in
+          let theirs : cost w h ≡ 1 + 2 * heirs_from (least_running w) + 0 =
+          ap (cost w) k.3
+          ∙ ap (λ o. 1 + 2 * heirs_from (least_running w) + is_no_heir w o heir) k.2
+          ∙ ap (λ b. 1 + 2 * heirs_from (least_running w) + (if b then 0 else 1)) (own_bytes heir) in
+          omega (arith, taken (with_task plans h) still, task_left w plans h, mine, theirs)

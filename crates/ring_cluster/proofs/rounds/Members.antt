@@ -10,12 +10,14 @@ use Rattle.ring_names.specs.declared.numbers.CreditSpec.{CreditSpec}
 use Rattle.group_view.specs.Change.{AreOpeningNames, AreDifferent, is_taken}
 use Rattle.ring_rules.specs.declared.event.Event.{Event}
 use Rattle.ring_rules.specs.declared.event.Event.TheVariants.{Take, Mark, Refresh, Admit, Erase}
+use Rattle.ring_rules.specs.declared.event.Client.{Client}
+use Rattle.ring_rules.specs.declared.event.Client.TheVariants as client
 use Rattle.ring_rules.specs.declared.phase.Phase.{Phase}
 use Rattle.ring_rules.specs.declared.phase.Phase.TheVariants.{Waiting, Up, Stopped}
 use Rattle.ring_rules.specs.Refusal.{refuse_if, or_else, is_empty}
 use Rattle.ring_rules.specs.Machine.{World, member_at, link_at, view_in, newest, runs, runs_phase, is_waiting, oldest}
 use Rattle.ring_rules.specs.Step.{size, opening}
-use Rattle.ring_rules.specs.Event.{by_of, id_of, of_member, on_link, is_asked, is_told, is_passing, doing_refusal, refused_at, is_stopped, version_refusal, running_refusal, up_refusal, take_refusal, refresh_refusal, mark_refusal, erase_refusal, admit_refusal, is_multicast, refusal, effect, IsRun, last}
+use Rattle.ring_rules.specs.Event.{by_of, asked_of, event_of, is_asked_multicast, id_of, of_member, on_link, is_asked, is_told, is_passing, doing_refusal, refused_at, is_stopped, version_refusal, running_refusal, up_refusal, take_refusal, refresh_refusal, mark_refusal, erase_refusal, admit_refusal, is_multicast, refusal, effect, IsRun, last}
 use Rattle.ring_rules.specs.Work.{is_stale, LeavesLess}
 use Rattle.ring_rules.specs.Settling.{is_repair, stale_one}
 use Rattle.ring_rules.proofs.events.Names.{same_bytes}
@@ -30,14 +32,12 @@ use Rattle.ring_rules.proofs.walks.Ended.{runs_lt}
 use Rattle.ring_rules.proofs.work.Settling.{repair_less, someone}
 use Rattle.ring_rules.proofs.work.Fit as ring
 use Rattle.gm_member.proofs.Fit.{IsFit, reached_fit}
-use Rattle.ring_cluster.specs.declared.agenda.Task.{Task}
-use Rattle.ring_cluster.specs.declared.agenda.Task.TheVariants as task
 use Rattle.ring_cluster.specs.Seen.{Seen, state_of, IsGoing, IsMemberIn, with_event}
 use Rattle.ring_parties.specs.States.{state, IsEventIn}
-use Rattle.ring_cluster.specs.Agendas.{Plan, place_among}
+use Rattle.ring_cluster.specs.Agendas.{Plan, IsAskedOf, place_among}
 use Rattle.ring_cluster.specs.Backlog.{backlog}
 use Rattle.ring_cluster.specs.Handed.{least_running}
-use Rattle.ring_cluster.specs.Plays.{asked_event, client_event, client_events, task_event, answer_by, answer_to, is_stop, takes_up}
+use Rattle.ring_cluster.specs.Plays.{asked_event, client_event, client_events, answer_by, answer_to, is_stop, takes_up}
 use Rattle.ring_cluster.specs.Turns.{IsMemberAt, MembersStay, NoneWaitsAgain}
 use Rattle.ring_cluster.specs.Published.{names_in, told_of_each}
 use Rattle.ring_rules.specs.Published.{published_in}
@@ -126,41 +126,40 @@ admit_told false true r e = let same : reason.TooManyMembers ≡ r = cc in ap is
 admit_told false false r e = cc
 
 -- one that waits takes up its stop alone
-no_waiter : (f : Phase) (t : Task) → is_stop t ≡ false → takes_up f t ≡ true → f ≢ Waiting
+no_waiter : (f : Phase) (t : Client) → is_stop t ≡ false → takes_up f t ≡ true → f ≢ Waiting
 no_waiter f t other takes e = false≢true (sym other ∙ sym (ap (λ g. takes_up g t) e) ∙ takes)
 
 module _ (w : World) (x : ℕ) (f : IsFit w) (some : 1 ≤ x) (lt : x < size w) where
-  task_told : (t : Task) (r : Reason) → takes_up (member_at w x).phase t ≡ true → doing_refusal w (task_event (member_at w x).name t) x ≡ Some r → is_passing r ≡ false
-  task_told (task.Cast body) r takes e = up_told (member_at w x).phase None r (no_waiter (member_at w x).phase (task.Cast body) refl takes) (λ h. cc) e
-  task_told task.Stop r takes e = running_told (member_at w x).phase r e
-  task_told (task.Admit newcomer) r takes e = up_told (member_at w x).phase (admit_refusal w newcomer) r (no_waiter (member_at w x).phase (task.Admit newcomer) refl takes) (admit_told (is_taken (view_in w (newest w)).entries newcomer) _ r) e
+  task_told : (t : Client) (r : Reason) → is_asked_multicast t ≡ true → takes_up (member_at w x).phase t ≡ true → doing_refusal w (event_of t) x ≡ Some r → is_passing r ≡ false
+  task_told (client.Cast by body) r cast takes e = up_told (member_at w x).phase None r (no_waiter (member_at w x).phase (client.Cast by body) refl takes) (λ h. cc) e
+  task_told (client.Stop by) r cast takes e = running_told (member_at w x).phase r e
+  task_told (client.Admit by newcomer) r cast takes e = up_told (member_at w x).phase (admit_refusal w newcomer) r (no_waiter (member_at w x).phase (client.Admit by newcomer) refl takes) (admit_told (is_taken (view_in w (newest w)).entries newcomer) _ r) e
+  task_told t r cast takes e = absurd (false≢true cast)
 
   -- what is told is told with its number
   told_as : (r : Reason) → is_passing r ≡ false → refuse_if (not (is_told (code_of r) (Some r))) reason.NotRefused ≡ None
   told_as r h = ap (λ b. refuse_if (not (b && not (is_passing r))) reason.NotRefused) (nat_eq-same (code_of r)) ∙ ap (λ b. refuse_if (not (not b)) reason.NotRefused) h
 
-  refusing : (t : Task) (r : Reason) → takes_up (member_at w x).phase t ≡ true → doing_refusal w (task_event (member_at w x).name t) x ≡ Some r
-      → of_member (id_of w (member_at w x).name) (λ k. refuse_if (not (is_told (code_of r) (doing_refusal w (task_event (member_at w x).name t) k))) reason.NotRefused) ≡ None
-  refusing t r takes e =
-      ap (λ o. of_member o (λ k. refuse_if (not (is_told (code_of r) (doing_refusal w (task_event (member_at w x).name t) k))) reason.NotRefused)) (f.named x some lt)
-      ∙ ap (λ o. refuse_if (not (is_told (code_of r) o)) reason.NotRefused) e
-      ∙ told_as r (task_told t r takes e)
+  -- what is refused is so by the conditions of the member of which it is asked
+  asked_refusal : (t : Client) → refusal w (event_of t) ≡ of_member (id_of w (asked_of t)) (doing_refusal w (event_of t))
+  asked_refusal (client.Cast by body) = refl
+  asked_refusal t = refl
 
-  -- what is refused is so by the member's own conditions
-  by_doing : (t : Task) (o : Option Reason) → refusal w (task_event (member_at w x).name t) ≡ o → doing_refusal w (task_event (member_at w x).name t) x ≡ o
-  by_doing (task.Cast body) o e = sym (ap (λ k. of_member k (doing_refusal w (task_event (member_at w x).name (task.Cast body)))) (f.named x some lt)) ∙ e
-  by_doing task.Stop o e = sym (ap (λ k. of_member k (doing_refusal w (task_event (member_at w x).name task.Stop))) (f.named x some lt)) ∙ e
-  by_doing (task.Admit newcomer) o e = sym (ap (λ k. of_member k (doing_refusal w (task_event (member_at w x).name (task.Admit newcomer)))) (f.named x some lt)) ∙ e
+  -- it is found by its name
+  found_by : (t : Client) → asked_of t ≡ (member_at w x).name → id_of w (asked_of t) ≡ Some x
+  found_by t asks = ap (id_of w) asks ∙ f.named x some lt
 
   -- so it may answer each task that it takes up
-  pub answer_may : (t : Task) → takes_up (member_at w x).phase t ≡ true → refusal w (answer_to w (member_at w x).name t) ≡ None
-  answer_may t takes = by_refusal t (refusal w (task_event (member_at w x).name t)) refl takes
+  pub answer_may : (t : Client) → IsAskedOf (member_at w x).name t → takes_up (member_at w x).phase t ≡ true → refusal w (answer_to w t) ≡ None
+  answer_may t asks takes = by_refusal (refusal w (event_of t)) refl
     where
-      by_refusal : (t : Task) (o : Option Reason) → refusal w (task_event (member_at w x).name t) ≡ o → takes_up (member_at w x).phase t ≡ true → refusal w (answer_by (member_at w x).name t o) ≡ None
-      by_refusal t None e takes = e
-      by_refusal (task.Cast body) (Some r) e takes = refusing (task.Cast body) r takes (by_doing (task.Cast body) (Some r) e)
-      by_refusal task.Stop (Some r) e takes = refusing task.Stop r takes (by_doing task.Stop (Some r) e)
-      by_refusal (task.Admit newcomer) (Some r) e takes = refusing (task.Admit newcomer) r takes (by_doing (task.Admit newcomer) (Some r) e)
+      by_refusal : (o : Option Reason) → refusal w (event_of t) ≡ o → refusal w (answer_by t o) ≡ None
+      by_refusal None e = e
+      by_refusal (Some r) e =
+          let doing : doing_refusal w (event_of t) x ≡ Some r = sym (asked_refusal t ∙ ap (λ o. of_member o (doing_refusal w (event_of t))) (found_by t asks.0)) ∙ e in
+          ap (λ o. of_member o (λ k. refuse_if (not (is_told (code_of r) (doing_refusal w (event_of t) k))) reason.NotRefused)) (found_by t asks.0)
+          ∙ ap (λ o. refuse_if (not (is_told (code_of r) o)) reason.NotRefused) doing
+          ∙ told_as r (task_told t r asks.1 takes doing)
 
   -- ---- what one that is up does by itself
 
@@ -247,14 +246,13 @@ event_begun c d e none credit names events i lt differs =
 
 -- ---- who answers a task of an agenda
 
-pub answer_enabled : (c : Seen) (i : ℕ) (t : Task) (name : List ℕ) → IsGoing c → IsMemberAt c i name → takes_up (member_at (state_of c) (i + 1)).phase t ≡ true → refusal (state_of c) (answer_to (state_of c) name t) ≡ None
-answer_enabled c i t name g m takes =
-    ap (λ n. refusal (state_of c) (answer_to (state_of c) n t)) (sym m.1) ∙ answer_may (state_of c) (i + 1) (going_fit c g) (omega arith) m.0 t takes
+pub answer_enabled : (c : Seen) (i : ℕ) (t : Client) → IsGoing c → IsMemberAt c i (asked_of t) → is_asked_multicast t ≡ true → takes_up (member_at (state_of c) (i + 1)).phase t ≡ true → refusal (state_of c) (answer_to (state_of c) t) ≡ None
+answer_enabled c i t g m cast takes = answer_may (state_of c) (i + 1) (going_fit c g) (omega arith) m.0 t (sym m.1, cast) takes
 
 -- so it may refuse it for the ring's reason
-pub refused_enabled : (c : Seen) (i : ℕ) (t : Task) (name : List ℕ) (r : Reason) (e : Event) → IsGoing c → IsMemberAt c i name → takes_up (member_at (state_of c) (i + 1)).phase t ≡ true → refusal (state_of c) (task_event name t) ≡ Some r → e ≡ answer_by name t (Some r) → refusal (state_of c) e ≡ None
-refused_enabled c i t name r e g m takes told is =
-    subst (λ x. refusal (state_of c) x ≡ None) (sym is) (subst (λ o. refusal (state_of c) (answer_by name t o) ≡ None) told (answer_enabled c i t name g m takes))
+pub refused_enabled : (c : Seen) (i : ℕ) (t : Client) (r : Reason) (e : Event) → IsGoing c → IsMemberAt c i (asked_of t) → is_asked_multicast t ≡ true → takes_up (member_at (state_of c) (i + 1)).phase t ≡ true → refusal (state_of c) (event_of t) ≡ Some r → e ≡ answer_by t (Some r) → refusal (state_of c) e ≡ None
+refused_enabled c i t r e g m cast takes told is =
+    subst (λ x. refusal (state_of c) x ≡ None) (sym is) (subst (λ o. refusal (state_of c) (answer_by t o) ≡ None) told (answer_enabled c i t g m cast takes))
 
 -- ---- those who are no members
 

@@ -9,14 +9,14 @@ use Rattle.ring_rules.specs.declared.event.Event.{Event}
 use Rattle.ring_rules.specs.Quiet.{RingRests}
 use Rattle.ring_rules.specs.Machine.{World}
 use Rattle.ring_rules.specs.Step.{opening}
-use Rattle.ring_rules.specs.Event.{last}
+use Rattle.ring_rules.specs.Event.{event_of, last}
 use Rattle.ring_rules.proofs.runs.InOrder.{last_append}
 use Rattle.ring_parties.specs.Parties.{Parties}
 use Rattle.ring_cluster.specs.Seen.{Seen, state_of, IsGoing, showing, with_event, opening_seen}
 use Rattle.ring_parties.specs.States.{state}
 use Rattle.ring_cluster.specs.Agendas.{tasks_in}
 use Rattle.ring_cluster.specs.Handed.{handing, given_to, handed}
-use Rattle.ring_cluster.specs.Plays.{client_event, client_events, asked_by, asked, task_event, todo, agenda_of, Serves, HaveServed, HasSettled, HasSettledEach, Plays, PlaysSoFar, GoesOn, HasGoneOn, AgendasAreEmpty}
+use Rattle.ring_cluster.specs.Plays.{client_event, client_events, asked_by, asked, todo, agenda_of, Serves, HaveServed, HasSettled, HasSettledEach, Plays, PlaysSoFar, GoesOn, HasGoneOn, AgendasAreEmpty}
 use Rattle.ring_parties.proofs.lists.Lists.{flat_map-append, slice_get_within, slice_get_front, slice_get_last, some_injective}
 use Rattle.ring_cluster.proofs.rounds.Heirs.{handed_append}
 use Rattle.ring_cluster.proofs.rounds.Members.{strangers_ask_nothing}
@@ -31,8 +31,8 @@ gone_state c d xs credit names events =
     ∙ last_append (opening c.credit c.names) c.events xs
 
 -- how many tasks an agenda has
-todo_many : (c : Seen) (name : List ℕ) → length (todo name (agenda_of c name)) ≡ length (agenda_of c name)
-todo_many c name = length-map (agenda_of c name) (task_event name)
+todo_many : (c : Seen) (name : List ℕ) → length (todo (agenda_of c name)) ≡ length (agenda_of c name)
+todo_many c name = length-map (agenda_of c name) event_of
 
 -- what is done by one event was there, or is handed on by it
 pub one_later : (w : World) (e : Event) (name : List ℕ) (old new : List Event) (many : ℕ) → length old ≡ many → client_events name (e ∷ []) ++ new ≡ old ++ handed w name (e ∷ [])
@@ -47,13 +47,13 @@ GoesOn-trans c d e xs ys a b = record {
   names = b.names ∙ a.names;
   events = b.events ∙ ap (λ zs. zs ++ ys) a.events ∙ append_assoc c.events xs ys;
   serves = λ name.
-      ap (λ zs. zs ++ todo name (agenda_of e name)) (flat_map-append (client_event name) xs ys)
-      ∙ append_assoc (client_events name xs) (client_events name ys) (todo name (agenda_of e name))
+      ap (λ zs. zs ++ todo (agenda_of e name)) (flat_map-append (client_event name) xs ys)
+      ∙ append_assoc (client_events name xs) (client_events name ys) (todo (agenda_of e name))
       ∙ ap (λ zs. client_events name xs ++ zs) (b.serves name)
-      ∙ sym (append_assoc (client_events name xs) (todo name (agenda_of d name)) (handed (state_of d) name ys))
+      ∙ sym (append_assoc (client_events name xs) (todo (agenda_of d name)) (handed (state_of d) name ys))
       ∙ ap (λ zs. zs ++ handed (state_of d) name ys) (a.serves name)
-      ∙ append_assoc (todo name (agenda_of c name)) (handed (state_of c) name xs) (handed (state_of d) name ys)
-      ∙ ap (λ zs. todo name (agenda_of c name) ++ zs) (sym (both name ys));
+      ∙ append_assoc (todo (agenda_of c name)) (handed (state_of c) name xs) (handed (state_of d) name ys)
+      ∙ ap (λ zs. todo (agenda_of c name) ++ zs) (sym (both name ys));
   later = λ name count le. ⊎_elim
       (λ (behind : length xs < count). behind_later name count le (omega (arith, behind)))
       (λ (first : count ≤ length xs).
@@ -73,7 +73,7 @@ GoesOn-trans c d e xs ys a b = record {
         let theirs : length (handed (state_of c) name (xs ++ take j ys)) ≡ length (handed (state_of c) name xs) + length (handed (state_of d) name (take j ys)) =
         ap length (both name (take j ys)) ∙ length-append (handed (state_of c) name xs) (handed (state_of d) name (take j ys)) in
         let before : length (client_events name xs) + length (agenda_of d name) ≡ length (agenda_of c name) + length (handed (state_of c) name xs) =
-        omega (arith, ap length (a.serves name), length-append (client_events name xs) (todo name (agenda_of d name)), length-append (todo name (agenda_of c name)) (handed (state_of c) name xs), todo_many c name, todo_many d name) in
+        omega (arith, ap length (a.serves name), length-append (client_events name xs) (todo (agenda_of d name)), length-append (todo (agenda_of c name)) (handed (state_of c) name xs), todo_many c name, todo_many d name) in
         let h : length (client_events name (xs ++ take j ys)) ≤ length (agenda_of c name) + length (handed (state_of c) name (xs ++ take j ys)) =
         omega (arith, so, theirs, before, b.later name j within) in
         subst (λ es. length (client_events name es) ≤ length (agenda_of c name) + length (handed (state_of c) name es)) (sym (take_both count xs ys ge)) h
@@ -85,7 +85,7 @@ HasGoneOn-showing c x = (
     credit = refl;
     names = refl;
     events = sym (append-nil c.events);
-    serves = λ name. sym (append-nil (todo name (agenda_of c name)));
+    serves = λ name. sym (append-nil (todo (agenda_of c name)));
     later = λ name count le. omega (arith, ap length (none_first name count));
   },
 )
@@ -102,28 +102,28 @@ GoesOn-given c d e xs ec en ee ea h = record {
   credit = ec ∙ h.credit;
   names = en ∙ h.names;
   events = ee ∙ h.events;
-  serves = λ name. ap (λ ags. client_events name xs ++ todo name (tasks_in ags name)) ea ∙ h.serves name;
+  serves = λ name. ap (λ ags. client_events name xs ++ todo (tasks_in ags name)) ea ∙ h.serves name;
   later = h.later;
 }
 
 -- one event
 pub by_one : (c d : Seen) (e : Event) → d.credit ≡ c.credit → d.names ≡ c.names → d.events ≡ c.events ++ e ∷ []
-    → ((name : List ℕ) → client_events name (e ∷ []) ++ todo name (agenda_of d name) ≡ todo name (agenda_of c name) ++ handed (state_of c) name (e ∷ []))
+    → ((name : List ℕ) → client_events name (e ∷ []) ++ todo (agenda_of d name) ≡ todo (agenda_of c name) ++ handed (state_of c) name (e ∷ []))
     → GoesOn c d (e ∷ [])
 by_one c d e credit names events h = record {
   credit = credit;
   names = names;
   events = events;
   serves = h;
-  later = λ name. one_later (state_of c) e name (todo name (agenda_of c name)) (todo name (agenda_of d name)) (length (agenda_of c name)) (todo_many c name) (h name);
+  later = λ name. one_later (state_of c) e name (todo (agenda_of c name)) (todo (agenda_of d name)) (length (agenda_of c name)) (todo_many c name) (h name);
 }
 
 -- a step of a member of its own
 pub is_own : (e : Event) → ((name : List ℕ) → client_event name e ≡ []) → (c d : Seen) → handing (state_of c) e ≡ None → (x : Bool × Parties) → d ≡ showing x (with_event c e) → GoesOn c d (e ∷ [])
 is_own e own c d none x is = subst (λ y. GoesOn c y (e ∷ [])) (sym is) (by_one c (showing x (with_event c e)) e refl refl refl (λ name.
-    ap (λ zs. (zs ++ []) ++ todo name (agenda_of c name)) (own name)
-    ∙ sym (append-nil (todo name (agenda_of c name)))
-    ∙ ap (λ o. todo name (agenda_of c name) ++ (given_to name o ++ [])) (sym none)))
+    ap (λ zs. (zs ++ []) ++ todo (agenda_of c name)) (own name)
+    ∙ sym (append-nil (todo (agenda_of c name)))
+    ∙ ap (λ o. todo (agenda_of c name) ++ (given_to name o ++ [])) (sym none)))
 
 -- ---- settling
 
@@ -177,8 +177,8 @@ settled_moved c d events given ec en ee eg h =
 pub plays_on : (c d : Seen) (more : List Event) → GoesOn c d more → d.given ≡ c.given → PlaysSoFar c → PlaysSoFar d
 plays_on c d more g e h = record {
   serves = λ name.
-      serves_moved c d name (c.events ++ more) c.given (todo name (agenda_of d name)) g.credit g.names g.events e
-      (serves_on (opening c.credit c.names) name c.events c.given (todo name (agenda_of c name)) (h.serves name) more (todo name (agenda_of d name)) (g.serves name)
+      serves_moved c d name (c.events ++ more) c.given (todo (agenda_of d name)) g.credit g.names g.events e
+      (serves_on (opening c.credit c.names) name c.events c.given (todo (agenda_of c name)) (h.serves name) more (todo (agenda_of d name)) (g.serves name)
       (λ count le. omega (arith, g.later name count le, todo_many c name)));
   settled = settled_moved c d (c.events ++ more) c.given g.credit g.names g.events e (settled_each_later c.credit c.names c.events more c.given h.settled);
 }
@@ -190,10 +190,10 @@ asked_push name given x = flat_map-append (asked_by name) given (x ∷ []) ∙ a
 pub plays_noted : (c d : Seen) (x : Command) → ((name : List ℕ) → asked_by name x ≡ []) → (x ≡ command.Settle → HasSettled c.credit c.names c.events c.given) → d.credit ≡ c.credit → d.names ≡ c.names → d.events ≡ c.events → d.agendas ≡ c.agendas → d.given ≡ c.given ++ x ∷ [] → PlaysSoFar c → PlaysSoFar d
 plays_noted c d x none now ec en ee ea eg h = record {
   serves = λ name.
-      let left : List Event = todo name (agenda_of c name) in
+      let left : List Event = todo (agenda_of c name) in
       let same : asked name (c.given ++ x ∷ []) ≡ asked name c.given = asked_push name c.given x ∙ ap (λ zs. asked name c.given ++ zs) (none name) ∙ append-nil (asked name c.given) in
       let still : Serves (opening c.credit c.names) name c.events (c.given ++ x ∷ []) left = serves_still (opening c.credit c.names) name c.events c.given left (h.serves name) (c.given ++ x ∷ []) same in
-      subst (λ ags. Serves (opening d.credit d.names) name d.events d.given (todo name (tasks_in ags name))) (sym ea) (serves_moved c d name c.events (c.given ++ x ∷ []) left ec en ee eg still);
+      subst (λ ags. Serves (opening d.credit d.names) name d.events d.given (todo (tasks_in ags name))) (sym ea) (serves_moved c d name c.events (c.given ++ x ∷ []) left ec en ee eg still);
   settled = settled_moved c d c.events (c.given ++ x ∷ []) ec en ee eg (settled_each_more c.credit c.names c.events c.given x h.settled now);
 }
 
@@ -201,7 +201,7 @@ plays_noted c d x none now ec en ee ea eg h = record {
 
 pub all_served : (c : Seen) → IsGoing c → AgendasAreEmpty c → PlaysSoFar c → HaveServed (opening c.credit c.names) c.events c.given
 all_served c g empty h = record {
-  members = λ i name at. subst (λ ts. Serves (opening c.credit c.names) name c.events c.given (todo name ts)) (empty i name at) (h.serves name);
+  members = λ i name at. subst (λ ts. Serves (opening c.credit c.names) name c.events c.given (todo ts)) (empty i name at) (h.serves name);
   nobody_else = strangers_ask_nothing (opening c.credit c.names) c.events g.run;
 }
 

@@ -14,15 +14,15 @@ use Rattle.ring_rules.specs.Work.{LeavesLess}
 use Rattle.ring_rules.proofs.walks.Ended.{runs_lt}
 use Rattle.ring_rules.proofs.work.Settling.{no_step, no_mark, someone}
 use Rattle.gm_member.proofs.Fit.{IsFit}
-use Rattle.ring_parties.specs.declared.own_step.OwnStep.{OwnStep}
-use Rattle.ring_parties.specs.declared.own_step.OwnStep.TheVariants as step
+use Rattle.ring_rules.specs.declared.kind.LinkStep.{LinkStep}
+use Rattle.ring_rules.specs.declared.kind.LinkStep.TheVariants as step
 use Rattle.ring_cluster.specs.declared.driver.OwnTurn.{OwnTurn}
 use Rattle.ring_cluster.specs.declared.driver.OwnTurn.TheVariants as turn
 use Rattle.ring_parties.specs.Standing.{StandAfter}
 use Rattle.ring_cluster.specs.Seen.{Seen, state_of, IsGoing, SameButOwed}
 use Rattle.ring_parties.specs.States.{state}
 use Rattle.ring_cluster.specs.Turns.{turn_event, HasTurn, RestsAt}
-use Rattle.ring_parties.specs.OwnSteps.{step_event}
+use Rattle.ring_rules.specs.Kind.{step_event}
 use Rattle.ring_parties.specs.Refused.{IsRefusalAt}
 use Rattle.ring_cluster.proofs.rounds.Named.{going_fit, going_ring, step_by, step_multicast, step_less, mark_less, erase_less}
 use Rattle.ring_cluster.proofs.rounds.Members.{stale_less, refresh_may, erase_may, waiting_takes_in}
@@ -31,7 +31,7 @@ use Rattle.ring_cluster.proofs.rounds.Settling.{right_there}
 -- ---- refusals as the parties tell them
 
 -- of a step of the member at a place
-pub step_told : (c : Seen) (i : ℕ) (s : OwnStep) (r : Option Reason) → i + 1 < size (state_of c) → StandAfter c.credit c.names c.events c.shows → ((by : List ℕ) → IsRefusalAt i (step_event s by) c.shows r)
+pub step_told : (c : Seen) (i : ℕ) (s : LinkStep) (r : Option Reason) → i + 1 < size (state_of c) → StandAfter c.credit c.names c.events c.shows → ((by : List ℕ) → IsRefusalAt i (step_event s by) c.shows r)
     → r ≡ refusal (state_of c) (step_event s (member_at (state_of c) (i + 1)).name)
 step_told c i s r l st h = let name = (member_at (state_of c) (i + 1)).name in h name c.credit c.names c.events st (l, step_by s name, step_multicast s name)
 

@@ -3,6 +3,7 @@ use Rattle.std.proofs.Common.{◌≡◌, ◌≢◌, ℕ, ◌+◌, ◌<◌, ◌�
 use Rattle.std.proofs.lemmas.Bool.{cases_eq, cases_lt, false≢true}
 use Rattle.ring_names.specs.declared.reason.Reason.TheVariants as reason
 use Rattle.ring_rules.specs.declared.event.Event.{Event}
+use Rattle.ring_rules.specs.declared.event.Client.{Client}
 use Rattle.ring_rules.specs.declared.phase.Phase.{Phase}
 use Rattle.ring_rules.specs.declared.phase.Phase.TheVariants.{Waiting, Up, Stopped}
 use Rattle.ring_rules.specs.Idle.{NobodySteps}
@@ -15,15 +16,14 @@ use Rattle.ring_rules.proofs.walks.Ended.{runs_lt}
 use Rattle.ring_rules.proofs.work.Settling.{someone}
 use Rattle.gm_member.proofs.Fit.{IsFit}
 use Rattle.ring_cluster.specs.Seen.{Seen, state_of, IsGoing, SameButOwed, with_event}
-use Rattle.ring_cluster.specs.declared.agenda.Task.{Task}
 use Rattle.ring_cluster.specs.Backlog.{backlog_of}
 use Rattle.ring_cluster.specs.Plays.{client_events, agenda_of, answer_to, takes_up, is_due, IsDue, SameGiven, HasBegun, AgendasAreEmpty}
-use Rattle.ring_cluster.specs.Turns.{Works, TakesRound, IsMemberAt, MembersStay, RestsAt, NothingIsDue}
+use Rattle.ring_cluster.specs.Turns.{Works, TakesRound, IsMemberAt, MembersStay, RestsAt, NothingIsDue, DoesAtMost}
 use Rattle.ring_cluster.proofs.post.Owed.{but_refl, but_trans}
 use Rattle.ring_cluster.proofs.rounds.Playing.{HasGoneOn-refl, HasGoneOn-showing, HasGoneOn-trans}
 use Rattle.ring_cluster.proofs.rounds.Members.{event_stay, event_begun, waiting_takes_in}
 use Rattle.ring_cluster.proofs.rounds.Named.{going_fit, going_ring}
-use Rattle.ring_cluster.proofs.rounds.Counting.{did_none, did_fewer, did_later, did_more, few_none, few_more, few_each}
+use Rattle.ring_cluster.proofs.rounds.Counting.{did_task, did_none, did_fewer, did_later, did_more, few_none, few_more, few_each}
 use Rattle.ring_cluster.proofs.rounds.Doing.{Performs, own_falls, own_goes, own_left, performed_goes, performed_more, performed_less, asked_more, due_still}
 
 pub given_refl : (c : Seen) → SameGiven c c
@@ -80,12 +80,12 @@ works_round c d w = w.round
 
 pub performed_round : (i : ℕ) (by : List ℕ) (c d : Seen) → IsGoing c → IsMemberAt c i by → Performs i by c d → TakesRound c d
 performed_round i by c d g at p =
-    let e : Event = answer_to (state_of c) by p.0 in
+    let e : Event = answer_to (state_of c) p.0 in
     record {
       goes = performed_goes i by c d g at p;
-      given = subst (SameGiven c) (sym p.4.1) (given_refl c);
-      stay = event_stay c d e p.3 (ap (λ x. x.credit) p.4.1) (ap (λ x. x.names) p.4.1) (ap (λ x. x.events) p.4.1);
-      begun = event_begun c d e p.3 (ap (λ x. x.credit) p.4.1) (ap (λ x. x.names) p.4.1) (ap (λ x. x.events) p.4.1);
+      given = subst (SameGiven c) (sym p.5.1) (given_refl c);
+      stay = event_stay c d e p.4 (ap (λ x. x.credit) p.5.1) (ap (λ x. x.names) p.5.1) (ap (λ x. x.events) p.5.1);
+      begun = event_begun c d e p.4 (ap (λ x. x.credit) p.5.1) (ap (λ x. x.names) p.5.1) (ap (λ x. x.events) p.5.1);
       less = omega (arith, performed_less i by c d g at p);
     }
 
@@ -208,6 +208,10 @@ pub performed_or : (i : ℕ) (by : List ℕ) (c d : Seen) (did : Bool) → IsGoi
 performed_or i by c d true g at does rests = performed_round i by c d g at (does refl)
 performed_or i by c d false g at does rests = works_round c d (works_same c d (rests refl).0)
 
+pub performed_once : (i : ℕ) (by : List ℕ) (c d : Seen) (did : Bool) → (did ≡ true → Performs i by c d) → (did ≡ false → SameButOwed c d × (IsDue c i by → ⊥)) → DoesAtMost 1 by c d
+performed_once i by c d true does rests = let p = does refl in did_task by c d p.0 p.1 p.3.0 p.5
+performed_once i by c d false does rests = did_none 1 by c d (rests refl).0
+
 pub rests_named : (i : ℕ) (by : List ℕ) (c d : Seen) → IsMemberAt c i by → SameButOwed c d × (IsDue c i by → ⊥) → SameButOwed c d × RestsFrom c i
 rests_named i by c d at h = (h.0, λ name m due. h.1 (subst (IsDue c i) (sym m.1 ∙ at.1) due))
 
@@ -239,7 +243,7 @@ nobody_waits c g h y waits = by_current (member_at w y).current refl
 pub all_empty : (c : Seen) → IsGoing c → NobodySteps (state_of c) → NothingIsDue c → AgendasAreEmpty c
 all_empty c g h none i name at = by_tasks (agenda_of c name) refl (member_at (state_of c) (i + 1)).phase refl
   where
-    by_tasks : (ts : List Task) → agenda_of c name ≡ ts → (f : Phase) → (member_at (state_of c) (i + 1)).phase ≡ f → agenda_of c name ≡ []
+    by_tasks : (ts : List Client) → agenda_of c name ≡ ts → (f : Phase) → (member_at (state_of c) (i + 1)).phase ≡ f → agenda_of c name ≡ []
     by_tasks [] e f p = e
     by_tasks (t ∷ ts) e Waiting p = absurd (nobody_waits c g h (i + 1) p)
     by_tasks (t ∷ ts) e Up p = absurd (none i name at (ap (is_due (member_at (state_of c) (i + 1)).phase) e ∙ ap (λ f. takes_up f t) p))

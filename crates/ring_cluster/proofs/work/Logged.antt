@@ -6,8 +6,9 @@ use Rattle.std.proofs.lemmas.List.FromFn.{length-map-range_with_len, get_or-map-
 use Rattle.ring_names.specs.declared.numbers.CreditSpec.{CreditSpec}
 use Rattle.group_view.specs.Change.{AreOpeningNames, AreDifferent}
 use Rattle.ring_rules.specs.declared.event.Event.{Event}
-use Rattle.ring_rules.specs.declared.event.Event.TheVariants.{Cast, Publish, Get, Pop, Ack, Requeue, Depth, Start, Admit}
-use Rattle.ring_rules.specs.Published.{told_of, one_of, published_by, published_in}
+use Rattle.ring_rules.specs.declared.event.Event.TheVariants.{Admit}
+use Rattle.ring_rules.specs.Kind.{Kind, Says, kind_of}
+use Rattle.ring_rules.specs.Published.{told_of, told_of_saying, one_of, published_as, published_by, published_in}
 use Rattle.ring_rules.specs.Machine.{Member, World, no_member, member_at}
 use Rattle.ring_rules.specs.Step.{size, log_of, opening}
 use Rattle.ring_rules.specs.Event.{by_of, id_of, of_member, refused_at, refusal, effect, IsRun, last}
@@ -82,15 +83,11 @@ stranger_one w name e m r none = by_test name (by_of e) m _ refl (λ same. by_id
     by_id (Some x) at k is = let i = id_within w (by_of e) x at in none x i.0 i.1 (found_name w (by_of e) x at ∙ is)
 
 stranger_by : (w : World) (name : List ℕ) (e : Event) → refusal w e ≡ None → IsUnknown w name → published_by name e ≡ []
-stranger_by w name (Cast by body) r none = stranger_one w name (Cast by body) (Some body) r none
-stranger_by w name (Publish by body) r none = stranger_one w name (Publish by body) None r none
-stranger_by w name (Get by) r none = stranger_one w name (Get by) None r none
-stranger_by w name (Pop by) r none = stranger_one w name (Pop by) None r none
-stranger_by w name (Ack by at) r none = stranger_one w name (Ack by at) None r none
-stranger_by w name (Requeue by at) r none = stranger_one w name (Requeue by at) None r none
-stranger_by w name (Depth by) r none = stranger_one w name (Depth by) None r none
-stranger_by w name (Start by) r none = stranger_one w name (Start by) None r none
-stranger_by w name e r none = refl
+stranger_by w name e r none = by_kind (kind_of e)
+  where
+    by_kind : (k : Kind) → published_as name (by_of e) k ≡ []
+    by_kind (Says s) = stranger_one w name e (told_of_saying s) r none
+    by_kind k = refl
 
 module _ (w : World) (before : List Event) (e : Event) (g : IsGood w) (n : AreNamed w) (r : refusal w e ≡ None) (h : LogsAre before w) where
   abbrev w' : World

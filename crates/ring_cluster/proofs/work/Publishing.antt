@@ -10,9 +10,10 @@ use Rattle.queue_core.specs.declared.message.Message.{Message}
 use Rattle.queue_core.specs.declared.message.Message.TheVariants as message
 use Rattle.group_view.specs.Change.{AreDifferent}
 use Rattle.ring_rules.specs.declared.event.Event.{Event}
-use Rattle.ring_rules.specs.declared.event.Event.TheVariants.{Cast, Publish, Get, Pop, Ack, Requeue, Depth, Start}
-use Rattle.ring_rules.specs.Event.{is_multicast}
-use Rattle.ring_rules.specs.Published.{told_of, published_by, published_in}
+use Rattle.ring_rules.specs.declared.event.Event.TheVariants.{Cast}
+use Rattle.ring_rules.specs.Kind.{Own, OfQueue, Kind, Says, kind_of}
+use Rattle.ring_rules.specs.Event.{by_of, is_multicast, is_multicast_kind}
+use Rattle.ring_rules.specs.Published.{told_of, published_as, published_by, published_in}
 use Rattle.ring_rules.proofs.events.Names.{same_bytes, own_bytes}
 use Rattle.ring_parties.proofs.lists.Places.{position_there}
 use Rattle.ring_cluster.specs.Published.{casts_with, logs_in, told_with, told_in}
@@ -79,17 +80,19 @@ cast_of_one names before by body i differ found =
     (λ j l ne. stays names before (Cast by body) (get_or names j [])
     (of_other by body (get_or names j []) _ refl (λ same. ne (differ j i l there.0 (sym same ∙ sym is)))))
 
+-- an event that says a message of the member's own is a cast
+casts : (e : Event) (body : List ℕ) → kind_of e ≡ Says (Own body) → e ≡ Cast (by_of e) body
+casts (Cast by other) body h = let same : other ≡ body = cc in ap (Cast by) same
+casts e body h = cc
+
 -- an event of the ring alone that is no cast publishes nothing
 none_by : (e : Event) → is_multicast e ≡ true → ((by body : List ℕ) → e ≡ Cast by body → ⊥) → (name : List ℕ) → published_by name e ≡ []
-none_by (Cast by body) cast other name = absurd (other by body refl)
-none_by (Publish by body) cast other name = absurd (false≢true cast)
-none_by (Get by) cast other name = absurd (false≢true cast)
-none_by (Pop by) cast other name = absurd (false≢true cast)
-none_by (Ack by at) cast other name = absurd (false≢true cast)
-none_by (Requeue by at) cast other name = absurd (false≢true cast)
-none_by (Depth by) cast other name = absurd (false≢true cast)
-none_by (Start by) cast other name = absurd (false≢true cast)
-none_by e cast other name = refl
+none_by e multicast other name = by_kind (kind_of e) refl multicast
+  where
+    by_kind : (k : Kind) → kind_of e ≡ k → is_multicast_kind k ≡ true → published_as name (by_of e) k ≡ []
+    by_kind (Says (Own body)) is m = absurd (other (by_of e) body (casts e body is))
+    by_kind (Says (OfQueue q)) is m = absurd (false≢true m)
+    by_kind k is m = refl
 
 pub cast_of_nobody : (names : List (List ℕ)) (before : List Event) (e : Event) → is_multicast e ≡ true → ((by body : List ℕ) → e ≡ Cast by body → ⊥)
     → map (λ name. published_in name before) names ≡ map (λ name. published_in name (before ++ e ∷ [])) names

@@ -13,10 +13,13 @@ use Rattle.ring_rules.specs.declared.phase.Phase.{Phase}
 use Rattle.ring_rules.specs.declared.phase.Phase.TheVariants.{Waiting, Up, Stopped}
 use Rattle.ring_rules.specs.declared.phase.Ending.TheVariants.{Halted}
 use Rattle.ring_rules.specs.declared.event.Event.{Event}
-use Rattle.ring_rules.specs.declared.event.Event.TheVariants.{Cast, Publish, Get, Pop, Ack, Requeue, Depth, Start, Put, Take, TakeEnd, Gain, Stop, Mark, Refresh, Admit, Pick, Erase, Synced, Refuse}
+use Rattle.ring_rules.specs.declared.event.Event.TheVariants.{Admit}
+use Rattle.ring_rules.specs.declared.kind.LinkStep.TheVariants as step
+use Rattle.ring_rules.specs.declared.kind.ViewChange.TheVariants as change
+use Rattle.ring_rules.specs.Kind.{Saying, Own, OfQueue, Kind, Says, Steps, Changes, Stops, Reads, Tells, kind_of}
 use Rattle.ring_rules.specs.Machine.{Member, World, runs_phase, no_member, member_at, link_at, view_in, newest, oldest}
 use Rattle.ring_rules.specs.Step.{size, log_of, with_member, with_view, published, taker, begun, with_current, stopped, stop_at, moved_to, opened_link, joiner, come_to}
-use Rattle.ring_rules.specs.Event.{id_of, of_member, at_found, at_door, taken_by, refreshed, erased_view, synced_view, op_at, op_done, by_of, refused_at, done_at, refusal, effect, IsRun, last}
+use Rattle.ring_rules.specs.Event.{id_of, of_member, at_found, at_door, taken_by, refreshed, erased_view, synced_view, op_as, op_done, said, by_of, refused_at, done_as, done_at, refusal, effect, IsRun, last}
 use Rattle.ring_rules.proofs.events.Composed.{end_composed, refresh_composed}
 use Rattle.ring_rules.proofs.events.Leaves.{member_leaves, with_opened}
 
@@ -111,37 +114,39 @@ take_names Waiting w y s e =
 take_names Up w y s e = links_of w _ (with_member w y (taker w y s)) refl (kept w y (taker w y s) refl refl)
 take_names Stopped w y s e = itself w
 
--- what is done to the queue
-op_names : (w : World) (x : ℕ) (o : Result Op Reason) → SameNames w (op_done w x o)
-op_names w x (Ok o) = kept w x (published x (message.Queue o) (member_at w x)) refl refl
-op_names w x (Err r) = itself w
+-- what a member says
+says_names : (w : World) (x : ℕ) (s : Saying) → SameNames w (said w x s)
+says_names w x (Own body) = kept w x (published x (message.Cast body) (member_at w x)) refl refl
+says_names w x (OfQueue q) = by_op (op_as w x q)
+  where
+    by_op : (o : Result Op Reason) → SameNames w (op_done w x o)
+    by_op (Ok o) = kept w x (published x (message.Queue o) (member_at w x)) refl refl
+    by_op (Err r) = itself w
 
 -- what is done
-done_names : (w : World) (e : Event) (x : ℕ) → ((by name : List ℕ) → e ≡ Admit by name → ⊥) → SameNames w (done_at w e x)
-done_names w (Cast by body) x none = kept w x (published x (message.Cast body) (member_at w x)) refl refl
-done_names w (Publish by body) x none = op_names w x (op_at w (Publish by body) x)
-done_names w (Get by) x none = op_names w x (op_at w (Get by) x)
-done_names w (Pop by) x none = op_names w x (op_at w (Pop by) x)
-done_names w (Ack by at) x none = op_names w x (op_at w (Ack by at) x)
-done_names w (Requeue by at) x none = op_names w x (op_at w (Requeue by at) x)
-done_names w (Depth by) x none = op_names w x (op_at w (Depth by) x)
-done_names w (Start by) x none = op_names w x (op_at w (Start by) x)
-done_names w (Put by) x none = found w (member_at w x).out _ (λ o. links_of w _ w refl (itself w))
-done_names w (Take by) x none = found w (member_at w x).current (taken_by (member_at w x).phase w x) (λ s. take_names (member_at w x).phase w x s refl)
-done_names w (TakeEnd by) x none = found w (member_at w x).current _ (λ s. links_of w _ (with_member w x (with_current None (member_at w x))) refl (kept w x (with_current None (member_at w x)) refl refl))
-done_names w (Gain by) x none = found w (member_at w x).out _ (λ o. links_of w _ w refl (itself w))
-done_names w (Stop by) x none = end_composed (SameNames w) Halted (stop_at w x) (member_at w x).out (λ o e h. record { many = h.many; name = h.name; phase = h.phase }) (written w x (stopped (member_at w x)) refl (to_stopped (member_at w x).phase))
-done_names w (Mark by dead) x none = found w (id_of w dead) _ (λ d. view_names w x (marked (view_in w (newest w)) d))
-done_names w (Refresh by version) x none = refresh_names w x version
-done_names w (Admit by name) x none = absurd (none by name refl)
-done_names w (Pick by) x none = found w (at_door w x) _ (λ s. kept w x (with_current (Some s) (member_at w x)) refl refl)
-done_names w (Erase by origin) x none = found w (id_of w origin) _ (λ d. view_names w x (erased_view w d))
-done_names w (Synced by) x none = view_names w x (synced_view w x)
-done_names w (Refuse code inner) x none = itself w
+done_names : (w : World) (k : Kind) (x : ℕ) → ((name : List ℕ) → k ≡ Changes (change.Admit name) → ⊥) → SameNames w (done_as w x k)
+done_names w (Says s) x none = says_names w x s
+done_names w (Steps step.Put) x none = found w (member_at w x).out _ (λ o. links_of w _ w refl (itself w))
+done_names w (Steps step.Take) x none = found w (member_at w x).current (taken_by (member_at w x).phase w x) (λ s. take_names (member_at w x).phase w x s refl)
+done_names w (Steps step.TakeEnd) x none = found w (member_at w x).current _ (λ s. links_of w _ (with_member w x (with_current None (member_at w x))) refl (kept w x (with_current None (member_at w x)) refl refl))
+done_names w (Steps step.Gain) x none = found w (member_at w x).out _ (λ o. links_of w _ w refl (itself w))
+done_names w (Steps step.Pick) x none = found w (at_door w x) _ (λ s. kept w x (with_current (Some s) (member_at w x)) refl refl)
+done_names w (Changes (change.Mark dead)) x none = found w (id_of w dead) _ (λ d. view_names w x (marked (view_in w (newest w)) d))
+done_names w (Changes (change.Erase origin)) x none = found w (id_of w origin) _ (λ d. view_names w x (erased_view w d))
+done_names w (Changes (change.Admit name)) x none = absurd (none name refl)
+done_names w (Changes change.Register) x none = view_names w x (synced_view w x)
+done_names w Stops x none = end_composed (SameNames w) Halted (stop_at w x) (member_at w x).out (λ o e h. record { many = h.many; name = h.name; phase = h.phase }) (written w x (stopped (member_at w x)) refl (to_stopped (member_at w x).phase))
+done_names w (Reads version) x none = refresh_names w x version
+done_names w (Tells code inner) x none = itself w
+
+-- an event of the kind of an admission is one
+admits : (e : Event) (name : List ℕ) → kind_of e ≡ Changes (change.Admit name) → e ≡ Admit (by_of e) name
+admits (Admit by newcomer) name h = let same : newcomer ≡ name = cc in ap (Admit by) same
+admits e name h = cc
 
 -- an event that is no admission leaves the members, by their names
 pub event_same : (w : World) (e : Event) → ((by name : List ℕ) → e ≡ Admit by name → ⊥) → SameNames w (effect w e)
-event_same w e none = found w (id_of w (by_of e)) (done_at w e) (λ x. done_names w e x none)
+event_same w e none = found w (id_of w (by_of e)) (done_at w e) (λ x. done_names w (kind_of e) x (λ name is. none (by_of e) name (admits e name is)))
 
 -- ---- an admission
 

@@ -1,5 +1,5 @@
 -- What a member has done, as an event of the parties.
-use Rattle.std.proofs.Common.{◌≡◌, ℕ, ◌+◌, true, List, [], ◌∷◌, ◌++◌, map, set, get_or, Option, Some, None, Result, Ok, Err, refl, sym, ap, subst, ◌∙◌, append-nil}
+use Rattle.std.proofs.Common.{◌≡◌, ℕ, ◌+◌, List, [], ◌∷◌, ◌++◌, map, set, get_or, Option, Some, None, Result, Ok, Err, refl, sym, ap, subst, ◌∙◌, append-nil}
 use Rattle.std.specs.Prelude.{IfOk}
 use Rattle.std.proofs.lemmas.List.{map-append}
 use Rattle.ring_names.specs.declared.numbers.CreditSpec.{CreditSpec}
@@ -7,8 +7,8 @@ use Rattle.ordered_link.specs.declared.plain.PlainIn.{PlainIn}
 use Rattle.group_view.specs.declared.link.LinkName.{LinkName}
 use Rattle.group_view.specs.View.{Group}
 use Rattle.group_view.specs.Change.{marked}
-use Rattle.ring_rules.specs.declared.event.Event.{Event}
-use Rattle.ring_rules.specs.declared.event.Event.TheVariants.{Stop, Mark, Refresh, Admit, Erase, Refuse}
+use Rattle.ring_rules.specs.declared.kind.ViewChange.TheVariants as change
+use Rattle.ring_rules.specs.Kind.{Kind, Says, Steps, Changes, Stops}
 use Rattle.registrar.specs.Registry.{Registry}
 use Rattle.registrar.specs.Handled.{with_view, with_stopped}
 use Rattle.activity.specs.declared.packet.Load.{Load}
@@ -19,8 +19,7 @@ use Rattle.ring_parties.specs.declared.party.Party.{Party}
 use Rattle.ring_parties.specs.Parties.{Posted, Parties, parties, posted, with_node, shown_in, no_shown, in_seen}
 use Rattle.ring_parties.specs.Behind.{behind}
 use Rattle.ring_parties.specs.Looking.{HasLooked, kept_post}
-use Rattle.ring_parties.specs.Acting.{is_alone, DoesAlone}
-use Rattle.ring_parties.specs.Acting.{Stops, Acts, LooksAt, posting, newest_of, viewing, erasing, joined, LetsIn}
+use Rattle.ring_parties.specs.Acting.{DoesAlone, Halts, Acts, LooksAt, posting, newest_of, viewing, erasing, joined, LetsIn}
 use Rattle.ring_parties.specs.Refused.{marked_in, id_named}
 
 -- the member at a place is another
@@ -30,26 +29,22 @@ one_other nodes nodes' r i e = ap (λ ns. record (parties nodes r []) { nodes = 
 
 -- ---- by itself
 
-pub alone_acts : (e : Event) (i d : ℕ) (nodes nodes' : List Party) (r : Registry (PlainIn Load)) → is_alone e ≡ true
-    → DoesAlone e (get_or (map shown_in nodes) i no_shown) (get_or (map shown_in nodes') i no_shown)
+pub alone_acts : (k : Kind) (i d : ℕ) (nodes nodes' : List Party) (r : Registry (PlainIn Load))
+    → DoesAlone k (get_or (map shown_in nodes) i no_shown) (get_or (map shown_in nodes') i no_shown)
     → map shown_in nodes' ≡ set (map shown_in nodes) i (get_or (map shown_in nodes') i no_shown)
-    → Acts e i d (parties nodes r []) (parties nodes' r []) None
-alone_acts (Stop by) i d nodes nodes' r k does e = cc
-alone_acts (Mark by dead) i d nodes nodes' r k does e = cc
-alone_acts (Refresh by version) i d nodes nodes' r k does e = cc
-alone_acts (Admit by name) i d nodes nodes' r k does e = cc
-alone_acts (Erase by origin) i d nodes nodes' r k does e = cc
-alone_acts (Refuse code inner) i d nodes nodes' r k does e = cc
-alone_acts event i d nodes nodes' r k does e = (_, does, one_other nodes nodes' r i e, refl)
+    → Acts k i d (parties nodes r []) (parties nodes' r []) None
+alone_acts (Says s) i d nodes nodes' r does e = (_, does, one_other nodes nodes' r i e, refl)
+alone_acts (Steps s) i d nodes nodes' r does e = (_, does, one_other nodes nodes' r i e, refl)
+alone_acts k i d nodes nodes' r does e = absurd does
 
 -- ---- a stop
 
-pub stop_acts : (by : List ℕ) (i d : ℕ) (nodes nodes' : List Party) (r r' : Registry (PlainIn Load))
-    → Stops (get_or (map shown_in nodes) i no_shown) (get_or (map shown_in nodes') i no_shown)
+pub stop_acts : (i d : ℕ) (nodes nodes' : List Party) (r r' : Registry (PlainIn Load))
+    → Halts (get_or (map shown_in nodes) i no_shown) (get_or (map shown_in nodes') i no_shown)
     → map shown_in nodes' ≡ set (map shown_in nodes) i (get_or (map shown_in nodes') i no_shown)
     → r' ≡ with_stopped r (i + 1)
-    → Acts (Stop by) i d (parties nodes r []) (parties nodes' r' []) None
-stop_acts by i d nodes nodes' r r' stops e k =
+    → Acts Stops i d (parties nodes r []) (parties nodes' r' []) None
+stop_acts i d nodes nodes' r r' stops e k =
     (_, stops, ap (λ s. parties nodes' s []) k ∙ ap (λ (p : Parties). record p { stopped = r.stopped ++ (i + 1) ∷ [] }) (one_other nodes nodes' r i e), refl)
 
 -- ---- another view
@@ -97,8 +92,8 @@ ok_also (Ok x) P Q h p = h x p
 ok_also (Err e) P Q h p = tt
 
 -- it is a mark, or an erasure, of the member of a name
-pub mark_acts : (by dead : List ℕ) (i d : ℕ) (q q' : Parties) (loose : Option (LinkName × OutSeen)) → id_named q dead ≡ Some d → LooksAt (marked (newest_of q) d) i (viewing (marked (newest_of q) d) q) q' loose → Acts (Mark by dead) i (marked_in (Mark by dead) q) q q' loose
-mark_acts by dead i d q q' loose named = subst (λ c. LooksAt (marked (newest_of q) c) i (viewing (marked (newest_of q) c) q) q' loose) (sym (ap (λ o. at_some o 0 (λ c. c)) named))
+pub mark_acts : (dead : List ℕ) (i d : ℕ) (q q' : Parties) (loose : Option (LinkName × OutSeen)) → id_named q dead ≡ Some d → LooksAt (marked (newest_of q) d) i (viewing (marked (newest_of q) d) q) q' loose → Acts (Changes (change.Mark dead)) i (marked_in (Changes (change.Mark dead)) q) q q' loose
+mark_acts dead i d q q' loose named = subst (λ c. LooksAt (marked (newest_of q) c) i (viewing (marked (newest_of q) c) q) q' loose) (sym (ap (λ o. at_some o 0 (λ c. c)) named))
 
-pub erase_acts : (by origin : List ℕ) (i p : ℕ) (q q' : Parties) (loose : Option (LinkName × OutSeen)) → id_named q origin ≡ Some p → LooksAt (erasing q p) i (viewing (erasing q p) q) q' loose → Acts (Erase by origin) i (marked_in (Erase by origin) q) q q' loose
-erase_acts by origin i p q q' loose named = subst (λ c. LooksAt (erasing q c) i (viewing (erasing q c) q) q' loose) (sym (ap (λ o. at_some o 0 (λ c. c)) named))
+pub erase_acts : (origin : List ℕ) (i p : ℕ) (q q' : Parties) (loose : Option (LinkName × OutSeen)) → id_named q origin ≡ Some p → LooksAt (erasing q p) i (viewing (erasing q p) q) q' loose → Acts (Changes (change.Erase origin)) i (marked_in (Changes (change.Erase origin)) q) q q' loose
+erase_acts origin i p q q' loose named = subst (λ c. LooksAt (erasing q c) i (viewing (erasing q c) q) q' loose) (sym (ap (λ o. at_some o 0 (λ c. c)) named))

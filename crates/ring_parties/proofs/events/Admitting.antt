@@ -14,11 +14,11 @@ use Rattle.group_view.proofs.Rings.{nat_eq-not}
 use Rattle.group_view.proofs.Neighbours.{filter_none}
 use Rattle.ring_rules.specs.View.{right_of}
 use Rattle.ring_rules.specs.Machine.{World, Member, Link, Packet, no_member, no_sending, member_at, link_at, view_in, newest, runs_phase}
-use Rattle.ring_rules.specs.Step.{size, log_of, ended, next_packet, next_lines, moved_to, kept_current, joiner, admitted_view, come_to}
-use Rattle.ring_rules.specs.declared.event.Event.TheVariants.{Admit}
-use Rattle.ring_rules.specs.Event.{id_of, of_member, at_found, admit_refusal, refused_at, refusal, refreshed, done_at, effect, is_stopped}
+use Rattle.ring_rules.specs.Step.{size, log_of, next_packet, next_lines, moved_to, kept_current, joiner, admitted_view, come_to}
+use Rattle.ring_rules.specs.declared.kind.ViewChange.TheVariants as change
+use Rattle.ring_rules.specs.Kind.{Changes}
+use Rattle.ring_rules.specs.Event.{admit_refusal, refused_as, refreshed, done_as, is_stopped}
 use Rattle.ring_rules.proofs.events.Enabled.{up_none}
-use Rattle.ring_rules.proofs.events.Refusals.{id_within}
 use Rattle.ring_rules.proofs.rings.Lists.{get_or_beyond}
 use Rattle.ring_rules.proofs.walks.Views.{view_new}
 use Rattle.ring_rules.proofs.invariants.KeptAdmit.{CanJoin, receivers}
@@ -405,26 +405,23 @@ lets_in credit w x name q q' loose k st none (b, new, how, is) =
 -- ---- the event
 
 -- nothing refuses the name where it may happen, and its member can let in one more
-pub can_admit : (w : World) (x : ℕ) (by name : List ℕ) → IsGood w → id_of w by ≡ Some x → refusal w (Admit by name) ≡ None → (admit_refusal w name ≡ None) × CanJoin w x
-can_admit w x by name g named r =
-    let up = up_none w x (admit_refusal w name) (sym (ap (λ o. of_member o (refused_at w (Admit by name))) named) ∙ r) in
-    (up.1, can_join w x name (id_within w by x named).1 up.0 up.1 g)
+pub can_admit : (w : World) (x : ℕ) (name : List ℕ) → IsGood w → refused_as w x (Changes (change.Admit name)) ≡ None → x < size w → (admit_refusal w name ≡ None) × CanJoin w x
+can_admit w x name g r lt = let up = up_none w x (admit_refusal w name) r in (up.1, can_join w x name lt up.0 up.1 g)
 
 -- there is one member more then
-pub admit_many : (w : World) (x : ℕ) (by name : List ℕ) → CanJoin w x → IsFit w → id_of w by ≡ Some x → size (effect w (Admit by name)) ≡ size w + 1
-admit_many w x by name can f named =
-    ap (λ o. size (at_found o w (done_at w (Admit by name)))) named ∙ ap size (is_then w x name can f f.own_ends) ∙ many_then w x name can f f.own_ends
+pub admit_many : (w : World) (x : ℕ) (name : List ℕ) → CanJoin w x → IsFit w → size (done_as w x (Changes (change.Admit name))) ≡ size w + 1
+admit_many w x name can f = ap size (is_then w x name can f f.own_ends) ∙ many_then w x name can f f.own_ends
 
-pub admit_between : (credit : CreditSpec) (w : World) (q q' : Parties) (i d : ℕ) (by name : List ℕ) (loose : Option (LinkName × OutSeen)) → IsLawfulAt credit w → IsLawfulAt credit (effect w (Admit by name)) → refusal w (Admit by name) ≡ None → id_of w by ≡ Some (i + 1)
-    → Stand credit.initial w q → filter (waits_at (i + 1)) q.post ≡ [] → Acts (Admit by name) i d q q' loose → StandMoved credit.initial (i + 1) (effect w (Admit by name)) q' loose
-admit_between credit w q q' i d by name loose h h' r named st none (other, (initial_is, more_is), lets) =
-    subst (λ u. StandMoved credit.initial x u q' loose) (sym is) (lets_in credit w x name q q' loose (record {
+pub admit_between : (credit : CreditSpec) (w : World) (q q' : Parties) (i d : ℕ) (name : List ℕ) (loose : Option (LinkName × OutSeen)) → IsLawfulAt credit w → IsLawfulAt credit (done_as w (i + 1) (Changes (change.Admit name))) → refused_as w (i + 1) (Changes (change.Admit name)) ≡ None → i + 1 < size w
+    → Stand credit.initial w q → filter (waits_at (i + 1)) q.post ≡ [] → Acts (Changes (change.Admit name)) i d q q' loose → StandMoved credit.initial (i + 1) (done_as w (i + 1) (Changes (change.Admit name))) q' loose
+admit_between credit w q q' i d name loose h h' r lt st none (other, (initial_is, more_is), lets) =
+    lets_in credit w x name q q' loose (record {
       some = omega arith;
       can = can;
       lawful = h;
-      later = subst IsGood is h'.fit.good;
-      joins = λ t. subst (λ u. WaitsThere u (size w) name (admitted_view w x name) → joining_held credit name (size w) (admitted_view w x name) ≡ held_in u (size w)) is (h'.joins (size w) name (admitted_view w x name)) t;
-    }) st none at)
+      later = h'.fit.good;
+      joins = h'.joins (size w) name (admitted_view w x name);
+    }) st none at
   where
     x : ℕ
     x = i + 1
@@ -432,14 +429,8 @@ admit_between credit w q q' i d by name loose h h' r named st none (other, (init
     place : i + 1 - 1 ≡ i
     place = omega arith
 
-    is : effect w (Admit by name) ≡ refreshed (come_to w x name) x (newest w + 1)
-    is = ap (λ o. at_found o w (done_at w (Admit by name))) named
-
-    lt : x < size w
-    lt = (id_within w by x named).1
-
     can : CanJoin w x
-    can = (can_admit w x by name h.fit.good named r).1
+    can = (can_admit w x name h.fit.good r lt).1
 
     newest_then : newest_of q ≡ view_in w (newest w)
     newest_then = newest_is w q st.stand.views

@@ -5,15 +5,14 @@ use Rattle.queue_core.specs.declared.message.Message.{Message}
 use Rattle.queue_core.specs.declared.message.Message.TheVariants as message
 use Rattle.ring_names.specs.declared.numbers.CreditSpec.{CreditSpec}
 use Rattle.group_view.specs.declared.link.LinkName.{LinkName}
-use Rattle.ring_rules.specs.declared.event.Event.TheVariants.{Cast}
+use Rattle.ring_rules.specs.Kind.{Own, Says}
 use Rattle.ring_rules.specs.Machine.{World, Packet, Sending, no_member, numbers_at, member_at, link_at}
 use Rattle.ring_rules.specs.Step.{size, log_of, published, publish_at}
-use Rattle.ring_rules.specs.Event.{id_of, effect}
+use Rattle.ring_rules.specs.Event.{done_as}
 use Rattle.ring_rules.specs.Compact.{passed}
 use Rattle.ring_rules.specs.Lawful.{PacketsAreWithin}
 use Rattle.ring_rules.specs.declared.numbers.Numbers.{Numbers}
 use Rattle.ring_rules.proofs.rings.Lists.{at_set}
-use Rattle.ring_rules.proofs.events.Refusals.{id_within}
 use Rattle.gm_member.specs.Held.{Held, published_held}
 use Rattle.gm_member.specs.Stands.{line_for, lines_in}
 use Rattle.gm_member.proofs.Knowing.{line_grown}
@@ -26,7 +25,7 @@ use Rattle.ring_parties.specs.Standing.{Places, MemberStands, Stand}
 use Rattle.ring_parties.specs.Acting.{Acts}
 use Rattle.ring_parties.proofs.work.Lawful.{IsLawfulAt}
 use Rattle.ring_parties.proofs.standing.Frames.{SameWays, member_ways, carries_still, Does, StandMoved}
-use Rattle.ring_parties.proofs.events.OneEvent.{found_does, stands_at}
+use Rattle.ring_parties.proofs.events.OneEvent.{stands_at}
 use Rattle.ring_parties.proofs.events.Steps.{goes_so, ways_leave, same_phases, steps, ways_stand}
 
 -- ---- packets
@@ -50,11 +49,10 @@ cast_packets w x m before (k ∷ ks) lt h =
 
 -- ---- the parties
 
-pub cast_goes : (credit : CreditSpec) (w : World) (by body : List ℕ) (i d : ℕ) (q q' : Parties) (loose : Option (LinkName × OutSeen)) → IsLawfulAt credit w → id_of w by ≡ Some (i + 1) → Stand credit.initial w q → Acts (Cast by body) i d q q' loose → StandMoved credit.initial (i + 1) (effect w (Cast by body)) q' loose
-cast_goes credit w by body i d q q' loose h found st (b, casts, is, none) =
+pub cast_goes : (credit : CreditSpec) (w : World) (body : List ℕ) (i d : ℕ) (q q' : Parties) (loose : Option (LinkName × OutSeen)) → IsLawfulAt credit w → i + 1 < size w → Stand credit.initial w q → Acts (Says (Own body)) i d q q' loose → StandMoved credit.initial (i + 1) (done_as w (i + 1) (Says (Own body))) q' loose
+cast_goes credit w body i d q q' loose h lt st (b, casts, is, none) =
     let x : ℕ = i + 1 in
     let m : Message = message.Cast body in
-    let lt : i + 1 < size w = (id_within w by x found).1 in
     let w' : World = publish_at w x m in
     let p : Places = st.places in
     let ways : SameWays w w' = member_ways w x (published x m (member_at w x)) lt refl refl refl in
@@ -65,7 +63,7 @@ cast_goes credit w by body i d q q' loose h found st (b, casts, is, none) =
       is = casts;
     } in
     let a : MemberStands w p x (node_at q i) = stands_at credit.initial w q p i st.stand lt in
-    goes_so credit.initial x w' (effect w (Cast by body)) (with_node q i b) q' loose (found_does (id_of w by) x w (λ y. publish_at w y m) found) is none
+    goes_so credit.initial x w' (done_as w x (Says (Own body))) (with_node q i b) q' loose refl is none
     (steps credit w w' q q.stopped p i b st h lt (record {
       leaves = ways_leave w w' x ways;
       post = refl;

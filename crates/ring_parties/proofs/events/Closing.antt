@@ -15,14 +15,16 @@ use Rattle.group_view.specs.Change.{marked}
 use Rattle.group_view.specs.Since.{no_group, view_at}
 use Rattle.ring_rules.specs.Refusal.{refuse_if, or_else}
 use Rattle.ring_rules.specs.declared.event.Event.{Event}
-use Rattle.ring_rules.specs.declared.event.Event.TheVariants.{Stop, Mark, Refresh, Admit, Pick, Erase, Refuse}
+use Rattle.ring_rules.specs.declared.kind.LinkStep.TheVariants as step
+use Rattle.ring_rules.specs.declared.kind.ViewChange.TheVariants as change
+use Rattle.ring_rules.specs.Kind.{Kind, Steps, Changes, Stops, Reads, Tells, kind_of}
 use Rattle.ring_rules.specs.declared.phase.Phase.{Phase}
 use Rattle.ring_rules.specs.declared.phase.Phase.TheVariants.{Waiting, Up, Stopped}
 use Rattle.ring_rules.specs.View.{ids}
 use Rattle.ring_rules.specs.Machine.{World, member_at, is_waiting, runs_phase}
 use Rattle.ring_rules.specs.Machine as machine
-use Rattle.ring_rules.specs.Step.{opening}
-use Rattle.ring_rules.specs.Event.{by_of, id_of, of_member, is_stopped, is_multicast, up_refusal, refresh_refusal, pick_refusal, refusal, effect}
+use Rattle.ring_rules.specs.Step.{size, opening}
+use Rattle.ring_rules.specs.Event.{by_of, id_of, of_member, is_stopped, is_multicast, is_multicast_kind, up_refusal, refresh_refusal, pick_refusal, refused_as, refusal, done_as, effect}
 use Rattle.ring_rules.specs.Event as event
 use Rattle.ring_rules.proofs.runs.InOrder.{last_append, run_append}
 use Rattle.ring_rules.proofs.events.WhatRefuses.{MayLook}
@@ -35,6 +37,7 @@ use Rattle.registrar.proofs.Judged.{view_same, many_views, knows}
 use Rattle.activity.specs.declared.packet.Load.{Load}
 use Rattle.gm_member.specs.Held.{Held, at_some, up_refused, pick_refused, refresh_refused, first_at_door}
 use Rattle.gm_member.proofs.Doors.{view_version}
+use Rattle.gm_member.proofs.Facts.{refused_there, done_there}
 use Rattle.ring_parties.specs.Ends.{OutSeen}
 use Rattle.ring_parties.specs.declared.party.Party.{Party}
 use Rattle.ring_parties.specs.Parties.{Shown, Posted, Parties, parties, posted, node_at, with_node, shown_in, in_seen}
@@ -42,16 +45,15 @@ use Rattle.ring_parties.specs.States.{state, IsEventIn}
 use Rattle.ring_parties.specs.Standing.{MemberStands, StandAfter, IsJournal}
 use Rattle.ring_parties.specs.Loose.{StandBetween, BetweenAfter, moved_by}
 use Rattle.ring_parties.specs.Meeting.{MayMeet, MeetsIn}
-use Rattle.ring_parties.specs.Acting.{alone_refused, stop_refused, look_refused, posting, newest_of, viewing, erasing, admitting, joining, LooksAt, Acts}
-use Rattle.ring_parties.specs.Refused.{id_named, NothingWaits, mark_refused, erase_refused, telling_refused, admission_refused, act_refused, marked_in, office_of}
+use Rattle.ring_parties.specs.Acting.{stop_refused, look_refused, posting, newest_of, viewing, erasing, admitting, joining, LooksAt, Acts}
+use Rattle.ring_parties.specs.Refused.{id_named, NothingWaits, mark_refused, erase_refused, admission_refused, own_refused, act_refused, marked_in, office_of}
 use Rattle.ring_parties.specs.Behind.{behind}
 use Rattle.ring_parties.specs.declared.undelivered.Undelivered.{Undelivered}
 use Rattle.ring_parties.proofs.work.Lawful.{IsLawfulAt}
 use Rattle.ring_parties.proofs.events.After.{shown_inside, lawful_after, go_after, within_after, member_after, id_after}
 use Rattle.ring_parties.proofs.events.Found.{named_alike, found_within}
-use Rattle.ring_parties.proofs.events.AloneRefusals.{alone_refusal_is}
-use Rattle.ring_parties.proofs.events.AloneGoes.{IsAlone}
-use Rattle.ring_parties.proofs.events.Refusing.{look_refuses, admit_refuses, mark_asked_refuses, nobody_named, erase_refuses, telling_refuses}
+use Rattle.ring_parties.proofs.events.Refusals.{IsOwn, own_refuses}
+use Rattle.ring_parties.proofs.events.Refusing.{look_refuses, admit_refuses, mark_asked_refuses, nobody_named, erase_refuses}
 use Rattle.ring_parties.proofs.events.EachGoes.{MayGo, each_goes}
 use Rattle.ring_parties.proofs.events.Marking.{refresh_may}
 use Rattle.ring_parties.proofs.meetings.Receivers.{GoesIn, loose_goes_in}
@@ -107,56 +109,66 @@ module _ (credit : CreditSpec) (names : List (List ℕ)) (events : List Event) w
   found_place : (q : Parties) (name : List ℕ) (i : ℕ) → id_named q name ≡ Some (i + 1) → i < length q.nodes
   found_place q name i e = omega (arith, (found_within q name (i + 1) e).1)
 
-  -- a member refuses an event just where the ring does, for the same reason
-  pub refused_is : (q : Parties) (e : Event) (i : ℕ) → StandAfter credit names events q → id_named q (by_of e) ≡ Some (i + 1) → ((node_at q i).held.phase ≡ Up → NothingWaits (i + 1) q)
-      → is_multicast e ≡ true → act_refused e i q ≡ refusal (state credit names events) e
-  refused_is q e i s named waits cast = by_event e cast (sym (found q (by_of e) s) ∙ named) (found_place q (by_of e) i named)
+  -- a member refuses what it does of a kind just where the ring does, for the same reason
+  kind_refused : (q : Parties) (k : Kind) (i : ℕ) → StandAfter credit names events q → i < length q.nodes → ((node_at q i).held.phase ≡ Up → NothingWaits (i + 1) q) → is_multicast_kind k ≡ true → act_refused k i q ≡ refused_as (state credit names events) (i + 1) k
+  kind_refused q k i s l waits cast = by_kind k cast
     where
       w : World
       w = state credit names events
 
-      alone : (f : Event) → id_of w (by_of f) ≡ Some (i + 1) → IsAlone f (i + 1) q → alone_refused f (node_at q i) ≡ refusal w f
-      alone f k a = subst (λ j. alone_refused f (node_at q j) ≡ refusal w f) (place i) (alone_refusal_is credit w q f (i + 1) (lawful_after credit names events s.journal) s.stand k a)
+      lt : i + 1 < size w
+      lt = within_after credit names events q i s l
+
+      own : (k : Kind) → IsOwn k (i + 1) q → own_refused (newest_of q) k (node_at q i) ≡ refused_as w (i + 1) k
+      own k a = subst (λ j. own_refused (newest_of q) k (node_at q j) ≡ refused_as w (i + 1) k) (place i) (own_refuses credit w q (i + 1) (lawful_after credit names events s.journal) s.stand (omega arith) lt k a)
 
       -- of one that isn't up
-      not_up : (f : Phase) → (f ≡ Up → ⊥) → (node_at q i).held.phase ≡ f → i < length q.nodes → (a b : Option Reason) → up_refused (node_at q i).held a ≡ up_refusal w (i + 1) b
-      not_up f ne k l a b = idle (node_at q i).held w (i + 1) f k (sym (phase_is q i s l) ∙ k) ne a b
+      not_up : (f : Phase) → (f ≡ Up → ⊥) → (node_at q i).held.phase ≡ f → (a b : Option Reason) → up_refused (node_at q i).held a ≡ up_refusal w (i + 1) b
+      not_up f ne k a b = idle (node_at q i).held w (i + 1) f k (sym (phase_is q i s l) ∙ k) ne a b
 
-      pick_up : (by : List ℕ) → id_of w by ≡ Some (i + 1) → i < length q.nodes → (f : Phase) → (node_at q i).held.phase ≡ f → pick_refused (node_at q i).held ≡ refusal w (Pick by)
-      pick_up by k l Up e = alone (Pick by) k (waits e)
-      pick_up by k l Waiting e = not_up Waiting (λ n. cc) e l _ _ ∙ sym (ap (λ o. of_member o (λ y. up_refusal w y (or_else (refuse_if (is_some (member_at w y).current) reason.HasCurrentLink) (pick_refusal w y)))) k)
-      pick_up by k l Stopped e = not_up Stopped (λ n. cc) e l _ _ ∙ sym (ap (λ o. of_member o (λ y. up_refusal w y (or_else (refuse_if (is_some (member_at w y).current) reason.HasCurrentLink) (pick_refusal w y)))) k)
+      pick_up : (f : Phase) → (node_at q i).held.phase ≡ f → pick_refused (node_at q i).held ≡ refused_as w (i + 1) (Steps step.Pick)
+      pick_up Up e = own (Steps step.Pick) (waits e)
+      pick_up Waiting e = not_up Waiting (λ n. cc) e _ _
+      pick_up Stopped e = not_up Stopped (λ n. cc) e _ _
 
-      mark_up : (by dead : List ℕ) (d : ℕ) → id_of w by ≡ Some (i + 1) → id_of w dead ≡ Some d → i < length q.nodes → (f : Phase) → (node_at q i).held.phase ≡ f → mark_refused (office_of q) (node_at q i) (Some d) ≡ refusal w (Mark by dead)
-      mark_up by dead d k e l Up f =
+      mark_up : (dead : List ℕ) (d : ℕ) → id_of w dead ≡ Some d → (f : Phase) → (node_at q i).held.phase ≡ f → mark_refused (office_of q) (node_at q i) (Some d) ≡ refused_as w (i + 1) (Changes (change.Mark dead))
+      mark_up dead d e Up f =
           let id : (node_at q i).held.id ≡ i + 1 = id_after credit names events q i s l in
           ap (λ x. up_refused (node_at q i).held (mark_refusal (office_of q) x d (node_at q i).held.view.version (is_some (node_at q i).held.current || is_some (first_at_door (node_at q i).held)))) id
-          ∙ mark_asked_refuses credit w q (i + 1) d by dead (node_at q i) (lawful_after credit names events s.journal) k e s.stand (waits f) (ap (node_at q) (sym (place i)))
-      mark_up by dead d k e l Waiting f = not_up Waiting (λ n. cc) f l _ _ ∙ sym (ap (λ o. of_member o (λ y. up_refusal w y (of_member (id_of w dead) (event.mark_refusal w y)))) k)
-      mark_up by dead d k e l Stopped f = not_up Stopped (λ n. cc) f l _ _ ∙ sym (ap (λ o. of_member o (λ y. up_refusal w y (of_member (id_of w dead) (event.mark_refusal w y)))) k)
+          ∙ mark_asked_refuses credit w q (i + 1) d dead (node_at q i) (lawful_after credit names events s.journal) s.stand (omega arith) lt e (waits f) (ap (node_at q) (sym (place i)))
+      mark_up dead d e Waiting f = not_up Waiting (λ n. cc) f _ _
+      mark_up dead d e Stopped f = not_up Stopped (λ n. cc) f _ _
 
-      by_dead : (by dead : List ℕ) (o : Option ℕ) → id_of w by ≡ Some (i + 1) → id_of w dead ≡ o → i < length q.nodes → mark_refused (office_of q) (node_at q i) o ≡ refusal w (Mark by dead)
-      by_dead by dead None k d l = subst (λ j. mark_refused (office_of q) (node_at q j) None ≡ refusal w (Mark by dead)) (place i) (nobody_named credit w q (i + 1) by dead (event.mark_refusal w) k d s.stand)
-      by_dead by dead (Some d) k e l = mark_up by dead d k e l (node_at q i).held.phase refl
+      nobody : (other : List ℕ) (later : ℕ → Option Reason) → id_of w other ≡ None → up_refused (node_at q i).held (Some reason.UnknownMember) ≡ up_refusal w (i + 1) (of_member (id_of w other) later)
+      nobody other later none = subst (λ j. up_refused (node_at q j).held (Some reason.UnknownMember) ≡ up_refusal w (i + 1) (of_member (id_of w other) later)) (place i) (nobody_named credit w q (i + 1) other later s.stand (omega arith) lt none)
 
-      by_origin : (by origin : List ℕ) (o : Option ℕ) → id_of w by ≡ Some (i + 1) → id_of w origin ≡ o → erase_refused (office_of q) (node_at q i) o ≡ refusal w (Erase by origin)
-      by_origin by origin None k p = subst (λ j. erase_refused (office_of q) (node_at q j) None ≡ refusal w (Erase by origin)) (place i) (nobody_named credit w q (i + 1) by origin (event.erase_refusal w) k p s.stand)
-      by_origin by origin (Some p) k e = subst (λ j. erase_refused (office_of q) (node_at q j) (Some p) ≡ refusal w (Erase by origin)) (place i)
-          (erase_refuses credit w (office_of q) q (i + 1) p by origin (lawful_after credit names events s.journal) (record { views = s.stand.stand.views; stopped = s.stand.stand.stopped; nobody_else = s.stand.stand.nobody_else }) k e s.stand)
+      by_dead : (dead : List ℕ) (o : Option ℕ) → id_of w dead ≡ o → mark_refused (office_of q) (node_at q i) o ≡ refused_as w (i + 1) (Changes (change.Mark dead))
+      by_dead dead None e = nobody dead (event.mark_refusal w (i + 1)) e
+      by_dead dead (Some d) e = mark_up dead d e (node_at q i).held.phase refl
 
-      by_event : (f : Event) → is_multicast f ≡ true → id_of w (by_of f) ≡ Some (i + 1) → i < length q.nodes → act_refused f i q ≡ refusal w f
-      by_event (Mark by dead) m k l = ap (mark_refused (office_of q) (node_at q i)) (found q dead s) ∙ by_dead by dead (id_of w dead) k refl l
-      by_event (Refresh by version) m k l = subst (λ j. look_refused (newest_of q).version (node_at q j) version ≡ refusal w (Refresh by version)) (place i) (look_refuses credit w q (i + 1) version by (lawful_after credit names events s.journal) k s.stand)
-      by_event (Admit by name) m k l = subst (λ j. up_refused (node_at q j).held (admission_refused (newest_of q) name) ≡ refusal w (Admit by name)) (place i) (admit_refuses credit w q (i + 1) by name k s.stand)
-      by_event (Erase by origin) m k l = ap (erase_refused (office_of q) (node_at q i)) (found q origin s) ∙ by_origin by origin (id_of w origin) k refl
-      by_event (Refuse code inner) m k l = subst (λ j. telling_refused (newest_of q) code inner (node_at q j) ≡ refusal w (Refuse code inner)) (place i) (telling_refuses credit w q (i + 1) code inner m k s.stand)
-      by_event (Pick by) m k l = pick_up by k l (node_at q i).held.phase refl
-      by_event f m k l = alone f k m
+      by_origin : (origin : List ℕ) (o : Option ℕ) → id_of w origin ≡ o → erase_refused (office_of q) (node_at q i) o ≡ refused_as w (i + 1) (Changes (change.Erase origin))
+      by_origin origin None e = nobody origin (event.erase_refusal w (i + 1)) e
+      by_origin origin (Some p) e = subst (λ j. erase_refused (office_of q) (node_at q j) (Some p) ≡ refused_as w (i + 1) (Changes (change.Erase origin))) (place i)
+          (erase_refuses credit w (office_of q) q (i + 1) p origin (lawful_after credit names events s.journal) (record { views = s.stand.stand.views; stopped = s.stand.stand.stopped; nobody_else = s.stand.stand.nobody_else }) s.stand (omega arith) lt e)
+
+      by_kind : (k : Kind) → is_multicast_kind k ≡ true → act_refused k i q ≡ refused_as w (i + 1) k
+      by_kind (Changes (change.Mark dead)) m = ap (mark_refused (office_of q) (node_at q i)) (found q dead s) ∙ by_dead dead (id_of w dead) refl
+      by_kind (Changes (change.Erase origin)) m = ap (erase_refused (office_of q) (node_at q i)) (found q origin s) ∙ by_origin origin (id_of w origin) refl
+      by_kind (Changes (change.Admit name)) m = subst (λ j. up_refused (node_at q j).held (admission_refused (newest_of q) name) ≡ refused_as w (i + 1) (Changes (change.Admit name))) (place i) (admit_refuses credit w q (i + 1) name (omega arith) lt s.stand)
+      by_kind (Changes change.Register) m = absurd (false≢true m)
+      by_kind (Steps step.Pick) m = pick_up (node_at q i).held.phase refl
+      by_kind k m = own k m
+
+  -- and so an event
+  pub refused_is : (q : Parties) (e : Event) (i : ℕ) → StandAfter credit names events q → id_named q (by_of e) ≡ Some (i + 1) → ((node_at q i).held.phase ≡ Up → NothingWaits (i + 1) q)
+      → is_multicast e ≡ true → act_refused (kind_of e) i q ≡ refusal (state credit names events) e
+  refused_is q e i s named waits cast =
+      kind_refused q (kind_of e) i s (found_place q (by_of e) i named) waits cast ∙ sym (refused_there (state credit names events) (i + 1) e (sym (found q (by_of e) s) ∙ named))
 
   -- ---- the event happens
 
-  many_after : (q q' : Parties) (e : Event) (i d : ℕ) (loose : Option (LinkName × OutSeen)) → Acts e i d q q' loose → length q.nodes ≤ length q'.nodes
-  many_after q q' e i d loose a = by_event e a
+  many_after : (q q' : Parties) (k : Kind) (i d : ℕ) (loose : Option (LinkName × OutSeen)) → Acts k i d q q' loose → length q.nodes ≤ length q'.nodes
+  many_after q q' k i d loose a = by_kind k a
     where
       as_many : length q'.nodes ≡ length q.nodes → length q.nodes ≤ length q'.nodes
       as_many same = omega (arith, same)
@@ -174,18 +186,18 @@ module _ (credit : CreditSpec) (names : List (List ℕ)) (events : List Event) w
       one_more : (b m : Shown) (v : Group) → q' ≡ joining m (viewing v (with_node q i b)) → length q.nodes ≤ length q'.nodes
       one_more b m v is = omega (arith, ap (λ (p : Parties). length p.nodes) is ∙ length_push (set q.nodes i b) m, length-set q.nodes i b)
 
-      by_event : (f : Event) → Acts f i d q q' loose → length q.nodes ≤ length q'.nodes
-      by_event (Stop by) (b, _, is, _) = as_many (ap (λ (p : Parties). length p.nodes) is ∙ length-set q.nodes i b)
-      by_event (Admit by name) k = one_more k.2.0 _ (admitting q i name) k.2.3
-      by_event (Mark by dead) k = looks (marked (newest_of q) d) (viewing (marked (newest_of q) d) q) refl k
-      by_event (Refresh by version) k = looks (view_at q.views version) q refl k
-      by_event (Erase by origin) k = looks (erasing q d) (viewing (erasing q d) q) refl k
-      by_event (Refuse code inner) k = as_many (ap (λ (p : Parties). length p.nodes) k.0)
-      by_event f (b, _, is, _) = one b is
+      by_kind : (k : Kind) → Acts k i d q q' loose → length q.nodes ≤ length q'.nodes
+      by_kind Stops (b, _, is, _) = as_many (ap (λ (p : Parties). length p.nodes) is ∙ length-set q.nodes i b)
+      by_kind (Changes (change.Mark dead)) a = looks (marked (newest_of q) d) (viewing (marked (newest_of q) d) q) refl a
+      by_kind (Changes (change.Erase origin)) a = looks (erasing q d) (viewing (erasing q d) q) refl a
+      by_kind (Changes (change.Admit name)) a = one_more a.2.0 _ (admitting q i name) a.2.3
+      by_kind (Reads version) a = looks (view_at q.views version) q refl a
+      by_kind (Tells code inner) a = as_many (ap (λ (p : Parties). length p.nodes) a.0)
+      by_kind k (b, _, is, _) = one b is
 
   -- a loose end goes to a member
-  loose_goes : (q q' : Parties) (e : Event) (i d : ℕ) (name : LinkName) (o : OutSeen) → StandAfter credit names events q → i < length q.nodes → Acts e i d q q' (Some (name, o)) → GoesIn (state credit names events) name
-  loose_goes q q' e i d name o s l a = by_event e a
+  loose_goes : (q q' : Parties) (k : Kind) (i d : ℕ) (name : LinkName) (o : OutSeen) → StandAfter credit names events q → i < length q.nodes → Acts k i d q q' (Some (name, o)) → GoesIn (state credit names events) name
+  loose_goes q q' k i d name o s l a = by_kind k a
     where
       w : World
       w = state credit names events
@@ -199,50 +211,48 @@ module _ (credit : CreditSpec) (names : List (List ℕ)) (events : List Event) w
       looks_at : (v : Group) (p : Parties) → LooksAt v i q p (Some (name, o)) → GoesIn w name
       looks_at v p k = looks v p (subst (λ j. LooksAt v j q p (Some (name, o))) (sym (place i)) k)
 
-      by_event : (f : Event) → Acts f i d q q' (Some (name, o)) → GoesIn w name
-      by_event (Mark by dead) (b, new, how, _) = looks_at (marked (newest_of q) d) (posting new (with_node q i b)) (b, new, how, refl)
-      by_event (Refresh by version) k = looks_at (view_at q.views version) q' k
-      by_event (Erase by origin) (b, new, how, _) = looks_at (erasing q d) (posting new (with_node q i b)) (b, new, how, refl)
-      by_event (Admit by name) k = looks_at (admitting q i name) (posting k.2.1 (with_node q i k.2.0)) (k.2.0, k.2.1, k.2.2, refl)
-      by_event (Refuse code inner) k = never k.1
-      by_event f k = never k.3
+      by_kind : (k : Kind) → Acts k i d q q' (Some (name, o)) → GoesIn w name
+      by_kind (Changes (change.Mark dead)) (b, new, how, _) = looks_at (marked (newest_of q) d) (posting new (with_node q i b)) (b, new, how, refl)
+      by_kind (Changes (change.Erase origin)) (b, new, how, _) = looks_at (erasing q d) (posting new (with_node q i b)) (b, new, how, refl)
+      by_kind (Changes (change.Admit name)) a = looks_at (admitting q i name) (posting a.2.1 (with_node q i a.2.0)) (a.2.0, a.2.1, a.2.2, refl)
+      by_kind (Reads version) a = looks_at (view_at q.views version) q' a
+      by_kind (Tells code inner) a = never a.1
+      by_kind k a = never a.3
 
-  -- what the event needs besides
-  may_go : (q : Parties) (e : Event) (i : ℕ) → StandAfter credit names events q → refusal (state credit names events) e ≡ None → id_named q (by_of e) ≡ Some (i + 1)
-      → ((node_at q i).held.phase ≡ Up → NothingWaits (i + 1) q) → is_multicast e ≡ true → MayGo (state credit names events) e (i + 1) (marked_in e q) q
-  may_go q e i s r named waits cast = by_event e cast r (sym (found q (by_of e) s) ∙ named) (found_place q (by_of e) i named)
+  -- what it needs besides
+  may_go : (q : Parties) (k : Kind) (i : ℕ) → StandAfter credit names events q → i < length q.nodes → refused_as (state credit names events) (i + 1) k ≡ None
+      → ((node_at q i).held.phase ≡ Up → NothingWaits (i + 1) q) → is_multicast_kind k ≡ true → MayGo (state credit names events) k (i + 1) (marked_in k q) q
+  may_go q k i s l r waits cast = by_kind k cast r
     where
       w : World
       w = state credit names events
 
-      up : (later : ℕ → Option Reason) (o : Option ℕ) → o ≡ Some (i + 1) → of_member o (λ x. up_refusal w x (later x)) ≡ None → i < length q.nodes → NothingWaits (i + 1) q
-      up later o k e l = waits (phase_is q i s l ∙ (up_none w (i + 1) (later (i + 1)) (sym (ap (λ c. of_member c (λ x. up_refusal w x (later x))) k) ∙ e)).0)
+      up : (later : Option Reason) → up_refusal w (i + 1) later ≡ None → NothingWaits (i + 1) q
+      up later e = waits (phase_is q i s l ∙ (up_none w (i + 1) later e).0)
 
       -- the one that is marked or erased
-      other_is : (by other : List ℕ) (later : ℕ → ℕ → Option Reason) (o : Option ℕ) → id_named q other ≡ o → id_of w by ≡ Some (i + 1) → of_member (id_of w by) (λ y. up_refusal w y (of_member (id_of w other) (later y))) ≡ None
-          → id_of w other ≡ Some (at_some (id_named q other) 0 (λ d. d))
-      other_is by other later (Some d) k _ _ = sym (found q other s) ∙ k ∙ ap (λ o. Some (at_some o 0 (λ d. d))) (sym k)
-      other_is by other later None k b e =
-          let up : up_refusal w (i + 1) (of_member (id_of w other) (later (i + 1))) ≡ None = sym (ap (λ o. of_member o (λ y. up_refusal w y (of_member (id_of w other) (later y)))) b) ∙ e in
-          let none : of_member (id_of w other) (later (i + 1)) ≡ None = (up_none w (i + 1) _ up).1 in
-          let unknown : Some reason.UnknownMember ≡ None = sym (ap (λ o. of_member o (later (i + 1))) (sym (found q other s) ∙ k)) ∙ none in
+      other_is : (other : List ℕ) (later : ℕ → Option Reason) (o : Option ℕ) → id_named q other ≡ o → up_refusal w (i + 1) (of_member (id_of w other) later) ≡ None → id_of w other ≡ Some (at_some (id_named q other) 0 (λ d. d))
+      other_is other later (Some d) k _ = sym (found q other s) ∙ k ∙ ap (λ o. Some (at_some o 0 (λ d. d))) (sym k)
+      other_is other later None k e =
+          let none : of_member (id_of w other) later ≡ None = (up_none w (i + 1) _ e).1 in
+          let unknown : Some reason.UnknownMember ≡ None = sym (ap (λ o. of_member o later) (sym (found q other s) ∙ k)) ∙ none in
           cc
 
-      by_event : (f : Event) → is_multicast f ≡ true → refusal w f ≡ None → id_of w (by_of f) ≡ Some (i + 1) → i < length q.nodes → MayGo w f (i + 1) (marked_in f q) q
-      by_event (Mark by dead) m e k l = (other_is by dead (event.mark_refusal w) (id_named q dead) refl k e, up (λ y. of_member (id_of w dead) (event.mark_refusal w y)) (id_of w by) k e l)
-      by_event (Erase by origin) m e k l = (other_is by origin (event.erase_refusal w) (id_named q origin) refl k e, up (λ y. of_member (id_of w origin) (event.erase_refusal w y)) (id_of w by) k e l)
-      by_event (Refresh by version) m e k l = up (λ y. refresh_refusal w y version) (id_of w by) k e l
-      by_event (Admit by name) m e k l = up (λ _. event.admit_refusal w name) (id_of w by) k e l
-      by_event (Pick by) m e k l = up (λ y. or_else (refuse_if (is_some (member_at w y).current) reason.HasCurrentLink) (pick_refusal w y)) (id_of w by) k e l
-      by_event f m e k l = m
+      by_kind : (k : Kind) → is_multicast_kind k ≡ true → refused_as w (i + 1) k ≡ None → MayGo w k (i + 1) (marked_in k q) q
+      by_kind (Changes (change.Mark dead)) m e = (other_is dead (event.mark_refusal w (i + 1)) (id_named q dead) refl e, up (of_member (id_of w dead) (event.mark_refusal w (i + 1))) e)
+      by_kind (Changes (change.Erase origin)) m e = (other_is origin (event.erase_refusal w (i + 1)) (id_named q origin) refl e, up (of_member (id_of w origin) (event.erase_refusal w (i + 1))) e)
+      by_kind (Changes (change.Admit name)) m e = up (event.admit_refusal w name) e
+      by_kind (Reads version) m e = up (refresh_refusal w (i + 1) version) e
+      by_kind (Steps step.Pick) m e = up (or_else (refuse_if (is_some (member_at w (i + 1)).current) reason.HasCurrentLink) (pick_refusal w (i + 1))) e
+      by_kind k m e = m
 
-  pub acted : (q q' : Parties) (e : Event) (i : ℕ) (loose : Option (LinkName × OutSeen)) → StandAfter credit names events q → act_refused e i q ≡ None → id_named q (by_of e) ≡ Some (i + 1)
-      → ((node_at q i).held.phase ≡ Up → NothingWaits (i + 1) q) → is_multicast e ≡ true → length events + 1 < 2 ^ 59 → Acts e i (marked_in e q) q q' loose
+  pub acted : (q q' : Parties) (e : Event) (i : ℕ) (loose : Option (LinkName × OutSeen)) → StandAfter credit names events q → act_refused (kind_of e) i q ≡ None → id_named q (by_of e) ≡ Some (i + 1)
+      → ((node_at q i).held.phase ≡ Up → NothingWaits (i + 1) q) → is_multicast e ≡ true → length events + 1 < 2 ^ 59 → Acts (kind_of e) i (marked_in (kind_of e) q) q q' loose
       → BetweenAfter credit names (events ++ e ∷ []) (moved_by (i + 1) (state credit names (events ++ e ∷ []))) q' loose
   acted q q' e i loose s refused named waits cast few a = record {
     journal = journal;
     stand = stand;
-    goes = λ name o k. goes name o (subst (Acts e i (marked_in e q) q q') k a);
+    goes = λ name o k. goes name o (subst (Acts (kind_of e) i (marked_in (kind_of e) q) q q') k a);
   }
     where
       w : World
@@ -259,26 +269,35 @@ module _ (credit : CreditSpec) (names : List (List ℕ)) (events : List Event) w
         multicast = list_all-append is_multicast events (e ∷ []) ∙ and_from _ _ s.journal.multicast (and_from _ _ cast refl);
       }
 
-      after : state credit names (events ++ e ∷ []) ≡ effect w e
-      after = last_append (opening credit names) events (e ∷ [])
+      inside : i < length q.nodes
+      inside = found_place q (by_of e) i named
+
+      there : id_of w (by_of e) ≡ Some (i + 1)
+      there = sym (found q (by_of e) s) ∙ named
+
+      after : state credit names (events ++ e ∷ []) ≡ done_as w (i + 1) (kind_of e)
+      after = last_append (opening credit names) events (e ∷ []) ∙ done_there w (i + 1) e there
+
+      allowed : refused_as w (i + 1) (kind_of e) ≡ None
+      allowed = sym (refused_there w (i + 1) e there) ∙ enabled
 
       stand : StandMoved credit.initial (i + 1) (state credit names (events ++ e ∷ [])) q' loose
       stand = subst (λ u. StandMoved credit.initial (i + 1) u q' loose) (sym after)
-          (each_goes credit w e i (marked_in e q) q q' loose (lawful_after credit names events s.journal)
+          (each_goes credit w (kind_of e) i (marked_in (kind_of e) q) q q' loose (lawful_after credit names events s.journal)
           (subst (IsLawfulAt credit) after (lawful_after credit names (events ++ e ∷ []) journal))
-          enabled (sym (found q (by_of e) s) ∙ named) (may_go q e i s enabled named waits cast) s.stand a)
+          allowed (within_after credit names events q i s inside) (may_go q (kind_of e) i s inside allowed waits cast) s.stand a)
 
-      goes : (name : LinkName) (o : OutSeen) → Acts e i (marked_in e q) q q' (Some (name, o)) → GoesIn (state credit names (events ++ e ∷ [])) name
+      goes : (name : LinkName) (o : OutSeen) → Acts (kind_of e) i (marked_in (kind_of e) q) q q' (Some (name, o)) → GoesIn (state credit names (events ++ e ∷ [])) name
       goes name o k =
-          let in_old = loose_goes q q' e i (marked_in e q) name o s (found_place q (by_of e) i named) k in
-          let many : length q.nodes ≤ length q'.nodes = many_after q q' e i (marked_in e q) loose a in
+          let in_old = loose_goes q q' (kind_of e) i (marked_in (kind_of e) q) name o s inside k in
+          let many : length q.nodes ≤ length q'.nodes = many_after q q' (kind_of e) i (marked_in (kind_of e) q) loose a in
           (in_old.0, omega (arith, in_old.1, many, s.stand.stand.count, stand.stand.count))
 
   -- there are as many members then
-  pub still_there : (q q' q'' : Parties) (e : Event) (i : ℕ) (loose : Option (LinkName × OutSeen)) (ids : List ℕ) → i < length q.nodes → Acts e i (marked_in e q) q q' loose
+  pub still_there : (q q' q'' : Parties) (e : Event) (i : ℕ) (loose : Option (LinkName × OutSeen)) (ids : List ℕ) → i < length q.nodes → Acts (kind_of e) i (marked_in (kind_of e) q) q q' loose
       → BetweenAfter credit names (events ++ e ∷ []) ids q' loose → BetweenAfter credit names (events ++ e ∷ []) ids q'' None → i < length q''.nodes
   still_there q q' q'' e i loose ids l a b later =
-      let many : length q.nodes ≤ length q'.nodes = many_after q q' e i (marked_in e q) loose a in
+      let many : length q.nodes ≤ length q'.nodes = many_after q q' (kind_of e) i (marked_in (kind_of e) q) loose a in
       omega (arith, l, many, b.stand.stand.count, later.stand.stand.count)
 
   -- ---- the loose end meets its other end
@@ -341,14 +360,14 @@ module _ (credit : CreditSpec) (names : List (List ℕ)) (events : List Event) w
       rs : StandsIn w r
       rs = registrar_stands credit.initial w nodes r [] s.stand.places s.stand.stand
 
-      named : id_of w (member_at w (i + 1)).name ≡ Some (i + 1)
-      named = g.fit.named (i + 1) (omega arith) (within_after credit names events q i s inside)
+      lt : i + 1 < size w
+      lt = within_after credit names events q i s inside
 
-      enabled : refusal w (Refresh (member_at w (i + 1)).name version) ≡ None
-      enabled = sym (subst (λ j. look_refused (newest_of q).version (node_at q j) version ≡ refusal w (Refresh (member_at w (i + 1)).name version)) (place i) (look_refuses credit w q (i + 1) version (member_at w (i + 1)).name g named s.stand)) ∙ e
+      enabled : refused_as w (i + 1) (Reads version) ≡ None
+      enabled = sym (subst (λ j. look_refused (newest_of q).version (node_at q j) version ≡ refused_as w (i + 1) (Reads version)) (place i) (look_refuses credit w q (i + 1) version g s.stand (omega arith) lt)) ∙ e
 
       may : MayLook w (i + 1) version
-      may = refresh_may w (i + 1) version (member_at w (i + 1)).name named enabled
+      may = refresh_may w (i + 1) version enabled lt
 
       same : view_at r.views version ≡ machine.view_in w version
       same = view_same w r version rs

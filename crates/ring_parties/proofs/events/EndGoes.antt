@@ -1,5 +1,5 @@
 -- Where a member has taken its link to its end, the parties stand in the state after that.
-use Rattle.std.proofs.Common.{◌≡◌, ◌≢◌, nat_eq, ℕ, ◌+◌, ◌<◌, true, false, List, length, Option, Some, None, refl, sym, ap, subst, ◌∙◌, ⊎_elim}
+use Rattle.std.proofs.Common.{◌≡◌, ◌≢◌, nat_eq, ℕ, ◌+◌, ◌<◌, true, false, length, Option, Some, None, refl, sym, ap, subst, ◌∙◌, ⊎_elim}
 use Rattle.std.specs.Prelude.{◌||◌, option_map}
 use Rattle.std.specs.List.{filter, range_with_len}
 use Rattle.std.proofs.lemmas.Bool.{false≢true, cases_eq}
@@ -7,14 +7,14 @@ use Rattle.std.proofs.lemmas.List.{length-set, get_or-set_same}
 use Rattle.ring_names.specs.declared.numbers.CreditSpec.{CreditSpec}
 use Rattle.ring_names.specs.declared.reason.Reason.TheVariants as reason
 use Rattle.group_view.specs.declared.link.LinkName.{LinkName}
-use Rattle.ring_rules.specs.declared.event.Event.TheVariants.{TakeEnd}
+use Rattle.ring_rules.specs.declared.kind.LinkStep.TheVariants as step
+use Rattle.ring_rules.specs.Kind.{Steps}
 use Rattle.ring_rules.specs.Machine.{World, Link, Member, no_link, member_at, link_at}
 use Rattle.ring_rules.specs.OpenLinks.{is_place, is_current}
 use Rattle.ring_rules.specs.Step.{size, with_current, finished, leave_link}
-use Rattle.ring_rules.specs.Event.{id_of, running_refusal, on_link, end_refusal, at_found, refusal, effect}
+use Rattle.ring_rules.specs.Event.{running_refusal, on_link, end_refusal, refused_as, done_as}
 use Rattle.ring_rules.proofs.rings.Rounds.{nat_eq-not}
 use Rattle.ring_rules.proofs.events.Enabled.{running_later}
-use Rattle.ring_rules.proofs.events.Refusals.{id_within}
 use Rattle.gm_member.specs.Held.{Held, ended_held}
 use Rattle.gm_member.specs.View.{ring_link}
 use Rattle.gm_member.specs.Stands.{waits_for, door_links}
@@ -28,7 +28,7 @@ use Rattle.ring_parties.specs.Standing.{Places, MemberStands, Stand, has_in}
 use Rattle.ring_parties.specs.Acting.{Acts}
 use Rattle.ring_parties.proofs.work.Lawful.{IsLawfulAt}
 use Rattle.ring_parties.proofs.standing.Frames.{same_of, same_link_of, same_filter, carries_same, goes_stands, StandMoved}
-use Rattle.ring_parties.proofs.events.OneEvent.{found_later, found_does, link_there, stands_at}
+use Rattle.ring_parties.proofs.events.OneEvent.{found_does, link_there, stands_at}
 use Rattle.ring_parties.proofs.events.Steps.{Leaves, goes_so, same_phases, taken_waits_not, steps}
 
 -- with x's current link s
@@ -126,18 +126,17 @@ module _ (credit : CreditSpec) (w : World) (x s : ℕ) (h : IsLawfulAt credit w)
 
 -- ---- the parties
 
-pub end_goes : (credit : CreditSpec) (w : World) (by : List ℕ) (i d : ℕ) (q q' : Parties) (loose : Option (LinkName × OutSeen)) → IsLawfulAt credit w → refusal w (TakeEnd by) ≡ None → id_of w by ≡ Some (i + 1) → Stand credit.initial w q → Acts (TakeEnd by) i d q q' loose → StandMoved credit.initial (i + 1) (effect w (TakeEnd by)) q' loose
-end_goes credit w by i d q q' loose h enabled found st (b, (n, rest, ends_link, next, eb), is, none) =
+pub end_goes : (credit : CreditSpec) (w : World) (i d : ℕ) (q q' : Parties) (loose : Option (LinkName × OutSeen)) → IsLawfulAt credit w → refused_as w (i + 1) (Steps step.TakeEnd) ≡ None → i + 1 < size w → Stand credit.initial w q → Acts (Steps step.TakeEnd) i d q q' loose → StandMoved credit.initial (i + 1) (done_as w (i + 1) (Steps step.TakeEnd)) q' loose
+end_goes credit w i d q q' loose h enabled lt st (b, (n, rest, ends_link, next, eb), is, none) =
     let x : ℕ = i + 1 in
-    let lt : i + 1 < size w = (id_within w by x found).1 in
     let p : Places = st.places in
-    let acts = found_later (id_of w by) x (λ y. running_refusal w y (on_link (member_at w y).current reason.NoCurrentLink (end_refusal w))) found enabled in
+    let acts : running_refusal w x (on_link (member_at w x).current reason.NoCurrentLink (end_refusal w)) ≡ None = enabled in
     let there = link_there (member_at w x).current reason.NoCurrentLink (end_refusal w) (running_later w x _ acts) in
     let s : ℕ = there.0 in
     let current : (member_at w x).current ≡ Some s = there.1 in
     let w' : World = leave_link w x s in
-    let does : effect w (TakeEnd by) ≡ w' = found_does (id_of w by) x w (λ y. at_found (member_at w y).current w (leave_link w y)) found ∙ found_does (member_at w x).current s w (leave_link w x) current in
-    goes_so credit.initial x w' (effect w (TakeEnd by)) (with_node q i b) q' loose does is none
+    let does : done_as w x (Steps step.TakeEnd) ≡ w' = found_does (member_at w x).current s w (leave_link w x) current in
+    goes_so credit.initial x w' (done_as w x (Steps step.TakeEnd)) (with_node q i b) q' loose does is none
     (steps credit w w' q q.stopped p i b st h lt (record {
       leaves = end_leaves credit w x s h lt current;
       post = refl;

@@ -1,11 +1,13 @@
 -- Where a member has gained a grant, the parties stand in the state after the ring's gain.
-use Rattle.std.proofs.Common.{◌≡◌, ℕ, ◌+◌, List, ◌++◌, length, drop, Option, Some, None, refl, sym, ap, subst, ◌∙◌, arith, [], ◌∷◌}
+use Rattle.std.proofs.Common.{◌≡◌, ℕ, ◌+◌, ◌<◌, ◌++◌, length, drop, Option, None, refl, sym, ap, subst, ◌∙◌, arith, [], ◌∷◌}
 use Rattle.ring_names.specs.declared.numbers.CreditSpec.{CreditSpec}
 use Rattle.credit_flow.specs.Link.{oldest as oldest_grant}
 use Rattle.group_view.specs.declared.link.LinkName.{LinkName}
-use Rattle.ring_rules.specs.declared.event.Event.TheVariants.{Gain}
+use Rattle.ring_rules.specs.declared.kind.LinkStep.TheVariants as step
+use Rattle.ring_rules.specs.Kind.{Steps}
 use Rattle.ring_rules.specs.Machine.{World, member_at, link_at}
-use Rattle.ring_rules.specs.Event.{id_of, gain_refusal, refusal, effect}
+use Rattle.ring_rules.specs.Step.{size}
+use Rattle.ring_rules.specs.Event.{gain_refusal, refused_as, done_as}
 use Rattle.gm_member.specs.Held.{Held, gained_held}
 use Rattle.gm_member.specs.Stands.{held_in}
 use Rattle.gm_member.proofs.GainStands.{regained_on, gain_stands}
@@ -46,17 +48,17 @@ gain_amount initial w s o o' n amount g c = ap (λ xs. oldest_grant (xs ++ n.giv
 
 -- ---- the parties
 
-pub gain_goes : (credit : CreditSpec) (w : World) (by : List ℕ) (i d : ℕ) (q q' : Parties) (loose : Option (LinkName × OutSeen)) → IsLawfulAt credit w → refusal w (Gain by) ≡ None → id_of w by ≡ Some (i + 1) → Stand credit.initial w q → Acts (Gain by) i d q q' loose → StandMoved credit.initial (i + 1) (effect w (Gain by)) q' loose
-gain_goes credit w by i d q q' loose h enabled found st (b, (amount, o, o', ends_out, gains, eb), is, none) =
+pub gain_goes : (credit : CreditSpec) (w : World) (i d : ℕ) (q q' : Parties) (loose : Option (LinkName × OutSeen)) → IsLawfulAt credit w → refused_as w (i + 1) (Steps step.Gain) ≡ None → i + 1 < size w → Stand credit.initial w q → Acts (Steps step.Gain) i d q q' loose → StandMoved credit.initial (i + 1) (done_as w (i + 1) (Steps step.Gain)) q' loose
+gain_goes credit w i d q q' loose h enabled lt st (b, (amount, o, o', ends_out, gains, eb), is, none) =
     let x : ℕ = i + 1 in
     let p : Places = st.places in
-    let on : OnOut w (effect w (Gain by)) x (regained_on w) = on_out credit w by x (λ _. gain_refusal w) (λ _. regained_on w) h enabled found in
+    let on : OnOut w (done_as w x (Steps step.Gain)) x (regained_on w) = on_out credit w x (gain_refusal w) (regained_on w) h enabled lt in
     let a : MemberStands w p x (node_at q i) = stands_at credit.initial w q p i st.stand on.is_member in
     let s : ℕ = on.link in
     let same_end : p.outs s ≡ o = made_of p.outs (member_at w x).out s o on.is (sym a.out ∙ ends_out) in
     let its : ActsOut [] (amount ∷ []) (p.outs s).ended (p.outs s) o' = subst (λ e. ActsOut [] (amount ∷ []) e.ended e o') (sym same_end) gains in
     let it_is : amount ≡ oldest_grant (link_at w s).flow.grants = gain_amount credit.initial w s (p.outs s) o' (p.ins s) amount its (st.stand.carry s on.within (out_is_open credit w x s h on.run on.is)) in
-    goes_out credit w (effect w (Gain by)) q q' i loose (regained_on w) o' b st h on refl is none (λ y ne. gain_others w x s y h.fit on.is ne)
+    goes_out credit w (done_as w x (Steps step.Gain)) q q' i loose (regained_on w) o' b st h on refl is none (λ y ne. gain_others w x s y h.fit on.is ne)
     (record {
       does = λ (g : Held). gained_held g amount;
       but_door = λ g ds. refl;

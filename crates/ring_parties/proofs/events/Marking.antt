@@ -11,17 +11,17 @@ use Rattle.group_view.specs.Since.{no_group}
 use Rattle.group_view.specs.Since as since
 use Rattle.promotion.specs.Elect.{installed}
 use Rattle.ring_rules.specs.Rows.{no_numbers}
-use Rattle.ring_rules.specs.declared.event.Event.TheVariants.{Mark, Refresh, Erase}
+use Rattle.ring_rules.specs.declared.kind.ViewChange.TheVariants as change
+use Rattle.ring_rules.specs.Kind.{Changes, Reads}
 use Rattle.ring_rules.specs.declared.phase.Phase.TheVariants.{Up}
 use Rattle.ring_rules.specs.View.{right_of}
 use Rattle.ring_rules.specs.Machine.{World, Link, no_sending, numbers_at, member_at, link_at, view_in, newest, left, row_at}
 use Rattle.ring_rules.specs.OpenLinks.{version_of, since_in, comes_from_left, is_door_link}
 use Rattle.ring_rules.specs.Step.{size, log_of, next_lines, with_view}
-use Rattle.ring_rules.specs.Event.{id_of, of_member, at_found, refresh_refusal, refused_at, refreshed, refusal, done_at, effect}
+use Rattle.ring_rules.specs.Event.{id_of, of_member, mark_refusal, erase_refusal, erased_view, refresh_refusal, refused_as, refreshed, done_as}
 use Rattle.ring_rules.proofs.events.WhatRefuses.{MayLook, MayMark, MayErase}
-use Rattle.ring_rules.proofs.events.Refusals.{id_within}
 use Rattle.ring_rules.proofs.events.Enabled.{up_none}
-use Rattle.ring_rules.proofs.events.Cases.{may_look}
+use Rattle.ring_rules.proofs.events.Cases.{may_look, may_mark, may_erase}
 use Rattle.ring_rules.proofs.walks.Views.{view_old, left_old}
 use Rattle.ring_rules.proofs.invariants.Happens.{IsGood, mark_good, erase_good, newer_look, newer_good}
 use Rattle.activity.specs.Told.{none_told}
@@ -36,7 +36,7 @@ use Rattle.gm_member.proofs.Knowing.{line_same}
 use Rattle.gm_member.proofs.DoorLists.{filter_agree}
 use Rattle.gm_member.proofs.Facts.{held_known, right_row}
 use Rattle.gm_member.proofs.Fit.{IsFit}
-use Rattle.gm_member.proofs.MarkStands.{mark_may, mark_is, erase_may, erase_is, view_held, view_newest}
+use Rattle.gm_member.proofs.MarkStands.{view_held, view_newest}
 use Rattle.gm_member.proofs.OpenDoors.{sends_right}
 use Rattle.ring_rules.proofs.work.OwnEnds.{OwnEnds}
 use Rattle.gm_member.proofs.RefreshStands.{first_lines}
@@ -48,6 +48,7 @@ use Rattle.ring_parties.proofs.work.Lawful.{IsLawfulAt}
 use Rattle.ring_parties.proofs.meetings.Known.{all_know}
 use Rattle.ring_parties.proofs.standing.Frames.{carries_logs, StandMoved}
 use Rattle.ring_parties.proofs.standing.Lookers.{whole_held, beholder, had_before}
+use Rattle.ring_parties.proofs.events.OneEvent.{found_later, found_does}
 use Rattle.ring_parties.proofs.events.Refreshing.{IsLooking, looks_on, none_waits}
 use Rattle.ring_parties.proofs.events.Opens.{opens_on}
 
@@ -96,20 +97,15 @@ looks_stand initial u x v q q' loose k st none (b, new, how, is) = subst (λ t. 
 -- ---- a refresh
 
 -- who is found may look
-pub refresh_may : (w : World) (x v : ℕ) (by : List ℕ) → id_of w by ≡ Some x → refusal w (Refresh by v) ≡ None → MayLook w x v
-refresh_may w x v by named r =
-    let a = up_none w x (refresh_refusal w x v) (sym (ap (λ o. of_member o (refused_at w (Refresh by v))) named) ∙ r) in
-    may_look w x v (id_within w by x named).1 a.0 a.1
+pub refresh_may : (w : World) (x v : ℕ) → refused_as w x (Reads v) ≡ None → x < size w → MayLook w x v
+refresh_may w x v r lt = let a = up_none w x (refresh_refusal w x v) r in may_look w x v lt a.0 a.1
 
-pub refresh_is : (w : World) (x v : ℕ) (by : List ℕ) → id_of w by ≡ Some x → effect w (Refresh by v) ≡ refreshed w x v
-refresh_is w x v by named = ap (λ o. at_found o w (done_at w (Refresh by v))) named
-
-pub refresh_looking : (credit : CreditSpec) (w : World) (x v : ℕ) (by : List ℕ) → IsLawfulAt credit w → IsLawfulAt credit (effect w (Refresh by v)) → id_of w by ≡ Some x → refusal w (Refresh by v) ≡ None → IsLooking credit.initial w x v
-refresh_looking credit w x v by g g' named r = record {
-  may = refresh_may w x v by named r;
-  some = (id_within w by x named).0;
+refresh_looking : (credit : CreditSpec) (w : World) (x v : ℕ) → IsLawfulAt credit w → IsLawfulAt credit (done_as w x (Reads v)) → refused_as w x (Reads v) ≡ None → 1 ≤ x → x < size w → IsLooking credit.initial w x v
+refresh_looking credit w x v g g' r some lt = record {
+  may = refresh_may w x v r lt;
+  some = some;
   good = g.fit.good;
-  later = subst IsGood (refresh_is w x v by named) g'.fit.good;
+  later = g'.fit.good;
   own = g.fit.own_ends;
   ends = g.fit.ends;
   initial_is = g.initial_is;
@@ -121,12 +117,12 @@ refresh_looking credit w x v by g g' named r = record {
 view_is : (w : World) (q : Parties) (v : ℕ) → w.views ≡ no_group ∷ q.views → since.view_at q.views v ≡ view_in w v
 view_is w q v e = ap (λ vs. get_or vs v no_group) (sym e)
 
-pub refresh_between : (credit : CreditSpec) (w : World) (q q' : Parties) (i d v : ℕ) (by : List ℕ) (loose : Option (LinkName × OutSeen)) → IsLawfulAt credit w → IsLawfulAt credit (effect w (Refresh by v)) → refusal w (Refresh by v) ≡ None → id_of w by ≡ Some (i + 1)
-    → Stand credit.initial w q → filter (waits_at (i + 1)) q.post ≡ [] → Acts (Refresh by v) i d q q' loose → StandMoved credit.initial (i + 1) (effect w (Refresh by v)) q' loose
-refresh_between credit w q q' i d v by loose g g' r named st none acts =
+pub refresh_between : (credit : CreditSpec) (w : World) (q q' : Parties) (i d v : ℕ) (loose : Option (LinkName × OutSeen)) → IsLawfulAt credit w → IsLawfulAt credit (done_as w (i + 1) (Reads v)) → refused_as w (i + 1) (Reads v) ≡ None → i + 1 < size w
+    → Stand credit.initial w q → filter (waits_at (i + 1)) q.post ≡ [] → Acts (Reads v) i d q q' loose → StandMoved credit.initial (i + 1) (done_as w (i + 1) (Reads v)) q' loose
+refresh_between credit w q q' i d v loose g g' r lt st none acts =
     let back : i + 1 - 1 ≡ i = omega arith in
     let at : LooksAt (view_in w v) (i + 1 - 1) q q' loose = subst (λ k. LooksAt (view_in w v) k q q' loose) (sym back) (subst (λ t. LooksAt t i q q' loose) (view_is w q v st.stand.views) acts) in
-    subst (λ u. StandMoved credit.initial (i + 1) u q' loose) (sym (refresh_is w (i + 1) v by named)) (looks_stand credit.initial w (i + 1) v q q' loose (refresh_looking credit w (i + 1) v by g g' named r) st none at)
+    looks_stand credit.initial w (i + 1) v q q' loose (refresh_looking credit w (i + 1) v g g' r (omega arith) lt) st none at
 
 -- ---- a view is added
 
@@ -220,20 +216,22 @@ follow_between credit w w' q q' i made loose h m is st none looks =
 
 -- ---- a mark
 
-pub mark_between : (credit : CreditSpec) (w : World) (q q' : Parties) (i d : ℕ) (by dead : List ℕ) (loose : Option (LinkName × OutSeen)) → IsLawfulAt credit w → refusal w (Mark by dead) ≡ None → id_of w by ≡ Some (i + 1) → id_of w dead ≡ Some d
-    → Stand credit.initial w q → filter (waits_at (i + 1)) q.post ≡ [] → Acts (Mark by dead) i d q q' loose → StandMoved credit.initial (i + 1) (effect w (Mark by dead)) q' loose
-mark_between credit w q q' i d by dead loose h r named there =
-    let m : MayMark w (i + 1) d = mark_may w (i + 1) d by dead named there r in
-    follow_between credit w (effect w (Mark by dead)) q q' i (λ g. marked g d) loose h
+pub mark_between : (credit : CreditSpec) (w : World) (q q' : Parties) (i d : ℕ) (dead : List ℕ) (loose : Option (LinkName × OutSeen)) → IsLawfulAt credit w → refused_as w (i + 1) (Changes (change.Mark dead)) ≡ None → i + 1 < size w → id_of w dead ≡ Some d
+    → Stand credit.initial w q → filter (waits_at (i + 1)) q.post ≡ [] → Acts (Changes (change.Mark dead)) i d q q' loose → StandMoved credit.initial (i + 1) (done_as w (i + 1) (Changes (change.Mark dead))) q' loose
+mark_between credit w q q' i d dead loose h r lt there =
+    let a = up_none w (i + 1) (of_member (id_of w dead) (mark_refusal w (i + 1))) r in
+    let m : MayMark w (i + 1) d = may_mark w (i + 1) d lt a.0 (found_later (id_of w dead) d (mark_refusal w (i + 1)) there a.1) in
+    follow_between credit w (done_as w (i + 1) (Changes (change.Mark dead))) q q' i (λ g. marked g d) loose h
     (record { some = omega arith; is_member = m.is_member; up = m.up; good = mark_good w d m.rests m.lives h.fit.good })
-    (mark_is w (i + 1) d by dead named there)
+    (found_does (id_of w dead) d w (λ e. refreshed (with_view w (marked (view_in w (newest w)) e)) (i + 1) (newest w + 1)) there)
 
 -- ---- an erasure
 
-pub erase_between : (credit : CreditSpec) (w : World) (q q' : Parties) (i p : ℕ) (by origin : List ℕ) (loose : Option (LinkName × OutSeen)) → IsLawfulAt credit w → refusal w (Erase by origin) ≡ None → id_of w by ≡ Some (i + 1) → id_of w origin ≡ Some p
-    → Stand credit.initial w q → filter (waits_at (i + 1)) q.post ≡ [] → Acts (Erase by origin) i p q q' loose → StandMoved credit.initial (i + 1) (effect w (Erase by origin)) q' loose
-erase_between credit w q q' i p by origin loose h r named there =
-    let m : MayErase w (i + 1) p = erase_may w (i + 1) p by origin named there r in
-    follow_between credit w (effect w (Erase by origin)) q q' i (λ g. installed (erased g p)) loose h
+pub erase_between : (credit : CreditSpec) (w : World) (q q' : Parties) (i p : ℕ) (origin : List ℕ) (loose : Option (LinkName × OutSeen)) → IsLawfulAt credit w → refused_as w (i + 1) (Changes (change.Erase origin)) ≡ None → i + 1 < size w → id_of w origin ≡ Some p
+    → Stand credit.initial w q → filter (waits_at (i + 1)) q.post ≡ [] → Acts (Changes (change.Erase origin)) i p q q' loose → StandMoved credit.initial (i + 1) (done_as w (i + 1) (Changes (change.Erase origin))) q' loose
+erase_between credit w q q' i p origin loose h r lt there =
+    let a = up_none w (i + 1) (of_member (id_of w origin) (erase_refusal w (i + 1))) r in
+    let m : MayErase w (i + 1) p = may_erase w (i + 1) p lt a.0 (found_later (id_of w origin) p (erase_refusal w (i + 1)) there a.1) in
+    follow_between credit w (done_as w (i + 1) (Changes (change.Erase origin))) q q' i (λ g. installed (erased g p)) loose h
     (record { some = omega arith; is_member = m.is_member; up = m.up; good = erase_good w p m.dead h.fit.good })
-    (erase_is w (i + 1) p by origin named there)
+    (found_does (id_of w origin) p w (λ e. refreshed (with_view w (erased_view w e)) (i + 1) (newest w + 1)) there)

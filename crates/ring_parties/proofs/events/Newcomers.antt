@@ -1,5 +1,5 @@
 -- What lets one join whom a member admits.
-use Rattle.std.proofs.Common.{◌≡◌, ℕ, ◌+◌, ◌-◌, ◌<◌, ◌≤◌, true, List, [], ◌∷◌, ◌++◌, length, Some, None, sym, subst, ◌∙◌, arith}
+use Rattle.std.proofs.Common.{◌≡◌, ℕ, ◌+◌, ◌-◌, ◌<◌, ◌≤◌, true, List, [], ◌∷◌, ◌++◌, length, Some, None, sym, ap, subst, ◌∙◌, arith}
 use Rattle.ring_names.specs.declared.numbers.CreditSpec.{CreditSpec}
 use Rattle.ordered_link.specs.declared.plain.PlainIn.{PlainIn}
 use Rattle.group_view.specs.Ring.{is_in}
@@ -8,11 +8,13 @@ use Rattle.group_view.specs.Change.{admitted, admit_refusal as group_refusal}
 use Rattle.group_view.proofs.Joining.{comes_in}
 use Rattle.ring_rules.specs.declared.event.Event.{Event}
 use Rattle.ring_rules.specs.declared.event.Event.TheVariants.{Admit}
+use Rattle.ring_rules.specs.declared.kind.ViewChange.TheVariants as change
+use Rattle.ring_rules.specs.Kind.{Changes}
 use Rattle.ring_rules.specs.Rows.{most_members}
 use Rattle.ring_rules.specs.View.{ids}
 use Rattle.ring_rules.specs.Machine.{World, member_at, newest as newest_version, view_in}
 use Rattle.ring_rules.specs.Step.{size, opening}
-use Rattle.ring_rules.specs.Event.{id_of, admit_refusal, refusal, effect}
+use Rattle.ring_rules.specs.Event.{id_of, admit_refusal, refused_as, effect}
 use Rattle.ring_rules.proofs.runs.InOrder.{last_append, run_append}
 use Rattle.ring_rules.proofs.invariants.KeptAdmit.{CanJoin}
 use Rattle.ring_rules.proofs.code.Looks.{nobody_refuses_admitting}
@@ -20,6 +22,7 @@ use Rattle.registrar.specs.Registry.{Registry, newest}
 use Rattle.registrar.proofs.Judged.{newest_same}
 use Rattle.activity.specs.declared.packet.Load.{Load}
 use Rattle.gm_member.specs.Held.{up_refused}
+use Rattle.gm_member.proofs.Facts.{refused_there, done_there}
 use Rattle.gm_member.proofs.Fit.{IsFit, reached_fit}
 use Rattle.ring_parties.specs.declared.party.Party.{Party}
 use Rattle.ring_parties.specs.Parties.{Parties, parties, node_at}
@@ -77,19 +80,19 @@ module _ (credit : CreditSpec) (names : List (List ℕ)) (events : List Event) w
       place : i + 1 - 1 ≡ i
       place = omega arith
 
-      enabled : refusal w (Admit by name) ≡ None
-      enabled = sym (subst (λ k. up_refused (node_at q k).held (admission_refused (newest r) name) ≡ refusal w (Admit by name)) place
-          (subst (λ g. up_refused (node_at q (x - 1)).held (admission_refused g name) ≡ refusal w (Admit by name)) (newest_is w q s.stand.stand.views ∙ sym same) (admit_refuses credit w q x by name named s.stand))) ∙ e
+      enabled : refused_as w x (Changes (change.Admit name)) ≡ None
+      enabled = sym (subst (λ k. up_refused (node_at q k).held (admission_refused (newest r) name) ≡ refused_as w x (Changes (change.Admit name))) place
+          (subst (λ g. up_refused (node_at q (x - 1)).held (admission_refused g name) ≡ refused_as w x (Changes (change.Admit name))) (newest_is w q s.stand.stand.views ∙ sym same) (admit_refuses credit w q x name (omega arith) lt s.stand))) ∙ e
 
       enters : (admit_refusal w name ≡ None) × CanJoin w x
-      enters = can_admit w x by name f.good named enabled
+      enters = can_admit w x name f.good enabled lt
 
       can : CanJoin w x
       can = enters.1
 
       after_fit : IsFit (effect w (Admit by name))
       after_fit = subst IsFit (last_append (opening credit names) events (Admit by name ∷ []))
-          (reached_fit credit names (events ++ Admit by name ∷ []) s.journal.are (run_append (opening credit names) events (Admit by name ∷ []) s.journal.run (enabled, tt)))
+          (reached_fit credit names (events ++ Admit by name ∷ []) s.journal.are (run_append (opening credit names) events (Admit by name ∷ []) s.journal.run (refused_there w x (Admit by name) named ∙ enabled, tt)))
 
       then_many : size (effect w (Admit by name)) ≡ size w + 1
-      then_many = admit_many w x by name can f named
+      then_many = ap size (done_there w x (Admit by name) named) ∙ admit_many w x name can f

@@ -1,5 +1,5 @@
 -- Where a member has picked a link at its door, and none waits for it at the registrar, the parties stand in the state after the ring's pick.
-use Rattle.std.proofs.Common.{◌≡◌, ◌≢◌, nat_eq, ℕ, ◌+◌, ◌<◌, Bool, true, false, not, List, [], ◌++◌, length, map, get_or, Option, Some, None, is_some, refl, sym, ap, ◌∙◌, ⊎_elim, append-nil}
+use Rattle.std.proofs.Common.{◌≡◌, ◌≢◌, nat_eq, ℕ, ◌+◌, ◌<◌, Bool, true, false, not, [], ◌++◌, length, map, get_or, Option, Some, None, is_some, refl, sym, ap, ◌∙◌, ⊎_elim, append-nil}
 use Rattle.std.specs.Prelude.{◌&&◌, ◌||◌, option_map}
 use Rattle.std.specs.List.{filter, range_with_len}
 use Rattle.std.proofs.lemmas.Bool.{cases_eq}
@@ -8,15 +8,16 @@ use Rattle.std.proofs.lemmas.List.Quantifiers.{position-Some}
 use Rattle.ring_names.specs.declared.numbers.CreditSpec.{CreditSpec}
 use Rattle.ring_names.specs.declared.reason.Reason.TheVariants as reason
 use Rattle.group_view.specs.declared.link.LinkName.{LinkName}
-use Rattle.ring_rules.specs.declared.event.Event.TheVariants.{Pick}
+use Rattle.ring_rules.specs.declared.kind.LinkStep.TheVariants as step
+use Rattle.ring_rules.specs.Kind.{Steps}
 use Rattle.ring_rules.specs.Refusal.{refuse_if, or_else}
 use Rattle.ring_rules.specs.Machine.{World, Member, no_link, member_at, link_at}
 use Rattle.ring_rules.specs.OpenLinks.{is_place, is_current}
 use Rattle.ring_rules.specs.Step.{size, with_current, current_is}
-use Rattle.ring_rules.specs.Event.{id_of, up_refusal, pick_refusal, is_at_door, at_door, at_found, refusal, effect}
+use Rattle.ring_rules.specs.Event.{up_refusal, pick_refusal, is_at_door, at_door, refused_as, done_as}
 use Rattle.ring_rules.proofs.rings.Rounds.{nat_eq-is}
 use Rattle.ring_rules.proofs.events.Enabled.{up_later}
-use Rattle.ring_rules.proofs.events.Refusals.{id_within, none_of}
+use Rattle.ring_rules.proofs.events.Refusals.{none_of}
 use Rattle.gm_member.specs.Held.{first_at_door, picked_held, without}
 use Rattle.gm_member.specs.Stands.{held_in, incoming_in, waits_for, door_links}
 use Rattle.gm_member.proofs.Parts.{waits_seen}
@@ -34,7 +35,7 @@ use Rattle.ring_parties.proofs.lists.Truth.{none_is}
 use Rattle.ring_parties.proofs.standing.Frames.{way, way_seen, same_of, same_filter, carries_logs, StandMoved}
 use Rattle.ring_parties.proofs.standing.Lookers.{whole_door, whole_held}
 use Rattle.ring_parties.proofs.events.Refreshing.{none_waits}
-use Rattle.ring_parties.proofs.events.OneEvent.{found_later, found_does, stands_at}
+use Rattle.ring_parties.proofs.events.OneEvent.{found_does, stands_at}
 use Rattle.ring_parties.proofs.events.Steps.{Leaves, goes_so, same_phases, steps}
 
 -- ---- no link waits for a member at the registrar
@@ -138,22 +139,21 @@ pick_it w p x i a b credit h lt none first nobody m e =
       old_ins = ap (λ (g : Shown). g.ends.old_ins) e ∙ m.old_ins;
     }
 
-pub pick_goes : (credit : CreditSpec) (w : World) (by : List ℕ) (i d : ℕ) (q q' : Parties) (loose : Option (LinkName × OutSeen)) → IsLawfulAt credit w → refusal w (Pick by) ≡ None → id_of w by ≡ Some (i + 1) → NonePosted q (i + 1) → Stand credit.initial w q → Acts (Pick by) i d q q' loose → StandMoved credit.initial (i + 1) (effect w (Pick by)) q' loose
-pick_goes credit w by i d q q' loose h enabled found nobody st (b, (j, first, eb), is, none_loose) =
+pub pick_goes : (credit : CreditSpec) (w : World) (i d : ℕ) (q q' : Parties) (loose : Option (LinkName × OutSeen)) → IsLawfulAt credit w → refused_as w (i + 1) (Steps step.Pick) ≡ None → i + 1 < size w → NonePosted q (i + 1) → Stand credit.initial w q → Acts (Steps step.Pick) i d q q' loose → StandMoved credit.initial (i + 1) (done_as w (i + 1) (Steps step.Pick)) q' loose
+pick_goes credit w i d q q' loose h enabled lt nobody st (b, (j, first, eb), is, none_loose) =
     let x : ℕ = i + 1 in
-    let lt : i + 1 < size w = (id_within w by x found).1 in
     let p : Places = st.places in
     let a : MemberStands w p x (node_at q i) = stands_at credit.initial w q p i st.stand lt in
     let empty : filter (is_to w x) p.post ≡ [] = none_waits credit.initial w q x st nobody in
-    let acts = found_later (id_of w by) x (λ y. up_refusal w y (or_else (refuse_if (is_some (member_at w y).current) reason.HasCurrentLink) (pick_refusal w y))) found enabled in
+    let acts : up_refusal w x (or_else (refuse_if (is_some (member_at w x).current) reason.HasCurrentLink) (pick_refusal w x)) ≡ None = enabled in
     let none : (member_at w x).current ≡ None = none_is (member_at w x).current (none_of (is_some (member_at w x).current) reason.HasCurrentLink (pick_refusal w x) (up_later w x _ acts)).0 in
     let first_in : first_at_door (held_in w x) ≡ Some j = ap first_at_door (sym (whole_held w p x (node_at q i) a empty)) ∙ first in
     let s : ℕ = door_link w x j in
     let at : at_door w x ≡ Some s = (picks_some w x j h.fit.good none first_in).found in
     let here : waits_for w x s ≡ true = door_waits w x s credit h none at in
     let w' : World = current_is w x (Some s) in
-    let does : effect w (Pick by) ≡ w' = found_does (id_of w by) x w (λ y. at_found (at_door w y) w (λ t. current_is w y (Some t))) found ∙ found_does (at_door w x) s w (λ t. current_is w x (Some t)) at in
-    goes_so credit.initial x w' (effect w (Pick by)) (with_node q i b) q' loose does is none_loose
+    let does : done_as w x (Steps step.Pick) ≡ w' = found_does (at_door w x) s w (λ t. current_is w x (Some t)) at in
+    goes_so credit.initial x w' (done_as w x (Steps step.Pick)) (with_node q i b) q' loose does is none_loose
     (steps credit w w' q q.stopped p i b st h lt (record {
       leaves = pick_leaves w x s lt none here;
       post = refl;

@@ -1,13 +1,14 @@
 -- Where a member has put a packet, the parties stand in the state after the ring's put.
-use Rattle.std.proofs.Common.{◌≡◌, ℕ, ◌+◌, ◌<◌, ◌≤◌, List, [], ◌∷◌, ◌++◌, Option, Some, None, is_some, refl, sym, ap, subst, ◌∙◌, arith, append-nil, false}
+use Rattle.std.proofs.Common.{◌≡◌, ℕ, ◌+◌, ◌<◌, ◌≤◌, [], ◌∷◌, ◌++◌, Option, Some, None, is_some, refl, sym, ap, subst, ◌∙◌, arith, append-nil, false}
 use Rattle.ring_names.specs.declared.numbers.CreditSpec.{CreditSpec}
 use Rattle.group_view.specs.declared.link.LinkName.{LinkName}
-use Rattle.ring_rules.specs.declared.event.Event.TheVariants.{Put}
+use Rattle.ring_rules.specs.declared.kind.LinkStep.TheVariants as step
+use Rattle.ring_rules.specs.Kind.{Steps}
 use Rattle.ring_rules.specs.Machine.{World, Packet, Link, member_at, link_at}
 use Rattle.ring_rules.specs.Compact.{before_next}
 use Rattle.ring_rules.specs.declared.phase.Phase.TheVariants.{Up}
 use Rattle.ring_rules.specs.Step.{size, pushed}
-use Rattle.ring_rules.specs.Event.{id_of, put_refusal, refusal, effect}
+use Rattle.ring_rules.specs.Event.{put_refusal, refused_as, done_as}
 use Rattle.gm_member.specs.Parcels.{ByOrigin}
 use Rattle.gm_member.specs.Held.{Held, Outgoing, put_held, parcel_on}
 use Rattle.gm_member.specs.Stands.{held_in, outgoing_in, StandsFor}
@@ -50,12 +51,12 @@ put_sent w x s g out f some lt up sends e is =
 
 -- ---- the parties
 
-pub put_goes : (credit : CreditSpec) (w : World) (by : List ℕ) (i d : ℕ) (q q' : Parties) (loose : Option (LinkName × OutSeen)) → IsLawfulAt credit w → refusal w (Put by) ≡ None → id_of w by ≡ Some (i + 1) → Stand credit.initial w q → Acts (Put by) i d q q' loose → StandMoved credit.initial (i + 1) (effect w (Put by)) q' loose
-put_goes credit w by i d q q' loose h enabled found st (b, (out, o, o', held_out, ends_out, puts, eb), is, none) =
+pub put_goes : (credit : CreditSpec) (w : World) (i d : ℕ) (q q' : Parties) (loose : Option (LinkName × OutSeen)) → IsLawfulAt credit w → refused_as w (i + 1) (Steps step.Put) ≡ None → i + 1 < size w → Stand credit.initial w q → Acts (Steps step.Put) i d q q' loose → StandMoved credit.initial (i + 1) (done_as w (i + 1) (Steps step.Put)) q' loose
+put_goes credit w i d q q' loose h enabled lt st (b, (out, o, o', held_out, ends_out, puts, eb), is, none) =
     let x : ℕ = i + 1 in
     let p : Places = st.places in
     let m : Shown = node_at q i in
-    let on : OnOut w (effect w (Put by)) x (λ t. pushed (link_at w t) (leaving w x t)) = on_out credit w by x (put_refusal w) (λ y t. pushed (link_at w t) (leaving w y t)) h enabled found in
+    let on : OnOut w (done_as w x (Steps step.Put)) x (λ t. pushed (link_at w t) (leaving w x t)) = on_out credit w x (put_refusal w x) (λ t. pushed (link_at w t) (leaving w x t)) h enabled lt in
     let a : MemberStands w p x m = stands_at credit.initial w q p i st.stand on.is_member in
     let s : ℕ = on.link in
     let same_held : m.held ≡ record (held_in w x) { door = m.held.door } = held_but_door w p x m a in
@@ -63,11 +64,11 @@ put_goes credit w by i d q q' loose h enabled found st (b, (out, o, o', held_out
     let same_end : p.outs s ≡ o = made_of p.outs (member_at w x).out s o on.is (sym a.out ∙ ends_out) in
     let k : Sent = sent_of (parcel_on m.held.view.version m.held.known out) in
     let its : Some k ≡ packet_in w (link_at w s).sending (leaving w x s) = put_sent w x s m.held out h.fit (omega arith) on.is_member on.up on.is same_held same_outgoing in
-    goes_out credit w (effect w (Put by)) q q' i loose (λ t. pushed (link_at w t) (leaving w x t)) o' b st h on refl is none (λ y ne. put_others w x s y h.fit on.is ne)
+    goes_out credit w (done_as w x (Steps step.Put)) q q' i loose (λ t. pushed (link_at w t) (leaving w x t)) o' b st h on refl is none (λ y ne. put_others w x s y h.fit on.is ne)
     (record {
       does = λ (g : Held). put_held g;
       but_door = λ g ds. refl;
       stands = put_stands w x s h.fit (omega arith) on.is_member on.is;
       is = eb;
     })
-    (put_carries credit.initial w (link_at w s) (p.outs s) o' (p.ins s) k (leaving w x s) (out_unended credit w x s h on.run on.is) (h.fit.lawful.compact.before s) its (subst (λ e. ActsOut (Some k ∷ []) [] false e o') (sym same_end) puts))
+    (put_carries credit.initial w (link_at w s) (p.outs s) o' (p.ins s) k (leaving w x s) (out_unended credit w x s h on.run on.is) (h.fit.compact.before s) its (subst (λ e. ActsOut (Some k ∷ []) [] false e o') (sym same_end) puts))

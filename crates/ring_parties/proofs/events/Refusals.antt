@@ -1,34 +1,39 @@
 -- What a member of a cluster whose ends have met refuses, the ring refuses, for the same reason.
-use Rattle.std.proofs.Common.{◌≡◌, ℕ, ◌-◌, ◌<◌, ◌≤◌, true, List, [], ◌∷◌, ◌++◌, length, Option, Some, None, is_some, refl, sym, ap, ◌∙◌, append-nil}
+use Rattle.std.proofs.Common.{◌≡◌, ℕ, ◌-◌, ◌<◌, ◌≤◌, true, List, [], ◌∷◌, ◌++◌, length, Option, Some, None, refl, sym, ap, ◌∙◌, append-nil}
+use Rattle.std.proofs.lemmas.Bool.{false≢true}
 use Rattle.std.proofs.lemmas.Option.{none-some}
 use Rattle.std.specs.Prelude.{option_map, slice_index_or}
-use Rattle.queue_core.specs.declared.message.Message.TheVariants as message
 use Rattle.ring_names.specs.declared.numbers.CreditSpec.{CreditSpec}
 use Rattle.ring_names.specs.declared.reason.Reason.{Reason}
 use Rattle.ring_names.specs.declared.reason.Reason.TheVariants as reason
-use Rattle.ring_rules.specs.declared.event.Event.TheVariants.{Cast, Put, Take, TakeEnd, Gain, Stop, Pick}
+use Rattle.ring_rules.specs.declared.event.Event.TheVariants.{Take, TakeEnd}
+use Rattle.ring_rules.specs.declared.kind.LinkStep.TheVariants as step
+use Rattle.ring_rules.specs.Kind.{Own, OfQueue, Kind, Says, Steps, Changes, Stops, Reads, Tells}
 use Rattle.ring_rules.specs.declared.phase.Phase.{Phase}
 use Rattle.ring_rules.specs.declared.phase.Phase.TheVariants.{Waiting, Up, Stopped}
 use Rattle.ring_rules.specs.declared.phase.Ending.{Ending}
 use Rattle.ring_rules.specs.Refusal.{refuse_if, or_else, is_empty}
 use Rattle.ring_rules.specs.Machine.{World, Packet, no_packet, member_at, link_at, runs, runs_phase, is_waiting}
 use Rattle.ring_rules.specs.Step.{size}
-use Rattle.ring_rules.specs.Event.{of_member, on_link, is_stopped, up_refusal, take_refusal, end_refusal, gain_refusal, pick_refusal, version_refusal, refusal}
+use Rattle.ring_rules.specs.Event.{on_link, is_stopped, up_refusal, take_refusal, end_refusal, gain_refusal, version_refusal, refused_as, is_multicast_kind}
 use Rattle.gm_member.specs.Held.{Held, up_refused, put_refused, take_refused, active_refused, pick_refused, on_some}
+use Rattle.gm_member.proofs.PutStands.{put_refuses}
 use Rattle.gm_member.specs.Stands.{held_in, outgoing_in}
-use Rattle.gm_member.proofs.Facts.{version_is}
+use Rattle.gm_member.proofs.Facts.{refused_there, version_is}
 use Rattle.gm_member.proofs.TakeStands.{nothing_to_take, no_end_to_take, end_is_next, end_may, packet_is_next, packet_by_version}
 use Rattle.gm_member.proofs.PickStands.{pick_refuses}
-use Rattle.gm_member.proofs.Refusals.{publish_refusal_is, put_refusal_is, stop_refusal_is, take_refusal_is, end_refusal_is}
+use Rattle.gm_member.proofs.Refusals.{take_refusal_is, end_refusal_is}
 use Rattle.ring_parties.specs.Ends.{packets_in, end_items, items_in, Carries, HaveMet}
 use Rattle.ring_parties.specs.Parties.{Shown, Parties, node_at}
 use Rattle.ring_parties.specs.Standing.{Places, MemberStands, StandIn, Stand, AllHaveMet, has_in, has_out}
-use Rattle.ring_parties.specs.Acting.{first_item, items_refused, end_refused, back_of, packet_refused, link_end_refused, grant_refused, stop_refused}
+use Rattle.ring_parties.specs.Acting.{first_item, items_refused, end_refused, back_of, packet_refused, link_end_refused, grant_refused, newest_of}
+use Rattle.ring_parties.specs.Refused.{own_refused}
 use Rattle.ring_parties.proofs.work.Lawful.{IsLawfulAt}
 use Rattle.ring_parties.proofs.meetings.NamedLinks.{out_is_open, out_has, current_has}
 use Rattle.ring_parties.proofs.events.OneEvent.{held_but_door, met_both}
 use Rattle.ring_parties.proofs.standing.Lookers.{whole_held}
 use Rattle.ring_parties.proofs.events.Refreshing.{none_waits}
+use Rattle.ring_parties.proofs.events.Refusing.{look_refuses, telling_refuses}
 use Rattle.ring_parties.proofs.events.PickGoes.{NonePosted}
 use Rattle.ring_parties.proofs.events.Ready.{all_settled, settled_items}
 
@@ -55,7 +60,13 @@ its_items credit w q p x s m h st met a e =
     ap first_item (a.link ∙ ap (option_map p.ins) e)
     ∙ settled_items credit.initial w s (p.outs s) (p.ins s) (all_settled w p s met sl has) (st.carry s sl has)
 
--- ---- each event
+-- ---- each kind
+
+-- what makes no view, and isn't of the queue; and where the member of id x picks, no link waits for it at the registrar
+abbrev pub IsOwn : Kind → ℕ → Parties → Type 0
+IsOwn (Changes c) x q = ⊥
+IsOwn (Steps step.Pick) x q = NonePosted q x
+IsOwn k x q = is_multicast_kind k ≡ true
 
 -- with a member found
 module _ (credit : CreditSpec) (w : World) (q : Parties) (x : ℕ) (h : IsLawfulAt credit w) (st : Stand credit.initial w q) (some : 1 ≤ x) (lt : x < size w) where
@@ -71,13 +82,7 @@ module _ (credit : CreditSpec) (w : World) (q : Parties) (x : ℕ) (h : IsLawful
   same : m.held ≡ record (held_in w x) { door = m.held.door }
   same = held_but_door w p x m stands
 
-  pub cast_refusal_is : (body : List ℕ) → up_refused (node_at q (x - 1)).held None ≡ refusal w (Cast (member_at w x).name body)
-  cast_refusal_is body = ap (λ (g : Held). up_refused g None) same ∙ publish_refusal_is w x (message.Cast body) h.fit some lt tt
-
-  pub put_refusal_same : put_refused (node_at q (x - 1)).held ≡ refusal w (Put (member_at w x).name)
-  put_refusal_same = ap put_refused same ∙ put_refusal_is w x h.fit some lt
-
-  pub packet_refusal_is : packet_refused (node_at q (x - 1)) ≡ refusal w (Take (member_at w x).name)
+  packet_refusal_is : packet_refused (node_at q (x - 1)) ≡ refused_as w x (Steps step.Take)
   packet_refusal_is =
       let version : m.held.view.version ≡ (member_at w x).version = ap (λ (g : Held). g.view.version) same ∙ version_is w x h.fit in
       let later : Option Reason = items_refused m.held.view.version (first_item m.ends.link) in
@@ -85,17 +90,16 @@ module _ (credit : CreditSpec) (w : World) (q : Parties) (x : ℕ) (h : IsLawful
       ∙ take_refusal_is w x later h.fit some lt (λ s e.
       taken_by_items w x s m.held.view.version (link_at w s).packets (link_at w s).ending refl refl version
       ∙ ap (items_refused m.held.view.version) (sym (its_items credit w q p x s m h st.stand st.met stands e)))
+      ∙ refused_there w x (Take (member_at w x).name) (h.fit.named x some lt)
 
-  pub link_end_refusal_is : link_end_refused (node_at q (x - 1)) ≡ refusal w (TakeEnd (member_at w x).name)
+  link_end_refusal_is : link_end_refused (node_at q (x - 1)) ≡ refused_as w x (Steps step.TakeEnd)
   link_end_refusal_is =
       let later : Option Reason = end_refused (first_item m.ends.link) in
       ap (λ (g : Held). take_refused g later) same
       ∙ end_refusal_is w x later h.fit some lt (λ s e.
       ended_by_items w s (link_at w s).packets (link_at w s).ending refl refl
       ∙ ap end_refused (sym (its_items credit w q p x s m h st.stand st.met stands e)))
-
-  pub stop_refusal_same : stop_refused (node_at q (x - 1)) ≡ refusal w (Stop (member_at w x).name)
-  stop_refusal_same = ap (λ (g : Held). active_refused g None) same ∙ stop_refusal_is w x h.fit some lt
+      ∙ refused_there w x (TakeEnd (member_at w x).name) (h.fit.named x some lt)
 
   -- the grants that have come back are those under way
   gain_by_out : (c : Option ℕ) → runs w x ≡ true → (member_at w x).out ≡ c → on_some (option_map (outgoing_in w) c) reason.NoOutLink (λ _. refuse_if (is_empty (back_of (option_map p.outs c))) reason.NoGrant) ≡ on_link c reason.NoOutLink (gain_refusal w)
@@ -114,14 +118,21 @@ module _ (credit : CreditSpec) (w : World) (q : Parties) (x : ℕ) (h : IsLawful
   gain_by_phase Up a b k = k refl
   gain_by_phase Stopped a b k = refl
 
-  pub grant_refusal_is : grant_refused (node_at q (x - 1)) ≡ refusal w (Gain (member_at w x).name)
+  grant_refusal_is : grant_refused (node_at q (x - 1)) ≡ refused_as w x (Steps step.Gain)
   grant_refusal_is =
       ap (λ (g : Held). up_refused g (on_some g.out reason.NoOutLink (λ _. refuse_if (is_empty (back_of m.ends.out)) reason.NoGrant))) same
       ∙ ap (λ o. up_refusal w x (on_some (option_map (outgoing_in w) (member_at w x).out) reason.NoOutLink (λ _. refuse_if (is_empty (back_of o)) reason.NoGrant))) stands.out
       ∙ gain_by_phase (member_at w x).phase _ _ (λ run. gain_by_out (member_at w x).out run refl)
-      ∙ sym (ap (λ o. of_member o (λ y. up_refusal w y (on_link (member_at w y).out reason.NoOutLink (gain_refusal w)))) (h.fit.named x some lt))
 
-  pub pick_refusal_is : NonePosted q x → pick_refused (node_at q (x - 1)).held ≡ refusal w (Pick (member_at w x).name)
-  pick_refusal_is nobody =
-      ap pick_refused (whole_held w p x m stands (none_waits credit.initial w q x st nobody)) ∙ pick_refuses w x h.fit.good
-      ∙ sym (ap (λ o. of_member o (λ y. up_refusal w y (or_else (refuse_if (is_some (member_at w y).current) reason.HasCurrentLink) (pick_refusal w y)))) (h.fit.named x some lt))
+  pub own_refuses : (k : Kind) → IsOwn k x q → own_refused (newest_of q) k (node_at q (x - 1)) ≡ refused_as w x k
+  own_refuses (Says (Own body)) a = ap (λ (g : Held). up_refused g None) same
+  own_refuses (Says (OfQueue s)) a = absurd (false≢true a)
+  own_refuses (Steps step.Put) a = ap put_refused same ∙ put_refuses w x h.fit
+  own_refuses (Steps step.Take) a = packet_refusal_is
+  own_refuses (Steps step.TakeEnd) a = link_end_refusal_is
+  own_refuses (Steps step.Gain) a = grant_refusal_is
+  own_refuses (Steps step.Pick) a = ap pick_refused (whole_held w p x m stands (none_waits credit.initial w q x st a)) ∙ pick_refuses w x h.fit.good
+  own_refuses (Changes c) a = absurd a
+  own_refuses Stops a = ap (λ (g : Held). active_refused g None) same
+  own_refuses (Reads version) a = look_refuses credit w q x version h st some lt
+  own_refuses (Tells code inner) a = telling_refuses credit w q x code inner a some lt st

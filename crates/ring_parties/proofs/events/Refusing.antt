@@ -15,13 +15,15 @@ use Rattle.group_view.specs.Since.{view_at}
 use Rattle.ring_rules.specs.Refusal.{refuse_if, or_else}
 use Rattle.ring_rules.specs.declared.phase.Phase.{Phase}
 use Rattle.ring_rules.specs.declared.phase.Phase.TheVariants.{Waiting, Up, Stopped}
-use Rattle.ring_rules.specs.declared.event.Event.TheVariants.{Mark, Refresh, Admit, Erase, Refuse}
+use Rattle.ring_rules.specs.declared.event.Event.TheVariants.{Mark, Erase}
+use Rattle.ring_rules.specs.declared.kind.ViewChange.TheVariants as change
+use Rattle.ring_rules.specs.Kind.{Changes, Reads, Tells}
 use Rattle.ring_rules.specs.declared.event.Client.{Client}
 use Rattle.ring_rules.specs.declared.event.Client.TheVariants as client
 use Rattle.ring_rules.specs.Machine.{World, member_at, newest, is_waiting}
 use Rattle.ring_rules.specs.Step.{size, log_of}
 use Rattle.ring_rules.specs.Lawful.{row_of}
-use Rattle.ring_rules.specs.Event.{id_of, of_member, is_stopped, is_told, is_asked_multicast, asked_of, event_of, up_refusal, refresh_refusal, doing_refusal, refused_at, at_door, refusal}
+use Rattle.ring_rules.specs.Event.{id_of, of_member, is_stopped, is_told, is_asked_multicast, event_of, up_refusal, doing_refusal, refused_as, at_door}
 use Rattle.ring_rules.specs.Event as event
 use Rattle.ring_rules.proofs.invariants.Happens.{IsGood}
 use Rattle.ring_rules.proofs.events.Refusals.{id_within, cond_or, up_is}
@@ -39,7 +41,7 @@ use Rattle.gm_member.specs.Questions.{has_link}
 use Rattle.gm_member.specs.Stands.{kept_by, incoming_in, held_in}
 use Rattle.gm_member.proofs.Fit.{IsFit}
 use Rattle.gm_member.proofs.Knowing.{got_kept}
-use Rattle.gm_member.proofs.Facts.{held_known, place_few, right_row}
+use Rattle.gm_member.proofs.Facts.{refused_there, held_known, place_few, right_row}
 use Rattle.gm_member.proofs.Doors.{view_version}
 use Rattle.gm_member.proofs.PickStands.{first_is}
 use Rattle.ring_parties.specs.declared.party.Party.{Party}
@@ -60,17 +62,15 @@ use Rattle.ring_parties.specs.Refused.{standing_of, office_of, mark_refused, era
 pub newest_version : (initial : ℕ) (w : World) (q : Parties) → IsGood w → Stand initial w q → (newest_of q).version ≡ newest w
 newest_version initial w q h st = ap (λ (g : Group). g.version) (newest_is w q st.stand.views) ∙ view_version w (newest w) h (omega arith)
 
-pub look_refuses : (credit : CreditSpec) (w : World) (q : Parties) (x v : ℕ) (name : List ℕ) → IsLawfulAt credit w → id_of w name ≡ Some x → Stand credit.initial w q → look_refused (newest_of q).version (node_at q (x - 1)) v ≡ refusal w (Refresh name v)
-look_refuses credit w q x v name g named st =
-    let at : (1 ≤ x) × (x < size w) = id_within w name x named in
-    let h : MemberStands w st.places x (node_at q (x - 1)) = st.stand.each x at.0 at.1 in
+pub look_refuses : (credit : CreditSpec) (w : World) (q : Parties) (x v : ℕ) → IsLawfulAt credit w → Stand credit.initial w q → 1 ≤ x → x < size w → look_refused (newest_of q).version (node_at q (x - 1)) v ≡ refused_as w x (Reads v)
+look_refuses credit w q x v g st some lt =
+    let h : MemberStands w st.places x (node_at q (x - 1)) = st.stand.each x some lt in
     let u : ℕ = (member_at w x).version in
     let n : ℕ = (newest_of q).version in
     ap (λ (k : Held). up_refused k (refuse_if (cond (nat_lt v k.view.version) true (nat_lt n v)) (reason.ViewOutOfRange v k.view.version n))) h.held
     ∙ ap (λ m. up_refusal w x (refuse_if (cond (nat_lt v m) true (nat_lt n v)) (reason.ViewOutOfRange v m n))) (view_version w u g.fit.good (g.fit.good.inv.is_ring.held x))
     ∙ ap (λ m. up_refusal w x (refuse_if (cond (nat_lt v u) true (nat_lt m v)) (reason.ViewOutOfRange v u m))) (newest_version credit.initial w q g.fit.good st)
     ∙ ap (λ b. up_refusal w x (refuse_if b (reason.ViewOutOfRange v u (newest w)))) (cond_or (nat_lt v u) (nat_lt (newest w) v))
-    ∙ sym (ap (λ o. of_member o (λ y. up_refusal w y (refresh_refusal w y v))) named)
 
 -- ---- a mark
 
@@ -83,12 +83,9 @@ up_same w x a b h = by_phase (member_at w x).phase h
     by_phase Up k = k refl
     by_phase Stopped k = refl
 
--- what the registrar refuses of a member that is found, it does of one that is up as the ring does
-by_registrar : (w : World) (x : ℕ) (name : List ℕ) (asked : Option Reason) (later : ℕ → Option Reason) → id_of w name ≡ Some x
-    → ((member_at w x).phase ≡ Up → asked ≡ of_member (id_of w name) (λ y. up_refusal w y (later y))) → up_refusal w x asked ≡ of_member (id_of w name) (λ y. up_refusal w y (later y))
-by_registrar w x name asked later named k =
-    let found : of_member (id_of w name) (λ y. up_refusal w y (later y)) ≡ up_refusal w x (later x) = ap (λ o. of_member o (λ y. up_refusal w y (later y))) named in
-    up_same w x asked (later x) (λ up. k up ∙ found ∙ up_is w x (later x) up) ∙ sym found
+-- what the registrar refuses of a member, it does of one that is up as the ring does
+by_registrar : (w : World) (x : ℕ) (asked later : Option Reason) → ((member_at w x).phase ≡ Up → asked ≡ up_refusal w x later) → up_refusal w x asked ≡ up_refusal w x later
+by_registrar w x asked later k = up_same w x asked later (λ up. k up ∙ up_is w x later up)
 
 -- what x has still to take, by its own word
 tells : (w : World) (x : ℕ) → IsGood w → (is_some (held_in w x).current || is_some (first_at_door (held_in w x))) ≡ (is_some (member_at w x).current || is_some (at_door w x))
@@ -100,25 +97,23 @@ tells w x h = by_current (member_at w x).current refl
 
 module _ {I : Type 0} where
   -- of one that is known, where no link waits at the registrar of which the member doesn't know
-  pub mark_refuses : (w : World) (r : Registry I) (x d : ℕ) (name dead : List ℕ) → IsGood w → StandsIn w r → id_of w name ≡ Some x → id_of w dead ≡ Some d
+  pub mark_refuses : (w : World) (r : Registry I) (x d : ℕ) (dead : List ℕ) → IsFit w → StandsIn w r → 1 ≤ x → x < size w → id_of w dead ≡ Some d
       → (is_left (view_at r.views (member_at w x).version) x d ≡ true → (has_link (held_in w x) || waits_from r.links d x (since_in (view_at r.views (member_at w x).version) x)) ≡ has_link (held_in w x))
-      → up_refused (held_in w x) (mark_refusal r x d (held_in w x).view.version (is_some (held_in w x).current || is_some (first_at_door (held_in w x)))) ≡ refusal w (Mark name dead)
-  mark_refuses w r x d name dead h st named there waits =
+      → up_refused (held_in w x) (mark_refusal r x d (held_in w x).view.version (is_some (held_in w x).current || is_some (first_at_door (held_in w x)))) ≡ refused_as w x (Changes (change.Mark dead))
+  mark_refuses w r x d dead f st some lt there waits =
+      let name : List ℕ = (member_at w x).name in
+      let named : id_of w name ≡ Some x = f.named x some lt in
       let u : ℕ = (member_at w x).version in
       let has : Bool = is_some (held_in w x).current || is_some (first_at_door (held_in w x)) in
-      ap (λ v. up_refusal w x (mark_refusal r x d v has)) (view_version w u h (h.inv.is_ring.held x))
-      ∙ by_registrar w x name (mark_refusal r x d u has) (λ y. of_member (id_of w dead) (event.mark_refusal w y)) named
-      (λ up. mark_judged w r x d u has name dead h st (record { named = named; up = up; holds = refl }) there (λ left. waits left ∙ tells w x h))
+      ap (λ v. up_refusal w x (mark_refusal r x d v has)) (view_version w u f.good (f.good.inv.is_ring.held x))
+      ∙ by_registrar w x (mark_refusal r x d u has) (of_member (id_of w dead) (event.mark_refusal w x))
+      (λ up. mark_judged w r x d u has name dead f.good st (record { named = named; up = up; holds = refl }) there (λ left. waits left ∙ tells w x f.good) ∙ refused_there w x (Mark name dead) named)
 
 -- of the name of nobody, whatever is asked of one who is known
-pub nobody_named : (credit : CreditSpec) (w : World) (q : Parties) (x : ℕ) (name other : List ℕ) (later : ℕ → ℕ → Option Reason) → id_of w name ≡ Some x → id_of w other ≡ None → Stand credit.initial w q
-    → up_refused (node_at q (x - 1)).held (Some reason.UnknownMember) ≡ of_member (id_of w name) (λ y. up_refusal w y (of_member (id_of w other) (later y)))
-nobody_named credit w q x name other later named none st =
-    let at : (1 ≤ x) × (x < size w) = id_within w name x named in
-    let h : MemberStands w st.places x (node_at q (x - 1)) = st.stand.each x at.0 at.1 in
-    ap (λ (k : Held). up_refused k (Some reason.UnknownMember)) h.held
-    ∙ ap (λ o. up_refusal w x (of_member o (later x))) (sym none)
-    ∙ sym (ap (λ o. of_member o (λ y. up_refusal w y (of_member (id_of w other) (later y)))) named)
+pub nobody_named : (credit : CreditSpec) (w : World) (q : Parties) (x : ℕ) (other : List ℕ) (later : ℕ → Option Reason) → Stand credit.initial w q → 1 ≤ x → x < size w → id_of w other ≡ None
+    → up_refused (node_at q (x - 1)).held (Some reason.UnknownMember) ≡ up_refusal w x (of_member (id_of w other) later)
+nobody_named credit w q x other later st some lt none =
+    ap (λ (k : Held). up_refused k (Some reason.UnknownMember)) (st.stand.each x some lt).held ∙ ap (λ o. up_refusal w x (of_member o later)) (sym none)
 
 -- no link of the ring waits at the registrar where none is posted for x
 none_from : (d x since : ℕ) (ps : List Posted) → filter (waits_at x) ps ≡ [] → waits_from (map standing_of ps) d x since ≡ false
@@ -139,15 +134,14 @@ none_from d x since (a ∷ ps) e = by_test (nat_eq a.name.to.0 x) refl e (λ k. 
         ∙ ih h
 
 -- the member's conditions, and then the registrar's, are the ring's
-pub mark_asked_refuses : (credit : CreditSpec) (w : World) (q : Parties) (x d : ℕ) (name dead : List ℕ) (m : Shown) → IsLawfulAt credit w → id_of w name ≡ Some x → id_of w dead ≡ Some d
-    → Stand credit.initial w q → filter (waits_at x) q.post ≡ [] → m ≡ node_at q (x - 1)
-    → up_refused m.held (mark_refusal (office_of q) x d m.held.view.version (is_some m.held.current || is_some (first_at_door m.held))) ≡ refusal w (Mark name dead)
-mark_asked_refuses credit w q x d name dead m g named there st none is =
-    let at : (1 ≤ x) × (x < size w) = id_within w name x named in
-    let held : m.held ≡ held_in w x = ap (λ (k : Shown). k.held) is ∙ held_whole credit.initial w q x at.0 at.1 st none in
+pub mark_asked_refuses : (credit : CreditSpec) (w : World) (q : Parties) (x d : ℕ) (dead : List ℕ) (m : Shown) → IsLawfulAt credit w → Stand credit.initial w q → 1 ≤ x → x < size w → id_of w dead ≡ Some d
+    → filter (waits_at x) q.post ≡ [] → m ≡ node_at q (x - 1)
+    → up_refused m.held (mark_refusal (office_of q) x d m.held.view.version (is_some m.held.current || is_some (first_at_door m.held))) ≡ refused_as w x (Changes (change.Mark dead))
+mark_asked_refuses credit w q x d dead m g st some lt there none is =
+    let held : m.held ≡ held_in w x = ap (λ (k : Shown). k.held) is ∙ held_whole credit.initial w q x some lt st none in
     let office : StandsIn w (office_of q) = record { views = st.stand.views; stopped = st.stand.stopped; nobody_else = st.stand.nobody_else } in
     ap (λ (k : Held). up_refused k (mark_refusal (office_of q) x d k.view.version (is_some k.current || is_some (first_at_door k)))) held
-    ∙ mark_refuses w (office_of q) x d name dead g.fit.good office named there
+    ∙ mark_refuses w (office_of q) x d dead g.fit office some lt there
     (λ left. ap (λ b. has_link (held_in w x) || b) (none_from d x (since_in (view_at q.views (member_at w x).version) x) q.post none) ∙ or-false (has_link (held_in w x)))
 
 -- ---- an erasure
@@ -160,20 +154,21 @@ numbers_held w x p f some lt =
 
 module _ {I : Type 0} where
   -- of one that is known: by the newest view, and the member's own view and numbers
-  pub erase_refuses : (credit : CreditSpec) (w : World) (r : Registry I) (q : Parties) (x p : ℕ) (name origin : List ℕ) → IsLawfulAt credit w → StandsIn w r → id_of w name ≡ Some x → id_of w origin ≡ Some p → Stand credit.initial w q
-      → erase_refused r (node_at q (x - 1)) (Some p) ≡ refusal w (Erase name origin)
-  erase_refuses credit w r q x p name origin g st named there stand =
-      let at : (1 ≤ x) × (x < size w) = id_within w name x named in
+  pub erase_refuses : (credit : CreditSpec) (w : World) (r : Registry I) (q : Parties) (x p : ℕ) (origin : List ℕ) → IsLawfulAt credit w → StandsIn w r → Stand credit.initial w q → 1 ≤ x → x < size w → id_of w origin ≡ Some p
+      → erase_refused r (node_at q (x - 1)) (Some p) ≡ refused_as w x (Changes (change.Erase origin))
+  erase_refuses credit w r q x p origin g st stand some lt there =
+      let name : List ℕ = (member_at w x).name in
+      let named : id_of w name ≡ Some x = g.fit.named x some lt in
       let it : (1 ≤ p) × (p < size w) = id_within w origin p there in
       let u : ℕ = (member_at w x).version in
       let kept : known_at (held_in w x).known (p - 1) ≡ kept_by (log_of w p) (row_of w x p) = numbers_held w x p g.fit it.0 it.1 in
       let got : got_of (known_at (held_in w x).known (p - 1)) ≡ (row_of w x p).got = ap got_of kept ∙ got_kept (log_of w p) (row_of w x p) (right_row w x p g.fit) in
       let retired : (known_at (held_in w x).known (p - 1)).retired ≡ (row_of w x p).retired = ap (λ (k : Kept). k.retired) kept in
-      ap (λ (k : Held). up_refused k (erase_refusal r k.id p (got_of (known_at k.known (p - 1))) (known_at k.known (p - 1)).retired k.view.version)) (held_but_door w stand.places x (node_at q (x - 1)) (stand.stand.each x at.0 at.1))
+      ap (λ (k : Held). up_refused k (erase_refusal r k.id p (got_of (known_at k.known (p - 1))) (known_at k.known (p - 1)).retired k.view.version)) (held_but_door w stand.places x (node_at q (x - 1)) (stand.stand.each x some lt))
       ∙ ap (λ v. up_refusal w x (erase_refusal r x p (got_of (known_at (held_in w x).known (p - 1))) (known_at (held_in w x).known (p - 1)).retired v)) (view_version w u g.fit.good (g.fit.good.inv.is_ring.held x))
-      ∙ by_registrar w x name (erase_refusal r x p (got_of (known_at (held_in w x).known (p - 1))) (known_at (held_in w x).known (p - 1)).retired u) (λ y. of_member (id_of w origin) (event.erase_refusal w y)) named
+      ∙ by_registrar w x (erase_refusal r x p (got_of (known_at (held_in w x).known (p - 1))) (known_at (held_in w x).known (p - 1)).retired u) (of_member (id_of w origin) (event.erase_refusal w x))
       (λ up. erase_judged w r x p u (got_of (known_at (held_in w x).known (p - 1))) (known_at (held_in w x).known (p - 1)).retired (Erase name origin) g.fit.good st
-      (record { name = name; origin_name = origin; asker = record { named = named; up = up; holds = refl }; named = there; got = sym got; retired = sym retired; is = refl }))
+      (record { name = name; origin_name = origin; asker = record { named = named; up = up; holds = refl }; named = there; got = sym got; retired = sym retired; is = refl }) ∙ refused_there w x (Erase name origin) named)
 
 -- ---- what a client asks
 
@@ -193,17 +188,12 @@ client_refuses credit w q x inner cast some lt st = by_client inner cast
     by_client c m = absurd (false≢true m)
 
 -- so it admits nobody just where the ring does
-pub admit_refuses : (credit : CreditSpec) (w : World) (q : Parties) (x : ℕ) (by name : List ℕ) → id_of w by ≡ Some x → Stand credit.initial w q → up_refused (node_at q (x - 1)).held (admission_refused (newest_of q) name) ≡ refusal w (Admit by name)
-admit_refuses credit w q x by name named st =
-    let at : (1 ≤ x) × (x < size w) = id_within w by x named in
-    client_refuses credit w q x (client.Admit by name) refl at.0 at.1 st ∙ sym (ap (λ o. of_member o (refused_at w (Admit by name))) named)
+pub admit_refuses : (credit : CreditSpec) (w : World) (q : Parties) (x : ℕ) (name : List ℕ) → 1 ≤ x → x < size w → Stand credit.initial w q → up_refused (node_at q (x - 1)).held (admission_refused (newest_of q) name) ≡ refused_as w x (Changes (change.Admit name))
+admit_refuses credit w q x name some lt st = client_refuses credit w q x (client.Admit (member_at w x).name name) refl some lt st
 
 -- and tells the client so just where the ring does
-pub telling_refuses : (credit : CreditSpec) (w : World) (q : Parties) (x code : ℕ) (inner : Client) → is_asked_multicast inner ≡ true → id_of w (asked_of inner) ≡ Some x → Stand credit.initial w q → telling_refused (newest_of q) code inner (node_at q (x - 1)) ≡ refusal w (Refuse code inner)
-telling_refuses credit w q x code inner cast named st =
-    let at : (1 ≤ x) × (x < size w) = id_within w (asked_of inner) x named in
-    ap (λ r. refuse_if (not (is_told code r)) reason.NotRefused) (client_refuses credit w q x inner cast at.0 at.1 st)
-    ∙ sym (ap (λ o. of_member o (refused_at w (Refuse code inner))) named)
+pub telling_refuses : (credit : CreditSpec) (w : World) (q : Parties) (x code : ℕ) (inner : Client) → is_asked_multicast inner ≡ true → 1 ≤ x → x < size w → Stand credit.initial w q → telling_refused (newest_of q) code inner (node_at q (x - 1)) ≡ refused_as w x (Tells code inner)
+telling_refuses credit w q x code inner cast some lt st = ap (λ r. refuse_if (not (is_told code r)) reason.NotRefused) (client_refuses credit w q x inner cast some lt st)
 
 -- ---- the registrar, and what is shown of it
 

@@ -12,9 +12,8 @@ use Rattle.group_view.proofs.Rings.{in_head, in_tail, head_differs}
 use Rattle.ring_rules.specs.Machine.{World, Link, Member, no_link, member_at, link_at, runs, runs_phase}
 use Rattle.ring_rules.specs.declared.phase.Phase.TheVariants.{Up}
 use Rattle.ring_rules.specs.Step.{size, log_of, with_member}
-use Rattle.ring_rules.specs.Event.{id_of, of_member, up_refusal, on_link, at_found, is_stopped}
+use Rattle.ring_rules.specs.Event.{up_refusal, on_link, at_found, is_stopped}
 use Rattle.ring_rules.proofs.events.Enabled.{up_phase, up_later}
-use Rattle.ring_rules.proofs.events.Refusals.{id_within}
 use Rattle.gm_member.specs.Held.{at_some}
 use Rattle.gm_member.specs.Stands.{held_in, waits_for, door_links}
 use Rattle.ring_rules.proofs.work.OwnEnds.{OwnEnds}
@@ -30,7 +29,7 @@ use Rattle.ring_parties.proofs.meetings.NamedLinks.{out_has, out_is_open}
 use Rattle.ring_parties.proofs.standing.Showing.{with_outs, each_set}
 use Rattle.ring_parties.proofs.meetings.Meetings.{waiting_at}
 use Rattle.ring_parties.proofs.standing.Frames.{SameWays, way, link_ways, same_of, same_name, same_to, same_in, same_out, same_doors, carries_logs, carries_same, Does, goes_stands, stays_stands, StandMoved}
-use Rattle.ring_parties.proofs.events.OneEvent.{found_later, found_does, link_there, stands_at, met_rested, met_both}
+use Rattle.ring_parties.proofs.events.OneEvent.{found_does, link_there, stands_at, met_rested, met_both}
 use Rattle.ring_parties.proofs.meetings.Known.{known_still, not_left}
 
 -- ---- the event
@@ -56,19 +55,18 @@ pub record OnOut (w w' : World) (x : ℕ) (becomes : ℕ → Link) : Type 0 wher
   pub run : runs w x ≡ true
   pub so : w' ≡ sends_in w w.members link (becomes link)
 
-pub on_out : (credit : CreditSpec) (w : World) (by : List ℕ) (x : ℕ) (later : ℕ → ℕ → Option Reason) (becomes : ℕ → ℕ → Link) → IsLawfulAt credit w → of_member (id_of w by) (λ y. up_refusal w y (on_link (member_at w y).out reason.NoOutLink (later y))) ≡ None → id_of w by ≡ Some x
-    → OnOut w (at_found (id_of w by) w (λ y. at_found (member_at w y).out w (λ s. sends_in w w.members s (becomes y s)))) x (becomes x)
-on_out credit w by x later becomes h enabled found =
-    let acts = found_later (id_of w by) x (λ y. up_refusal w y (on_link (member_at w y).out reason.NoOutLink (later y))) found enabled in
-    let there = link_there (member_at w x).out reason.NoOutLink (later x) (up_later w x _ acts) in
+pub on_out : (credit : CreditSpec) (w : World) (x : ℕ) (later : ℕ → Option Reason) (becomes : ℕ → Link) → IsLawfulAt credit w → up_refusal w x (on_link (member_at w x).out reason.NoOutLink later) ≡ None → x < size w
+    → OnOut w (at_found (member_at w x).out w (λ s. sends_in w w.members s (becomes s))) x becomes
+on_out credit w x later becomes h enabled lt =
+    let there = link_there (member_at w x).out reason.NoOutLink later (up_later w x _ enabled) in
     record {
       link = there.0;
       is = there.1;
-      is_member = (id_within w by x found).1;
+      is_member = lt;
       within = (h.fit.own_ends.out x there.0 there.1).0;
-      up = up_phase w x _ acts;
-      run = ap runs_phase (up_phase w x _ acts);
-      so = found_does (id_of w by) x w (λ y. at_found (member_at w y).out w (λ s. sends_in w w.members s (becomes y s))) found ∙ found_does (member_at w x).out there.0 w (λ s. sends_in w w.members s (becomes x s)) there.1;
+      up = up_phase w x _ enabled;
+      run = ap runs_phase (up_phase w x _ enabled);
+      so = found_does (member_at w x).out there.0 w (λ s. sends_in w w.members s (becomes s)) there.1;
     }
 
 -- ---- what is left as it was

@@ -6,15 +6,14 @@ use Rattle.ring_names.specs.declared.numbers.CreditSpec.{CreditSpec}
 use Rattle.group_view.specs.declared.link.LinkName.{LinkName}
 use Rattle.group_view.specs.Ring.{is_in}
 use Rattle.group_view.proofs.Rings.{is_in-append}
-use Rattle.ring_rules.specs.declared.event.Event.TheVariants.{Stop}
+use Rattle.ring_rules.specs.Kind.{Stops}
 use Rattle.ring_rules.specs.declared.phase.Ending.TheVariants.{Halted}
 use Rattle.ring_rules.specs.Machine.{World, Link, Member, member_at, link_at, runs}
 use Rattle.ring_rules.specs.Step.{size, stopped, stop_at, ended, ended_so, end_out}
-use Rattle.ring_rules.specs.Event.{id_of, running_refusal, refusal, effect, is_stopped}
+use Rattle.ring_rules.specs.Event.{refused_as, done_as, is_stopped}
 use Rattle.ring_rules.proofs.rings.Rounds.{nat_eq-same, nat_eq-not}
 use Rattle.group_view.proofs.Truth.{later_true, cond_itself}
 use Rattle.ring_rules.proofs.code.Enables.{running_runs}
-use Rattle.ring_rules.proofs.events.Refusals.{id_within}
 use Rattle.gm_member.specs.Held.{Held, stopped_held}
 use Rattle.gm_member.specs.Stands.{held_in}
 use Rattle.gm_member.proofs.Fit.{IsFit}
@@ -28,7 +27,7 @@ use Rattle.ring_parties.specs.Acting.{EndsIts, Acts}
 use Rattle.ring_parties.proofs.work.Lawful.{IsLawfulAt}
 use Rattle.ring_parties.proofs.meetings.NamedLinks.{out_unended}
 use Rattle.ring_parties.proofs.standing.Frames.{SameWays, same_of, link_ways, member_ways, ways_both, carries_logs, Does, StandMoved, end_carries}
-use Rattle.ring_parties.proofs.events.OneEvent.{found_later, found_does, stands_at}
+use Rattle.ring_parties.proofs.events.OneEvent.{stands_at}
 use Rattle.ring_parties.proofs.events.Steps.{goes_so, ways_leave, steps, ways_stand, sends_once}
 
 -- ---- notices
@@ -116,14 +115,11 @@ stop_steps credit w i q b (Some s) st h lt run e (o', ends, now) eb =
       carries = end_carries credit.initial w (link_at w s) l (p.outs s) o' (p.ins s) goes_on refl ended_now refl ends;
     })
 
-pub stop_goes : (credit : CreditSpec) (w : World) (by : List ℕ) (i d : ℕ) (q q' : Parties) (loose : Option (LinkName × OutSeen)) → IsLawfulAt credit w → refusal w (Stop by) ≡ None → id_of w by ≡ Some (i + 1) → Stand credit.initial w q → Acts (Stop by) i d q q' loose → StandMoved credit.initial (i + 1) (effect w (Stop by)) q' loose
-stop_goes credit w by i d q q' loose h enabled found st (b, (ends, eb), is, none) =
+pub stop_goes : (credit : CreditSpec) (w : World) (i d : ℕ) (q q' : Parties) (loose : Option (LinkName × OutSeen)) → IsLawfulAt credit w → refused_as w (i + 1) Stops ≡ None → i + 1 < size w → Stand credit.initial w q → Acts Stops i d q q' loose → StandMoved credit.initial (i + 1) (done_as w (i + 1) Stops) q' loose
+stop_goes credit w i d q q' loose h enabled lt st (b, (ends, eb), is, none) =
     let x : ℕ = i + 1 in
-    let lt : i + 1 < size w = (id_within w by x found).1 in
     let a : MemberStands w st.places x (node_at q i) = stands_at credit.initial w q st.places i st.stand lt in
-    let acts = found_later (id_of w by) x (λ y. running_refusal w y None) found enabled in
-    let run : runs w x ≡ true = running_runs w x None acts in
+    let run : runs w x ≡ true = running_runs w x None enabled in
     let w' : World = stopped_in w x (member_at w x).out in
-    let does : effect w (Stop by) ≡ w' = found_does (id_of w by) x w (λ y. end_out Halted (stop_at w y) (member_at w y).out) found in
-    goes_so credit.initial x w' (effect w (Stop by)) (record (with_node q i b) { stopped = q.stopped ++ x ∷ [] }) q' loose does is none
+    goes_so credit.initial x w' (done_as w x Stops) (record (with_node q i b) { stopped = q.stopped ++ x ∷ [] }) q' loose refl is none
     (stop_steps credit w i q b (member_at w x).out st h lt run refl (subst (λ c. EndsIts c b.ends.out) a.out ends) eb)

@@ -8,16 +8,17 @@ use Rattle.ring_names.specs.declared.reason.Reason.TheVariants as reason
 use Rattle.credit_flow.specs.Credit.{grant_due}
 use Rattle.credit_flow.specs.Link.{with_grant}
 use Rattle.group_view.specs.declared.link.LinkName.{LinkName}
-use Rattle.ring_rules.specs.declared.event.Event.TheVariants.{Take}
+use Rattle.ring_rules.specs.declared.kind.LinkStep.TheVariants as step
+use Rattle.ring_rules.specs.Kind.{Steps}
 use Rattle.ring_rules.specs.declared.phase.Phase.{Phase}
 use Rattle.ring_rules.specs.declared.phase.Phase.TheVariants.{Waiting, Up, Stopped}
 use Rattle.ring_rules.specs.Refusal.{is_empty}
 use Rattle.ring_rules.specs.Machine.{World, Member, Packet, Sending, Link, no_link, no_packet, member_at, link_at, is_waiting, oldest}
 use Rattle.ring_rules.specs.Compact.{passed}
 use Rattle.ring_rules.specs.Step.{size, with_member, with_link, taker, begun, popped}
-use Rattle.ring_rules.specs.Event.{id_of, running_refusal, on_link, take_refusal, holds_nothing, at_found, taken_by, is_stopped, refusal, effect}
+use Rattle.ring_rules.specs.Event.{running_refusal, on_link, take_refusal, holds_nothing, at_found, taken_by, is_stopped, refused_as, done_as}
 use Rattle.ring_rules.proofs.events.Enabled.{running_later, take_effect}
-use Rattle.ring_rules.proofs.events.Refusals.{id_within, none_of, not_less}
+use Rattle.ring_rules.proofs.events.Refusals.{none_of, not_less}
 use Rattle.gm_member.specs.Parcels.{ByOrigin}
 use Rattle.gm_member.specs.Held.{Held, Incoming, at_some, took_from, began_from, took_held}
 use Rattle.gm_member.specs.Stands.{incoming_in, held_in, lines_in, waits_for}
@@ -36,7 +37,7 @@ use Rattle.ring_parties.proofs.meetings.NamedLinks.{current_has}
 use Rattle.ring_parties.proofs.standing.Writing.{placed_same, placed_other}
 use Rattle.ring_parties.proofs.standing.Showing.{with_ins}
 use Rattle.ring_parties.proofs.standing.Frames.{SameWays, link_ways, member_ways, ways_both, same_of, same_in, Does, StandMoved}
-use Rattle.ring_parties.proofs.events.OneEvent.{found_later, found_does, link_there, made_of, stands_at, held_but_door}
+use Rattle.ring_parties.proofs.events.OneEvent.{link_there, made_of, stands_at, held_but_door}
 use Rattle.ring_parties.proofs.meetings.Known.{not_left}
 use Rattle.ring_parties.proofs.events.Steps.{goes_so, ways_leave, same_phases, carries_at, steps, ways_stand}
 
@@ -193,13 +194,12 @@ takes_as w x s k Up f up runs some lt current has version =
     )
 takes_as w x s k Stopped f rests runs some lt current has version = absurd (false≢true (sym runs))
 
-pub take_goes : (credit : CreditSpec) (w : World) (by : List ℕ) (i d : ℕ) (q q' : Parties) (loose : Option (LinkName × OutSeen)) → IsLawfulAt credit w → refusal w (Take by) ≡ None → id_of w by ≡ Some (i + 1) → Stand credit.initial w q → Acts (Take by) i d q q' loose → StandMoved credit.initial (i + 1) (effect w (Take by)) q' loose
-take_goes credit w by i d q q' loose h enabled found st (b, (k, n, n', ends_link, takes, eb), is, none) =
+pub take_goes : (credit : CreditSpec) (w : World) (i d : ℕ) (q q' : Parties) (loose : Option (LinkName × OutSeen)) → IsLawfulAt credit w → refused_as w (i + 1) (Steps step.Take) ≡ None → i + 1 < size w → Stand credit.initial w q → Acts (Steps step.Take) i d q q' loose → StandMoved credit.initial (i + 1) (done_as w (i + 1) (Steps step.Take)) q' loose
+take_goes credit w i d q q' loose h enabled lt st (b, (k, n, n', ends_link, takes, eb), is, none) =
     let x : ℕ = i + 1 in
-    let lt : i + 1 < size w = (id_within w by x found).1 in
     let p : Places = st.places in
     let a : MemberStands w p x (node_at q i) = stands_at credit.initial w q p i st.stand lt in
-    let acts = found_later (id_of w by) x (λ y. running_refusal w y (on_link (member_at w y).current reason.NoCurrentLink (take_refusal w y))) found enabled in
+    let acts : running_refusal w x (on_link (member_at w x).current reason.NoCurrentLink (take_refusal w x)) ≡ None = enabled in
     let runs = none_of (is_stopped (member_at w x).phase) reason.Stopped _ acts in
     let there = link_there (member_at w x).current reason.NoCurrentLink (take_refusal w x) (running_later w x _ acts) in
     let s : ℕ = there.0 in
@@ -211,5 +211,4 @@ take_goes credit w by i d q q' loose h enabled found st (b, (k, n, n', ends_link
     let y : Member = t.0 in
     let same_end : p.ins s ≡ n = made_of p.ins (member_at w x).current s n current (sym a.link ∙ ends_link) in
     let its : TakesIn (due_of (node_at q i).held) (p.ins s) (sent_of k) n' = subst (λ e. TakesIn (due_of (node_at q i).held) e (sent_of k) n') (sym same_end) takes in
-    let does : effect w (Take by) ≡ takes_in w x s y = found_does (id_of w by) x w (λ z. at_found (member_at w z).current w (taken_by (member_at w z).phase w z)) found ∙ t.2 in
-    goes_so credit.initial x (takes_in w x s y) (effect w (Take by)) (with_node q i b) q' loose does is none (take_steps credit w i s q b n' k y st h t.1 its eb)
+    goes_so credit.initial x (takes_in w x s y) (done_as w x (Steps step.Take)) (with_node q i b) q' loose t.2 is none (take_steps credit w i s q b n' k y st h t.1 its eb)

@@ -38,7 +38,7 @@ use Rattle.ring_rules.proofs.compact.OtherLog.{with_log, log_good}
 use Rattle.ring_rules.proofs.compact.OtherRows.{Like, like_same, like_link, like_phase, like_version, like_out, like_current, like_newest, like_view, like_kept, like_member, like_me, like_one, like_viewed, like_my_look, like_taker, like_begun, like_come, like_refreshed, like_rows, like_current_is, like_end}
 
 -- a state in which x has the got that it sent last on o, and not less than it has forgotten
-record Frozen (w : World) (x o : ℕ) : Type 0 where
+pub record Frozen (w : World) (x o : ℕ) : Type 0 where
   pub world : World
   pub good : IsGood world
   pub like : Like w world x
@@ -46,11 +46,11 @@ record Frozen (w : World) (x o : ℕ) : Type 0 where
   pub forgot : (p : ℕ) → 1 ≤ p → p < size w → (row_at (member_at w x) p).forgot ≤ (row_at (member_at world x) p).got
 
 -- what x sent on o
-abbrev Sent : World → ℕ → ℕ → Type 0
+abbrev pub Sent : World → ℕ → ℕ → Type 0
 Sent w x o = (member_at w x).phase ≡ Up → (member_at w x).out ≡ Some o → (link_at w o).sending.fresh ≡ false → Frozen w x o
 
 -- each has such a state, and who waits sends nowhere
-record HoldsBack (w : World) : Type 0 where
+pub record HoldsBack (w : World) : Type 0 where
   pub frozen : (x o : ℕ) → Sent w x o
   pub silent : (x : ℕ) → (member_at w x).phase ≡ Waiting → (member_at w x).out ≡ None
 
@@ -659,8 +659,11 @@ opening_holds credit names = record {
 }
 
 -- so in every state of every run of a ring with these names
+pub reached_holds : (credit : CreditSpec) (names : List (List ℕ)) (es : List Event) → AreOpeningNames names → IsRun (opening credit names) es → HoldsBack (last (opening credit names) es)
+reached_holds credit names es are r = run_knowing HoldsBack (λ w e g q lg k. event_holds w e g lg k q) (opening credit names) es (opening_good credit names are) r (opening_logged credit names) (opening_holds credit names)
+
+-- and nobody has forgotten more than it sent last
 pub reached_sent_forgot : (credit : CreditSpec) (names : List (List ℕ)) (es : List Event) → AreOpeningNames names → IsRun (opening credit names) es → HasSentForgot (last (opening credit names) es)
 reached_sent_forgot credit names es are r x o p up out sent some lt =
-    let h : HoldsBack (last (opening credit names) es) = run_knowing HoldsBack (λ w e g q lg k. event_holds w e g lg k q) (opening credit names) es (opening_good credit names are) r (opening_logged credit names) (opening_holds credit names) in
-    let f : Frozen (last (opening credit names) es) x o = h.frozen x o up out sent in
+    let f : Frozen (last (opening credit names) es) x o = (reached_holds credit names es are r).frozen x o up out sent in
     omega (arith, f.got p, f.forgot p some lt)

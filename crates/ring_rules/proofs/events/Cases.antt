@@ -12,7 +12,9 @@ use Rattle.group_view.specs.View.{is_dead, is_alias, entry_in}
 use Rattle.group_view.proofs.Rings.{nat_eq-is}
 use Rattle.ring_rules.specs.Machine.{Waiting, Up, Halted, World, row_at, member_at, link_at, view_in, newest, runs, runs_phase}
 use Rattle.ring_rules.specs.Step.{size, put_on, gain_on, publish_at, take_from, begin_from, come_to, current_is, leave_link, stop_at, end_out, with_view}
-use Rattle.ring_rules.specs.Event.{Event, Cast, Publish, Get, Pop, Ack, Requeue, Depth, Start, MayPublish, op_at, op_refusal, op_done, Put, Take, TakeEnd, Gain, Stop, Mark, Refresh, Admit, Pick, Erase, Synced, Refuse, missing_refusal, synced_view, is_stopped, id_of, of_member, on_link, put_refusal, take_refusal, end_refusal, gain_refusal, version_refusal, refresh_refusal, at_door, mark_refusal, erase_refusal, not_retired, erased_view, admit_refusal, refreshed, by_of, is_for_up, phase_refusal, further_refusal, doing_refusal, refused_at, refusal, at_found, taken_by, done_at, effect}
+use Rattle.ring_rules.specs.declared.kind.LinkStep.TheVariants as step
+use Rattle.ring_rules.specs.declared.kind.ViewChange.TheVariants as change
+use Rattle.ring_rules.specs.Event.{Event, Saying, Own, OfQueue, Kind, Says, Steps, Changes, Stops, Reads, Tells, kind_of, MayPublish, op_as, op_refusal, op_done, queue_message, saying_refusal, said, synced_refusal, missing_refusal, synced_view, is_stopped, id_of, of_member, on_link, put_refusal, take_refusal, end_refusal, gain_refusal, version_refusal, refresh_refusal, at_door, mark_refusal, erase_refusal, not_retired, erased_view, admit_refusal, refreshed, by_of, is_for_up_kind, phase_refusal, further_as, doing_as, refused_as, refused_at, refusal, at_found, taken_by, done_as, done_at, effect}
 use Rattle.ring_rules.proofs.events.WhatRefuses.{MayTake, MayBegin, MayLook, MayMark, MayErase, MaySync}
 use Rattle.ring_rules.proofs.events.Refusals.{none_of, refuse_none, none_there, id_within, not_less, not_false, up_or_waits}
 use Rattle.ring_rules.proofs.events.Enabled.{up_none, take_some, take_version, end_empty, mark_lives, mark_stops, refresh_later, refresh_upto}
@@ -100,7 +102,7 @@ may_erase w x d lt up h =
     record { is_member = lt; up = up; dead = not_false _ a.0; owned = not_false _ b.0; come_round = nat_eq-is _ _ (not_false _ c) }
 
 -- a member that may be registered
-pub may_sync : (w : World) (x : ℕ) → IsUp w x → further_refusal w (Synced (member_at w x).name) x ≡ None → MaySync w x
+pub may_sync : (w : World) (x : ℕ) → IsUp w x → synced_refusal w x ≡ None → MaySync w x
 may_sync w x u h =
     let a = none_of (entry_in (view_in w (newest w)).entries x).synced reason.AlreadySynced _ h in
     record { is_member = u.lt; up = u.up; unsynced = a.0; full = nothing_missed (member_at w x).mirror.missing a.1 }
@@ -128,65 +130,63 @@ at_named P w name later f h k = by_id (id_of w name) refl h
     by_id None e r = cc
     by_id (Some x) e r = let i = id_within w name x e in k x i.0 i.1 r
 
--- what an event does to the queue is published
-each_op : (P : World → Type 0) (w : World) (e : Event) (x : ℕ) → Cases P w → IsUp w x → op_refusal (op_at w e x) ≡ None → P (op_done w x (op_at w e x))
-each_op P w e x c u h = by_op (op_at w e x) refl h
+-- what a member says is published
+each_says : (P : World → Type 0) (w : World) (x : ℕ) (s : Saying) → Cases P w → IsUp w x → saying_refusal w x s ≡ None → P (said w x s)
+each_says P w x (Own body) c u h = c.casts x (message.Cast body) u (Own body, refl)
+each_says P w x (OfQueue q) c u h = by_op (op_as w x q) refl h
   where
-    by_op : (o : Result Op Reason) → op_at w e x ≡ o → op_refusal o ≡ None → P (op_done w x o)
-    by_op (Ok o) is k = c.casts x (message.Queue o) u (e, is)
+    by_op : (o : Result Op Reason) → op_as w x q ≡ o → op_refusal o ≡ None → P (op_done w x o)
+    by_op (Ok o) is k = c.casts x (message.Queue o) u (OfQueue q, ap queue_message is)
     by_op (Err r) is k = cc
 
 -- ---- events
 
 -- of a member that is up
-each_up : (P : World → Type 0) (w : World) (e : Event) (x : ℕ) → Cases P w → IsUp w x → further_refusal w e x ≡ None → P (done_at w e x)
-each_up P w (Cast by body) x c u h = c.casts x (message.Cast body) u tt
-each_up P w (Publish by body) x c u h = each_op P w (Publish by body) x c u h
-each_up P w (Get by) x c u h = each_op P w (Get by) x c u h
-each_up P w (Pop by) x c u h = each_op P w (Pop by) x c u h
-each_up P w (Ack by at) x c u h = each_op P w (Ack by at) x c u h
-each_up P w (Requeue by at) x c u h = each_op P w (Requeue by at) x c u h
-each_up P w (Depth by) x c u h = each_op P w (Depth by) x c u h
-each_up P w (Start by) x c u h = each_op P w (Start by) x c u h
-each_up P w (Put by) x c u h = at_link P w reason.NoOutLink (put_refusal w x) (put_on w x) (member_at w x).out h (λ o out k. c.puts x o u out k)
-each_up P w (Take by) x c u h = at_link P w reason.NoCurrentLink (take_refusal w x) (taken_by (member_at w x).phase w x) (member_at w x).current h
+each_up : (P : World → Type 0) (w : World) (k : Kind) (x : ℕ) → Cases P w → IsUp w x → further_as w x k ≡ None → P (done_as w x k)
+each_up P w (Says s) x c u h = each_says P w x s c u h
+each_up P w (Steps step.Put) x c u h = at_link P w reason.NoOutLink (put_refusal w x) (put_on w x) (member_at w x).out h (λ o out k. c.puts x o u out k)
+each_up P w (Steps step.Take) x c u h = at_link P w reason.NoCurrentLink (take_refusal w x) (taken_by (member_at w x).phase w x) (member_at w x).current h
     (λ s current k. subst (λ f. P (taken_by f w x s)) (sym u.up) (c.takes x s u (may_take w x s u.lt u.up current k)))
-each_up P w (TakeEnd by) x c u h = at_link P w reason.NoCurrentLink (end_refusal w) (leave_link w x) (member_at w x).current h (λ s current k. c.leaves x s u current k)
-each_up P w (Gain by) x c u h = at_link P w reason.NoOutLink (gain_refusal w) (gain_on w) (member_at w x).out h (λ o out k. c.gains x o u out k)
-each_up P w (Stop by) x c u h = c.stops x (up_runs w x u)
-each_up P w (Mark by dead) x c u h = at_named P w dead (mark_refusal w x) (λ d. refreshed (with_view w (marked (view_in w (newest w)) d)) x (newest w + 1)) h
-    (λ d some lt k. c.marks x d u (may_mark w x d u.lt u.up k))
-each_up P w (Refresh by version) x c u h = c.refreshes x version u (may_look w x version u.lt u.up h)
-each_up P w (Pick by) x c u h =
+each_up P w (Steps step.TakeEnd) x c u h = at_link P w reason.NoCurrentLink (end_refusal w) (leave_link w x) (member_at w x).current h (λ s current k. c.leaves x s u current k)
+each_up P w (Steps step.Gain) x c u h = at_link P w reason.NoOutLink (gain_refusal w) (gain_on w) (member_at w x).out h (λ o out k. c.gains x o u out k)
+each_up P w (Steps step.Pick) x c u h =
     let a = none_of (is_some (member_at w x).current) reason.HasCurrentLink _ h in
     at_link P w reason.NoLinkAtDoor (λ s. version_refusal (link_at w s).opened (member_at w x).version) (λ s. current_is w x (Some s)) (at_door w x) a.1
     (λ s e k. c.picks x s u (none_there (member_at w x).current a.0) e (not_less (member_at w x).version (link_at w s).opened _ k))
-each_up P w (Erase by origin) x c u h = at_named P w origin (erase_refusal w x) (λ d. refreshed (with_view w (erased_view w d)) x (newest w + 1)) h
+each_up P w (Changes (change.Mark dead)) x c u h = at_named P w dead (mark_refusal w x) (λ d. refreshed (with_view w (marked (view_in w (newest w)) d)) x (newest w + 1)) h
+    (λ d some lt k. c.marks x d u (may_mark w x d u.lt u.up k))
+each_up P w (Changes (change.Erase origin)) x c u h = at_named P w origin (erase_refusal w x) (λ d. refreshed (with_view w (erased_view w d)) x (newest w + 1)) h
     (λ d some lt k. c.erases x d u (may_erase w x d u.lt u.up k))
-each_up P w (Synced by) x c u h = c.syncs x u (may_sync w x u h)
-each_up P w (Refuse code inner) x c u h = c.refuses
-each_up P w (Admit by name) x c u h = c.admits x name u h
+each_up P w (Changes (change.Admit name)) x c u h = c.admits x name u h
+each_up P w (Changes change.Register) x c u h = c.syncs x u (may_sync w x u h)
+each_up P w Stops x c u h = c.stops x (up_runs w x u)
+each_up P w (Reads version) x c u h = c.refreshes x version u (may_look w x version u.lt u.up h)
+each_up P w (Tells code inner) x c u h = c.refuses
 
 -- of one that waits
-each_waiting : (P : World → Type 0) (w : World) (e : Event) (x : ℕ) → IsGood w → Cases P w → IsRunning w x → (member_at w x).phase ≡ Waiting → is_for_up e ≡ false → further_refusal w e x ≡ None → P (done_at w e x)
-each_waiting P w (Take by) x g c r waits f h = at_link P w reason.NoCurrentLink (take_refusal w x) (taken_by (member_at w x).phase w x) (member_at w x).current h
+each_waiting : (P : World → Type 0) (w : World) (k : Kind) (x : ℕ) → IsGood w → Cases P w → IsRunning w x → (member_at w x).phase ≡ Waiting → is_for_up_kind k ≡ false → further_as w x k ≡ None → P (done_as w x k)
+each_waiting P w (Steps step.Take) x g c r waits f h = at_link P w reason.NoCurrentLink (take_refusal w x) (taken_by (member_at w x).phase w x) (member_at w x).current h
     (λ s current k. subst (λ f. P (taken_by f w x s)) (sym waits) (c.begins x s r (may_begin w x s g r.lt waits current k)))
-each_waiting P w (TakeEnd by) x g c r waits f h = at_link P w reason.NoCurrentLink (end_refusal w) (leave_link w x) (member_at w x).current h (λ s current k. absurd (no_end w x s g waits current k))
-each_waiting P w (Stop by) x g c r waits f h = c.stops x r
-each_waiting P w e x g c r waits f h = absurd (false≢true (sym f))
+each_waiting P w (Steps step.TakeEnd) x g c r waits f h = at_link P w reason.NoCurrentLink (end_refusal w) (leave_link w x) (member_at w x).current h (λ s current k. absurd (no_end w x s g waits current k))
+each_waiting P w Stops x g c r waits f h = c.stops x r
+each_waiting P w k x g c r waits f h = absurd (false≢true (sym f))
 
 -- of whoever acts
-each_done : (P : World → Type 0) (w : World) (e : Event) (x : ℕ) → IsGood w → Cases P w → 1 ≤ x → x < size w → doing_refusal w e x ≡ None → P (done_at w e x)
-each_done P w e x g c some lt h =
-    let a = acts w (is_for_up e) x (further_refusal w e x) h in
+each_done : (P : World → Type 0) (w : World) (k : Kind) (x : ℕ) → IsGood w → Cases P w → 1 ≤ x → x < size w → doing_as w x k ≡ None → P (done_as w x k)
+each_done P w k x g c some lt h =
+    let a = acts w (is_for_up_kind k) x (further_as w x k) h in
     ⊎_elim
-    (λ (up : (member_at w x).phase ≡ Up). each_up P w e x c (record { some = some; lt = lt; up = up }) a.1)
-    (λ (k : ((member_at w x).phase ≡ Waiting) × (is_for_up e ≡ false)). each_waiting P w e x g c (record { some = some; lt = lt; runs_on = ap runs_phase k.0 }) k.0 k.1 a.1) a.0
+    (λ (up : (member_at w x).phase ≡ Up). each_up P w k x c (record { some = some; lt = lt; up = up }) a.1)
+    (λ (q : ((member_at w x).phase ≡ Waiting) × (is_for_up_kind k ≡ false)). each_waiting P w k x g c (record { some = some; lt = lt; runs_on = ap runs_phase q.0 }) q.0 q.1 a.1) a.0
 
-each_at : (P : World → Type 0) (w : World) (e : Event) (x : ℕ) → IsGood w → Cases P w → 1 ≤ x → x < size w → refused_at w e x ≡ None → P (done_at w e x)
-each_at P w (Refuse code inner) x g c some lt h = c.refuses
-each_at P w e x g c some lt h = each_done P w e x g c some lt h
+each_at : (P : World → Type 0) (w : World) (k : Kind) (x : ℕ) → IsGood w → Cases P w → 1 ≤ x → x < size w → refused_as w x k ≡ None → P (done_as w x k)
+each_at P w (Tells code inner) x g c some lt h = c.refuses
+each_at P w (Says s) x g c some lt h = each_done P w (Says s) x g c some lt h
+each_at P w (Steps s) x g c some lt h = each_done P w (Steps s) x g c some lt h
+each_at P w (Changes v) x g c some lt h = each_done P w (Changes v) x g c some lt h
+each_at P w Stops x g c some lt h = each_done P w Stops x g c some lt h
+each_at P w (Reads version) x g c some lt h = each_done P w (Reads version) x g c some lt h
 
 -- what each event does under its conditions is what an event does that may happen
 pub each_event : (P : World → Type 0) (w : World) (e : Event) → IsGood w → Cases P w → refusal w e ≡ None → P (effect w e)
-each_event P w e g c r = at_named P w (by_of e) (refused_at w e) (done_at w e) r (λ x some lt k. each_at P w e x g c some lt k)
+each_event P w e g c r = at_named P w (by_of e) (refused_at w e) (done_at w e) r (λ x some lt k. each_at P w (kind_of e) x g c some lt k)

@@ -1,12 +1,12 @@
 -- A link from its receiver's left neighbour, opened since that one has been it: just such a link is kept.
-use Rattle.std.proofs.Common.{◌≡◌, ℕ, zero, suc, ◌<◌, ◌≤◌, true, false, not, nat_eq, nat_le, List, ◌∷◌, length, get_or, Some, max, sym, ap, subst, ◌∙◌, ⊎_elim, arith}
+use Rattle.std.proofs.Common.{◌≡◌, ℕ, zero, suc, ◌<◌, ◌≤◌, true, false, not, nat_eq, nat_le, List, ◌∷◌, length, drop, get_or, Some, max, sym, ap, subst, ◌∙◌, ⊎_elim, arith}
 use Rattle.std.specs.Cmp.{both_ways}
 use Rattle.std.proofs.lemmas.Bool.{not-true, and_parts, false≢true, leb-true, le-leb, cases_lt, and_from}
 use Rattle.std.proofs.lemmas.List.Quantifiers.{position-Some}
 use Rattle.group_view.specs.Ring.{is_in}
 use Rattle.group_view.specs.View.{Group, entry_in}
 use Rattle.group_view.specs.Since as group
-use Rattle.group_view.specs.Since.{no_group, IsSince, KeepsLeft, since_at}
+use Rattle.group_view.specs.Since.{no_group, IsSince, KeepsLeft, KeepsSince, since_at}
 use Rattle.group_view.proofs.History.{Ends}
 use Rattle.group_view.proofs.KeptLeft.{keeps_since, since_keeps}
 use Rattle.group_view.proofs.Passing.{left_inside}
@@ -15,6 +15,7 @@ use Rattle.ring_rules.specs.View.{ids, is_live, left_of, left_by}
 use Rattle.ring_rules.specs.Machine.{Link, World, no_link, member_at, link_at, view_in, newest, left, runs, is_kept}
 use Rattle.ring_rules.specs.Step.{size}
 use Rattle.ring_rules.specs.Event.{is_at_door, at_door}
+use Rattle.ring_rules.specs.Lawful.{ViewsKeepSince}
 use Rattle.ring_rules.specs.OpenLinks.{since_in, comes_from_left}
 use Rattle.ring_rules.proofs.invariants.Good.{Kept, kept_true, true_kept}
 use Rattle.ring_rules.proofs.walks.Views.{left_in_view}
@@ -38,10 +39,14 @@ pub record IsGood (w : World) : Type 0 where
   pub views : HasViews w
   pub next_id : HasNextId w
 
+-- in each of them each entry has since when its left neighbour has been it
+pub views_keep_since : (w : World) → HasViews w → ViewsKeepSince w
+views_keep_since w h = subst (λ vs. KeepsSince (drop 1 vs)) (sym h.is) h.ends.history.dated
+
 -- ---- the test by the left neighbour and since
 
 -- the left neighbour as the group's history has it
-left_of_group : (w : World) (h : HasViews w) (u y : ℕ) → left w u y ≡ group.left_at h.groups u y
+pub left_of_group : (w : World) (h : HasViews w) (u y : ℕ) → left w u y ≡ group.left_at h.groups u y
 unfolding left_by group.left_at
 left_of_group w h u y = ap (λ vs. left_of (get_or vs u no_group) y) h.is
 

@@ -20,7 +20,8 @@ use Rattle.queue_mirror.specs.Master.{lead_by, lead_refusal, or_refused, on_posi
 use Rattle.queue_laws.specs.Moves.{IsLet, may}
 use Rattle.ring_rules.specs.Refusal.{refuse_if, or_else}
 use Rattle.ring_rules.specs.Machine.{World, member_at, view_in}
-use Rattle.ring_rules.specs.Event.{Event, Publish, Get, Pop, Ack, Requeue, Depth, Start, start_refusal, asked_op, MayPublish}
+use Rattle.ring_rules.specs.declared.kind.Asking.TheVariants as asking
+use Rattle.ring_rules.specs.Event.{QueueSaying, Publishes, Does, Saying, Own, OfQueue, start_refusal, asked_op, op_as, queue_message, message_of, MayPublish}
 use Rattle.ring_rules.specs.QueuePart.{part_of}
 use Rattle.ring_rules.proofs.invariants.Happens.{IsGood}
 
@@ -61,51 +62,60 @@ record IsAnswered (m : MirrorState) (g : Group) (x : ℕ) (o : Op) : Type 0 wher
   pub leads : option_map id_number g.master ≡ Some x
   pub may : may o m ≡ true
 
-answered : (m : MirrorState) (g : Group) (x : ℕ) (started : Bool) (e : Event) (o : Op) → asked_op m g x started e ≡ Ok o → IsAnswered m g x o
-answered m g x started (Publish by body) o h =
+answered : (m : MirrorState) (g : Group) (x : ℕ) (started : Bool) (q : QueueSaying) (o : Op) → asked_op m g x started q ≡ Ok o → IsAnswered m g x o
+answered m g x started (Publishes body) o h =
     let k = not_refused (lead_refusal g x started) (Ok (op.Publish (as_position m.queue.next) body)) o h in
     let is : op.Publish (as_position m.queue.next) body ≡ o = cc in
     record { leads = lead_none g.master x _ k.0; may = ap (λ a. may a m) (sym is) ∙ nat_eq-same m.queue.next }
-answered m g x started (Get by) o h =
+answered m g x started (Does asking.Get) o h =
     let k = not_refused (lead_refusal g x started) (on_position op.Deliver (least_of m.queue.items)) o h in
     record { leads = lead_none g.master x _ k.0; may = by_least (least_of m.queue.items) refl k.1 }
   where
     by_least : (r : Result Position Reason) → least_of m.queue.items ≡ r → on_position op.Deliver r ≡ Ok o → may o m ≡ true
     by_least (Ok at) e k = let is : op.Deliver at ≡ o = cc in ap (λ a. may a m) (sym is) ∙ found_ready (least_ready m.queue.items) at e
     by_least (Err r) e k = cc
-answered m g x started (Pop by) o h =
+answered m g x started (Does asking.Pop) o h =
     let k = not_refused (lead_refusal g x started) (on_position op.Drop (least_of m.queue.items)) o h in
     record { leads = lead_none g.master x _ k.0; may = by_least (least_of m.queue.items) refl k.1 }
   where
     by_least : (r : Result Position Reason) → least_of m.queue.items ≡ r → on_position op.Drop r ≡ Ok o → may o m ≡ true
     by_least (Ok at) e k = let is : op.Drop at ≡ o = cc in ap (λ a. may a m) (sym is) ∙ found_ready (least_ready m.queue.items) at e
     by_least (Err r) e k = cc
-answered m g x started (Ack by at) o h =
+answered m g x started (Does (asking.Ack at)) o h =
     let k = not_refused (lead_refusal g x started) (if_delivered (op.Ack at) (delivery_of at.0 m.queue.items)) o h in
     record { leads = lead_none g.master x _ k.0; may = by_delivery (delivery_of at.0 m.queue.items) refl k.1 }
   where
     by_delivery : (r : Result Unit Reason) → delivery_of at.0 m.queue.items ≡ r → if_delivered (op.Ack at) r ≡ Ok o → may o m ≡ true
     by_delivery (Ok tt) e k = let is : op.Ack at ≡ o = cc in ap (λ a. may a m) (sym is) ∙ handed at.0 m.queue.items e
     by_delivery (Err r) e k = cc
-answered m g x started (Requeue by at) o h =
+answered m g x started (Does (asking.Requeue at)) o h =
     let k = not_refused (lead_refusal g x started) (if_delivered (op.Requeue at) (delivery_of at.0 m.queue.items)) o h in
     record { leads = lead_none g.master x _ k.0; may = by_delivery (delivery_of at.0 m.queue.items) refl k.1 }
   where
     by_delivery : (r : Result Unit Reason) → delivery_of at.0 m.queue.items ≡ r → if_delivered (op.Requeue at) r ≡ Ok o → may o m ≡ true
     by_delivery (Ok tt) e k = let is : op.Requeue at ≡ o = cc in ap (λ a. may a m) (sym is) ∙ handed at.0 m.queue.items e
     by_delivery (Err r) e k = cc
-answered m g x started (Depth by) o h =
+answered m g x started (Does asking.Depth) o h =
     let k = not_refused (lead_refusal g x started) (Ok (op.Depth (length m.queue.items))) o h in
     let is : op.Depth (length m.queue.items) ≡ o = cc in
     record { leads = lead_none g.master x _ k.0; may = ap (λ a. may a m) (sym is) ∙ nat_eq-same (length m.queue.items) }
-answered m g x started (Start by) o h =
+answered m g x started (Does asking.Start) o h =
     let k = not_refused (start_refusal g x started) (Ok (op.Start (length m.queue.items))) o h in
     let is : op.Start (length m.queue.items) ≡ o = cc in
     record { leads = start_none g.master x _ k.0; may = ap (λ a. may a m) (sym is) ∙ nat_eq-same (length m.queue.items) }
-answered m g x started e o h = cc
+
+-- an operation that a member may publish is what is asked of its queue
+pub operation_asked : (w : World) (x : ℕ) (o : Op) (s : Saying) → message_of w x s ≡ Ok (Queue o) → (q : QueueSaying) × (op_as w x q ≡ Ok o)
+operation_asked w x o (Own body) k = cc
+operation_asked w x o (OfQueue q) k = (q, by_op (op_as w x q) k)
+  where
+    by_op : (r : Result Op Reason) → queue_message r ≡ Ok (Queue o) → r ≡ Ok o
+    by_op (Ok p) same = cc
+    by_op (Err r) same = cc
 
 pub may_let : (w : World) (x : ℕ) (m : Message) → IsGood w → MayPublish w x m → IsLet (part_of w) x m
 may_let w x (Cast body) g k = tt
 may_let w x (Queue o) g k =
-    let a = answered (member_at w x).mirror (view_in w (member_at w x).version) x (member_at w x).started k.0 o k.1 in
+    let asked = operation_asked w x o k.0 k.1 in
+    let a = answered (member_at w x).mirror (view_in w (member_at w x).version) x (member_at w x).started asked.0 o asked.1 in
     (record { version = (member_at w x).version; there = g.inv.is_ring.held x; master = a.leads }, a.may)

@@ -23,12 +23,12 @@ use Rattle.group_view.specs.Since.{no_group}
 use Rattle.group_view.proofs.Rings.{nat_eq-is}
 use Rattle.group_view.specs.Change.{AreOpeningNames, marked}
 use Rattle.ring_rules.specs.declared.event.Event.{Event}
-use Rattle.ring_rules.specs.declared.event.Event.TheVariants as event
 use Rattle.ring_rules.specs.declared.phase.Ending.TheVariants.{Halted}
 use Rattle.ring_rules.specs.Refusal.{or_else}
 use Rattle.ring_rules.specs.Machine.{World, Member, no_member, member_at, view_in, newest}
 use Rattle.ring_rules.specs.Step.{size, log_of, published, publish_at, with_view, come_to, admitted_view, opening, stop_at}
-use Rattle.ring_rules.specs.Event.{MayPublish, asked_op, start_refusal, refreshed, refusal, effect, IsRun, last, erased_view, synced_view}
+use Rattle.ring_rules.specs.declared.kind.Asking.TheVariants as asking
+use Rattle.ring_rules.specs.Event.{QueueSaying, Publishes, Does, MayPublish, asked_op, start_refusal, refreshed, refusal, effect, IsRun, last, erased_view, synced_view}
 use Rattle.ring_rules.specs.Laws.{GoesOn}
 use Rattle.ring_rules.specs.Work.{is_led, is_late}
 use Rattle.ring_rules.specs.QueueLaws.{LaterMastersStart}
@@ -42,6 +42,7 @@ use Rattle.ring_rules.proofs.runs.AllRuns.{every_run_goes_on}
 use Rattle.ring_rules.proofs.runs.OwnLogs.{cast_log, cast_log_other}
 use Rattle.ring_rules.proofs.runs.Published.{KeepsLogs}
 use Rattle.ring_rules.proofs.work.TellFalls.{led_parts}
+use Rattle.ring_rules.proofs.queue.Asked.{operation_asked}
 use Rattle.ring_rules.proofs.queue.Told.{ToldStep, told_stays, told_now, event_told}
 use Rattle.ring_rules.proofs.runs.InOrder.{run_append, last_append}
 
@@ -52,19 +53,18 @@ refused_none None a o h = refl
 refused_none (Some r) a o h = cc
 
 -- a Start, or by a master that has started where it has to
-starts_or_on_time : (m : MirrorState) (g : Group) (x : ℕ) (started : Bool) (e : Event) (o : Op) → asked_op m g x started e ≡ Ok o → (is_start o ≡ true) ⊎ (lead_refusal g x started ≡ None)
-starts_or_on_time m g x started (event.Publish by body) o h = inr (refused_none (lead_refusal g x started) _ o h)
-starts_or_on_time m g x started (event.Get by) o h = inr (refused_none (lead_refusal g x started) _ o h)
-starts_or_on_time m g x started (event.Pop by) o h = inr (refused_none (lead_refusal g x started) _ o h)
-starts_or_on_time m g x started (event.Ack by at) o h = inr (refused_none (lead_refusal g x started) _ o h)
-starts_or_on_time m g x started (event.Requeue by at) o h = inr (refused_none (lead_refusal g x started) _ o h)
-starts_or_on_time m g x started (event.Depth by) o h = inr (refused_none (lead_refusal g x started) _ o h)
-starts_or_on_time m g x started (event.Start by) o h = by_refusal (start_refusal g x started) h
+starts_or_on_time : (m : MirrorState) (g : Group) (x : ℕ) (started : Bool) (q : QueueSaying) (o : Op) → asked_op m g x started q ≡ Ok o → (is_start o ≡ true) ⊎ (lead_refusal g x started ≡ None)
+starts_or_on_time m g x started (Publishes body) o h = inr (refused_none (lead_refusal g x started) _ o h)
+starts_or_on_time m g x started (Does asking.Get) o h = inr (refused_none (lead_refusal g x started) _ o h)
+starts_or_on_time m g x started (Does asking.Pop) o h = inr (refused_none (lead_refusal g x started) _ o h)
+starts_or_on_time m g x started (Does (asking.Ack at)) o h = inr (refused_none (lead_refusal g x started) _ o h)
+starts_or_on_time m g x started (Does (asking.Requeue at)) o h = inr (refused_none (lead_refusal g x started) _ o h)
+starts_or_on_time m g x started (Does asking.Depth) o h = inr (refused_none (lead_refusal g x started) _ o h)
+starts_or_on_time m g x started (Does asking.Start) o h = by_refusal (start_refusal g x started) h
   where
     by_refusal : (r : Option Reason) → or_refused r (Ok (op.Start (length m.queue.items))) ≡ Ok o → (is_start o ≡ true) ⊎ (lead_refusal g x started ≡ None)
     by_refusal None k = let is : op.Start (length m.queue.items) ≡ o = cc in inl (ap is_start (sym is))
     by_refusal (Some r) k = cc
-starts_or_on_time m g x started e o h = cc
 
 -- ---- views
 
@@ -185,10 +185,11 @@ module _ (w : World) (e : Event) (g : IsGood w) (r : refusal w e ≡ None) (on :
                   }
               by_message (message.Queue o) may is =
                   let grown : ops (log_of w' x) ≡ ops (log_of w x) ++ o ∷ [] = log_is (message.Queue o) is in
+                  let asked = operation_asked w y o may.0 may.1 in
                   record {
                     started = λ _. subst (λ l. l ≢ []) (sym grown) (last_there (ops (log_of w x)) o);
                     starts = λ ne. ap starts grown ∙ by_op ne (ops (log_of w x)) (h.starts x ne) (h.started x)
-                        (starts_or_on_time (member_at w y).mirror (view_in w (member_at w y).version) y (member_at w y).started may.0 o may.1);
+                        (starts_or_on_time (member_at w y).mirror (view_in w (member_at w y).version) y (member_at w y).started asked.0 o asked.1);
                   }
                 where
                   last_there : (l : List Op) (o : Op) → l ++ o ∷ [] ≢ []

@@ -20,28 +20,27 @@ use Rattle.group_view.specs.declared.entry.Entry.{Entry}
 use Rattle.group_view.specs.declared.entry.Mark.{Mark}
 use Rattle.group_view.specs.declared.entry.Mark.TheVariants.{Dead, Erased}
 use Rattle.group_view.specs.Ring.{is_in}
-use Rattle.group_view.specs.View.{Group, ids, entry_in, left_of}
-use Rattle.group_view.specs.Change.{AreOpeningNames, opening_entry, opening_entries, dated, with_mark, with_synced, with_entry, new_entry, remarked, registered, admitted}
+use Rattle.group_view.specs.View.{Group, ids, entry_in}
+use Rattle.group_view.specs.Change.{AreOpeningNames, opening_entry, opening_entries, with_mark, with_synced, with_entry, new_entry, remarked, registered, admitted}
 use Rattle.group_view.proofs.Rings.{nat_eq-is, sym_test}
-use Rattle.group_view.proofs.Passing.{live_in}
 use Rattle.group_view.proofs.Groups.{ids-remarked_group}
-use Rattle.group_view.proofs.Marks.{with_mark_id, dated_keeps}
+use Rattle.group_view.proofs.Marks.{with_mark_id}
 use Rattle.group_view.proofs.History.{entry_keeps}
 use Rattle.group_view.proofs.Syncing.{synced_keeps, same_ring_registered}
-use Rattle.group_view.proofs.Joining.{MayAdmit, entry_other, entry_new, below_at, not_in_after_other, ids-admitted, stays_in}
+use Rattle.group_view.proofs.Joining.{MayAdmit, entry_other, below_at, not_in_after_other, ids-admitted, stays_in}
 use Rattle.ring_rules.specs.declared.event.Event.{Event}
-use Rattle.ring_rules.specs.declared.event.Event.TheVariants.{Cast, Publish, Get, Pop, Ack, Requeue, Depth, Start, Put, Take, TakeEnd, Gain, Stop, Mark as MarkEvent, Refresh, Admit, Pick, Erase, Synced, Refuse}
 use Rattle.ring_rules.specs.Machine.{World, Member, no_member, member_at, view_in, newest, ring}
 use Rattle.ring_rules.specs.Step.{size, log_of, published, publish_at, opening}
 use Rattle.ring_rules.specs.Lawful.{row_of, JoinsInTime}
 use Rattle.ring_rules.specs.Laws.{GoesOn}
-use Rattle.ring_rules.specs.Event.{id_of, of_member, up_refusal, MayPublish, op_at, op_refusal, op_done, by_of, refused_at, done_at, at_found, refusal, effect, IsRun, last, erased_view, synced_view}
+use Rattle.ring_rules.specs.Event.{Saying, Own, OfQueue, kind_of, id_of, of_member, MayPublish, op_as, op_refusal, op_done, queue_message, saying_refusal, said, by_of, refused_as, refused_at, done_as, done_at, at_found, refusal, effect, IsRun, last, erased_view, synced_view}
 use Rattle.ring_rules.proofs.rings.Lists.{get_or_beyond}
 use Rattle.ring_rules.proofs.events.Refusals.{id_within}
 use Rattle.ring_rules.proofs.events.Enabled.{up_none}
 use Rattle.ring_rules.proofs.invariants.FromLeft.{IsGood, HasViews}
 use Rattle.ring_rules.proofs.invariants.Happens.{ring_below, reached_good}
 use Rattle.ring_rules.proofs.invariants.Moves.{Move, event_moves}
+use Rattle.ring_rules.proofs.invariants.NeverSent.{next_joined, admitted_joined}
 use Rattle.ring_rules.proofs.invariants.Newest.{NewestAfter, newest_stays, newest_marked, newest_erased, newest_synced, newest_admitted, newest_after}
 use Rattle.ring_names.specs.declared.numbers.CreditSpec.{CreditSpec}
 use Rattle.ring_rules.proofs.events.First.{first_each}
@@ -49,17 +48,9 @@ use Rattle.ring_rules.proofs.runs.AllRuns.{every_run_goes_on}
 use Rattle.ring_rules.proofs.runs.JoinsInTime.{run_joins_in_time}
 use Rattle.ring_rules.proofs.runs.InOrder.{run_append, last_append}
 use Rattle.ring_rules.proofs.runs.OwnLogs.{cast_log}
-use Rattle.ring_rules.proofs.runs.Published.{KeepsLogs, done_keeps, found_keeps}
-use Rattle.ring_rules.specs.Published.{published_by}
+use Rattle.ring_rules.proofs.runs.Published.{KeepsLogs, KindStep, keeps_all, says_one, kind_step}
 
 -- ---- when an entry came
-
-dated_joined : (version : ℕ) (old new : List Entry) (e : Entry) → (dated version old new e).joined ≡ e.joined
-dated_joined version old new e = by_case (nat_eq (left_of old e.id.0) (left_of new e.id.0))
-  where
-    by_case : (b : Bool) → (cond b e (record e { since = version })).joined ≡ e.joined
-    by_case true = refl
-    by_case false = refl
 
 marked_joined : (m : Mark) (d : ℕ) (e : Entry) → (with_mark m d e).joined ≡ e.joined
 marked_joined m d e = by_case (nat_eq e.id.0 d)
@@ -74,9 +65,6 @@ synced_joined d e = by_case (nat_eq e.id.0 d)
     by_case : (b : Bool) → (cond b (record e { synced = true }) e).joined ≡ e.joined
     by_case true = refl
     by_case false = refl
-
-next_joined : (g : Group) (new : List Entry) (q : ℕ) → (entry_in (map (dated (g.version + 1) g.entries new) new) q).joined ≡ (entry_in new q).joined
-next_joined g new q = entry_keeps (λ (e : Entry). e.joined) (dated (g.version + 1) g.entries new) (dated_keeps (g.version + 1) g.entries new).keeps_id (dated_joined (g.version + 1) g.entries new) new q
 
 remarked_joined : (m : Mark) (g : Group) (d q : ℕ) → (entry_in (remarked m g d).entries q).joined ≡ (entry_in g.entries q).joined
 remarked_joined m g d q = next_joined g (map (with_mark m d) g.entries) q ∙ entry_keeps (λ (e : Entry). e.joined) (with_mark m d) (with_mark_id m d) (marked_joined m d) g.entries q
@@ -134,21 +122,11 @@ admitted_sees g m name k = record {
     apart : (n : ℕ) → is_in n (ids g.entries) ≡ true → nat_eq g.next_id n ≡ false
     apart n i = grind (arith, nat_tests, fresh n i)
 
-    not_yet : is_in g.next_id (ids g.entries) ≡ false
-    not_yet = by_case (is_in g.next_id (ids g.entries)) refl
-      where
-        by_case : (b : Bool) → is_in g.next_id (ids g.entries) ≡ b → b ≡ false
-        by_case false e = refl
-        by_case true e = absurd (let l : nat_lt g.next_id g.next_id ≡ true = fresh g.next_id e in let n : nat_lt g.next_id g.next_id ≡ false = grind (arith, nat_tests) in false≢true (sym n ∙ l))
-
-    came : (entry_in (admitted g m name).entries g.next_id).joined ≡ g.version + 1
-    came = next_joined g new g.next_id ∙ ap (λ (e : Entry). e.joined) (entry_new m the_new g.entries (live_in g.entries m k.lives) not_yet)
-
     by_in : (n : ℕ) (b : Bool) → is_in n (ids g.entries) ≡ b → (c : Bool) → nat_eq n g.next_id ≡ c → is_in n (ids (admitted g m name).entries) ≡ true
         → (b ≡ true) ⊎ ((g.version < (entry_in (admitted g m name).entries n).joined) × ((entry_in (admitted g m name).entries n).joined ≤ g.version + 1))
     by_in n true eb c ec i = inl refl
     by_in n false eb true ec i =
-        let at : (entry_in (admitted g m name).entries n).joined ≡ g.version + 1 = ap (λ q. (entry_in (admitted g m name).entries q).joined) (nat_eq-is n g.next_id ec) ∙ came in
+        let at : (entry_in (admitted g m name).entries n).joined ≡ g.version + 1 = ap (λ q. (entry_in (admitted g m name).entries q).joined) (nat_eq-is n g.next_id ec) ∙ admitted_joined g m name k in
         inr (omega (arith, at), omega (arith, at))
     by_in n false eb false ec i = absurd (false≢true (sym (ap (is_in n) (ids-admitted g m name k) ∙ not_in_after_other m g.next_id n (ids g.entries) ec eb) ∙ i))
 
@@ -179,45 +157,23 @@ pub data ToldStep (w w' : World) : Type 0 where
   told_now : (y : ℕ) (m : Message) → 1 ≤ y → y < size w → MayPublish w y m → w' ≡ publish_at w y m → ToldStep w w'
 
 pub event_told : (w : World) (e : Event) → refusal w e ≡ None → ToldStep w (effect w e)
-event_told w e r = by_event e r
+event_told w e r = by_id (id_of w (by_of e)) refl r
   where
-    other : (e : Event) → published_by (by_of e) e ≡ [] → ToldStep w (effect w e)
-    other e none = told_stays (found_keeps w (id_of w (by_of e)) (done_at w e) (λ y. done_keeps w e y none))
-
-    casts : (by body : List ℕ) (o : Option ℕ) → id_of w by ≡ o → of_member o (refused_at w (Cast by body)) ≡ None → ToldStep w (at_found o w (done_at w (Cast by body)))
-    casts by body None found k = cc
-    casts by body (Some y) found k = let i = id_within w by y found in told_now y (message.Cast body) i.0 i.1 tt refl
-
-    ops_told : (e : Event) → ((y : ℕ) → done_at w e y ≡ op_done w y (op_at w e y)) → ((y : ℕ) → refused_at w e y ≡ up_refusal w y (op_refusal (op_at w e y)))
-        → (o : Option ℕ) → id_of w (by_of e) ≡ o → of_member o (refused_at w e) ≡ None → ToldStep w (at_found o w (done_at w e))
-    ops_told e does asks None found k = cc
-    ops_told e does asks (Some y) found k = subst (ToldStep w) (sym (does y)) (by_op (op_at w e y) refl (up_none w y (op_refusal (op_at w e y)) (sym (asks y) ∙ k)).1)
+    by_id : (o : Option ℕ) → id_of w (by_of e) ≡ o → of_member o (refused_at w e) ≡ None → ToldStep w (at_found o w (done_at w e))
+    by_id None found h = cc
+    by_id (Some y) found h = by_step (kind_step w y (kind_of e))
       where
-        by_op : (o : Result Op Reason) → op_at w e y ≡ o → op_refusal o ≡ None → ToldStep w (op_done w y o)
-        by_op (Ok o) is h = let i = id_within w (by_of e) y found in told_now y (message.Queue o) i.0 i.1 (e, is) refl
-        by_op (Err r) is h = cc
+        by_saying : (s : Saying) → saying_refusal w y s ≡ None → ToldStep w (said w y s)
+        by_saying (Own body) k = let i = id_within w (by_of e) y found in told_now y (message.Cast body) i.0 i.1 (Own body, refl) refl
+        by_saying (OfQueue q) k = by_op (op_as w y q) refl k
+          where
+            by_op : (o : Result Op Reason) → op_as w y q ≡ o → op_refusal o ≡ None → ToldStep w (op_done w y o)
+            by_op (Ok o) is n = let i = id_within w (by_of e) y found in told_now y (message.Queue o) i.0 i.1 (OfQueue q, ap queue_message is) refl
+            by_op (Err q) is n = cc
 
-    by_event : (e : Event) → refusal w e ≡ None → ToldStep w (effect w e)
-    by_event (Cast by body) k = casts by body (id_of w by) refl k
-    by_event (Publish by body) k = ops_told (Publish by body) (λ _. refl) (λ _. refl) (id_of w by) refl k
-    by_event (Get by) k = ops_told (Get by) (λ _. refl) (λ _. refl) (id_of w by) refl k
-    by_event (Pop by) k = ops_told (Pop by) (λ _. refl) (λ _. refl) (id_of w by) refl k
-    by_event (Ack by at) k = ops_told (Ack by at) (λ _. refl) (λ _. refl) (id_of w by) refl k
-    by_event (Requeue by at) k = ops_told (Requeue by at) (λ _. refl) (λ _. refl) (id_of w by) refl k
-    by_event (Depth by) k = ops_told (Depth by) (λ _. refl) (λ _. refl) (id_of w by) refl k
-    by_event (Start by) k = ops_told (Start by) (λ _. refl) (λ _. refl) (id_of w by) refl k
-    by_event (Put by) k = other (Put by) refl
-    by_event (Take by) k = other (Take by) refl
-    by_event (TakeEnd by) k = other (TakeEnd by) refl
-    by_event (Gain by) k = other (Gain by) refl
-    by_event (Stop by) k = other (Stop by) refl
-    by_event (MarkEvent by dead) k = other (MarkEvent by dead) refl
-    by_event (Refresh by version) k = other (Refresh by version) refl
-    by_event (Admit by name) k = other (Admit by name) refl
-    by_event (Pick by) k = other (Pick by) refl
-    by_event (Erase by origin) k = other (Erase by origin) refl
-    by_event (Synced by) k = other (Synced by) refl
-    by_event (Refuse code inner) k = other (Refuse code inner) refl
+        by_step : KindStep w y (kind_of e) → ToldStep w (done_as w y (kind_of e))
+        by_step (keeps_all kept nothing) = told_stays kept
+        by_step (says_one s same) = subst (λ k. ToldStep w (done_as w y k)) (sym same) (by_saying s (up_none w y _ (ap (refused_as w y) (sym same) ∙ h)).1)
 
 -- ---- logs that grow
 

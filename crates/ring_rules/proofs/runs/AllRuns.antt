@@ -4,7 +4,10 @@ use Rattle.ring_names.specs.declared.numbers.CreditSpec.{CreditSpec}
 use Rattle.group_view.specs.Change.{AreOpeningNames}
 use Rattle.ring_rules.specs.Step.{opening}
 use Rattle.ring_rules.specs.Event.{Event, IsRun, last}
+use Rattle.ring_rules.specs.Lawful.{HearsAllSince}
 use Rattle.ring_rules.specs.Laws.{IsLawful, GoesOn}
+use Rattle.ring_rules.proofs.invariants.FromLeft.{views_keep_since}
+use Rattle.ring_rules.proofs.invariants.Happens.{reached_good}
 use Rattle.ring_rules.proofs.walks.OpenWalk.{open_walk_never_rises}
 use Rattle.ring_rules.proofs.runs.NoGap.{no_gap, no_gap_in_runs, reached_lines}
 use Rattle.ring_rules.proofs.runs.OwnLogs.{run_has_own_log, run_stays_within_logs}
@@ -14,9 +17,9 @@ use Rattle.ring_rules.proofs.runs.Erased.{run_erased_agrees, run_stays_erased}
 use Rattle.ring_rules.proofs.runs.JoinsInTime.{run_joins_in_time}
 use Rattle.ring_rules.proofs.runs.BornStays.{run_keeps_born}
 use Rattle.ring_rules.proofs.runs.Leads.{run_leads_on}
-use Rattle.ring_rules.proofs.runs.Guarantee.{hears_all_since}
+use Rattle.ring_rules.proofs.runs.Guarantee.{hears_all_since, hears_confirmed}
+use Rattle.ring_rules.proofs.runs.LinksStand.{reached_links_stand}
 use Rattle.ring_rules.proofs.runs.NeverFalls.{run_never_falls}
-use Rattle.ring_rules.proofs.compact.AllCompact.{reached_compact}
 use Rattle.ring_rules.proofs.runs.InOrder.{HasNoGap, run_hears_in_order, run_hears_what_follows}
 
 runs_have_no_gap : (credit : CreditSpec) (names : List (List ℕ)) → AreOpeningNames names → (es : List Event) → IsRun (opening credit names) es → HasNoGap (last (opening credit names) es)
@@ -26,10 +29,8 @@ runs_have_no_gap credit names are es r = λ y s m p some within own.
 pub every_state_lawful : (credit : CreditSpec) (names : List (List ℕ)) (events : List Event) → AreOpeningNames names → IsRun (opening credit names) events → IsLawful credit.initial (last (opening credit names) events)
 every_state_lawful credit names events are run = record {
   walks = λ origin some within. open_walk_never_rises credit names events origin are run some within;
-  all_since = hears_all_since (last (opening credit names) events)
-      (run_hears_in_order credit names events are (runs_have_no_gap credit names are) run)
-      (run_stays_within_logs credit names events are run)
-      (run_joins_in_time credit names events are run);
+  all_since = heard_since;
+  heard = hears_confirmed (last (opening credit names) events) (run_confirmed_everywhere credit names events are run) heard_since;
   no_gap = no_gap_in_runs credit names events are run;
   in_order = run_hears_in_order credit names events are (runs_have_no_gap credit names are) run;
   within = run_stays_within_logs credit names events are run;
@@ -37,9 +38,16 @@ every_state_lawful credit names events are run = record {
   confirmed = run_confirmed_everywhere credit names events are run;
   credit = run_keeps_credit credit names events are run;
   erased = run_erased_agrees credit names events are run;
+  since = views_keep_since (last (opening credit names) events) (reached_good credit names events are run).views;
   joins = run_joins_in_time credit names events are run;
-  compact = reached_compact credit names events are run;
+  links = reached_links_stand credit names events are run;
 }
+  where
+    heard_since : HearsAllSince (last (opening credit names) events)
+    heard_since = hears_all_since (last (opening credit names) events)
+        (run_hears_in_order credit names events are (runs_have_no_gap credit names are) run)
+        (run_stays_within_logs credit names events are run)
+        (run_joins_in_time credit names events are run)
 
 pub every_run_goes_on : (credit : CreditSpec) (names : List (List ℕ)) (earlier later : List Event) → AreOpeningNames names → IsRun (opening credit names) earlier → IsRun (last (opening credit names) earlier) later
     → GoesOn (last (opening credit names) earlier) (last (last (opening credit names) earlier) later)

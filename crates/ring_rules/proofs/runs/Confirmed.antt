@@ -1,4 +1,4 @@
--- A message that is confirmed is everywhere.
+-- What has come round to a publisher every running member counts as received.
 use Rattle.std.proofs.Common.{◌≡◌, ℕ, ◌≤◌, true, false, List, ◌++◌, refl, subst, ◌∙◌, arith, ◌<◌, Bool, Some, sym, ap, set, get_or, length}
 use Rattle.std.proofs.lemmas.Bool.{false≢true}
 use Rattle.std.proofs.lemmas.List.{length-set}
@@ -177,6 +177,6 @@ good_confirmed w g h = record {
 pub run_stopped_confirms : (credit : CreditSpec) (names : List (List ℕ)) (es : List Event) → AreOpeningNames names → IsRun (opening credit names) es → StoppedConfirms (last (opening credit names) es)
 run_stopped_confirms credit names es are r = run_moves StoppedConfirms move_confirms (opening credit names) es (opening_good credit names are) r (opening_confirms credit names)
 
--- confirmed means everywhere
+-- the law in every state of every run
 pub run_confirmed_everywhere : (credit : CreditSpec) (names : List (List ℕ)) (es : List Event) → AreOpeningNames names → IsRun (opening credit names) es → ConfirmedEverywhere (last (opening credit names) es)
 run_confirmed_everywhere credit names es are r = good_confirmed (last (opening credit names) es) (reached_good credit names es are r) (run_stopped_confirms credit names es are r)

@@ -14,8 +14,10 @@ use Rattle.group_view.specs.Change.{marked}
 use Rattle.ring_rules.specs.View.{right_of}
 use Rattle.ring_rules.specs.Machine.{Phase, Waiting, Up, Stopped, Moved, Halted, Member, Link, World, no_member, member_at, link_at, view_in, newest, oldest}
 use Rattle.ring_rules.specs.Step.{size, log_of, taker, begun, with_current, finished, popped, stopped, ended, with_member, with_link, with_view, publish_at, put_on, gain_on, published, current_is, leave_link, stop_at, look_at, moved_to, opened_link, open_to, joiner, come_to}
-use Rattle.ring_rules.specs.Event.{Event, Cast, Publish, Get, Pop, Ack, Requeue, Depth, Start, op_at, op_refusal, op_done, up_refusal, Put, Take, TakeEnd, Gain, Stop, Mark, Refresh, Admit, Pick, Erase, Synced, synced_view, Refuse, id_of, of_member, by_of, refused_at, refreshed, erased_view, at_found, at_door, taken_by, done_at, refusal, effect, IsRun, last}
-use Rattle.ring_rules.specs.Published.{told_of, one_of, published_by, published_in}
+use Rattle.ring_rules.specs.declared.kind.LinkStep.TheVariants as step
+use Rattle.ring_rules.specs.declared.kind.ViewChange.TheVariants as change
+use Rattle.ring_rules.specs.Event.{Event, Saying, Own, OfQueue, Kind, Says, Steps, Changes, Stops, Reads, Tells, kind_of, op_as, op_refusal, op_done, saying_refusal, said, synced_view, id_of, of_member, by_of, refused_as, refused_at, refreshed, erased_view, at_found, at_door, taken_by, done_as, done_at, refusal, effect, IsRun, last}
+use Rattle.ring_rules.specs.Published.{told_of, told_of_saying, one_of, published_as, published_by, published_in}
 use Rattle.ring_rules.proofs.events.Names.{same_bytes, own_bytes}
 use Rattle.ring_rules.proofs.events.Enabled.{up_none}
 use Rattle.ring_rules.proofs.events.Leaves.{member_leaves, with_opened, come_each}
@@ -98,28 +100,28 @@ take_keeps Waiting w y s = link_keeps w _ s (popped (link_at w s)) (write_keeps 
 take_keeps Up w y s = link_keeps w _ s (popped (link_at w s)) (write_keeps w y (taker w y s) refl refl refl refl)
 take_keeps Stopped w y s = all_keep w
 
--- what an event does that publishes nothing
-pub done_keeps : (w : World) (e : Event) (x : ℕ) → published_by (by_of e) e ≡ [] → KeepsLogs w (done_at w e x)
-done_keeps w (Put by) x none = found_keeps w (member_at w x).out (put_on w x) (λ o. link_keeps w w o _ (all_keep w))
-done_keeps w (Take by) x none = found_keeps w (member_at w x).current (taken_by (member_at w x).phase w x) (λ s. take_keeps (member_at w x).phase w x s)
-done_keeps w (TakeEnd by) x none = found_keeps w (member_at w x).current (leave_link w x) (λ s. link_keeps w (current_is w x None) s (finished (link_at w s)) (write_keeps w x (with_current None (member_at w x)) refl refl refl refl))
-done_keeps w (Gain by) x none = found_keeps w (member_at w x).out (gain_on w) (λ o. link_keeps w w o _ (all_keep w))
-done_keeps w (Stop by) x none = end_composed (KeepsLogs w) Halted (stop_at w x) (member_at w x).out (λ o e h. link_keeps w (stop_at w x) o _ h) (write_keeps w x (stopped (member_at w x)) refl refl refl refl)
-done_keeps w (Mark by dead) x none = found_keeps w (id_of w dead) _ (λ d. view_keeps w x (marked (view_in w (newest w)) d))
-done_keeps w (Refresh by version) x none = refresh_keeps w x version
-done_keeps w (Admit by name) x none = then_keep w (come_to w x name) (refreshed (come_to w x name) x (newest w + 1)) (come_keeps w x name) (refresh_keeps (come_to w x name) x (newest w + 1))
-done_keeps w (Pick by) x none = found_keeps w (at_door w x) _ (λ s. write_keeps w x (with_current (Some s) (member_at w x)) refl refl refl refl)
-done_keeps w (Erase by origin) x none = found_keeps w (id_of w origin) _ (λ d. view_keeps w x (erased_view w d))
-done_keeps w (Synced by) x none = view_keeps w x (synced_view w x)
-done_keeps w (Refuse code inner) x none = all_keep w
-done_keeps w e x none = absurd (one_some (by_of e) _ none)
-  where
-    one_some : (by : List ℕ) (m : Option (List ℕ)) → one_of by by m ≡ [] → ⊥
-    one_some by m h = some_none (bytes_eq by by) (own_bytes by) h
-      where
-        some_none : (b : Bool) → b ≡ true → (if b then m ∷ [] else []) ≡ [] → ⊥
-        some_none true e k = cc
-        some_none false e k = false≢true e
+-- what an event of this kind of member x leaves of the logs: they stay, and nothing is published; or the member says something
+pub data KindStep (w : World) (x : ℕ) (k : Kind) : Type 0 where
+  keeps_all : KeepsLogs w (done_as w x k) → ((name by : List ℕ) → published_as name by k ≡ []) → KindStep w x k
+  says_one : (s : Saying) → k ≡ Says s → KindStep w x k
+
+pub kind_step : (w : World) (x : ℕ) (k : Kind) → KindStep w x k
+kind_step w x (Says s) = says_one s refl
+kind_step w x (Steps step.Put) = keeps_all (found_keeps w (member_at w x).out (put_on w x) (λ o. link_keeps w w o _ (all_keep w))) (λ _ _. refl)
+kind_step w x (Steps step.Take) = keeps_all (found_keeps w (member_at w x).current (taken_by (member_at w x).phase w x) (λ s. take_keeps (member_at w x).phase w x s)) (λ _ _. refl)
+kind_step w x (Steps step.TakeEnd) =
+    keeps_all (found_keeps w (member_at w x).current (leave_link w x) (λ s. link_keeps w (current_is w x None) s (finished (link_at w s)) (write_keeps w x (with_current None (member_at w x)) refl refl refl refl))) (λ _ _. refl)
+kind_step w x (Steps step.Gain) = keeps_all (found_keeps w (member_at w x).out (gain_on w) (λ o. link_keeps w w o _ (all_keep w))) (λ _ _. refl)
+kind_step w x (Steps step.Pick) = keeps_all (found_keeps w (at_door w x) _ (λ s. write_keeps w x (with_current (Some s) (member_at w x)) refl refl refl refl)) (λ _ _. refl)
+kind_step w x (Changes (change.Mark dead)) = keeps_all (found_keeps w (id_of w dead) _ (λ d. view_keeps w x (marked (view_in w (newest w)) d))) (λ _ _. refl)
+kind_step w x (Changes (change.Erase origin)) = keeps_all (found_keeps w (id_of w origin) _ (λ d. view_keeps w x (erased_view w d))) (λ _ _. refl)
+kind_step w x (Changes (change.Admit name)) =
+    keeps_all (then_keep w (come_to w x name) (refreshed (come_to w x name) x (newest w + 1)) (come_keeps w x name) (refresh_keeps (come_to w x name) x (newest w + 1))) (λ _ _. refl)
+kind_step w x (Changes change.Register) = keeps_all (view_keeps w x (synced_view w x)) (λ _ _. refl)
+kind_step w x Stops =
+    keeps_all (end_composed (KeepsLogs w) Halted (stop_at w x) (member_at w x).out (λ o e h. link_keeps w (stop_at w x) o _ h) (write_keeps w x (stopped (member_at w x)) refl refl refl refl)) (λ _ _. refl)
+kind_step w x (Reads version) = keeps_all (refresh_keeps w x version) (λ _ _. refl)
+kind_step w x (Tells code inner) = keeps_all (all_keep w) (λ _ _. refl)
 
 -- ---- a message
 
@@ -161,48 +163,28 @@ message_grows w e m y x says named found some lt = record {
 
 -- an event that may happen
 event_grows : (w : World) (e : Event) (x : ℕ) → AreNamed w → refusal w e ≡ None → 1 ≤ x → x < size w → LogGrows w e (effect w e) x
-event_grows w e x named r some lt = by_event e r
+event_grows w e x named r some lt = by_id (id_of w (by_of e)) refl r
   where
-    other : (e : Event) → published_by (by_of e) e ≡ [] → published_by (member_at w x).name e ≡ [] → LogGrows w e (effect w e) x
-    other e none nothing =
-        let k = found_keeps w (id_of w (by_of e)) (done_at w e) (λ y. done_keeps w e y none) in
-        record { many = k.many; name = k.name x lt; log = ap (map told_of) (k.log x) ∙ sym (append-nil (map told_of (log_of w x))) ∙ ap (λ ms. map told_of (log_of w x) ++ ms) (sym nothing) }
-
-    casts : (by body : List ℕ) (o : Option ℕ) → id_of w by ≡ o → of_member o (refused_at w (Cast by body)) ≡ None → LogGrows w (Cast by body) (at_found o w (done_at w (Cast by body))) x
-    casts by body None found k = cc
-    casts by body (Some y) found k = message_grows w (Cast by body) (message.Cast body) y x (λ _. refl) named found some lt
-
-    -- what is done to the queue
-    ops : (e : Event) → ((name : List ℕ) → published_by name e ≡ one_of name (by_of e) None) → ((y : ℕ) → done_at w e y ≡ op_done w y (op_at w e y)) → ((y : ℕ) → refused_at w e y ≡ up_refusal w y (op_refusal (op_at w e y)))
-        → (o : Option ℕ) → id_of w (by_of e) ≡ o → of_member o (refused_at w e) ≡ None → LogGrows w e (at_found o w (done_at w e)) x
-    ops e says does asks None found k = cc
-    ops e says does asks (Some y) found k = subst (λ u. LogGrows w e u x) (sym (does y)) (by_op (op_at w e y) (up_none w y (op_refusal (op_at w e y)) (sym (asks y) ∙ k)).1)
+    by_id : (o : Option ℕ) → id_of w (by_of e) ≡ o → of_member o (refused_at w e) ≡ None → LogGrows w e (at_found o w (done_at w e)) x
+    by_id None found h = cc
+    by_id (Some y) found h = by_step (kind_step w y (kind_of e))
       where
-        by_op : (o : Result Op Reason) → op_refusal o ≡ None → LogGrows w e (op_done w y o) x
-        by_op (Ok o) h = message_grows w e (message.Queue o) y x says named found some lt
-        by_op (Err r) h = cc
+        by_saying : (s : Saying) → ((name : List ℕ) → published_by name e ≡ one_of name (by_of e) (told_of_saying s)) → saying_refusal w y s ≡ None → LogGrows w e (said w y s) x
+        by_saying (Own body) says k = message_grows w e (message.Cast body) y x says named found some lt
+        by_saying (OfQueue q) says k = by_op (op_as w y q) k
+          where
+            by_op : (o : Result Op Reason) → op_refusal o ≡ None → LogGrows w e (op_done w y o) x
+            by_op (Ok o) n = message_grows w e (message.Queue o) y x says named found some lt
+            by_op (Err q) n = cc
 
-    by_event : (e : Event) → refusal w e ≡ None → LogGrows w e (effect w e) x
-    by_event (Cast by body) k = casts by body (id_of w by) refl k
-    by_event (Publish by body) k = ops (Publish by body) (λ _. refl) (λ _. refl) (λ _. refl) (id_of w by) refl k
-    by_event (Get by) k = ops (Get by) (λ _. refl) (λ _. refl) (λ _. refl) (id_of w by) refl k
-    by_event (Pop by) k = ops (Pop by) (λ _. refl) (λ _. refl) (λ _. refl) (id_of w by) refl k
-    by_event (Ack by at) k = ops (Ack by at) (λ _. refl) (λ _. refl) (λ _. refl) (id_of w by) refl k
-    by_event (Requeue by at) k = ops (Requeue by at) (λ _. refl) (λ _. refl) (λ _. refl) (id_of w by) refl k
-    by_event (Depth by) k = ops (Depth by) (λ _. refl) (λ _. refl) (λ _. refl) (id_of w by) refl k
-    by_event (Start by) k = ops (Start by) (λ _. refl) (λ _. refl) (λ _. refl) (id_of w by) refl k
-    by_event (Put by) k = other (Put by) refl refl
-    by_event (Take by) k = other (Take by) refl refl
-    by_event (TakeEnd by) k = other (TakeEnd by) refl refl
-    by_event (Gain by) k = other (Gain by) refl refl
-    by_event (Stop by) k = other (Stop by) refl refl
-    by_event (Mark by dead) k = other (Mark by dead) refl refl
-    by_event (Refresh by version) k = other (Refresh by version) refl refl
-    by_event (Admit by name) k = other (Admit by name) refl refl
-    by_event (Pick by) k = other (Pick by) refl refl
-    by_event (Erase by origin) k = other (Erase by origin) refl refl
-    by_event (Synced by) k = other (Synced by) refl refl
-    by_event (Refuse code inner) k = other (Refuse code inner) refl refl
+        by_step : KindStep w y (kind_of e) → LogGrows w e (done_as w y (kind_of e)) x
+        by_step (keeps_all kept nothing) = record {
+          many = kept.many;
+          name = kept.name x lt;
+          log = ap (map told_of) (kept.log x) ∙ sym (append-nil (map told_of (log_of w x))) ∙ ap (λ ms. map told_of (log_of w x) ++ ms) (sym (nothing (member_at w x).name (by_of e)));
+        }
+        by_step (says_one s same) = subst (λ k. LogGrows w e (done_as w y k) x) (sym same)
+            (by_saying s (λ name. ap (published_as name (by_of e)) same) (up_none w y _ (ap (refused_as w y) (sym same) ∙ h)).1)
 
 -- ---- runs
 

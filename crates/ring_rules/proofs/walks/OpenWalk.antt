@@ -227,7 +227,7 @@ same_round t p y ys xs d e =
     passing us = ap (λ b. cond b (y ∷ filter t us) (filter t us)) (first_passes t y ys (rotated p xs) e)
 
 -- the sender of a link stands in the newest ring
-sender_stands : (w : World) (s : ℕ) → IsGood w → s < length w.links → is_in (link_at w s).sender (ring w) ≡ true
+pub sender_stands : (w : World) (s : ℕ) → IsGood w → s < length w.links → is_in (link_at w s).sender (ring w) ≡ true
 sender_stands w s h there = h.inv.history.grows (link_at w s).sender (link_at w s).opened (newest w) (sender_known w s h there) (h.inv.linked.opened s there) (omega arith)
 
 -- what is early is not late

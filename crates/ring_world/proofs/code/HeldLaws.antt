@@ -1,13 +1,14 @@
 -- What the laws say of each state that a World holds.
-use Rattle.std.proofs.Common.{◌≡◌, ℕ, ◌<◌, ◌≤◌, List, [], ◌∷◌, ◌++◌, length, ◌+◌, Option, Some, None, refl, sym, subst}
+use Rattle.std.proofs.Common.{◌≡◌, ℕ, Bool, ◌<◌, ◌≤◌, List, [], ◌∷◌, ◌++◌, length, ◌+◌, Option, Some, None, refl, sym, subst}
 use Rattle.std.specs.Coded.{le_prop}
 use Rattle.std.proofs.Math.Logic.{∥∥₁_elim}
-use Rattle.ring_rules.specs.Machine.{Packet, Sending, World, member_at, link_at, row_at}
+use Rattle.ring_rules.specs.Machine.{Packet, World, member_at, link_at, row_at}
 use Rattle.ring_rules.specs.Step.{size, log_of, opening}
+use Rattle.ring_rules.specs.declared.phase.Ending.{Ending}
 use Rattle.ring_rules.specs.Rows.{messages_between}
 use Rattle.ring_rules.specs.Lawful.{PacketsAreWithin}
 use Rattle.ring_rules.specs.Laws.{IsLawful}
-use Rattle.ring_rules.specs.Compact.{passed, IsInTurn}
+use Rattle.ring_rules.specs.LinksStand.{LinksStand, longer_walk}
 use Rattle.ring_rules.specs.OpenLinks.{the_walk, walk_named, FallsFrom, NeverRises}
 use Rattle.ring_rules.specs.Event.{id_of, refusal, effect, last, refusals_of}
 use Rattle.ring_rules.specs.declared.event.Event.{Event}
@@ -55,11 +56,17 @@ lists_set xs ys = hlevel props
 messages_set : (m k : Message) → IsProp (m ≡ k)
 messages_set m k = hlevel props
 
-sides_set : (a b : Sending) → IsProp (a ≡ b)
-sides_set a b = hlevel props
+tests_set : (a b : Bool) → IsProp (a ≡ b)
+tests_set a b = hlevel props
 
-states_set : (v w : World) → IsProp (v ≡ w)
-states_set v w = hlevel props
+endings_set : (a b : Option Ending) → IsProp (a ≡ b)
+endings_set a b = hlevel props
+
+outs_set : (a b : Option ℕ) → IsProp (a ≡ b)
+outs_set a b = hlevel props
+
+never_prop : IsProp ⊥
+never_prop a b = absurd a
 
 reached_hears : (seen : WorldSeen) (n q p : ℕ) → IsReachedIn seen n → (row_at (member_at seen.ring q) p).heard ≡ messages_between (row_at (member_at seen.ring q) p).base (row_at (member_at seen.ring q) p).got (log_of seen.ring p)
 reached_hears seen n q p r =
@@ -82,10 +89,52 @@ packets_from seen n r m p [] f = tt
 packets_from seen n r m p (k ∷ ks) f =
     (record { lo = ∥∥₁_elim r le_prop (λ h. (f h).0.lo); got = ∥∥₁_elim r le_prop (λ h. (f h).0.got); forgot = ∥∥₁_elim r le_prop (λ h. (f h).0.forgot) }, packets_from seen n r m p ks (λ h. (f h).1))
 
--- the packets of a link go in turn
-in_turn_from : (seen : WorldSeen) (n : ℕ) → ∥ IsReachedIn seen n ∥₁ → (before : Sending) (ks : List Packet) (end : Sending) → (IsReachedIn seen n → IsInTurn before ks end) → IsInTurn before ks end
-in_turn_from seen n r before [] end f = ∥∥₁_elim r (sides_set _ _) f
-in_turn_from seen n r before (k ∷ ks) end f = (λ p. ∥∥₁_elim r (ℕ_set _ _) (λ h. (f h).0 p), in_turn_from seen n r (passed k) ks end (λ h. (f h).1))
+-- the links stand as they do
+links_from : (seen : WorldSeen) (n : ℕ) (v : World) → ∥ IsReachedIn seen n ∥₁ → (IsReachedIn seen n → LinksStand v) → LinksStand v
+links_from seen n v r f = record {
+  current = λ y s a b. record {
+    there = ∥∥₁_elim r le_prop (λ h. ((f h).current y s a b).there);
+    receiver = ∥∥₁_elim r (ℕ_set _ _) (λ h. ((f h).current y s a b).receiver);
+    sender = ∥∥₁_elim r (ℕ_set _ _) (λ h. ((f h).current y s a b).sender);
+    since = ∥∥₁_elim r le_prop (λ h. ((f h).current y s a b).since);
+    upto = ∥∥₁_elim r le_prop (λ h. ((f h).current y s a b).upto);
+    goes_on = ∥∥₁_elim r (tests_set _ _) (λ h. ((f h).current y s a b).goes_on);
+  };
+  waits = λ y a. record {
+    some = ∥∥₁_elim r (tests_set _ _) (λ h. ((f h).waits y a).some);
+    opened = λ s b. ∥∥₁_elim r (ℕ_set _ _) (λ h. ((f h).waits y a).opened s b);
+    first = λ s b. ∥∥₁_elim r (tests_set _ _) (λ h. ((f h).waits y a).first s b);
+  };
+  out = λ x o a b. record {
+    there = ∥∥₁_elim r le_prop (λ h. ((f h).out x o a b).there);
+    sender = ∥∥₁_elim r (ℕ_set _ _) (λ h. ((f h).out x o a b).sender);
+    receiver = ∥∥₁_elim r (ℕ_set _ _) (λ h. ((f h).out x o a b).receiver);
+    goes_on = ∥∥₁_elim r (endings_set _ _) (λ h. ((f h).out x o a b).goes_on);
+  };
+  nowhere = λ x a b. record {
+    joined = ∥∥₁_elim r (tests_set _ _) (λ h. ((f h).nowhere x a b).joined);
+    version = ∥∥₁_elim r (ℕ_set _ _) (λ h. ((f h).nowhere x a b).version);
+    none = λ s l is. ∥∥₁_elim r never_prop (λ h. ((f h).nowhere x a b).none s l is);
+  };
+  silent = λ x a. ∥∥₁_elim r (outs_set _ _) (λ h. (f h).silent x a);
+  periods = record {
+    sender = λ s l. ∥∥₁_elim r (ℕ_set _ _) (λ h. (f h).periods.sender s l);
+    since = λ s l. ∥∥₁_elim r le_prop (λ h. (f h).periods.since s l);
+    rising = λ i j a b c. ∥∥₁_elim r le_prop (λ h. (f h).periods.rising i j a b c);
+    apart = λ i j a b c. ∥∥₁_elim r le_prop (λ h. (f h).periods.apart i j a b c);
+  };
+  longer = λ p a b. never_rises seen n r (longer_walk v p) (λ h. (f h).longer p a b);
+  door = λ y s a b c d. record {
+    untaken = ∥∥₁_elim r (tests_set _ _) (λ h. ((f h).door y s a b c d).untaken);
+    some = ∥∥₁_elim r (tests_set _ _) (λ h. ((f h).door y s a b c d).some);
+    lo = λ p e g. ∥∥₁_elim r le_prop (λ h. ((f h).door y s a b c d).lo p e g);
+  };
+  between_gone = λ y p a b. record {
+    stands = ∥∥₁_elim r (tests_set _ _) (λ h. ((f h).between_gone y p a b).stands);
+    gone = ∥∥₁_elim r (tests_set _ _) (λ h. ((f h).between_gone y p a b).gone);
+  };
+  retired = λ y p a b c d. ∥∥₁_elim r (ℕ_set _ _) (λ h. (f h).retired y p a b c d);
+}
 
 -- what is known of some run is known
 lawful_from : (seen : WorldSeen) (n i : ℕ) (v : World) → ∥ IsReachedIn seen n ∥₁ → (IsReachedIn seen n → IsLawful i v) → IsLawful i v
@@ -96,6 +145,16 @@ lawful_from seen n i v r f = record {
   all_since = λ q p k a b. record {
     there = ∥∥₁_elim r le_prop (λ h. ((f h).all_since q p k a b).there);
     same = λ m. ∥∥₁_elim r (messages_set _ _) (λ h. ((f h).all_since q p k a b).same m);
+  };
+  heard = λ q p k a b c d e. record {
+    there = ∥∥₁_elim r le_prop (λ h. ((f h).heard q p k a b c d e).there);
+    same = λ m. ∥∥₁_elim r (messages_set _ _) (λ h. ((f h).heard q p k a b c d e).same m);
+  };
+  since = λ u y a b c. record {
+    first = ∥∥₁_elim r le_prop (λ h. ((f h).since u y a b c).first);
+    upto = ∥∥₁_elim r le_prop (λ h. ((f h).since u y a b c).upto);
+    same = λ k d e. ∥∥₁_elim r (ℕ_set _ _) (λ h. ((f h).since u y a b c).same k d e);
+    least = λ k d e. ∥∥₁_elim r le_prop (λ h. ((f h).since u y a b c).least k d e);
   };
   within = record {
     rows = λ q p. record { got = ∥∥₁_elim r le_prop (λ h. ((f h).within.rows q p).got); forgot = ∥∥₁_elim r le_prop (λ h. ((f h).within.rows q p).forgot); retired = ∥∥₁_elim r le_prop (λ h. ((f h).within.rows q p).retired) };
@@ -119,19 +178,7 @@ lawful_from seen n i v r f = record {
     born = λ q p. ∥∥₁_elim r le_prop (λ h. (f h).joins.born q p);
     first = λ q p s a b. ∥∥₁_elim r le_prop (λ h. (f h).joins.first q p s a b);
   };
-  compact = record {
-    turn = λ s. in_turn_from seen n r (link_at v s).had (link_at v s).packets (link_at v s).sending (λ h. (f h).compact.turn s);
-    before = λ s. ∥∥₁_elim r (sides_set _ _) (λ h. (f h).compact.before s);
-    next = λ x o a b p. ∥∥₁_elim r (ℕ_set _ _) (λ h. (f h).compact.next x o a b p);
-    sent = λ x o p a b c d e. ∥∥₁_elim r le_prop (λ h. (f h).compact.sent x o p a b c d e);
-    holds = λ x o p a b c d. ∥∥₁_elim r le_prop (λ h. (f h).compact.holds x o p a b c d);
-    taken = λ y s p a b c d. record {
-      got = ∥∥₁_elim r (ℕ_set _ _) (λ h. ((f h).compact.taken y s p a b c d).got);
-      forgot = ∥∥₁_elim r (ℕ_set _ _) (λ h. ((f h).compact.taken y s p a b c d).forgot);
-    };
-    lines = λ y s a b c d e. ∥∥₁_elim r (states_set _ _) (λ h. (f h).compact.lines y s a b c d e);
-    first = λ y s a b. ∥∥₁_elim r (states_set _ _) (λ h. (f h).compact.first y s a b);
-  };
+  links = links_from seen n v r (λ h. (f h).links);
 }
 
 reached_lawful : (seen : WorldSeen) (n : ℕ) → IsReachedIn seen n → IsLawful seen.ring.initial seen.ring

@@ -4,7 +4,7 @@ use Rattle.std.proofs.lemmas.Bool.{false≢true}
 use Rattle.std.proofs.lemmas.List.{append-nil}
 use Rattle.ring_rules.specs.Machine.{World}
 use Rattle.ring_rules.specs.Event.{is_refusal, refusals_of, effect, at_found, id_of, by_of}
-use Rattle.ring_rules.specs.declared.event.Event.TheVariants.{Cast, Publish, Get, Pop, Ack, Requeue, Depth, Start, Put, Take, TakeEnd, Gain, Stop, Mark, Refresh, Admit, Pick, Erase, Synced, Refuse}
+use Rattle.ring_rules.specs.declared.event.Event.TheVariants.{Refuse}
 use Rattle.ring_rules.specs.declared.event.Event.{Event}
 
 stays : (w : World) (o : Option ℕ) → at_found o w (λ x. w) ≡ w
@@ -13,26 +13,8 @@ stays w (Some x) = refl
 
 -- a refusal leaves the ring as it is
 pub refusal_stays : (w : World) (e : Event) → is_refusal e ≡ true → w ≡ effect w e
-refusal_stays w (Cast by body) h = absurd (false≢true h)
-refusal_stays w (Publish by body) h = absurd (false≢true h)
-refusal_stays w (Get by) h = absurd (false≢true h)
-refusal_stays w (Pop by) h = absurd (false≢true h)
-refusal_stays w (Ack by at) h = absurd (false≢true h)
-refusal_stays w (Requeue by at) h = absurd (false≢true h)
-refusal_stays w (Depth by) h = absurd (false≢true h)
-refusal_stays w (Start by) h = absurd (false≢true h)
-refusal_stays w (Put by) h = absurd (false≢true h)
-refusal_stays w (Take by) h = absurd (false≢true h)
-refusal_stays w (TakeEnd by) h = absurd (false≢true h)
-refusal_stays w (Gain by) h = absurd (false≢true h)
-refusal_stays w (Stop by) h = absurd (false≢true h)
-refusal_stays w (Mark by dead) h = absurd (false≢true h)
-refusal_stays w (Refresh by version) h = absurd (false≢true h)
-refusal_stays w (Admit by name) h = absurd (false≢true h)
-refusal_stays w (Pick by) h = absurd (false≢true h)
-refusal_stays w (Erase by origin) h = absurd (false≢true h)
-refusal_stays w (Synced by) h = absurd (false≢true h)
 refusal_stays w (Refuse code inner) h = sym (stays w (id_of w (by_of (Refuse code inner))))
+refusal_stays w e h = absurd (false≢true h)
 
 -- and is noted
 pub refusal_noted : (es : List Event) (e : Event) → is_refusal e ≡ true → es ++ e ∷ [] ≡ es ++ refusals_of (e ∷ [])

@@ -1,21 +1,33 @@
-use Rattle.std.proofs.Common.{◌≡◌, None, ◌∷◌, ◌++◌, [], bytes_eq, is_some, sym, ap, ◌∙◌}
+use Rattle.std.proofs.Common.{◌≡◌, None, ◌∷◌, ◌++◌, [], bytes_eq, is_some, sym, ap, subst, ◌∙◌}
 use Rattle.std.specs.List.{position}
 use Rattle.std.proofs.lemmas.Result.{on_ok_weaker}
+use Rattle.ring_rules.specs.Event.{asked_of}
 use Rattle.ring_cluster.specs.Agendas.{Plan}
-use Rattle.ring_cluster.proofs.lists.Plans.{place_is, found_written, given_with, given_begins}
+use Rattle.ring_cluster.proofs.lists.Plans.{place_is, found_name, found_written, given_with, given_begins}
 use Rattle.ring_cluster.proofs.agenda.give_task.Goals as goal
+
+pub push-requires : goal.push-requires
+push-requires c =
+    let at : c.place_of.result ≡ position (λ (a : Plan). bytes_eq a.name (asked_of c.args.task)) c.args.agendas.now.items =
+    subst (λ n. c.place_of.result ≡ position (λ (a : Plan). bytes_eq a.name n) c.args.agendas.now.items) c.by.ensures
+    (c.place_of.ensures.place ∙ ap (position (λ (a : Plan). bytes_eq a.name c.by.result.now)) c.deref.ensures.value) in
+    (sym (found_name c.args.agendas.now.items (asked_of c.args.task) c.in-Some.place c.index_mut.result.now (sym c.in-Some.is ∙ at) c.index_mut.ensures.value), c.requires)
 
 pub returns-in_default-clause-ok : goal.returns-in_default-clause-ok
 returns-in_default-clause-ok c =
-    let at : c.place_of.result ≡ position (λ (a : Plan). bytes_eq a.name c.args.name.now) c.args.agendas.now.items = c.place_of.ensures.place ∙ ap (position (λ (a : Plan). bytes_eq a.name c.args.name.now)) c.deref.ensures.value in
+    let at : c.place_of.result ≡ position (λ (a : Plan). bytes_eq a.name (asked_of c.args.task)) c.args.agendas.now.items =
+    subst (λ n. c.place_of.result ≡ position (λ (a : Plan). bytes_eq a.name n) c.args.agendas.now.items) c.by.ensures
+    (c.place_of.ensures.place ∙ ap (position (λ (a : Plan). bytes_eq a.name c.by.result.now)) c.deref.ensures.value) in
     on_ok_weaker c.begin.result
-    (λ is. is ∙ sym (given_begins c.args.agendas.now.items c.args.name.now c.args.task (place_is c.args.agendas.now.items c.args.name.now None (sym c.in_default.is ∙ at))))
+    (λ is. is ∙ sym (given_begins c.args.agendas.now.items c.args.task (place_is c.args.agendas.now.items (asked_of c.args.task) None (sym c.in_default.is ∙ at))))
     c.begin.ensures.ok
 
 pub returns-clause-ok : goal.returns-clause-ok
 returns-clause-ok c =
-    let at : c.place_of.result ≡ position (λ (a : Plan). bytes_eq a.name c.args.name.now) c.args.agendas.now.items = c.place_of.ensures.place ∙ ap (position (λ (a : Plan). bytes_eq a.name c.args.name.now)) c.deref.ensures.value in
+    let at : c.place_of.result ≡ position (λ (a : Plan). bytes_eq a.name (asked_of c.args.task)) c.args.agendas.now.items =
+    subst (λ n. c.place_of.result ≡ position (λ (a : Plan). bytes_eq a.name n) c.args.agendas.now.items) c.by.ensures
+    (c.place_of.ensures.place ∙ ap (position (λ (a : Plan). bytes_eq a.name c.by.result.now)) c.deref.ensures.value) in
     on_ok_weaker c.push.result
-    (λ is. found_written c.args.agendas.now.items c.args.name.now c.in-Some.place c.index_mut.result.now (sym c.in-Some.is ∙ at) c.index_mut.ensures.value c.push.new.self (λ ts. ts ++ c.args.task ∷ []) is
-    ∙ sym (given_with c.args.agendas.now.items c.args.name.now c.args.task (ap is_some (place_is c.args.agendas.now.items c.args.name.now _ (sym c.in-Some.is ∙ at)))))
+    (λ is. found_written c.args.agendas.now.items (asked_of c.args.task) c.in-Some.place c.index_mut.result.now (sym c.in-Some.is ∙ at) c.index_mut.ensures.value c.push.new.self (λ ts. ts ++ c.args.task ∷ []) is
+    ∙ sym (given_with c.args.agendas.now.items c.args.task (ap is_some (place_is c.args.agendas.now.items (asked_of c.args.task) _ (sym c.in-Some.is ∙ at)))))
     c.push.ensures.ok

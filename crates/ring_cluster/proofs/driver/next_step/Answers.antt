@@ -1,5 +1,5 @@
 use Rattle.std.proofs.Common.{◌≡◌, ◌+◌, ◌-◌, subst, arith}
-use Rattle.ring_parties.specs.declared.own_step.OwnStep.TheVariants as step
+use Rattle.ring_rules.specs.declared.kind.LinkStep.TheVariants as step
 use Rattle.ring_cluster.specs.Seen.{state_of}
 use Rattle.ring_cluster.specs.Turns.{MayStep}
 use Rattle.ring_cluster.proofs.rounds.Asking.{steps_nowhere}

@@ -1,5 +1,5 @@
 use Rattle.std.proofs.Common.{List, ℕ, ap, subst, arith}
-use Rattle.ring_parties.specs.OwnSteps.{step_event}
+use Rattle.ring_rules.specs.Kind.{step_event}
 use Rattle.ring_rules.specs.Step.{size}
 use Rattle.ring_cluster.specs.Seen.{Seen, state_of}
 use Rattle.ring_parties.specs.Standing.{StandAfter}

@@ -1,25 +1,18 @@
-use Rattle.std.proofs.Common.{sym, subst}
+use Rattle.std.proofs.Common.{sym, ap, subst, ⊎_elim, ◌∙◌}
+use Rattle.std.specs.Prelude.{IfOk}
+use Rattle.ring_rules.specs.declared.kind.Kind.TheVariants as shown
+use Rattle.ring_rules.specs.Kind.{kind_of}
 use Rattle.ring_parties.specs.Looking.{loose_seen}
-use Rattle.ring_parties.specs.Acting.{Acts}
+use Rattle.ring_parties.specs.Acting.{is_alone, Acts}
 use Rattle.ring_parties.specs.Refused.{marked_in}
+use Rattle.ring_parties.proofs.events.Kinds.{kind_read}
 use Rattle.ring_parties.proofs.parties.Parties.act.Goals as goal
 
-pub returns-in_ok-act_mark-in-Mark-clause-ok : goal.returns-in_ok-act_mark-in-Mark-clause-ok
-returns-in_ok-act_mark-in-Mark-clause-ok c =
-    subst (λ e. Acts e c.args.i (marked_in e (c.args.self.now).all) (c.args.self.now).all (c.act_mark.new.self).all (loose_seen c.in_ok-act_mark-in-Mark.field-0))
-    (sym c.in-Mark.is) (c.in_ok-act_mark-in-Mark.ensures.ok c.in-Mark.by)
+pub act_alone-requires-clause-alone : goal.act_alone-requires-clause-alone
+act_alone-requires-clause-alone c = ⊎_elim (λ e. ap is_alone (sym c.kind.ensures ∙ e)) (λ w. ap is_alone (sym c.kind.ensures ∙ w.1)) c.in-Says.is
 
-pub returns-in_ok-act_refresh-in-Refresh-clause-ok : goal.returns-in_ok-act_refresh-in-Refresh-clause-ok
-returns-in_ok-act_refresh-in-Refresh-clause-ok c =
-    subst (λ e. Acts e c.args.i (marked_in e (c.args.self.now).all) (c.args.self.now).all (c.act_refresh.new.self).all (loose_seen c.in_ok-act_refresh-in-Refresh.field-0))
-    (sym c.in-Refresh.is) c.in_ok-act_refresh-in-Refresh.ensures.ok
-
-pub returns-in_ok-act_erase-in-Erase-clause-ok : goal.returns-in_ok-act_erase-in-Erase-clause-ok
-returns-in_ok-act_erase-in-Erase-clause-ok c =
-    subst (λ e. Acts e c.args.i (marked_in e (c.args.self.now).all) (c.args.self.now).all (c.act_erase.new.self).all (loose_seen c.in_ok-act_erase-in-Erase.field-0))
-    (sym c.in-Erase.is) (c.in_ok-act_erase-in-Erase.ensures.ok c.in-Erase.by)
-
-pub returns-in_ok-act_admit-in-Admit-clause-ok : goal.returns-in_ok-act_admit-in-Admit-clause-ok
-returns-in_ok-act_admit-in-Admit-clause-ok c =
-    subst (λ e. Acts e c.args.i (marked_in e (c.args.self.now).all) (c.args.self.now).all (c.act_admit.new.self).all (loose_seen c.in_ok-act_admit-in-Admit.field-0))
-    (sym c.in-Admit.is) c.in_ok-act_admit-in-Admit.ensures.ok
+pub returns-in-Changes-clause-ok : goal.returns-in-Changes-clause-ok
+returns-in-Changes-clause-ok c =
+    let q = (c.args.self.now).all in
+    subst (λ k. IfOk c.act_change.result (λ loose. Acts k c.args.i (marked_in k q) q (c.act_change.new.self).all (loose_seen loose)))
+    (sym (kind_read (kind_of c.args.event.now) (shown.Changes c.in-Changes.change) (sym c.in-Changes.is ∙ c.kind.ensures))) c.act_change.ensures.ok

@@ -20,60 +20,60 @@ use Rattle.ring_parties.proofs.post.Delivered.{inside, none_behind, bare, shown_
 use Rattle.ring_parties.proofs.parties.Parties.act_admit.Goals as goal
 
 pub admit_refusal-requires : goal.admit_refusal-requires
-admit_refusal-requires c = asks_nothing c.self.inside c.args.self.now c.self.view_is c.requires.standing c.args.i c.requires.within c.index.result.now c.index.ensures
+admit_refusal-requires c = asks_nothing c.self.inside c.args.self.now c.self.view_is c.requires.may.standing c.args.i c.requires.may.within c.index.result.now c.index.ensures
 
 pub overflow_cast-i : goal.overflow_cast-i
-overflow_cast-i c = omega (arith, few c.self.inside c.args.self.now c.self.view_is c.requires.standing, inside c.self.inside c.args.self.now c.self.view_is c.args.i c.requires.within)
+overflow_cast-i c = omega (arith, few c.self.inside c.args.self.now c.self.view_is c.requires.may.standing, inside c.self.inside c.args.self.now c.self.view_is c.args.i c.requires.may.within)
 
 pub overflow_add-i : goal.overflow_add-i
-overflow_add-i c = omega (arith, few c.self.inside c.args.self.now c.self.view_is c.requires.standing, inside c.self.inside c.args.self.now c.self.view_is c.args.i c.requires.within)
+overflow_add-i c = omega (arith, few c.self.inside c.args.self.now c.self.view_is c.requires.may.standing, inside c.self.inside c.args.self.now c.self.view_is c.args.i c.requires.may.within)
 
 pub joining_node-requires-clause-allowed : goal.joining_node-requires-clause-allowed
 joining_node-requires-clause-allowed c =
     let is = c.view-view.ensures.newest in
     let none = sym (ap (λ g. up_refused (shown_in c.index.result.now).held (admission_refused g c.args.name.now)) is) ∙ sym c.admit_refusal.ensures ∙ c.in_default.is in
-    let may = may_join c.self.inside c.args.self.now c.self.view_is c.requires.delivered c.requires.standing c.args.i c.requires.within c.index.result.now c.index.ensures c.args.name.now none in
+    let may = may_join c.self.inside c.args.self.now c.self.view_is c.requires.may.delivered c.requires.may.standing c.args.i c.requires.may.within c.index.result.now c.index.ensures c.args.name.now none in
     ap (λ g. group_refusal g.entries (c.args.i + 1) c.args.name.now) is ∙ may.allowed
 
 pub joining_node-requires-clause-from_one : goal.joining_node-requires-clause-from_one
 joining_node-requires-clause-from_one c =
     let is = c.view-view.ensures.newest in
     let none = sym (ap (λ g. up_refused (shown_in c.index.result.now).held (admission_refused g c.args.name.now)) is) ∙ sym c.admit_refusal.ensures ∙ c.in_default.is in
-    let may = may_join c.self.inside c.args.self.now c.self.view_is c.requires.delivered c.requires.standing c.args.i c.requires.within c.index.result.now c.index.ensures c.args.name.now none in
+    let may = may_join c.self.inside c.args.self.now c.self.view_is c.requires.may.delivered c.requires.may.standing c.args.i c.requires.may.within c.index.result.now c.index.ensures c.args.name.now none in
     omega (arith, ap (λ g. g.next_id) is, may.from_one)
 
 pub joining_node-requires-clause-few : goal.joining_node-requires-clause-few
 joining_node-requires-clause-few c =
     let is = c.view-view.ensures.newest in
     let none = sym (ap (λ g. up_refused (shown_in c.index.result.now).held (admission_refused g c.args.name.now)) is) ∙ sym c.admit_refusal.ensures ∙ c.in_default.is in
-    let may = may_join c.self.inside c.args.self.now c.self.view_is c.requires.delivered c.requires.standing c.args.i c.requires.within c.index.result.now c.index.ensures c.args.name.now none in
+    let may = may_join c.self.inside c.args.self.now c.self.view_is c.requires.may.delivered c.requires.may.standing c.args.i c.requires.may.within c.index.result.now c.index.ensures c.args.name.now none in
     omega (arith, ap (λ g. g.next_id) is, may.few)
 
 pub joining_node-requires-clause-stands : goal.joining_node-requires-clause-stands
 joining_node-requires-clause-stands c =
     let is = c.view-view.ensures.newest in
     let none = sym (ap (λ g. up_refused (shown_in c.index.result.now).held (admission_refused g c.args.name.now)) is) ∙ sym c.admit_refusal.ensures ∙ c.in_default.is in
-    let may = may_join c.self.inside c.args.self.now c.self.view_is c.requires.delivered c.requires.standing c.args.i c.requires.within c.index.result.now c.index.ensures c.args.name.now none in
+    let may = may_join c.self.inside c.args.self.now c.self.view_is c.requires.may.delivered c.requires.may.standing c.args.i c.requires.may.within c.index.result.now c.index.ensures c.args.name.now none in
     ap (λ g. is_in g.next_id (ids (admitted g (c.args.i + 1) c.args.name.now))) is ∙ may.stands
 
 pub ask-requires-clause-ready : goal.ask-requires-clause-ready
 ask-requires-clause-ready c =
-    is_ready c.self.inside c.args.self.now c.self.view_is c.requires.standing c.args.i c.requires.within c.index_mut.result.now
+    is_ready c.self.inside c.args.self.now c.self.view_is c.requires.may.standing c.args.i c.requires.may.within c.index_mut.result.now
     (c.index_mut.ensures.value ∙ ap (λ ms. get_or ms c.args.i c.index_mut.result.now) c.reserve.ensures.items)
 
 pub ask-requires-clause-here : goal.ask-requires-clause-here
-ask-requires-clause-here c = here c.self.inside c.args.self.now c.self.view_is c.requires.standing
+ask-requires-clause-here c = here c.self.inside c.args.self.now c.self.view_is c.requires.may.standing
 
 pub returns-in-Err-clause-judged : goal.returns-in-Err-clause-judged
 returns-in-Err-clause-judged c =
     let is = c.view-view.ensures.newest in
     let none = sym (ap (λ g. up_refused (shown_in c.index.result.now).held (admission_refused g c.args.name.now)) is) ∙ sym c.admit_refusal.ensures ∙ c.in_default.is in
-    let may = may_join c.self.inside c.args.self.now c.self.view_is c.requires.delivered c.requires.standing c.args.i c.requires.within c.index.result.now c.index.ensures c.args.name.now none in
+    let may = may_join c.self.inside c.args.self.now c.self.view_is c.requires.may.delivered c.requires.may.standing c.args.i c.requires.may.within c.index.result.now c.index.ensures c.args.name.now none in
     let value = c.index_mut.ensures.value ∙ ap (λ ms. get_or ms c.args.i c.index_mut.result.now) c.reserve.ensures.items in
-    let id : c.index_mut.result.now.node.id.0 ≡ c.args.i + 1 = id_is c.self.inside c.args.self.now c.self.view_is c.requires.standing c.args.i c.requires.within c.index_mut.result.now value in
+    let id : c.index_mut.result.now.node.id.0 ≡ c.args.i + 1 = id_is c.self.inside c.args.self.now c.self.view_is c.requires.may.standing c.args.i c.requires.may.within c.index_mut.result.now value in
     let same : shown_in c.index.result.now ≡ shown_in c.index_mut.result.now =
-    shown_is c.self.inside c.args.self.now c.self.view_is c.args.i c.requires.within c.index.result.now c.index.ensures
-    ∙ sym (shown_is c.self.inside c.args.self.now c.self.view_is c.args.i c.requires.within c.index_mut.result.now value) in
+    shown_is c.self.inside c.args.self.now c.self.view_is c.args.i c.requires.may.within c.index.result.now c.index.ensures
+    ∙ sym (shown_is c.self.inside c.args.self.now c.self.view_is c.args.i c.requires.may.within c.index_mut.result.now value) in
     let asks : ask_refused c.self.inside.registrar (shown_in c.index_mut.result.now) (Admit c.args.name.now) ≡ None =
     up_later (shown_in c.index_mut.result.now).held (admission_refused (newest c.self.inside.registrar) c.args.name.now) (group_refusal (newest c.self.inside.registrar).entries c.index_mut.result.now.node.id.0 c.args.name.now)
     (sym (ap (λ (m : Shown). up_refused m.held (admission_refused (newest c.self.inside.registrar) c.args.name.now)) same) ∙ none)
@@ -85,28 +85,28 @@ returns-in-Err-clause-err c =
     let value = c.index_mut.ensures.value ∙ ap (λ ms. get_or ms c.args.i c.index_mut.result.now) c.reserve.ensures.items in
     ap (λ ms. seen_as (set ms c.args.i (record c.index_mut.result.now { node = c.ask.new.node })) c.ask.new.registrar c.self.inside.late) c.reserve.ensures.items
     ∙ ap (λ r. seen_as (set c.self.inside.members.items c.args.i (record c.index_mut.result.now { node = c.ask.new.node })) r c.self.inside.late) c.in-Err.ensures.err.1
-    ∙ unchanged c.self.inside c.args.self.now c.self.view_is c.args.i c.requires.within c.index_mut.result.now c.ask.new.node value c.in-Err.ensures.err.0
+    ∙ unchanged c.self.inside c.args.self.now c.self.view_is c.args.i c.requires.may.within c.index_mut.result.now c.ask.new.node value c.in-Err.ensures.err.0
 
 pub returns-clause-ok : goal.returns-clause-ok
 returns-clause-ok c =
     let looked = c.in-Ok-ask.looked in
     let value = c.index_mut.ensures.value ∙ ap (λ ms. get_or ms c.args.i c.index_mut.result.now) c.reserve.ensures.items in
-    let l = inside c.self.inside c.args.self.now c.self.view_is c.args.i c.requires.within in
-    let old = bare c.self.inside c.args.self.now c.self.view_is c.requires.delivered in
+    let l = inside c.self.inside c.args.self.now c.self.view_is c.args.i c.requires.may.within in
+    let old = bare c.self.inside c.args.self.now c.self.view_is c.requires.may.delivered in
     let ns = c.self.inside.members.items in
     let party = record c.index_mut.result.now { node = c.ask.new.node } in
     let ns' = set ns c.args.i party in
     let r = c.self.inside.registrar in
     let name = c.args.name.now in
     let v = admitted (newest r) (c.args.i + 1) name in
-    let id : c.index_mut.result.now.node.id.0 ≡ c.args.i + 1 = id_is c.self.inside c.args.self.now c.self.view_is c.requires.standing c.args.i c.requires.within c.index_mut.result.now value in
+    let id : c.index_mut.result.now.node.id.0 ≡ c.args.i + 1 = id_is c.self.inside c.args.self.now c.self.view_is c.requires.may.standing c.args.i c.requires.may.within c.index_mut.result.now value in
     let has_looked = subst (λ x. HasLooked (admitted (newest r) x name) (shown_in c.index_mut.result.now) (shown_of c.ask.new.node) (kept_post looked.opened) (loose_seen looked.loose)) id c.in-Ok-ask.ensures.ok in
     let follows = c.in-Ok-ask.ensures.registrar ∙ ap (λ x. with_view r (admitted (newest r) x name)) id in
     let made = c.in-Ok.ensures ∙ ap (λ g. joined c.args.credit name g.next_id (admitted g (c.args.i + 1) name) (Some (fresh_in c.args.credit.initial))) c.view-view.ensures.newest in
     let seated = c.seat.ensures ∙ ap (λ (m : Shown). record m { ends = record m.ends { link = at_some (kept_post looked.opened) None (λ (d : Posted). d.end) } }) made in
     let members = c.push_reserved.ensures ∙ ap (λ ms. set ms c.args.i party ++ record { node = c.seat.new.node } ∷ []) c.reserve.ensures.items in
     subst (λ p. AdmitsAt name c.args.i p (parties c.push_reserved.new.members.items c.ask.new.registrar (behind c.self.inside.late)) (loose_seen looked.loose)) (sym old)
-    (subst (λ p. AdmitsAt name c.args.i (parties ns r []) p (loose_seen looked.loose)) (sym (none_behind c.self.inside c.args.self.now c.self.view_is c.requires.delivered c.push_reserved.new.members.items c.ask.new.registrar))
+    (subst (λ p. AdmitsAt name c.args.i (parties ns r []) p (loose_seen looked.loose)) (sym (none_behind c.self.inside c.args.self.now c.self.view_is c.requires.may.delivered c.push_reserved.new.members.items c.ask.new.registrar))
     (subst (λ ms. AdmitsAt name c.args.i (parties ns r []) (parties ms c.ask.new.registrar []) (loose_seen looked.loose)) (sym members) (
       c.args.credit,
       subst (λ q. HasCredit c.args.credit (node_at q c.args.i).held) old c.requires.credit,

@@ -25,4 +25,4 @@ returns-clause-ok c =
     let id = c.in-Some.id.0 in
     let named : id_named q c.args.origin.now ≡ Some id = c.id_named.ensures.id ∙ ap (option_map number) c.in-Some.is in
     ok_also c.act_ask.result (λ loose. LooksAt (erasing q id) c.args.i (viewing (erasing q id) q) (c.act_ask.new.self).all (loose_seen loose)) _
-    (λ loose looks by. erase_acts by c.args.origin.now c.args.i id q (c.act_ask.new.self).all (loose_seen loose) named looks) c.act_ask.ensures.ok
+    (λ loose looks. erase_acts c.args.origin.now c.args.i id q (c.act_ask.new.self).all (loose_seen loose) named looks) c.act_ask.ensures.ok

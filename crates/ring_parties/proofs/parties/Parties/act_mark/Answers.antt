@@ -26,4 +26,4 @@ returns-clause-ok c =
     let id = c.in-Some.id.0 in
     let named : id_named q c.args.dead.now ≡ Some id = c.id_named.ensures.id ∙ ap (option_map number) c.in-Some.is in
     ok_also c.act_ask.result (λ loose. LooksAt (marked (newest_of q) id) c.args.i (viewing (marked (newest_of q) id) q) (c.act_ask.new.self).all (loose_seen loose)) _
-    (λ loose looks by. mark_acts by c.args.dead.now c.args.i id q (c.act_ask.new.self).all (loose_seen loose) named looks) c.act_ask.ensures.ok
+    (λ loose looks. mark_acts c.args.dead.now c.args.i id q (c.act_ask.new.self).all (loose_seen loose) named looks) c.act_ask.ensures.ok

@@ -1,5 +1,5 @@
 use Rattle.ring_parties.proofs.post.Delivered.{asks_nothing}
 use Rattle.ring_parties.proofs.parties.Parties.act_refuse.Goals as goal
 
-pub telling_refusal-requires : goal.telling_refusal-requires
-telling_refusal-requires c = asks_nothing c.self.inside c.args.self.now c.self.view_is c.requires.standing c.args.i c.requires.within c.index.result.now c.index.ensures
+pub own_refusal-requires : goal.own_refusal-requires
+own_refusal-requires c = asks_nothing c.self.inside c.args.self.now c.self.view_is c.requires.standing c.args.i c.requires.within c.index.result.now c.index.ensures

@@ -1,5 +1,5 @@
 use Rattle.std.proofs.Common.{set, sym, ◌∙◌, arith}
-use Rattle.ring_parties.specs.Acting.{Stops}
+use Rattle.ring_parties.specs.Acting.{Halts}
 use Rattle.ring_parties.proofs.standing.Nodes.{at_read, written_shown}
 use Rattle.ring_parties.proofs.events.Acted.{stop_acts}
 use Rattle.ring_parties.proofs.post.Delivered.{inside, none_behind, bare, here, few, asks_nothing, is_ready, unheard}
@@ -24,10 +24,10 @@ pub stop-requires : goal.stop-requires
 stop-requires c = is_ready c.self.inside c.args.self.now c.self.view_is c.requires.standing c.args.i c.requires.within c.index_mut.result.now c.index_mut.ensures.value
 
 pub returns-clause-ok : goal.returns-clause-ok
-returns-clause-ok c = λ by d.
+returns-clause-ok c = λ d.
     let l = inside c.self.inside c.args.self.now c.self.view_is c.args.i c.requires.within in
-    let stops = at_read Stops c.self.inside.members.items c.args.i c.index_mut.result.now (record c.index_mut.result.now { node = c.stop.new.node }) l c.index_mut.ensures.value c.in-Ok.ensures.tries.ok in
+    let stops = at_read Halts c.self.inside.members.items c.args.i c.index_mut.result.now (record c.index_mut.result.now { node = c.stop.new.node }) l c.index_mut.ensures.value c.in-Ok.ensures.tries.ok in
     let old = bare c.self.inside c.args.self.now c.self.view_is c.requires.delivered in
     let new = none_behind c.self.inside c.args.self.now c.self.view_is c.requires.delivered (set c.self.inside.members.items c.args.i (record c.index_mut.result.now { node = c.stop.new.node })) c.notify.new.registrar in
     rw (old, new)
-    (stop_acts by c.args.i d c.self.inside.members.items (set c.self.inside.members.items c.args.i (record c.index_mut.result.now { node = c.stop.new.node })) c.self.inside.registrar c.notify.new.registrar stops (written_shown c.self.inside.members.items c.args.i (record c.index_mut.result.now { node = c.stop.new.node }) l) c.in_ok-notify.ensures.ok)
+    (stop_acts c.args.i d c.self.inside.members.items (set c.self.inside.members.items c.args.i (record c.index_mut.result.now { node = c.stop.new.node })) c.self.inside.registrar c.notify.new.registrar stops (written_shown c.self.inside.members.items c.args.i (record c.index_mut.result.now { node = c.stop.new.node }) l) c.in_ok-notify.ensures.ok)

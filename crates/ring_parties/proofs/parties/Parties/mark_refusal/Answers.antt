@@ -2,6 +2,7 @@ use Rattle.std.proofs.Common.{◌≡◌, None, Some, sym, ap, ◌∙◌}
 use Rattle.std.specs.Prelude.{option_map}
 use Rattle.ring_names.specs.declared.reason.Reason.TheVariants as reason
 use Rattle.group_view.specs.View.{number}
+use Rattle.ring_rules.specs.declared.event.Event.TheVariants.{Mark}
 use Rattle.registrar.specs.Asked.{mark_refusal}
 use Rattle.gm_member.specs.Held.{up_refused}
 use Rattle.gm_member.specs.Questions.{has_link}
@@ -9,6 +10,7 @@ use Rattle.gm_member.proofs.DoorParts.{up_past}
 use Rattle.ring_parties.specs.Behind.{behind}
 use Rattle.ring_parties.specs.Parties.{PartiesSeen, Shown, node_at}
 use Rattle.ring_parties.specs.Refused.{id_named, with_post}
+use Rattle.ring_parties.proofs.events.Kinds.{told_as}
 use Rattle.ring_parties.proofs.events.Reads.{up_first, mark_reads, mark_reads_unknown}
 use Rattle.ring_parties.proofs.post.Delivered.{shown_is, asks_nothing}
 use Rattle.ring_parties.proofs.parties.Parties.mark_refusal.Goals as goal
@@ -17,27 +19,27 @@ pub unknown-requires : goal.unknown-requires
 unknown-requires c = asks_nothing c.self.inside c.args.self.now c.self.view_is c.requires.standing c.args.i c.requires.within c.index.result.now c.index.ensures
 
 pub returns-in_default : goal.returns-in_default
-returns-in_default c = λ by credit names events s at.
+returns-in_default c = λ by. told_as c.args.i (Mark by c.args.dead.now) (c.args.self.now).all _ (λ credit names events s lt _.
     let shown = shown_is c.self.inside c.args.self.now c.self.view_is c.args.i c.requires.within c.index.result.now c.index.ensures in
     sym c.unknown.ensures
     ∙ ap (λ (m : Shown). up_refused m.held (Some reason.UnknownMember)) shown
-    ∙ mark_reads_unknown credit names events (c.args.self.now).all s c.args.i by c.args.dead.now at (c.id_named.ensures.id ∙ ap (option_map number) c.in_default.is)
+    ∙ mark_reads_unknown credit names events (c.args.self.now).all s c.args.i lt c.args.dead.now (c.id_named.ensures.id ∙ ap (option_map number) c.in_default.is))
 
 pub up_refusal-requires : goal.up_refusal-requires
 up_refusal-requires c = asks_nothing c.self.inside c.args.self.now c.self.view_is c.requires.standing c.args.i c.requires.within c.index.result.now c.index.ensures
 
 pub returns-in-Some-up_refusal : goal.returns-in-Some-up_refusal
-returns-in-Some-up_refusal c = λ by credit names events s at.
+returns-in-Some-up_refusal c = λ by. told_as c.args.i (Mark by c.args.dead.now) (c.args.self.now).all _ (λ credit names events s lt _.
     let q = (c.args.self.now).all in
     let named : id_named q c.args.dead.now ≡ Some c.in-Some.id.0 = c.id_named.ensures.id ∙ ap (option_map number) c.in-Some.is in
     let shown = shown_is c.self.inside c.args.self.now c.self.view_is c.args.i c.requires.within c.index.result.now c.index.ensures in
     let h = (node_at q c.args.i).held in
     let refused : up_refused h None ≡ Some c.in-Some-up_refusal.reason = ap (λ (m : Shown). up_refused m.held None) (sym shown) ∙ sym c.up_refusal.ensures ∙ c.in-Some-up_refusal.is in
     sym (up_first h (mark_refusal c.self.inside.registrar h.id c.in-Some.id.0 h.view.version (has_link (with_post h q.post))) c.in-Some-up_refusal.reason refused)
-    ∙ mark_reads credit names events q s c.args.i c.self.inside.members.items c.self.inside.registrar (behind c.self.inside.late) (sym (ap (λ (x : PartiesSeen). x.all) c.self.view_is)) by c.args.dead.now c.in-Some.id.0 at named
+    ∙ mark_reads credit names events q s c.args.i lt c.self.inside.members.items c.self.inside.registrar (behind c.self.inside.late) (sym (ap (λ (x : PartiesSeen). x.all) c.self.view_is)) c.args.dead.now c.in-Some.id.0 named)
 
 pub returns : goal.returns
-returns c = λ by credit names events s at.
+returns c = λ by. told_as c.args.i (Mark by c.args.dead.now) (c.args.self.now).all _ (λ credit names events s lt _.
     let q = (c.args.self.now).all in
     let named : id_named q c.args.dead.now ≡ Some c.in-Some.id.0 = c.id_named.ensures.id ∙ ap (option_map number) c.in-Some.is in
     let shown = shown_is c.self.inside c.args.self.now c.self.view_is c.args.i c.requires.within c.index.result.now c.index.ensures in
@@ -51,4 +53,4 @@ returns c = λ by credit names events s at.
     ∙ ap (λ v. mark_refusal r h.id c.in-Some.id.0 v c.has_link.result) version
     ∙ ap (mark_refusal r h.id c.in-Some.id.0 h.view.version) c.has_link.ensures
     ∙ sym (up_past h (mark_refusal r h.id c.in-Some.id.0 h.view.version (has_link (with_post h q.post))) up)
-    ∙ mark_reads credit names events q s c.args.i c.self.inside.members.items r (behind c.self.inside.late) (sym (ap (λ (x : PartiesSeen). x.all) c.self.view_is)) by c.args.dead.now c.in-Some.id.0 at named
+    ∙ mark_reads credit names events q s c.args.i lt c.self.inside.members.items r (behind c.self.inside.late) (sym (ap (λ (x : PartiesSeen). x.all) c.self.view_is)) c.args.dead.now c.in-Some.id.0 named)

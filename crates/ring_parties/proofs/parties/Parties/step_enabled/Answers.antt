@@ -3,18 +3,14 @@ use Rattle.ring_parties.specs.Standing.{StandAfter}
 use Rattle.ring_parties.proofs.events.Closing.{found_at}
 use Rattle.ring_parties.proofs.parties.Parties.step_enabled.Goals as goal
 
-pub collect-requires-clause-within : goal.collect-requires-clause-within
-collect-requires-clause-within c =
+pub collect-requires : goal.collect-requires
+collect-requires c =
     let stand = subst (StandAfter c.args.credit c.args.names.now c.args.journal.now.items) (sym c.hand_over.ensures.same) c.requires.standing in
-    omega (arith, c.requires.at.0, stand.stand.stand.count)
-
-pub collect-requires-clause-standing : goal.collect-requires-clause-standing
-collect-requires-clause-standing c = (
-  c.args.credit,
-  c.args.names.now,
-  c.args.journal.now.items,
-  subst (StandAfter c.args.credit c.args.names.now c.args.journal.now.items) (sym c.hand_over.ensures.same) c.requires.standing,
-)
+    record {
+      within = omega (arith, c.requires.at.0, stand.stand.stand.count);
+      delivered = c.in_ok-hand_over.ensures.ok;
+      standing = (c.args.credit, c.args.names.now, c.args.journal.now.items, stand);
+    }
 
 pub happen-requires-clause-within : goal.happen-requires-clause-within
 happen-requires-clause-within c =

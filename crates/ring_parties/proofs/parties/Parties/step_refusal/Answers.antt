@@ -1,57 +1,37 @@
-use Rattle.std.proofs.Common.{◌≡◌, refl, ap, sym, subst, ◌∙◌}
-use Rattle.ring_rules.specs.declared.event.Event.TheVariants.{Put, Take, TakeEnd, Gain, Pick}
-use Rattle.ring_rules.specs.Event.{refusal}
-use Rattle.ring_parties.specs.Acting.{alone_refused}
-use Rattle.ring_parties.specs.States.{state, IsEventIn}
-use Rattle.ring_parties.specs.OwnSteps.{step_event}
-use Rattle.ring_parties.proofs.events.Reads.{alone_reads, pick_reads}
+use Rattle.std.proofs.Common.{◌≡◌, ℕ, ◌+◌, List, Option, refl, ap, sym, subst, ◌∙◌}
+use Rattle.ring_names.specs.declared.reason.Reason.{Reason}
+use Rattle.ring_rules.specs.declared.kind.LinkStep.{LinkStep}
+use Rattle.ring_rules.specs.declared.kind.LinkStep.TheVariants as step
+use Rattle.ring_rules.specs.Kind.{Steps, step_event}
+use Rattle.ring_parties.specs.Acting.{step_refused}
+use Rattle.ring_rules.specs.Event.{refused_as}
+use Rattle.ring_parties.specs.Parties.{Parties}
+use Rattle.ring_parties.specs.States.{state}
+use Rattle.ring_parties.specs.Refused.{IsRefusalAt, IsRefusedAs}
+use Rattle.ring_parties.proofs.events.Kinds.{told_as, step_by}
+use Rattle.ring_parties.proofs.events.Refusals.{IsOwn}
+use Rattle.ring_parties.proofs.events.Reads.{own_reads, pick_reads}
 use Rattle.ring_parties.proofs.post.Delivered.{shown_is, asks_nothing}
 use Rattle.ring_parties.proofs.parties.Parties.step_refusal.Goals as goal
 
-pub packet_refusal-requires : goal.packet_refusal-requires
-packet_refusal-requires c = asks_nothing c.self.inside c.args.self.now c.self.view_is c.requires.standing c.args.i c.requires.within c.index.result.now c.index.ensures
+-- a step is refused as it is whoever does it
+told : (i : ℕ) (s : LinkStep) (q : Parties) (r : Option Reason) → IsRefusedAs i (Steps s) q r → (by : List ℕ) → IsRefusalAt i (step_event s by) q r
+told i s q r h by = told_as i (step_event s by) q r (subst (λ k. IsRefusedAs i k q r) (sym (step_by s by).1) h)
 
-pub link_end_refusal-requires : goal.link_end_refusal-requires
-link_end_refusal-requires c = asks_nothing c.self.inside c.args.self.now c.self.view_is c.requires.standing c.args.i c.requires.within c.index.result.now c.index.ensures
+-- one that is no pick needs no more
+own_step : (s : LinkStep) (x : ℕ) (q : Parties) → (s ≡ step.Pick → ⊥) → IsOwn (Steps s) x q
+own_step step.Pick x q other = absurd (other refl)
+own_step s x q other = refl
 
-pub grant_refusal-requires : goal.grant_refusal-requires
-grant_refusal-requires c = asks_nothing c.self.inside c.args.self.now c.self.view_is c.requires.standing c.args.i c.requires.within c.index.result.now c.index.ensures
+pub own_step_refusal-requires : goal.own_step_refusal-requires
+own_step_refusal-requires c = asks_nothing c.self.inside c.args.self.now c.self.view_is c.requires.standing c.args.i c.requires.within c.index.result.now c.index.ensures
 
 pub returns-in-Pick : goal.returns-in-Pick
-returns-in-Pick c = λ by credit names events s at.
-    let e : step_event c.args.step by ≡ Pick by = ap (λ k. step_event k by) c.in-Pick.is in
-    c.pick_refusal.ensures
-    ∙ pick_reads credit names events (c.args.self.now).all s c.args.i by (subst (IsEventIn (state credit names events) c.args.i) e at)
-    ∙ ap (refusal (state credit names events)) (sym e)
+returns-in-Pick c = told c.args.i c.args.step (c.args.self.now).all _ (λ credit names events s lt _.
+    c.pick_refusal.ensures ∙ pick_reads credit names events (c.args.self.now).all s c.args.i lt ∙ ap (λ k. refused_as (state credit names events) (c.args.i + 1) (Steps k)) (sym c.in-Pick.is))
 
-pub returns-in-Take : goal.returns-in-Take
-returns-in-Take c = λ by credit names events s at.
-    let e : step_event c.args.step by ≡ Take by = ap (λ k. step_event k by) c.in-Take.is in
-    c.packet_refusal.ensures
-    ∙ ap (alone_refused (Take by)) (shown_is c.self.inside c.args.self.now c.self.view_is c.args.i c.requires.within c.index.result.now c.index.ensures)
-    ∙ alone_reads credit names events (c.args.self.now).all s c.args.i (Take by) (subst (IsEventIn (state credit names events) c.args.i) e at) refl
-    ∙ ap (refusal (state credit names events)) (sym e)
-
-pub returns-in-TakeEnd : goal.returns-in-TakeEnd
-returns-in-TakeEnd c = λ by credit names events s at.
-    let e : step_event c.args.step by ≡ TakeEnd by = ap (λ k. step_event k by) c.in-TakeEnd.is in
-    c.link_end_refusal.ensures
-    ∙ ap (alone_refused (TakeEnd by)) (shown_is c.self.inside c.args.self.now c.self.view_is c.args.i c.requires.within c.index.result.now c.index.ensures)
-    ∙ alone_reads credit names events (c.args.self.now).all s c.args.i (TakeEnd by) (subst (IsEventIn (state credit names events) c.args.i) e at) refl
-    ∙ ap (refusal (state credit names events)) (sym e)
-
-pub returns-in-Gain : goal.returns-in-Gain
-returns-in-Gain c = λ by credit names events s at.
-    let e : step_event c.args.step by ≡ Gain by = ap (λ k. step_event k by) c.in-Gain.is in
-    c.grant_refusal.ensures
-    ∙ ap (alone_refused (Gain by)) (shown_is c.self.inside c.args.self.now c.self.view_is c.args.i c.requires.within c.index.result.now c.index.ensures)
-    ∙ alone_reads credit names events (c.args.self.now).all s c.args.i (Gain by) (subst (IsEventIn (state credit names events) c.args.i) e at) refl
-    ∙ ap (refusal (state credit names events)) (sym e)
-
-pub returns-in-Put : goal.returns-in-Put
-returns-in-Put c = λ by credit names events s at.
-    let e : step_event c.args.step by ≡ Put by = ap (λ k. step_event k by) c.in-Put.is in
-    c.put_refusal.ensures
-    ∙ ap (alone_refused (Put by)) (shown_is c.self.inside c.args.self.now c.self.view_is c.args.i c.requires.within c.index.result.now c.index.ensures)
-    ∙ alone_reads credit names events (c.args.self.now).all s c.args.i (Put by) (subst (IsEventIn (state credit names events) c.args.i) e at) refl
-    ∙ ap (refusal (state credit names events)) (sym e)
+pub returns-in_default : goal.returns-in_default
+returns-in_default c = told c.args.i c.args.step (c.args.self.now).all _ (λ credit names events s lt _.
+    c.own_step_refusal.ensures
+    ∙ ap (step_refused c.args.step) (shown_is c.self.inside c.args.self.now c.self.view_is c.args.i c.requires.within c.index.result.now c.index.ensures)
+    ∙ own_reads credit names events (c.args.self.now).all s c.args.i lt (Steps c.args.step) (own_step c.args.step (c.args.i + 1) (c.args.self.now).all c.in_default.not-Pick))

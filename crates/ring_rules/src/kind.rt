@@ -1,0 +1,144 @@
+//! Kinds of events: what differs among them, and not whose they are.
+ghost use Rattle.std.specs.Prelude.{◌≡◌};
+ghost use Rattle.ring_rules.specs.Kind.{kind_of, asking_of, client_asking_of, shown_kind, step_event};
+
+use crate::event::{Client, Event};
+use ring_names::{Name, Position};
+
+/// What is done to a queue but for a publish, where its master is asked to or by itself.
+#[derive(Clone, Copy, PartialEq, Eq, Debug)]
+pub enum Asking {
+    /// The first ready message is handed out.
+    Get,
+    /// It is taken off for good.
+    Pop,
+    /// The message of a position, which was handed out, is acknowledged.
+    Ack(Position),
+    /// It is handed back.
+    Requeue(Position),
+    /// The master tells how many messages there are.
+    Depth,
+    /// A new master begins.
+    Start,
+}
+
+/// What a member does on its links.
+#[derive(Clone, Copy, PartialEq, Eq, Debug)]
+pub enum LinkStep {
+    /// It takes from the first link at its door.
+    Pick,
+    /// It takes a packet.
+    Take,
+    /// It takes the end of a link.
+    TakeEnd,
+    /// It gains credit.
+    Gain,
+    /// It puts a packet.
+    Put,
+}
+
+/// What a member has the registrar change in the view.
+#[derive(Clone, Copy, PartialEq, Eq, Debug)]
+pub enum ViewChange {
+    /// A neighbour that has stopped is marked dead.
+    Mark(Name),
+    /// A dead origin is erased.
+    Erase(Name),
+    /// One of a new name is admitted.
+    Admit(Name),
+    /// The member itself is registered as synchronised.
+    Register,
+}
+
+/// What an event is, whoever does it.
+#[derive(Clone, Copy, PartialEq, Eq, Debug)]
+pub enum Kind {
+    /// The member publishes a message: of its own, or an operation of its queue.
+    Says,
+    /// It does a step on its links.
+    Links(LinkStep),
+    /// It has the view changed.
+    Changes(ViewChange),
+    /// It stops.
+    Stops,
+    /// It reads the view of a version.
+    Reads(u32),
+    /// It tells a client that what was asked is refused.
+    Tells,
+}
+
+impl LinkStep {
+    /// The event by which this member does it.
+    pub fn event(self, by: Name) -> Event
+        ensures { result ≡ step_event self by }
+    {
+        match self {
+            LinkStep::Pick => Event::Pick { by },
+            LinkStep::Take => Event::Take { by },
+            LinkStep::TakeEnd => Event::TakeEnd { by },
+            LinkStep::Gain => Event::Gain { by },
+            LinkStep::Put => Event::Put { by },
+        }
+    }
+}
+
+impl Event {
+    ghost use Rattle.std.specs.Prelude.{◌≡◌};
+    ghost use Rattle.ring_rules.specs.Kind.{kind_of, asking_of, shown_kind};
+
+    /// What the event is, whoever does it.
+    pub fn kind(&self) -> Kind
+        ensures { result ≡ shown_kind (kind_of self.now) }
+    {
+        match self {
+            Event::Cast { .. } | Event::Publish { .. } | Event::Get { .. } => Kind::Says,
+            Event::Pop { .. } | Event::Ack { .. } | Event::Requeue { .. } => Kind::Says,
+            Event::Depth { .. } | Event::Start { .. } => Kind::Says,
+            Event::Put { .. } => Kind::Links(LinkStep::Put),
+            Event::Take { .. } => Kind::Links(LinkStep::Take),
+            Event::TakeEnd { .. } => Kind::Links(LinkStep::TakeEnd),
+            Event::Gain { .. } => Kind::Links(LinkStep::Gain),
+            Event::Pick { .. } => Kind::Links(LinkStep::Pick),
+            Event::Mark { dead, .. } => Kind::Changes(ViewChange::Mark(*dead)),
+            Event::Erase { origin, .. } => Kind::Changes(ViewChange::Erase(*origin)),
+            Event::Admit { name, .. } => Kind::Changes(ViewChange::Admit(*name)),
+            Event::Synced { .. } => Kind::Changes(ViewChange::Register),
+            Event::Stop { .. } => Kind::Stops,
+            Event::Refresh { view, .. } => Kind::Reads(*view),
+            Event::Refuse { .. } => Kind::Tells,
+        }
+    }
+
+    /// What it does to a queue, if it does anything to one but publish a message.
+    pub fn asking(&self) -> Option<Asking>
+        ensures { result ≡ asking_of (kind_of self.now) }
+    {
+        match self {
+            Event::Get { .. } => Some(Asking::Get),
+            Event::Pop { .. } => Some(Asking::Pop),
+            Event::Ack { at, .. } => Some(Asking::Ack(*at)),
+            Event::Requeue { at, .. } => Some(Asking::Requeue(*at)),
+            Event::Depth { .. } => Some(Asking::Depth),
+            Event::Start { .. } => Some(Asking::Start),
+            _ => None,
+        }
+    }
+}
+
+impl Client {
+    ghost use Rattle.std.specs.Prelude.{◌≡◌};
+    ghost use Rattle.ring_rules.specs.Kind.{client_asking_of};
+
+    /// What is asked of a queue, if anything is but to publish a message.
+    pub fn asking(&self) -> Option<Asking>
+        ensures { result ≡ client_asking_of self.now }
+    {
+        match self {
+            Client::Get { .. } => Some(Asking::Get),
+            Client::Pop { .. } => Some(Asking::Pop),
+            Client::Ack { at, .. } => Some(Asking::Ack(*at)),
+            Client::Requeue { at, .. } => Some(Asking::Requeue(*at)),
+            _ => None,
+        }
+    }
+}

@@ -1,6 +1,0 @@
-use Rattle.ring_script.specs.Place.{left_in}
-use Rattle.ring_script.proofs.Bodies.{body_text}
-use Rattle.ring_script.proofs.script.read_cast.Goals as goal
-
-pub read_body-requires : goal.read_body-requires
-read_body-requires c = record { text = body_text (left_in c.args.rest) (left_in c.next_word.new.self) c.body.result.now c.next_word.ensures.left c.body.ensures c.requires.text }
