@@ -6,11 +6,11 @@ use Rattle.ring_names.specs.declared.numbers.MemberId.{MemberId}
 use Rattle.activity.specs.declared.change.Change.{Change}
 use Rattle.activity.specs.declared.change.Change.TheVariants.{Receive, CameRound}
 use Rattle.activity.specs.Kept.{Kept, got_of}
-use Rattle.activity.specs.Parcels.{Carried, got_in}
+use Rattle.activity.specs.Packets.{LineSeen, got_in}
 use Rattle.activity.specs.Plan.{fits, change_of}
 
 -- a received line goes on where the member's messages end, and lowers nothing
-pub record IsReceived (k : Kept) (c : Carried) (new last done : ℕ) : Type 0 where
+pub record IsReceived (k : Kept) (c : LineSeen) (new last done : ℕ) : Type 0 where
   pub lo : c.lo ≤ got_of k
   pub from : new ≡ got_of k
   pub to : last ≡ got_in c
@@ -20,7 +20,7 @@ pub record IsReceived (k : Kept) (c : Carried) (new last done : ℕ) : Type 0 wh
   pub within : c.forgot ≤ got_in c
 
 -- one that has come round lowers nothing, and doesn't pass what the member has
-pub record WentRound (k : Kept) (c : Carried) (done back : ℕ) : Type 0 where
+pub record WentRound (k : Kept) (c : LineSeen) (done back : ℕ) : Type 0 where
   pub forgot_is : done ≡ got_in c
   pub retired_is : back ≡ c.forgot
   pub forgot : k.forgot ≤ got_in c
@@ -52,7 +52,7 @@ is_receive (Receive p from to forgot) = true
 is_receive (CameRound p forgot retired) = false
 
 -- what a change that is received says of its line
-pub received : (own : Bool) (k : Kept) (c : Carried) (p : MemberId) (from to forgot : ℕ) → change_of own k c ≡ Some (Receive p from to forgot) → IsReceived k c from to forgot
+pub received : (own : Bool) (k : Kept) (c : LineSeen) (p : MemberId) (from to forgot : ℕ) → change_of own k c ≡ Some (Receive p from to forgot) → IsReceived k c from to forgot
 received true k c p from to forgot h = absurd (by (fits true k c) h)
   where
     by : (b : Bool) → cond b (Some (CameRound c.origin (got_in c) c.forgot)) None ≡ Some (Receive p from to forgot) → ⊥
@@ -77,7 +77,7 @@ received false k c p from to forgot h = by (fits false k c) refl h
           within = leb-true c.forgot (got_in c) a.1;
         }
 
-pub went_round : (own : Bool) (k : Kept) (c : Carried) (p : MemberId) (forgot retired : ℕ) → change_of own k c ≡ Some (CameRound p forgot retired) → WentRound k c forgot retired
+pub went_round : (own : Bool) (k : Kept) (c : LineSeen) (p : MemberId) (forgot retired : ℕ) → change_of own k c ≡ Some (CameRound p forgot retired) → WentRound k c forgot retired
 went_round false k c p forgot retired h = absurd (by (fits false k c) h)
   where
     by : (b : Bool) → cond b (Some (Receive c.origin (max c.lo (got_of k)) (got_in c) c.forgot)) None ≡ Some (CameRound p forgot retired) → ⊥

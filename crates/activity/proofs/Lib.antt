@@ -1,9 +1,10 @@
 pub mod Lists
 pub mod Rows
+pub mod Order
 pub mod Lines
 pub mod Begin
 pub mod Fits
 pub mod Next
 pub mod Marks
-pub mod Told
+pub mod LastSent
 pub mod Above

@@ -9,22 +9,22 @@ use Rattle.group_view.proofs.Truth.{first_false, later_false}
 use Rattle.group_view.proofs.Rings.{nat_eq-is, nat_eq-same, sym_test}
 use Rattle.activity.specs.declared.change.Change.{Change}
 use Rattle.activity.specs.Kept.{Kept, KeptRow, kept_of, has_room, KeepsRows}
-use Rattle.activity.specs.Told.{ToldRow, sent_of, has_row, KeepsSent}
-use Rattle.activity.specs.Parcels.{Carried, origins, line_of, told_in, noted, HasRows}
+use Rattle.activity.specs.LastSent.{LastSentRow, sent_of, has_row, KeepsSent}
+use Rattle.activity.specs.Packets.{LineSeen, origins, line_of, last_sent_in, noted, HasRows}
 use Rattle.activity.specs.Plan.{fits, change_in, change_of, changes_of, changed, accepted, origin_of, arrivals, AreReady, first_for}
 
 -- ---- lines of different origins
 
 -- an origin that no line has has no line
-pub line_absent : (p : ℕ) (lines : List Carried) → is_in p (origins lines) ≡ false → line_of lines p ≡ None
+pub line_absent : (p : ℕ) (lines : List LineSeen) → is_in p (origins lines) ≡ false → line_of lines p ≡ None
 line_absent p [] h = refl
 line_absent p (c ∷ lines) h =
     ap (λ b. cond b (Some c) (line_of lines p)) (first_false (nat_eq p c.origin.0) (is_in p (origins lines)) h)
     ∙ line_absent p lines (later_false (nat_eq p c.origin.0) (is_in p (origins lines)) h)
 
 -- the first line is done: what holds of the lines from it on holds of those behind it
-module _ {K : Type 0} (g : Option Carried → K → K) (none : (k : K) → g None k ≡ k) where
-  pub line_done : (x : Carried) (rest : List Carried) (p : ℕ) (k k' t : K) → is_in x.origin.0 (origins rest) ≡ false
+module _ {K : Type 0} (g : Option LineSeen → K → K) (none : (k : K) → g None k ≡ k) where
+  pub line_done : (x : LineSeen) (rest : List LineSeen) (p : ℕ) (k k' t : K) → is_in x.origin.0 (origins rest) ≡ false
       → g (line_of (x ∷ rest) p) k ≡ t → k' ≡ cond (nat_eq p x.origin.0) (g (Some x) k) k → g (line_of rest p) k' ≡ t
   line_done x rest p k k' t apart h e = by (nat_eq p x.origin.0) refl h e
     where
@@ -36,25 +36,25 @@ module _ {K : Type 0} (g : Option Carried → K → K) (none : (k : K) → g Non
 
 -- ---- what was sent
 
-pub sent_trans : (a b c : List ToldRow) → KeepsSent a b → KeepsSent b c → KeepsSent a c
+pub sent_trans : (a b c : List LastSentRow) → KeepsSent a b → KeepsSent b c → KeepsSent a c
 sent_trans a b c h g = record { sent = λ p. g.sent p ∙ h.sent p; rows = λ p there. g.rows p (h.rows p there) }
 
-pub has_rows_kept : (old new : List ToldRow) (lines : List Carried) → ((p : ℕ) → has_row old p ≡ true → has_row new p ≡ true) → HasRows old lines → HasRows new lines
+pub has_rows_kept : (old new : List LastSentRow) (lines : List LineSeen) → ((p : ℕ) → has_row old p ≡ true → has_row new p ≡ true) → HasRows old lines → HasRows new lines
 has_rows_kept old new [] k h = tt
 has_rows_kept old new (c ∷ lines) k h = (k c.origin.0 h.0, has_rows_kept old new lines k h.1)
 
-pub has_rows_push : (rows : List ToldRow) (lines : List Carried) (c : Carried) → HasRows rows lines → has_row rows c.origin.0 ≡ true → HasRows rows (lines ++ c ∷ [])
+pub has_rows_push : (rows : List LastSentRow) (lines : List LineSeen) (c : LineSeen) → HasRows rows lines → has_row rows c.origin.0 ≡ true → HasRows rows (lines ++ c ∷ [])
 has_rows_push rows [] c h there = (there, tt)
 has_rows_push rows (x ∷ lines) c h there = (h.0, has_rows_push rows lines c h.1 there)
 
 -- how far the rows are, while lines are noted: what is ahead makes of them what all lines make of the first ones
-pub record Noting (start cur : List ToldRow) (all rest : List Carried) : Type 0 where
+pub record Noting (start cur : List LastSentRow) (all rest : List LineSeen) : Type 0 where
   pub distinct : AreDistinct (origins rest)
   pub rows : HasRows cur rest
   pub ahead : (p : ℕ) → noted (line_of rest p) (sent_of cur p) ≡ noted (line_of all p) (sent_of start p)
 
-pub noted_line : (start cur new : List ToldRow) (all : List Carried) (x : Carried) (rest : List Carried) → Noting start cur all (x ∷ rest)
-    → ((p : ℕ) → sent_of new p ≡ cond (nat_eq p x.origin.0) (told_in x) (sent_of cur p)) → ((p : ℕ) → has_row cur p ≡ true → has_row new p ≡ true)
+pub noted_line : (start cur new : List LastSentRow) (all : List LineSeen) (x : LineSeen) (rest : List LineSeen) → Noting start cur all (x ∷ rest)
+    → ((p : ℕ) → sent_of new p ≡ cond (nat_eq p x.origin.0) (last_sent_in x) (sent_of cur p)) → ((p : ℕ) → has_row cur p ≡ true → has_row new p ≡ true)
     → Noting start new all rest
 noted_line start cur new all x rest h sent rows = record {
   distinct = h.distinct.1;
@@ -78,7 +78,7 @@ ready_push rows (x ∷ changes) c h there = (h.0, ready_push rows changes c h.1 
 -- ---- the changes of lines
 
 -- a change is of its line's origin
-pub change_origin : (own : Bool) (k : Kept) (c : Carried) (ch : Change) → change_of own k c ≡ Some ch → origin_of ch ≡ c.origin
+pub change_origin : (own : Bool) (k : Kept) (c : LineSeen) (ch : Change) → change_of own k c ≡ Some ch → origin_of ch ≡ c.origin
 change_origin own k c ch h = by (fits own k c) h
   where
     of : (b : Bool) → origin_of (change_in b k c) ≡ c.origin
@@ -90,7 +90,7 @@ change_origin own k c ch h = by (fits own k c) h
     by false h = absurd (false≢true (ap is_some h))
 
 -- the first change is of no origin that no line has
-pub first_absent : (own : ℕ → Bool) (rows : List KeptRow) (p : ℕ) (lines : List Carried) → is_in p (origins lines) ≡ false → first_for p (changes_of own rows lines) ≡ None
+pub first_absent : (own : ℕ → Bool) (rows : List KeptRow) (p : ℕ) (lines : List LineSeen) → is_in p (origins lines) ≡ false → first_for p (changes_of own rows lines) ≡ None
 first_absent own rows p [] h = refl
 first_absent own rows p (c ∷ lines) h = by (first_absent own rows p lines (later_false (nat_eq p c.origin.0) (is_in p (origins lines)) h)) (change_of (own c.origin.0) (kept_of rows c.origin.0) c) refl
   where
@@ -101,7 +101,7 @@ first_absent own rows p (c ∷ lines) h = by (first_absent own rows p lines (lat
         ap (λ b. cond b (Some ch) None) (ap (λ id. nat_eq id.0 p) (change_origin (own c.origin.0) (kept_of rows c.origin.0) c ch e) ∙ apart)
 
 -- the first change is that of the first line, if it has one
-pub first_change : (own : ℕ → Bool) (rows : List KeptRow) (x : Carried) (rest : List Carried) → is_in x.origin.0 (origins rest) ≡ false
+pub first_change : (own : ℕ → Bool) (rows : List KeptRow) (x : LineSeen) (rest : List LineSeen) → is_in x.origin.0 (origins rest) ≡ false
     → first_for x.origin.0 (changes_of own rows (x ∷ rest)) ≡ change_of (own x.origin.0) (kept_of rows x.origin.0) x
 first_change own rows x rest apart = by (change_of (own x.origin.0) (kept_of rows x.origin.0) x) refl
   where
@@ -110,7 +110,7 @@ first_change own rows x rest apart = by (change_of (own x.origin.0) (kept_of row
     by (Some ch) e = ap (λ b. cond b (Some ch) None) (ap (λ id. nat_eq id.0 x.origin.0) (change_origin (own x.origin.0) (kept_of rows x.origin.0) x ch e) ∙ nat_eq-same x.origin.0)
 
 -- what is kept of one origin changes no change of the others
-pub changes_later : (own : ℕ → Bool) (old new : List KeptRow) (x : ℕ) (lines : List Carried) → is_in x (origins lines) ≡ false
+pub changes_later : (own : ℕ → Bool) (old new : List KeptRow) (x : ℕ) (lines : List LineSeen) → is_in x (origins lines) ≡ false
     → ((p : ℕ) → nat_eq p x ≡ false → kept_of new p ≡ kept_of old p) → changes_of own new lines ≡ changes_of own old lines
 changes_later own old new x [] h same = refl
 changes_later own old new x (c ∷ lines) h same =
@@ -119,14 +119,14 @@ changes_later own old new x (c ∷ lines) h same =
     ∙ ap (cons_option (change_of (own c.origin.0) (kept_of old c.origin.0) c)) (changes_later own old new x lines (later_false (nat_eq x c.origin.0) (is_in x (origins lines)) h) same)
 
 -- where the same is kept the changes are the same
-pub changes_kept : (own : ℕ → Bool) (old new : List KeptRow) (lines : List Carried) → KeepsRows old new → changes_of own new lines ≡ changes_of own old lines
+pub changes_kept : (own : ℕ → Bool) (old new : List KeptRow) (lines : List LineSeen) → KeepsRows old new → changes_of own new lines ≡ changes_of own old lines
 changes_kept own old new [] h = refl
 changes_kept own old new (c ∷ lines) h =
     ap (λ k. cons_option (change_of (own c.origin.0) k c) (changes_of own new lines)) (h.kept c.origin.0)
     ∙ ap (cons_option (change_of (own c.origin.0) (kept_of old c.origin.0) c)) (changes_kept own old new lines h)
 
 -- nor what room the others have
-pub ready_later : (own : ℕ → Bool) (rows old new : List KeptRow) (x : ℕ) (lines : List Carried) → is_in x (origins lines) ≡ false
+pub ready_later : (own : ℕ → Bool) (rows old new : List KeptRow) (x : ℕ) (lines : List LineSeen) → is_in x (origins lines) ≡ false
     → ((p n : ℕ) → nat_eq p x ≡ false → has_room new p n ≡ has_room old p n) → AreReady old (changes_of own rows lines) → AreReady new (changes_of own rows lines)
 ready_later own rows old new x [] h same ready = tt
 ready_later own rows old new x (c ∷ lines) h same ready = by (ready_later own rows old new x lines (later_false (nat_eq x c.origin.0) (is_in x (origins lines)) h) same) (change_of (own c.origin.0) (kept_of rows c.origin.0) c) refl ready
@@ -142,25 +142,25 @@ ready_later own rows old new x (c ∷ lines) h same ready = by (ready_later own 
 -- ---- applying
 
 -- how far the tables are, while lines are applied
-pub record Applying (own : ℕ → Bool) (start cur : List KeptRow) (all rest : List Carried) (changes : List Change) : Type 0 where
+pub record Applying (own : ℕ → Bool) (start cur : List KeptRow) (all rest : List LineSeen) (changes : List Change) : Type 0 where
   pub distinct : AreDistinct (origins rest)
   pub planned : changes ≡ changes_of own cur rest
   pub ready : AreReady cur changes
   pub ahead : (p : ℕ) → accepted (own p) (kept_of cur p) (line_of rest p) ≡ accepted (own p) (kept_of start p) (line_of all p)
 
 -- which change is the next line's
-pub line_change : (own : ℕ → Bool) (start cur : List KeptRow) (all : List Carried) (x : Carried) (rest : List Carried) (changes : List Change) → Applying own start cur all (x ∷ rest) changes
+pub line_change : (own : ℕ → Bool) (start cur : List KeptRow) (all : List LineSeen) (x : LineSeen) (rest : List LineSeen) (changes : List Change) → Applying own start cur all (x ∷ rest) changes
     → first_for x.origin.0 changes ≡ change_of (own x.origin.0) (kept_of cur x.origin.0) x
 line_change own start cur all x rest changes h = ap (first_for x.origin.0) h.planned ∙ first_change own cur x rest h.distinct.0
 
 -- there is room for it
-pub line_room : (own : ℕ → Bool) (start cur : List KeptRow) (all : List Carried) (x : Carried) (rest : List Carried) (changes : List Change) (ch : Change) → Applying own start cur all (x ∷ rest) changes
+pub line_room : (own : ℕ → Bool) (start cur : List KeptRow) (all : List LineSeen) (x : LineSeen) (rest : List LineSeen) (changes : List Change) (ch : Change) → Applying own start cur all (x ∷ rest) changes
     → change_of (own x.origin.0) (kept_of cur x.origin.0) x ≡ Some ch → has_room cur x.origin.0 (arrivals ch) ≡ true
 line_room own start cur all x rest changes ch h e =
     let ready : AreReady cur (ch ∷ changes_of own cur rest) = subst (AreReady cur) (h.planned ∙ ap (λ o. cons_option o (changes_of own cur rest)) e) h.ready in
     ap (λ id. has_room cur id.0 (arrivals ch)) (sym (change_origin (own x.origin.0) (kept_of cur x.origin.0) x ch e)) ∙ ready.0
 
-pub line_passed : (own : ℕ → Bool) (start cur : List KeptRow) (all : List Carried) (x : Carried) (rest : List Carried) (changes : List Change) → Applying own start cur all (x ∷ rest) changes
+pub line_passed : (own : ℕ → Bool) (start cur : List KeptRow) (all : List LineSeen) (x : LineSeen) (rest : List LineSeen) (changes : List Change) → Applying own start cur all (x ∷ rest) changes
     → change_of (own x.origin.0) (kept_of cur x.origin.0) x ≡ None → Applying own start cur all rest changes
 line_passed own start cur all x rest changes h e = record {
   distinct = h.distinct.1;
@@ -173,7 +173,7 @@ line_passed own start cur all x rest changes h e = record {
     by p false at = refl
     by p true at = sym (subst (λ q. accepted (own q) (kept_of cur q) (Some x) ≡ kept_of cur q) (sym (nat_eq-is p x.origin.0 at)) (ap (λ o. option_map_or (changed (kept_of cur x.origin.0) x) o (kept_of cur x.origin.0)) e))
 
-pub line_applied : (own : ℕ → Bool) (start cur new : List KeptRow) (all : List Carried) (x : Carried) (rest : List Carried) (changes : List Change) (ch : Change) → Applying own start cur all (x ∷ rest) changes
+pub line_applied : (own : ℕ → Bool) (start cur new : List KeptRow) (all : List LineSeen) (x : LineSeen) (rest : List LineSeen) (changes : List Change) (ch : Change) → Applying own start cur all (x ∷ rest) changes
     → change_of (own x.origin.0) (kept_of cur x.origin.0) x ≡ Some ch
     → ((p : ℕ) → kept_of new p ≡ cond (nat_eq p x.origin.0) (changed (kept_of cur p) x ch) (kept_of cur p))
     → ((p n : ℕ) → nat_eq p x.origin.0 ≡ false → has_room new p n ≡ has_room cur p n)
@@ -197,7 +197,7 @@ line_applied own start cur new all x rest changes ch h e kept room =
 
 -- ---- steps of the loop over the lines, as the code has them
 
-module _ (own : ℕ → Bool) (start cur : List KeptRow) (all its : List Carried) (x : Carried) (rest : List Carried) (changes : List Change) (next id : ℕ)
+module _ (own : ℕ → Bool) (start cur : List KeptRow) (all its : List LineSeen) (x : LineSeen) (rest : List LineSeen) (changes : List Change) (next id : ℕ)
     (h : Applying own start cur all its (drop next changes)) (step : its ≡ x ∷ rest) (at : id ≡ x.origin.0) where
   pub step_holds : Applying own start cur all (x ∷ rest) (drop next changes)
   step_holds = subst (λ l. Applying own start cur all l (drop next changes)) step h

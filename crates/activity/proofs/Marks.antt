@@ -2,35 +2,36 @@
 use Rattle.std.proofs.Common.{◌≡◌, ℕ, ◌+◌, ◌-◌, ◌≤◌, Bool, true, false, cond, List, ◌++◌, length, take, drop, max, Some, None, is_some, refl, sym, ap, subst, ◌∙◌, arith, length-append, length-drop}
 use Rattle.std.proofs.lemmas.Bool.{false≢true}
 use Rattle.std.specs.Option.{option_map_or}
-use Rattle.std.proofs.lemmas.List.{drop-drop, drop-append-le, take-take, take-append-drop, length-take-le}
+use Rattle.std.proofs.lemmas.List.{drop-drop}
 use Rattle.pending_store.specs.Store.{messages_between}
 use Rattle.queue_core.specs.declared.message.Message.{Message}
 use Rattle.activity.specs.Kept.{Kept, got_of}
-use Rattle.activity.specs.Told.{Told}
-use Rattle.activity.specs.Parcels.{Carried, got_in}
+use Rattle.activity.specs.LastSent.{LastSent}
+use Rattle.activity.specs.Packets.{LineSeen, got_in}
 use Rattle.activity.specs.Diff.{has_line, lo_of, line_from, next_line}
 use Rattle.activity.specs.Plan.{fits, change_in, change_of, changed, accepted}
 use Rattle.activity.specs.Laws.{Marks, marks_of, taken_marks, IsPartOf, IsLineOf}
 use Rattle.activity.proofs.Fits.{IsReceived, WentRound, received, went_round}
 use Rattle.group_view.specs.View.{as_id}
+use Rattle.group_view.proofs.Lists.{between_joined}
 
 -- a line that is used makes its change
-pub accepted_used : (own : Bool) (k : Kept) (c : Carried) → fits own k c ≡ true → accepted own k (Some c) ≡ changed k c (change_in own k c)
+pub accepted_used : (own : Bool) (k : Kept) (c : LineSeen) → fits own k c ≡ true → accepted own k (Some c) ≡ changed k c (change_in own k c)
 accepted_used own k c h = ap (λ b. option_map_or (changed k c) (cond b (Some (change_in own k c)) None) k) h
 
-pub accepted_passed : (own : Bool) (k : Kept) (c : Carried) → fits own k c ≡ false → accepted own k (Some c) ≡ k
+pub accepted_passed : (own : Bool) (k : Kept) (c : LineSeen) → fits own k c ≡ false → accepted own k (Some c) ≡ k
 accepted_passed own k c h = ap (λ b. option_map_or (changed k c) (cond b (Some (change_in own k c)) None) k) h
 
-pub planned : (own : Bool) (k : Kept) (c : Carried) → fits own k c ≡ true → change_of own k c ≡ Some (change_in own k c)
+pub planned : (own : Bool) (k : Kept) (c : LineSeen) → fits own k c ≡ true → change_of own k c ≡ Some (change_in own k c)
 planned own k c h = ap (λ b. cond b (Some (change_in own k c)) None) h
 
 -- where the next line begins
-pub lo_within : (first : Bool) (s : Kept) (t : Told) → t.got ≤ got_of s → (s.forgot ≤ lo_of first s t) × (lo_of first s t ≤ got_of s)
+pub lo_within : (first : Bool) (s : Kept) (t : LastSent) → t.got ≤ got_of s → (s.forgot ≤ lo_of first s t) × (lo_of first s t ≤ got_of s)
 lo_within true s t h = (omega arith, omega arith)
 lo_within false s t h = (omega arith, omega arith)
 
 -- the next line, where there is one
-pub next_is : (first : Bool) (p : ℕ) (s : Kept) (t : Told) (c : Carried) → next_line first p s t ≡ Some c → c ≡ line_from (lo_of first s t) (as_id p) s
+pub next_is : (first : Bool) (p : ℕ) (s : Kept) (t : LastSent) (c : LineSeen) → next_line first p s t ≡ Some c → c ≡ line_from (lo_of first s t) (as_id p) s
 next_is first p s t c h = by (has_line first s t) h
   where
     by : (b : Bool) → cond b (Some (line_from (lo_of first s t) (as_id p) s)) None ≡ Some c → c ≡ line_from (lo_of first s t) (as_id p) s
@@ -42,18 +43,18 @@ pub line_got : (lo p : ℕ) (s : Kept) → s.forgot ≤ lo → lo ≤ got_of s �
 line_got lo p s a b = omega (arith, length-drop (lo - s.forgot) s.messages)
 
 -- the numbers after a line that is used
-abbrev pub line_marks : Bool → Kept → Carried → Marks
+abbrev pub line_marks : Bool → Kept → LineSeen → Marks
 line_marks true k c = record { got = got_of k; forgot = got_in c; retired = c.forgot }
 line_marks false k c = record { got = got_in c; forgot = c.forgot; retired = k.retired }
 
 -- what is left of the messages ends with the last number: where a line comes round
-left_round : (k : Kept) (c : Carried) → fits true k c ≡ true → WentRound k c (got_in c) c.forgot × (got_in c + length (drop (got_in c - k.forgot) k.messages) ≡ got_of k)
+left_round : (k : Kept) (c : LineSeen) → fits true k c ≡ true → WentRound k c (got_in c) c.forgot × (got_in c + length (drop (got_in c - k.forgot) k.messages) ≡ got_of k)
 left_round k c h =
     let r : WentRound k c (got_in c) c.forgot = went_round true k c c.origin (got_in c) c.forgot (planned true k c h) in
     (r, omega (arith, r.forgot, r.got, length-drop (got_in c - k.forgot) k.messages))
 
 -- and where it is received
-left_received : (k : Kept) (c : Carried) → fits false k c ≡ true
+left_received : (k : Kept) (c : LineSeen) → fits false k c ≡ true
     → IsReceived k c (max c.lo (got_of k)) (got_in c) c.forgot × (c.forgot + length (drop (c.forgot - k.forgot) (k.messages ++ drop (max c.lo (got_of k) - c.lo) c.messages)) ≡ got_in c)
 left_received k c h =
     let r : IsReceived k c (max c.lo (got_of k)) (got_in c) c.forgot = received false k c c.origin (max c.lo (got_of k)) (got_in c) c.forgot (planned false k c h) in (
@@ -71,16 +72,16 @@ left_received k c h =
       ),
     )
 
-pub marks_kept : (own : Bool) (k : Kept) (c : Carried) → fits own k c ≡ true → marks_of (accepted own k (Some c)) ≡ line_marks own k c
+pub marks_kept : (own : Bool) (k : Kept) (c : LineSeen) → fits own k c ≡ true → marks_of (accepted own k (Some c)) ≡ line_marks own k c
 marks_kept true k c h = ap marks_of (accepted_used true k c h) ∙ ap (λ m. record { got = m; forgot = got_in c; retired = c.forgot }) (left_round k c h).1
 marks_kept false k c h = ap marks_of (accepted_used false k c h) ∙ ap (λ m. record { got = m; forgot = c.forgot; retired = k.retired }) (left_received k c h).1
 
 -- against the sender whose numbers it carries
-pub marks_taken : (own : Bool) (k : Kept) (c : Carried) (s : Kept) → fits own k c ≡ true → got_in c ≡ got_of s → c.forgot ≡ s.forgot → marks_of (accepted own k (Some c)) ≡ taken_marks own (marks_of k) s
+pub marks_taken : (own : Bool) (k : Kept) (c : LineSeen) (s : Kept) → fits own k c ≡ true → got_in c ≡ got_of s → c.forgot ≡ s.forgot → marks_of (accepted own k (Some c)) ≡ taken_marks own (marks_of k) s
 marks_taken true k c s h g f = marks_kept true k c h ∙ (λ i. record { got = got_of k; forgot = g i; retired = f i })
 marks_taken false k c s h g f = marks_kept false k c h ∙ (λ i. record { got = g i; forgot = f i; retired = k.retired })
 
-pub marks_sent : (own first : Bool) (p : ℕ) (s k : Kept) (t : Told) (c : Carried) → next_line first p s t ≡ Some c → t.got ≤ got_of s → fits own k c ≡ true
+pub marks_sent : (own first : Bool) (p : ℕ) (s k : Kept) (t : LastSent) (c : LineSeen) → next_line first p s t ≡ Some c → t.got ≤ got_of s → fits own k c ≡ true
     → marks_of (accepted own k (Some c)) ≡ taken_marks own (marks_of k) s
 marks_sent own first p s k t c h le used =
     let w = lo_within first s t le in
@@ -101,20 +102,13 @@ line_part log lo p s a b h = record {
   messages = ap (drop (lo - s.forgot)) h.messages ∙ drop_between s.forgot lo (got_of s) log a ∙ ap (λ n. messages_between lo n log) (sym (line_got lo p s a b));
 }
 
-pub line_sent : (log : List Message) (first : Bool) (p : ℕ) (s : Kept) (t : Told) (c : Carried) → next_line first p s t ≡ Some c → t.got ≤ got_of s → IsPartOf log s → IsLineOf log c
+pub line_sent : (log : List Message) (first : Bool) (p : ℕ) (s : Kept) (t : LastSent) (c : LineSeen) → next_line first p s t ≡ Some c → t.got ≤ got_of s → IsPartOf log s → IsLineOf log c
 line_sent log first p s t c h le part =
     let w = lo_within first s t le in
     subst (IsLineOf log) (sym (next_is first p s t c h)) (line_part log (lo_of first s t) p s w.0 w.1 part)
 
--- two parts of a log, one behind the other
-pub between_joined : (lo mid hi : ℕ) (log : List Message) → lo ≤ mid → mid ≤ hi → hi ≤ length log → messages_between lo mid log ++ messages_between mid hi log ≡ messages_between lo hi log
-between_joined lo mid hi log a b r =
-    let long : length (take mid log) ≡ mid = length-take-le mid log (omega arith) in
-    sym (drop-append-le lo (take mid log) (drop mid (take hi log)) (omega arith))
-    ∙ ap (drop lo) (ap (λ xs. xs ++ drop mid (take hi log)) (sym (take-take mid hi log b)) ∙ take-append-drop mid (take hi log))
-
 -- what is kept of a log stays a part of it
-pub part_taken : (log : List Message) (own : Bool) (k : Kept) (c : Carried) → IsLineOf log c → IsPartOf log k → IsPartOf log (accepted own k (Some c))
+pub part_taken : (log : List Message) (own : Bool) (k : Kept) (c : LineSeen) → IsLineOf log c → IsPartOf log k → IsPartOf log (accepted own k (Some c))
 part_taken log own k c line part = by own (fits own k c) refl
   where
     by : (own b : Bool) → fits own k c ≡ b → IsPartOf log (accepted own k (Some c))

@@ -15,9 +15,9 @@ use Rattle.group_view.proofs.Truth.{first_false, later_false}
 use Rattle.group_view.proofs.Rings.{nat_eq-is}
 use Rattle.ring_names.specs.declared.numbers.MemberId.{MemberId}
 use Rattle.activity.specs.declared.table.Table.{Table}
-use Rattle.activity.specs.Kept.{KeptRow, got_of, no_kept, kept_of, ids_of}
-use Rattle.activity.specs.Told.{Told, ToldRow, sent_of}
-use Rattle.activity.specs.Parcels.{origins, line_of}
+use Rattle.activity.specs.Kept.{KeptRow, got_of, no_kept, kept_of, origins_of}
+use Rattle.activity.specs.LastSent.{LastSent, LastSentRow, sent_of}
+use Rattle.activity.specs.Packets.{origins, line_of}
 use Rattle.activity.specs.Diff.{lo_of, line_from, next_line, row_has_line, row_line, lines_of, IsNotAbove}
 use Rattle.activity.specs.Shown.{kept_row, kept_rows}
 use Rattle.activity.proofs.Rows.{same}
@@ -25,12 +25,12 @@ use Rattle.activity.proofs.Lines.{line_absent}
 
 -- ---- the ids of rows
 
-absent_id : (k : MemberId) (es : List (MemberId × Table)) → AllByRecursion (λ y. same k y ≡ false) (keys_of es) → is_in k.0 (ids_of (kept_rows es)) ≡ false
+absent_id : (k : MemberId) (es : List (MemberId × Table)) → AllByRecursion (λ y. same k y ≡ false) (keys_of es) → is_in k.0 (origins_of (kept_rows es)) ≡ false
 absent_id k [] h = refl
-absent_id k (e ∷ es) h = ap (λ b. cond b true (is_in k.0 (ids_of (kept_rows es)))) h.0 ∙ absent_id k es h.1
+absent_id k (e ∷ es) h = ap (λ b. cond b true (is_in k.0 (origins_of (kept_rows es)))) h.0 ∙ absent_id k es h.1
 
 -- the keys of a map are different, so its origins are
-pub distinct_ids : (es : List (MemberId × Table)) → IsDistinct same (keys_of es) → AreDistinct (ids_of (kept_rows es))
+pub distinct_ids : (es : List (MemberId × Table)) → IsDistinct same (keys_of es) → AreDistinct (origins_of (kept_rows es))
 distinct_ids [] h = tt
 distinct_ids (e ∷ es) h = (absent_id e.0 es (IsDistinct-head same e.0 (keys_of es) h), distinct_ids es (IsDistinct-tail same e.0 (keys_of es) h))
 
@@ -41,7 +41,7 @@ row_at es rows place k t r shows at is =
 
 -- ---- lines
 
-module _ (first : Bool) (sent : List ToldRow) where
+module _ (first : Bool) (sent : List LastSentRow) where
   -- the line of one row
   pub one_line : (r : KeptRow) → lines_of first sent (r ∷ []) ≡ cond (row_has_line first sent r) (row_line first sent r ∷ []) []
   one_line r = by (row_has_line first sent r)
@@ -56,9 +56,9 @@ module _ (first : Bool) (sent : List ToldRow) where
       ∙ map-append (row_line first sent) (filter (row_has_line first sent) rows) (filter (row_has_line first sent) (r ∷ []))
 
   -- an origin without a row has no line
-  pub no_line : (x : ℕ) (rows : List KeptRow) → is_in x (ids_of rows) ≡ false → is_in x (origins (lines_of first sent rows)) ≡ false
+  pub no_line : (x : ℕ) (rows : List KeptRow) → is_in x (origins_of rows) ≡ false → is_in x (origins (lines_of first sent rows)) ≡ false
   no_line x [] h = refl
-  no_line x (r ∷ rows) h = by (row_has_line first sent r) (first_false (nat_eq x r.origin.0) (is_in x (ids_of rows)) h) (no_line x rows (later_false (nat_eq x r.origin.0) (is_in x (ids_of rows)) h))
+  no_line x (r ∷ rows) h = by (row_has_line first sent r) (first_false (nat_eq x r.origin.0) (is_in x (origins_of rows)) h) (no_line x rows (later_false (nat_eq x r.origin.0) (is_in x (origins_of rows)) h))
     where
       by : (b : Bool) → nat_eq x r.origin.0 ≡ false → is_in x (origins (lines_of first sent rows)) ≡ false
           → is_in x (origins (map (row_line first sent) (cond b (r ∷ filter (row_has_line first sent) rows) (filter (row_has_line first sent) rows)))) ≡ false
@@ -66,7 +66,7 @@ module _ (first : Bool) (sent : List ToldRow) where
       by false e later = later
 
   -- the lines have different origins
-  pub distinct_lines : (rows : List KeptRow) → AreDistinct (ids_of rows) → AreDistinct (origins (lines_of first sent rows))
+  pub distinct_lines : (rows : List KeptRow) → AreDistinct (origins_of rows) → AreDistinct (origins (lines_of first sent rows))
   distinct_lines [] h = tt
   distinct_lines (r ∷ rows) h = by (row_has_line first sent r) (no_line r.origin.0 rows h.0) (distinct_lines rows h.1)
     where
@@ -82,7 +82,7 @@ module _ (first : Bool) (sent : List ToldRow) where
   own_none : (r : KeptRow) (p : ℕ) → p ≡ r.origin.0 → row_has_line first sent r ≡ false → None ≡ next_line first p r.kept (sent_of sent p)
   own_none r p e h = subst (λ q. None ≡ next_line first q r.kept (sent_of sent q)) (sym e) (sym (ap (λ c. cond c (Some (row_line first sent r)) None) h))
 
-  found_line : (p : ℕ) (rows : List KeptRow) → AreDistinct (ids_of rows) → (kept_of rows p ≡ no_kept → next_line first p no_kept (sent_of sent p) ≡ None)
+  found_line : (p : ℕ) (rows : List KeptRow) → AreDistinct (origins_of rows) → (kept_of rows p ≡ no_kept → next_line first p no_kept (sent_of sent p) ≡ None)
       → line_of (lines_of first sent rows) p ≡ next_line first p (kept_of rows p) (sent_of sent p)
   found_line p [] d z = sym (z refl)
   found_line p (r ∷ rows) d z = by (nat_eq p r.origin.0) refl (row_has_line first sent r) refl z (found_line p rows d.1)
@@ -99,7 +99,7 @@ module _ (first : Bool) (sent : List ToldRow) where
       by false e false h z later = later z
 
 -- an origin of which nothing is kept, and nothing was sent, has no line
-no_next : (first : Bool) (p : ℕ) (t : Told) → t.got ≤ 0 → t.forgot ≤ 0 → next_line first p no_kept t ≡ None
+no_next : (first : Bool) (p : ℕ) (t : LastSent) → t.got ≤ 0 → t.forgot ≤ 0 → next_line first p no_kept t ≡ None
 no_next true p t g f = refl
 no_next false p t g f =
     let a : nat_eq 0 t.got ≡ true = eq-eqb 0 t.got (omega arith) in
@@ -107,7 +107,7 @@ no_next false p t g f =
     ap (λ c. cond (not c) (Some (line_from (lo_of false no_kept t) (as_id p) no_kept)) None) (λ i. a i && b i)
 
 -- the line of each origin in the next packet
-pub next_found : (first : Bool) (sent : List ToldRow) (rows : List KeptRow) → AreDistinct (ids_of rows) → IsNotAbove sent rows → (p : ℕ)
+pub next_found : (first : Bool) (sent : List LastSentRow) (rows : List KeptRow) → AreDistinct (origins_of rows) → IsNotAbove sent rows → (p : ℕ)
     → line_of (lines_of first sent rows) p ≡ next_line first p (kept_of rows p) (sent_of sent p)
 next_found first sent rows d n p = found_line first sent p rows d
     (λ e. no_next first p (sent_of sent p) (subst (λ k. (sent_of sent p).got ≤ got_of k) e (n.got p)) (subst (λ k. (sent_of sent p).forgot ≤ k.forgot) e (n.forgot p)))

@@ -14,8 +14,8 @@ use Rattle.ring_names.specs.declared.numbers.MemberId.{MemberId}
 use Rattle.activity.specs.declared.table.Table.{Table}
 use Rattle.activity.specs.declared.sent.SentRow.{SentRow}
 use Rattle.activity.specs.Kept.{Kept, KeptRow, no_kept, kept_of, has_room, KeepsRows, joined}
-use Rattle.activity.specs.Told.{none_told, sent_of, has_row, KeepsSent}
-use Rattle.activity.specs.Shown.{kept_in, kept_rows, told_of, told_rows}
+use Rattle.activity.specs.LastSent.{never_sent, sent_of, has_row, KeepsSent}
+use Rattle.activity.specs.Shown.{kept_in, kept_rows, last_sent_of, last_sent_rows}
 
 -- whether a key is this origin
 abbrev pub same : MemberId → MemberId → Bool
@@ -110,20 +110,15 @@ pub room_seen : (es : List (MemberId × Table)) (p n : ℕ) → has_room (kept_r
 room_seen [] p n = refl
 room_seen (e ∷ es) p n = ap (cond (nat_eq p e.0.0) (nat_le n e.1.store.spare)) (room_seen es p n)
 
-pub sent_seen : (es : List (MemberId × SentRow)) (p : ℕ) → sent_of (told_rows es) p ≡ seen told_of none_told es p
+pub sent_seen : (es : List (MemberId × SentRow)) (p : ℕ) → sent_of (last_sent_rows es) p ≡ seen last_sent_of never_sent es p
 sent_seen [] p = refl
-sent_seen (e ∷ es) p = ap (cond (nat_eq p e.0.0) (told_of e.1)) (sent_seen es p)
+sent_seen (e ∷ es) p = ap (cond (nat_eq p e.0.0) (last_sent_of e.1)) (sent_seen es p)
 
-pub row_seen : (es : List (MemberId × SentRow)) (p : ℕ) → has_row (told_rows es) p ≡ seen there false es p
+pub row_seen : (es : List (MemberId × SentRow)) (p : ℕ) → has_row (last_sent_rows es) p ≡ seen there false es p
 row_seen [] p = refl
 row_seen (e ∷ es) p = ap (cond (nat_eq p e.0.0) true) (row_seen es p)
 
 -- ---- what the map's calls do to rows
-
--- a look-up that finds nothing
-pub is_none : {X : Type 0} (o : Option X) → is_some o ≡ false → o ≡ None
-is_none None h = refl
-is_none (Some x) h = absurd (true≢false h)
 
 module _ (k : MemberId) (es : List (MemberId × Table)) where
   pub kept_found : (t : Table) → lookup (same k) es ≡ Some t → kept_of (kept_rows es) k.0 ≡ kept_in t
@@ -151,35 +146,35 @@ module _ (k : MemberId) (es : List (MemberId × Table)) where
   room_push w h p n = room_seen (es ++ (k, w) ∷ []) p n ∙ seen_push (fits_in n) false k es w h p ∙ ap (cond (nat_eq p k.0) (nat_le n w.store.spare)) (sym (room_seen es p n))
 
 module _ (k : MemberId) (es : List (MemberId × SentRow)) where
-  pub sent_found : (s : SentRow) → lookup (same k) es ≡ Some s → sent_of (told_rows es) k.0 ≡ told_of s
-  sent_found s h = sent_seen es k.0 ∙ seen_found told_of none_told k es s h
+  pub sent_found : (s : SentRow) → lookup (same k) es ≡ Some s → sent_of (last_sent_rows es) k.0 ≡ last_sent_of s
+  sent_found s h = sent_seen es k.0 ∙ seen_found last_sent_of never_sent k es s h
 
-  pub sent_none : lookup (same k) es ≡ None → sent_of (told_rows es) k.0 ≡ none_told
-  sent_none h = sent_seen es k.0 ∙ seen_none told_of none_told k es h
+  pub sent_none : lookup (same k) es ≡ None → sent_of (last_sent_rows es) k.0 ≡ never_sent
+  sent_none h = sent_seen es k.0 ∙ seen_none last_sent_of never_sent k es h
 
-  pub row_found : (s : SentRow) → lookup (same k) es ≡ Some s → has_row (told_rows es) k.0 ≡ true
+  pub row_found : (s : SentRow) → lookup (same k) es ≡ Some s → has_row (last_sent_rows es) k.0 ≡ true
   row_found s h = row_seen es k.0 ∙ seen_found there false k es s h
 
-  pub row_none : lookup (same k) es ≡ None → has_row (told_rows es) k.0 ≡ false
+  pub row_none : lookup (same k) es ≡ None → has_row (last_sent_rows es) k.0 ≡ false
   row_none h = row_seen es k.0 ∙ seen_none there false k es h
 
-  pub sent_set : (v w : SentRow) → lookup (same k) es ≡ Some v → (p : ℕ) → sent_of (told_rows (set_value (same k) es w)) p ≡ cond (nat_eq p k.0) (told_of w) (sent_of (told_rows es) p)
-  sent_set v w h p = sent_seen (set_value (same k) es w) p ∙ seen_set told_of none_told k es v w h p ∙ ap (cond (nat_eq p k.0) (told_of w)) (sym (sent_seen es p))
+  pub sent_set : (v w : SentRow) → lookup (same k) es ≡ Some v → (p : ℕ) → sent_of (last_sent_rows (set_value (same k) es w)) p ≡ cond (nat_eq p k.0) (last_sent_of w) (sent_of (last_sent_rows es) p)
+  sent_set v w h p = sent_seen (set_value (same k) es w) p ∙ seen_set last_sent_of never_sent k es v w h p ∙ ap (cond (nat_eq p k.0) (last_sent_of w)) (sym (sent_seen es p))
 
-  pub row_set : (v w : SentRow) → lookup (same k) es ≡ Some v → (p : ℕ) → has_row (told_rows (set_value (same k) es w)) p ≡ cond (nat_eq p k.0) true (has_row (told_rows es) p)
+  pub row_set : (v w : SentRow) → lookup (same k) es ≡ Some v → (p : ℕ) → has_row (last_sent_rows (set_value (same k) es w)) p ≡ cond (nat_eq p k.0) true (has_row (last_sent_rows es) p)
   row_set v w h p = row_seen (set_value (same k) es w) p ∙ seen_set there false k es v w h p ∙ ap (cond (nat_eq p k.0) true) (sym (row_seen es p))
 
-  pub sent_push : (w : SentRow) → lookup (same k) es ≡ None → (p : ℕ) → sent_of (told_rows (es ++ (k, w) ∷ [])) p ≡ cond (nat_eq p k.0) (told_of w) (sent_of (told_rows es) p)
-  sent_push w h p = sent_seen (es ++ (k, w) ∷ []) p ∙ seen_push told_of none_told k es w h p ∙ ap (cond (nat_eq p k.0) (told_of w)) (sym (sent_seen es p))
+  pub sent_push : (w : SentRow) → lookup (same k) es ≡ None → (p : ℕ) → sent_of (last_sent_rows (es ++ (k, w) ∷ [])) p ≡ cond (nat_eq p k.0) (last_sent_of w) (sent_of (last_sent_rows es) p)
+  sent_push w h p = sent_seen (es ++ (k, w) ∷ []) p ∙ seen_push last_sent_of never_sent k es w h p ∙ ap (cond (nat_eq p k.0) (last_sent_of w)) (sym (sent_seen es p))
 
-  pub row_push : (w : SentRow) → lookup (same k) es ≡ None → (p : ℕ) → has_row (told_rows (es ++ (k, w) ∷ [])) p ≡ cond (nat_eq p k.0) true (has_row (told_rows es) p)
+  pub row_push : (w : SentRow) → lookup (same k) es ≡ None → (p : ℕ) → has_row (last_sent_rows (es ++ (k, w) ∷ [])) p ≡ cond (nat_eq p k.0) true (has_row (last_sent_rows es) p)
   row_push w h p = row_seen (es ++ (k, w) ∷ []) p ∙ seen_push there false k es w h p ∙ ap (cond (nat_eq p k.0) true) (sym (row_seen es p))
 
 -- a row is there where the look-up finds something
-pub row_there : (k : MemberId) (es : List (MemberId × SentRow)) → is_some (lookup (same k) es) ≡ true → has_row (told_rows es) k.0 ≡ true
+pub row_there : (k : MemberId) (es : List (MemberId × SentRow)) → is_some (lookup (same k) es) ≡ true → has_row (last_sent_rows es) k.0 ≡ true
 row_there k es h = by (lookup (same k) es) refl h
   where
-    by : (o : Option SentRow) → lookup (same k) es ≡ o → is_some o ≡ true → has_row (told_rows es) k.0 ≡ true
+    by : (o : Option SentRow) → lookup (same k) es ≡ o → is_some o ≡ true → has_row (last_sent_rows es) k.0 ≡ true
     by None e h = absurd (false≢true h)
     by (Some s) e h = row_found k es s e
 
@@ -191,12 +186,12 @@ room_there k es h = by (lookup (same k) es) refl h
     by (Some t) e h = room_found k es 0 t e ∙ le-leb 0 t.store.spare (omega arith)
 
 -- a row of zeros is added where there is none: it counts as none, and no row is lost
-pub row_added : (k : MemberId) (es : List (MemberId × SentRow)) (w : SentRow) → lookup (same k) es ≡ None → has_row (told_rows (es ++ (k, w) ∷ [])) k.0 ≡ true
-row_added k es w h = row_push k es w h k.0 ∙ ap (λ b. cond b true (has_row (told_rows es) k.0)) (nat_eq-same k.0)
+pub row_added : (k : MemberId) (es : List (MemberId × SentRow)) (w : SentRow) → lookup (same k) es ≡ None → has_row (last_sent_rows (es ++ (k, w) ∷ [])) k.0 ≡ true
+row_added k es w h = row_push k es w h k.0 ∙ ap (λ b. cond b true (has_row (last_sent_rows es) k.0)) (nat_eq-same k.0)
 
-pub none_sent : (k : MemberId) (es : List (MemberId × SentRow)) (w : SentRow) → lookup (same k) es ≡ None → told_of w ≡ none_told → KeepsSent (told_rows es) (told_rows (es ++ (k, w) ∷ []))
+pub none_sent : (k : MemberId) (es : List (MemberId × SentRow)) (w : SentRow) → lookup (same k) es ≡ None → last_sent_of w ≡ never_sent → KeepsSent (last_sent_rows es) (last_sent_rows (es ++ (k, w) ∷ []))
 none_sent k es w h zero = record {
-  sent = λ p. sent_push k es w h p ∙ same_written (sent_of (told_rows es)) k.0 (told_of w) (zero ∙ sym (sent_none k es h)) p;
+  sent = λ p. sent_push k es w h p ∙ same_written (sent_of (last_sent_rows es)) k.0 (last_sent_of w) (zero ∙ sym (sent_none k es h)) p;
   rows = λ p there. row_push k es w h p ∙ later_true (nat_eq p k.0) there;
 }
 

@@ -3,9 +3,9 @@ use Rattle.std.specs.Prelude.{◌≡◌, ℕ, ◌+◌, Bool, true, false, cond, 
 use Rattle.queue_core.specs.declared.message.Message.{Message}
 use Rattle.ring_names.specs.declared.numbers.MemberId.{MemberId}
 
--- What is kept of an origin: how many of its messages are forgotten, those behind them, up to which of the member's own the
--- acknowledgement has come round (gm's `pending_ack` of a member), and the number behind which the member receives: that of
--- its first packet, where it joined.
+-- What is kept of an origin: how many of its messages are forgotten, and those behind them (gm's `pending_ack` of a member);
+-- up to which message the acknowledgement has come round too, which is 0 until the member answers for the origin; and the
+-- number behind which the member receives: that of its first packet, where it joined.
 pub record Kept : Type 0 where
   pub forgot : ℕ
   pub messages : List Message
@@ -26,9 +26,9 @@ pub record KeptRow : Type 0 where
   pub kept : Kept
   pub room : ℕ
 
--- the ids of the origins of rows
-abbrev pub ids_of : List KeptRow → List ℕ
-ids_of rows = map (λ r. r.origin.0) rows
+-- the ids of the origins of rows, in the order in which they were first seen
+abbrev pub origins_of : List KeptRow → List ℕ
+origins_of rows = map (λ r. r.origin.0) rows
 
 -- what is kept of the origin of an id
 abbrev pub kept_of : List KeptRow → ℕ → Kept

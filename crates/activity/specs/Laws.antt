@@ -3,7 +3,7 @@ use Rattle.std.specs.Prelude.{◌≡◌, ℕ, ◌≤◌, Bool, true, false, List
 use Rattle.pending_store.specs.Store.{messages_between}
 use Rattle.queue_core.specs.declared.message.Message.{Message}
 use Rattle.activity.specs.Kept.{Kept, got_of}
-use Rattle.activity.specs.Parcels.{Carried, got_in}
+use Rattle.activity.specs.Packets.{LineSeen, got_in}
 
 -- The three numbers of an origin.
 pub record Marks : Type 0 where
@@ -27,6 +27,6 @@ pub record IsPartOf (log : List Message) (k : Kept) : Type 0 where
   pub messages : k.messages ≡ messages_between k.forgot (got_of k) log
 
 -- so are those of a line
-pub record IsLineOf (log : List Message) (c : Carried) : Type 0 where
+pub record IsLineOf (log : List Message) (c : LineSeen) : Type 0 where
   pub reached : got_in c ≤ length log
   pub messages : c.messages ≡ messages_between c.lo (got_in c) log

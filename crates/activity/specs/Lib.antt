@@ -1,6 +1,7 @@
+pub mod Order
 pub mod Kept
-pub mod Told
-pub mod Parcels
+pub mod LastSent
+pub mod Packets
 pub mod Diff
 pub mod Plan
 pub mod Laws

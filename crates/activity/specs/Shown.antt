@@ -4,7 +4,7 @@ use Rattle.ring_names.specs.declared.numbers.MemberId.{MemberId}
 use Rattle.activity.specs.declared.table.Table.{Table}
 use Rattle.activity.specs.declared.sent.SentRow.{SentRow}
 use Rattle.activity.specs.Kept.{Kept, KeptRow}
-use Rattle.activity.specs.Told.{Told, ToldRow}
+use Rattle.activity.specs.LastSent.{LastSent, LastSentRow}
 
 -- what a table keeps
 abbrev pub kept_in : Table → Kept
@@ -19,13 +19,13 @@ abbrev pub kept_rows : List (MemberId × Table) → List KeptRow
 kept_rows entries = map kept_row entries
 
 -- the numbers of a row
-abbrev pub told_of : SentRow → Told
-told_of s = record { got = s.got; forgot = s.forgot }
+abbrev pub last_sent_of : SentRow → LastSent
+last_sent_of s = record { got = s.got; forgot = s.forgot }
 
 -- the row of an entry
-abbrev pub told_row : MemberId × SentRow → ToldRow
-told_row e = record { origin = e.0; told = told_of e.1 }
+abbrev pub last_sent_row : MemberId × SentRow → LastSentRow
+last_sent_row e = record { origin = e.0; last_sent = last_sent_of e.1 }
 
 -- the rows of entries
-abbrev pub told_rows : List (MemberId × SentRow) → List ToldRow
-told_rows entries = map told_row entries
+abbrev pub last_sent_rows : List (MemberId × SentRow) → List LastSentRow
+last_sent_rows entries = map last_sent_row entries

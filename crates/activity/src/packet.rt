@@ -1,6 +1,6 @@
 //! What goes from a member to its right neighbour.
 ghost use Rattle.std.specs.Prelude.{◌≡◌, ◌≤◌, ◌^◌};
-ghost use Rattle.activity.specs.Parcels.{got_in, origins};
+ghost use Rattle.activity.specs.Packets.{got_in, origins};
 ghost use Rattle.group_view.specs.Ring.{AreDistinct};
 
 use queue_core::Message;
@@ -23,9 +23,9 @@ pub struct Line {
 
 impl Model for Line {
     ghost use Rattle.std.specs.Prelude.{◌+◌, ◌≤◌, ◌^◌, length};
-    ghost use Rattle.activity.specs.Parcels.{Carried};
+    ghost use Rattle.activity.specs.Packets.{LineSeen};
 
-    ghost Value = { Carried };
+    ghost Value = { LineSeen };
 
     ghost view = { λ l. record { origin = l.origin; lo = l.lo; messages = l.messages; forgot = l.forgot } };
 
@@ -57,10 +57,10 @@ pub struct Packet {
 }
 
 impl Model for Packet {
-    ghost use Rattle.activity.specs.Parcels.{Parcel, origins};
+    ghost use Rattle.activity.specs.Packets.{PacketSeen, origins};
     ghost use Rattle.group_view.specs.Ring.{AreDistinct};
 
-    ghost Value = { Parcel };
+    ghost Value = { PacketSeen };
 
     ghost view = { λ p. record { stamp = p.stamp; view = p.view; first = p.first; lines = p.lines } };
 

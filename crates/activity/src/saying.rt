@@ -1,9 +1,9 @@
 //! Whether anything is new on a link.
-ghost use Rattle.std.specs.Prelude.{◌≡◌, ℕ, ◌+◌, ◌&&◌, not, nat_le};
+ghost use Rattle.std.specs.Prelude.{◌≡◌, ◌+◌};
 ghost use Rattle.std.specs.List.{list_all, range_with_len, slice_get};
 ghost use Rattle.activity.specs.Kept.{KeptRow, kept_of};
-ghost use Rattle.activity.specs.Told.{sent_of};
-ghost use Rattle.activity.specs.Diff.{is_told, tells_new, IsNotAbove};
+ghost use Rattle.activity.specs.LastSent.{sent_of};
+ghost use Rattle.activity.specs.Diff.{is_last_sent, tells_new, IsNotAbove};
 
 use crate::sent::Sent;
 use crate::tables::Tables;
@@ -14,7 +14,7 @@ use ring_names::MemberId;
 pub fn says_all(sent: &Sent, tables: &Tables, ids: u32) -> bool
     requires { IsNotAbove sent.now tables.now }
     ensures { result
-        ≡ list_all (λ p. is_told (kept_of tables.now (p + 1)) (sent_of sent.now (p + 1))) (range_with_len 0 ids) }
+        ≡ list_all (λ p. is_last_sent (kept_of tables.now (p + 1)) (sent_of sent.now (p + 1))) (range_with_len 0 ids) }
 {
     for place in 0..tables.rows.len() {
         if row_is_new(sent, tables, ids, place) {

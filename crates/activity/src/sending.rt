@@ -1,11 +1,11 @@
 //! What is new on a link.
-ghost use Rattle.std.specs.Prelude.{◌≡◌, ℕ, ◌≤◌, ◌^◌, ◌++◌, ◌∷◌, [], cond, slice_get, Some, IfOk, OnOk};
+ghost use Rattle.std.specs.Prelude.{◌≡◌, ℕ, ◌≤◌, ◌++◌, ◌∷◌, [], cond, slice_get, Some, IfOk, OnOk};
 ghost use Rattle.group_view.specs.Ring.{AreDistinct};
-ghost use Rattle.activity.specs.Kept.{KeptRow, got_of, kept_of, ids_of};
-ghost use Rattle.activity.specs.Told.{sent_of};
-ghost use Rattle.activity.specs.Parcels.{no_stamp, line_of};
+ghost use Rattle.activity.specs.Kept.{KeptRow, got_of, kept_of, origins_of};
+ghost use Rattle.activity.specs.LastSent.{sent_of};
+ghost use Rattle.activity.specs.Packets.{no_stamp, line_of};
 ghost use Rattle.activity.specs.Diff.{has_line as line_there, lo_of, line_from, next_line, lines_of, IsNotAbove};
-ghost use Rattle.activity.specs.Shown.{kept_in, told_of};
+ghost use Rattle.activity.specs.Shown.{kept_in, last_sent_of};
 
 use crate::packet::{Line, Packet};
 use crate::sent::{Sent, SentRow};
@@ -48,7 +48,7 @@ pub fn diff(
 }
 
 fn has_line(first: bool, table: &Table, last: SentRow) -> bool
-    ensures { result ≡ line_there first (kept_in table.now) (told_of last) }
+    ensures { result ≡ line_there first (kept_in table.now) (last_sent_of last) }
 {
     let got = table.store.got();
     if first {
@@ -58,7 +58,7 @@ fn has_line(first: bool, table: &Table, last: SentRow) -> bool
 }
 
 fn first_number(first: bool, table: &Table, last: SentRow) -> u64
-    ensures { result ≡ lo_of first (kept_in table.now) (told_of last) }
+    ensures { result ≡ lo_of first (kept_in table.now) (last_sent_of last) }
 {
     let forgot = table.store.forgot();
     if first { forgot } else { forgot.max(last.got) }
@@ -87,10 +87,10 @@ fn push_line(
     table: &Table,
     last: SentRow,
 ) -> Result<(), OutOfMemory>
-    requires { (told_of last).got ≤ got_of (kept_in table.now) }
+    requires { (last_sent_of last).got ≤ got_of (kept_in table.now) }
     ensures { OnOk result ((lines.new).items
-        ≡ (lines.old).items ++ cond (line_there first (kept_in table.now) (told_of last))
-        (line_from (lo_of first (kept_in table.now) (told_of last)) origin (kept_in table.now) ∷ []) []) }
+        ≡ (lines.old).items ++ cond (line_there first (kept_in table.now) (last_sent_of last))
+        (line_from (lo_of first (kept_in table.now) (last_sent_of last)) origin (kept_in table.now) ∷ []) []) }
 {
     if !has_line(first, table, last) {
         return Ok(());
@@ -126,7 +126,7 @@ fn next_lines(
 ) -> Result<Vec<Line>, OutOfMemory>
     requires { IsNotAbove sent.now tables.now }
     ensures lines { IfOk result (λ v. v.items ≡ lines_of first sent.now tables.now) }
-    ensures distinct { OnOk result (AreDistinct (ids_of tables.now)) }
+    ensures distinct { OnOk result (AreDistinct (origins_of tables.now)) }
 {
     let mut lines = Vec::new(alloc);
     for place in 0..tables.rows.len() {

@@ -1,7 +1,6 @@
 //! What is kept of one origin.
 ghost use Rattle.std.specs.Prelude.{◌≡◌, ◌-◌, ◌+◌, ◌≤◌, ◌^◌, ◌++◌, ◌∷◌, ◌<◌, [], Bool, true, cond, Some, drop, length};
 ghost use Rattle.pending_store.specs.Store.{StartsAt, got_of as store_got};
-ghost use Rattle.activity.specs.Kept.{got_of};
 ghost use Rattle.activity.specs.Plan.{change_of, changed, arrivals};
 ghost use Rattle.activity.specs.Shown.{kept_in};
 
@@ -18,7 +17,7 @@ use std::alloc::Global;
 pub struct Table {
     /// The messages.
     pub store: Store<Message>,
-    /// The number of the last message whose acknowledgement has come round.
+    /// The number of the last message whose acknowledgement has come round; 0 until the member answers for the origin.
     pub retired: u64,
     /// The number behind which the member receives: that of its first packet, where it joined, else 0.
     pub base: u64,

@@ -1,11 +1,13 @@
 //! What is kept of each origin.
-ghost use Rattle.std.specs.Prelude.{◌≡◌, drop, IfSome, ℕ, ◌+◌, ◌<◌, ◌≤◌, ◌^◌, Bool, true, false, cond, nat_eq};
-ghost use Rattle.std.specs.Prelude.{length, Some, [], OnOk, IfOk, IfErr, MatchOption};
+ghost use Rattle.std.specs.Prelude.{◌≡◌, ◌⊎◌, drop, take, IfSome, ℕ, ◌+◌, ◌<◌, ◌≤◌, ◌^◌, Bool, true, false, cond, nat_eq};
+ghost use Rattle.std.specs.Prelude.{length, Some, [], ◌∷◌, ◌++◌, OnOk, OnErr, IfOk, IfErr, MatchOption};
+ghost use Rattle.std.specs.List.{filter};
 ghost use Rattle.group_view.specs.Ring.{AreDistinct};
-ghost use Rattle.activity.specs.Kept.{got_of, no_kept, joined, kept_of, has_room, KeepsRows};
-ghost use Rattle.activity.specs.Parcels.{line_of, origins};
-ghost use Rattle.activity.specs.Plan.{changes_of, changed, change_of, accepted, AreReady, arrivals, opened};
-ghost use Rattle.activity.specs.Plan.{begun, begins as line_begins, AreOpened, first_for, whole_change};
+ghost use Rattle.activity.specs.Order.{with_origin, with_origins};
+ghost use Rattle.activity.specs.Kept.{got_of, no_kept, joined, kept_of, has_room, origins_of, KeepsRows};
+ghost use Rattle.activity.specs.Packets.{line_of, origins};
+ghost use Rattle.activity.specs.Plan.{changes_of, changed, change_of, changed_origins, accepted, AreReady, arrivals};
+ghost use Rattle.activity.specs.Plan.{opened, begun, begins as line_begins, AreOpened, first_for, whole_change};
 ghost use Rattle.activity.specs.Shown.{kept_in, kept_rows};
 
 use crate::change::Change;
@@ -42,7 +44,7 @@ pub struct KeptNumbers {
     pub got: u64,
     /// Of the last message that is forgotten.
     pub forgot: u64,
-    /// Of the last message whose acknowledgement has come round, where the member answers for the origin.
+    /// Of the last message whose acknowledgement has come round; 0 until the member answers for the origin.
     pub retired: u64,
     /// Behind which the member receives: of its first packet, where it joined, else 0.
     pub base: u64,
@@ -90,9 +92,13 @@ impl Tables {
         }
     }
 
-    /// Makes room for one more message of an origin. What is kept stays, also where memory is wanting.
+    /// Makes room for one more message of an origin, which gets a row behind all others where it had none. What is
+    /// kept stays, also where memory is wanting; then the row is there, or not.
     pub fn make_room_for(&mut self, origin: MemberId) -> Result<(), OutOfMemory>
         ensures ok { OnOk result (has_room self.new origin.0 1 ≡ true) }
+        ensures order { OnOk result (origins_of self.new ≡ with_origin origin.0 (origins_of self.old)) }
+        ensures err { OnErr result ((origins_of self.new ≡ origins_of self.old)
+            ⊎ (origins_of self.new ≡ with_origin origin.0 (origins_of self.old))) }
         ensures kept { KeepsRows self.old self.new }
     {
         reserve(&mut self.rows, origin, 1)
@@ -102,15 +108,21 @@ impl Tables {
     pub fn push(&mut self, origin: MemberId, message: Message)
         requires room { has_room self.old origin.0 1 ≡ true }
         requires below { got_of (kept_of self.old origin.0) < 2 ^ 63 }
-        ensures { (p : ℕ) → kept_of self.new p
+        ensures kept { (p : ℕ) → kept_of self.new p
             ≡ cond (nat_eq p origin.0) (joined message (kept_of self.old p)) (kept_of self.old p) }
+        ensures order { origins_of self.new ≡ origins_of self.old }
     {
         push_message(&mut self.rows, origin, message);
     }
 
-    /// Makes room for all that changes bring. What is kept stays, also where memory is wanting.
+    /// Makes room for all that changes bring: an origin that had no row gets one, behind all others. What is kept
+    /// stays, also where memory is wanting; then the origins of the first changes have rows.
     pub fn make_room(&mut self, changes: &[Change]) -> Result<(), OutOfMemory>
         ensures ok { OnOk result (AreReady self.new changes.now) }
+        ensures order { OnOk result (origins_of self.new
+            ≡ with_origins (changed_origins changes.now) (origins_of self.old)) }
+        ensures err { OnErr result ((n : ℕ) × (origins_of self.new
+            ≡ with_origins (changed_origins (take n changes.now)) (origins_of self.old))) }
         ensures kept { KeepsRows self.old self.new }
     {
         reserve_all(&mut self.rows, changes)
@@ -122,17 +134,19 @@ impl Tables {
     pub fn apply(&mut self, packet: Packet, changes: &[Change])
         requires planned { (own : ℕ → Bool) × (changes.now ≡ changes_of own self.old packet.lines) }
         requires room { AreReady self.old changes.now }
-        ensures { (own : ℕ → Bool) → changes.now ≡ changes_of own self.old packet.lines
+        ensures kept { (own : ℕ → Bool) → changes.now ≡ changes_of own self.old packet.lines
             → (p : ℕ) → kept_of self.new p ≡ accepted (own p) (kept_of self.old p) (line_of packet.lines p) }
+        ensures order { origins_of self.new ≡ origins_of self.old }
     {
         apply_lines(&mut self.rows, packet.lines.into_vec(), changes);
     }
 
     /// The tables of a member that waits, before the messages of its first packet join: each line that is
-    /// used has a row there, with room.
+    /// used has a row there, with room, and no other origin has one; the rows stand in the order of the lines.
     pub fn opening(alloc: Global, packet: &Packet) -> Result<Tables, OutOfMemory>
         ensures kept { IfOk result (λ tables. (p : ℕ) → kept_of tables p ≡ opened (line_of (packet.now).lines p)) }
         ensures room { IfOk result (λ tables. AreOpened tables (packet.now).lines) }
+        ensures order { IfOk result (λ tables. origins_of tables ≡ origins (filter line_begins (packet.now).lines)) }
     {
         let rows = open_rows(alloc, packet.lines())?;
         Ok(Tables { rows })
@@ -142,15 +156,18 @@ impl Tables {
     pub fn fill(&mut self, packet: Packet)
         requires kept { (p : ℕ) → kept_of self.old p ≡ opened (line_of packet.lines p) }
         requires room { AreOpened self.old packet.lines }
-        ensures { (p : ℕ) → kept_of self.new p ≡ begun (line_of packet.lines p) }
+        ensures kept { (p : ℕ) → kept_of self.new p ≡ begun (line_of packet.lines p) }
+        ensures order { origins_of self.new ≡ origins_of self.old }
     {
         fill_lines(&mut self.rows, packet.lines.into_vec());
     }
 
-    /// What a member that waits makes of its first packet. A line is passed over whose `forgot` is below its
-    /// `lo`, or above the number of its last message. Where memory is wanting, the packet comes back.
+    /// What a member that waits makes of its first packet, origin by origin in the order of the lines. A line is
+    /// passed over whose `forgot` is below its `lo`, or above the number of its last message. Where memory is
+    /// wanting, the packet comes back.
     pub fn begin(alloc: Global, packet: Packet) -> Result<Tables, (Packet, OutOfMemory)>
         ensures ok { IfOk result (λ tables. (p : ℕ) → kept_of tables p ≡ begun (line_of packet.lines p)) }
+        ensures order { IfOk result (λ tables. origins_of tables ≡ origins (filter line_begins packet.lines)) }
         ensures back { IfErr result (λ e. e.0 ≡ packet) }
     {
         match Tables::opening(alloc, &packet) {
@@ -168,6 +185,9 @@ impl Tables {
 /// Gives the origin a row, where it has none.
 fn make_row(rows: &mut IndexMap<MemberId, Table>, origin: MemberId) -> Result<(), OutOfMemory>
     ensures ok { OnOk result (has_room (kept_rows rows.new.entries) origin.0 0 ≡ true) }
+    ensures order { OnOk result (origins_of (kept_rows rows.new.entries)
+        ≡ with_origin origin.0 (origins_of (kept_rows rows.old.entries))) }
+    ensures err { OnErr result (origins_of (kept_rows rows.new.entries) ≡ origins_of (kept_rows rows.old.entries)) }
     ensures kept { KeepsRows (kept_rows rows.old.entries) (kept_rows rows.new.entries) }
 {
     if !rows.contains_key(&origin) {
@@ -185,6 +205,7 @@ fn reserve_row(
 ) -> Result<(), OutOfMemory>
     requires { has_room (kept_rows rows.old.entries) origin.0 0 ≡ true }
     ensures ok { OnOk result (has_room (kept_rows rows.new.entries) origin.0 n ≡ true) }
+    ensures order { origins_of (kept_rows rows.new.entries) ≡ origins_of (kept_rows rows.old.entries) }
     ensures kept { KeepsRows (kept_rows rows.old.entries) (kept_rows rows.new.entries) }
 {
     let Some(table) = rows.get_mut(&origin) else {
@@ -200,6 +221,11 @@ fn reserve(
     n: u64,
 ) -> Result<(), OutOfMemory>
     ensures ok { OnOk result (has_room (kept_rows rows.new.entries) origin.0 n ≡ true) }
+    ensures order { OnOk result (origins_of (kept_rows rows.new.entries)
+        ≡ with_origin origin.0 (origins_of (kept_rows rows.old.entries))) }
+    ensures err { OnErr result ((origins_of (kept_rows rows.new.entries) ≡ origins_of (kept_rows rows.old.entries))
+        ⊎ (origins_of (kept_rows rows.new.entries)
+        ≡ with_origin origin.0 (origins_of (kept_rows rows.old.entries)))) }
     ensures kept { KeepsRows (kept_rows rows.old.entries) (kept_rows rows.new.entries) }
 {
     make_row(rows, origin)?;
@@ -208,6 +234,10 @@ fn reserve(
 
 fn reserve_all(rows: &mut IndexMap<MemberId, Table>, changes: &[Change]) -> Result<(), OutOfMemory>
     ensures ok { OnOk result (AreReady (kept_rows rows.new.entries) changes.now) }
+    ensures order { OnOk result (origins_of (kept_rows rows.new.entries)
+        ≡ with_origins (changed_origins changes.now) (origins_of (kept_rows rows.old.entries))) }
+    ensures err { OnErr result ((n : ℕ) × (origins_of (kept_rows rows.new.entries)
+        ≡ with_origins (changed_origins (take n changes.now)) (origins_of (kept_rows rows.old.entries)))) }
     ensures kept { KeepsRows (kept_rows rows.old.entries) (kept_rows rows.new.entries) }
 {
     for change in changes {
@@ -219,8 +249,9 @@ fn reserve_all(rows: &mut IndexMap<MemberId, Table>, changes: &[Change]) -> Resu
 fn push_message(rows: &mut IndexMap<MemberId, Table>, origin: MemberId, message: Message)
     requires room { has_room (kept_rows rows.old.entries) origin.0 1 ≡ true }
     requires below { got_of (kept_of (kept_rows rows.old.entries) origin.0) < 2 ^ 63 }
-    ensures { (p : ℕ) → kept_of (kept_rows rows.new.entries) p ≡ cond (nat_eq p origin.0)
+    ensures kept { (p : ℕ) → kept_of (kept_rows rows.new.entries) p ≡ cond (nat_eq p origin.0)
         (joined message (kept_of (kept_rows rows.old.entries) p)) (kept_of (kept_rows rows.old.entries) p) }
+    ensures order { origins_of (kept_rows rows.new.entries) ≡ origins_of (kept_rows rows.old.entries) }
 {
     let Some(table) = rows.get_mut(&origin) else {
         return;
@@ -239,6 +270,7 @@ fn apply_line(rows: &mut IndexMap<MemberId, Table>, origin: MemberId, line: Line
         (changed (kept_of (kept_rows rows.old.entries) p) line change) (kept_of (kept_rows rows.old.entries) p) }
     ensures room { (p n : ℕ) → nat_eq p origin.0 ≡ false
         → has_room (kept_rows rows.new.entries) p n ≡ has_room (kept_rows rows.old.entries) p n }
+    ensures order { origins_of (kept_rows rows.new.entries) ≡ origins_of (kept_rows rows.old.entries) }
 {
     let Some(table) = rows.get_mut(&origin) else {
         return;
@@ -264,9 +296,10 @@ fn apply_lines(rows: &mut IndexMap<MemberId, Table>, lines: Vec<Line>, changes: 
     requires planned { (own : ℕ → Bool)
         × (changes.now ≡ changes_of own (kept_rows rows.old.entries) lines.items) }
     requires room { AreReady (kept_rows rows.old.entries) changes.now }
-    ensures { (own : ℕ → Bool) → changes.now ≡ changes_of own (kept_rows rows.old.entries) lines.items
+    ensures kept { (own : ℕ → Bool) → changes.now ≡ changes_of own (kept_rows rows.old.entries) lines.items
         → (p : ℕ) → kept_of (kept_rows rows.new.entries) p
         ≡ accepted (own p) (kept_of (kept_rows rows.old.entries) p) (line_of lines.items p) }
+    ensures order { origins_of (kept_rows rows.new.entries) ≡ origins_of (kept_rows rows.old.entries) }
 {
     let mut next = 0;
     for line in lines {
@@ -314,6 +347,8 @@ fn add_row(
     ensures room { OnOk result (has_room (kept_rows rows.new.entries) origin.0 n ≡ true) }
     ensures others { OnOk result ((p m : ℕ) → nat_eq p origin.0 ≡ false
         → has_room (kept_rows rows.new.entries) p m ≡ has_room (kept_rows rows.old.entries) p m) }
+    ensures order { OnOk result (origins_of (kept_rows rows.new.entries)
+        ≡ origins_of (kept_rows rows.old.entries) ++ origin.0 ∷ []) }
 {
     let mut table = Table::starting(*rows.allocator(), lo, base);
     table.store.reserve(n)?;
@@ -330,6 +365,8 @@ fn open_row(rows: &mut IndexMap<MemberId, Table>, line: &Line) -> Result<(), Out
         → has_room (kept_rows rows.new.entries) (line.now).origin.0 (length (line.now).messages) ≡ true) }
     ensures others { OnOk result ((p m : ℕ) → nat_eq p (line.now).origin.0 ≡ false
         → has_room (kept_rows rows.new.entries) p m ≡ has_room (kept_rows rows.old.entries) p m) }
+    ensures order { OnOk result (origins_of (kept_rows rows.new.entries)
+        ≡ origins_of (kept_rows rows.old.entries) ++ origins (filter line_begins (line.now ∷ []))) }
 {
     if !begins(line) {
         return Ok(());
@@ -342,6 +379,8 @@ fn open_rows(alloc: Global, lines: &[Line]) -> Result<IndexMap<MemberId, Table>,
     requires { AreDistinct (origins lines.now) }
     ensures kept { IfOk result (λ rows. (p : ℕ) → kept_of (kept_rows rows.entries) p ≡ opened (line_of lines.now p)) }
     ensures room { IfOk result (λ rows. AreOpened (kept_rows rows.entries) lines.now) }
+    ensures order { IfOk result (λ rows. origins_of (kept_rows rows.entries)
+        ≡ origins (filter line_begins lines.now)) }
 {
     let mut rows = IndexMap::new(alloc);
     for line in lines {
@@ -354,7 +393,8 @@ fn fill_lines(rows: &mut IndexMap<MemberId, Table>, lines: Vec<Line>)
     requires distinct { AreDistinct (origins lines.items) }
     requires kept { (p : ℕ) → kept_of (kept_rows rows.old.entries) p ≡ opened (line_of lines.items p) }
     requires room { AreOpened (kept_rows rows.old.entries) lines.items }
-    ensures { (p : ℕ) → kept_of (kept_rows rows.new.entries) p ≡ begun (line_of lines.items p) }
+    ensures kept { (p : ℕ) → kept_of (kept_rows rows.new.entries) p ≡ begun (line_of lines.items p) }
+    ensures order { origins_of (kept_rows rows.new.entries) ≡ origins_of (kept_rows rows.old.entries) }
 {
     for line in lines {
         if begins(&line) {

@@ -1,5 +1,5 @@
 //! A publisher's book of its own messages: how many of each kind it has published, and how many of these have
-//! come round the ring, so that every member has them. Begin at `Book`.
+//! come round the ring: each member that is up has received these, or counted them by its first packet. Begin at `Book`.
 #![tactic(auto)]
 
 mod book;

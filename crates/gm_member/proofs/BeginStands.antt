@@ -17,9 +17,9 @@ use Rattle.ring_rules.specs.Compact.{has_line, line_in, IsInTurn}
 use Rattle.ring_rules.proofs.events.Refusals.{not_false}
 use Rattle.ring_rules.proofs.invariants.KeptBegin.{begin_row, begin_none}
 use Rattle.ring_rules.proofs.runs.Apart.{first_packet_below}
-use Rattle.activity.specs.Parcels.{Carried}
+use Rattle.activity.specs.Packets.{LineSeen}
 use Rattle.activity.specs.Plan.{begun}
-use Rattle.gm_member.specs.Parcels.{places, ByOrigin, line_at}
+use Rattle.gm_member.specs.Packets.{places, PacketById, line_at}
 use Rattle.gm_member.specs.declared.taken.Taken.{Taken}
 use Rattle.gm_member.specs.News.{news_below, news_of}
 use Rattle.gm_member.specs.Held.{Held, Incoming, at_some, owns, all_begun, counted_in, took_from, began_from, took_held}
@@ -102,7 +102,7 @@ begun_at w x s q p f b some = ⊎_elim
 
 -- ---- the member
 
-all_begun_are : (w : World) (x s : ℕ) (lines : List (Option Carried)) → IsFit w → BeginsFrom w x s → lines ≡ lines_in w (link_at w s).had (oldest (link_at w s)) → all_begun lines ≡ known_by (begin_from w x s) (beginner w x s)
+all_begun_are : (w : World) (x s : ℕ) (lines : List (Option LineSeen)) → IsFit w → BeginsFrom w x s → lines ≡ lines_in w (link_at w s).had (oldest (link_at w s)) → all_begun lines ≡ known_by (begin_from w x s) (beginner w x s)
 unfolding places
 all_begun_are w x s lines f b e =
     ap all_begun e
@@ -110,7 +110,7 @@ all_begun_are w x s lines f b e =
     (λ p pl. ap begun (line_there w s p pl) ∙ begun_at w x s p (p + 1) f b (omega arith))
     ∙ sym (known_same w (begin_from w x s) (beginner w x s) (λ p. log_written w x (beginner w x s) refl p))
 
-pub begin_stands : (w : World) (x s : ℕ) (k : ByOrigin) → IsFit w → BeginsFrom w x s → k.lines ≡ lines_in w (link_at w s).had (oldest (link_at w s)) → took_held (held_in w x) k ≡ held_in (begin_from w x s) x
+pub begin_stands : (w : World) (x s : ℕ) (k : PacketById) → IsFit w → BeginsFrom w x s → k.lines ≡ lines_in w (link_at w s).had (oldest (link_at w s)) → took_held (held_in w x) k ≡ held_in (begin_from w x s) x
 begin_stands w x s k f b e =
     let h : Held = held_in w x in
     ap (λ c. at_some (option_map (incoming_in w) c) h (λ a. cond (is_waiting (member_at w x).phase) (began_from h k a) (took_from h k a))) b.current
@@ -119,7 +119,7 @@ begin_stands w x s k f b e =
     ∙ rows_stand w x s (beginner w x s) (known_by (begin_from w x s) (beginner w x s)) f b.is_member b.current refl
 
 -- it is brought nothing
-pub begin_brings : (w : World) (x s : ℕ) (k : ByOrigin) → BeginsFrom w x s → news_of (held_in w x) k ≡ taken_in w (member_at w x).current x
+pub begin_brings : (w : World) (x s : ℕ) (k : PacketById) → BeginsFrom w x s → news_of (held_in w x) k ≡ taken_in w (member_at w x).current x
 begin_brings w x s k b = by_current (member_at w x).current
   where
     nothing : (xs : List Taken) → cond (is_waiting (member_at w x).phase) [] xs ≡ []

@@ -3,7 +3,7 @@ use Rattle.std.proofs.Common.{◌≡◌, Bool, true, false, List, Option, Some, 
 use Rattle.ring_rules.specs.declared.phase.Phase.TheVariants.{Up}
 use Rattle.activity.specs.Kept.{KeptRow}
 use Rattle.gm_member.specs.declared.links.OutLink.{OutLink}
-use Rattle.gm_member.specs.View.{count_of, told_on, has_ended, is_up_where}
+use Rattle.gm_member.specs.View.{count_of, last_sent_on, has_ended, is_up_where}
 use Rattle.gm_member.specs.Within.{IsWithin}
 use Rattle.gm_member.proofs.Within.{none_within}
 
@@ -12,9 +12,9 @@ pub none_counts : {A : Type 0} (there : Option A) → count_of there ≡ 0 → t
 none_counts None e = refl
 none_counts (Some a) e = cc
 
--- so nothing was told
-pub silent_within : {O : Type 0} (out : Option (OutLink O)) (rows : List KeptRow) → count_of out ≡ 0 → IsWithin (told_on out) rows
-silent_within out rows e = subst (λ o. IsWithin (told_on o) rows) (sym (none_counts out e)) (none_within rows)
+-- so nothing was sent
+pub silent_within : {O : Type 0} (out : Option (OutLink O)) (rows : List KeptRow) → count_of out ≡ 0 → IsWithin (last_sent_on out) rows
+silent_within out rows e = subst (λ o. IsWithin (last_sent_on o) rows) (sym (none_counts out e)) (none_within rows)
 
 -- and nothing has ended
 pub silent_unended : {O : Type 0} (ended : O → Bool) (out : Option (OutLink O)) → count_of out ≡ 0 → has_ended ended out ≡ false

@@ -3,31 +3,22 @@ use Rattle.std.proofs.Common.{◌≡◌, ◌≢◌, ⊎_elim, ℕ, zero, suc, �
 use Rattle.std.proofs.lemmas.Bool.{false≢true, cases_lt, cases_eq}
 use Rattle.std.proofs.lemmas.List.{get_or_past}
 use Rattle.group_view.specs.Since.{no_group}
-use Rattle.ring_rules.specs.declared.event.Event.{Event}
 use Rattle.ring_rules.specs.declared.numbers.Numbers.{Numbers}
 use Rattle.ring_rules.specs.Rows.{no_row, no_numbers, lo_of, next_numbers}
 use Rattle.ring_rules.specs.Refusal.{is_empty}
 use Rattle.ring_rules.specs.Machine.{World, Packet, Member, Sending, no_packet, no_member, row_at, numbers_at, member_at, link_at, view_in, newest, runs, oldest}
 use Rattle.ring_rules.specs.Step.{size, log_of, next_packet}
-use Rattle.ring_rules.specs.Event.{id_of, by_of, of_member, at_found, refused_at, done_at, refusal, effect}
 use Rattle.ring_rules.specs.Lawful.{row_of, NumbersAreWithin, PacketsAreWithin}
+pub use Rattle.ring_rules.proofs.events.Found.{refused_there, done_there}
 use Rattle.ring_rules.proofs.invariants.Happens.{HasViews}
 use Rattle.ring_rules.proofs.walks.Packets.{reads_got, reads_forgot, line_of_packet}
 use Rattle.activity.specs.Kept.{no_kept, got_of}
-use Rattle.activity.specs.Told.{none_told}
-use Rattle.gm_member.specs.Parcels.{places, known_at, told_at}
-use Rattle.gm_member.specs.Stands.{kept_by, told_in, held_in, outgoing_in}
+use Rattle.activity.specs.LastSent.{never_sent}
+use Rattle.gm_member.specs.Packets.{places, known_at, last_sent_at}
+use Rattle.gm_member.specs.Stands.{kept_by, last_sent_in, held_in, outgoing_in}
 use Rattle.gm_member.proofs.Knowing.{IsRight, got_kept}
 use Rattle.gm_member.proofs.Places.{tabled_at}
 use Rattle.gm_member.proofs.Fit.{IsFit}
-
--- ---- an event of the member that its name finds
-
-pub refused_there : (w : World) (x : ℕ) (e : Event) → id_of w (by_of e) ≡ Some x → refusal w e ≡ refused_at w e x
-refused_there w x e named = ap (λ o. of_member o (refused_at w e)) named
-
-pub done_there : (w : World) (x : ℕ) (e : Event) → id_of w (by_of e) ≡ Some x → effect w e ≡ done_at w e x
-done_there w x e named = ap (λ o. at_found o w (done_at w e)) named
 
 -- ---- ids that nobody has
 
@@ -74,9 +65,9 @@ pub held_known : (w : World) (x p : ℕ) → p < 64 → known_at (held_in w x).k
 unfolding places
 held_known w x p l = tabled_at (λ q. kept_by (log_of w (q + 1)) (row_at (member_at w x) (q + 1))) 64 p no_kept l
 
-pub held_told : (w : World) (o p : ℕ) → p < 64 → told_at (outgoing_in w o).told p ≡ told_in (numbers_at (link_at w o).sending.sent (p + 1))
+pub held_last_sent : (w : World) (o p : ℕ) → p < 64 → last_sent_at (outgoing_in w o).last_sent p ≡ last_sent_in (numbers_at (link_at w o).sending.sent (p + 1))
 unfolding places
-held_told w o p l = tabled_at (λ q. told_in (numbers_at (link_at w o).sending.sent (q + 1))) 64 p none_told l
+held_last_sent w o p l = tabled_at (λ q. last_sent_in (numbers_at (link_at w o).sending.sent (q + 1))) 64 p never_sent l
 
 -- each row is right, of an origin that the ring has or hasn't
 pub right_row : (w : World) (q p : ℕ) → IsFit w → IsRight (log_of w p) (row_of w q p)
@@ -124,7 +115,7 @@ next_is w x o p f rx is =
     ∙ ap (λ n. record { lo = lo_of s.fresh (row_of w x p).forgot (numbers_at s.sent p); got = (row_of w x p).got; forgot = n }) forgot
 
 -- and what it tells of each origin
-pub next_tells : (y : Member) (s : Sending) (p : ℕ) → told_in (numbers_at (next_packet y s) p) ≡ record { got = (row_at y p).got; forgot = (row_at y p).forgot }
+pub next_tells : (y : Member) (s : Sending) (p : ℕ) → last_sent_in (numbers_at (next_packet y s) p) ≡ record { got = (row_at y p).got; forgot = (row_at y p).forgot }
 next_tells y s p =
     ap (λ n. record { got = n; forgot = (numbers_at (next_packet y s) p).forgot }) (line_of_packet (λ j. j.got) (λ r. r.got) y s p reads_got)
     ∙ ap (λ n. record { got = (row_at y p).got; forgot = n }) (line_of_packet (λ j. j.forgot) (λ r. r.forgot) y s p reads_forgot)

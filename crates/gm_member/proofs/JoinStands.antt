@@ -16,7 +16,7 @@ use Rattle.ring_rules.proofs.rings.Maps.{map-range_same}
 use Rattle.ring_rules.proofs.walks.Views.{left_is}
 use Rattle.ring_rules.proofs.invariants.Good.{true_kept}
 use Rattle.activity.specs.Kept.{Kept, no_kept}
-use Rattle.gm_member.specs.Parcels.{places}
+use Rattle.gm_member.specs.Packets.{places}
 use Rattle.gm_member.specs.Held.{Held, Outgoing, Incoming, fresh_in, joining_held}
 use Rattle.gm_member.specs.Stands.{kept_by, known_in, outgoing_in, incoming_in, held_in, WaitsThere, StandsWhereItWaits}
 use Rattle.gm_member.proofs.Facts.{version_of_view}

@@ -12,15 +12,15 @@ use Rattle.ring_rules.specs.Rows.{Row, published_row, next_numbers, taken_row, m
 use Rattle.ring_rules.specs.Step.{begun_row}
 use Rattle.ring_rules.specs.Compact.{has_line as has_line_of}
 use Rattle.ring_rules.proofs.rings.Maps.{map-range_same_from}
-use Rattle.ring_rules.proofs.runs.InOrder.{heard_more}
+use Rattle.group_view.proofs.Lists.{between_joined}
 use Rattle.group_view.specs.View.{as_id}
 use Rattle.activity.specs.Kept.{no_kept, got_of, joined}
-use Rattle.activity.specs.Parcels.{Carried, got_in}
+use Rattle.activity.specs.Packets.{LineSeen, got_in}
 use Rattle.activity.specs.Diff.{next_line}
 use Rattle.activity.specs.Plan.{fits, accepted, begins, begun}
 use Rattle.activity.proofs.Marks.{drop_between}
-use Rattle.gm_member.specs.Parcels.{told_now}
-use Rattle.gm_member.specs.Stands.{kept_by, told_in, line_for}
+use Rattle.gm_member.specs.Packets.{last_sent_now}
+use Rattle.gm_member.specs.Stands.{kept_by, last_sent_in, line_for}
 use Rattle.gm_member.specs.News.{no_message, taken_at, taken_between, line_news, taken_of}
 use Rattle.ring_rules.specs.Shown.{id_of}
 
@@ -56,8 +56,8 @@ pub record IsRight (log : List Message) (r : Row) : Type 0 where
 pub got_kept : (log : List Message) (r : Row) → IsRight log r → got_of (kept_by log r) ≡ r.got
 got_kept log r h = ap (λ n. r.forgot + n) (between_length r.forgot r.got log h.got) ∙ omega (arith, h.forgot)
 
-pub told_kept : (log : List Message) (r : Row) → IsRight log r → told_now (kept_by log r) ≡ record { got = r.got; forgot = r.forgot }
-told_kept log r h = ap (λ n. record { got = n; forgot = r.forgot }) (got_kept log r h)
+pub last_sent_kept : (log : List Message) (r : Row) → IsRight log r → last_sent_now (kept_by log r) ≡ record { got = r.got; forgot = r.forgot }
+last_sent_kept log r h = ap (λ n. record { got = n; forgot = r.forgot }) (got_kept log r h)
 
 -- ---- publishing
 
@@ -77,7 +77,7 @@ kept_grown log more r l = ap (λ ms. record { forgot = r.forgot; messages = ms; 
 -- ---- putting
 
 -- the line of an origin in a member's next packet is the ring's, where what was sent last isn't below what the member has forgotten
-pub line_same : (fresh : Bool) (p : ℕ) (log : List Message) (r : Row) (last : Numbers) → IsRight log r → (fresh ≡ false → r.forgot ≤ last.got) → next_line fresh (p + 1) (kept_by log r) (told_in last) ≡ line_for fresh log p (next_numbers fresh r last) last
+pub line_same : (fresh : Bool) (p : ℕ) (log : List Message) (r : Row) (last : Numbers) → IsRight log r → (fresh ≡ false → r.forgot ≤ last.got) → next_line fresh (p + 1) (kept_by log r) (last_sent_in last) ≡ line_for fresh log p (next_numbers fresh r last) last
 line_same true p log r last h below =
     let all : drop (r.forgot - r.forgot) (messages_between r.forgot r.got log) ≡ messages_between r.forgot r.got log = drop_between r.forgot r.forgot r.got log (omega arith) in
     ap (λ n. cond (not (nat_eq n 0)) (Some (record { origin = as_id (p + 1); lo = r.forgot; messages = drop (r.forgot - r.forgot) (messages_between r.forgot r.got log); forgot = r.forgot })) None) (got_kept log r h)
@@ -113,7 +113,7 @@ pub record Arrives (log : List Message) (r : Row) (k : Numbers) : Type 0 where
   pub within : k.got ≤ length log
 
 -- the line that stands for numbers
-abbrev pub whole_line : List Message → ℕ → Numbers → Carried
+abbrev pub whole_line : List Message → ℕ → Numbers → LineSeen
 whole_line log p k = record { origin = as_id (p + 1); lo = k.lo; messages = messages_between k.lo k.got log; forgot = k.forgot }
 
 got_is : (log : List Message) (p : ℕ) (k : Numbers) → k.lo ≤ k.got → k.got ≤ length log → got_in (whole_line log p k) ≡ k.got
@@ -134,7 +134,7 @@ round_fits log p r k h f =
 -- of what the member answers for, the packet's numbers have come round
 pub accepted_round : (log : List Message) (p : ℕ) (r : Row) (k : Numbers) → IsRight log r → ComesRound log r k → accepted true (kept_by log r) (Some (whole_line log p k)) ≡ kept_by log (taken_row true log r k)
 accepted_round log p r k h f =
-    let c : Carried = whole_line log p k in
+    let c : LineSeen = whole_line log p k in
     rw (round_fits log p r k h f)
     (ap (λ n. record { forgot = n; messages = drop (n - r.forgot) (messages_between r.forgot r.got log); retired = k.forgot; base = r.base }) (got_is log p k f.lo f.within)
     ∙ ap (λ ms. record { forgot = k.got; messages = ms; retired = k.forgot; base = r.base }) (drop_between r.forgot k.got r.got log f.forgot))
@@ -152,7 +152,7 @@ accepted_arrival log p r k h f =
     let both : drop (k.forgot - r.forgot) (messages_between r.forgot r.got log ++ drop (max k.lo (got_of (kept_by log r)) - k.lo) (messages_between k.lo k.got log)) ≡ messages_between k.forgot k.got log =
     ap (λ n. drop (k.forgot - r.forgot) (messages_between r.forgot r.got log ++ drop (n - k.lo) (messages_between k.lo k.got log))) from
     ∙ ap (λ ms. drop (k.forgot - r.forgot) (messages_between r.forgot r.got log ++ ms)) (drop_between k.lo r.got k.got log f.lo)
-    ∙ ap (drop (k.forgot - r.forgot)) (heard_more r.forgot r.got k.got log h.forgot f.got f.within)
+    ∙ ap (drop (k.forgot - r.forgot)) (between_joined r.forgot r.got k.got log h.forgot f.got f.within)
     ∙ drop_between r.forgot k.forgot k.got log f.falls_not in
     rw (arrival_fits log p r k h f) (ap (λ ms. record { forgot = k.forgot; messages = ms; retired = r.retired; base = r.base }) both)
 

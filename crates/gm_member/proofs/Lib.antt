@@ -23,7 +23,7 @@ pub mod OpenDoors
 pub mod Ordered
 pub mod Others
 pub mod OthersStand
-pub mod Parcels
+pub mod Packets
 pub mod Parts
 pub mod PickStands
 pub mod Places
@@ -39,7 +39,7 @@ pub mod Same
 pub mod StopStands
 pub mod TakeStands
 pub mod TakenWithin
-pub mod ToldRight
+pub mod AllIsSent
 pub mod Waiters
 pub mod Within
 pub mod WithinLinks

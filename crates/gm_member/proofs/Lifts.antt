@@ -15,8 +15,8 @@ use Rattle.ring_rules.specs.Event.{is_stopped, on_link, running_refusal, up_refu
 use Rattle.ring_rules.proofs.events.Enabled.{up_later, up_none}
 use Rattle.gm_member.specs.declared.taken.Taken.{Taken}
 use Rattle.activity.specs.Kept.{got_of}
-use Rattle.gm_member.specs.Parcels.{ByOrigin, known_at}
-use Rattle.gm_member.specs.Held.{Held, Outgoing, active_refused, up_refused, published_held, put_refused, put_held, parcel_on, take_refused, took_held, gain_refused, gained_held, ended_held, stopped_held, pick_refused, picked_held, refresh_refused, refreshed_held}
+use Rattle.gm_member.specs.Packets.{PacketById, known_at}
+use Rattle.gm_member.specs.Held.{Held, Outgoing, active_refused, up_refused, published_held, put_refused, put_held, packet_on, take_refused, took_held, gain_refused, gained_held, ended_held, stopped_held, pick_refused, picked_held, refresh_refused, refreshed_held}
 use Rattle.gm_member.specs.News.{news_of}
 use Rattle.gm_member.specs.Stands.{held_in, outgoing_in, WhereItStands, StepsTo, SaysIn, StandsFor, IsPutPacket, IsNextPacket, IsNextGrant, IsNextEnd, taken_in, with_own_link}
 use Rattle.gm_member.proofs.Fit.{IsFit, reached_fit}
@@ -68,22 +68,22 @@ put_steps w x f some lt e =
     by_out (Some o) is k = put_stands w x o f some lt is
 
 -- the packet is that of the ring
-pub put_is : (w : World) (x : ℕ) (out : Outgoing) → IsFit w → 1 ≤ x → x < size w → put_refused (held_in w x) ≡ None → (held_in w x).out ≡ Some out → IsPutPacket w x (parcel_on (held_in w x).view.version (held_in w x).known out)
+pub put_is : (w : World) (x : ℕ) (out : Outgoing) → IsFit w → 1 ≤ x → x < size w → put_refused (held_in w x) ≡ None → (held_in w x).out ≡ Some out → IsPutPacket w x (packet_on (held_in w x).view.version (held_in w x).known out)
 put_is w x out f some lt en e o is =
     let both : Some (outgoing_in w o) ≡ Some out = sym (ap (option_map (outgoing_in w)) is) ∙ e in
     let same : outgoing_in w o ≡ out = cc in
-    subst (λ a. StandsFor w (link_at w o).sending (parcel_on (held_in w x).view.version (held_in w x).known a) (leaving w x o)) same (put_packet w x o f some lt (up_refused_none (held_in w x) _ en).0 is)
+    subst (λ a. StandsFor w (link_at w o).sending (packet_on (held_in w x).view.version (held_in w x).known a) (leaving w x o)) same (put_packet w x o f some lt (up_refused_none (held_in w x) _ en).0 is)
 
 -- who may take runs, and has a link
 has_link : (w : World) (x : ℕ) → take_refused (held_in w x) None ≡ None → (is_stopped (member_at w x).phase ≡ false) × (on_link (member_at w x).current reason.NoCurrentLink (λ _. None) ≡ None)
 has_link w x e = none_of (is_stopped (member_at w x).phase) reason.Stopped (on_link (member_at w x).current reason.NoCurrentLink (λ _. None)) (sym (take_refuses w x None) ∙ e)
 
 -- what a member needs in order to take this packet
-abbrev pub MayTakeIt : ByOrigin → Held → Type 0
+abbrev pub MayTakeIt : PacketById → Held → Type 0
 MayTakeIt k h = (take_refused h None ≡ None) × (k.view ≤ h.view.version)
 
 -- it is up and takes from link s, or waits and takes its first packet there
-takes_or_begins : (w : World) (x : ℕ) (k : ByOrigin) (P : Type 0) → IsFit w → 1 ≤ x → x < size w → MayTakeIt k (held_in w x) → IsNextPacket w x k
+takes_or_begins : (w : World) (x : ℕ) (k : PacketById) (P : Type 0) → IsFit w → 1 ≤ x → x < size w → MayTakeIt k (held_in w x) → IsNextPacket w x k
     → ((s : ℕ) → TakesFrom w x s → StandsFor w (link_at w s).had k (oldest (link_at w s)) → P)
     → ((s : ℕ) → BeginsFrom w x s → StandsFor w (link_at w s).had k (oldest (link_at w s)) → P) → P
 takes_or_begins w x k P f some lt e n takes begins = by_current (member_at w x).current refl may.1
@@ -100,7 +100,7 @@ takes_or_begins w x k P f some lt e n takes begins = by_current (member_at w x).
         (λ (waits : (member_at w x).phase ≡ Waiting). begins s (record { some = some; is_member = lt; waits = waits; current = is; has = (n s is).0; version = version }) (n s is).1)
         (up_or_waits (member_at w x).phase may.0)
 
-pub take_steps : (w : World) (x : ℕ) (k : ByOrigin) → IsFit w → 1 ≤ x → x < size w → MayTakeIt k (held_in w x) → IsNextPacket w x k → StepsTo w x (event.Take (member_at w x).name) (took_held (held_in w x) k)
+pub take_steps : (w : World) (x : ℕ) (k : PacketById) → IsFit w → 1 ≤ x → x < size w → MayTakeIt k (held_in w x) → IsNextPacket w x k → StepsTo w x (event.Take (member_at w x).name) (took_held (held_in w x) k)
 take_steps w x k f some lt e n = takes_or_begins w x k (StepsTo w x (event.Take (member_at w x).name) (took_held (held_in w x) k)) f some lt e n
     (λ s t same. (take_enabled w x s f t, take_stands w x s k f t same.lines ∙ ap (λ v. held_in v x) (sym (take_does w x s f t))))
     (λ s b same. (begin_enabled w x s f b, begin_stands w x s k f b same.lines ∙ ap (λ v. held_in v x) (sym (begin_does w x s f b))))
@@ -238,16 +238,16 @@ pub number_lifts : (h : Held) (n : ℕ) → n ≡ got_of (known_at h.known (h.id
 number_lifts h n e credit names events x are r some lt s =
     e ∙ lifts h (λ w y k. got_of (known_at k.known (k.id - 1)) + 1 ≡ length (log_of w y) + 1) publish_number credit names events x are r some lt s
 
-pub put_packet_lifts : (h : Held) (o : Outgoing) → put_refused h ≡ None → h.out ≡ Some o → WhereItStands h (λ w x. IsPutPacket w x (parcel_on h.view.version h.known o))
+pub put_packet_lifts : (h : Held) (o : Outgoing) → put_refused h ≡ None → h.out ≡ Some o → WhereItStands h (λ w x. IsPutPacket w x (packet_on h.view.version h.known o))
 put_packet_lifts h o en e credit names events x are r some lt s =
-    lifts h (λ w y k. put_refused k ≡ None → k.out ≡ Some o → IsPutPacket w y (parcel_on k.view.version k.known o)) (λ w y f a b. put_is w y o f a b) credit names events x are r some lt s en e
+    lifts h (λ w y k. put_refused k ≡ None → k.out ≡ Some o → IsPutPacket w y (packet_on k.view.version k.known o)) (λ w y f a b. put_is w y o f a b) credit names events x are r some lt s en e
 
-news_there : (w : World) (x : ℕ) (k : ByOrigin) → IsFit w → 1 ≤ x → x < size w → MayTakeIt k (held_in w x) → IsNextPacket w x k → news_of (held_in w x) k ≡ taken_in w (member_at w x).current x
+news_there : (w : World) (x : ℕ) (k : PacketById) → IsFit w → 1 ≤ x → x < size w → MayTakeIt k (held_in w x) → IsNextPacket w x k → news_of (held_in w x) k ≡ taken_in w (member_at w x).current x
 news_there w x k f some lt e n = takes_or_begins w x k (news_of (held_in w x) k ≡ taken_in w (member_at w x).current x) f some lt e n
     (λ s t same. news_are w x s k f t same)
     (λ s b same. begin_brings w x s k b)
 
-pub news_lift : (h : Held) (k : ByOrigin) (t : List Taken) → MayTakeIt k h → t ≡ news_of h k → WhereItStands h (λ w x. IsNextPacket w x k → t ≡ taken_in w (member_at w x).current x)
+pub news_lift : (h : Held) (k : PacketById) (t : List Taken) → MayTakeIt k h → t ≡ news_of h k → WhereItStands h (λ w x. IsNextPacket w x k → t ≡ taken_in w (member_at w x).current x)
 news_lift h k t may e credit names events x are r some lt s n =
     e ∙ lifts h (λ w y g. MayTakeIt k g → IsNextPacket w y k → news_of g k ≡ taken_in w (member_at w y).current y) (λ w y f a b. news_there w y k f a b) credit names events x are r some lt s may n
 

@@ -1,5 +1,5 @@
 -- Where one member steps, each other holds what it held, whether it runs or has stopped.
-use Rattle.gm_member.specs.Parcels.{places}
+use Rattle.gm_member.specs.Packets.{places}
 use Rattle.ring_rules.proofs.work.OwnEnds.{other_out}
 use Rattle.std.proofs.Common.{◌≡◌, ◌≢◌, ℕ, ◌+◌, ◌<◌, [], ◌∷◌, ⊎_elim, length, map, Some, None, refl, sym, ap, ◌∙◌}
 use Rattle.std.specs.Prelude.{option_map}

@@ -18,9 +18,9 @@ use Rattle.ring_rules.proofs.events.Leaves.{member_leaves}
 use Rattle.ring_rules.proofs.rings.Maps.{map-range_same}
 use Rattle.ring_rules.proofs.rings.Lists.{at_set}
 use Rattle.ring_rules.proofs.rings.Rounds.{nat_eq-is, nat_eq-same}
-use Rattle.gm_member.specs.Parcels.{places}
+use Rattle.gm_member.specs.Packets.{places}
 use Rattle.gm_member.specs.Held.{Held, Outgoing, Incoming}
-use Rattle.gm_member.specs.Stands.{kept_by, told_in, held_in, outgoing_in, incoming_in, waits_for, door_in}
+use Rattle.gm_member.specs.Stands.{kept_by, last_sent_in, held_in, outgoing_in, incoming_in, waits_for, door_in}
 
 -- ---- what a member holds
 
@@ -184,7 +184,7 @@ outgoing_of l = record {
   to = l.receiver;
   opened = l.opened;
   fresh = l.sending.fresh;
-  told = map (λ p. told_in (numbers_at l.sending.sent (p + 1))) places;
+  last_sent = map (λ p. last_sent_in (numbers_at l.sending.sent (p + 1))) places;
   credit = l.flow.sender;
 }
 

@@ -13,7 +13,7 @@ use Rattle.ring_rules.specs.Step.{size, log_of, published, publish_at}
 use Rattle.ring_rules.specs.Event.{Saying, Own, OfQueue, up_refusal, op_as, op_refusal, op_done, queue_message, message_of, saying_refusal, said, refused_as, refused_at, done_as, done_at}
 use Rattle.ring_rules.specs.Lawful.{row_of}
 use Rattle.ring_rules.proofs.runs.OwnLogs.{cast_log, cast_log_other}
-use Rattle.gm_member.specs.Parcels.{places, known_at}
+use Rattle.gm_member.specs.Packets.{places, known_at}
 use Rattle.gm_member.specs.Held.{published_held}
 use Rattle.gm_member.specs.Stands.{kept_by, held_in, SaysIn}
 use Rattle.gm_member.proofs.Places.{tabled_set}

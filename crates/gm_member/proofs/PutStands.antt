@@ -16,14 +16,14 @@ use Rattle.ring_rules.specs.Event.{on_link, up_refusal, put_refusal, has_nothing
 use Rattle.ring_rules.specs.Lawful.{row_of}
 use Rattle.group_view.proofs.Lists.{all_range_agree}
 use Rattle.activity.specs.Diff.{next_line}
-use Rattle.gm_member.specs.Parcels.{places, known_at, told_at, told_now}
-use Rattle.activity.specs.Diff.{is_told}
-use Rattle.gm_member.specs.Held.{on_some, put_refused, has_nothing_new, all_told, put_on, put_held, lines_on, parcel_on}
-use Rattle.gm_member.specs.Stands.{kept_by, told_in, line_for, held_in, outgoing_in, lines_in, StandsFor}
-use Rattle.gm_member.proofs.Knowing.{got_kept, told_kept, line_same}
+use Rattle.gm_member.specs.Packets.{places, known_at, last_sent_at, last_sent_now}
+use Rattle.activity.specs.Diff.{is_last_sent}
+use Rattle.gm_member.specs.Held.{on_some, put_refused, has_nothing_new, all_last_sent, put_on, put_held, lines_on, packet_on}
+use Rattle.gm_member.specs.Stands.{kept_by, last_sent_in, line_for, held_in, outgoing_in, lines_in, StandsFor}
+use Rattle.gm_member.proofs.Knowing.{got_kept, last_sent_kept, line_same}
 use Rattle.gm_member.proofs.Places.{map-range_same, all-range_longer}
 use Rattle.gm_member.proofs.Fit.{IsFit}
-use Rattle.gm_member.proofs.Facts.{log_past, got_zero, forgot_zero, sent_nothing, held_known, held_told, right_row, version_is, next_is, next_tells}
+use Rattle.gm_member.proofs.Facts.{log_past, got_zero, forgot_zero, sent_nothing, held_known, held_last_sent, right_row, version_is, next_is, next_tells}
 use Rattle.gm_member.proofs.Parts.{held_is, seen, seen_same, current_same, door_still, outgoing_of}
 
 -- the packet that x puts next on link o
@@ -45,10 +45,10 @@ pub silent_is_sent : (w : World) (x o p : ℕ) → IsFit w → log_of w p ≡ []
 silent_is_sent w x o p f e = ap (is_sent (row_of w x p)) (sent_nothing w o p f e) ∙ nothing_is_sent (row_of w x p) (got_zero w x p f e) (forgot_zero w x p f e)
 
 -- what is kept tells the numbers that the row has
-pub told_row : (w : World) (x o p : ℕ) → IsFit w → p < 64 → is_told (known_at (held_in w x).known p) (told_at (outgoing_in w o).told p) ≡ is_sent (row_of w x (p + 1)) (numbers_at (link_at w o).sending.sent (p + 1))
-told_row w x o p f lt =
-    ap (λ k. is_told k (told_at (outgoing_in w o).told p)) (held_known w x p lt)
-    ∙ ap (is_told (kept_by (log_of w (p + 1)) (row_of w x (p + 1)))) (held_told w o p lt)
+pub last_sent_row : (w : World) (x o p : ℕ) → IsFit w → p < 64 → is_last_sent (known_at (held_in w x).known p) (last_sent_at (outgoing_in w o).last_sent p) ≡ is_sent (row_of w x (p + 1)) (numbers_at (link_at w o).sending.sent (p + 1))
+last_sent_row w x o p f lt =
+    ap (λ k. is_last_sent k (last_sent_at (outgoing_in w o).last_sent p)) (held_known w x p lt)
+    ∙ ap (is_last_sent (kept_by (log_of w (p + 1)) (row_of w x (p + 1)))) (held_last_sent w o p lt)
     ∙ ap (λ n. nat_eq n (numbers_at (link_at w o).sending.sent (p + 1)).got && nat_eq (row_of w x (p + 1)).forgot (numbers_at (link_at w o).sending.sent (p + 1)).forgot) (got_kept (log_of w (p + 1)) (row_of w x (p + 1)) (right_row w x (p + 1) f))
 
 -- a test of ids from 1 on, told by places from 0 on
@@ -63,8 +63,8 @@ pub nothing_new : (w : World) (x o : ℕ) → IsFit w → has_nothing_new (held_
 unfolding places
 nothing_new w x o f =
     let t : ℕ → Bool = λ p. is_sent (row_of w x p) (numbers_at (link_at w o).sending.sent p) in
-    all_range_agree (λ p. is_told (known_at (held_in w x).known p) (told_at (outgoing_in w o).told p)) (λ p. t (p + 1)) 0 64
-    (λ p _ l. told_row w x o p f (omega arith))
+    all_range_agree (λ p. is_last_sent (known_at (held_in w x).known p) (last_sent_at (outgoing_in w o).last_sent p)) (λ p. t (p + 1)) 0 64
+    (λ p _ l. last_sent_row w x o p f (omega arith))
     ∙ all_from_one t 64 (silent_is_sent w x o 0 f f.nobody)
     ∙ all-range_longer t (size w) 65 f.few (λ p ge. silent_is_sent w x o p f (log_past w p ge))
 
@@ -77,12 +77,12 @@ put_refuses w x f =
 
 -- ---- the numbers that are sent
 
-pub all_told_are : (w : World) (x o : ℕ) → IsFit w → 1 ≤ x → x < size w → all_told (held_in w x).known ≡ map (λ p. told_in (numbers_at (leaving w x o) (p + 1))) places
+pub all_last_sent_are : (w : World) (x o : ℕ) → IsFit w → 1 ≤ x → x < size w → all_last_sent (held_in w x).known ≡ map (λ p. last_sent_in (numbers_at (leaving w x o) (p + 1))) places
 unfolding places
-all_told_are w x o f some lt =
-    map-range_same (λ p. told_now (known_at (held_in w x).known p)) (λ p. told_in (numbers_at (leaving w x o) (p + 1))) 64
-    (λ p pl. ap told_now (held_known w x p pl)
-    ∙ told_kept (log_of w (p + 1)) (row_of w x (p + 1)) (right_row w x (p + 1) f)
+all_last_sent_are w x o f some lt =
+    map-range_same (λ p. last_sent_now (known_at (held_in w x).known p)) (λ p. last_sent_in (numbers_at (leaving w x o) (p + 1))) 64
+    (λ p pl. ap last_sent_now (held_known w x p pl)
+    ∙ last_sent_kept (log_of w (p + 1)) (row_of w x (p + 1)) (right_row w x (p + 1) f)
     ∙ sym (next_tells (member_at w x) (link_at w o).sending (p + 1)))
 
 -- what a put leaves of each link to its receiver
@@ -91,7 +91,7 @@ put_seen w x o j lt = seen_same w o j (pushed (link_at w o) (leaving w x o)) lt 
 
 pub put_out : (w : World) (x o : ℕ) → IsFit w → 1 ≤ x → x < size w → o < length w.links → put_on (held_in w x).known (outgoing_in w o) ≡ outgoing_in (put_in w x o) o
 put_out w x o f some lt ol =
-    ap (λ ns. record (outgoing_in w o) { fresh = false; told = ns; credit = sent (link_at w o).flow.sender }) (all_told_are w x o f some lt)
+    ap (λ ns. record (outgoing_in w o) { fresh = false; last_sent = ns; credit = sent (link_at w o).flow.sender }) (all_last_sent_are w x o f some lt)
     ∙ ap outgoing_of (sym (get_or-set_same w.links o (pushed (link_at w o) (leaving w x o)) no_link ol))
 
 pub put_stands : (w : World) (x o : ℕ) → IsFit w → 1 ≤ x → x < size w → (member_at w x).out ≡ Some o → put_held (held_in w x) ≡ held_in (put_in w x o) x
@@ -123,11 +123,11 @@ pub put_lines : (w : World) (x o : ℕ) → IsFit w → 1 ≤ x → x < size w �
 unfolding places
 put_lines w x o f some lt up is =
     let before : Sending = (link_at w o).sending in
-    map-range_same (λ p. next_line before.fresh (p + 1) (known_at (held_in w x).known p) (told_at (outgoing_in w o).told p)) (λ p. line_for before.fresh (log_of w (p + 1)) p (numbers_at (leaving w x o) (p + 1)) (numbers_at before.sent (p + 1))) 64
-    (λ p pl. ap (λ k. next_line before.fresh (p + 1) k (told_at (outgoing_in w o).told p)) (held_known w x p pl)
-    ∙ ap (next_line before.fresh (p + 1) (kept_by (log_of w (p + 1)) (row_of w x (p + 1)))) (held_told w o p pl)
+    map-range_same (λ p. next_line before.fresh (p + 1) (known_at (held_in w x).known p) (last_sent_at (outgoing_in w o).last_sent p)) (λ p. line_for before.fresh (log_of w (p + 1)) p (numbers_at (leaving w x o) (p + 1)) (numbers_at before.sent (p + 1))) 64
+    (λ p pl. ap (λ k. next_line before.fresh (p + 1) k (last_sent_at (outgoing_in w o).last_sent p)) (held_known w x p pl)
+    ∙ ap (next_line before.fresh (p + 1) (kept_by (log_of w (p + 1)) (row_of w x (p + 1)))) (held_last_sent w o p pl)
     ∙ line_same before.fresh p (log_of w (p + 1)) (row_of w x (p + 1)) (numbers_at before.sent (p + 1)) (right_row w x (p + 1) f) (sent_forgotten w x o (p + 1) f some lt up is)
     ∙ ap (λ k. line_for before.fresh (log_of w (p + 1)) p k (numbers_at before.sent (p + 1))) (sym (next_is w x o (p + 1) f (ap runs_phase up) is)))
 
-pub put_packet : (w : World) (x o : ℕ) → IsFit w → 1 ≤ x → x < size w → (member_at w x).phase ≡ Up → (member_at w x).out ≡ Some o → StandsFor w (link_at w o).sending (parcel_on (held_in w x).view.version (held_in w x).known (outgoing_in w o)) (leaving w x o)
+pub put_packet : (w : World) (x o : ℕ) → IsFit w → 1 ≤ x → x < size w → (member_at w x).phase ≡ Up → (member_at w x).out ≡ Some o → StandsFor w (link_at w o).sending (packet_on (held_in w x).view.version (held_in w x).known (outgoing_in w o)) (leaving w x o)
 put_packet w x o f some lt up is = record { view = version_is w x f; lines = put_lines w x o f some lt up is }

@@ -3,10 +3,10 @@ use Rattle.std.proofs.Common.{◌≡◌, ℕ, ◌+◌, Bool, true, List, [], map
 use Rattle.std.specs.List.{list_all, range_with_len}
 use Rattle.group_view.proofs.Lists.{all_range_agree}
 use Rattle.activity.specs.Kept.{Kept, KeptRow, kept_of}
-use Rattle.activity.specs.Told.{Told, ToldRow, sent_of}
-use Rattle.activity.specs.Parcels.{Carried, line_of}
-use Rattle.activity.specs.Diff.{is_told, next_line}
-use Rattle.gm_member.specs.Parcels.{places, known_at, told_at}
+use Rattle.activity.specs.LastSent.{LastSent, LastSentRow, sent_of}
+use Rattle.activity.specs.Packets.{LineSeen, line_of}
+use Rattle.activity.specs.Diff.{is_last_sent, next_line}
+use Rattle.gm_member.specs.Packets.{places, known_at, last_sent_at}
 use Rattle.gm_member.proofs.Places.{map-range_same}
 use Rattle.gm_member.proofs.Accepting.{kept_there, sent_there}
 
@@ -14,31 +14,31 @@ use Rattle.gm_member.proofs.Accepting.{kept_there, sent_there}
 abbrev kept_all : List KeptRow → List Kept
 kept_all rows = map (λ p. kept_of rows (p + 1)) places
 
-abbrev sent_all : List ToldRow → List Told
+abbrev sent_all : List LastSentRow → List LastSent
 sent_all rows = map (λ p. sent_of rows (p + 1)) places
 
 -- the lines of the next packet
-pub lines_are : (first : Bool) (rows : List KeptRow) (sent : List ToldRow) (lines : List Carried) → ((p : ℕ) → line_of lines p ≡ next_line first p (kept_of rows p) (sent_of sent p))
-    → map (λ p. line_of lines (p + 1)) places ≡ map (λ p. next_line first (p + 1) (known_at (map (λ q. kept_of rows (q + 1)) places) p) (told_at (map (λ q. sent_of sent (q + 1)) places) p)) places
+pub lines_are : (first : Bool) (rows : List KeptRow) (sent : List LastSentRow) (lines : List LineSeen) → ((p : ℕ) → line_of lines p ≡ next_line first p (kept_of rows p) (sent_of sent p))
+    → map (λ p. line_of lines (p + 1)) places ≡ map (λ p. next_line first (p + 1) (known_at (map (λ q. kept_of rows (q + 1)) places) p) (last_sent_at (map (λ q. sent_of sent (q + 1)) places) p)) places
 unfolding places
-lines_are first rows sent lines h = map-range_same (λ p. line_of lines (p + 1)) (λ p. next_line first (p + 1) (known_at (kept_all rows) p) (told_at (sent_all sent) p)) 64
+lines_are first rows sent lines h = map-range_same (λ p. line_of lines (p + 1)) (λ p. next_line first (p + 1) (known_at (kept_all rows) p) (last_sent_at (sent_all sent) p)) 64
     (λ p l. h (p + 1)
     ∙ ap (λ k. next_line first (p + 1) k (sent_of sent (p + 1))) (sym (kept_there rows p l))
     ∙ ap (next_line first (p + 1) (known_at (kept_all rows) p)) (sym (sent_there sent p l)))
 
 -- those of the first one, before which nothing was sent
-pub first_lines : (rows : List KeptRow) (none : List ToldRow) (lines : List Carried) → none ≡ [] → ((p : ℕ) → line_of lines p ≡ next_line true p (kept_of rows p) (sent_of none p))
-    → map (λ p. line_of lines (p + 1)) places ≡ map (λ p. next_line true (p + 1) (known_at (map (λ q. kept_of rows (q + 1)) places) p) (told_at (map (λ q. sent_of [] (q + 1)) places) p)) places
+pub first_lines : (rows : List KeptRow) (none : List LastSentRow) (lines : List LineSeen) → none ≡ [] → ((p : ℕ) → line_of lines p ≡ next_line true p (kept_of rows p) (sent_of none p))
+    → map (λ p. line_of lines (p + 1)) places ≡ map (λ p. next_line true (p + 1) (known_at (map (λ q. kept_of rows (q + 1)) places) p) (last_sent_at (map (λ q. sent_of [] (q + 1)) places) p)) places
 first_lines rows none lines empty h = lines_are true rows [] lines (λ p. h p ∙ ap (λ s. next_line true p (kept_of rows p) (sent_of s p)) empty)
 
--- whether all was told
-pub told_by_places : (rows : List KeptRow) (sent : List ToldRow)
-    → list_all (λ p. is_told (kept_of rows (p + 1)) (sent_of sent (p + 1))) (range_with_len 0 64)
-    ≡ list_all (λ p. is_told (known_at (map (λ q. kept_of rows (q + 1)) places) p) (told_at (map (λ q. sent_of sent (q + 1)) places) p)) places
+-- whether all was sent
+pub last_sent_by_places : (rows : List KeptRow) (sent : List LastSentRow)
+    → list_all (λ p. is_last_sent (kept_of rows (p + 1)) (sent_of sent (p + 1))) (range_with_len 0 64)
+    ≡ list_all (λ p. is_last_sent (known_at (map (λ q. kept_of rows (q + 1)) places) p) (last_sent_at (map (λ q. sent_of sent (q + 1)) places) p)) places
 unfolding places
-told_by_places rows sent = all_range_agree (λ p. is_told (kept_of rows (p + 1)) (sent_of sent (p + 1))) (λ p. is_told (known_at (kept_all rows) p) (told_at (sent_all sent) p)) 0 64
-    (λ p _ l. ap (λ k. is_told k (sent_of sent (p + 1))) (sym (kept_there rows p (omega (arith, l))))
-    ∙ ap (is_told (known_at (kept_all rows) p)) (sym (sent_there sent p (omega (arith, l)))))
+last_sent_by_places rows sent = all_range_agree (λ p. is_last_sent (kept_of rows (p + 1)) (sent_of sent (p + 1))) (λ p. is_last_sent (known_at (kept_all rows) p) (last_sent_at (sent_all sent) p)) 0 64
+    (λ p _ l. ap (λ k. is_last_sent k (sent_of sent (p + 1))) (sym (kept_there rows p (omega (arith, l))))
+    ∙ ap (is_last_sent (known_at (kept_all rows) p)) (sym (sent_there sent p (omega (arith, l)))))
 
 -- what two facts of a result give
 pub both_ok : {A E : Type 0} {P Q R : A → Type 0} (r : Result A E) → ((a : A) → P a → Q a → R a) → IfOk r P → IfOk r Q → IfOk r R

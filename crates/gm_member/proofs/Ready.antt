@@ -9,7 +9,7 @@ use Rattle.gm_member.specs.declared.member.Member.{Member}
 use Rattle.gm_member.specs.declared.spare.Spare.{Spare}
 use Rattle.gm_member.specs.declared.links.OutLink.{OutLink}
 use Rattle.gm_member.specs.Held.{at_some}
-use Rattle.gm_member.specs.View.{all_kept, has_ended, told_on}
+use Rattle.gm_member.specs.View.{all_kept, has_ended, last_sent_on}
 use Rattle.activity.specs.Diff.{IsNotAbove}
 use Rattle.gm_member.specs.Ends.{EndIsOpen}
 use Rattle.gm_member.specs.Spares.{IsSpareFor}
@@ -77,4 +77,4 @@ module _ {O I : Type 0} {g : Ghosts O Load} where
 
   -- what a member has sent on a link is in its tables
   pub sent_there : (m : Member O I g) (l : OutLink O) → m.out ≡ Some l → IsNotAbove l.sent m.tables
-  sent_there m l e = within_above l.sent m.tables (subst (λ o. IsWithin (told_on o) m.tables) e m.sent)
+  sent_there m l e = within_above l.sent m.tables (subst (λ o. IsWithin (last_sent_on o) m.tables) e m.sent)

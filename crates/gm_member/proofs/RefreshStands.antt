@@ -20,10 +20,10 @@ use Rattle.ring_rules.proofs.rings.Rounds.{nat_eq-is, nat_eq-not}
 use Rattle.ring_rules.proofs.walks.Refresh.{kept_less}
 use Rattle.ring_rules.proofs.invariants.Happens.{IsGood}
 use Rattle.activity.specs.Kept.{no_kept}
-use Rattle.gm_member.specs.Parcels.{places, known_at, told_now}
+use Rattle.gm_member.specs.Packets.{places, known_at, last_sent_now}
 use Rattle.gm_member.specs.Held.{put_on, fresh_in, fresh_out, first_out, out_to, looked_held, refreshed_held, refresh_refused, up_refused, kept_in, kept_door, stays}
-use Rattle.gm_member.specs.Stands.{kept_by, told_in, known_in, incoming_in, outgoing_in, waits_for, door_in, held_in}
-use Rattle.gm_member.proofs.Knowing.{IsRight, told_kept}
+use Rattle.gm_member.specs.Stands.{kept_by, last_sent_in, known_in, incoming_in, outgoing_in, waits_for, door_in, held_in}
+use Rattle.gm_member.proofs.Knowing.{IsRight, last_sent_kept}
 use Rattle.gm_member.proofs.Places.{tabled_at}
 use Rattle.gm_member.proofs.DoorLists.{filter_agree, filter_made}
 use Rattle.gm_member.proofs.Doors.{view_version, stays_older}
@@ -171,11 +171,11 @@ pub first_out_is : (w : World) (x v : ℕ) → (view_in w v).version ≡ v → R
 unfolding places
 first_out_is w x v numbered right =
     ap (λ n. put_on (known_in w x) (fresh_out w.initial w.more (right_of (view_in w v) x) n)) numbered
-    ∙ ap (λ ns. record (outgoing_in one 0) { told = ns })
-    (map-range_same (λ p. told_now (known_at (known_in w x) p)) (λ p. told_in (numbers_at (next_packet (moved_to w x v) no_sending) (p + 1))) 64
-    (λ p l. ap told_now (tabled_at (λ k. kept_by (log_of w (k + 1)) (row_at (member_at w x) (k + 1))) 64 p no_kept l)
-    ∙ told_kept (log_of w (p + 1)) (row_at (member_at w x) (p + 1)) (right (p + 1))
-    ∙ sym (ap told_in (first_lines (member_at w x).rows (p + 1)))))
+    ∙ ap (λ ns. record (outgoing_in one 0) { last_sent = ns })
+    (map-range_same (λ p. last_sent_now (known_at (known_in w x) p)) (λ p. last_sent_in (numbers_at (next_packet (moved_to w x v) no_sending) (p + 1))) 64
+    (λ p l. ap last_sent_now (tabled_at (λ k. kept_by (log_of w (k + 1)) (row_at (member_at w x) (k + 1))) 64 p no_kept l)
+    ∙ last_sent_kept (log_of w (p + 1)) (row_at (member_at w x) (p + 1)) (right (p + 1))
+    ∙ sym (ap last_sent_in (first_lines (member_at w x).rows (p + 1)))))
     ∙ ap (λ k. outgoing_in (record w { links = k ∷ [] }) 0) (sym (link_new w x v))
   where
     one : World

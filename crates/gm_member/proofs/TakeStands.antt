@@ -20,7 +20,7 @@ use Rattle.ring_rules.specs.Lawful.{row_of, NumbersAreWithin}
 use Rattle.ring_rules.proofs.walks.Take.{row_at-taker, take_row, take_phase}
 use Rattle.ring_rules.proofs.events.Enabled.{take_effect}
 use Rattle.activity.specs.Kept.{Kept}
-use Rattle.activity.specs.Parcels.{Carried}
+use Rattle.activity.specs.Packets.{LineSeen}
 use Rattle.activity.specs.Plan.{accepted}
 use Rattle.ring_rules.specs.Compact.{Has, low, line_in, IsInTurn}
 use Rattle.ring_rules.proofs.compact.ByLines.{has_stays, oldest_says, without_line}
@@ -28,7 +28,7 @@ use Rattle.ring_rules.proofs.events.WhatRefuses.{MayTake}
 use Rattle.ring_rules.proofs.invariants.Happens.{IsGood, event_good}
 use Rattle.ring_rules.proofs.runs.NeverFalls.{RowRises, taker_rises_all}
 use Rattle.gm_member.specs.declared.taken.Taken.{Taken}
-use Rattle.gm_member.specs.Parcels.{places, ByOrigin, known_at, line_at}
+use Rattle.gm_member.specs.Packets.{places, PacketById, known_at, line_at}
 use Rattle.gm_member.specs.News.{line_news, taken_of, news_below, news_of}
 use Rattle.gm_member.specs.Held.{Held, Incoming, at_some, take_refused, owns, all_accepted, counted_in, took_from, began_from, took_held}
 use Rattle.gm_member.specs.Stands.{kept_by, line_for, held_in, outgoing_in, incoming_in, lines_in, StandsFor, taken_below, taken_in}
@@ -211,7 +211,7 @@ arrives w x s p f t some pl e = record {
 -- ---- its line
 
 -- the line that stands for what the packet says
-abbrev pub line_of_packet : World → ℕ → ℕ → ℕ → Option Carried
+abbrev pub line_of_packet : World → ℕ → ℕ → ℕ → Option LineSeen
 line_of_packet w s q p = line_for (link_at w s).had.fresh (log_of w p) q (said w s p) (numbers_at (link_at w s).had.sent p)
 
 -- of an origin that the ring doesn't have there is none
@@ -266,7 +266,7 @@ line_there w s p l = tabled_at (λ q. line_of_packet w s q (q + 1)) 64 p None l
 take_logs : (w : World) (x s p : ℕ) → log_of (take_from w x s) p ≡ log_of w p
 take_logs w x s p = log_written w x (taker w x s) refl p
 
-pub all_accepted_are : (w : World) (x s : ℕ) (lines : List (Option Carried)) → IsFit w → TakesFrom w x s → lines ≡ lines_in w (link_at w s).had (oldest (link_at w s))
+pub all_accepted_are : (w : World) (x s : ℕ) (lines : List (Option LineSeen)) → IsFit w → TakesFrom w x s → lines ≡ lines_in w (link_at w s).had (oldest (link_at w s))
     → all_accepted (owns (held_in w x) (link_at w s).sender) (held_in w x).known lines ≡ known_by (take_from w x s) (taker w x s)
 unfolding places
 all_accepted_are w x s lines f t e =
@@ -310,7 +310,7 @@ rows_stand w x s z known f lt current keeps =
       ap (λ l. incoming_seen (seen l)) (take_other w x s j z ne),
     ))))
 
-pub take_stands : (w : World) (x s : ℕ) (k : ByOrigin) → IsFit w → TakesFrom w x s → k.lines ≡ lines_in w (link_at w s).had (oldest (link_at w s)) → took_held (held_in w x) k ≡ held_in (take_from w x s) x
+pub take_stands : (w : World) (x s : ℕ) (k : PacketById) → IsFit w → TakesFrom w x s → k.lines ≡ lines_in w (link_at w s).had (oldest (link_at w s)) → took_held (held_in w x) k ≡ held_in (take_from w x s) x
 take_stands w x s k f t e =
     let h : Held = held_in w x in
     ap (λ c. at_some (option_map (incoming_in w) c) h (λ a. cond (is_waiting (member_at w x).phase) (began_from h k a) (took_from h k a))) t.current
@@ -358,7 +358,7 @@ news_at w x s q f t = ⊎_elim
     (λ (ge : size w ≤ q + 1). news_past w x s q (q + 1) f t ge)
     (cases_lt (q + 1) (size w))
 
-pub news_below_are : (w : World) (x s n : ℕ) (lines : List (Option Carried)) → IsFit w → n ≤ 64 → TakesFrom w x s → lines ≡ lines_in w (link_at w s).had (oldest (link_at w s)) → news_below n (owns (held_in w x) (link_at w s).sender) (held_in w x).known lines ≡ taken_below n w x s
+pub news_below_are : (w : World) (x s n : ℕ) (lines : List (Option LineSeen)) → IsFit w → n ≤ 64 → TakesFrom w x s → lines ≡ lines_in w (link_at w s).had (oldest (link_at w s)) → news_below n (owns (held_in w x) (link_at w s).sender) (held_in w x).known lines ≡ taken_below n w x s
 news_below_are w x s zero lines f l t e = refl
 news_below_are w x s (suc p) lines f l t e =
     let pl : p < 64 = omega arith in
@@ -369,7 +369,7 @@ news_below_are w x s (suc p) lines f l t e =
     ∙ ap (λ c. taken_below p w x s ++ line_news own p (kept_by (log_of w (p + 1)) (row_of w x (p + 1))) c) (line_there w s p pl)
     ∙ ap (λ xs. taken_below p w x s ++ xs) (news_at w x s p f t)
 
-pub news_are : (w : World) (x s : ℕ) (k : ByOrigin) → IsFit w → TakesFrom w x s → StandsFor w (link_at w s).had k (oldest (link_at w s)) → news_of (held_in w x) k ≡ taken_in w (member_at w x).current x
+pub news_are : (w : World) (x s : ℕ) (k : PacketById) → IsFit w → TakesFrom w x s → StandsFor w (link_at w s).had k (oldest (link_at w s)) → news_of (held_in w x) k ≡ taken_in w (member_at w x).current x
 news_are w x s k f t n =
     ap (λ c. at_some (option_map (incoming_in w) c) [] (λ (a : Incoming). brings a (member_at w x).phase)) t.current
     ∙ ap (brings (incoming_in w s)) t.up

@@ -20,8 +20,8 @@ use Rattle.gm_member.specs.declared.member.Member.{Member}
 use Rattle.activity.specs.declared.packet.Load.{Load}
 use Rattle.gm_member.specs.declared.taken.Taken.{Taken}
 use Rattle.activity.specs.Kept.{got_of}
-use Rattle.activity.specs.Parcels.{Parcel}
-use Rattle.gm_member.specs.Parcels.{by_origin, known_at}
+use Rattle.activity.specs.Packets.{PacketSeen}
+use Rattle.gm_member.specs.Packets.{packet_by_id, known_at}
 use Rattle.gm_member.specs.News.{news_of}
 use Rattle.gm_member.specs.Held.{Held, active_refused, published_held, put_refused, put_held, take_refused, took_held, gain_refused, gained_held, ended_held, stopped_held, pick_refused, first_at_door, picked_held}
 use Rattle.gm_member.specs.Stands.{WhereItStands, StepsTo}
@@ -88,8 +88,8 @@ module _ {O I : Type 0} {g : Ghosts O Load} where
 
   -- The oldest packet is taken from the link from which the member takes, and what it brings is the answer.
   pub record Takes (known : I → List (Item Load)) (waiting : I → Option ℕ) (takes : I → Item Load → I → Type 0) (looked : I → I → Type 0) (sends : I → ℕ → I → Type 0) (m n : Member O I g) (result : Result (Vec Taken Global) MemberFault) : Type 0 where
-    pub ok : IfOk result (λ taken. (k : Parcel) × (k.view ≤ (held_of m).view.version) × (held_of n ≡ took_held (held_of m) (by_origin k))
-        × (taken.items ≡ news_of (held_of m) (by_origin k)) × TookOn waiting takes looked sends k m n)
+    pub ok : IfOk result (λ taken. (k : PacketSeen) × (k.view ≤ (held_of m).view.version) × (held_of n ≡ took_held (held_of m) (packet_by_id k))
+        × (taken.items ≡ news_of (held_of m) (packet_by_id k)) × TookOn waiting takes looked sends k m n)
     pub fault : IfErr result (λ fault. IsRefusal (take_refused (held_of m) None) fault
         ⊎ ((take_refused (held_of m) None ≡ None) × MatchOption n.current ⊥ (λ l. IsTakeFault known waiting (held_of m).view.version fault l.end)))
     pub err : OnErr result (held_of n ≡ held_of m)
@@ -119,7 +119,7 @@ module _ {O I : Type 0} {g : Ghosts O Load} where
 
   -- A grant becomes credit of the link on which it sends.
   abbrev pub Gains : ℕ → Member O I g → Member O I g → Result (Unit {0}) MemberFault → Type 0
-  Gains amount m n result = Acts (gain_refused (held_of m)) (gained_held (held_of m) amount) (ends_of n ≡ record (ends_of m) { kept = None }) m n result
+  Gains amount m n result = Acts (gain_refused (held_of m)) (gained_held (held_of m) amount) (ends_of n ≡ record (ends_of m) { returned = None }) m n result
 
   -- It takes from now on from the first link at its door that it may.
   abbrev pub PicksUp : Member O I g → Member O I g → Result (Unit {0}) MemberFault → Type 0

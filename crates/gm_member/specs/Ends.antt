@@ -9,9 +9,9 @@ use Rattle.ordered_link.specs.declared.item.Item.TheVariants as item
 use Rattle.activity.specs.declared.packet.Load.{Load}
 use Rattle.gm_member.specs.declared.fault.MemberFault.{MemberFault}
 use Rattle.gm_member.specs.declared.fault.MemberFault.TheVariants as faults
-use Rattle.activity.specs.Parcels.{Parcel}
-use Rattle.gm_member.specs.Parcels.{ByOrigin, by_origin}
-use Rattle.gm_member.specs.Loads.{parcel_in, as_item, GrantsIf}
+use Rattle.activity.specs.Packets.{PacketSeen}
+use Rattle.gm_member.specs.Packets.{PacketById, packet_by_id}
+use Rattle.gm_member.specs.Loads.{packet_seen, as_item, GrantsIf}
 use Rattle.gm_member.specs.declared.links.OutLink.{OutLink}
 use Rattle.gm_member.specs.View.{ring_link}
 use Rattle.group_view.specs.declared.link.LinkName.{LinkName}
@@ -27,8 +27,8 @@ module _ {O : Type 0} where
   EndPuts puts x a b = (o : O) × (p : O) × (a ≡ Some o) × (b ≡ Some p) × puts o x p
 
   -- a packet that says this, whatever the order of its lines, was put on the end
-  abbrev pub EndSends : (O → Item Load → O → Type 0) → ByOrigin → Option O → Option O → Type 0
-  EndSends puts said a b = (k : Parcel) × (by_origin k ≡ said) × EndPuts puts (as_item k) a b
+  abbrev pub EndSends : (O → Item Load → O → Type 0) → PacketById → Option O → Option O → Type 0
+  EndSends puts said a b = (k : PacketSeen) × (packet_by_id k ≡ said) × EndPuts puts (as_item k) a b
 
   -- the end may know more
   abbrev pub EndLooks : (O → O → Type 0) → Option O → Option O → Type 0
@@ -53,8 +53,8 @@ module _ {I : Type 0} where
   EndIsNext known a = MatchOption a ⊥ (λ i. (reason : EndReason) × IsPrefix (item.End reason ∷ []) (known i))
 
   -- a packet is known to stand first on it, of which P holds
-  abbrev pub PacketIsNext : (I → List (Item Load)) → (Parcel → Type 0) → Option I → Type 0
-  PacketIsNext known P a = MatchOption a ⊥ (λ i. (x : Load) × IsPrefix (item.Load x ∷ []) (known i) × P (parcel_in x))
+  abbrev pub PacketIsNext : (I → List (Item Load)) → (PacketSeen → Type 0) → Option I → Type 0
+  PacketIsNext known P a = MatchOption a ⊥ (λ i. (x : Load) × IsPrefix (item.Load x ∷ []) (known i) × P (packet_seen x))
 
   -- why a member whose view is of this version may take no packet: nothing stands there, the end is next, or the packet is of a newer
   -- version
@@ -82,7 +82,7 @@ module _ {I : Type 0} where
       (i : I) × (j : I) × (z : I) × (a ≡ Some i) × looked i j × takes j (item.Load x) z × (waiting z ≡ None) × (b ≡ Some z)
 
   -- a packet was taken after a look, and a grant given where one is due
-  abbrev pub EndTook : (I → Option ℕ) → (I → Item Load → I → Type 0) → (I → I → Type 0) → (I → ℕ → I → Type 0) → Option ℕ → Parcel → Option I → Option I → Type 0
+  abbrev pub EndTook : (I → Option ℕ) → (I → Item Load → I → Type 0) → (I → I → Type 0) → (I → ℕ → I → Type 0) → Option ℕ → PacketSeen → Option I → Option I → Type 0
   EndTook waiting takes looked sends due k a b =
       (i : I) × (j : I) × (y : I) × (z : I) × (a ≡ Some i) × looked i j × takes j (as_item k) y × (waiting y ≡ None)
       × GrantsIf due sends y z × (b ≡ Some z)

@@ -15,11 +15,11 @@ use Rattle.ring_rules.specs.Machine.{is_waiting}
 use Rattle.ring_rules.specs.Step.{is_owned}
 use Rattle.ring_rules.specs.Event.{is_stopped, version_refusal}
 use Rattle.activity.specs.Kept.{Kept, no_kept, joined}
-use Rattle.activity.specs.Told.{Told, none_told}
-use Rattle.activity.specs.Parcels.{Carried}
-use Rattle.activity.specs.Diff.{next_line, is_told}
+use Rattle.activity.specs.LastSent.{LastSent, never_sent}
+use Rattle.activity.specs.Packets.{LineSeen}
+use Rattle.activity.specs.Diff.{next_line, is_last_sent}
 use Rattle.activity.specs.Plan.{accepted, begun}
-use Rattle.gm_member.specs.Parcels.{ByOrigin, places, known_at, told_at, line_at, told_now}
+use Rattle.gm_member.specs.Packets.{PacketById, places, known_at, last_sent_at, line_at, last_sent_now}
 
 -- The link on which a member sends: to whom it goes, the version at which it was opened, whether no packet was put on it yet,
 -- the numbers last sent of each origin that a ring may have, and its credit.
@@ -27,7 +27,7 @@ pub record Outgoing : Type 0 where
   pub to : ℕ
   pub opened : ℕ
   pub fresh : Bool
-  pub told : List Told
+  pub last_sent : List LastSent
   pub credit : Credit
 
 -- A link to a member: from whom it comes, the version at which it was opened, and the loads counted on it.
@@ -68,12 +68,12 @@ at_some (Some a) d f = f a
 -- ---- founding and joining
 
 -- nothing was sent
-abbrev pub nothing_sent : List Told
-nothing_sent = map (λ (_ : ℕ). none_told) places
+abbrev pub nothing_sent : List LastSent
+nothing_sent = map (λ (_ : ℕ). never_sent) places
 
 -- a link of x to z opens in a version, on which nothing was put
 abbrev pub fresh_out : ℕ → ℕ → ℕ → ℕ → Outgoing
-fresh_out initial more z version = record { to = z; opened = version; fresh = true; told = nothing_sent; credit = full_credit initial more }
+fresh_out initial more z version = record { to = z; opened = version; fresh = true; last_sent = nothing_sent; credit = full_credit initial more }
 
 -- a link from s opens in a version, from which nothing was taken
 abbrev pub fresh_in : ℕ → ℕ → ℕ → ℕ → Incoming
@@ -139,7 +139,7 @@ published_held h m = record h { known = slice_set h.known (h.id - 1) (joined m (
 
 -- whether the numbers of each origin equal those last sent
 abbrev pub has_nothing_new : List Kept → Outgoing → Bool
-has_nothing_new known o = list_all (λ p. is_told (known_at known p) (told_at o.told p)) places
+has_nothing_new known o = list_all (λ p. is_last_sent (known_at known p) (last_sent_at o.last_sent p)) places
 
 -- something is put only on a link with credit, and only where some number differs from those last sent
 abbrev pub out_refused : List Kept → Outgoing → Option Reason
@@ -150,24 +150,24 @@ abbrev pub put_refused : Held → Option Reason
 put_refused h = up_refused h (on_some h.out reason.NoOutLink (out_refused h.known))
 
 -- the numbers of each origin
-abbrev pub all_told : List Kept → List Told
-all_told known = map (λ p. told_now (known_at known p)) places
+abbrev pub all_last_sent : List Kept → List LastSent
+all_last_sent known = map (λ p. last_sent_now (known_at known p)) places
 
 -- they are the last sent once a packet is put, and one credit is spent
 abbrev pub put_on : List Kept → Outgoing → Outgoing
-put_on known o = record o { fresh = false; told = all_told known; credit = sent o.credit }
+put_on known o = record o { fresh = false; last_sent = all_last_sent known; credit = sent o.credit }
 
 -- the member after it has put a packet
 abbrev pub put_held : Held → Held
 put_held h = record h { out = option_map (put_on h.known) h.out }
 
 -- the lines of the next packet
-abbrev pub lines_on : List Kept → Outgoing → List (Option Carried)
-lines_on known o = map (λ p. next_line o.fresh (p + 1) (known_at known p) (told_at o.told p)) places
+abbrev pub lines_on : List Kept → Outgoing → List (Option LineSeen)
+lines_on known o = map (λ p. next_line o.fresh (p + 1) (known_at known p) (last_sent_at o.last_sent p)) places
 
 -- the next packet of a member whose view is of this version
-abbrev pub parcel_on : ℕ → List Kept → Outgoing → ByOrigin
-parcel_on version known o = record { view = version; first = o.fresh; lines = lines_on known o }
+abbrev pub packet_on : ℕ → List Kept → Outgoing → PacketById
+packet_on version known o = record { view = version; first = o.fresh; lines = lines_on known o }
 
 -- ---- taking
 
@@ -180,7 +180,7 @@ abbrev pub owns : Held → ℕ → ℕ → Bool
 owns h from p = is_owned h.view h.id from (p + 1)
 
 -- what is kept after the lines of a packet from a sender
-abbrev pub all_accepted : (ℕ → Bool) → List Kept → List (Option Carried) → List Kept
+abbrev pub all_accepted : (ℕ → Bool) → List Kept → List (Option LineSeen) → List Kept
 all_accepted own known lines = map (λ p. accepted (own p) (known_at known p) (line_at lines p)) places
 
 -- a load is counted
@@ -188,19 +188,19 @@ abbrev pub counted_in : Incoming → Incoming
 counted_in c = record c { counted = took c.counted }
 
 -- a packet is taken from a link
-abbrev pub took_from : Held → ByOrigin → Incoming → Held
+abbrev pub took_from : Held → PacketById → Incoming → Held
 took_from h k c = record h { known = all_accepted (owns h c.from) h.known k.lines; current = Some (counted_in c) }
 
 -- what a member that waits begins with, by the lines of its first packet
-abbrev pub all_begun : List (Option Carried) → List Kept
+abbrev pub all_begun : List (Option LineSeen) → List Kept
 all_begun lines = map (λ p. begun (line_at lines p)) places
 
 -- it takes that packet from a link, and is up
-abbrev pub began_from : Held → ByOrigin → Incoming → Held
+abbrev pub began_from : Held → PacketById → Incoming → Held
 began_from h k c = record h { phase = Up; known = all_begun k.lines; current = Some (counted_in c) }
 
 -- the member after it has taken a packet from the link that it takes from: where it waited, its first one
-abbrev pub took_held : Held → ByOrigin → Held
+abbrev pub took_held : Held → PacketById → Held
 took_held h k = at_some h.current h (λ c. cond (is_waiting h.phase) (began_from h k c) (took_from h k c))
 
 -- ---- gaining

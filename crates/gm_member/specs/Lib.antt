@@ -5,7 +5,7 @@ pub mod Faults
 pub mod Held
 pub mod Loads
 pub mod News
-pub mod Parcels
+pub mod Packets
 pub mod Questions
 pub mod Shown
 pub mod Spares
@@ -13,3 +13,4 @@ pub mod Stands
 pub mod Telling
 pub mod View
 pub mod Within
+pub mod Named

@@ -4,14 +4,14 @@ use Rattle.ordered_link.specs.declared.item.Item.{Item}
 use Rattle.ordered_link.specs.declared.item.Item.TheVariants as item
 use Rattle.activity.specs.declared.packet.Load.{Load}
 use Rattle.activity.specs.declared.packet.Load.TheVariants as load
-use Rattle.activity.specs.Parcels.{Parcel}
+use Rattle.activity.specs.Packets.{PacketSeen}
 
 -- the packet that a load is
-abbrev pub parcel_in : Load → Parcel
-parcel_in (load.Packet k) = k
+abbrev pub packet_seen : Load → PacketSeen
+packet_seen (load.Packet k) = k
 
 -- a packet as it stands on a link
-abbrev pub as_item : Parcel → Item Load
+abbrev pub as_item : PacketSeen → Item Load
 as_item k = item.Load (load.Packet k)
 
 -- a grant was given where one is due

@@ -7,14 +7,14 @@ use Rattle.queue_core.specs.declared.message.Message.TheVariants as message
 use Rattle.activity.specs.declared.change.Change.{Change}
 use Rattle.activity.specs.declared.change.Change.TheVariants.{Receive, CameRound}
 use Rattle.activity.specs.Kept.{Kept}
-use Rattle.activity.specs.Parcels.{Carried}
+use Rattle.activity.specs.Packets.{LineSeen}
 use Rattle.activity.specs.Plan.{change_of}
 use Rattle.ring_rules.specs.declared.numbers.Numbers.{Numbers}
 use Rattle.ring_rules.specs.Rows.{most_members}
 use Rattle.ring_rules.specs.Machine.{is_waiting}
 use Rattle.ring_rules.specs.Shown.{id_of}
 use Rattle.gm_member.specs.declared.taken.Taken.{Taken}
-use Rattle.gm_member.specs.Parcels.{ByOrigin, known_at, line_at}
+use Rattle.gm_member.specs.Packets.{PacketById, known_at, line_at}
 use Rattle.gm_member.specs.Held.{Held, at_some, owns}
 
 -- what stands at no place of a list
@@ -30,23 +30,23 @@ abbrev pub taken_between : ℕ → ℕ → List Message → ℕ → ℕ → List
 taken_between p lo messages a b = map (taken_at p lo messages) (range_with_len a (b - a))
 
 -- what a change brings: the messages of its line that are received
-abbrev pub change_news : ℕ → Carried → Change → List Taken
+abbrev pub change_news : ℕ → LineSeen → Change → List Taken
 change_news p c (Receive origin from to forgot) = taken_between p c.lo c.messages from to
 change_news p c (CameRound origin forgot retired) = []
 
 -- what a line brings, or none: nothing where it isn't used
-abbrev pub line_news : Bool → ℕ → Kept → Option Carried → List Taken
+abbrev pub line_news : Bool → ℕ → Kept → Option LineSeen → List Taken
 line_news own p k None = []
 line_news own p k (Some c) = option_map_or (change_news p c) (change_of own k c) []
 
 -- what lines bring, of the origins at the places below n; own tells for which the member answers
-abbrev pub news_below : ℕ → (ℕ → Bool) → List Kept → List (Option Carried) → List Taken
+abbrev pub news_below : ℕ → (ℕ → Bool) → List Kept → List (Option LineSeen) → List Taken
 news_below zero own known lines = []
 news_below (suc p) own known lines = news_below p own known lines ++ line_news (own p) p (known_at known p) (line_at lines p)
 
 -- all that a packet brings from the link that the member takes from, in order of origin and number: its first one brings a member
 -- that waits nothing
-abbrev pub news_of : Held → ByOrigin → List Taken
+abbrev pub news_of : Held → PacketById → List Taken
 news_of h k = at_some h.current [] (λ c. cond (is_waiting h.phase) [] (news_below most_members (owns h c.from) h.known k.lines))
 
 -- the messages of a log that numbers bring to one who has got so many

@@ -9,7 +9,7 @@ use Rattle.group_view.specs.declared.request.Deposited.{Deposited}
 use Rattle.activity.specs.Kept.{got_of}
 use Rattle.gm_member.specs.declared.questions.Ask.{Ask}
 use Rattle.gm_member.specs.declared.questions.Ask.TheVariants.{Mark, Admit, Erase, Refresh, Collect}
-use Rattle.gm_member.specs.Parcels.{known_at}
+use Rattle.gm_member.specs.Packets.{known_at}
 use Rattle.gm_member.specs.Held.{Held, first_at_door, answered_held, refreshed_held, collected_held}
 use Rattle.gm_member.specs.Arrivals.{incoming_of}
 

@@ -19,15 +19,15 @@ use Rattle.group_view.specs.declared.request.Request.{Request}
 use Rattle.ordered_link.specs.declared.item.Item.TheVariants as item
 use Rattle.gm_member.specs.Spares.{IsSpareFor, OpensOn}
 use Rattle.gm_member.specs.View.{all_kept, out_of, in_of, end_of, count_of, ring_link, kept_link, kept_links, left_current, left_links}
-use Rattle.activity.specs.Parcels.{Parcel}
-use Rattle.gm_member.specs.Held.{Held, at_some, parcel_on, without, sends_to}
+use Rattle.activity.specs.Packets.{PacketSeen}
+use Rattle.gm_member.specs.Held.{Held, at_some, packet_on, without, sends_to}
 use Rattle.gm_member.specs.Ends.{EndIsOpen, EndPuts, EndSends, EndLooks, EndTook, EndEnds, Replaces}
 
 -- The ends that a member has: of the link on which it sends, with the grant that it keeps of it; of the one from which it takes; of
 -- those at its door; and those that it has replaced or left, the oldest first. An end that is lent isn't there.
 pub record Ends (O I : Type 0) : Type 0 where
   pub out : Option O
-  pub kept : Option ℕ
+  pub returned : Option ℕ
   pub link : Option I
   pub door : List (Option I)
   pub old_outs : List (LinkName × O)
@@ -54,7 +54,7 @@ module _ {O I : Type 0} {g : Ghosts O Load} where
   abbrev pub ends_of : Member O I g → Ends O I
   ends_of m = record {
     out = at_some m.out None (λ l. l.end);
-    kept = at_some m.out None (λ l. l.kept);
+    returned = at_some m.out None (λ l. l.returned);
     link = at_some m.current None (λ l. l.end);
     door = map end_of m.door.items;
     old_outs = m.old_outs.items;
@@ -116,14 +116,14 @@ module _ {O I : Type 0} {g : Ghosts O Load} where
   abbrev pub PutsOn : (O → Item Load → O → Type 0) → Member O I g → Member O I g → Type 0
   PutsOn puts m n =
       (l : OutLink O) × (l' : OutLink O) × (m.out ≡ Some l) × (n.out ≡ Some l')
-      × EndSends puts (parcel_on m.view.version (all_kept m.tables) (out_of l)) l.end l'.end × (l'.kept ≡ l.kept) × SameIns m n
+      × EndSends puts (packet_on m.view.version (all_kept m.tables) (out_of l)) l.end l'.end × (l'.returned ≡ l.returned) × SameIns m n
 
   -- the end of the link on which it sends may know more
   abbrev pub LooksOut : (O → O → Type 0) → Member O I g → Member O I g → Type 0
   LooksOut looked m n =
       SameIns m n
       × ((n.out ≡ m.out)
-      ⊎ (l : OutLink O) × (l' : OutLink O) × (m.out ≡ Some l) × (n.out ≡ Some l') × EndLooks looked l.end l'.end × (l'.kept ≡ l.kept))
+      ⊎ (l : OutLink O) × (l' : OutLink O) × (m.out ≡ Some l) × (n.out ≡ Some l') × EndLooks looked l.end l'.end × (l'.returned ≡ l.returned))
 
   -- that of the link from which it takes
   abbrev pub LooksIn : (I → I → Type 0) → Member O I g → Member O I g → Type 0
@@ -133,7 +133,7 @@ module _ {O I : Type 0} {g : Ghosts O Load} where
       ⊎ (l : InLink I) × (l' : InLink I) × (m.current ≡ Some l) × (n.current ≡ Some l') × EndLooks looked l.end l'.end)
 
   -- a packet was taken from the link from which it takes, and a grant given where one is due
-  abbrev pub TookOn : (I → Option ℕ) → (I → Item Load → I → Type 0) → (I → I → Type 0) → (I → ℕ → I → Type 0) → Parcel → Member O I g → Member O I g → Type 0
+  abbrev pub TookOn : (I → Option ℕ) → (I → Item Load → I → Type 0) → (I → I → Type 0) → (I → ℕ → I → Type 0) → PacketSeen → Member O I g → Member O I g → Type 0
   TookOn waiting takes looked sends k m n =
       (l : InLink I) × (l' : InLink I) × (m.current ≡ Some l) × (n.current ≡ Some l')
       × EndTook waiting takes looked sends (grant_due l.counted) k l.end l'.end × SameOut m n
@@ -148,7 +148,7 @@ module _ {O I : Type 0} {g : Ghosts O Load} where
   -- the link on which it sends ends
   abbrev pub EndsOn : (O → Item Load → O → Type 0) → EndReason → Member O I g → Member O I g → Type 0
   EndsOn puts reason m n =
-      SameIns m n × MatchOption m.out (n.out ≡ None) (λ l. (l' : OutLink O) × (n.out ≡ Some l') × EndPuts puts (item.End reason) l.end l'.end × (l'.kept ≡ l.kept))
+      SameIns m n × MatchOption m.out (n.out ≡ None) (λ l. (l' : OutLink O) × (n.out ≡ Some l') × EndPuts puts (item.End reason) l.end l'.end × (l'.returned ≡ l.returned))
 
   -- the link at a place of its door is the one from which it takes
   abbrev pub PicksOn : ℕ → Member O I g → Member O I g → Type 0
@@ -159,17 +159,17 @@ module _ {O I : Type 0} {g : Ghosts O Load} where
   -- a grant of the link on which it sends is kept: it was, or it has been taken from the end now
   abbrev pub KeepsGrant : (O → ℕ → O → Type 0) → ℕ → Member O I g → Member O I g → Type 0
   KeepsGrant gains amount m n =
-      SameIns m n × (l : OutLink O) × (l' : OutLink O) × (m.out ≡ Some l) × (n.out ≡ Some l') × (l'.kept ≡ Some amount)
-      × (((l.kept ≡ Some amount) × (l'.end ≡ l.end))
-      ⊎ (l.kept ≡ None) × (o : O) × (p : O) × (l.end ≡ Some o) × (l'.end ≡ Some p) × gains o amount p)
+      SameIns m n × (l : OutLink O) × (l' : OutLink O) × (m.out ≡ Some l) × (n.out ≡ Some l') × (l'.returned ≡ Some amount)
+      × (((l.returned ≡ Some amount) × (l'.end ≡ l.end))
+      ⊎ (l.returned ≡ None) × (o : O) × (p : O) × (l.end ≡ Some o) × (l'.end ≡ Some p) × gains o amount p)
 
   -- no grant has come back on it
   abbrev pub NoGrantBack : (O → List ℕ) → Member O I g → Type 0
-  NoGrantBack grants m = MatchOption m.out ⊤ (λ l. (l.kept ≡ None) × MatchOption l.end ⊤ (λ o. grants o ≡ []))
+  NoGrantBack grants m = MatchOption m.out ⊤ (λ l. (l.returned ≡ None) × MatchOption l.end ⊤ (λ o. grants o ≡ []))
 
   -- one is kept, or has come back
   abbrev pub GrantIsBack : (O → List ℕ) → Member O I g → Type 0
-  GrantIsBack grants m = MatchOption m.out ⊥ (λ l. IsSome l.kept ⊎ MatchOption l.end ⊥ (λ o. 0 < length (grants o)))
+  GrantIsBack grants m = MatchOption m.out ⊥ (λ l. IsSome l.returned ⊎ MatchOption l.end ⊥ (λ o. 0 < length (grants o)))
 
   -- of the links to it those stay that another view keeps, and of the others the ends join those that it has left
   pub record LooksBy (v : Group) (m n : Member O I g) : Type 0 where

@@ -19,9 +19,9 @@ use Rattle.ring_rules.specs.Step.{size, log_of, is_owned, next_packet, admitted_
 use Rattle.ring_rules.specs.Event.{Saying, Says, kind_of, message_of, id_of, by_of, erased_view, refusal, effect, IsRun, last}
 use Rattle.gm_member.specs.declared.taken.Taken.{Taken}
 use Rattle.activity.specs.Kept.{Kept}
-use Rattle.activity.specs.Told.{Told}
-use Rattle.activity.specs.Parcels.{Carried}
-use Rattle.gm_member.specs.Parcels.{ByOrigin, places}
+use Rattle.activity.specs.LastSent.{LastSent}
+use Rattle.activity.specs.Packets.{LineSeen}
+use Rattle.gm_member.specs.Packets.{PacketById, places}
 use Rattle.gm_member.specs.News.{taken_of}
 use Rattle.gm_member.specs.Held.{Held, Outgoing, Incoming, fresh_in, sends_to}
 
@@ -31,8 +31,8 @@ abbrev pub kept_by : List Message → Row → Kept
 kept_by log r = record { forgot = r.forgot; messages = messages_between r.forgot r.got log; retired = r.retired; base = r.base }
 
 -- what numbers of the ring tell
-abbrev pub told_in : Numbers → Told
-told_in k = record { got = k.got; forgot = k.forgot }
+abbrev pub last_sent_in : Numbers → LastSent
+last_sent_in k = record { got = k.got; forgot = k.forgot }
 
 -- what the member of an id keeps of each origin
 abbrev pub known_in : World → ℕ → List Kept
@@ -44,7 +44,7 @@ outgoing_in w o = record {
   to = (link_at w o).receiver;
   opened = (link_at w o).opened;
   fresh = (link_at w o).sending.fresh;
-  told = map (λ p. told_in (numbers_at (link_at w o).sending.sent (p + 1))) places;
+  last_sent = map (λ p. last_sent_in (numbers_at (link_at w o).sending.sent (p + 1))) places;
   credit = (link_at w o).flow.sender;
 }
 
@@ -85,12 +85,12 @@ abbrev pub Stands : World → ℕ → Held → Type 0
 Stands w x h = h ≡ held_in w x
 
 -- the line that stands for what a packet says of the origin at place p, behind a packet that said this, or as the first
-abbrev pub line_for : Bool → List Message → ℕ → Numbers → Numbers → Option Carried
+abbrev pub line_for : Bool → List Message → ℕ → Numbers → Numbers → Option LineSeen
 line_for fresh log p k before = cond (has_line fresh k before)
     (Some (record { origin = as_id (p + 1); lo = k.lo; messages = messages_between k.lo k.got log; forgot = k.forgot })) None
 
 -- the lines that stand for a packet of the ring, behind what passed before it on its link
-abbrev pub lines_in : World → Sending → Packet → List (Option Carried)
+abbrev pub lines_in : World → Sending → Packet → List (Option LineSeen)
 lines_in w before k = map (λ p. line_for before.fresh (log_of w (p + 1)) p (numbers_at k (p + 1)) (numbers_at before.sent (p + 1))) places
 
 -- P holds of every state of a run, and id there, at which a member that holds h stands
@@ -137,16 +137,16 @@ pub record SaysIn (w : World) (x : ℕ) (name : List ℕ) (m : Message) (e : Eve
   pub message : message_of w x saying ≡ Ok m
 
 -- A packet stands for one of the ring, behind what passed before it on its link: its version and its lines.
-pub record StandsFor (w : World) (before : Sending) (k : ByOrigin) (packet : Packet) : Type 0 where
+pub record StandsFor (w : World) (before : Sending) (k : PacketById) (packet : Packet) : Type 0 where
   pub view : k.view ≡ packet.version
   pub lines : k.lines ≡ lines_in w before packet
 
 -- a packet stands for the one that x puts next on its out link
-abbrev pub IsPutPacket : World → ℕ → ByOrigin → Type 0
+abbrev pub IsPutPacket : World → ℕ → PacketById → Type 0
 IsPutPacket w x k = (o : ℕ) → (member_at w x).out ≡ Some o → StandsFor w (link_at w o).sending k (next_packet (member_at w x) (link_at w o).sending)
 
 -- a packet stands for the oldest on the link that x takes from
-abbrev pub IsNextPacket : World → ℕ → ByOrigin → Type 0
+abbrev pub IsNextPacket : World → ℕ → PacketById → Type 0
 IsNextPacket w x k = (s : ℕ) → (member_at w x).current ≡ Some s → (is_empty (link_at w s).packets ≡ false) × StandsFor w (link_at w s).had k (oldest (link_at w s))
 
 -- a grant is the oldest under way on the link on which x sends

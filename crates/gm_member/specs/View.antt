@@ -1,8 +1,8 @@
 -- What the structs of a member show.
 use Rattle.std.specs.Prelude.{ℕ, ◌+◌, List, map, Bool, true, false, cond, [], ◌∷◌, Option, Some, None}
 use Rattle.activity.specs.Kept.{Kept, KeptRow, kept_of}
-use Rattle.activity.specs.Told.{Told, ToldRow, none_told, sent_of}
-use Rattle.gm_member.specs.Parcels.{places}
+use Rattle.activity.specs.LastSent.{LastSent, LastSentRow, never_sent, sent_of}
+use Rattle.gm_member.specs.Packets.{places}
 use Rattle.std.specs.List.{filter, flat_map}
 use Rattle.group_view.specs.declared.link.LinkName.{LinkName}
 use Rattle.group_view.specs.declared.link.LinkKind.TheVariants.{Ring}
@@ -18,17 +18,17 @@ abbrev pub all_kept : List KeptRow → List Kept
 all_kept rows = map (λ p. kept_of rows (p + 1)) places
 
 -- what was last sent of each
-abbrev pub all_sent : List ToldRow → List Told
+abbrev pub all_sent : List LastSentRow → List LastSent
 all_sent rows = map (λ p. sent_of rows (p + 1)) places
 
 module _ {O : Type 0} where
   -- what was last sent of an origin on the link on which a member sends, where it sends on one
-  abbrev pub told_on : Option (OutLink O) → ℕ → Told
-  told_on out p = at_some out none_told (λ l. sent_of l.sent p)
+  abbrev pub last_sent_on : Option (OutLink O) → ℕ → LastSent
+  last_sent_on out p = at_some out never_sent (λ l. sent_of l.sent p)
 
   -- the link on which a member sends
   abbrev pub out_of : OutLink O → Outgoing
-  out_of l = record { to = l.to.0; opened = l.opened; fresh = l.fresh; told = all_sent l.sent; credit = l.credit }
+  out_of l = record { to = l.to.0; opened = l.opened; fresh = l.fresh; last_sent = all_sent l.sent; credit = l.credit }
 
 module _ {I : Type 0} where
   -- a link to a member

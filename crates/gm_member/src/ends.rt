@@ -9,10 +9,11 @@ use ordered_link::{LinkIn, LinkPair};
 
 impl<O: LinkPair<Load, In = I>, I: LinkIn<Load> + Drop> Member<O, I> {
     ghost use Rattle.std.specs.Prelude.{◌≡◌, length, None, Some, slice_set, slice_index_or, nat_lt, is_some, true};
-    ghost use Rattle.std.specs.Prelude.{MatchOption, nat_eq, ◌&&◌};
+    ghost use Rattle.std.specs.Prelude.{MatchOption, IfSome, IfNone, nat_eq, ◌&&◌};
     ghost use Rattle.gm_member.specs.Held.{is_for, fresh_in};
     ghost use Rattle.gm_member.specs.Shown.{held_of, ends_of, in_end, has_in};
     ghost use Rattle.gm_member.specs.Calls.{Gives, GivesIn, Lends, LendsIn, GivesUp, NamesIn};
+    ghost use Rattle.gm_member.specs.Named.{HasNone, IsFirst, LendsNamed, IsLentNamed, GivesNamed};
 
     /// Lends the end of a link to the member: of the one from which it takes at place 0, of those at its door, the
     /// oldest first, from place 1 on. None where no such link is there, or its end is lent. The caller gives it back
@@ -21,16 +22,6 @@ impl<O: LinkPair<Load, In = I>, I: LinkIn<Load> + Drop> Member<O, I> {
         ensures { LendsIn place self.old self.new result }
     {
         self.lend_at(place as usize)
-    }
-
-    /// `lend_in` at any place.
-    pub fn lend_at(&mut self, place: usize) -> Option<I>
-        ensures { LendsIn place self.old self.new result }
-    {
-        if place == 0 {
-            return self.lend_current();
-        }
-        self.lend_at_door(place - 1)
     }
 
     /// Gives an end back to the place that it was lent from. It wants no memory.
@@ -42,8 +33,74 @@ impl<O: LinkPair<Load, In = I>, I: LinkIn<Load> + Drop> Member<O, I> {
         self.give_at(place as usize, link);
     }
 
-    /// `give_in` at any place.
-    pub fn give_at(&mut self, place: usize, link: I)
+    /// The name of a link to the member, of the one from which it takes at place 0, of those at its door from place 1
+    /// on: none exactly where no such link is there.
+    pub fn in_name(&self, place: u32) -> Option<LinkName>
+        ensures { NamesIn (held_of self.now) place result }
+    {
+        self.name_at(place as usize)
+    }
+
+    /// Lends the end of the first link of that name to the member, as `lend_in` counts them: none where no link to
+    /// it has the name, or the end is lent. The caller gives it back before any other call. It wants no memory.
+    pub fn lend(&mut self, name: &LinkName) -> Option<I>
+        ensures { LendsNamed name.now self.old self.new result }
+    {
+        let place = self.place_of(name)?;
+        self.lend_at(place)
+    }
+
+    /// Gives an end back to the link of that name. It wants no memory.
+    pub fn give(&mut self, name: &LinkName, link: I)
+        requires { IsLentNamed name.now self.old }
+        ensures { GivesNamed name.now link self.old self.new }
+    {
+        let Some(place) = self.place_of(name) else {
+            unreachable!()
+        };
+        self.give_at(place, link);
+    }
+
+    /// The place of the first link of that name to the member.
+    #[tactic(auto, using(std::proofs::lemmas::Option::gets))]
+    fn place_of(&self, name: &LinkName) -> Option<usize>
+        ensures some { IfSome result (IsFirst (held_of self.now) name.now) }
+        ensures there { IfSome result (λ place. has_in (held_of self.now) place ≡ true) }
+        ensures none { IfNone result (HasNone (held_of self.now) name.now) }
+    {
+        for place in 0..self.door.len() + 1 {
+            if self.name_at(place) == Some(*name) {
+                return Some(place);
+            }
+        }
+        None
+    }
+
+    fn name_at(&self, place: usize) -> Option<LinkName>
+        ensures { NamesIn (held_of self.now) place result }
+    {
+        if place == 0 {
+            return match &self.current {
+                Some(link) => Some(link.name(self.id)),
+                None => None,
+            };
+        }
+        match self.door.get(place - 1) {
+            Some(link) => Some(link.name(self.id)),
+            None => None,
+        }
+    }
+
+    fn lend_at(&mut self, place: usize) -> Option<I>
+        ensures { LendsIn place self.old self.new result }
+    {
+        if place == 0 {
+            return self.lend_current();
+        }
+        self.lend_at_door(place - 1)
+    }
+
+    fn give_at(&mut self, place: usize, link: I)
         requires there { has_in (held_of self.old) place ≡ true }
         requires lent { in_end (ends_of self.old) place ≡ None }
         ensures { GivesIn place link self.old self.new }
@@ -99,30 +156,6 @@ impl<O: LinkPair<Load, In = I>, I: LinkIn<Load> + Drop> Member<O, I> {
     {
         let waiting = &mut self.door[place];
         waiting.end = Some(link);
-    }
-
-    /// The name of a link to the member, of the one from which it takes at place 0, of those at its door from place 1
-    /// on: none exactly where no such link is there.
-    pub fn in_name(&self, place: u32) -> Option<LinkName>
-        ensures { NamesIn (held_of self.now) place result }
-    {
-        self.name_at(place as usize)
-    }
-
-    /// `in_name` at any place.
-    pub fn name_at(&self, place: usize) -> Option<LinkName>
-        ensures { NamesIn (held_of self.now) place result }
-    {
-        if place == 0 {
-            return match &self.current {
-                Some(link) => Some(link.name(self.id)),
-                None => None,
-            };
-        }
-        match self.door.get(place - 1) {
-            Some(link) => Some(link.name(self.id)),
-            None => None,
-        }
     }
 
     /// Whether a link of that name goes to the member and comes from its left neighbour, which was that already when

@@ -1,8 +1,8 @@
 //! The links of a member, each with the end that the member has of it.
 ghost use Rattle.std.specs.Prelude.{◌≡◌, ℕ, true};
 ghost use Rattle.std.specs.Prelude.{map, IfOk};
-ghost use Rattle.activity.specs.Told.{sent_of};
-ghost use Rattle.gm_member.specs.Parcels.{emptied};
+ghost use Rattle.activity.specs.LastSent.{sent_of};
+ghost use Rattle.gm_member.specs.Packets.{emptied};
 
 use crate::fault::MemberFault;
 use crate::news::{arrivals, view_refusal};
@@ -15,7 +15,7 @@ use ring_names::{Items, MemberId, OutOfMemory, Reason};
 use std::alloc::Global;
 
 /// The link on which a member sends: to whom, from which version of its view on, the numbers last sent on it, and
-/// the credit that is left (the right neighbour in the state of `gm`, and its `credit_flow`). `kept` is a grant that
+/// the credit that is left (the right neighbour in the state of `gm`, and its `credit_flow`). `returned` is a grant that
 /// came back and isn't credit yet.
 #[derive(Drop)]
 pub struct OutLink<O> {
@@ -24,7 +24,7 @@ pub struct OutLink<O> {
     pub(crate) fresh: bool,
     pub(crate) sent: Sent,
     pub(crate) credit: CreditOut,
-    pub(crate) kept: Option<u32>,
+    pub(crate) returned: Option<u32>,
     pub(crate) end: Option<O>,
     ghost unsent: { (p : ℕ) → fresh ≡ true → ((sent_of sent p).got ≡ 0) × ((sent_of sent p).forgot ≡ 0) },
 }
@@ -43,11 +43,11 @@ impl<O> OutLink<O> {
     ghost use Rattle.std.specs.Prelude.{◌≡◌, ℕ, ◌+◌, map, IfOk, List, Option};
     ghost use Rattle.ring_names.specs.declared.reason.Reason.{Reason};
     ghost use Rattle.activity.specs.Kept.{Kept, kept_of};
-    ghost use Rattle.activity.specs.Told.{sent_of};
-    ghost use Rattle.activity.specs.Parcels.{line_of};
+    ghost use Rattle.activity.specs.LastSent.{sent_of};
+    ghost use Rattle.activity.specs.Packets.{line_of};
     ghost use Rattle.activity.specs.Diff.{IsNotAbove, next_line};
-    ghost use Rattle.gm_member.specs.Parcels.{by_origin};
-    ghost use Rattle.gm_member.specs.Held.{has_nothing_new, out_refused, parcel_on};
+    ghost use Rattle.gm_member.specs.Packets.{packet_by_id};
+    ghost use Rattle.gm_member.specs.Held.{has_nothing_new, out_refused, packet_on};
     ghost use Rattle.gm_member.specs.View.{out_of, all_kept};
 
     /// What names the link, whose sender is given.
@@ -62,15 +62,15 @@ impl<O> OutLink<O> {
         }
     }
 
-    /// Why nothing can be put: the link has no credit, or all numbers equal those last sent, as is told.
-    pub(crate) fn put_refusal(&self, told: bool) -> Option<Reason>
-        ensures { (known : List Kept) → told ≡ has_nothing_new known (out_of self.now)
+    /// Why nothing can be put: the link has no credit, or all numbers equal those last sent, as `all_is_sent` says.
+    pub(crate) fn put_refusal(&self, all_is_sent: bool) -> Option<Reason>
+        ensures { (known : List Kept) → all_is_sent ≡ has_nothing_new known (out_of self.now)
             → result ≡ out_refused known (out_of self.now) }
     {
         if self.credit.blocked() {
             return Some(Reason::NoCredit);
         }
-        if told {
+        if all_is_sent {
             return Some(Reason::NothingNew);
         }
         None
@@ -84,8 +84,8 @@ impl<O> OutLink<O> {
         tables: &Tables,
     ) -> Result<Packet, OutOfMemory>
         requires { IsNotAbove (self.now).sent tables.now }
-        ensures said { IfOk result (λ packet. by_origin packet
-            ≡ parcel_on version (all_kept tables.now) (out_of self.now)) }
+        ensures said { IfOk result (λ packet. packet_by_id packet
+            ≡ packet_on version (all_kept tables.now) (out_of self.now)) }
         ensures lines { IfOk result (λ packet. (p : ℕ) → line_of packet.lines p
             ≡ next_line (self.now).fresh p (kept_of tables.now p) (sent_of (self.now).sent p)) }
     {
@@ -97,7 +97,7 @@ impl<O: LinkOut<Load>> OutLink<O> {
     ghost use Rattle.std.specs.Prelude.{◌≡◌, false, map, OnOk, OnErr, IfErr, None, Some};
     ghost use Rattle.ring_names.specs.declared.reason.Reason.{Reason};
     ghost use Rattle.activity.specs.Diff.{IsNotAbove};
-    ghost use Rattle.gm_member.specs.Held.{out_refused, parcel_on, put_on};
+    ghost use Rattle.gm_member.specs.Held.{out_refused, packet_on, put_on};
     ghost use Rattle.gm_member.specs.View.{out_of, all_kept};
     ghost use Rattle.gm_member.specs.Ends.{EndIsOpen, EndSends, EndLooks, IsPutFault};
 
@@ -112,9 +112,9 @@ impl<O: LinkOut<Load>> OutLink<O> {
         requires open { EndIsOpen O.ended self.old.end }
         requires enabled { out_refused (all_kept tables.now) (out_of self.old) ≡ None }
         ensures ok { OnOk result (out_of self.new ≡ put_on (all_kept tables.now) (out_of self.old)) }
-        ensures packet { OnOk result (EndSends O.puts (parcel_on version (all_kept tables.now) (out_of self.old))
+        ensures packet { OnOk result (EndSends O.puts (packet_on version (all_kept tables.now) (out_of self.old))
             self.old.end self.new.end) }
-        ensures kept { self.new.kept ≡ self.old.kept }
+        ensures kept { self.new.returned ≡ self.old.returned }
         ensures err { OnErr result (out_of self.new ≡ out_of self.old) }
         ensures looks { OnErr result (EndLooks O.looked self.old.end self.new.end) }
         ensures fault { IfErr result (λ fault. IsPutFault O.free fault self.new.end) }
@@ -150,7 +150,7 @@ impl<O: LinkOut<Load> + Drop> OutLink<O> {
         ensures same { out_of self.new ≡ out_of self.old }
         ensures sent { self.new.sent ≡ self.old.sent }
         ensures ends { EndPuts O.puts (Item.End reason) self.old.end self.new.end }
-        ensures kept { self.new.kept ≡ self.old.kept }
+        ensures kept { self.new.returned ≡ self.old.returned }
     {
         let Some(end) = &mut self.end else {
             unreachable!()
@@ -176,14 +176,14 @@ impl<O: LinkOut<Load> + Drop> OutLink<O> {
         requires { EndIsOpen O.ended self.old.end }
         ensures same { out_of self.new ≡ out_of self.old }
         ensures sent { self.new.sent ≡ self.old.sent }
-        ensures kept { self.new.kept ≡ self.old.kept }
+        ensures kept { self.new.returned ≡ self.old.returned }
         ensures looks { EndLooks O.looked self.old.end self.new.end }
-        ensures some { result ≡ true → IsSome self.new.kept
+        ensures some { result ≡ true → IsSome self.new.returned
             ⊎ MatchOption self.new.end ⊥ (λ o. 0 < length (O.grants o)) }
-        ensures none { result ≡ false → (self.new.kept ≡ None) × MatchOption self.new.end ⊤ (λ o. O.grants o ≡ []) }
+        ensures none { result ≡ false → (self.new.returned ≡ None) × MatchOption self.new.end ⊤ (λ o. O.grants o ≡ []) }
         ensures open { EndIsOpen O.ended self.new.end }
     {
-        if self.kept.is_some() {
+        if self.returned.is_some() {
             return true;
         }
         let Some(end) = &mut self.end else {
@@ -197,22 +197,22 @@ impl<O: LinkOut<Load> + Drop> OutLink<O> {
         requires { EndIsOpen O.ended self.old.end }
         ensures same { out_of self.new ≡ out_of self.old }
         ensures sent { self.new.sent ≡ self.old.sent }
-        ensures some { IfSome result (λ amount. (self.new.kept ≡ Some amount)
-            × (((self.old.kept ≡ Some amount) × (self.new.end ≡ self.old.end))
-            ⊎ (self.old.kept ≡ None) × (o : O) × (p : O) × (self.old.end ≡ Some o) × (self.new.end ≡ Some p)
+        ensures some { IfSome result (λ amount. (self.new.returned ≡ Some amount)
+            × (((self.old.returned ≡ Some amount) × (self.new.end ≡ self.old.end))
+            ⊎ (self.old.returned ≡ None) × (o : O) × (p : O) × (self.old.end ≡ Some o) × (self.new.end ≡ Some p)
             × O.gains o amount p)) }
-        ensures none { IfNone result ((self.old.kept ≡ None) × (self.new.kept ≡ None)
+        ensures none { IfNone result ((self.old.returned ≡ None) × (self.new.returned ≡ None)
             × EndLooks O.looked self.old.end self.new.end × MatchOption self.new.end ⊤ (λ o. O.grants o ≡ [])) }
         ensures open { EndIsOpen O.ended self.new.end }
     {
-        if self.kept.is_some() {
-            return self.kept;
+        if self.returned.is_some() {
+            return self.returned;
         }
         let Some(end) = &mut self.end else {
             unreachable!()
         };
-        self.kept = end.granted();
-        self.kept
+        self.returned = end.granted();
+        self.returned
     }
 }
 
@@ -238,14 +238,14 @@ impl<I: LinkIn<Load>> InLink<I> {
     ghost use Rattle.credit_flow.specs.Credit.{grant_due};
     ghost use Rattle.ring_rules.specs.Step.{is_owned};
     ghost use Rattle.activity.specs.Kept.{KeepsRows, kept_of};
-    ghost use Rattle.activity.specs.Parcels.{line_of};
+    ghost use Rattle.activity.specs.Packets.{line_of};
     ghost use Rattle.activity.specs.Plan.{owns as owned, changes_of, AreReady, opened, AreOpened};
-    ghost use Rattle.gm_member.specs.Parcels.{by_origin};
+    ghost use Rattle.gm_member.specs.Packets.{packet_by_id};
     ghost use Rattle.gm_member.specs.Held.{counted_in};
     ghost use Rattle.gm_member.specs.News.{news_below};
     ghost use Rattle.gm_member.specs.View.{in_of, all_kept};
     ghost use Rattle.gm_member.specs.Ends.{EndLooks, EndTakes, EndTook, EndEnds, IsEndRefusal, IsTakeFault};
-    ghost use Rattle.gm_member.specs.Loads.{parcel_in, GrantsIf};
+    ghost use Rattle.gm_member.specs.Loads.{packet_seen, GrantsIf};
 
     /// The oldest packet, copies of the messages that it brings to a member with these tables and this view, and what
     /// it changes there, for which there is room then.
@@ -259,12 +259,12 @@ impl<I: LinkIn<Load>> InLink<I> {
         requires there { IsSome self.old.end }
         ensures same { in_of self.new ≡ in_of self.old }
         ensures ok { IfOk result (λ r. EndTakes I.waiting I.takes I.looked r.2 self.old.end self.new.end) }
-        ensures version { IfOk result (λ r. (parcel_in r.2).view ≤ view.now.version) }
+        ensures version { IfOk result (λ r. (packet_seen r.2).view ≤ view.now.version) }
         ensures news { IfOk result (λ r. r.0.items
             ≡ news_below 64 (λ p. is_owned view.now id.0 self.old.from.0 (p + 1)) (all_kept tables.old)
-            (by_origin (parcel_in r.2)).lines) }
+            (packet_by_id (packet_seen r.2)).lines) }
         ensures plan { IfOk result (λ r. r.1.items
-            ≡ changes_of (owned view.now id.0 self.old.from.0) tables.new (parcel_in r.2).lines) }
+            ≡ changes_of (owned view.now id.0 self.old.from.0) tables.new (packet_seen r.2).lines) }
         ensures room { IfOk result (λ r. AreReady tables.new r.1.items) }
         ensures kept { KeepsRows tables.old tables.new }
         ensures fault { IfErr result (λ fault. IsTakeFault I.known I.waiting view.now.version fault self.new.end) }
@@ -321,7 +321,7 @@ impl<I: LinkIn<Load>> InLink<I> {
         ensures version { IfOk result (λ r. r.2.view ≤ view.now.version) }
         ensures news { IfOk result (λ r. r.0.items
             ≡ news_below 64 (λ p. is_owned view.now id.0 self.old.from.0 (p + 1)) (all_kept tables.old)
-            (by_origin r.2).lines) }
+            (packet_by_id r.2).lines) }
         ensures plan { IfOk result (λ r. r.1.items
             ≡ changes_of (owned view.now id.0 self.old.from.0) tables.new r.2.lines) }
         ensures room { IfOk result (λ r. AreReady tables.new r.1.items) }
@@ -341,9 +341,9 @@ impl<I: LinkIn<Load>> InLink<I> {
         requires there { IsSome self.old.end }
         ensures same { in_of self.new ≡ in_of self.old }
         ensures ok { IfOk result (λ r. EndTakes I.waiting I.takes I.looked r.1 self.old.end self.new.end) }
-        ensures version { IfOk result (λ r. (parcel_in r.1).view ≤ have) }
-        ensures opened { IfOk result (λ r. (p : ℕ) → kept_of r.0 p ≡ opened (line_of (parcel_in r.1).lines p)) }
-        ensures room { IfOk result (λ r. AreOpened r.0 (parcel_in r.1).lines) }
+        ensures version { IfOk result (λ r. (packet_seen r.1).view ≤ have) }
+        ensures opened { IfOk result (λ r. (p : ℕ) → kept_of r.0 p ≡ opened (line_of (packet_seen r.1).lines p)) }
+        ensures room { IfOk result (λ r. AreOpened r.0 (packet_seen r.1).lines) }
         ensures fault { IfErr result (λ fault. IsTakeFault I.known I.waiting have fault self.new.end) }
         ensures looks { OnErr result (EndLooks I.looked self.old.end self.new.end) }
     {

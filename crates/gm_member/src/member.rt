@@ -4,9 +4,9 @@ ghost use Rattle.std.specs.Vec.{vec_len, vec_capacity};
 ghost use Rattle.group_view.specs.Ring.{is_in};
 ghost use Rattle.ring_rules.specs.View.{ids};
 ghost use Rattle.ring_rules.specs.Machine.{is_waiting, runs_phase};
-ghost use Rattle.gm_member.specs.View.{count_of, has_ended, is_up_where, told_on};
-ghost use Rattle.gm_member.specs.Spares.{told_by_spare};
-ghost use Rattle.gm_member.specs.Telling.{IsToldRight};
+ghost use Rattle.gm_member.specs.View.{count_of, has_ended, is_up_where, last_sent_on};
+ghost use Rattle.gm_member.specs.Spares.{last_sent_by_spare};
+ghost use Rattle.gm_member.specs.Telling.{SaysAllIsSent};
 ghost use Rattle.gm_member.specs.Within.{IsWithin, one_within};
 
 use crate::door::{first_for, is_for, prune};
@@ -14,11 +14,11 @@ use crate::fault::MemberFault;
 use crate::links::{InLink, OutLink};
 use crate::spare::Spare;
 use crate::taken::Taken;
-use crate::telling::{MOST_ORIGINS, still_told};
+use crate::telling::still_all_sent;
 use crate::views::{left, right, version};
 use activity::{Load, Sent, Tables, says_all};
 use credit_flow::{CreditIn, CreditOut};
-use group_view::{LinkName, Request, View};
+use group_view::{LinkName, MOST_MEMBERS, Request, View};
 use ordered_link::{EndReason, LinkIn, LinkOut, LinkPair};
 use queue_core::Message;
 use ring_names::{CreditSpec, MemberId, Name, OutOfMemory, Reason};
@@ -32,7 +32,7 @@ const MOST_MESSAGES: u64 = 1 << 63;
 /// itself among them, the messages that it has received and not forgotten. It sends on one link and takes from one, and
 /// further links may stand at its door. One that waits for its first packet sends on none. While its question for a
 /// view is open it has a link ready, with which the answer wants no memory. Until it stops, the link on which it
-/// sends hasn't ended. `told` says whether of every origin the numbers are those last sent there, so that it needn't
+/// sends hasn't ended. `all_is_sent` says whether of every origin the numbers are those last sent there, so that it needn't
 /// look at each.
 #[derive(Drop)]
 pub struct Member<O: LinkOut<Load>, I> {
@@ -44,7 +44,7 @@ pub struct Member<O: LinkOut<Load>, I> {
     pub(crate) tables: Tables,
     pub(crate) credit: CreditSpec,
     pub(crate) out: Option<OutLink<O>>,
-    pub(crate) told: bool,
+    pub(crate) all_is_sent: bool,
     pub(crate) current: Option<InLink<I>>,
     pub(crate) door: Vec<InLink<I>>,
     pub(crate) asked: bool,
@@ -54,9 +54,9 @@ pub struct Member<O: LinkOut<Load>, I> {
     ghost own: { (1 ≤ id.0) × (id.0 ≤ 64) },
     ghost stands: { is_in id.0 (ids view) ≡ true },
     ghost up: { is_up_where asked phase ≡ true },
-    ghost sent: { IsWithin (told_on out) tables } by { one_within (told_on out) tables },
-    ghost told_right: { IsToldRight told out tables },
-    ghost spared: { IsWithin (told_by_spare spare) tables } by { one_within (told_by_spare spare) tables },
+    ghost sent: { IsWithin (last_sent_on out) tables } by { one_within (last_sent_on out) tables },
+    ghost says_all_is_sent: { SaysAllIsSent all_is_sent out tables },
+    ghost spared: { IsWithin (last_sent_by_spare spare) tables } by { one_within (last_sent_by_spare spare) tables },
     ghost unended: { runs_phase phase ≡ true → has_ended O.ended out ≡ false },
     ghost silent: { is_waiting phase ≡ true → count_of out ≡ 0 },
     ghost room_in: { vec_len old_ins + vec_len door + count_of current ≤ vec_capacity old_ins },
@@ -77,8 +77,8 @@ impl<O: LinkPair<Load, In = I>, I: LinkIn<Load> + Drop> Member<O, I> {
     ghost use Rattle.ring_rules.specs.Event.{end_refusal as the_end_refusal, gain_refusal as the_gain_refusal};
     ghost use Rattle.ring_rules.specs.View.{ids};
     ghost use Rattle.group_view.specs.Ring.{is_in};
-    ghost use Rattle.activity.specs.Parcels.{Parcel};
-    ghost use Rattle.gm_member.specs.Parcels.{by_origin, known_at};
+    ghost use Rattle.activity.specs.Packets.{PacketSeen};
+    ghost use Rattle.gm_member.specs.Packets.{packet_by_id, known_at};
     ghost use Rattle.gm_member.specs.View.{all_kept, ring_link, left_end, kept_link, left_current};
     ghost use Rattle.gm_member.specs.Ends.{IsPutFault, IsTakeFault, IsEndRefusal, Replaces};
     ghost use Rattle.gm_member.specs.Held.{founded, joining_held, active_refused, up_refused, published_held};
@@ -86,7 +86,7 @@ impl<O: LinkPair<Load, In = I>, I: LinkIn<Load> + Drop> Member<O, I> {
     ghost use Rattle.gm_member.specs.Held.{gain_refused, gained_held, kept_in, looked_held, sends_to as sends_to_it};
     ghost use Rattle.gm_member.specs.Held.{first_out, refresh_refused, refreshed_held};
     ghost use Rattle.gm_member.specs.Held.{first_at_door as the_first_at_door, pick_refused, picked_held, picked_at};
-    ghost use Rattle.gm_member.specs.Held.{Outgoing, parcel_on};
+    ghost use Rattle.gm_member.specs.Held.{Outgoing, packet_on};
     ghost use Rattle.gm_member.specs.Stands.{WhereItStands, StepsTo, SaysIn, with_own_link};
     ghost use Rattle.gm_member.specs.Stands.{IsPutPacket, IsNextPacket, IsNextGrant, IsNextEnd, taken_in};
     ghost use Rattle.gm_member.specs.Stands.{StandsWhereItWaits};
@@ -118,7 +118,7 @@ impl<O: LinkPair<Load, In = I>, I: LinkIn<Load> + Drop> Member<O, I> {
         requires unended { O.ended out ≡ false }
         ensures held { IfOk result (λ m. held_of m ≡ founded credit name id.0 view) }
         ensures ends { IfOk result (λ m. ends_of m
-            ≡ record { out = Some out; kept = None; link = Some link; door = []; old_outs = []; old_ins = [] }) }
+            ≡ record { out = Some out; returned = None; link = Some link; door = []; old_outs = []; old_ins = [] }) }
     {
         let old_outs = Vec::with_capacity(alloc, 1)?;
         let old_ins = Vec::with_capacity(alloc, 1)?;
@@ -139,10 +139,10 @@ impl<O: LinkPair<Load, In = I>, I: LinkIn<Load> + Drop> Member<O, I> {
                 fresh: true,
                 sent: Sent::new(alloc),
                 credit: CreditOut::new(credit),
-                kept: None,
+                returned: None,
                 end: Some(out),
             }),
-            told: true,
+            all_is_sent: true,
             current: Some(InLink {
                 from,
                 opened,
@@ -174,7 +174,7 @@ impl<O: LinkPair<Load, In = I>, I: LinkIn<Load> + Drop> Member<O, I> {
         requires stands { is_in id.0 (ids view) ≡ true }
         ensures held { IfOk result (λ m. held_of m ≡ joining_held credit name id.0 view) }
         ensures ends { IfOk result (λ m. ends_of m
-            ≡ record { out = None; kept = None; link = Some link; door = []; old_outs = []; old_ins = [] }) }
+            ≡ record { out = None; returned = None; link = Some link; door = []; old_outs = []; old_ins = [] }) }
         ensures back { IfErr result (λ e. (e.0 ≡ view) × (e.1 ≡ link)) }
 
         // It stands in every state of a run of the ring in which a member of its id and name waits with that view, and
@@ -195,7 +195,7 @@ impl<O: LinkPair<Load, In = I>, I: LinkIn<Load> + Drop> Member<O, I> {
             tables: Tables::new(alloc),
             credit,
             out: None,
-            told: true,
+            all_is_sent: true,
             current: Some(InLink {
                 from,
                 opened,
@@ -245,7 +245,8 @@ impl<O: LinkPair<Load, In = I>, I: LinkIn<Load> + Drop> Member<O, I> {
         &self.tables
     }
 
-    /// Up to which number its own messages have come round, so that every member has them.
+    /// Up to which number its own messages have come round: each member that is up has received these, or counted them
+    /// by its first packet.
     pub fn confirmed(&self) -> u64
         ensures { result ≡ (known_at (held_of self.now).known ((held_of self.now).id - 1)).forgot }
     {
@@ -316,7 +317,7 @@ impl<O: LinkPair<Load, In = I>, I: LinkIn<Load> + Drop> Member<O, I> {
             return Err((message, MemberFault::OutOfMemory));
         }
         self.tables.push(self.id, message);
-        self.told = false;
+        self.all_is_sent = false;
         Ok(self.tables.numbers(self.id).got)
     }
 
@@ -365,7 +366,7 @@ impl<O: LinkPair<Load, In = I>, I: LinkIn<Load> + Drop> Member<O, I> {
         }
         match &self.out {
             None => Some(Reason::NoOutLink),
-            Some(link) => link.put_refusal(self.told),
+            Some(link) => link.put_refusal(self.all_is_sent),
         }
     }
 
@@ -381,7 +382,7 @@ impl<O: LinkPair<Load, In = I>, I: LinkIn<Load> + Drop> Member<O, I> {
         ensures steps { OnOk result (IsEvent (Put (held_of self.old).name) self.old self.new) }
         ensures put { OnOk result ((o : Outgoing) × ((held_of self.old).out ≡ Some o)
             × WhereItStands (held_of self.old) (λ w x. IsPutPacket w x
-            (parcel_on (held_of self.old).view.version (held_of self.old).known o))) }
+            (packet_on (held_of self.old).view.version (held_of self.old).known o))) }
         ensures not_enabled { RefusesAs (Put (held_of self.old).name) self.old result }
     {
         self.put_next()
@@ -402,7 +403,7 @@ impl<O: LinkPair<Load, In = I>, I: LinkIn<Load> + Drop> Member<O, I> {
         };
         // Something is new, and stays so where the packet isn't put.
         let put = link.put(self.alloc, version, &self.tables);
-        self.told = put.is_ok();
+        self.all_is_sent = put.is_ok();
         put
     }
 
@@ -433,9 +434,9 @@ impl<O: LinkPair<Load, In = I>, I: LinkIn<Load> + Drop> Member<O, I> {
 
         // Wherever the member stands in a state of a run and the packet is the oldest on its link, this is the ring's
         // event, and the messages are those of the logs.
-        ensures steps { IfOk result (λ taken. (k : Parcel)
+        ensures steps { IfOk result (λ taken. (k : PacketSeen)
             × TookOn I.waiting I.takes I.looked I.sends k self.old self.new
-            × WhereItStands (held_of self.old) (λ w x. IsNextPacket w x (by_origin k)
+            × WhereItStands (held_of self.old) (λ w x. IsNextPacket w x (packet_by_id k)
             → StepsTo w x (Take (held_of self.old).name) (held_of self.new)
             × (taken.items ≡ taken_in w (member_at w x).current x))) }
         ensures not_enabled { RefusesWhere
@@ -479,7 +480,7 @@ impl<O: LinkPair<Load, In = I>, I: LinkIn<Load> + Drop> Member<O, I> {
         };
         let (news, changes, packet) = link.take(self.alloc, &mut self.tables, &self.view, self.id)?;
         self.tables.apply(packet, &changes);
-        self.told = still_told(self.told, &self.out, &self.tables, &changes);
+        self.all_is_sent = still_all_sent(self.all_is_sent, &self.out, &self.tables, &changes);
         Ok(news)
     }
 
@@ -677,7 +678,7 @@ impl<O: LinkPair<Load, In = I>, I: LinkIn<Load> + Drop> Member<O, I> {
             None => Err(MemberFault::Refused(Reason::NoOutLink)),
             Some(link) => {
                 link.credit.gain(amount);
-                link.kept = None;
+                link.returned = None;
                 Ok(())
             }
         }
@@ -785,7 +786,7 @@ impl<O: LinkPair<Load, In = I>, I: LinkIn<Load> + Drop> Member<O, I> {
         };
         self.move_on();
         let (link, requests) = spare.open(self.id, to, version(&self.view), self.credit);
-        self.told = says_all(&link.sent, &self.tables, MOST_ORIGINS);
+        self.all_is_sent = says_all(&link.sent, &self.tables, MOST_MEMBERS as u32);
         self.out = Some(link);
         requests
     }

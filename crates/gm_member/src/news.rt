@@ -2,19 +2,20 @@
 ghost use Rattle.std.specs.Prelude.{◌≡◌, ℕ, ◌+◌, ◌-◌, ◌^◌, ◌<◌, ◌≤◌, ◌++◌, ◌∷◌, [], map, length, Option, OnOk};
 ghost use Rattle.std.specs.Prelude.{IfOk, IfSome};
 ghost use Rattle.std.specs.Option.{option_map_or, option_copied};
+ghost use Rattle.ring_rules.specs.Rows.{most_members};
 ghost use Rattle.ring_rules.specs.Step.{is_owned};
 ghost use Rattle.ring_rules.specs.Event.{version_refusal};
 ghost use Rattle.activity.specs.Kept.{KeepsRows, kept_of};
-ghost use Rattle.activity.specs.Parcels.{Carried, line_of};
+ghost use Rattle.activity.specs.Packets.{LineSeen, line_of};
 ghost use Rattle.activity.specs.Plan.{owns as owned, change_of, changes_of, AreReady};
-ghost use Rattle.gm_member.specs.Parcels.{by_origin};
+ghost use Rattle.gm_member.specs.Packets.{packet_by_id};
 ghost use Rattle.gm_member.specs.View.{all_kept};
 ghost use Rattle.gm_member.specs.News.{change_news, line_news, taken_between, taken_at, news_below};
 
 use crate::taken::Taken;
 use crate::views::owns;
 use activity::{Change, Line, Packet, Tables, line_change, plan};
-use group_view::View;
+use group_view::{MOST_MEMBERS, View};
 use queue_core::Message;
 use ring_names::{MemberId, OutOfMemory, Reason};
 use std::alloc::Global;
@@ -116,7 +117,7 @@ fn push_origin(
     id: MemberId,
     from: MemberId,
 ) -> Result<(), OutOfMemory>
-    requires { p < 64 }
+    requires { p < most_members }
     ensures { OnOk result (out.new.items ≡ out.old.items
         ++ line_news (is_owned view.now id.0 from.0 (p + 1)) p (kept_of tables.now (p + 1))
         (line_of (packet.now).lines (p + 1))) }
@@ -137,11 +138,11 @@ fn packet_news(
     from: MemberId,
 ) -> Result<Vec<Taken>, OutOfMemory>
     ensures { IfOk result (λ v. v.items
-        ≡ news_below 64 (λ p. is_owned view.now id.0 from.0 (p + 1)) (all_kept tables.now)
-        (by_origin packet.now).lines) }
+        ≡ news_below most_members (λ p. is_owned view.now id.0 from.0 (p + 1)) (all_kept tables.now)
+        (packet_by_id packet.now).lines) }
 {
     let mut out = Vec::new(alloc);
-    for p in 0..64 {
+    for p in 0..MOST_MEMBERS {
         push_origin(&mut out, p, tables, packet, view, id, from)?;
     }
     Ok(out)
@@ -158,8 +159,8 @@ pub(crate) fn arrivals(
     from: MemberId,
 ) -> Result<(Vec<Taken>, Vec<Change>), OutOfMemory>
     ensures news { IfOk result (λ r. r.0.items
-        ≡ news_below 64 (λ p. is_owned view.now id.0 from.0 (p + 1)) (all_kept tables.old)
-        (by_origin packet.now).lines) }
+        ≡ news_below most_members (λ p. is_owned view.now id.0 from.0 (p + 1)) (all_kept tables.old)
+        (packet_by_id packet.now).lines) }
     ensures plan { IfOk result (λ r. r.1.items
         ≡ changes_of (owned view.now id.0 from.0) tables.new (packet.now).lines) }
     ensures room { IfOk result (λ r. AreReady tables.new r.1.items) }

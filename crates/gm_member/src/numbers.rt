@@ -2,16 +2,14 @@
 
 use crate::member::Member;
 use activity::{KeptNumbers, Load};
+use group_view::MOST_MEMBERS;
 use ordered_link::{LinkIn, LinkPair};
 use ring_names::MemberId;
-
-/// The greatest id that a ring may have.
-const MOST_MEMBERS: u32 = 64;
 
 impl<O: LinkPair<Load, In = I>, I: LinkIn<Load> + Drop> Member<O, I> {
     ghost use Rattle.std.specs.Prelude.{◌≡◌, ◌-◌, ◌≤◌};
     ghost use Rattle.activity.specs.Kept.{got_of};
-    ghost use Rattle.gm_member.specs.Parcels.{known_at};
+    ghost use Rattle.gm_member.specs.Packets.{known_at};
     ghost use Rattle.gm_member.specs.Shown.{held_of};
 
     /// Up to which number the member has received the messages of an origin; of itself how many it has published. 0
@@ -40,7 +38,7 @@ impl<O: LinkPair<Load, In = I>, I: LinkIn<Load> + Drop> Member<O, I> {
         ensures retired { result.retired ≡ (known_at (held_of self.now).known (of.0 - 1)).retired }
         ensures base { result.base ≡ (known_at (held_of self.now).known (of.0 - 1)).base }
     {
-        if of.0 > MOST_MEMBERS {
+        if of.0 > MOST_MEMBERS as u32 {
             return KeptNumbers {
                 got: 0,
                 forgot: 0,

@@ -3,9 +3,9 @@ ghost use Rattle.std.specs.Prelude.{◌<◌, ◌≡◌, false};
 ghost use Rattle.std.specs.Vec.{vec_len, vec_capacity};
 ghost use Rattle.std.specs.Prelude.{IfOk, true};
 ghost use Rattle.activity.specs.Diff.{IsNotAbove};
-ghost use Rattle.gm_member.specs.Parcels.{by_origin};
+ghost use Rattle.gm_member.specs.Packets.{packet_by_id};
 ghost use Rattle.gm_member.specs.View.{all_kept, all_sent};
-ghost use Rattle.gm_member.specs.Held.{fresh_out, lines_on, all_told};
+ghost use Rattle.gm_member.specs.Held.{fresh_out, lines_on, all_last_sent};
 
 use crate::links::OutLink;
 use activity::{Load, Packet, Sent, Tables, diff};
@@ -104,7 +104,7 @@ impl<O: LinkPair<Load, In = I>, I: Drop> Spare<O, I> {
             fresh: false,
             sent,
             credit: outgoing,
-            kept: None,
+            returned: None,
             end: Some(out),
         };
         (opened, requests)
@@ -114,8 +114,8 @@ impl<O: LinkPair<Load, In = I>, I: Drop> Spare<O, I> {
 /// The first packet of these tables, and the numbers that are the last sent then.
 fn first_packet(alloc: Global, tables: &Tables) -> Result<(Packet, Sent), OutOfMemory>
     ensures first { IfOk result (λ r. r.0.first ≡ true) }
-    ensures lines { IfOk result (λ r. (by_origin r.0).lines ≡ lines_on (all_kept tables.now) (fresh_out 0 0 0 0)) }
-    ensures told { IfOk result (λ r. all_sent r.1 ≡ all_told (all_kept tables.now)) }
+    ensures lines { IfOk result (λ r. (packet_by_id r.0).lines ≡ lines_on (all_kept tables.now) (fresh_out 0 0 0 0)) }
+    ensures last_sent { IfOk result (λ r. all_sent r.1 ≡ all_last_sent (all_kept tables.now)) }
     ensures there { IfOk result (λ r. IsNotAbove r.1 tables.now) }
 {
     let mut sent = Sent::new(alloc);

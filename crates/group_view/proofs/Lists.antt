@@ -1,8 +1,9 @@
--- Tests of all numbers of a range, lists that a test leaves empty, and writes over lists.
-use Rattle.std.proofs.Common.{◌≡◌, ◌≢◌, ℕ, zero, suc, ◌+◌, ◌≤◌, ◌<◌, Bool, true, false, cond, List, [], ◌∷◌, map, refl, ap, ◌∙◌, arith, ⊎_elim}
+-- Tests of all numbers of a range, lists that a test leaves empty, writes over lists, and parts of one.
+use Rattle.std.proofs.Common.{◌≡◌, ◌≢◌, ℕ, zero, suc, ◌+◌, ◌≤◌, ◌<◌, Bool, true, false, cond, List, [], ◌∷◌, ◌++◌, length, take, drop, map, refl, sym, ap, ◌∙◌, arith, ⊎_elim}
 use Rattle.std.specs.Prelude.{◌&&◌}
 use Rattle.std.specs.List.{list_all, range_with_len}
 use Rattle.std.proofs.lemmas.Bool.{and_parts, cases_eq}
+use Rattle.std.proofs.lemmas.List.{drop-append-le, take-take, take-append-drop, length-take-le}
 
 -- ---- ranges
 
@@ -43,3 +44,12 @@ cond_empty_late false xs e = e
 pub map_agree : {A B : Type 0} (f g : A → B) → ((x : A) → f x ≡ g x) → (xs : List A) → map f xs ≡ map g xs
 map_agree f g h [] = refl
 map_agree f g h (x ∷ xs) = ap (λ y. y ∷ map f xs) (h x) ∙ ap (λ ys. g x ∷ ys) (map_agree f g h xs)
+
+-- ---- parts
+
+-- what stands between two numbers, and what stands behind it up to a third
+pub between_joined : {A : Type 0} (lo mid hi : ℕ) (xs : List A) → lo ≤ mid → mid ≤ hi → hi ≤ length xs → drop lo (take mid xs) ++ drop mid (take hi xs) ≡ drop lo (take hi xs)
+between_joined lo mid hi xs a b within =
+    let long : length (take mid xs) ≡ mid = length-take-le mid xs (omega arith) in
+    sym (drop-append-le lo (take mid xs) (drop mid (take hi xs)) (omega arith))
+    ∙ ap (drop lo) (ap (λ ys. ys ++ drop mid (take hi xs)) (sym (take-take mid hi xs b)) ∙ take-append-drop mid (take hi xs))

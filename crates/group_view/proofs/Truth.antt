@@ -1,5 +1,5 @@
--- Tests that stand one behind another.
-use Rattle.std.proofs.Common.{◌≡◌, Bool, true, false, cond, sym, refl}
+-- Tests that stand one behind another, and of what is there.
+use Rattle.std.proofs.Common.{◌≡◌, Bool, true, false, cond, Option, Some, None, is_some, sym, refl}
 use Rattle.std.proofs.lemmas.Bool.{false≢true}
 
 -- a test that passes passes behind any other
@@ -26,3 +26,8 @@ other_true false c e = e
 pub cond_itself : (b : Bool) → cond b true false ≡ b
 cond_itself true = refl
 cond_itself false = refl
+
+-- what isn't there is nothing
+pub none_there : {A : Type 0} (o : Option A) → is_some o ≡ false → o ≡ None
+none_there None h = refl
+none_there (Some x) h = cc

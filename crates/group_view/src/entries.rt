@@ -1,5 +1,5 @@
 //! The entries of a view.
-ghost use Rattle.std.specs.Prelude.{◌≡◌, ◌<◌, ◌^◌, map, length, IfOk, OnOk, OnErr, true};
+ghost use Rattle.std.specs.Prelude.{◌≡◌, ◌<◌, map, IfOk, OnOk, OnErr, true};
 ghost use Rattle.group_view.specs.declared.entry.Mark.TheVariants.{Dead, Erased};
 ghost use Rattle.group_view.specs.Change.{dated, with_mark, with_synced, with_entry};
 ghost use Rattle.group_view.specs.Parts.{dated_right_of};

@@ -24,6 +24,6 @@ pub use laws::{
     since_says_who_was_left, versions_are_few,
 };
 pub use link::{LinkKind, LinkName};
-pub use names::are_opening_names;
+pub use names::{MOST_MEMBERS, are_opening_names};
 pub use request::{Answer, Deposited, Request};
 pub use view::View;

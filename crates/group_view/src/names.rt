@@ -4,14 +4,14 @@ ghost use Rattle.group_view.specs.Change.{AreOpeningNames, AreDifferent};
 
 use ring_names::Name;
 
-/// How many entries a view ever has.
-pub(crate) const MOST_ENTRIES: usize = 64;
+/// How many members a group ever has, the dead and the erased among them: the most entries of a view.
+pub const MOST_MEMBERS: usize = 64;
 
 /// Whether a group may open with these names: 1 to 64 different ones. It wants no memory.
 pub fn are_opening_names(names: &[Name]) -> bool
     ensures { IsTrue result ↔ AreOpeningNames names.now }
 {
-    !names.is_empty() && names.len() <= MOST_ENTRIES && are_different(names)
+    !names.is_empty() && names.len() <= MOST_MEMBERS && are_different(names)
 }
 
 fn is_same(one: &Name, other: &Name) -> bool

@@ -1,21 +1,21 @@
 //! Entries in ring order, as slices.
 ghost use Rattle.std.specs.Prelude.{MatchOption, ◌≡◌, ◌&&◌, ◌++◌, reverse, filter, position, nat_eq, ◌<◌, ◌≤◌};
-ghost use Rattle.std.specs.Prelude.{◌+◌, ℕ, length};
-ghost use Rattle.std.specs.Prelude.{take, drop, map, option_map, IfOk, OnOk, IfSome, true};
+ghost use Rattle.std.specs.Prelude.{◌+◌, length};
+ghost use Rattle.std.specs.Prelude.{take, drop, map, option_map, IfOk, OnOk, true};
 ghost use Rattle.group_view.specs.declared.entry.Mark.TheVariants.{Dead};
 ghost use Rattle.group_view.specs.View.{is_dead as died};
-ghost use Rattle.group_view.specs.View.{ids, number, as_id, left_of as the_left, right_of as the_right};
+ghost use Rattle.group_view.specs.View.{ids, number, left_of as the_left, right_of as the_right};
 ghost use Rattle.group_view.specs.View.{owner_of as the_owner, is_between as the_test, aliases_of as the_aliases};
 ghost use Rattle.group_view.specs.View.{id_named as the_id, owns, is_alias as is_the_alias, is_dead_mark};
 ghost use Rattle.group_view.specs.View.{entry_in, no_entry, is_live as lives, is_erased as rests};
 ghost use Rattle.group_view.specs.Change.{dated, with_mark, with_synced, opening_entries, answer_of};
-ghost use Rattle.group_view.specs.Change.{mark_refusal, erase_refusal, sync_refusal, admit_refusal};
+ghost use Rattle.group_view.specs.Change.{most_entries, mark_refusal, erase_refusal, sync_refusal, admit_refusal};
 ghost use Rattle.group_view.specs.Ring.{AreDistinct, first, is_in};
 ghost use Rattle.group_view.specs.Parts.{place_of as the_place, live_ids, last, comes_before, mark_in, AreFound};
 ghost use Rattle.group_view.specs.Parts.{dated_right_of};
 
 use crate::entry::{Entry, Mark};
-use crate::names::MOST_ENTRIES;
+use crate::names::MOST_MEMBERS;
 use ring_names::{MemberId, Name, OutOfMemory, Reason};
 use std::alloc::Global;
 
@@ -308,7 +308,7 @@ pub(crate) fn may_admit(entries: &[Entry], by: MemberId, name: &Name) -> Result<
     if find(entries, name).is_some() {
         return Err(Reason::NameTaken);
     }
-    if entries.len() >= MOST_ENTRIES {
+    if entries.len() >= MOST_MEMBERS {
         return Err(Reason::TooManyMembers);
     }
     Ok(())
@@ -378,7 +378,7 @@ pub(crate) fn find(entries: &[Entry], name: &Name) -> Option<MemberId>
 
 /// An entry for each name, with ids from 1.
 pub(crate) fn opening(alloc: Global, names: &[Name]) -> Result<Vec<Entry>, OutOfMemory>
-    requires { length names.now ≤ 64 }
+    requires { length names.now ≤ most_entries }
     ensures { IfOk result (λ v. v.items ≡ opening_entries 1 names.now) }
 {
     let mut entries = Vec::new(alloc);

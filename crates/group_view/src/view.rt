@@ -1,7 +1,7 @@
 //! A view of the group.
 ghost use Rattle.std.specs.Prelude.{◌≡◌, map, option_map, IfOk, IfErr, OnOk, OnErr, None};
 ghost use Rattle.group_view.specs.View.{is_dead as died, is_alias as the_alias};
-ghost use Rattle.group_view.specs.View.{number, as_id, left_of as the_left, right_of as the_right};
+ghost use Rattle.group_view.specs.View.{number, left_of as the_left, right_of as the_right};
 ghost use Rattle.group_view.specs.View.{owner_of as the_owner, is_between as the_test, aliases_of as the_aliases};
 ghost use Rattle.group_view.specs.View.{id_named, ids, entry_in, is_live as lives, is_erased as rests};
 ghost use Rattle.group_view.specs.Ring.{is_in};
@@ -38,7 +38,6 @@ impl Model for View {
 
     ghost Value = { Group };
 
-    ghost use Rattle.group_view.specs.Kept.{IsGroup};
     ghost use Rattle.group_view.specs.Seen.{group_of, KeepsGroup};
 
     ghost view = { group_of };

@@ -3,7 +3,7 @@ use Rattle.std.proofs.Common.{ℕ, ◌≤◌, Bool, true, false, cond, List, [],
 use Rattle.std.specs.List.{filter}
 use Rattle.std.proofs.lemmas.List.{length-append}
 use Rattle.group_view.specs.declared.link.LinkName.{LinkName}
-use Rattle.registrar.specs.declared.standing.Standing.{Standing}
+use Rattle.registrar.specs.declared.waiting_link.WaitingLink.{WaitingLink}
 use Rattle.registrar.specs.Registry.{is_for}
 use Rattle.registrar.specs.Handled.{deposited, links_for}
 
@@ -14,7 +14,7 @@ module _ {I : Type 0} where
   one_at_most name (Some link) = omega arith
 
   -- no more come to a member than have it for their receiver
-  pub covered : (p : ℕ) (links : List (Standing I)) → length (links_for p links) ≤ length (filter (is_for p) links)
+  pub covered : (p : ℕ) (links : List (WaitingLink I)) → length (links_for p links) ≤ length (filter (is_for p) links)
   covered p [] = omega arith
   covered p (s ∷ ss) = by_case (is_for p s) (covered p ss)
     where

@@ -12,7 +12,7 @@ use Rattle.group_view.specs.View.{Group, entry_in, is_live, is_dead, is_alias, l
 use Rattle.group_view.specs.Since.{view_at}
 use Rattle.ring_rules.specs.Refusal.{refuse_if, or_else}
 use Rattle.ring_rules.specs.Event.{missing_refusal}
-use Rattle.registrar.specs.declared.standing.Standing.{Standing}
+use Rattle.registrar.specs.declared.waiting_link.WaitingLink.{WaitingLink}
 use Rattle.registrar.specs.Registry.{Registry, newest, is_known}
 
 -- whether d is x's left neighbour in a view
@@ -29,16 +29,16 @@ since_in g x = (entry_in g.entries x).since
 
 module _ {I : Type 0} where
   -- whether a link of the ring goes from d to x, and was opened at a version or later
-  abbrev pub is_ring_from : ℕ → ℕ → ℕ → Standing I → Bool
+  abbrev pub is_ring_from : ℕ → ℕ → ℕ → WaitingLink I → Bool
   is_ring_from d x since s = is_ring s.name.kind && (nat_eq s.name.from.0 d && (nat_eq s.name.to.0 x && nat_le since s.name.view))
 
   -- whether such a link waits here
-  abbrev pub waits_from : List (Standing I) → ℕ → ℕ → ℕ → Bool
+  abbrev pub waits_from : List (WaitingLink I) → ℕ → ℕ → ℕ → Bool
   waits_from links d x since = list_any (is_ring_from d x since) links
 
   -- whether x, which holds a view, still has something to take from d, its left neighbour there: by its own word, or by
   -- a link that waits here for it
-  abbrev pub has_more : List (Standing I) → Group → ℕ → ℕ → Bool → Bool
+  abbrev pub has_more : List (WaitingLink I) → Group → ℕ → ℕ → Bool → Bool
   has_more links g x d has_current = is_left g x d && (has_current || waits_from links d x (since_in g x))
 
   -- x has d marked only where both are known, d is its neighbour in the view that x holds, lives in the newest view, and gave

@@ -11,7 +11,7 @@ use Rattle.group_view.specs.View.{Group, as_id}
 use Rattle.group_view.specs.Change.{marked, erased, registered, admitted}
 use Rattle.promotion.specs.Elect.{installed}
 use Rattle.ring_names.specs.declared.numbers.MemberId.{MemberId}
-use Rattle.registrar.specs.declared.standing.Standing.{Standing}
+use Rattle.registrar.specs.declared.waiting_link.WaitingLink.{WaitingLink}
 use Rattle.registrar.specs.Registry.{Registry, newest, is_for, beside}
 
 module _ {I : Type 0} where
@@ -36,11 +36,11 @@ module _ {I : Type 0} where
   with_stopped r p = record r { stopped = r.stopped ++ p ∷ [] }
 
   -- a link that waits, as its sender deposits it
-  abbrev pub waiting : MemberId → MemberId → ℕ → LinkKind → I → Standing I
+  abbrev pub waiting : MemberId → MemberId → ℕ → LinkKind → I → WaitingLink I
   waiting from to view kind link = record { name = record { from = from; to = to; view = view; kind = kind }; link = Some link }
 
   -- a link waits behind the others
-  abbrev pub with_link : Registry I → Standing I → Registry I
+  abbrev pub with_link : Registry I → WaitingLink I → Registry I
   with_link r s = record r { links = r.links ++ s ∷ [] }
 
   -- the links for p wait no more
@@ -53,7 +53,7 @@ module _ {I : Type 0} where
   deposited name (Some link) = record { from = name.from; view = name.view; kind = name.kind; link = link } ∷ []
 
   -- the links that wait for p, in their order
-  abbrev pub links_for : ℕ → List (Standing I) → List (Deposited I)
+  abbrev pub links_for : ℕ → List (WaitingLink I) → List (Deposited I)
   links_for p [] = []
   links_for p (s ∷ ss) = cond (is_for p s) (deposited s.name s.link ++ links_for p ss) (links_for p ss)
 

@@ -6,14 +6,14 @@ use Rattle.group_view.specs.Ring.{is_in}
 use Rattle.group_view.specs.View.{Group, ids}
 use Rattle.group_view.specs.Change.{opening as opening_group}
 use Rattle.group_view.specs.Since.{view_at}
-use Rattle.registrar.specs.declared.standing.Standing.{Standing}
+use Rattle.registrar.specs.declared.waiting_link.WaitingLink.{WaitingLink}
 
 -- All views by version, the first of version 1; the ids of those that gave notice that they stopped; and the links that wait
 -- for their receivers, in the order of deposit.
 pub record Registry (I : Type 0) : Type 0 where
   pub views : List Group
   pub stopped : List ℕ
-  pub links : List (Standing I)
+  pub links : List (WaitingLink I)
 
 module _ {I : Type 0} where
   -- the newest view
@@ -25,27 +25,27 @@ module _ {I : Type 0} where
   is_known r p = is_in p (ids (newest r).entries)
 
   -- whether a link waits for p
-  abbrev pub is_for : ℕ → Standing I → Bool
+  abbrev pub is_for : ℕ → WaitingLink I → Bool
   is_for p s = nat_eq s.name.to.0 p
 
   -- the links that wait for others than p
-  abbrev pub beside : ℕ → List (Standing I) → List (Standing I)
+  abbrev pub beside : ℕ → List (WaitingLink I) → List (WaitingLink I)
   beside p links = filter (λ s. not (is_for p s)) links
 
   -- no link is lent
-  abbrev pub AreHere : List (Standing I) → Type 0
+  abbrev pub AreHere : List (WaitingLink I) → Type 0
   AreHere links = All (λ s. IsSome s.link) links
 
   -- no other link is lent than the one at this place
-  abbrev pub AreHereBut : ℕ → List (Standing I) → Type 0
-  AreHereBut place links = (k : ℕ) (d : Standing I) → k < length links → k ≢ place → IsSome (slice_index_or links k d).link
+  abbrev pub AreHereBut : ℕ → List (WaitingLink I) → Type 0
+  AreHereBut place links = (k : ℕ) (d : WaitingLink I) → k < length links → k ≢ place → IsSome (slice_index_or links k d).link
 
   -- the name of the link at a place
   abbrev pub name_in : Registry I → ℕ → Option LinkName
   name_in r place = option_map (λ s. s.name) (slice_get r.links place)
 
   -- the end of one that was found
-  abbrev pub end_of : Option (Standing I) → Option I
+  abbrev pub end_of : Option (WaitingLink I) → Option I
   end_of None = None
   end_of (Some s) = s.link
 
@@ -54,7 +54,7 @@ module _ {I : Type 0} where
   end_in r place = end_of (slice_get r.links place)
 
   -- the links, with another end at the place where this one was found
-  abbrev pub with_end : List (Standing I) → ℕ → Option I → Option (Standing I) → List (Standing I)
+  abbrev pub with_end : List (WaitingLink I) → ℕ → Option I → Option (WaitingLink I) → List (WaitingLink I)
   with_end links place link None = links
   with_end links place link (Some s) = slice_set links place (record s { link = link })
 

@@ -5,17 +5,17 @@ ghost use Rattle.std.specs.List.{filter};
 ghost use Rattle.registrar.specs.Registry.{beside, is_for};
 ghost use Rattle.registrar.specs.Handled.{deposited, links_for};
 
-use crate::standing::Standing;
+use crate::waiting_link::WaitingLink;
 use group_view::Deposited;
 use ring_names::MemberId;
 
 /// How many links have a member for their receiver, also those that are lent.
-pub(crate) fn count_named<I>(links: &[Standing<I>], by: MemberId) -> usize
+pub(crate) fn count_named<I>(links: &[WaitingLink<I>], by: MemberId) -> usize
     ensures { result ≡ length (filter (is_for by.0) links.now) }
 {
     let mut count = 0;
-    for standing in links {
-        if standing.is_for(by) {
+    for waiting_link in links {
+        if waiting_link.is_for(by) {
             count += 1;
         }
     }
@@ -23,12 +23,12 @@ pub(crate) fn count_named<I>(links: &[Standing<I>], by: MemberId) -> usize
 }
 
 /// How many links wait for a member, each of which is here.
-pub(crate) fn count_for<I>(links: &[Standing<I>], by: MemberId) -> usize
+pub(crate) fn count_for<I>(links: &[WaitingLink<I>], by: MemberId) -> usize
     ensures { result ≡ length (links_for by.0 links.now) }
 {
     let mut count = 0;
-    for standing in links {
-        if standing.is_for(by) && standing.link.is_some() {
+    for waiting_link in links {
+        if waiting_link.is_for(by) && waiting_link.link.is_some() {
             count += 1;
         }
     }
@@ -36,14 +36,14 @@ pub(crate) fn count_for<I>(links: &[Standing<I>], by: MemberId) -> usize
 }
 
 /// Puts a link behind those that were given; one that is lent isn't there.
-fn give<I: Drop>(standing: Standing<I>, given: &mut Vec<Deposited<I>>)
-    requires { vec_len given.old + length (deposited standing.name standing.link) ≤ vec_capacity given.old }
-    ensures items { given.new.items ≡ given.old.items ++ deposited standing.name standing.link }
-    ensures len { vec_len given.new ≡ vec_len given.old + length (deposited standing.name standing.link) }
+fn give<I: Drop>(waiting_link: WaitingLink<I>, given: &mut Vec<Deposited<I>>)
+    requires { vec_len given.old + length (deposited waiting_link.name waiting_link.link) ≤ vec_capacity given.old }
+    ensures items { given.new.items ≡ given.old.items ++ deposited waiting_link.name waiting_link.link }
+    ensures len { vec_len given.new ≡ vec_len given.old + length (deposited waiting_link.name waiting_link.link) }
     ensures capacity { vec_capacity given.new ≡ vec_capacity given.old }
 {
-    let name = standing.name;
-    if let Some(link) = standing.link {
+    let name = waiting_link.name;
+    if let Some(link) = waiting_link.link {
         given.push_reserved(Deposited {
             from: name.from,
             view: name.view,
@@ -55,7 +55,7 @@ fn give<I: Drop>(standing: Standing<I>, given: &mut Vec<Deposited<I>>)
 
 /// Moves the links that wait for a member behind those that were given, for which there is room.
 pub(crate) fn give_all<I: Drop>(
-    links: &mut Vec<Standing<I>>,
+    links: &mut Vec<WaitingLink<I>>,
     by: MemberId,
     given: &mut Vec<Deposited<I>>,
 )

@@ -5,7 +5,7 @@ ghost use Rattle.group_view.specs.Since.{no_group, view_at};
 ghost use Rattle.registrar.specs.Asked.{is_left as the_left, is_beside as the_neighbours};
 ghost use Rattle.registrar.specs.Asked.{waits_from as the_waiting, has_more as the_rest};
 
-use crate::standing::Standing;
+use crate::waiting_link::WaitingLink;
 use group_view::View;
 use ring_names::MemberId;
 
@@ -49,17 +49,17 @@ pub(crate) fn is_among(ids: &[MemberId], id: MemberId) -> bool
     ids.iter().any(|other| id.0 == other.0)
 }
 
-fn waits_from<I>(links: &[Standing<I>], dead: MemberId, by: MemberId, since: u32) -> bool
+fn waits_from<I>(links: &[WaitingLink<I>], dead: MemberId, by: MemberId, since: u32) -> bool
     ensures { result ≡ the_waiting links.now dead.0 by.0 since }
 {
     links
         .iter()
-        .any(|standing| standing.is_ring_from(dead, by, since))
+        .any(|waiting_link| waiting_link.is_ring_from(dead, by, since))
 }
 
 /// Whether `dead` is the left neighbour, and `by` has something to take from it yet.
 pub(crate) fn has_more<I>(
-    links: &[Standing<I>],
+    links: &[WaitingLink<I>],
     view: &View,
     by: MemberId,
     dead: MemberId,

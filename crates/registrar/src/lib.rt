@@ -7,10 +7,10 @@ mod giving;
 mod judging;
 mod laws;
 mod registrar;
-mod standing;
 #[cfg(test)]
 mod tests;
+mod waiting_link;
 
 pub use laws::other_events_leave_the_registrar;
 pub use registrar::Registrar;
-pub use standing::Standing;
+pub use waiting_link::WaitingLink;

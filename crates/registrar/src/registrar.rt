@@ -1,6 +1,6 @@
 //! The registrar.
-ghost use Rattle.std.specs.Prelude.{◌≡◌, ◌↔◌, ◌+◌, ◌≤◌, false, length, Some, None};
-ghost use Rattle.std.specs.Prelude.{IfOk, OnOk, IfErr, OnErr, IfSome, IsSome};
+ghost use Rattle.std.specs.Prelude.{◌≡◌, ◌↔◌, ◌+◌, ◌≤◌, length, Some, None};
+ghost use Rattle.std.specs.Prelude.{IfOk, OnOk, IfErr, OnErr, IfSome, IfNone, IsSome};
 ghost use Rattle.std.specs.List.{filter};
 ghost use Rattle.ring_names.specs.declared.reason.Reason.{Reason};
 ghost use Rattle.group_view.specs.Change.{AreOpeningNames, marked};
@@ -12,6 +12,8 @@ ghost use Rattle.group_view.specs.Request.{handed_over};
 ghost use Rattle.group_view.specs.Since.{view_at};
 ghost use Rattle.registrar.specs.Registry.{AreHere, AreHereBut, newest as the_newest, founded, is_known, is_for};
 ghost use Rattle.registrar.specs.Registry.{name_in, end_in, end_is, IsLent, Lends, Gives};
+ghost use Rattle.registrar.specs.Named.{HasNone, IsFirst, LendsNamed, IsLentNamed, GivesNamed};
+ghost use Rattle.registrar.specs.declared.waiting_link.WaitingLink.{WaitingLink as Waiting};
 ghost use Rattle.registrar.specs.Asked.{mark_refusal as the_mark_refusal, unknown_refusal};
 ghost use Rattle.registrar.specs.Asked.{erase_refusal as the_erase_refusal, admit_refusal as the_admit_refusal};
 ghost use Rattle.registrar.specs.Asked.{synced_refusal as the_synced_refusal};
@@ -26,15 +28,12 @@ ghost use Rattle.promotion.specs.Elect.{installed};
 
 use crate::giving::{count_for, count_named, give_all};
 use crate::judging::{has_more, is_among, is_beside, newest, view_of};
-use crate::standing::Standing;
-use group_view::{Answer, Deposited, LinkName, Request, View};
+use crate::waiting_link::WaitingLink;
+use group_view::{Answer, Deposited, LinkName, MOST_MEMBERS, Request, View};
 use promotion::install;
 use ring_names::{Items, MemberId, Name, OutOfMemory, Reason};
 use std::alloc::Global;
 use std::marker::Model;
-
-/// How many members a group ever has.
-const MOST_MEMBERS: usize = 64;
 
 /// The party that keeps the group, as `gm` keeps it in one registry: it is asked one request after another,
 /// so that all changes of membership have one order. It has every view that the group ever had, so that it
@@ -43,7 +42,7 @@ const MOST_MEMBERS: usize = 64;
 pub struct Registrar<I> {
     views: Vec<View>,
     stopped: Vec<MemberId>,
-    links: Vec<Standing<I>>,
+    links: Vec<WaitingLink<I>>,
 }
 
 impl<I> Model for Registrar<I> {
@@ -109,35 +108,35 @@ impl<I: Drop> Registrar<I> {
         self.lend_at(place as usize)
     }
 
-    /// `lend_in` at any place.
-    pub fn lend_at(&mut self, place: usize) -> Option<I>
-        ensures lent { result ≡ end_in self.old place }
-        ensures stands { self.new ≡ end_is self.old place None }
-        ensures found { IsSome result → IsSome (name_in self.new place) }
-        ensures away { end_in self.new place ≡ None }
-        ensures others { AreHere self.old.links → AreHereBut place self.new.links }
-    {
-        match self.links.get_mut(place) {
-            Some(standing) => standing.link.take(),
-            None => None,
-        }
-    }
-
     /// Gives an end back to the place that it was lent from. It wants no memory.
     pub fn give_in(&mut self, place: u32, link: I)
         requires { IsLent self.old place }
         ensures { Gives self.old place link self.new }
     {
-        self.give_at(place as usize, link);
+        let waiting_link = &mut self.links[place as usize];
+        waiting_link.link = Some(link);
     }
 
-    /// `give_in` at any place.
-    pub fn give_at(&mut self, place: usize, link: I)
-        requires { IsLent self.old place }
-        ensures { Gives self.old place link self.new }
+    /// Lends the end of the first link of that name that waits here: none where no link has the name, and where
+    /// its end is lent. The caller gives it back before the next request. It wants no memory.
+    pub fn lend(&mut self, name: &LinkName) -> Option<I>
+        ensures { LendsNamed name.now self.old result self.new }
     {
-        let standing = &mut self.links[place];
-        standing.link = Some(link);
+        let place = self.place_of(name)?;
+        let waiting_link = &mut self.links[place];
+        waiting_link.link.take()
+    }
+
+    /// Gives an end back to the link of that name. It wants no memory.
+    pub fn give(&mut self, name: &LinkName, link: I)
+        requires { IsLentNamed name.now self.old }
+        ensures { GivesNamed name.now self.old link self.new }
+    {
+        let Some(place) = self.place_of(name) else {
+            unreachable!()
+        };
+        let waiting_link = &mut self.links[place];
+        waiting_link.link = Some(link);
     }
 
     /// The name of the link at a place, lent or not: none where no link stands there. It wants no memory.
@@ -151,7 +150,34 @@ impl<I: Drop> Registrar<I> {
     pub fn name_at(&self, place: usize) -> Option<LinkName>
         ensures { result ≡ name_in self.now place }
     {
-        self.links.get(place).map(|standing| standing.name)
+        self.links.get(place).map(|waiting_link| waiting_link.name)
+    }
+
+    fn lend_at(&mut self, place: usize) -> Option<I>
+        ensures lent { result ≡ end_in self.old place }
+        ensures stands { self.new ≡ end_is self.old place None }
+        ensures found { IsSome result → IsSome (name_in self.new place) }
+        ensures away { end_in self.new place ≡ None }
+        ensures others { AreHere self.old.links → AreHereBut place self.new.links }
+    {
+        match self.links.get_mut(place) {
+            Some(waiting_link) => waiting_link.link.take(),
+            None => None,
+        }
+    }
+
+    /// The place of the first link of that name.
+    #[tactic(auto, using(std::proofs::lemmas::Option::gets))]
+    fn place_of(&self, name: &LinkName) -> Option<usize>
+        ensures some { IfSome result (λ place. (s : Waiting I) × IsFirst self.now name.now place s) }
+        ensures none { IfNone result (HasNone self.now name.now) }
+    {
+        for place in 0..self.waiting() {
+            if self.name_at(place) == Some(*name) {
+                return Some(place);
+            }
+        }
+        None
     }
 
     /// How many links wait here, lent or not. It wants no memory.
@@ -504,7 +530,7 @@ impl<I: Drop> Registrar<I> {
         if self.links.reserve(1).is_err() {
             return Err((link, OutOfMemory));
         }
-        self.links.push_reserved(Standing {
+        self.links.push_reserved(WaitingLink {
             name,
             link: Some(link),
         });

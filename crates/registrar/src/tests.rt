@@ -488,27 +488,22 @@ fn exchange(rt: &impl Abort, registrar: &mut Registrar<u32>, link: u32) -> u32
     lent
 }
 
-/// The same by the calls for any place.
-fn exchange_at(rt: &impl Abort, registrar: &mut Registrar<u32>, link: u32) -> u32
-    requires { AreHere registrar.old.links }
-    ensures { AreHere registrar.new.links }
-{
-    let Some(lent) = registrar.lend_at(0) else {
-        panic!(rt; "no link");
-    };
-    registrar.give_at(0, link);
-    lent
-}
-
 #[test]
 fn lends_what_waits(rt: HostRuntime) -> Result<(), Fail> {
     let mut registrar = played(&rt, rt.alloc(), "a b", A_LINK_WAITS)?;
-    let lent = [
-        exchange(&rt, &mut registrar, 6),
-        exchange_at(&rt, &mut registrar, 5),
-    ];
-    assert!(rt; lent == [7, 6] && waits_alone(&registrar));
-    assert!(rt; step(&mut registrar, "collect b = links 5"));
+    assert!(rt; exchange(&rt, &mut registrar, 6) == 7);
+    assert!(rt; step(&mut registrar, "collect b = links 6"));
+    Ok(())
+}
+
+#[test]
+fn lends_by_the_name(rt: HostRuntime) -> Result<(), Fail> {
+    let mut registrar = played(&rt, rt.alloc(), "a b", A_LINK_WAITS)?;
+    let Some(lent) = registrar.lend(&A_TO_B) else {
+        panic!(rt; "no link");
+    };
+    registrar.give(&A_TO_B, lent);
+    assert!(rt; lent == 7 && registrar.lend(&A_TO_B) == Some(7));
     Ok(())
 }
 

@@ -1,4 +1,4 @@
 pub mod lists
-pub mod post
+pub mod deposits
 pub mod rounds
 pub mod work

@@ -1,11 +1,11 @@
--- What a cluster shows and keeps.
+-- What is seen of a cluster, and what it keeps.
 use Rattle.ring_cluster.specs.declared.cluster.Cluster.TheInside.{Inside}
 use Rattle.ring_cluster.specs.Seen.{Seen}
 use Rattle.ring_parties.specs.Standing.{StandAfter}
 
--- what is seen of a cluster: it owes what its parties owe, and shows what they show
+-- what is seen of a cluster: it owes what its parties owe
 abbrev pub seen_of : Inside → Seen
-seen_of a = record { credit = a.credit; names = a.names.items; events = a.journal.items; agendas = a.agendas; rounds = a.rounds; given = a.given.items; owes = a.parties.owes; shows = a.parties.all }
+seen_of a = record { credit = a.credit; names = a.names.items; events = a.journal.items; agendas = a.agendas; rounds = a.rounds; given = a.given.items; owes = a.parties.owes }
 
 -- its parties stand in the last state of its journal
 pub record IsStanding (a : Inside) : Type 0 where

@@ -127,7 +127,7 @@ pub record HaveServed (w : World) (events : List Event) (commands : List Command
   pub members : (i : ℕ) (name : List ℕ) → IsMemberIn (last w events) i name → Serves w name events commands []
   pub nobody_else : (name : List ℕ) → ((i : ℕ) → IsMemberIn (last w events) i name → ⊥) → client_events name events ≡ []
 
--- the members had done so with these commands, and the ring was quiet, after some of the events
+-- the members had done so with these commands, and the ring rested, after some of the events
 pub record HasSettled (credit : CreditSpec) (names : List (List ℕ)) (events : List Event) (commands : List Command) : Type 0 where
   pub count : ℕ
   pub within : count ≤ length events
@@ -139,7 +139,7 @@ abbrev pub HasSettledEach : CreditSpec → List (List ℕ) → List Event → Li
 HasSettledEach credit names events given = (k : ℕ) → slice_get given k ≡ Some command.Settle → HasSettled credit names events (take k given)
 
 -- The journal plays what was given: what each member has done and refused of what clients asked is its commands, with what was
--- handed on to it, and nothing else; and at each settling all earlier commands were done or refused, and the ring was quiet.
+-- handed on to it, and nothing else; and at each settling all earlier commands were done or refused, and the ring rested.
 pub record Plays (credit : CreditSpec) (names : List (List ℕ)) (events : List Event) (given : List Command) : Type 0 where
   pub served : HaveServed (opening credit names) events given
   pub settled : HasSettledEach credit names events given

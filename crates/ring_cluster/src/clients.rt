@@ -1,6 +1,6 @@
 //! What clients ask of members, and how that is answered.
 ghost use Rattle.std.specs.Prelude.{◌≡◌, true, Some, IfOk};
-ghost use Rattle.ring_rules.specs.Event.{event_of as the_event, is_asked_multicast};
+ghost use Rattle.ring_rules.specs.Event.{is_asked_multicast};
 ghost use Rattle.ring_cluster.specs.Plays.{IsOfMember, client_of as the_client, answer_by, is_stop as the_stop};
 
 use ring_names::{OutOfMemory, Reason};
@@ -24,31 +24,6 @@ pub(crate) fn client_of(command: &Command) -> Result<Client, OutOfMemory>
         }),
         Command::Kill { by } => Ok(Client::Stop { by: *by }),
         Command::Go { .. } | Command::Settle => unreachable!(),
-    }
-}
-
-/// The event by which its member does it.
-pub(crate) fn event_of(task: &Client) -> Result<Event, OutOfMemory>
-    ensures { IfOk result (λ event. event ≡ the_event task.now) }
-{
-    match task {
-        Client::Cast { by, body } => Ok(Event::Cast {
-            by: *by,
-            body: body.copy()?,
-        }),
-        Client::Publish { by, body } => Ok(Event::Publish {
-            by: *by,
-            body: body.copy()?,
-        }),
-        Client::Get { by } => Ok(Event::Get { by: *by }),
-        Client::Pop { by } => Ok(Event::Pop { by: *by }),
-        Client::Ack { by, at } => Ok(Event::Ack { by: *by, at: *at }),
-        Client::Requeue { by, at } => Ok(Event::Requeue { by: *by, at: *at }),
-        Client::Stop { by } => Ok(Event::Stop { by: *by }),
-        Client::Admit { by, name } => Ok(Event::Admit {
-            by: *by,
-            name: *name,
-        }),
     }
 }
 

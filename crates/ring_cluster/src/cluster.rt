@@ -2,7 +2,7 @@
 ghost use Rattle.std.specs.Prelude.{◌≡◌, ℕ, ◌<◌, ◌∷◌, ◌++◌, [], List, IfOk, vec_len, vec_capacity};
 
 use crate::agenda::Agendas;
-use crate::clients::{client_of, event_of, is_stop, refusal_of};
+use crate::clients::{client_of, is_stop, refusal_of};
 use crate::driver::{drain, round};
 use crate::numbering::Rounds;
 use crate::published::casts_of;
@@ -65,14 +65,14 @@ impl Cluster {
     ghost use Rattle.ring_rules.specs.Refusal.{is_empty};
     ghost use Rattle.ring_rules.specs.Event.{asked_of, is_asked_multicast, is_multicast, refusal};
     ghost use Rattle.gm_member.specs.Stands.{held_in};
-    ghost use Rattle.gm_member.specs.Shown.{held_of};
+    ghost use Rattle.gm_member.specs.Shown.{held_of, ends_of};
     ghost use Rattle.ring_rules.specs.Idle.{NobodySteps, MarksNobody, ErasesNobody};
-    ghost use Rattle.ring_cluster.specs.Holds.{HoldsOf};
-    ghost use Rattle.ring_parties.specs.Parties.{shown_of, node_at};
+    ghost use Rattle.ring_cluster.specs.Holds.{HoldsOf, ShowsOf};
+    ghost use Rattle.ring_parties.specs.Parties.{ends_seen};
     ghost use Rattle.ring_cluster.specs.Published.{logs_in, logs_of};
     ghost use Rattle.ring_cluster.specs.Seen.{Seen, IsGoing, SameButOwed, MayHandOver, state_of};
     ghost use Rattle.ring_parties.specs.States.{IsEventIn};
-    ghost use Rattle.ring_cluster.specs.Seen.{IsStepped, opening_seen, with_event, owing};
+    ghost use Rattle.ring_cluster.specs.Seen.{stepped, opening_seen, with_event, owing};
     ghost use Rattle.ring_rules.specs.declared.event.Client.{Client};
     ghost use Rattle.ring_cluster.specs.Plays.{PlaysSoFar, Plays, IsOfMember, commanded, takes_up as is_taken_up};
     ghost use Rattle.ring_cluster.specs.Agendas.{Plan, IsAskedOf, names_of, place_among, with_tasks, with_task, with_asked};
@@ -156,23 +156,22 @@ impl Cluster {
         Ok(())
     }
 
-    /// The one event, where it is enabled; after it nothing is owed. After a refusal all stands as it stood, and each
-    /// member shows what it showed. Before an event that isn't refused the acting member collects the links that wait
-    /// for it, and what is owed is handed over. For want of memory no event happens, though some of that may have
-    /// been done; or the event has happened, and the cluster owes the registrar a link. A member that
-    /// is admitted is there at once, since it was got ready before. The caller gives no event of the queue, since the
-    /// members keep no mirrors of it yet.
+    /// The one event, where it is enabled; after it nothing is owed. After a refusal all stands as it stood. Before an
+    /// event that isn't refused the acting member collects the links that wait for it, and what is owed is handed over.
+    /// For want of memory no event happens, though some of that may have been done; or the event has happened, and the
+    /// cluster owes the registrar a link. A member that is admitted is there at once, since it was got ready before.
+    /// The caller gives no event of the queue, since the members keep no mirrors of it yet.
     pub fn step(&mut self, event: &Event) -> Result<(), Refused>
         requires multicast { is_multicast event.now ≡ true }
         ensures enabled { OnOk result (refusal (state_of self.old) event.now ≡ None) }
-        ensures ok { OnOk result (IsStepped self.old event.now false self.new) }
+        ensures ok { OnOk result (self.new ≡ stepped self.old event.now false) }
         ensures refused { (r : Reason) → refusal (state_of self.old) event.now ≡ Some r
             → (result ≡ Err (Refused.NotEnabled r)) × (self.new ≡ self.old) }
         ensures reason { IfErr result (λ e. (r : Reason) → e ≡ Refused.NotEnabled r
             → refusal (state_of self.old) event.now ≡ Some r) }
         ensures err { IfErr result (λ e. (self.new ≡ self.old)
             ⊎ ((e ≡ Refused.OutOfMemory) × (refusal (state_of self.old) event.now ≡ None)
-            × (MayHandOver self.old self.new ⊎ IsStepped self.old event.now true self.new))) }
+            × (MayHandOver self.old self.new ⊎ (self.new ≡ stepped self.old event.now true)))) }
     {
         let Some(place) = self.place_of(event) else {
             return Err(Refused::NotEnabled(Reason::UnknownMember));
@@ -259,7 +258,7 @@ impl Cluster {
 
     /// The member at a place, which has this name, does the first of its tasks, or refuses it where the ring does:
     /// whether it had one that it does at once. A join that it refuses since it has stopped is handed on.
-    #[tactic(auto, using(crate::proofs::post::Owed::but_refl, crate::proofs::post::Owed::but_handed))]
+    #[tactic(auto, using(crate::proofs::deposits::Owed::but_refl, crate::proofs::deposits::Owed::but_handed))]
     pub(crate) fn perform(&mut self, place: usize, name: &Name) -> Result<bool, OutOfMemory>
         requires { IsMemberAt self.old place name.now }
         ensures done { IfOk result (λ b. b ≡ true → (t : Client) × (ts : List Client)
@@ -305,6 +304,7 @@ impl Cluster {
     }
 
     /// An event happens that is enabled.
+    #[tactic(auto, using(crate::proofs::deposits::Owed::but_handed))]
     fn happen_enabled(&mut self, place: usize, event: &Event) -> Result<(), OutOfMemory>
         requires at { IsEventIn (state_of self.old) place event.now }
         requires enabled { refusal (state_of self.old) event.now ≡ None }
@@ -413,7 +413,7 @@ impl Cluster {
         ensures enabled { IfOk result (λ event. refusal (state_of self.now) event ≡ None) }
     {
         self.is_going();
-        let event = event_of(task)?;
+        let event = task.event()?;
         match self.refusal(place, &event) {
             None => Ok(event),
             Some(reason) => refusal_of(task, reason),
@@ -648,13 +648,14 @@ impl Cluster {
     }
 
     /// The member of that id: it stands in the last state of the journal, but for the links at its door that it
-    /// hasn't collected yet. None exactly where the ring has no such member.
+    /// hasn't collected yet, and the ends of its links show what stands on them there. None exactly where the ring has
+    /// no such member.
     pub fn member(&self, id: MemberId) -> Option<&Node>
         ensures there { IsSome result ↔ ((1 ≤ id.0) × (id.0 < size (state_of self.now))) }
         ensures stands { IfSome result (λ m. held_of m.now
             ≡ record (held_in (state_of self.now) id.0) { door = (held_of m.now).door }) }
         ensures holds { IfSome result (λ m. HoldsOf (state_of self.now) id.0 (held_of m.now)) }
-        ensures shown { IfSome result (λ m. shown_of m.now ≡ node_at (self.now).shows (id.0 - 1)) }
+        ensures shows { IfSome result (λ m. ShowsOf (state_of self.now) id.0 (ends_seen (ends_of m.now))) }
     {
         self.parties.member(id)
     }
@@ -694,7 +695,9 @@ impl Cluster {
         member.base(of)
     }
 
-    /// Up to which number the messages of a member have come round to it, so that every member has them.
+    /// Up to which number the messages of a member have come round to it. One that has stands in what each member that
+    /// is up has heard, where it was published after that member's admission (`heard` of `IsLawful`); of a member that
+    /// joined later nothing is said.
     pub fn confirmed(&self, id: MemberId) -> u64
         requires { (1 ≤ id.0) × (id.0 < size (state_of self.now)) }
         ensures { result ≡ (row_at (member_at (state_of self.now) id.0) id.0).forgot }

@@ -305,7 +305,7 @@ fn own_turn(cluster: &mut Cluster, id: MemberId) -> Result<bool, OutOfMemory>
 }
 
 /// The member at a place does a step of its own, where it runs and has any to do: whether it did.
-#[tactic(auto, using(crate::proofs::rounds::Turning::works_refl, crate::proofs::post::Owed::but_refl))]
+#[tactic(auto, using(crate::proofs::rounds::Turning::works_refl, crate::proofs::deposits::Owed::but_refl))]
 fn work_turn(cluster: &mut Cluster, place: usize) -> Result<bool, OutOfMemory>
     requires { place + 1 < size (state_of cluster.old) }
     ensures does { DoesOrRests cluster.old cluster.new (RestsAt (state_of cluster.old) (place + 1)) result }

@@ -55,15 +55,13 @@ fn push_cast<'a>(
         → told_in all.old.items ≡ map (λ name. published_in name before) names.now
         → told_in all.new.items ≡ map (λ name. published_in name (before ++ event.now ∷ [])) names.now) }
 {
-    match event {
-        Event::Cast { by, body } => {
-            if let Some(place) = the_place_among(names, by) {
-                push_at(all, place, body)?;
-            }
-            Ok(())
-        }
-        _ => Ok(()),
+    let Some(body) = event.own_body() else {
+        return Ok(());
+    };
+    if let Some(place) = the_place_among(names, event.by()) {
+        push_at(all, place, body)?;
     }
+    Ok(())
 }
 
 /// A body joins those of the member at a place.

@@ -18,7 +18,7 @@ use Rattle.ring_script.specs.Words.{is_text_byte, lines_of}
 use Rattle.ring_journal.specs.Text.{value_on, event_on, event_or_fault, said_by, judged, behind, unless_wrong, unless_refused}
 use Rattle.ring_journal.specs.Event.{event_in}
 use Rattle.ring_journal.specs.Written.{whole, further_fields, phrase_fields, data_of, events_text}
-use Rattle.ring_journal.specs.Played.{played, IsFit, IsWritable}
+use Rattle.ring_journal.specs.Played.{played, IsWritableFurther, IsWritable}
 use Rattle.ring_journal.proofs.Ascii.{IsUtf8-text}
 use Rattle.ring_journal.proofs.Lines.{value_on-read}
 use Rattle.ring_journal.proofs.ReadBack.{AreSaid, IsSpelled, read-compact_text, said-string, said-whole, said-nil, said-cons, said-array, spelled_from}
@@ -43,14 +43,14 @@ value_on-compact_text d fits spelled = value_on-read (compact_text d) d fits.tex
 
 -- ---- events
 
-said_further : (f : Further) → IsFit f → AreSaid 0 (items_of (further_fields f))
+said_further : (f : Further) → IsWritableFurther f → AreSaid 0 (items_of (further_fields f))
 said_further further.Nothing h = said-nil
 said_further (further.Body body) h = said-cons 0 (string body) no_items (said-string body) said-nil
 said_further (further.Name name) h = said-cons 0 (string name) no_items (said-string name) said-nil
 said_further (further.Position at) h = said-cons 0 (whole at.0) no_items (said-whole at.0 (omega (arith, h.1))) said-nil
 said_further (further.Version version) h = said-cons 0 (whole version) no_items (said-whole version (omega (arith, h.1))) said-nil
 
-said_phrase : (p : Phrase) → IsFit p.further → AreSaid 0 (items_of (phrase_fields p))
+said_phrase : (p : Phrase) → IsWritableFurther p.further → AreSaid 0 (items_of (phrase_fields p))
 said_phrase p h = said-cons 0 (string (text_of p.word)) _ (said-string (text_of p.word)) (said-cons 0 (string p.by) _ (said-string p.by) (said_further p.further h))
 
 spelled-data_of : (e : Event) → IsWritable e → IsSpelled (data_of e)

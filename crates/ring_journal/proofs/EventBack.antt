@@ -22,7 +22,7 @@ use Rattle.ring_script.proofs.ReadBack.{word_back, client_back, event_back}
 use Rattle.ring_journal.specs.Fields.{is_body}
 use Rattle.ring_journal.specs.Event.{phrase_by, phrase_at, refusal_in, event_in}
 use Rattle.ring_journal.specs.Written.{fields, whole, further_fields, phrase_fields, data_of}
-use Rattle.ring_journal.specs.Played.{IsFit, IsWritable}
+use Rattle.ring_journal.specs.Played.{IsWritableFurther, IsWritable}
 
 pub name-read : (s : List ℕ) → IsName s → name_or_fault s ≡ Ok s
 name-read s h =
@@ -57,7 +57,7 @@ IsOf shape.Version (further.Version version) = ⊤
 IsOf s f = ⊥
 
 -- a phrase is read alone, and behind two further fields
-shape_back : (w : Word) (by : List ℕ) (s : Shape) (f : Further) (a b c : Data) → IsOf s f → IsName by → IsFit f
+shape_back : (w : Word) (by : List ℕ) (s : Shape) (f : Further) (a b c : Data) → IsOf s f → IsName by → IsWritableFurther f
     → (phrase_by 0 (fields (c ∷ string by ∷ further_fields f)) w s ≡ Some (phrase w by f)) × (phrase_by 2 (fields (a ∷ b ∷ c ∷ string by ∷ further_fields f)) w s ≡ Some (phrase w by f))
 shape_back w by shape.Nothing further.Nothing a b c o n h = rw (name-read by n) (refl, refl)
 shape_back w by shape.Body (further.Body body) a b c o n h = rw (name-read by n, body-read body h) (refl, refl)
@@ -67,7 +67,7 @@ shape_back w by shape.Position (further.Position at) a b c o n h = rw (name-read
 shape_back w by shape.Version (further.Version version) a b c o n h = rw (name-read by n, number-read version 1000000 h.0 h.1) (refl, refl)
 shape_back w by s f a b c o n h = absurd o
 
-phrase_back : (p : Phrase) (a b : Data) → IsOf (shape_of p.word) p.further → IsName p.by → IsFit p.further
+phrase_back : (p : Phrase) (a b : Data) → IsOf (shape_of p.word) p.further → IsName p.by → IsWritableFurther p.further
     → (phrase_at 0 (fields (phrase_fields p)) ≡ Some p) × (phrase_at 2 (fields (a ∷ b ∷ phrase_fields p)) ≡ Some p)
 phrase_back p a b o n h =
     let back = shape_back p.word p.by (shape_of p.word) p.further a b (string (text_of p.word)) o n h in (
@@ -82,14 +82,14 @@ no_refusal : (w : Word) → bytes_eq (text_of w) (codes "refuse") ≡ false
 no_refusal word.Cast = refl
 no_refusal w = refl
 
-told_back : (e : Event) → is_refusal e ≡ false → IsOf (shape_of (phrase_of e).word) (phrase_of e).further → IsName (phrase_of e).by → IsFit (phrase_of e).further
+told_back : (e : Event) → is_refusal e ≡ false → IsOf (shape_of (phrase_of e).word) (phrase_of e).further → IsName (phrase_of e).by → IsWritableFurther (phrase_of e).further
     → event_in (fields (phrase_fields (phrase_of e))) ≡ Some e
 told_back e plain o n h =
     let d = fields (phrase_fields (phrase_of e)) in
     ap (λ (b : Bool). if b then refusal_in d else option_and_then event_said (phrase_at 0 d)) (no_refusal (phrase_of e).word)
     ∙ ap (option_and_then event_said) (phrase_back (phrase_of e) d d o n h).0 ∙ event_back e plain
 
-refused_back : (code : ℕ) (c : Client) → IsOf (shape_of (asked_phrase c).word) (asked_phrase c).further → 1 ≤ code → code ≤ 99 → IsName (asked_phrase c).by → IsFit (asked_phrase c).further → event_in (data_of (Refuse code c)) ≡ Some (Refuse code c)
+refused_back : (code : ℕ) (c : Client) → IsOf (shape_of (asked_phrase c).word) (asked_phrase c).further → 1 ≤ code → code ≤ 99 → IsName (asked_phrase c).by → IsWritableFurther (asked_phrase c).further → event_in (data_of (Refuse code c)) ≡ Some (Refuse code c)
 refused_back code c o some few n h =
     let inner = phrase_at 2 (data_of (Refuse code c)) in
     ap (λ (b : Bool). option_and_then (λ k. option_map (Refuse k) (option_and_then client_said inner)) (if b then Some code else None)) (number-read code 99 some few)

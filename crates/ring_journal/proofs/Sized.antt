@@ -21,7 +21,7 @@ use Rattle.ring_script.specs.Vocabulary.{text_of, asked_phrase, phrase_of}
 use Rattle.ring_script.specs.Words.{is_text_byte}
 use Rattle.ring_script.proofs.FirstLine.{position_missed}
 use Rattle.ring_journal.specs.Written.{whole, further_fields, phrase_fields, data_of}
-use Rattle.ring_journal.specs.Played.{IsFit, IsWritable}
+use Rattle.ring_journal.specs.Played.{IsWritableFurther, IsWritable}
 use Rattle.ring_journal.proofs.Ascii.{all_of, text-body, text-word}
 use Rattle.ring_journal.proofs.Escaped.{IsText, text-append, text-more, text-front, text-byte, text-quoted, text-decimal}
 
@@ -100,14 +100,14 @@ word_fits : (w : Word) → length (text_of w) ≤ 8
 word_fits word.Cast = omega arith
 word_fits w = omega arith
 
-further_fits : (f : Further) → IsFit f → AreFit 516 (items_of (further_fields f))
+further_fits : (f : Further) → IsWritableFurther f → AreFit 516 (items_of (further_fields f))
 further_fits further.Nothing h = fit_more 1 516 no_items (omega arith) end
 further_fits (further.Body body) h = field 514 1 (string body) no_items (body_item body h) end
 further_fits (further.Name name) h = fit_more 20 516 _ (omega arith) (field 18 1 (string name) no_items (name_item name h) end)
 further_fits (further.Position at) h = fit_more 9 516 _ (omega arith) (field 7 1 (whole at.0) no_items (number_item at.0 h.1) end)
 further_fits (further.Version version) h = fit_more 9 516 _ (omega arith) (field 7 1 (whole version) no_items (number_item version h.1) end)
 
-phrase_fits : (p : Phrase) → IsName p.by → IsFit p.further → AreFit 554 (items_of (phrase_fields p))
+phrase_fits : (p : Phrase) → IsName p.by → IsWritableFurther p.further → AreFit 554 (items_of (phrase_fields p))
 phrase_fits p n h = field 18 535 (string (text_of p.word)) _ (word_item (text_of p.word) (text-word p.word) (word_fits p.word)) (field 18 516 (string p.by) _ (name_item p.by n) (further_fits p.further h))
 
 pub text-data_of : (e : Event) → IsWritable e → Fits 2000 (data_of e)

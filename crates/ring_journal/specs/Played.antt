@@ -23,11 +23,11 @@ abbrev pub left_by : WorldSeen → List Event → WorldSeen
 left_by w events = record { ring = last w.ring events; refusals = w.refusals ++ refusals_of events }
 
 -- what stands behind a name can be written: a body is one, a name is one, and a number is within its limit
-abbrev pub IsFit : Further → Type 0
-IsFit (further.Body body) = IsBody body
-IsFit (further.Name name) = IsName name
-IsFit f = IsFitNumber f
+abbrev pub IsWritableFurther : Further → Type 0
+IsWritableFurther (further.Body body) = IsBody body
+IsWritableFurther (further.Name name) = IsName name
+IsWritableFurther f = IsFitNumber f
 
 -- an event that a line can say: its names are names, its body is a body, and its numbers are within the limits
 abbrev pub IsWritable : Event → Type 0
-IsWritable e = HasFitCode e × IsName (phrase_of e).by × IsFit (phrase_of e).further
+IsWritable e = HasFitCode e × IsName (phrase_of e).by × IsWritableFurther (phrase_of e).further

@@ -8,7 +8,7 @@ ghost use Rattle.ring_journal.specs.declared.verdict.Verdict.{Verdict};
 ghost use Rattle.ring_rules.specs.Step.{opening};
 ghost use Rattle.ring_rules.specs.Event.{IsRun};
 ghost use Rattle.ring_journal.specs.Text.{opened, IsVerdictOf};
-ghost use Rattle.ring_journal.specs.Played.{played, left_by, IsFit, IsWritable};
+ghost use Rattle.ring_journal.specs.Played.{played, left_by, IsWritableFurther, IsWritable};
 ghost use Rattle.ring_names.specs.Name.{IsName};
 ghost use Rattle.ring_names.specs.Body.{IsBody};
 ghost use Rattle.ring_script.specs.Vocabulary.{text_of};
@@ -80,7 +80,7 @@ fn push_further(
 ) -> Result<(), OutOfMemory>
     requires { IsFitNumber further.now }
     ensures fields { OnOk result (map view fields.new.items ≡ map view fields.old.items ++ further_fields further.now) }
-    ensures fit { OnOk result (IsFit further.now) }
+    ensures fit { OnOk result (IsWritableFurther further.now) }
 {
     match further {
         Further::Nothing => {}

@@ -1,6 +1,6 @@
 pub mod events
 pub mod lists
 pub mod meetings
-pub mod post
+pub mod deposits
 pub mod standing
 pub mod work

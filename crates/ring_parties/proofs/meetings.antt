@@ -4,7 +4,7 @@ pub mod Known
 pub mod Meetings
 pub mod Meets
 pub mod MeetsAll
-pub mod MeetsLoose
+pub mod MeetsReplaced
 pub mod MeetsOut
 pub mod NamedLinks
 pub mod Receivers

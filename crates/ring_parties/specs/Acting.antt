@@ -23,21 +23,21 @@ use Rattle.ring_rules.specs.Refusal.{refuse_if, is_empty}
 use Rattle.ring_rules.specs.View.{right_of}
 use Rattle.ring_rules.specs.Machine.{runs_phase}
 use Rattle.ring_rules.specs.Event.{version_refusal}
-use Rattle.gm_member.specs.Parcels.{ByOrigin}
-use Rattle.gm_member.specs.Held.{Held, joining_held, Outgoing, Incoming, at_some, active_refused, up_refused, on_some, published_held, put_held, parcel_on, put_refused, pick_refused, take_refused, took_held, gained_held, ended_held, stopped_held, is_for, stays, sends_to, fresh_out as unsent_on, fresh_in as arriving_in, refreshed_held, first_at_door, picked_held, without, collected_held}
+use Rattle.gm_member.specs.Packets.{PacketById}
+use Rattle.gm_member.specs.Held.{Held, joining_held, Outgoing, Incoming, at_some, active_refused, up_refused, on_some, published_held, put_held, packet_on, put_refused, pick_refused, take_refused, took_held, gained_held, ended_held, stopped_held, is_for, stays, sends_to, fresh_out as unsent_on, fresh_in as arriving_in, refreshed_held, first_at_door, picked_held, without, collected_held}
 use Rattle.gm_member.specs.View.{ring_link}
 use Rattle.gm_member.specs.Shown.{When}
-use Rattle.ring_parties.specs.Ends.{Sent, OutSeen, InSeen, opened_out, fresh_in}
-use Rattle.ring_parties.specs.Parties.{EndsSeen, Shown, Posted, Parties, node_at, with_node}
+use Rattle.ring_parties.specs.Ends.{PacketShown, OutSeen, InSeen, opened_out, fresh_in}
+use Rattle.ring_parties.specs.Parties.{EndsSeen, Shown, Deposit, Parties, node_at, with_node}
 
 -- ---- one end
 
 -- a packet, as it stands on a link
-abbrev pub sent_of : ByOrigin → Sent
+abbrev pub sent_of : PacketById → PacketShown
 sent_of k = record { view = k.view; lines = k.lines }
 
 -- Items join those that wait in the out end, grants leave those that have come back to it, and it has ended or not.
-pub record ActsOut (items : List (Option Sent)) (grants : List ℕ) (is_ended : Bool) (o o' : OutSeen) : Type 0 where
+pub record ActsOut (items : List (Option PacketShown)) (grants : List ℕ) (is_ended : Bool) (o o' : OutSeen) : Type 0 where
   pub waiting : o'.waiting ≡ o.waiting ++ items
   pub free : o.free ≡ o'.free + length items
   pub back : grants ++ o'.back ≡ o.back
@@ -45,7 +45,7 @@ pub record ActsOut (items : List (Option Sent)) (grants : List ℕ) (is_ended : 
   pub ended : o'.ended ≡ is_ended
 
 -- The oldest item, a packet, is gone from the in end, and the grant that is due is given.
-pub record TakesIn (due : Option ℕ) (n : InSeen) (k : Sent) (n' : InSeen) : Type 0 where
+pub record TakesIn (due : Option ℕ) (n : InSeen) (k : PacketShown) (n' : InSeen) : Type 0 where
   pub items : n.items ≡ Some k ∷ n'.items
   pub given : n'.given ≡ with_grant n.given due
   pub late : n'.late ≡ None
@@ -59,25 +59,25 @@ pub record TakesIn (due : Option ℕ) (n : InSeen) (k : Sent) (n' : InSeen) : Ty
 -- end that it has replaced or left.
 pub record IsReady (m : Shown) : Type 0 where
   pub out : runs_phase m.held.phase ≡ true → MatchOption m.held.out ⊤ (λ h. MatchOption m.ends.out ⊥ (λ o. (o.ended ≡ false) × (0 < h.credit.credit → 1 < o.free)))
-  pub link : MatchOption m.held.current ⊤ (λ _. MatchOption m.ends.link ⊥ (λ n. (n.late ≡ None) × ((k : Sent) (rest : List (Option Sent)) → n.items ≡ Some k ∷ rest → 0 < n.free)))
-  pub kept : m.ends.kept ≡ None
+  pub link : MatchOption m.held.current ⊤ (λ _. MatchOption m.ends.link ⊥ (λ n. (n.late ≡ None) × ((k : PacketShown) (rest : List (Option PacketShown)) → n.items ≡ Some k ∷ rest → 0 < n.free)))
+  pub returned : m.ends.returned ≡ None
   pub old_outs : m.ends.old_outs ≡ []
   pub old_ins : m.ends.old_ins ≡ []
 
 -- ---- refusals, by what a member holds and what its ends show
 
 -- the first item of a link
-abbrev pub first_item : Option InSeen → List (Option Sent)
+abbrev pub first_item : Option InSeen → List (Option PacketShown)
 first_item end = at_some end [] (λ n. n.items)
 
 -- why a member with a view of this version takes no packet from a link with these items
-abbrev pub items_refused : ℕ → List (Option Sent) → Option Reason
+abbrev pub items_refused : ℕ → List (Option PacketShown) → Option Reason
 items_refused have [] = Some reason.NothingToTake
 items_refused have (None ∷ items) = Some reason.EndNext
 items_refused have (Some k ∷ items) = version_refusal k.view have
 
 -- why no end
-abbrev pub end_refused : List (Option Sent) → Option Reason
+abbrev pub end_refused : List (Option PacketShown) → Option Reason
 end_refused [] = Some reason.NothingToTake
 end_refused (None ∷ items) = None
 end_refused (Some k ∷ items) = Some reason.PacketNext
@@ -118,7 +118,7 @@ Casts m a b = b ≡ record a { held = published_held a.held m }
 abbrev pub PutsPacket : Shown → Shown → Type 0
 PutsPacket a b =
     (h : Outgoing) × (o : OutSeen) × (o' : OutSeen) × (a.held.out ≡ Some h) × (a.ends.out ≡ Some o)
-    × ActsOut (Some (sent_of (parcel_on a.held.view.version a.held.known h)) ∷ []) [] false o o'
+    × ActsOut (Some (sent_of (packet_on a.held.view.version a.held.known h)) ∷ []) [] false o o'
     × (b ≡ record { held = put_held a.held; ends = record a.ends { out = Some o' } })
 
 -- the grant that is due with the next load from the link that it takes from
@@ -128,13 +128,13 @@ due_of h = at_some h.current None (λ l. grant_due l.counted)
 -- it has taken one
 abbrev pub TakesPacket : Shown → Shown → Type 0
 TakesPacket a b =
-    (k : ByOrigin) × (n : InSeen) × (n' : InSeen) × (a.ends.link ≡ Some n) × TakesIn (due_of a.held) n (sent_of k) n'
+    (k : PacketById) × (n : InSeen) × (n' : InSeen) × (a.ends.link ≡ Some n) × TakesIn (due_of a.held) n (sent_of k) n'
     × (b ≡ record { held = took_held a.held k; ends = record a.ends { link = Some n' } })
 
 -- it has taken the end of its link, and given up its own end of it
 abbrev pub TakesEnd : Shown → Shown → Type 0
 TakesEnd a b =
-    (n : InSeen) × (rest : List (Option Sent)) × (a.ends.link ≡ Some n) × (n.items ≡ None ∷ rest)
+    (n : InSeen) × (rest : List (Option PacketShown)) × (a.ends.link ≡ Some n) × (n.items ≡ None ∷ rest)
     × (b ≡ record { held = ended_held a.held; ends = record a.ends { link = None } })
 
 -- it has gained the oldest grant
@@ -212,32 +212,32 @@ kept_end v x (Some l) e = cond (is_for v x l) e None
 abbrev pub looked_ends : Group → Shown → EndsSeen
 looked_ends v a = record a.ends { link = kept_end v a.held.id a.held.current a.ends.link; door = beside (stays v a.held.id) a.held.door a.ends.door }
 
--- its out end is replaced, where it had one: it has ended, and is loose
-abbrev pub Loosens : ℕ → Option Outgoing → Option OutSeen → Option (LinkName × OutSeen) → Type 0
-Loosens x None o loose = loose ≡ None
-Loosens x (Some h) None loose = ⊥
-Loosens x (Some h) (Some o) loose = (o' : OutSeen) × ActsOut (None ∷ []) [] true o o' × (loose ≡ Some (ring_link x h.to h.opened, o'))
+-- its out end is replaced, where it had one, which has ended
+abbrev pub Replacing : ℕ → Option Outgoing → Option OutSeen → Option (LinkName × OutSeen) → Type 0
+Replacing x None o replaced = replaced ≡ None
+Replacing x (Some h) None replaced = ⊥
+Replacing x (Some h) (Some o) replaced = (o' : OutSeen) × ActsOut (None ∷ []) [] true o o' × (replaced ≡ Some (ring_link x h.to h.opened, o'))
 
 -- the first packet of the link that it opens
-abbrev pub first_sent : Shown → Group → Sent
-first_sent a v = sent_of (parcel_on v.version a.held.known (unsent_on a.held.initial a.held.more (right_of v a.held.id) v.version))
+abbrev pub first_sent : Shown → Group → PacketShown
+first_sent a v = sent_of (packet_on v.version a.held.known (unsent_on a.held.initial a.held.more (right_of v a.held.id) v.version))
 
 -- It has a view, and sends to its right neighbour in it: as it did, or on a new link, whose in end is to wait for its receiver.
-abbrev pub Looks : Group → Shown → Shown → Option Posted → Option (LinkName × OutSeen) → Type 0
-Looks v a b new loose =
+abbrev pub Looks : Group → Shown → Shown → Option Deposit → Option (LinkName × OutSeen) → Type 0
+Looks v a b new replaced =
     When (sends_to a.held.out (right_of v a.held.id))
-    ((b ≡ record { held = refreshed_held a.held v; ends = looked_ends v a }) × (new ≡ None) × (loose ≡ None))
+    ((b ≡ record { held = refreshed_held a.held v; ends = looked_ends v a }) × (new ≡ None) × (replaced ≡ None))
     × When (not (sends_to a.held.out (right_of v a.held.id)))
     ((b ≡ record { held = refreshed_held a.held v; ends = record (looked_ends v a) { out = Some (opened_out a.held.initial (first_sent a v)) } })
     × (new ≡ Some (record { name = ring_link a.held.id (right_of v a.held.id) v.version; end = Some (fresh_in a.held.initial) }))
-    × Loosens a.held.id a.held.out a.ends.out loose)
+    × Replacing a.held.id a.held.out a.ends.out replaced)
 
 -- ---- all parties
 
 -- a link waits behind the others
-abbrev pub posting : Option Posted → Parties → Parties
-posting None q = q
-posting (Some new) q = record q { post = q.post ++ new ∷ [] }
+abbrev pub depositing : Option Deposit → Parties → Parties
+depositing None q = q
+depositing (Some new) q = record q { deposits = q.deposits ++ new ∷ [] }
 
 -- the newest view
 abbrev pub newest_of : Parties → Group
@@ -253,7 +253,7 @@ erasing q p = installed (erased (newest_of q) p)
 
 -- the member at a place has another view
 abbrev pub LooksAt : Group → ℕ → Parties → Parties → Option (LinkName × OutSeen) → Type 0
-LooksAt v i q q' loose = (b : Shown) × (new : Option Posted) × Looks v (node_at q i) b new loose × (q' ≡ posting new (with_node q i b))
+LooksAt v i q q' replaced = (b : Shown) × (new : Option Deposit) × Looks v (node_at q i) b new replaced × (q' ≡ depositing new (with_node q i b))
 
 -- the links of a member are of this credit
 abbrev pub HasCredit : CreditSpec → Held → Type 0
@@ -267,7 +267,7 @@ admitting q i name = admitted (newest_of q) (i + 1) name
 abbrev pub joined : CreditSpec → List ℕ → ℕ → Group → Option InSeen → Shown
 joined credit name id v end = record {
   held = joining_held credit name id v;
-  ends = record { out = None; kept = None; link = end; door = []; old_outs = []; old_ins = [] };
+  ends = record { out = None; returned = None; link = end; door = []; old_outs = []; old_ins = [] };
 }
 
 -- one more is among the members
@@ -276,39 +276,39 @@ joining m q = record q { nodes = q.nodes ++ m ∷ [] }
 
 -- the member at a place has a view, and one of this name and id joins with it, for whom the link is that this opens
 abbrev pub LetsIn : Group → CreditSpec → List ℕ → ℕ → ℕ → Parties → Parties → Option (LinkName × OutSeen) → Type 0
-LetsIn v credit name id i q q' loose =
-    (b : Shown) × (new : Option Posted) × Looks v (node_at q i) b new loose
-    × (q' ≡ joining (joined credit name id v (at_some new None (λ (d : Posted). d.end))) (viewing v (with_node q i b)))
+LetsIn v credit name id i q q' replaced =
+    (b : Shown) × (new : Option Deposit) × Looks v (node_at q i) b new replaced
+    × (q' ≡ joining (joined credit name id v (at_some new None (λ (d : Deposit). d.end))) (viewing v (with_node q i b)))
 
 -- the member at a place admits one of a name
 abbrev pub AdmitsAt : List ℕ → ℕ → Parties → Parties → Option (LinkName × OutSeen) → Type 0
-AdmitsAt name i q q' loose = (credit : CreditSpec) × HasCredit credit (node_at q i).held × LetsIn (admitting q i name) credit name (newest_of q).next_id i q q' loose
+AdmitsAt name i q q' replaced = (credit : CreditSpec) × HasCredit credit (node_at q i).held × LetsIn (admitting q i name) credit name (newest_of q).next_id i q q' replaced
 
 -- what the member at place i does of a kind; d is the id of the one that is marked or erased; a refusal changes nothing
 abbrev pub Acts : Kind → ℕ → ℕ → Parties → Parties → Option (LinkName × OutSeen) → Type 0
-Acts Stops i d q q' loose = (b : Shown) × Halts (node_at q i) b × (q' ≡ record (with_node q i b) { stopped = q.stopped ++ (i + 1) ∷ [] }) × (loose ≡ None)
-Acts (Changes (change.Mark dead)) i d q q' loose = LooksAt (marked (newest_of q) d) i (viewing (marked (newest_of q) d) q) q' loose
-Acts (Changes (change.Erase origin)) i d q q' loose = LooksAt (erasing q d) i (viewing (erasing q d) q) q' loose
-Acts (Changes (change.Admit name)) i d q q' loose = AdmitsAt name i q q' loose
-Acts (Reads version) i d q q' loose = LooksAt (view_at q.views version) i q q' loose
-Acts (Tells code inner) i d q q' loose = (q' ≡ q) × (loose ≡ None)
-Acts k i d q q' loose = (b : Shown) × DoesAlone k (node_at q i) b × (q' ≡ with_node q i b) × (loose ≡ None)
+Acts Stops i d q q' replaced = (b : Shown) × Halts (node_at q i) b × (q' ≡ record (with_node q i b) { stopped = q.stopped ++ (i + 1) ∷ [] }) × (replaced ≡ None)
+Acts (Changes (change.Mark dead)) i d q q' replaced = LooksAt (marked (newest_of q) d) i (viewing (marked (newest_of q) d) q) q' replaced
+Acts (Changes (change.Erase origin)) i d q q' replaced = LooksAt (erasing q d) i (viewing (erasing q d) q) q' replaced
+Acts (Changes (change.Admit name)) i d q q' replaced = AdmitsAt name i q q' replaced
+Acts (Reads version) i d q q' replaced = LooksAt (view_at q.views version) i q q' replaced
+Acts (Tells code inner) i d q q' replaced = (q' ≡ q) × (replaced ≡ None)
+Acts k i d q q' replaced = (b : Shown) × DoesAlone k (node_at q i) b × (q' ≡ with_node q i b) × (replaced ≡ None)
 
 -- ---- collecting
 
 -- whether a link waits for the member of an id
-abbrev pub waits_at : ℕ → Posted → Bool
+abbrev pub waits_at : ℕ → Deposit → Bool
 waits_at x d = nat_eq d.name.to.0 x
 
 -- such a link, as its receiver has it that has taken nothing from it
-abbrev pub received : Held → Posted → Incoming
+abbrev pub received : Held → Deposit → Incoming
 received h d = arriving_in h.initial h.more d.name.from.0 d.name.view
 
 -- whether the receiver keeps it
-abbrev pub is_kept_by : Held → Posted → Bool
+abbrev pub is_kept_by : Held → Deposit → Bool
 is_kept_by h d = stays h.view h.id (received h d)
 
 -- These links come to the member's door, but for those that it may not take from any more.
-pub record Collects (a b : Shown) (links : List Posted) : Type 0 where
+pub record Collects (a b : Shown) (links : List Deposit) : Type 0 where
   pub held : b.held ≡ collected_held a.held (map (received a.held) links)
   pub ends : b.ends ≡ record a.ends { door = a.ends.door ++ map (λ d. d.end) (filter (is_kept_by a.held) links) }

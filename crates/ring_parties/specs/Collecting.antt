@@ -4,7 +4,7 @@ use Rattle.std.specs.List.{All}
 use Rattle.ordered_link.specs.declared.plain.PlainIn.{PlainIn}
 use Rattle.group_view.specs.declared.link.LinkKind.TheVariants.{Ring}
 use Rattle.group_view.specs.declared.request.Deposited.{Deposited}
-use Rattle.registrar.specs.declared.standing.Standing.{Standing}
+use Rattle.registrar.specs.declared.waiting_link.WaitingLink.{WaitingLink}
 use Rattle.activity.specs.declared.packet.Load.{Load}
 use Rattle.gm_member.specs.Held.{answered_held, collected_held}
 use Rattle.gm_member.specs.Arrivals.{incoming_of, with_arrived}
@@ -12,7 +12,7 @@ use Rattle.gm_member.specs.Shown.{held_of, ends_of}
 use Rattle.ring_parties.specs.Parties.{ANode, Shown, ends_seen}
 
 -- each link that waits is one of the ring
-abbrev pub AreOfRing : List (Standing (PlainIn Load)) → Type 0
+abbrev pub AreOfRing : List (WaitingLink (PlainIn Load)) → Type 0
 AreOfRing links = All (λ s. s.name.kind ≡ Ring) links
 
 -- what a member shows to which these links came, its question closed, and which has dropped the ends that it doesn't keep

@@ -1,20 +1,20 @@
 -- What the ends of a link show, and what they hold of the ring's link between them.
 use Rattle.std.specs.Prelude.{◌≡◌, ℕ, ◌+◌, ◌≤◌, Bool, false, List, [], ◌∷◌, ◌++◌, length, Option, Some, None, is_some}
-use Rattle.activity.specs.Parcels.{Carried}
+use Rattle.activity.specs.Packets.{LineSeen}
 use Rattle.gm_member.specs.Stands.{lines_in}
 use Rattle.ring_rules.specs.declared.phase.Ending.{Ending}
 use Rattle.ring_rules.specs.Machine.{World, Packet, Sending, Link}
 use Rattle.ring_rules.specs.Compact.{passed}
 
 -- A packet as it stands on a link: the version of its sender's view, and its lines by the places of their origins.
-pub record Sent : Type 0 where
+pub record PacketShown : Type 0 where
   pub view : ℕ
-  pub lines : List (Option Carried)
+  pub lines : List (Option LineSeen)
 
 -- What the out end of a link shows: the items that wait in it, an item without a packet being the end of the link; the grants that have
 -- come back; the credit of its link; the slots that it knows to be free; and whether it has ended.
 pub record OutSeen : Type 0 where
-  pub waiting : List (Option Sent)
+  pub waiting : List (Option PacketShown)
   pub back : List ℕ
   pub initial : ℕ
   pub free : ℕ
@@ -23,28 +23,28 @@ pub record OutSeen : Type 0 where
 -- What the in end of a link shows: its items, the grants that were given and haven't gone, the grant that waits, the credit of its
 -- link, and the slots that it knows to be free on the way back.
 pub record InSeen : Type 0 where
-  pub items : List (Option Sent)
+  pub items : List (Option PacketShown)
   pub given : List ℕ
   pub late : Option ℕ
   pub initial : ℕ
   pub free : ℕ
 
 -- a packet of the ring, as an item of a link, behind what passed there before it
-abbrev pub packet_in : World → Sending → Packet → Option Sent
+abbrev pub packet_in : World → Sending → Packet → Option PacketShown
 packet_in w before k = Some (record { view = k.version; lines = lines_in w before k })
 
 -- packets one after another
-abbrev pub packets_in : World → Sending → List Packet → List (Option Sent)
+abbrev pub packets_in : World → Sending → List Packet → List (Option PacketShown)
 packets_in w before [] = []
 packets_in w before (k ∷ ks) = packet_in w before k ∷ packets_in w (passed k) ks
 
 -- the end of a link, as its last item
-abbrev pub end_items : Option Ending → List (Option Sent)
+abbrev pub end_items : Option Ending → List (Option PacketShown)
 end_items None = []
 end_items (Some why) = None ∷ []
 
 -- the items of a link of the ring: its packets, from what was taken last on, and its end behind them
-abbrev pub items_in : World → Link → List (Option Sent)
+abbrev pub items_in : World → Link → List (Option PacketShown)
 items_in w l = packets_in w l.had l.packets ++ end_items l.ending
 
 -- The ends may meet: they are of one credit, and each knows no more free slots than there are.
@@ -87,7 +87,7 @@ pub record Meets (o : OutSeen) (n : InSeen) (o' : OutSeen) (n' : InSeen) : Type 
 -- ---- a link that opens
 
 -- its out end, on which the first packet was put
-abbrev pub opened_out : ℕ → Sent → OutSeen
+abbrev pub opened_out : ℕ → PacketShown → OutSeen
 opened_out initial k = record { waiting = Some k ∷ []; back = []; initial = initial; free = initial; ended = false }
 
 -- an out end on which nothing was put

@@ -6,4 +6,4 @@ use Rattle.ring_parties.specs.Behind.{behind}
 
 -- they owe the registrar the link that they keep
 abbrev pub gathered : Inside → PartiesSeen
-gathered a = record { all = parties a.members.items a.registrar (behind a.late); owes = is_some a.late }
+gathered a = record { all = parties a.members.items a.registrar (behind a.pending_deposit); owes = is_some a.pending_deposit }

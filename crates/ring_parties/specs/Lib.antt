@@ -4,7 +4,7 @@ pub mod Collecting
 pub mod Ends
 pub mod Gathered
 pub mod Looking
-pub mod Loose
+pub mod Replaced
 pub mod Meeting
 pub mod Opened
 pub mod Parties

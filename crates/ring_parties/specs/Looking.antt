@@ -18,10 +18,10 @@ use Rattle.gm_member.specs.declared.questions.Ask.{Ask}
 use Rattle.gm_member.specs.declared.questions.Ask.TheVariants.{Mark, Admit, Erase, Refresh, Collect}
 use Rattle.gm_member.specs.Held.{up_refused, answered_held}
 use Rattle.gm_member.specs.Questions.{asked_for}
-use Rattle.ring_parties.specs.declared.undelivered.Undelivered.{Undelivered}
+use Rattle.ring_parties.specs.declared.pending_deposit.PendingDeposit.{PendingDeposit}
 use Rattle.ring_parties.specs.Ends.{OutSeen}
 use Rattle.ring_parties.specs.Acting.{Looks}
-use Rattle.ring_parties.specs.Parties.{Shown, Posted, in_seen, named_out}
+use Rattle.ring_parties.specs.Parties.{Shown, Deposit, in_seen, named_out}
 
 -- the first of a list, where it has one
 abbrev pub first_of : {A : Type 0} → List A → Option A
@@ -29,17 +29,17 @@ first_of [] = None
 first_of (a ∷ rest) = Some a
 
 -- the link that is to wait at the registrar, of the requests that follow
-abbrev pub to_post : List (Request (PlainIn Load)) → Option Posted
-to_post [] = None
-to_post (first ∷ rest) = option_map (λ d. record { name = d.0; end = Some (in_seen d.1) }) (handed_over first)
+abbrev pub to_deposit : List (Request (PlainIn Load)) → Option Deposit
+to_deposit [] = None
+to_deposit (first ∷ rest) = option_map (λ d. record { name = d.0; end = Some (in_seen d.1) }) (handed_over first)
 
 -- the same of one that is kept till it is handed over
-abbrev pub kept_post : Option Undelivered → Option Posted
-kept_post late = option_map (λ u. record { name = u.name; end = Some (in_seen u.link) }) late
+abbrev pub pending_shown : Option PendingDeposit → Option Deposit
+pending_shown pending = option_map (λ u. record { name = u.name; end = Some (in_seen u.link) }) pending
 
--- an out end that is loose
-abbrev pub loose_seen : Option (LinkName × PlainOut Load) → Option (LinkName × OutSeen)
-loose_seen loose = option_map named_out loose
+-- an out end that was replaced
+abbrev pub replaced_seen : Option (LinkName × PlainOut Load) → Option (LinkName × OutSeen)
+replaced_seen replaced = option_map named_out replaced
 
 -- a member that has given up the ends that it has replaced or left
 abbrev pub tidied : Shown → Shown
@@ -50,8 +50,8 @@ abbrev pub without_question : Shown → Shown
 without_question a = record a { held = answered_held a.held }
 
 -- A member has another view (`Looks`).
-pub record HasLooked (v : Group) (a b : Shown) (opened : Option Posted) (loose : Option (LinkName × OutSeen)) : Type 0 where
-  pub looks : Looks v a b opened loose
+pub record HasLooked (v : Group) (a b : Shown) (opened : Option Deposit) (replaced : Option (LinkName × OutSeen)) : Type 0 where
+  pub looks : Looks v a b opened replaced
 
 -- ---- a member that asks for a view
 

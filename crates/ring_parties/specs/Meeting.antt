@@ -4,7 +4,7 @@ use Rattle.group_view.specs.declared.link.LinkName.{LinkName}
 use Rattle.gm_member.specs.Held.{Held}
 use Rattle.gm_member.specs.Shown.{in_name_of, out_name_of, in_end}
 use Rattle.ring_parties.specs.Ends.{OutSeen, InSeen, Fits, Meets}
-use Rattle.ring_parties.specs.Parties.{Shown, Posted, Parties, no_posted, node_at, with_node, with_in, with_out}
+use Rattle.ring_parties.specs.Parties.{Shown, Deposit, Parties, no_deposit, node_at, with_node, with_in, with_out}
 
 -- an end is there, which may meet the out end
 abbrev pub IsToMeet : OutSeen → Option InSeen → Type 0
@@ -35,25 +35,25 @@ pub record NodeMeets (m : Shown) (name : LinkName) (o : OutSeen) (other m' : Sho
 -- ---- a link that waits for its receiver
 
 -- the one at a place
-abbrev pub posted_in : List Posted → LinkName → ℕ → Posted
-posted_in post name place = slice_index_or post place (no_posted name)
+abbrev pub deposit_in : List Deposit → LinkName → ℕ → Deposit
+deposit_in deposits name place = slice_index_or deposits place (no_deposit name)
 
 -- none has the name
-abbrev pub NoneIsPosted : List Posted → LinkName → Type 0
-NoneIsPosted post name = (place : ℕ) (other : Posted) → place < length post → (slice_index_or post place other).name ≡ name → ⊥
+abbrev pub NoneIsDeposited : List Deposit → LinkName → Type 0
+NoneIsDeposited deposits name = (place : ℕ) (other : Deposit) → place < length deposits → (slice_index_or deposits place other).name ≡ name → ⊥
 
 -- the end of each that has it may meet the out end
-abbrev pub PostMayMeet : List Posted → LinkName → OutSeen → Type 0
-PostMayMeet post name o = (place : ℕ) → place < length post → (posted_in post name place).name ≡ name → IsToMeet o (posted_in post name place).end
+abbrev pub DepositsMayMeet : List Deposit → LinkName → OutSeen → Type 0
+DepositsMayMeet deposits name o = (place : ℕ) → place < length deposits → (deposit_in deposits name place).name ≡ name → IsToMeet o (deposit_in deposits name place).end
 
 -- One of that name has met it.
-pub record PostMeets (post : List Posted) (name : LinkName) (o : OutSeen) (post' : List Posted) (o' : OutSeen) : Type 0 where
+pub record DepositMeets (deposits : List Deposit) (name : LinkName) (o : OutSeen) (post' : List Deposit) (o' : OutSeen) : Type 0 where
   pub place : ℕ
-  pub within : place < length post
-  pub named : (posted_in post name place).name ≡ name
+  pub within : place < length deposits
+  pub named : (deposit_in deposits name place).name ≡ name
   pub met : InSeen
-  pub meets : MeetsEnd o (posted_in post name place).end o' met
-  pub shows : post' ≡ slice_set post place (record { name = name; end = Some met })
+  pub meets : MeetsEnd o (deposit_in deposits name place).end o' met
+  pub shows : post' ≡ slice_set deposits place (record { name = name; end = Some met })
 
 -- ---- all parties
 
@@ -65,7 +65,7 @@ receiver_of q name = node_at q (name.to.0 - 1)
 pub record MayMeet (q : Parties) (name : LinkName) (o : OutSeen) : Type 0 where
   pub from_one : 1 ≤ name.to.0
   pub member : NodeMayMeet (receiver_of q name) name o
-  pub post : PostMayMeet q.post name o
+  pub deposits : DepositsMayMeet q.deposits name o
 
 -- The in end stood at its receiver, and has met the out end.
 pub record MeetsAt (q : Parties) (name : LinkName) (o : OutSeen) (other q' : Parties) (o' : OutSeen) : Type 0 where
@@ -75,21 +75,21 @@ pub record MeetsAt (q : Parties) (name : LinkName) (o : OutSeen) (other q' : Par
   pub parties : q' ≡ with_node other (name.to.0 - 1) receiver
 
 -- It waited for its receiver, and has met the out end.
-pub record MeetsPosted (q : Parties) (name : LinkName) (o : OutSeen) (other q' : Parties) (o' : OutSeen) : Type 0 where
-  pub post : List Posted
-  pub meets : PostMeets q.post name o post o'
-  pub parties : q' ≡ record other { post = post }
+pub record MeetsDeposit (q : Parties) (name : LinkName) (o : OutSeen) (other q' : Parties) (o' : OutSeen) : Type 0 where
+  pub deposits : List Deposit
+  pub meets : DepositMeets q.deposits name o deposits o'
+  pub parties : q' ≡ record other { deposits = deposits }
 
 -- It stands nowhere, and nothing has changed.
 pub record MeetsNone (q : Parties) (name : LinkName) (o : OutSeen) (other q' : Parties) (o' : OutSeen) : Type 0 where
   pub member : HasNone (receiver_of q name).held name
-  pub post : NoneIsPosted q.post name
+  pub deposits : NoneIsDeposited q.deposits name
   pub parties : q' ≡ other
   pub out : o' ≡ o
 
 -- The out end of the link of that name has met its in end, where that stands anywhere, and else the parties show what others did.
 abbrev pub MeetsIn : Parties → LinkName → OutSeen → Parties → Parties → OutSeen → Type 0
-MeetsIn q name o other q' o' = MeetsAt q name o other q' o' ⊎ (MeetsPosted q name o other q' o' ⊎ MeetsNone q name o other q' o')
+MeetsIn q name o other q' o' = MeetsAt q name o other q' o' ⊎ (MeetsDeposit q name o other q' o' ⊎ MeetsNone q name o other q' o')
 
 -- ---- the out end of a member
 

@@ -9,7 +9,7 @@ use Rattle.ring_parties.specs.Parties.{EndsSeen, Shown, Parties}
 
 -- the ends of a fresh pair
 abbrev pub opened_ends : CreditSpec → EndsSeen
-opened_ends credit = record { out = Some (fresh_out credit.initial); kept = None; link = Some (fresh_in credit.initial); door = []; old_outs = []; old_ins = [] }
+opened_ends credit = record { out = Some (fresh_out credit.initial); returned = None; link = Some (fresh_in credit.initial); door = []; old_outs = []; old_ins = [] }
 
 -- the member at place k
 abbrev pub opened_at : CreditSpec → List (List ℕ) → ℕ → Shown
@@ -17,4 +17,4 @@ opened_at credit names k = record { held = founded credit (slice_index_or names 
 
 -- all of them, and the registrar, at which nothing waits
 abbrev pub opened_parties : CreditSpec → List (List ℕ) → Parties
-opened_parties credit names = record { nodes = map (opened_at credit names) (range_with_len 0 (length names)); views = opening_group names ∷ []; stopped = []; post = [] }
+opened_parties credit names = record { nodes = map (opened_at credit names) (range_with_len 0 (length names)); views = opening_group names ∷ []; stopped = []; deposits = [] }

@@ -11,15 +11,15 @@ use Rattle.group_view.specs.View.{Group}
 use Rattle.group_view.specs.Since.{no_group}
 use Rattle.ring_rules.specs.declared.phase.Phase.TheVariants as phase
 use Rattle.registrar.specs.Registry.{Registry}
-use Rattle.registrar.specs.declared.standing.Standing.{Standing}
+use Rattle.registrar.specs.declared.waiting_link.WaitingLink.{WaitingLink}
 use Rattle.activity.specs.declared.packet.Load.{Load}
 use Rattle.gm_member.specs.declared.member.Member.{Member}
-use Rattle.gm_member.specs.Parcels.{by_origin}
-use Rattle.gm_member.specs.Loads.{parcel_in}
+use Rattle.gm_member.specs.Packets.{packet_by_id}
+use Rattle.gm_member.specs.Loads.{packet_seen}
 use Rattle.gm_member.specs.Held.{Held}
 use Rattle.gm_member.specs.Shown.{Ends, held_of, ends_of, with_in as with_end}
 use Rattle.ring_parties.specs.declared.party.Party.{Party}
-use Rattle.ring_parties.specs.Ends.{Sent, OutSeen, InSeen}
+use Rattle.ring_parties.specs.Ends.{PacketShown, OutSeen, InSeen}
 
 -- what a plain out end shows as the end of a link
 abbrev pub plain_out : Ghosts (PlainOut Load) Load
@@ -32,8 +32,8 @@ ANode = Member (PlainOut Load) (PlainIn Load) plain_out
 -- ---- what ends show
 
 -- an item of a link
-abbrev pub content : Item Load → Option Sent
-content (item.Load x) = Some (record { view = (parcel_in x).view; lines = (by_origin (parcel_in x)).lines })
+abbrev pub content : Item Load → Option PacketShown
+content (item.Load x) = Some (record { view = (packet_seen x).view; lines = (packet_by_id (packet_seen x)).lines })
 content (item.End reason) = None
 
 -- an out end
@@ -60,7 +60,7 @@ named_in old = (old.0, in_seen old.1)
 abbrev pub ends_seen : Ends (PlainOut Load) (PlainIn Load) → EndsSeen
 ends_seen e = record {
   out = option_map out_seen e.out;
-  kept = e.kept;
+  returned = e.returned;
   link = option_map in_seen e.link;
   door = map (option_map in_seen) e.door;
   old_outs = map named_out e.old_outs;
@@ -86,23 +86,23 @@ shown_in p = shown_of p.node
 abbrev pub no_shown : Shown
 no_shown = record {
   held = record { id = 0; name = []; phase = phase.Stopped; view = no_group; known = []; out = None; current = None; door = []; asks = false; initial = 0; more = 0 };
-  ends = record { out = None; kept = None; link = None; door = []; old_outs = []; old_ins = [] };
+  ends = record { out = None; returned = None; link = None; door = []; old_outs = []; old_ins = [] };
 }
 
 -- ---- the registrar
 
 -- A link that waits for its receiver: its name, and its end, where it isn't lent.
-pub record Posted : Type 0 where
+pub record Deposit : Type 0 where
   pub name : LinkName
   pub end : Option InSeen
 
 -- one that stands at the registrar
-abbrev pub posted : Standing (PlainIn Load) → Posted
-posted s = record { name = s.name; end = option_map in_seen s.link }
+abbrev pub deposit_shown : WaitingLink (PlainIn Load) → Deposit
+deposit_shown s = record { name = s.name; end = option_map in_seen s.link }
 
 -- a link whose end isn't there
-abbrev pub no_posted : LinkName → Posted
-no_posted name = record { name = name; end = None }
+abbrev pub no_deposit : LinkName → Deposit
+no_deposit name = record { name = name; end = None }
 
 -- ---- all of them
 
@@ -112,11 +112,11 @@ pub record Parties : Type 0 where
   pub nodes : List Shown
   pub views : List Group
   pub stopped : List ℕ
-  pub post : List Posted
+  pub deposits : List Deposit
 
 -- the parties, with these links behind those that stand at the registrar
-abbrev pub parties : List Party → Registry (PlainIn Load) → List Posted → Parties
-parties members r behind = record { nodes = map shown_in members; views = r.views; stopped = r.stopped; post = map posted r.links ++ behind }
+abbrev pub parties : List Party → Registry (PlainIn Load) → List Deposit → Parties
+parties members r behind = record { nodes = map shown_in members; views = r.views; stopped = r.stopped; deposits = map deposit_shown r.links ++ behind }
 
 -- What is seen of the parties: what they show, and whether the registrar is owed a link that waits behind those which stand there.
 pub record PartiesSeen : Type 0 where

@@ -14,14 +14,14 @@ use Rattle.ring_rules.specs.Kind.{Kind, Changes, Reads, Tells}
 use Rattle.ring_rules.specs.Refusal.{refuse_if, or_else}
 use Rattle.ring_rules.specs.Step.{size}
 use Rattle.ring_rules.specs.Event.{refusal, refused_as, is_multicast_kind, is_told}
-use Rattle.registrar.specs.declared.standing.Standing.{Standing}
+use Rattle.registrar.specs.declared.waiting_link.WaitingLink.{WaitingLink}
 use Rattle.registrar.specs.Registry.{Registry}
 use Rattle.registrar.specs.Asked.{mark_refusal, erase_refusal}
 use Rattle.activity.specs.Kept.{got_of}
-use Rattle.gm_member.specs.Parcels.{known_at}
+use Rattle.gm_member.specs.Packets.{known_at}
 use Rattle.gm_member.specs.Held.{Held, at_some, up_refused, first_at_door, is_for, collected_held}
 use Rattle.ring_parties.specs.Ends.{InSeen}
-use Rattle.ring_parties.specs.Parties.{Shown, Posted, Parties, node_at}
+use Rattle.ring_parties.specs.Parties.{Shown, Deposit, Parties, node_at}
 use Rattle.ring_parties.specs.States.{state, IsEventIn}
 use Rattle.ring_parties.specs.Standing.{StandAfter}
 use Rattle.ring_parties.specs.Acting.{waits_at, received, alone_refused, stop_refused, look_refused, newest_of}
@@ -32,15 +32,15 @@ id_named q name = option_map (λ i. i + 1) (position (λ m. bytes_eq m.held.name
 
 -- no link waits for x
 abbrev pub NothingWaits : ℕ → Parties → Type 0
-NothingWaits x q = filter (waits_at x) q.post ≡ []
+NothingWaits x q = filter (waits_at x) q.deposits ≡ []
 
 -- a link that waits at the registrar, by what it shows
-abbrev pub standing_of : Posted → Standing InSeen
-standing_of d = record { name = d.name; link = d.end }
+abbrev pub waiting_link_of : Deposit → WaitingLink InSeen
+waiting_link_of d = record { name = d.name; link = d.end }
 
 -- what the registrar keeps, by what the parties show
 abbrev pub office_of : Parties → Registry InSeen
-office_of q = record { views = q.views; stopped = q.stopped; links = map standing_of q.post }
+office_of q = record { views = q.views; stopped = q.stopped; links = map waiting_link_of q.deposits }
 
 -- why a member doesn't have d marked dead by the registrar that keeps r; where nobody has the name of the one to be marked, as such
 abbrev pub mark_refused : {I : Type 0} → Registry I → Shown → Option ℕ → Option Reason
@@ -91,15 +91,15 @@ marked_in k q = 0
 -- ---- before the member has collected what waits for it
 
 -- h, with those of these links at its door that wait for it and that it keeps
-abbrev pub with_post : Held → List Posted → Held
-with_post h ps = collected_held h (map (received h) (filter (waits_at h.id) ps))
+abbrev pub with_deposits : Held → List Deposit → Held
+with_deposits h ps = collected_held h (map (received h) (filter (waits_at h.id) ps))
 
 -- whether a link waits for the member, and comes from its left neighbour, which was that already when the link opened
-abbrev pub comes_for : Held → Posted → Bool
+abbrev pub comes_for : Held → Deposit → Bool
 comes_for h d = waits_at h.id d && is_for h.view h.id (received h d)
 
 -- in which version of its sender's view the first of these links opened that does
-abbrev pub first_for : Held → List Posted → Option ℕ
+abbrev pub first_for : Held → List Deposit → Option ℕ
 first_for h [] = None
 first_for h (d ∷ ps) = cond (comes_for h d) (Some d.name.view) (first_for h ps)
 

@@ -22,7 +22,7 @@ use Rattle.ring_parties.specs.Parties.{Shown, Parties, PartiesSeen, node_at}
 pub record Places : Type 0 where
   pub outs : ℕ → OutSeen
   pub ins : ℕ → InSeen
-  pub post : List ℕ
+  pub deposits : List ℕ
 
 -- the name of the link at place s
 abbrev pub name_of : World → ℕ → LinkName
@@ -44,10 +44,10 @@ has_in w s = is_open w (link_at w s).receiver s
 -- has replaced or left.
 pub record MemberStands (w : World) (p : Places) (x : ℕ) (m : Shown) : Type 0 where
   pub door : List ℕ
-  pub comes : door_links w x ≡ door ++ filter (is_to w x) p.post
+  pub comes : door_links w x ≡ door ++ filter (is_to w x) p.deposits
   pub held : m.held ≡ record (held_in w x) { door = map (incoming_in w) door }
   pub out : m.ends.out ≡ option_map p.outs (member_at w x).out
-  pub kept : m.ends.kept ≡ None
+  pub returned : m.ends.returned ≡ None
   pub link : m.ends.link ≡ option_map p.ins (member_at w x).current
   pub ends : m.ends.door ≡ map (λ s. Some (p.ins s)) door
   pub old_outs : m.ends.old_outs ≡ []
@@ -61,8 +61,8 @@ pub record Shows (Holds : ℕ → Type 0) (w : World) (q : Parties) (p : Places)
   pub views : w.views ≡ no_group ∷ q.views
   pub stopped : (x : ℕ) → 1 ≤ x → x < size w → is_in x q.stopped ≡ is_stopped (member_at w x).phase
   pub nobody_else : (x : ℕ) → size w ≤ x → is_in x q.stopped ≡ false
-  pub post : q.post ≡ map (λ s. record { name = name_of w s; end = Some (p.ins s) }) p.post
-  pub within : (s : ℕ) → is_in s p.post ≡ true → s < length w.links
+  pub deposits : q.deposits ≡ map (λ s. record { name = name_of w s; end = Some (p.ins s) }) p.deposits
+  pub within : (s : ℕ) → is_in s p.deposits ≡ true → s < length w.links
   pub carry : (s : ℕ) → s < length w.links → has_in w s ≡ true → Holds s
 
 -- They stand in it: the ends of each such link carry it.

@@ -11,7 +11,7 @@ ghost use Rattle.ring_parties.specs.Acting.{IsReady, step_refused, DoesStep};
 ghost use Rattle.ring_parties.specs.Acting.{is_alone, alone_refused, DoesAlone};
 ghost use Rattle.ring_parties.specs.Tried.{IsJudged, Tries};
 
-use crate::looking::{Loose, ask, look};
+use crate::looking::{Replaced, ask, look};
 use crate::node::{Node, cast, gain, pick, put, stop, take, take_end};
 use crate::parties::Parties;
 use crate::party::Party;
@@ -47,9 +47,9 @@ fn say(node: &mut Node, event: &Event) -> Result<(), Refused>
     ensures ok { OnOk result (DoesAlone (kind_of event.now) (shown_of node.old) (shown_of node.new)) }
     ensures err { OnErr result (shown_of node.new ≡ shown_of node.old) }
 {
-    match event {
-        Event::Cast { by: _, body } => cast(node, body),
-        _ => unreachable!(),
+    match event.own_body() {
+        Some(body) => cast(node, body),
+        None => unreachable!(),
     }
 }
 
@@ -109,7 +109,7 @@ impl Parties {
     ghost use Rattle.ring_parties.specs.Parties.{node_at};
     ghost use Rattle.ring_parties.specs.Standing.{StandSomewhere, MayAct};
     ghost use Rattle.ring_parties.specs.Tried.{IsJudged};
-    ghost use Rattle.ring_parties.specs.Looking.{loose_seen};
+    ghost use Rattle.ring_parties.specs.Looking.{replaced_seen};
     ghost use Rattle.ring_parties.specs.Acting.{is_alone, alone_refused, stop_refused, look_refused};
     ghost use Rattle.ring_parties.specs.Acting.{newest_of, viewing, LooksAt, HasCredit, Acts};
     ghost use Rattle.ring_parties.specs.Refused.{id_named, mark_refused, erase_refused, office_of, own_refused};
@@ -141,13 +141,13 @@ impl Parties {
         credit: CreditSpec,
         i: usize,
         event: &Event,
-    ) -> Result<Option<Loose>, Refused>
+    ) -> Result<Option<Replaced>, Refused>
         requires multicast { is_multicast event.now ≡ true }
         requires may { MayAct self.old i }
         requires credit { HasCredit credit (node_at (self.old).all i).held }
         ensures judged { IsJudged (act_refused (kind_of event.now) i (self.old).all) result }
-        ensures ok { IfOk result (λ loose. Acts (kind_of event.now) i (marked_in (kind_of event.now) (self.old).all)
-            (self.old).all (self.new).all (loose_seen loose)) }
+        ensures ok { IfOk result (λ replaced. Acts (kind_of event.now) i (marked_in (kind_of event.now) (self.old).all)
+            (self.old).all (self.new).all (replaced_seen replaced)) }
         ensures err { OnErr result (self.new ≡ self.old) }
     {
         match event.kind() {
@@ -199,12 +199,12 @@ impl Parties {
     }
 
     /// The member at a place reads the view of a version, where it may.
-    fn act_refresh(&mut self, i: usize, version: u32) -> Result<Option<Loose>, Refused>
+    fn act_refresh(&mut self, i: usize, version: u32) -> Result<Option<Replaced>, Refused>
         requires { MayAct self.old i }
         ensures judged { IsJudged (look_refused (newest_of (self.old).all).version
             (node_at (self.old).all i) version) result }
-        ensures ok { IfOk result (λ loose. LooksAt (view_at (self.old).all.views version) i
-            (self.old).all (self.new).all (loose_seen loose)) }
+        ensures ok { IfOk result (λ replaced. LooksAt (view_at (self.old).all.views version) i
+            (self.old).all (self.new).all (replaced_seen replaced)) }
         ensures err { OnErr result (self.new ≡ self.old) }
     {
         if let Some(reason) = look_refusal(
@@ -223,8 +223,8 @@ impl Parties {
         let Ok(looked) = look(&mut self.members[i].node, view) else {
             return Err(Refused::OutOfMemory);
         };
-        self.late = looked.opened;
-        Ok(looked.loose)
+        self.pending_deposit = looked.opened;
+        Ok(looked.replaced)
     }
 
     /// The member at a place tells a client that what it asks isn't done, where that is so: nothing changes.
@@ -247,13 +247,13 @@ impl Parties {
         credit: CreditSpec,
         i: usize,
         change: ViewChange,
-    ) -> Result<Option<Loose>, Refused>
+    ) -> Result<Option<Replaced>, Refused>
         requires multicast { is_multicast_kind (Changes change) ≡ true }
         requires may { MayAct self.old i }
         requires credit { HasCredit credit (node_at (self.old).all i).held }
         ensures judged { IsJudged (act_refused (Changes change) i (self.old).all) result }
-        ensures ok { IfOk result (λ loose. Acts (Changes change) i (marked_in (Changes change) (self.old).all)
-            (self.old).all (self.new).all (loose_seen loose)) }
+        ensures ok { IfOk result (λ replaced. Acts (Changes change) i (marked_in (Changes change) (self.old).all)
+            (self.old).all (self.new).all (replaced_seen replaced)) }
         ensures err { OnErr result (self.new ≡ self.old) }
     {
         match change {
@@ -265,13 +265,13 @@ impl Parties {
     }
 
     /// The member at a place has the one of a name marked dead by the registrar, where it may.
-    fn act_mark(&mut self, i: usize, dead: &Name) -> Result<Option<Loose>, Refused>
+    fn act_mark(&mut self, i: usize, dead: &Name) -> Result<Option<Replaced>, Refused>
         requires { MayAct self.old i }
         ensures judged { IsJudged (mark_refused (office_of (self.old).all) (node_at (self.old).all i)
             (id_named (self.old).all dead.now)) result }
-        ensures ok { IfOk result (λ loose. Acts (Changes (ViewChange.Mark dead.now)) i
+        ensures ok { IfOk result (λ replaced. Acts (Changes (ViewChange.Mark dead.now)) i
             (marked_in (Changes (ViewChange.Mark dead.now)) (self.old).all) (self.old).all (self.new).all
-            (loose_seen loose)) }
+            (replaced_seen replaced)) }
         ensures err { OnErr result (self.new ≡ self.old) }
     {
         let Some(id) = self.id_named(dead) else {
@@ -281,13 +281,13 @@ impl Parties {
     }
 
     /// It has the one of a name erased, likewise.
-    fn act_erase(&mut self, i: usize, origin: &Name) -> Result<Option<Loose>, Refused>
+    fn act_erase(&mut self, i: usize, origin: &Name) -> Result<Option<Replaced>, Refused>
         requires { MayAct self.old i }
         ensures judged { IsJudged (erase_refused (office_of (self.old).all) (node_at (self.old).all i)
             (id_named (self.old).all origin.now)) result }
-        ensures ok { IfOk result (λ loose. Acts (Changes (ViewChange.Erase origin.now)) i
+        ensures ok { IfOk result (λ replaced. Acts (Changes (ViewChange.Erase origin.now)) i
             (marked_in (Changes (ViewChange.Erase origin.now)) (self.old).all) (self.old).all (self.new).all
-            (loose_seen loose)) }
+            (replaced_seen replaced)) }
         ensures err { OnErr result (self.new ≡ self.old) }
     {
         let Some(id) = self.id_named(origin) else {
@@ -297,19 +297,19 @@ impl Parties {
     }
 
     /// The member at a place asks the registrar to make a view, and has it, where it may.
-    fn act_ask(&mut self, i: usize, what: Ask) -> Result<Option<Loose>, Refused>
+    fn act_ask(&mut self, i: usize, what: Ask) -> Result<Option<Replaced>, Refused>
         requires makes { makes_view what ≡ true }
         requires may { MayAct self.old i }
         ensures judged { IsJudged (ask_refused (office_of (self.old).all) (node_at (self.old).all i) what) result }
-        ensures ok { IfOk result (λ loose. LooksAt (view_for (office_of (self.old).all) (i + 1) what) i
+        ensures ok { IfOk result (λ replaced. LooksAt (view_for (office_of (self.old).all) (i + 1) what) i
             (viewing (view_for (office_of (self.old).all) (i + 1) what) (self.old).all) (self.new).all
-            (loose_seen loose)) }
+            (replaced_seen replaced)) }
         ensures err { OnErr result (self.new ≡ self.old) }
     {
         match ask(&mut self.members[i].node, &mut self.registrar, what) {
             Ok(looked) => {
-                self.late = looked.opened;
-                Ok(looked.loose)
+                self.pending_deposit = looked.opened;
+                Ok(looked.replaced)
             }
             Err(refused) => Err(refused),
         }

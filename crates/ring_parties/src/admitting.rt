@@ -7,16 +7,16 @@ ghost use Rattle.ring_rules.specs.Rows.{most_members};
 ghost use Rattle.ring_rules.specs.View.{ids};
 ghost use Rattle.gm_member.specs.Held.{at_some};
 ghost use Rattle.ring_parties.specs.Ends.{fresh_in};
-ghost use Rattle.ring_parties.specs.Parties.{Posted, shown_of};
-ghost use Rattle.ring_parties.specs.Looking.{kept_post};
+ghost use Rattle.ring_parties.specs.Parties.{Deposit, shown_of};
+ghost use Rattle.ring_parties.specs.Looking.{pending_shown};
 ghost use Rattle.ring_parties.specs.Acting.{joined};
 
-use crate::looking::{Loose, ask};
+use crate::looking::{Replaced, ask};
 use crate::node::Node;
 use crate::parties::Parties;
 use crate::party::Party;
+use crate::pending_deposit::PendingDeposit;
 use crate::refusing::admit_refusal;
-use crate::undelivered::Undelivered;
 use gm_member::{Ask, Member};
 use group_view::View;
 use ordered_link::plain_pair;
@@ -51,17 +51,17 @@ fn joining_node(
 }
 
 /// The end of the link that was opened to a member that joins takes the place of the one with which it was made.
-fn seat(node: &mut Node, opened: Option<Undelivered>)
+fn seat(node: &mut Node, opened: Option<PendingDeposit>)
     requires { IsSome (shown_of node.old).held.current }
     ensures { shown_of node.new ≡ record (shown_of node.old) {
       ends = record (shown_of node.old).ends {
-        link = at_some (kept_post opened) None (λ (d : Posted). d.end);
+        link = at_some (pending_shown opened) None (λ (d : Deposit). d.end);
       };
     } }
 {
-    let _made_with = node.lend_at(0);
-    if let Some(Undelivered { name: _, link }) = opened {
-        node.give_at(0, link);
+    let _made_with = node.lend_in(0);
+    if let Some(PendingDeposit { name: _, link }) = opened {
+        node.give_in(0, link);
     }
 }
 
@@ -81,7 +81,7 @@ impl Parties {
     ghost use Rattle.ring_parties.specs.Parties.{node_at};
     ghost use Rattle.ring_parties.specs.Standing.{MayAct};
     ghost use Rattle.ring_parties.specs.Tried.{IsJudged};
-    ghost use Rattle.ring_parties.specs.Looking.{loose_seen};
+    ghost use Rattle.ring_parties.specs.Looking.{replaced_seen};
     ghost use Rattle.ring_parties.specs.Acting.{newest_of, HasCredit, AdmitsAt};
     ghost use Rattle.ring_parties.specs.Refused.{admission_refused};
 
@@ -92,12 +92,12 @@ impl Parties {
         credit: CreditSpec,
         i: usize,
         name: &Name,
-    ) -> Result<Option<Loose>, Refused>
+    ) -> Result<Option<Replaced>, Refused>
         requires may { MayAct self.old i }
         requires credit { HasCredit credit (node_at (self.old).all i).held }
         ensures judged { IsJudged (up_refused (node_at (self.old).all i).held
             (admission_refused (newest_of (self.old).all) name.now)) result }
-        ensures ok { IfOk result (λ loose. AdmitsAt name.now i (self.old).all (self.new).all (loose_seen loose)) }
+        ensures ok { IfOk result (λ replaced. AdmitsAt name.now i (self.old).all (self.new).all (replaced_seen replaced)) }
         ensures err { OnErr result (self.new ≡ self.old) }
     {
         let view = self.registrar.view();
@@ -121,6 +121,6 @@ impl Parties {
         };
         seat(&mut node, looked.opened);
         push_reserved(&mut self.members, Party { node });
-        Ok(looked.loose)
+        Ok(looked.replaced)
     }
 }

@@ -12,7 +12,7 @@ ghost use Rattle.activity.specs.declared.packet.Load.{Load as Loaded};
 ghost use Rattle.gm_member.specs.Held.{asking_held};
 ghost use Rattle.gm_member.specs.Shown.{HasRoom, held_of, ends_of};
 ghost use Rattle.gm_member.specs.Questions.{asked_for};
-ghost use Rattle.ring_parties.specs.Parties.{shown_of, posted};
+ghost use Rattle.ring_parties.specs.Parties.{shown_of, deposit_shown};
 ghost use Rattle.ring_parties.specs.Acting.{IsReady, waits_at, Collects};
 ghost use Rattle.ring_parties.specs.Collecting.{AreOfRing, given_links};
 
@@ -71,7 +71,7 @@ fn collect(node: &mut Node, registrar: &mut Registrar<PlainIn<Load>>) -> Result<
     requires ring { AreOfRing (registrar.old).links }
     requires known { is_known registrar.old (shown_of node.old).held.id ≡ true }
     ensures ok { OnOk result (Collects (shown_of node.old) (shown_of node.new)
-        (filter (waits_at (shown_of node.old).held.id) (map posted (registrar.old).links))) }
+        (filter (waits_at (shown_of node.old).held.id) (map deposit_shown (registrar.old).links))) }
     ensures registrar { OnOk result (registrar.new ≡ without_links registrar.old (shown_of node.old).held.id) }
     ensures err { OnErr result ((shown_of node.new ≡ shown_of node.old) × (registrar.new ≡ registrar.old)) }
 {

@@ -12,9 +12,9 @@ mod node;
 mod opening;
 mod parties;
 mod party;
+mod pending_deposit;
 mod refusing;
 mod stepping;
-mod undelivered;
 
 pub use node::Node;
 pub use parties::Parties;

@@ -15,11 +15,11 @@ ghost use Rattle.gm_member.specs.Held.{refresh_refused};
 ghost use Rattle.ring_parties.specs.Parties.{shown_of};
 ghost use Rattle.ring_parties.specs.Tried.{IsJudged};
 ghost use Rattle.ring_parties.specs.Acting.{IsReady};
-ghost use Rattle.ring_parties.specs.Looking.{first_of, to_post, kept_post, loose_seen, tidied, without_question};
+ghost use Rattle.ring_parties.specs.Looking.{first_of, to_deposit, pending_shown, replaced_seen, tidied, without_question};
 ghost use Rattle.ring_parties.specs.Looking.{HasLooked, makes_view, ask_refused, view_for, brought};
 
 use crate::node::{Node, drop_old_ins};
-use crate::undelivered::Undelivered;
+use crate::pending_deposit::PendingDeposit;
 use activity::Load;
 use gm_member::Ask;
 use group_view::{Answer, LinkName, Request, View};
@@ -29,13 +29,13 @@ use ring_names::{OutOfMemory, Reason};
 use ring_rules::Refused;
 
 /// An out end that its member has replaced, with the name of its link.
-pub(crate) type Loose = (LinkName, PlainOut<Load>);
+pub(crate) type Replaced = (LinkName, PlainOut<Load>);
 
 /// What a member that has another view hands on: the link that it opened, and the out end that it replaced.
 #[derive(Drop)]
 pub(crate) struct Looked {
-    pub(crate) opened: Option<Undelivered>,
-    pub(crate) loose: Option<Loose>,
+    pub(crate) opened: Option<PendingDeposit>,
+    pub(crate) replaced: Option<Replaced>,
 }
 
 /// The member reads a view, which isn't older than its own.
@@ -43,8 +43,8 @@ pub(crate) fn look(node: &mut Node, view: View) -> Result<Looked, OutOfMemory>
     requires ready { IsReady (shown_of node.old) }
     requires stands { is_in (shown_of node.old).held.id (ids view) ≡ true }
     requires allowed { refresh_refused (shown_of node.old).held view.version ≡ None }
-    ensures ok { IfOk result (λ l. HasLooked view (shown_of node.old) (shown_of node.new) (kept_post l.opened)
-        (loose_seen l.loose)) }
+    ensures ok { IfOk result (λ l. HasLooked view (shown_of node.old) (shown_of node.new) (pending_shown l.opened)
+        (replaced_seen l.replaced)) }
     ensures err { OnErr result (shown_of node.new ≡ shown_of node.old) }
 {
     match node.refresh(view) {
@@ -64,7 +64,7 @@ pub(crate) fn ask(
     requires here { AreHere (registrar.old).links }
     ensures judged { IsJudged (ask_refused registrar.old (shown_of node.old) what) result }
     ensures ok { IfOk result (λ l. HasLooked (view_for registrar.old (shown_of node.old).held.id what)
-        (shown_of node.old) (shown_of node.new) (kept_post l.opened) (loose_seen l.loose)) }
+        (shown_of node.old) (shown_of node.new) (pending_shown l.opened) (replaced_seen l.replaced)) }
     ensures registrar { OnOk result (registrar.new
         ≡ with_view registrar.old (view_for registrar.old (shown_of node.old).held.id what)) }
     ensures err { OnErr result ((shown_of node.new ≡ shown_of node.old) × (registrar.new ≡ registrar.old)) }
@@ -111,8 +111,8 @@ fn read_answer(node: &mut Node, view: View) -> Looked
     requires stands { is_in (shown_of node.old).held.id (ids view) ≡ true }
     requires spare { SpareIsReady (λ n o i. IsFreshPair n o i) (λ (o : Out Loaded). o.free)
         (λ (o : Out Loaded). o.ended) node.old }
-    ensures { HasLooked view (without_question (shown_of node.old)) (shown_of node.new) (kept_post result.opened)
-        (loose_seen result.loose) }
+    ensures { HasLooked view (without_question (shown_of node.old)) (shown_of node.new) (pending_shown result.opened)
+        (replaced_seen result.replaced) }
 {
     match node.answer(Answer::Viewed(view)) {
         Ok(requests) => hand_on(node, requests),
@@ -135,22 +135,22 @@ pub(crate) fn close(node: &mut Node)
 fn hand_on(node: &mut Node, requests: Vec<Request<PlainIn<Load>>>) -> Looked
     requires few { length (shown_of node.old).ends.old_outs ≤ 1 }
     ensures node { shown_of node.new ≡ tidied (shown_of node.old) }
-    ensures opened { kept_post result.opened ≡ to_post requests.items }
-    ensures loose { loose_seen result.loose ≡ first_of (shown_of node.old).ends.old_outs }
+    ensures opened { pending_shown result.opened ≡ to_deposit requests.items }
+    ensures replaced { replaced_seen result.replaced ≡ first_of (shown_of node.old).ends.old_outs }
 {
-    let loose = node.old_out();
+    let replaced = node.old_out();
     drop_old_ins(node);
     let opened = opened_by(requests);
-    Looked { opened, loose }
+    Looked { opened, replaced }
 }
 
 /// The link that is to wait at the registrar, if one is.
-fn opened_by(requests: Vec<Request<PlainIn<Load>>>) -> Option<Undelivered>
-    ensures { kept_post result ≡ to_post requests.items }
+fn opened_by(requests: Vec<Request<PlainIn<Load>>>) -> Option<PendingDeposit>
+    ensures { pending_shown result ≡ to_deposit requests.items }
 {
     let first = requests.into_iter().next()?;
     match first.into_link() {
-        Ok((name, link)) => Some(Undelivered { name, link }),
+        Ok((name, link)) => Some(PendingDeposit { name, link }),
         Err(_other) => None,
     }
 }

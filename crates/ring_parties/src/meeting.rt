@@ -1,21 +1,19 @@
 //! The ends of each link meet.
 ghost use Rattle.std.specs.Prelude.{◌≡◌, ◌+◌, ◌-◌, ◌≤◌, ◌<◌, ℕ, true, false, map, length, IfSome, IfNone, IsSome};
-ghost use Rattle.std.specs.Prelude.{List, None, Some, option_map, slice_index_or, slice_set};
-ghost use Rattle.group_view.specs.declared.link.LinkName.{LinkName};
+ghost use Rattle.std.specs.Prelude.{None, Some, slice_index_or, slice_set};
 ghost use Rattle.ring_rules.specs.Machine.{runs_phase};
-ghost use Rattle.registrar.specs.Registry.{name_in, end_in};
-ghost use Rattle.gm_member.specs.Shown.{in_name_of, out_name_of, in_end};
-ghost use Rattle.ring_parties.specs.Ends.{Fits, Meets, InSeen};
+ghost use Rattle.gm_member.specs.Shown.{out_name_of};
+ghost use Rattle.ring_parties.specs.Ends.{Fits, Meets};
 ghost use Rattle.ring_parties.specs.Parties.{shown_of, shown_in, out_seen, in_seen};
-ghost use Rattle.ring_parties.specs.Parties.{with_in, with_out, posted, no_shown};
+ghost use Rattle.ring_parties.specs.Parties.{with_out, deposit_shown, no_shown};
 ghost use Rattle.ring_parties.specs.Behind.{behind};
-ghost use Rattle.ring_parties.specs.Meeting.{IsToMeet, MeetsEnd, HasNone, NodeMayMeet, NodeMeets, PostMayMeet};
-ghost use Rattle.ring_parties.specs.Meeting.{PostMeets, NoneIsPosted, lent_out};
+ghost use Rattle.ring_parties.specs.Meeting.{HasNone, NodeMayMeet, NodeMeets, DepositsMayMeet};
+ghost use Rattle.ring_parties.specs.Meeting.{DepositMeets, NoneIsDeposited, lent_out};
 
 use crate::node::Node;
 use crate::parties::Parties;
 use crate::party::Party;
-use crate::undelivered::Undelivered;
+use crate::pending_deposit::PendingDeposit;
 use activity::Load;
 use group_view::LinkName;
 use ordered_link::{PlainIn, PlainOut, meet};
@@ -29,59 +27,6 @@ fn meet_two(out: &mut PlainOut<Load>, link: &mut PlainIn<Load>)
     meet(out, link);
 }
 
-/// Whether two names are one.
-fn is_same(one: &LinkName, other: &LinkName) -> bool
-    ensures same { result ≡ true → one.now ≡ other.now }
-    ensures differ { result ≡ false → one.now ≡ other.now → ⊥ }
-{
-    one == other
-}
-
-/// Whether the link to a member at a place has this name.
-fn is_named(node: &Node, place: usize, name: &LinkName) -> bool
-    ensures named { result ≡ true → in_name_of (shown_of node.now).held place ≡ Some name.now }
-    ensures other { result ≡ false → in_name_of (shown_of node.now).held place ≡ Some name.now → ⊥ }
-{
-    match node.name_at(place) {
-        Some(other) => is_same(&other, name),
-        None => false,
-    }
-}
-
-/// The place of the link of that name among those to a member, as `Node::name_at` counts them.
-#[tactic(auto, using(crate::proofs::meetings::Meets::none_further))]
-fn place_of(node: &Node, name: &LinkName) -> Option<usize>
-    ensures some { IfSome result (λ place. in_name_of (shown_of node.now).held place ≡ Some name.now) }
-    ensures none { IfNone result (HasNone (shown_of node.now).held name.now) }
-{
-    if is_named(node, 0, name) {
-        return Some(0);
-    }
-    let mut place = 1;
-    while node.name_at(place).is_some() {
-        if is_named(node, place, name) {
-            return Some(place);
-        }
-        place += 1;
-    }
-    None
-}
-
-/// Lets an out end meet the end of the link to a member at a place.
-fn meet_at(node: &mut Node, place: usize, out: &mut PlainOut<Load>)
-    requires stands { IsSome (in_name_of (shown_of node.old).held place) }
-    requires may { IsToMeet (out_seen out.old) (in_end (shown_of node.old).ends place) }
-    ensures { (met : InSeen)
-        × MeetsEnd (out_seen out.old) (in_end (shown_of node.old).ends place) (out_seen out.new) met
-        × (shown_of node.new ≡ with_in (shown_of node.old) place met) }
-{
-    let Some(mut link) = node.lend_at(place) else {
-        unreachable!()
-    };
-    meet_two(out, &mut link);
-    node.give_at(place, link);
-}
-
 /// Lets an out end meet the end of the link of that name to a member: whether there is one.
 fn meet_node(node: &mut Node, out: &mut PlainOut<Load>, name: &LinkName) -> bool
     requires { NodeMayMeet (shown_of node.old) name.now (out_seen out.old) }
@@ -91,98 +36,57 @@ fn meet_node(node: &mut Node, out: &mut PlainOut<Load>, name: &LinkName) -> bool
     ensures same { result ≡ false → shown_of node.new ≡ shown_of node.old }
     ensures out { result ≡ false → out_seen out.new ≡ out_seen out.old }
 {
-    match place_of(node, name) {
-        Some(place) => {
-            meet_at(node, place, out);
-            true
-        }
-        None => false,
-    }
-}
-
-/// Whether the link that waits at a place has this name.
-fn is_posted(registrar: &Registrar<PlainIn<Load>>, place: usize, name: &LinkName) -> bool
-    ensures named { result ≡ true → name_in registrar.now place ≡ Some name.now }
-    ensures other { result ≡ false → name_in registrar.now place ≡ Some name.now → ⊥ }
-{
-    match registrar.name_at(place) {
-        Some(other) => is_same(&other, name),
-        None => false,
-    }
-}
-
-/// The place of the link of that name among those that wait at the registrar.
-#[tactic(auto, using(crate::proofs::meetings::Meets::none_waits_further))]
-fn place_at(registrar: &Registrar<PlainIn<Load>>, name: &LinkName) -> Option<usize>
-    ensures some { IfSome result (λ place. name_in registrar.now place ≡ Some name.now) }
-    ensures none { IfNone result (NoneIsPosted (map posted registrar.now.links) name.now) }
-{
-    for place in 0..registrar.waiting() {
-        if is_posted(registrar, place, name) {
-            return Some(place);
-        }
-    }
-    None
-}
-
-/// Lets an out end meet the end of the link that waits at a place.
-fn meet_waiting(registrar: &mut Registrar<PlainIn<Load>>, place: usize, out: &mut PlainOut<Load>)
-    requires stands { IsSome (name_in registrar.old place) }
-    requires may { IsToMeet (out_seen out.old) (option_map in_seen (end_in registrar.old place)) }
-    ensures met { (name : LinkName) → name_in registrar.old place ≡ Some name
-        → PostMeets (map posted registrar.old.links) name (out_seen out.old)
-        (map posted registrar.new.links) (out_seen out.new) }
-    ensures same { (registrar.new.views ≡ registrar.old.views)
-        × (registrar.new.stopped ≡ registrar.old.stopped) }
-{
-    let Some(mut link) = registrar.lend_at(place) else {
-        unreachable!()
+    let Some(mut link) = node.lend(name) else {
+        return false;
     };
     meet_two(out, &mut link);
-    registrar.give_at(place, link);
+    node.give(name, link);
+    true
 }
 
 /// Lets an out end meet the end of the link of that name that waits at the registrar: whether there is one.
-#[tactic(auto, using(crate::proofs::meetings::Meets::may_meet_waiting))]
-fn meet_posted(
+fn meet_deposit(
     registrar: &mut Registrar<PlainIn<Load>>,
     out: &mut PlainOut<Load>,
     name: &LinkName,
 ) -> bool
-    requires { PostMayMeet (map posted registrar.old.links) name.now (out_seen out.old) }
-    ensures met { result ≡ true → PostMeets (map posted registrar.old.links) name.now
-        (out_seen out.old) (map posted registrar.new.links) (out_seen out.new) }
-    ensures none { result ≡ false → NoneIsPosted (map posted registrar.old.links) name.now }
+    requires { DepositsMayMeet (map deposit_shown registrar.old.links) name.now (out_seen out.old) }
+    ensures met { result ≡ true → DepositMeets (map deposit_shown registrar.old.links) name.now
+        (out_seen out.old) (map deposit_shown registrar.new.links) (out_seen out.new) }
+    ensures none { result ≡ false → NoneIsDeposited (map deposit_shown registrar.old.links) name.now }
     ensures still { result ≡ false → registrar.new ≡ registrar.old }
     ensures out { result ≡ false → out_seen out.new ≡ out_seen out.old }
     ensures same { (registrar.new.views ≡ registrar.old.views)
         × (registrar.new.stopped ≡ registrar.old.stopped) }
 {
-    match place_at(registrar, name) {
-        Some(place) => {
-            meet_waiting(registrar, place, out);
-            true
-        }
-        None => false,
-    }
+    let Some(mut link) = registrar.lend(name) else {
+        return false;
+    };
+    meet_two(out, &mut link);
+    registrar.give(name, link);
+    true
 }
 
 /// Lets an out end meet the end of a link that hasn't reached the registrar, where it has that name: whether it has.
-fn meet_late(late: &mut Option<Undelivered>, out: &mut PlainOut<Load>, name: &LinkName) -> bool
-    requires { PostMayMeet (behind late.old) name.now (out_seen out.old) }
-    ensures met { result ≡ true → PostMeets (behind late.old) name.now
-        (out_seen out.old) (behind late.new) (out_seen out.new) }
-    ensures none { result ≡ false → NoneIsPosted (behind late.old) name.now }
-    ensures still { result ≡ false → behind late.new ≡ behind late.old }
+fn meet_pending(
+    pending_deposit: &mut Option<PendingDeposit>,
+    out: &mut PlainOut<Load>,
+    name: &LinkName,
+) -> bool
+    requires { DepositsMayMeet (behind pending_deposit.old) name.now (out_seen out.old) }
+    ensures met { result ≡ true → DepositMeets (behind pending_deposit.old) name.now
+        (out_seen out.old) (behind pending_deposit.new) (out_seen out.new) }
+    ensures none { result ≡ false → NoneIsDeposited (behind pending_deposit.old) name.now }
+    ensures still { result ≡ false → behind pending_deposit.new ≡ behind pending_deposit.old }
     ensures out { result ≡ false → out_seen out.new ≡ out_seen out.old }
 {
-    let Some(undelivered) = late else {
+    let Some(pending) = pending_deposit else {
         return false;
     };
-    if !is_same(&undelivered.name, name) {
+    if pending.name != *name {
         return false;
     }
-    meet_two(out, &mut undelivered.link);
+    meet_two(out, &mut pending.link);
     true
 }
 
@@ -243,8 +147,8 @@ impl Parties {
     ghost use Rattle.gm_member.specs.Shown.{in_name_of};
     ghost use Rattle.ring_parties.specs.Parties.{out_seen, node_at};
     ghost use Rattle.ring_parties.specs.Meeting.{MayMeet, MeetsIn, MayMeetOut, MeetsOut};
-    ghost use Rattle.ring_parties.specs.Loose.{IsMember, sender_in, SendersSomewhere, MeetsSenders, MovedSomewhere};
-    ghost use Rattle.ring_parties.specs.Loose.{MeetsMoved};
+    ghost use Rattle.ring_parties.specs.Replaced.{IsMember, sender_in, SendersSomewhere, MeetsSenders, MovedSomewhere};
+    ghost use Rattle.ring_parties.specs.Replaced.{MeetsMoved};
 
     /// Lets an out end meet the in end of the link of that name, wherever that stands. It takes no memory.
     pub(crate) fn meet_in(&mut self, out: &mut PlainOut<Load>, name: &LinkName)
@@ -255,10 +159,10 @@ impl Parties {
         if meet_member(&mut self.members, out, name) {
             return;
         }
-        if meet_posted(&mut self.registrar, out, name) {
+        if meet_deposit(&mut self.registrar, out, name) {
             return;
         }
-        meet_late(&mut self.late, out, name);
+        meet_pending(&mut self.pending_deposit, out, name);
     }
 
     /// Lets the out end of the member at a place meet the in end of its link, where it has one. It takes no memory.
@@ -279,7 +183,7 @@ impl Parties {
         requires { i < length (self.now).all.nodes }
         ensures { in_name_of (node_at (self.now).all i).held 0 ≡ result }
     {
-        self.members[i].node.name_at(0)
+        self.members[i].node.in_name(0)
     }
 
     /// Lets the out end of who sends on the link of that name meet its other end, where there is a name.

@@ -91,7 +91,7 @@ impl Parties {
         Ok(Parties {
             members,
             registrar,
-            late: None,
+            pending_deposit: None,
         })
     }
 }

@@ -6,7 +6,7 @@ ghost use Rattle.ring_parties.specs.Acting.{newest_of};
 
 use crate::node::Node;
 use crate::party::Party;
-use crate::undelivered::Undelivered;
+use crate::pending_deposit::PendingDeposit;
 use activity::Load;
 use group_view::View;
 use ordered_link::PlainIn;
@@ -21,7 +21,7 @@ use std::marker::Model;
 pub struct Parties {
     pub(crate) members: Vec<Party>,
     pub(crate) registrar: Registrar<PlainIn<Load>>,
-    pub(crate) late: Option<Undelivered>,
+    pub(crate) pending_deposit: Option<PendingDeposit>,
 }
 
 impl Model for Parties {

@@ -5,26 +5,23 @@ ghost use Rattle.ring_rules.specs.Kind.{kind_of, shown_kind};
 ghost use Rattle.ring_rules.specs.Event.{is_told as told, is_passing as passes};
 ghost use Rattle.ring_names.specs.declared.reason.Reason.{Reason};
 ghost use Rattle.gm_member.specs.Held.{up_refused, take_refused};
-ghost use Rattle.ring_parties.specs.Ends.{Sent};
+ghost use Rattle.ring_parties.specs.Ends.{PacketShown};
 ghost use Rattle.ring_parties.specs.Behind.{behind};
-ghost use Rattle.ring_parties.specs.Parties.{shown_of, content, posted};
+ghost use Rattle.ring_parties.specs.Parties.{shown_of, content, deposit_shown};
 ghost use Rattle.ring_parties.specs.Acting.{stop_refused, look_refused, packet_refused, link_end_refused};
 ghost use Rattle.ring_parties.specs.Acting.{grant_refused, step_refused, back_of, first_item as the_first};
 ghost use Rattle.ring_parties.specs.Refused.{first_for, admission_refused, client_refused, own_refused};
 
 use crate::node::Node;
 use crate::parties::Parties;
-use crate::undelivered::Undelivered;
+use crate::pending_deposit::PendingDeposit;
 use activity::Load;
 use gm_member::view_refusal;
-use group_view::{Request, View};
+use group_view::{MOST_MEMBERS, Request, View};
 use ordered_link::{Item, PlainIn};
 use registrar::Registrar;
 use ring_names::{Name, Reason};
 use ring_rules::{Client, Event, Kind, LinkStep, Phase, ViewChange};
-
-/// The most entries of a view.
-const MOST_MEMBERS: usize = 64;
 
 /// Why a member may not stop, of which no question is open.
 pub(crate) fn stop_refusal(node: &Node) -> Option<Reason>
@@ -151,7 +148,7 @@ fn no_link(node: &Node) -> Option<Reason>
     if let Some(reason) = stop_refusal(node) {
         return Some(reason);
     }
-    if node.name_at(0).is_none() {
+    if node.in_name(0).is_none() {
         return Some(Reason::NoCurrentLink);
     }
     None
@@ -160,7 +157,7 @@ fn no_link(node: &Node) -> Option<Reason>
 /// What stands first on the link from which a member takes.
 fn first_item(node: &Node) -> Option<&Item<Load>>
     ensures { MatchOption result (the_first (shown_of node.now).ends.link ≡ [])
-        (λ item. (rest : List (Option Sent)) × (the_first (shown_of node.now).ends.link ≡ content item.now ∷ rest)) }
+        (λ item. (rest : List (Option PacketShown)) × (the_first (shown_of node.now).ends.link ≡ content item.now ∷ rest)) }
 {
     node.link_end()?.first()
 }
@@ -261,8 +258,8 @@ fn is_no_link(refusal: &Option<Reason>) -> bool
 }
 
 /// The version in which the first link at the registrar opened that comes for a member from its left neighbour.
-fn first_posted(registrar: &Registrar<PlainIn<Load>>, node: &Node) -> Option<u32>
-    ensures { result ≡ first_for (shown_of node.now).held (map posted registrar.now.links) }
+fn first_deposited(registrar: &Registrar<PlainIn<Load>>, node: &Node) -> Option<u32>
+    ensures { result ≡ first_for (shown_of node.now).held (map deposit_shown registrar.now.links) }
 {
     for place in 0..registrar.waiting() {
         let Some(name) = registrar.name_at(place) else {
@@ -276,11 +273,11 @@ fn first_posted(registrar: &Registrar<PlainIn<Load>>, node: &Node) -> Option<u32
 }
 
 /// The same of a link that hasn't reached the registrar.
-fn first_late(late: &Option<Undelivered>, node: &Node) -> Option<u32>
-    ensures { result ≡ first_for (shown_of node.now).held (behind late.now) }
+fn first_pending(pending_deposit: &Option<PendingDeposit>, node: &Node) -> Option<u32>
+    ensures { result ≡ first_for (shown_of node.now).held (behind pending_deposit.now) }
 {
-    match late {
-        Some(undelivered) if node.comes_for(&undelivered.name) => Some(undelivered.name.view),
+    match pending_deposit {
+        Some(pending) if node.comes_for(&pending.name) => Some(pending.name.view),
         Some(_) | None => None,
     }
 }
@@ -295,7 +292,7 @@ impl Parties {
     ghost use Rattle.gm_member.specs.Questions.{has_link};
     ghost use Rattle.ring_parties.specs.Parties.{shown_of, node_at};
     ghost use Rattle.ring_parties.specs.Standing.{StandSomewhere};
-    ghost use Rattle.ring_parties.specs.Refused.{first_for, with_post, IsRefusalAt, IsRefusedAs};
+    ghost use Rattle.ring_parties.specs.Refused.{first_for, with_deposits, IsRefusalAt, IsRefusedAs};
 
     /// Why the event of the member at a place is refused, where it is: the first condition that fails. Links that wait
     /// for the member count as if they had come to its door. An event of the queue is none of the parties yet, which keep
@@ -342,18 +339,18 @@ impl Parties {
 
     /// The version in which the first link that waits for a member opened and comes from its left neighbour.
     fn first_waiting(&self, node: &Node) -> Option<u32>
-        ensures { result ≡ first_for (shown_of node.now).held (self.now).all.post }
+        ensures { result ≡ first_for (shown_of node.now).held (self.now).all.deposits }
     {
-        match first_posted(&self.registrar, node) {
+        match first_deposited(&self.registrar, node) {
             Some(version) => Some(version),
-            None => first_late(&self.late, node),
+            None => first_pending(&self.pending_deposit, node),
         }
     }
 
     /// Why the member at a place may pick no link, with those at its door that wait for it.
     fn pick_refusal(&self, i: usize) -> Option<Reason>
         requires { i < length (self.now).all.nodes }
-        ensures { result ≡ pick_refused (with_post (node_at (self.now).all i).held (self.now).all.post) }
+        ensures { result ≡ pick_refused (with_deposits (node_at (self.now).all i).held (self.now).all.deposits) }
     {
         let node = &self.members[i].node;
         let refusal = node.pick_refusal();
@@ -365,7 +362,7 @@ impl Parties {
 
     /// Why a member that takes from no link, and has none at its door to pick, may pick none that waits for it.
     fn waiting_refusal(&self, node: &Node) -> Option<Reason>
-        ensures { result ≡ on_some (first_for (shown_of node.now).held (self.now).all.post) Reason.NoLinkAtDoor
+        ensures { result ≡ on_some (first_for (shown_of node.now).held (self.now).all.deposits) Reason.NoLinkAtDoor
             (λ opened. version_refusal opened (shown_of node.now).held.view.version) }
     {
         let Some(need) = self.first_waiting(node) else {
@@ -382,7 +379,7 @@ impl Parties {
     fn has_link(&self, i: usize) -> bool
         requires within { i < length (self.now).all.nodes }
         requires up { up_refused (node_at (self.now).all i).held None ≡ None }
-        ensures { result ≡ has_link (with_post (node_at (self.now).all i).held (self.now).all.post) }
+        ensures { result ≡ has_link (with_deposits (node_at (self.now).all i).held (self.now).all.deposits) }
     {
         !is_no_link(&self.pick_refusal(i))
     }

@@ -4,9 +4,9 @@ ghost use Rattle.std.specs.Prelude.{Some, vec_len, vec_capacity};
 ghost use Rattle.registrar.specs.Registry.{AreHere, is_known};
 ghost use Rattle.registrar.specs.Handled.{with_link};
 
-use crate::looking::Loose;
+use crate::looking::Replaced;
 use crate::parties::Parties;
-use crate::undelivered::Undelivered;
+use crate::pending_deposit::PendingDeposit;
 use activity::Load;
 use group_view::{LinkName, Request};
 use ordered_link::PlainIn;
@@ -76,8 +76,8 @@ impl Parties {
     ghost use Rattle.ring_parties.specs.Parties.{node_at};
     ghost use Rattle.ring_parties.specs.Tried.{IsJudged};
     ghost use Rattle.ring_parties.specs.Standing.{StandAfter, StandSomewhere};
-    ghost use Rattle.ring_parties.specs.Loose.{BetweenSomewhere, MeetsLoose};
-    ghost use Rattle.ring_parties.specs.Looking.{loose_seen};
+    ghost use Rattle.ring_parties.specs.Replaced.{BetweenSomewhere, MeetsReplaced};
+    ghost use Rattle.ring_parties.specs.Looking.{replaced_seen};
     ghost use Rattle.ring_parties.specs.Refused.{id_named, NothingWaits};
 
     /// The event of the member at a place happens, where it is enabled, and joins the journal. A refusal changes
@@ -157,8 +157,8 @@ impl Parties {
         ensures err { OnErr result (self.new ≡ self.old) }
     {
         match self.act(credit, i, event) {
-            Ok(loose) => {
-                self.meet_loose(loose);
+            Ok(replaced) => {
+                self.meet_replaced(replaced);
                 self.meet_moved(i);
                 Ok(())
             }
@@ -168,11 +168,11 @@ impl Parties {
     }
 
     /// An out end that was just replaced meets its other end for the last time, and is dropped.
-    fn meet_loose(&mut self, loose: Option<Loose>)
-        requires { BetweenSomewhere (self.old).all (loose_seen loose) }
-        ensures { MeetsLoose (self.old).all (loose_seen loose) (self.new).all }
+    fn meet_replaced(&mut self, replaced: Option<Replaced>)
+        requires { BetweenSomewhere (self.old).all (replaced_seen replaced) }
+        ensures { MeetsReplaced (self.old).all (replaced_seen replaced) (self.new).all }
     {
-        let Some((name, mut out)) = loose else {
+        let Some((name, mut out)) = replaced else {
             return;
         };
         self.meet_in(&mut out, &name);
@@ -185,13 +185,13 @@ impl Parties {
         ensures ok { OnOk result ((self.new).owes ≡ false) }
         ensures owes { OnErr result (((self.old).owes ≡ true) × ((self.new).owes ≡ true)) }
     {
-        let Some(Undelivered { name, link }) = self.late.take() else {
+        let Some(PendingDeposit { name, link }) = self.pending_deposit.take() else {
             return Ok(());
         };
         match deposit(&mut self.registrar, name, link) {
             Ok(()) => Ok(()),
             Err(link) => {
-                self.late = Some(Undelivered { name, link });
+                self.pending_deposit = Some(PendingDeposit { name, link });
                 Err(OutOfMemory)
             }
         }

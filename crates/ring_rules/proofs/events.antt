@@ -3,6 +3,8 @@ pub mod Cases
 pub mod Composed
 pub mod Enabled
 pub mod First
+pub mod Found
+pub mod Kinds
 pub mod Leaves
 pub mod Names
 pub mod Parts

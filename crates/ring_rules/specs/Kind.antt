@@ -65,6 +65,11 @@ shown_kind Stops = shown.Stops
 shown_kind (Reads version) = shown.Reads version
 shown_kind (Tells code inner) = shown.Tells
 
+-- the body of the message of its member's own that an event of this kind publishes
+abbrev pub own_body_of : Kind → Option (List ℕ)
+own_body_of (Says (Own body)) = Some body
+own_body_of k = None
+
 -- what is done to a queue but for a publish, by an event of this kind
 abbrev pub asking_of : Kind → Option Asking
 asking_of (Says (OfQueue (Does a))) = Some a

@@ -73,7 +73,7 @@ pub enum Client {
 
 impl Client {
     ghost use Rattle.std.specs.Prelude.{◌≡◌, IfOk};
-    ghost use Rattle.ring_rules.specs.Event.{asked_of};
+    ghost use Rattle.ring_rules.specs.Event.{asked_of, event_of};
 
     /// The name of the member of which it is asked.
     pub fn by(&self) -> &Name
@@ -88,6 +88,31 @@ impl Client {
             Client::Requeue { by, at: _ } => by,
             Client::Stop { by } => by,
             Client::Admit { by, name: _ } => by,
+        }
+    }
+
+    /// The event by which the member does it.
+    pub fn event(&self) -> Result<Event, OutOfMemory>
+        ensures { IfOk result (λ event. event ≡ event_of self.now) }
+    {
+        match self {
+            Client::Cast { by, body } => Ok(Event::Cast {
+                by: *by,
+                body: body.copy()?,
+            }),
+            Client::Publish { by, body } => Ok(Event::Publish {
+                by: *by,
+                body: body.copy()?,
+            }),
+            Client::Get { by } => Ok(Event::Get { by: *by }),
+            Client::Pop { by } => Ok(Event::Pop { by: *by }),
+            Client::Ack { by, at } => Ok(Event::Ack { by: *by, at: *at }),
+            Client::Requeue { by, at } => Ok(Event::Requeue { by: *by, at: *at }),
+            Client::Stop { by } => Ok(Event::Stop { by: *by }),
+            Client::Admit { by, name } => Ok(Event::Admit {
+                by: *by,
+                name: *name,
+            }),
         }
     }
 

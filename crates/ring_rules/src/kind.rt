@@ -3,7 +3,7 @@ ghost use Rattle.std.specs.Prelude.{◌≡◌};
 ghost use Rattle.ring_rules.specs.Kind.{kind_of, asking_of, client_asking_of, shown_kind, step_event};
 
 use crate::event::{Client, Event};
-use ring_names::{Name, Position};
+use ring_names::{Body, Name, Position};
 
 /// What is done to a queue but for a publish, where its master is asked to or by itself.
 #[derive(Clone, Copy, PartialEq, Eq, Debug)]
@@ -83,8 +83,8 @@ impl LinkStep {
 }
 
 impl Event {
-    ghost use Rattle.std.specs.Prelude.{◌≡◌};
-    ghost use Rattle.ring_rules.specs.Kind.{kind_of, asking_of, shown_kind};
+    ghost use Rattle.std.specs.Prelude.{◌≡◌, None, Some, MatchOption};
+    ghost use Rattle.ring_rules.specs.Kind.{kind_of, own_body_of, asking_of, shown_kind};
 
     /// What the event is, whoever does it.
     pub fn kind(&self) -> Kind
@@ -106,6 +106,17 @@ impl Event {
             Event::Stop { .. } => Kind::Stops,
             Event::Refresh { view, .. } => Kind::Reads(*view),
             Event::Refuse { .. } => Kind::Tells,
+        }
+    }
+
+    /// The body of the message of its member's own that it publishes, if it publishes one.
+    pub fn own_body(&self) -> Option<&Body>
+        ensures { MatchOption result (own_body_of (kind_of self.now) ≡ None)
+            (λ body. own_body_of (kind_of self.now) ≡ Some body.now) }
+    {
+        match self {
+            Event::Cast { body, .. } => Some(body),
+            _ => None,
         }
     }
 

@@ -3,6 +3,7 @@ use Rattle.std.specs.Prelude.{◌≡◌, ℕ, Bool, true, false, ◌&&◌, ◌||
 use Rattle.std.specs.List.{list_all, list_any, slice_index, slice_index_or}
 use Rattle.std.specs.Option.{option_or}
 use Rattle.ring_names.specs.Name.{name_or_fault}
+use Rattle.group_view.specs.Change.{most_entries}
 use Rattle.ring_script.specs.declared.fault.Kind.{Kind}
 use Rattle.ring_script.specs.declared.fault.Kind.TheVariants.{NotText, LineTooLong, MissingWord, ExtraWord, BadNumber, BadName, UnknownName, NameTaken, TooManyMembers, BodyTooLong, NoMembers, Misplaced}
 use Rattle.ring_script.specs.declared.line.Head.{Head}
@@ -54,10 +55,6 @@ body_in rest = behind_space (behind_word rest)
 -- how many bytes a line has at most
 abbrev pub most_line_bytes : ℕ
 most_line_bytes = 2000
-
--- how many members there are at most
-abbrev pub most_names : ℕ
-most_names = 64
 
 -- how many bytes a body has at most
 abbrev pub most_body_bytes : ℕ
@@ -125,7 +122,7 @@ abbrev pub further_fault : List (List ℕ) → List ℕ → Option Kind
 further_fault names word =
     if not (is_name word) then Some BadName
     else (if is_among names word then Some NameTaken
-    else (if nat_le most_names (length names) then Some TooManyMembers
+    else (if nat_le most_entries (length names) then Some TooManyMembers
     else None))
 
 -- the first fault among words as further names behind these

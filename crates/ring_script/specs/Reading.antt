@@ -3,9 +3,9 @@ use Rattle.std.specs.Prelude.{◌≡◌, ◌⊎◌, ℕ, ◌+◌, ◌<◌, ◌�
 use Rattle.std.specs.List.{filter, flat_map, enumerate_from, slice_index_or}
 use Rattle.ring_names.specs.Name.{IsName}
 use Rattle.ring_names.specs.Body.{IsBody}
+use Rattle.group_view.specs.Change.{AreOpeningNames, most_entries}
 use Rattle.ring_rules.specs.declared.event.Event.{Event}
 use Rattle.ring_rules.specs.Event.{is_multicast}
-use Rattle.ring_rules.specs.Rows.{AreOpeningNames}
 use Rattle.ring_script.specs.declared.command.Command.{Command}
 use Rattle.ring_script.specs.declared.command.Command.TheVariants as command
 use Rattle.ring_script.specs.declared.fault.Kind.{Kind}
@@ -17,7 +17,7 @@ use Rattle.ring_script.specs.declared.line.Next.TheVariants as next
 use Rattle.ring_script.specs.declared.text.Text.{Text}
 use Rattle.ring_script.specs.Words.{lines_of, words_of, first_word, behind_word}
 use Rattle.ring_script.specs.Fault.{code_of}
-use Rattle.ring_script.specs.Line.{Grammar, is_skipped, head_in, is_statement, credit_in, most_names, fault_of}
+use Rattle.ring_script.specs.Line.{Grammar, is_skipped, head_in, is_statement, credit_in, fault_of}
 use Rattle.ring_script.specs.Script.{script_grammar, command_of, joined_by, joined, most_turns}
 use Rattle.ring_script.specs.Steps.{step_grammar, event_of}
 
@@ -168,4 +168,4 @@ commands_of script = map (λ line. line.1) script.lines
 pub record IsPlayable (script : Text Command) : Type 0 where
   pub opens : CanOpen script.members
   pub commands : MayEachBeGiven script.members (commands_of script)
-  pub few : length (script.members ++ joined (commands_of script)) ≤ most_names
+  pub few : length (script.members ++ joined (commands_of script)) ≤ most_entries

@@ -1,6 +1,6 @@
 -- What a line of a step file says behind the opening ones, and what is wrong with it. Its names need only be names: who
 -- plays the event says whether they are the ring's.
-use Rattle.std.specs.Prelude.{ℕ, Bool, true, false, if◌then◌else◌, Option, Some, None, unwrap_or, option_and_then, List, [], ◌∷◌, codes, bytes_eq}
+use Rattle.std.specs.Prelude.{ℕ, Bool, true, false, not, if◌then◌else◌, Option, Some, None, unwrap_or, option_and_then, List, [], ◌∷◌, codes, bytes_eq}
 use Rattle.ring_rules.specs.declared.event.Client.{Client}
 use Rattle.ring_rules.specs.declared.event.Client.TheVariants as client
 use Rattle.ring_rules.specs.declared.event.Event.{Event}
@@ -11,21 +11,13 @@ use Rattle.ring_script.specs.declared.vocabulary.Word.{Word}
 use Rattle.ring_script.specs.declared.vocabulary.Word.TheVariants as word
 use Rattle.ring_script.specs.Words.{words_of, behind_word, number_of}
 use Rattle.ring_script.specs.Line.{Grammar, operand_in, second_in, name_fault}
-use Rattle.ring_script.specs.Vocabulary.{word_of, shape_of, event_said, client_said}
+use Rattle.ring_script.specs.Vocabulary.{word_of, is_of_queue, shape_of, event_said, client_said}
 pub use Rattle.ring_script.specs.Vocabulary.{most_code}
 use Rattle.ring_script.specs.Phrase.{refused_name_fault, phrase_fault, phrase_in}
 
--- step files have a word: each but those of the queue's events
+-- step files have a word: each but those of the queue
 abbrev pub is_step : Word → Bool
-is_step word.Publish = false
-is_step word.Get = false
-is_step word.Pop = false
-is_step word.Ack = false
-is_step word.Requeue = false
-is_step word.Depth = false
-is_step word.Start = false
-is_step word.Synced = false
-is_step w = true
+is_step w = not (is_of_queue w)
 
 -- they have it behind `refuse` too: what clients ask of the ring
 abbrev pub is_asked_step : Word → Bool

@@ -1,5 +1,6 @@
--- The words of the ring's texts: how each is written, what stands behind the member's name, and what a phrase tells.
-use Rattle.std.specs.Prelude.{ℕ, Option, Some, None, option_and_then, List, [], ◌∷◌, find, codes, bytes_eq}
+-- The words of the ring's texts: how each is written, whether it is of the queue, what stands behind the member's name, and
+-- what a phrase tells.
+use Rattle.std.specs.Prelude.{ℕ, Bool, true, false, Option, Some, None, option_and_then, List, [], ◌∷◌, find, codes, bytes_eq}
 use Rattle.ring_names.specs.declared.numbers.Position.{Position}
 use Rattle.ring_rules.specs.declared.event.Client.{Client}
 use Rattle.ring_rules.specs.declared.event.Client.TheVariants as client
@@ -46,6 +47,18 @@ all_words =
 -- the word that is written so
 abbrev pub word_of : List ℕ → Option Word
 word_of text = find (λ w. bytes_eq text (text_of w)) all_words
+
+-- whether it is of the queue that stands on the ring, and not of the ring alone
+abbrev pub is_of_queue : Word → Bool
+is_of_queue word.Publish = true
+is_of_queue word.Get = true
+is_of_queue word.Pop = true
+is_of_queue word.Ack = true
+is_of_queue word.Requeue = true
+is_of_queue word.Depth = true
+is_of_queue word.Start = true
+is_of_queue word.Synced = true
+is_of_queue w = false
 
 -- what stands behind the member's name
 abbrev pub shape_of : Word → Shape

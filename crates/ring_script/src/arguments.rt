@@ -1,16 +1,17 @@
 //! The words behind the first of a line.
-ghost use Rattle.std.specs.Prelude.{◌≡◌, ◌∷◌, ◌<◌, ◌↔◌, ℕ, List, Option, true, false, not, Some, None, Ok, Err, IfOk};
-ghost use Rattle.std.specs.Prelude.{OnOk, IfSome, IfErr, is_some, unwrap_or, length, [], IsTrue};
-ghost use Rattle.std.specs.List.{list_all, list_any, slice_index_or};
-ghost use Rattle.ring_script.specs.Words.{is_text_byte, words_of, first_word, behind_word, number_of};
+ghost use Rattle.std.specs.Prelude.{◌≡◌, ◌∷◌, ◌<◌, ℕ, List, Option, true, Some, None, Ok, Err, IfOk};
+ghost use Rattle.std.specs.Prelude.{OnOk, IfSome, IfErr, is_some, []};
+ghost use Rattle.std.specs.List.{list_all};
+ghost use Rattle.ring_script.specs.Words.{is_text_byte, words_of, number_of};
 ghost use Rattle.ring_script.specs.Place.{left_in};
 ghost use Rattle.ring_script.specs.Fault.{Tells};
 ghost use Rattle.ring_script.specs.Line.{credit_in, is_among, name_fault, known_fault, number_fault, further_fault};
-ghost use Rattle.ring_script.specs.Line.{names_fault, members_fault, are_credit, credit_fault, body_fault, no_word};
+ghost use Rattle.ring_script.specs.Line.{members_fault, are_credit, credit_fault, body_fault, no_word};
 ghost use Rattle.ring_script.specs.Line.{one_word, two_words, most_credit};
 
 use crate::fault::{Kind, LineFault};
 use crate::words::{Words, number};
+use group_view::MOST_MEMBERS;
 use ring_names::{Body, BodyFault, CreditSpec, Name};
 use std::alloc::Global;
 
@@ -42,7 +43,7 @@ pub fn further_name(names: &[Name], word: &[u8]) -> Result<Name, Kind>
     if is_known(names, word) {
         return Err(Kind::NameTaken);
     }
-    if names.len() >= 64 {
+    if names.len() >= MOST_MEMBERS {
         return Err(Kind::TooManyMembers);
     }
     Ok(name)

@@ -1,5 +1,5 @@
 //! What can be wrong with a line.
-ghost use Rattle.std.specs.Prelude.{◌≡◌, OnErr};
+ghost use Rattle.std.specs.Prelude.{◌≡◌};
 ghost use Rattle.ring_script.specs.declared.fault.LineFault.TheVariants.{Wrong};
 ghost use Rattle.ring_script.specs.Fault.{code_of, told_at};
 

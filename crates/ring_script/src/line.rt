@@ -1,7 +1,7 @@
 //! One line of a script or a step file.
 ghost use Rattle.std.specs.Prelude.{◌≡◌, ◌==◌, true, IfOk};
 ghost use Rattle.std.specs.List.{list_all, slice_index};
-ghost use Rattle.ring_script.specs.Words.{is_text_byte, is_blank, words_of, first_word, behind_word};
+ghost use Rattle.ring_script.specs.Words.{is_text_byte, is_blank, first_word, behind_word};
 ghost use Rattle.ring_script.specs.Place.{left_in};
 ghost use Rattle.ring_script.specs.Fault.{Tells};
 ghost use Rattle.ring_script.specs.Line.{is_skipped, head_of, head_in, text_fault, fault_by, Says};

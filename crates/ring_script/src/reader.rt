@@ -1,5 +1,5 @@
 //! A text, line by line.
-ghost use Rattle.std.specs.Prelude.{◌≡◌, ℕ, List, ◌∷◌, ◌++◌, [], Some, None, IfOk, OnOk, IfErr, OnErr, length, take};
+ghost use Rattle.std.specs.Prelude.{◌≡◌, ℕ, List, ◌∷◌, ◌++◌, [], Some, None, IfOk, OnOk, IfErr, length, take};
 ghost use Rattle.std.specs.Prelude.{◌<◌};
 ghost use Rattle.std.specs.Option.{option_to_list};
 ghost use Rattle.ring_script.specs.Words.{first_word, behind_word};

@@ -43,29 +43,12 @@ impl Statement for Event {
     }
 }
 
-/// The word that the text is, if step files have it for an event.
+/// The word that the text is, if step files have it for an event: not yet where it is of the queue.
 fn step_word(text: &[u8]) -> Option<Word>
     ensures { result ≡ word_among is_step text.now }
 {
     let word = Word::of(text)?;
-    if is_of_steps(word) { Some(word) } else { None }
-}
-
-/// Whether step files have the word: not yet those of the queue's events.
-fn is_of_steps(word: Word) -> bool
-    ensures { result ≡ is_step word }
-{
-    !matches!(
-        word,
-        Word::Publish
-            | Word::Get
-            | Word::Pop
-            | Word::Ack
-            | Word::Requeue
-            | Word::Depth
-            | Word::Start
-            | Word::Synced
-    )
+    if word.is_of_queue() { None } else { Some(word) }
 }
 
 /// The word that the text is, if step files have it for what a client asked.

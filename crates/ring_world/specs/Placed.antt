@@ -35,14 +35,24 @@ pub record IsReady (w : World) : Type 0 where
   pub syncs : (x : ℕ) → (member_at w x).phase ≡ Up → synced_refusal w x ≡ None → newest w < 256
   pub admits : (x : ℕ) (name : List ℕ) → (member_at w x).phase ≡ Up → admit_refusal w name ≡ None → newest w < 256
 
--- a member that is up stands at this place of the structs
+-- a member stands at this place of the structs
+pub record IsPlacedAt (r : Ring) (i : ℕ) : Type 0 where
+  pub placed : IsPlaced (world_of r)
+  pub place : i < length r.members.items
+
+-- where the state is ready
+pub record IsReadyAt (r : Ring) (i : ℕ) : Type 0 where
+  pub ready : IsReady (world_of r)
+  pub place : i < length r.members.items
+
+-- a member that is up
 pub record IsUpAt (r : Ring) (i : ℕ) : Type 0 where
   pub placed : IsPlaced (world_of r)
-  pub place : i < length r.seats.items
+  pub place : i < length r.members.items
   pub up : (member_at (world_of r) (suc i)).phase ≡ Up
 
 -- one that runs
 pub record IsRunningAt (r : Ring) (i : ℕ) : Type 0 where
   pub placed : IsPlaced (world_of r)
-  pub place : i < length r.seats.items
+  pub place : i < length r.members.items
   pub runs : runs (world_of r) (suc i) ≡ true

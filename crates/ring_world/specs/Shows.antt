@@ -10,11 +10,11 @@ use Rattle.queue_laws.specs.Starting.{is_start}
 use Rattle.ring_names.specs.declared.numbers.CreditSpec.{CreditSpec}
 use Rattle.ring_rules.specs.Rows.{Row, Flow, no_row, full_flow, regained, brought}
 use Rattle.group_view.specs.Since.{no_group}
-use Rattle.ring_world.specs.declared.seat.KnownOrigin.{KnownOrigin}
-use Rattle.ring_world.specs.declared.seat.Seat.{Seat}
-use Rattle.ring_world.specs.declared.seat.Brought.{Brought}
-use Rattle.ring_world.specs.declared.wire.Packet as wire
-use Rattle.ring_world.specs.declared.wire.Wire.{Wire}
+use Rattle.ring_world.specs.declared.plain_member.KnownOrigin.{KnownOrigin}
+use Rattle.ring_world.specs.declared.plain_member.PlainMember.{PlainMember}
+use Rattle.ring_world.specs.declared.plain_member.Brought.{Brought}
+use Rattle.ring_world.specs.declared.plain_link.Packet as plain
+use Rattle.ring_world.specs.declared.plain_link.PlainLink.{PlainLink}
 use Rattle.ring_world.specs.declared.state.Ring.{Ring}
 use Rattle.group_view.specs.View.{Group}
 use Rattle.ring_rules.specs.Machine.{Packet, Member, Sending, Link, World, no_member, no_link, no_sending, row_at, numbers_at}
@@ -25,7 +25,7 @@ abbrev pub row_of : KnownOrigin → Row
 row_of r = record { got = r.got; forgot = r.forgot; retired = r.retired; heard = r.heard.items; base = r.base; born = r.born }
 
 -- a member
-abbrev pub member_of : Seat → Member
+abbrev pub member_of : PlainMember → Member
 member_of n = record {
   name = n.name;
   phase = n.phase;
@@ -41,11 +41,11 @@ member_of n = record {
 }
 
 -- a packet
-abbrev pub packet_of : wire.Packet → Packet
+abbrev pub packet_of : plain.Packet → Packet
 packet_of k = record { version = k.version; numbers = k.numbers.items }
 
 -- the credit of a link
-abbrev pub flow_of : Wire → Flow
+abbrev pub flow_of : PlainLink → Flow
 flow_of l = record { sender = l.outgoing; receiver = l.incoming; grants = l.grants.items }
 
 -- the operation that a message is, if it is one
@@ -63,7 +63,7 @@ followed (Some o) y = record y {
 }
 
 -- a link
-abbrev pub link_of : Wire → Link
+abbrev pub link_of : PlainLink → Link
 link_of l = record {
   sender = l.sender;
   receiver = l.receiver;
@@ -79,8 +79,8 @@ link_of l = record {
 -- a state of the ring; before its members and views stands nobody
 abbrev pub world_of : Ring → World
 world_of r = record {
-  members = no_member ∷ map member_of r.seats.items;
-  links = map link_of r.wires.items;
+  members = no_member ∷ map member_of r.members.items;
+  links = map link_of r.links.items;
   views = no_group ∷ r.views.items;
   initial = r.credit.initial;
   more = r.credit.more;
@@ -91,12 +91,12 @@ abbrev pub row_in : List KnownOrigin → ℕ → Row
 row_in rows p = slice_index_or (map row_of rows) p no_row
 
 -- the member at a place
-abbrev pub member_in : List Seat → ℕ → Member
-member_in seats i = slice_index_or (map member_of seats) i no_member
+abbrev pub member_in : List PlainMember → ℕ → Member
+member_in members i = slice_index_or (map member_of members) i no_member
 
 -- the link at a place
-abbrev pub link_in : List Wire → ℕ → Link
-link_in wires i = slice_index_or (map link_of wires) i no_link
+abbrev pub link_in : List PlainLink → ℕ → Link
+link_in links i = slice_index_or (map link_of links) i no_link
 
 -- how many messages more a row has room for
 abbrev pub room_of : KnownOrigin → ℕ

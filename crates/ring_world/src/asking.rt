@@ -1,14 +1,14 @@
 //! What is asked of a master, and what it does to its queue by itself: each is an operation that it publishes.
-ghost use Rattle.std.specs.Prelude.{◌≡◌, ◌<◌, ℕ, List, suc, length, None, Ok, OnOk, OnErr};
+ghost use Rattle.std.specs.Prelude.{◌≡◌, ℕ, List, suc, None, Ok, OnOk, OnErr};
 ghost use Rattle.ring_rules.specs.Refusal.{answer_of};
 ghost use Rattle.ring_rules.specs.Kind.{Publishes, Does};
 ghost use Rattle.ring_rules.specs.Event.{asked_op, op_as, op_done, op_refusal, up_refusal};
-ghost use Rattle.ring_world.specs.Placed.{IsPlaced, IsUpAt};
+ghost use Rattle.ring_world.specs.Placed.{IsPlacedAt, IsUpAt};
 ghost use Rattle.ring_world.specs.Shows.{world_of, member_of};
 
 use crate::arms;
 use crate::neighbours::{id_at, view_at_place};
-use crate::seat::Seat;
+use crate::plain_member::PlainMember;
 use crate::state::Ring;
 use group_view::View;
 use queue_core::{Message, Op};
@@ -17,28 +17,28 @@ use ring_names::{Body, MemberId, OutOfMemory, Reason};
 use ring_rules::Asking;
 
 /// The operation by which a member does it in this view, or the first condition that fails.
-fn answered(seat: &Seat, view: &View, me: MemberId, asking: Asking) -> Result<Op, Reason>
-    ensures { result ≡ asked_op (member_of seat.now).mirror view.now me.0 (member_of seat.now).started
+fn answered(member: &PlainMember, view: &View, me: MemberId, asking: Asking) -> Result<Op, Reason>
+    ensures { result ≡ asked_op (member_of member.now).mirror view.now me.0 (member_of member.now).started
         (Does asking) }
 {
     match asking {
-        Asking::Get => Master::get(&seat.mirror, view, me, seat.started),
-        Asking::Pop => Master::pop(&seat.mirror, view, me, seat.started),
-        Asking::Ack(at) => Master::ack(&seat.mirror, view, me, seat.started, at),
-        Asking::Requeue(at) => Master::requeue(&seat.mirror, view, me, seat.started, at),
-        Asking::Depth => Master::depth(&seat.mirror, view, me, seat.started),
-        Asking::Start => Master::start(&seat.mirror, view, me, seat.started),
+        Asking::Get => Master::get(&member.mirror, view, me, member.started),
+        Asking::Pop => Master::pop(&member.mirror, view, me, member.started),
+        Asking::Ack(at) => Master::ack(&member.mirror, view, me, member.started, at),
+        Asking::Requeue(at) => Master::requeue(&member.mirror, view, me, member.started, at),
+        Asking::Depth => Master::depth(&member.mirror, view, me, member.started),
+        Asking::Start => Master::start(&member.mirror, view, me, member.started),
     }
 }
 
 /// The same, by what the member at a place has.
-#[tactic(auto, using(crate::proofs::code::ShownParts::read_member, crate::proofs::code::Found::few_seats))]
+#[tactic(auto, using(crate::proofs::code::ShownParts::read_member, crate::proofs::code::Found::few_members))]
 fn operation_at(ring: &Ring, place: usize, asking: Asking) -> Result<Op, Reason>
     requires { IsUpAt ring.now place }
     ensures { result ≡ op_as (world_of ring.now) (suc place) (Does asking) }
 {
     let view = view_at_place(ring, place);
-    answered(&ring.seats[place], view, MemberId(id_at(place)), asking)
+    answered(&ring.members[place], view, MemberId(id_at(place)), asking)
 }
 
 /// Whether there is an operation.
@@ -63,39 +63,36 @@ fn granted(answer: Result<Op, Reason>) -> Op
 }
 
 /// Whether the member at a place may publish a message to the queue.
-#[tactic(auto, using(crate::proofs::code::ShownParts::read_member, crate::proofs::code::Found::few_seats))]
+#[tactic(auto, using(crate::proofs::code::ShownParts::read_member, crate::proofs::code::Found::few_members))]
 pub(crate) fn may_publish(ring: &Ring, place: usize) -> Result<(), Reason>
-    requires placed { IsPlaced (world_of ring.now) }
-    requires place { place < length ring.now.seats.items }
+    requires { IsPlacedAt ring.now place }
     ensures { (body : List ℕ) → result ≡ answer_of (up_refusal (world_of ring.now) (suc place)
         (op_refusal (op_as (world_of ring.now) (suc place) (Publishes body)))) }
 {
-    let seat = &ring.seats[place];
-    seat.phase.is_up()?;
+    let member = &ring.members[place];
+    member.phase.is_up()?;
     Master::may_speak(
         view_at_place(ring, place),
         MemberId(id_at(place)),
-        seat.started,
+        member.started,
     )
 }
 
 /// Whether it may do what is asked.
-#[tactic(auto, using(crate::proofs::code::ShownParts::read_member, crate::proofs::code::Found::few_seats))]
+#[tactic(auto, using(crate::proofs::code::ShownParts::read_member, crate::proofs::code::Found::few_members))]
 pub(crate) fn may_ask(ring: &Ring, place: usize, asking: Asking) -> Result<(), Reason>
-    requires placed { IsPlaced (world_of ring.now) }
-    requires place { place < length ring.now.seats.items }
+    requires { IsPlacedAt ring.now place }
     ensures { result ≡ answer_of (up_refusal (world_of ring.now) (suc place)
         (op_refusal (op_as (world_of ring.now) (suc place) (Does asking)))) }
 {
-    ring.seats[place].phase.is_up()?;
+    ring.members[place].phase.is_up()?;
     allowed(operation_at(ring, place, asking))
 }
 
 /// It publishes a message of this body to the queue, at the next position.
-#[tactic(auto, using(crate::proofs::code::ShownParts::read_member, crate::proofs::code::Found::few_seats))]
+#[tactic(auto, using(crate::proofs::code::ShownParts::read_member, crate::proofs::code::Found::few_members))]
 pub(crate) fn publish(ring: &mut Ring, place: usize, body: &Body) -> Result<(), OutOfMemory>
-    requires placed { IsPlaced (world_of ring.old) }
-    requires place { place < length ring.old.seats.items }
+    requires placed { IsPlacedAt ring.old place }
     requires enabled { up_refusal (world_of ring.old) (suc place)
         (op_refusal (op_as (world_of ring.old) (suc place) (Publishes body.now))) ≡ None }
     ensures ok { OnOk result (world_of ring.new ≡ op_done (world_of ring.old) (suc place)
@@ -103,15 +100,14 @@ pub(crate) fn publish(ring: &mut Ring, place: usize, body: &Body) -> Result<(), 
     ensures err { OnErr result (world_of ring.new ≡ world_of ring.old) }
 {
     let body = body.copy()?;
-    let at = ring.seats[place].mirror.queue().next();
+    let at = ring.members[place].mirror.queue().next();
     arms::publish(ring, place, Message::Queue(Op::Publish { at, body }))
 }
 
 /// It does what is asked.
-#[tactic(auto, using(crate::proofs::code::ShownParts::read_member, crate::proofs::code::Found::few_seats, ring_rules::proofs::events::Enabled::up_later))]
+#[tactic(auto, using(crate::proofs::code::ShownParts::read_member, crate::proofs::code::Found::few_members, ring_rules::proofs::events::Enabled::up_later))]
 pub(crate) fn ask(ring: &mut Ring, place: usize, asking: Asking) -> Result<(), OutOfMemory>
-    requires placed { IsPlaced (world_of ring.old) }
-    requires place { place < length ring.old.seats.items }
+    requires placed { IsPlacedAt ring.old place }
     requires enabled { up_refusal (world_of ring.old) (suc place)
         (op_refusal (op_as (world_of ring.old) (suc place) (Does asking))) ≡ None }
     ensures ok { OnOk result (world_of ring.new ≡ op_done (world_of ring.old) (suc place)

@@ -1,10 +1,9 @@
 //! A member has the group change, and reads the view that follows.
 ghost use Rattle.std.specs.Prelude.{◌≡◌, ◌<◌, ◌+◌, suc, ◌-◌, take, length, vec_len, vec_capacity, OnOk, OnErr};
-ghost use Rattle.ring_rules.specs.declared.phase.Phase.TheVariants as phase;
-ghost use Rattle.ring_rules.specs.Machine.{member_at, newest as the_newest};
+ghost use Rattle.ring_rules.specs.Machine.{newest as the_newest};
 ghost use Rattle.ring_rules.specs.Step.{with_view};
 ghost use Rattle.ring_rules.specs.Event.{refreshed};
-ghost use Rattle.ring_world.specs.Placed.{IsPlaced};
+ghost use Rattle.ring_world.specs.Placed.{IsUpAt};
 ghost use Rattle.ring_world.specs.Shows.{world_of};
 
 use crate::neighbours::newest;
@@ -17,7 +16,7 @@ use std::alloc::Global;
 /// A view follows the others.
 fn push_view(ring: &mut Ring, view: View) -> Result<(), OutOfMemory>
     ensures ok { OnOk result (world_of ring.new ≡ with_view (world_of ring.old) view) }
-    ensures seats { ring.new.seats ≡ ring.old.seats }
+    ensures members { ring.new.members ≡ ring.old.members }
     ensures err { OnErr result (world_of ring.new ≡ world_of ring.old) }
 {
     ring.views.push(view)?;
@@ -39,15 +38,13 @@ pub(crate) fn change(
     place: usize,
     view: View,
 ) -> Result<(), OutOfMemory>
-    requires placed { IsPlaced (world_of ring.old) }
     requires more { the_newest (world_of ring.old) < 256 }
-    requires place { place < length ring.old.seats.items }
-    requires up { (member_at (world_of ring.old) (suc place)).phase ≡ phase.Up }
+    requires up { IsUpAt ring.old place }
     ensures ok { OnOk result (world_of ring.new
         ≡ refreshed (with_view (world_of ring.old) view) (suc place) (the_newest (world_of ring.old) + 1)) }
     ensures err { OnErr result (world_of ring.new ≡ world_of ring.old) }
-    ensures seats { vec_len ring.new.seats ≡ vec_len ring.old.seats }
-    ensures seats_room { vec_capacity ring.new.seats ≡ vec_capacity ring.old.seats }
+    ensures members { vec_len ring.new.members ≡ vec_len ring.old.members }
+    ensures members_room { vec_capacity ring.new.members ≡ vec_capacity ring.old.members }
 {
     let version = newest(ring) + 1;
     push_view(ring, view)?;

@@ -7,7 +7,7 @@ ghost use Rattle.ring_rules.specs.declared.phase.Phase.TheVariants as phase;
 ghost use Rattle.ring_rules.specs.Machine.{member_at};
 ghost use Rattle.ring_rules.specs.Event.{is_stopped, up_refusal, running_refusal, on_link, put_refusal, take_refusal};
 ghost use Rattle.ring_rules.specs.Event.{end_refusal, gain_refusal, version_refusal};
-ghost use Rattle.ring_world.specs.Placed.{IsPlaced};
+ghost use Rattle.ring_world.specs.Placed.{IsPlacedAt};
 ghost use Rattle.ring_world.specs.Shows.{world_of};
 
 use crate::state::Ring;
@@ -26,42 +26,41 @@ pub(crate) fn is_known(need: u32, have: u32) -> Result<(), Reason>
 /// Whether the member at a place may publish.
 #[tactic(auto, using(crate::proofs::code::ShownParts::read_member))]
 pub(crate) fn may_cast(ring: &Ring, place: usize) -> Result<(), Reason>
-    requires { place < length ring.now.seats.items }
+    requires { place < length ring.now.members.items }
     ensures { result ≡ answer_of (up_refusal (world_of ring.now) (suc place) None) }
 {
-    ring.seats[place].phase.is_up()?;
+    ring.members[place].phase.is_up()?;
     Ok(())
 }
 
 /// The link on which the member at a place sends, where it is up.
 #[tactic(auto, using(crate::proofs::code::ShownParts::read_member, crate::proofs::code::Found::out_within))]
 fn out_link(ring: &Ring, place: usize) -> Result<usize, Reason>
-    requires placed { IsPlaced (world_of ring.now) }
-    requires place { place < length ring.now.seats.items }
+    requires { IsPlacedAt ring.now place }
     ensures up { OnOk result ((member_at (world_of ring.now) (suc place)).phase ≡ phase.Up) }
     ensures out { IfOk result (λ out. (member_at (world_of ring.now) (suc place)).out ≡ Some out) }
-    ensures within { IfOk result (λ out. out < length ring.now.wires.items) }
+    ensures within { IfOk result (λ out. out < length ring.now.links.items) }
     ensures err { IfErr result (λ r. (later : ℕ → Option Reason) → up_refusal (world_of ring.now) (suc place)
         (on_link (member_at (world_of ring.now) (suc place)).out reason.NoOutLink later) ≡ Some r) }
 {
-    let seat = &ring.seats[place];
-    seat.phase.is_up()?;
-    let out = seat.out.ok_or(Reason::NoOutLink)?;
+    let member = &ring.members[place];
+    member.phase.is_up()?;
+    let out = member.out.ok_or(Reason::NoOutLink)?;
     Ok(out)
 }
 
 /// Whether it may put a packet on that link.
 #[tactic(auto, using(crate::proofs::code::ShownParts::read_member, crate::proofs::code::ShownParts::read_link))]
 fn may_put_on(ring: &Ring, place: usize, out: usize) -> Result<(), Reason>
-    requires place { place < length ring.now.seats.items }
-    requires out { out < length ring.now.wires.items }
+    requires place { place < length ring.now.members.items }
+    requires out { out < length ring.now.links.items }
     ensures { result ≡ answer_of (put_refusal (world_of ring.now) (suc place) out) }
 {
-    let wire = &ring.wires[out];
-    if wire.is_blocked() {
+    let link = &ring.links[out];
+    if link.is_blocked() {
         return Err(Reason::NoCredit);
     }
-    if wire.has_nothing_new(ring.seats.len() + 1, &ring.seats[place]) {
+    if link.has_nothing_new(ring.members.len() + 1, &ring.members[place]) {
         return Err(Reason::NothingNew);
     }
     Ok(())
@@ -69,8 +68,7 @@ fn may_put_on(ring: &Ring, place: usize, out: usize) -> Result<(), Reason>
 
 /// Whether it may put a packet.
 pub(crate) fn may_put(ring: &Ring, place: usize) -> Result<(), Reason>
-    requires placed { IsPlaced (world_of ring.now) }
-    requires place { place < length ring.now.seats.items }
+    requires { IsPlacedAt ring.now place }
     ensures { result ≡ answer_of (up_refusal (world_of ring.now) (suc place)
         (on_link (member_at (world_of ring.now) (suc place)).out reason.NoOutLink
         (put_refusal (world_of ring.now) (suc place)))) }
@@ -82,14 +80,13 @@ pub(crate) fn may_put(ring: &Ring, place: usize) -> Result<(), Reason>
 /// Whether it may gain credit.
 #[tactic(auto, using(crate::proofs::code::ShownParts::read_link))]
 pub(crate) fn may_gain(ring: &Ring, place: usize) -> Result<(), Reason>
-    requires placed { IsPlaced (world_of ring.now) }
-    requires place { place < length ring.now.seats.items }
+    requires { IsPlacedAt ring.now place }
     ensures { result ≡ answer_of (up_refusal (world_of ring.now) (suc place)
         (on_link (member_at (world_of ring.now) (suc place)).out reason.NoOutLink
         (gain_refusal (world_of ring.now)))) }
 {
     let out = out_link(ring, place)?;
-    if ring.wires[out].has_no_grant() {
+    if ring.links[out].has_no_grant() {
         return Err(Reason::NoGrant);
     }
     Ok(())
@@ -98,55 +95,52 @@ pub(crate) fn may_gain(ring: &Ring, place: usize) -> Result<(), Reason>
 /// The link from which the member at a place takes, where it runs.
 #[tactic(auto, using(crate::proofs::code::ShownParts::read_member, crate::proofs::code::Found::current_within))]
 fn current_link(ring: &Ring, place: usize) -> Result<usize, Reason>
-    requires placed { IsPlaced (world_of ring.now) }
-    requires place { place < length ring.now.seats.items }
+    requires { IsPlacedAt ring.now place }
     ensures current { IfOk result (λ s. (member_at (world_of ring.now) (suc place)).current ≡ Some s) }
     ensures runs { OnOk result (is_stopped (member_at (world_of ring.now) (suc place)).phase ≡ false) }
-    ensures within { IfOk result (λ s. s < length ring.now.wires.items) }
+    ensures within { IfOk result (λ s. s < length ring.now.links.items) }
     ensures err { IfErr result (λ r. (later : ℕ → Option Reason) → running_refusal (world_of ring.now) (suc place)
         (on_link (member_at (world_of ring.now) (suc place)).current reason.NoCurrentLink later) ≡ Some r) }
 {
-    let seat = &ring.seats[place];
-    seat.phase.runs()?;
-    let current = seat.current.ok_or(Reason::NoCurrentLink)?;
+    let member = &ring.members[place];
+    member.phase.runs()?;
+    let current = member.current.ok_or(Reason::NoCurrentLink)?;
     Ok(current)
 }
 
 /// Whether it may take a packet.
 #[tactic(auto, using(crate::proofs::code::ShownParts::read_member, crate::proofs::code::ShownParts::read_link))]
 pub(crate) fn may_take(ring: &Ring, place: usize) -> Result<(), Reason>
-    requires placed { IsPlaced (world_of ring.now) }
-    requires place { place < length ring.now.seats.items }
+    requires { IsPlacedAt ring.now place }
     ensures { result ≡ answer_of (running_refusal (world_of ring.now) (suc place)
         (on_link (member_at (world_of ring.now) (suc place)).current reason.NoCurrentLink
         (take_refusal (world_of ring.now) (suc place)))) }
 {
     let current = current_link(ring, place)?;
-    let wire = &ring.wires[current];
-    if wire.holds_nothing() {
+    let link = &ring.links[current];
+    if link.holds_nothing() {
         return Err(Reason::NothingToTake);
     }
-    if wire.is_empty() {
+    if link.is_empty() {
         return Err(Reason::EndNext);
     }
-    is_known(wire.oldest().version, ring.seats[place].version)
+    is_known(link.oldest().version, ring.members[place].version)
 }
 
 /// Whether it may take the end of its link.
 #[tactic(auto, using(crate::proofs::code::ShownParts::read_link))]
 pub(crate) fn may_take_end(ring: &Ring, place: usize) -> Result<(), Reason>
-    requires placed { IsPlaced (world_of ring.now) }
-    requires place { place < length ring.now.seats.items }
+    requires { IsPlacedAt ring.now place }
     ensures { result ≡ answer_of (running_refusal (world_of ring.now) (suc place)
         (on_link (member_at (world_of ring.now) (suc place)).current reason.NoCurrentLink
         (end_refusal (world_of ring.now)))) }
 {
     let current = current_link(ring, place)?;
-    let wire = &ring.wires[current];
-    if wire.holds_nothing() {
+    let link = &ring.links[current];
+    if link.holds_nothing() {
         return Err(Reason::NothingToTake);
     }
-    if !wire.is_empty() {
+    if !link.is_empty() {
         return Err(Reason::PacketNext);
     }
     Ok(())
@@ -155,9 +149,9 @@ pub(crate) fn may_take_end(ring: &Ring, place: usize) -> Result<(), Reason>
 /// Whether it may stop.
 #[tactic(auto, using(crate::proofs::code::ShownParts::read_member))]
 pub(crate) fn may_stop(ring: &Ring, place: usize) -> Result<(), Reason>
-    requires { place < length ring.now.seats.items }
+    requires { place < length ring.now.members.items }
     ensures { result ≡ answer_of (running_refusal (world_of ring.now) (suc place) None) }
 {
-    ring.seats[place].phase.runs()?;
+    ring.members[place].phase.runs()?;
     Ok(())
 }

@@ -1,8 +1,8 @@
 //! Each event's conditions and its step.
-ghost use Rattle.std.specs.Prelude.{◌≡◌, ◌<◌, suc, length, None, OnOk, OnErr};
+ghost use Rattle.std.specs.Prelude.{◌≡◌, suc, None, OnOk, OnErr};
 ghost use Rattle.ring_rules.specs.Refusal.{answer_of};
 ghost use Rattle.ring_rules.specs.Event.{refusal, refused_at, effect, done_at};
-ghost use Rattle.ring_world.specs.Placed.{IsPlaced, IsReady};
+ghost use Rattle.ring_world.specs.Placed.{IsPlaced, IsPlacedAt, IsReady, IsReadyAt};
 ghost use Rattle.ring_world.specs.Shows.{world_of};
 
 use crate::asking::{ask, may_ask, may_publish, publish};
@@ -32,8 +32,7 @@ pub(crate) fn enabled(ring: &Ring, event: &Event) -> Result<(), Reason>
 
 /// The same of an event of the member at a place.
 fn enabled_at(ring: &Ring, place: usize, event: &Event) -> Result<(), Reason>
-    requires placed { IsPlaced (world_of ring.now) }
-    requires place { place < length ring.now.seats.items }
+    requires { IsPlacedAt ring.now place }
     ensures { result ≡ answer_of (refused_at (world_of ring.now) event.now (suc place)) }
 {
     match event {
@@ -74,8 +73,7 @@ pub(crate) fn step(alloc: Global, ring: &mut Ring, event: &Event) -> Result<(), 
 /// An enabled event of the member at a place happens.
 #[tactic(auto, using(crate::proofs::code::Rules::happening))]
 fn step_at(alloc: Global, ring: &mut Ring, place: usize, event: &Event) -> Result<(), OutOfMemory>
-    requires ready { IsReady (world_of ring.old) }
-    requires place { place < length ring.old.seats.items }
+    requires ready { IsReadyAt ring.old place }
     requires enabled { refused_at (world_of ring.old) event.now (suc place) ≡ None }
     ensures ok { OnOk result (world_of ring.new ≡ done_at (world_of ring.old) event.now (suc place)) }
     ensures err { OnErr result (world_of ring.new ≡ world_of ring.old) }

@@ -7,7 +7,7 @@ ghost use Rattle.ring_rules.specs.declared.phase.Phase.TheVariants as phase;
 ghost use Rattle.ring_rules.specs.Machine.{member_at, newest as the_newest};
 ghost use Rattle.ring_rules.specs.Step.{with_view};
 ghost use Rattle.ring_rules.specs.Event.{erase_refusal, erased_view, refreshed};
-ghost use Rattle.ring_world.specs.Placed.{IsReady};
+ghost use Rattle.ring_world.specs.Placed.{IsReadyAt};
 ghost use Rattle.ring_world.specs.Shows.{world_of};
 
 use crate::changing::change;
@@ -41,9 +41,8 @@ pub(crate) fn erase(
     place: usize,
     origin: usize,
 ) -> Result<(), OutOfMemory>
-    requires ready { IsReady (world_of ring.old) }
-    requires place { place < length ring.old.seats.items }
-    requires origin { origin < length ring.old.seats.items }
+    requires ready { IsReadyAt ring.old place }
+    requires origin { origin < length ring.old.members.items }
     requires up { (member_at (world_of ring.old) (suc place)).phase ≡ phase.Up }
     requires enabled { erase_refusal (world_of ring.old) (suc place) (suc origin) ≡ None }
     ensures ok { OnOk result (world_of ring.new

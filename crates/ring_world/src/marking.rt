@@ -6,7 +6,7 @@ ghost use Rattle.ring_rules.specs.View.{is_live};
 ghost use Rattle.ring_rules.specs.Machine.{member_at, view_in, newest as the_newest};
 ghost use Rattle.ring_rules.specs.Step.{with_view};
 ghost use Rattle.ring_rules.specs.Event.{mark_refusal, refreshed};
-ghost use Rattle.ring_world.specs.Placed.{IsReady};
+ghost use Rattle.ring_world.specs.Placed.{IsReadyAt};
 ghost use Rattle.ring_world.specs.Shows.{world_of};
 
 use crate::changing::change;
@@ -38,9 +38,8 @@ pub(crate) fn mark(
     place: usize,
     dead: usize,
 ) -> Result<(), OutOfMemory>
-    requires ready { IsReady (world_of ring.old) }
-    requires place { place < length ring.old.seats.items }
-    requires dead { dead < length ring.old.seats.items }
+    requires ready { IsReadyAt ring.old place }
+    requires dead { dead < length ring.old.members.items }
     requires up { (member_at (world_of ring.old) (suc place)).phase ≡ phase.Up }
     requires enabled { mark_refusal (world_of ring.old) (suc place) (suc dead) ≡ None }
     ensures ok { OnOk result (world_of ring.new ≡ refreshed (with_view (world_of ring.old)

@@ -1,16 +1,16 @@
 //! What a member's view says, and what stands at its door.
-ghost use Rattle.std.specs.Prelude.{ℕ, ◌≡◌, ◌<◌, ◌≤◌, ◌&&◌, suc, ◌∷◌, true, not, nat_eq, nat_le, length, position};
+ghost use Rattle.std.specs.Prelude.{◌≡◌, ◌<◌, ◌≤◌, suc, ◌∷◌, true, length, position};
 ghost use Rattle.std.specs.Prelude.{IfSome, slice_index_or};
 ghost use Rattle.group_view.specs.Since.{no_group};
 ghost use Rattle.ring_rules.specs.View.{left_of as the_left, right_of as the_right};
-ghost use Rattle.ring_rules.specs.Machine.{member_at, view_in, is_kept_of, newest as the_newest, runs as runs_at};
+ghost use Rattle.ring_rules.specs.Machine.{member_at, view_in, is_kept_of, newest as the_newest};
 ghost use Rattle.ring_rules.specs.Event.{left_neighbour as the_left_neighbour, is_neighbour as neighbours};
 ghost use Rattle.ring_rules.specs.Event.{at_door as the_door};
 ghost use Rattle.ring_world.specs.Placed.{IsPlaced, IsUpAt};
 ghost use Rattle.ring_world.specs.Shows.{world_of, link_of, stands_at_door};
 
+use crate::plain_link::PlainLink;
 use crate::state::Ring;
-use crate::wire::Wire;
 use group_view::View;
 use ring_names::MemberId;
 
@@ -68,7 +68,7 @@ pub(crate) fn view_at_place(ring: &Ring, place: usize) -> &View
     ensures { result.now ≡ view_in (world_of ring.now)
         (member_at (world_of ring.now) (suc place)).version }
 {
-    view_of(&ring.views, ring.seats[place].version)
+    view_of(&ring.views, ring.members[place].version)
 }
 
 /// The left neighbour of the member at a place, in its view.
@@ -91,31 +91,31 @@ pub(crate) fn is_neighbour(ring: &Ring, place: usize, id: u32) -> bool
 }
 
 /// Whether a link stands at the door of a member with this left neighbour since then.
-fn is_at_door(wire: &Wire, id: u32, left: u32, since: u32) -> bool
-    ensures { result ≡ stands_at_door id left since (link_of wire.now) }
+fn is_at_door(link: &PlainLink, id: u32, left: u32, since: u32) -> bool
+    ensures { result ≡ stands_at_door id left since (link_of link.now) }
 {
-    wire.receiver == id && !wire.over && wire.sender == left && since <= wire.opened
+    link.receiver == id && !link.over && link.sender == left && since <= link.opened
 }
 
-fn first_at_door(wires: &[Wire], id: u32, left: u32, since: u32) -> Option<usize>
-    ensures { result ≡ position (λ wire. stands_at_door id left since (link_of wire)) wires.now }
+fn first_at_door(links: &[PlainLink], id: u32, left: u32, since: u32) -> Option<usize>
+    ensures { result ≡ position (λ link. stands_at_door id left since (link_of link)) links.now }
 {
-    wires
+    links
         .iter()
-        .position(|wire| is_at_door(wire, id, left, since))
+        .position(|link| is_at_door(link, id, left, since))
 }
 
 /// The oldest link at the door of the member at a place.
 pub(crate) fn at_door(ring: &Ring, place: usize) -> Option<usize>
     requires { IsUpAt ring.now place }
     ensures door { result ≡ the_door (world_of ring.now) (suc place) }
-    ensures within { IfSome result (λ s. s < length ring.now.wires.items) }
+    ensures within { IfSome result (λ s. s < length ring.now.links.items) }
 {
     let view = view_at_place(ring, place);
     let id = id_at(place);
     let left = left_in(view, id);
     let since = view.since_of(MemberId(id));
-    first_at_door(&ring.wires, id, left, since)
+    first_at_door(&ring.links, id, left, since)
 }
 
 /// Whether the receiver has had the sender at its left in each view from `opened` up to a version.

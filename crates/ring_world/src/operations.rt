@@ -5,7 +5,7 @@ ghost use Rattle.queue_laws.specs.Part.{ops};
 ghost use Rattle.queue_laws.specs.Starting.{is_start as the_start};
 ghost use Rattle.ring_world.specs.Shows.{news_of, operations_in, operation_in};
 
-use crate::seat::Brought;
+use crate::plain_member::Brought;
 use queue_core::{Message, Op};
 use queue_mirror::Mirror;
 use ring_names::OutOfMemory;

@@ -4,7 +4,7 @@ ghost use Rattle.group_view.specs.View.{entry_in};
 ghost use Rattle.ring_rules.specs.Machine.{member_at, view_in, newest as the_newest, runs as runs_at};
 ghost use Rattle.ring_rules.specs.Quiet.{QueueRests};
 ghost use Rattle.ring_rules.specs.Work.{is_led, is_late as late_is};
-ghost use Rattle.ring_world.specs.Placed.{IsPlaced};
+ghost use Rattle.ring_world.specs.Placed.{IsPlaced, IsPlacedAt};
 ghost use Rattle.ring_world.specs.Shows.{world_of};
 
 use crate::neighbours::{id_at, newest_view};
@@ -14,15 +14,14 @@ use group_view::View;
 use ring_names::MemberId;
 
 /// Whether the member at a place is registered as synchronised, where its mirror misses nothing.
-#[tactic(auto, using(crate::proofs::code::ShownParts::read_member, crate::proofs::code::Found::few_seats))]
+#[tactic(auto, using(crate::proofs::code::ShownParts::read_member, crate::proofs::code::Found::few_members))]
 fn is_enrolled(ring: &Ring, place: usize) -> bool
-    requires placed { IsPlaced (world_of ring.now) }
-    requires place { place < length ring.now.seats.items }
+    requires { IsPlacedAt ring.now place }
     ensures { IsTrue result ↔ ((member_at (world_of ring.now) (suc place)).mirror.missing ≡ Some 0
         → (entry_in (view_in (world_of ring.now) (the_newest (world_of ring.now))).entries (suc place)).synced
         ≡ true) }
 {
-    if !ring.seats[place].mirror.is_synced() {
+    if !ring.members[place].mirror.is_synced() {
         return true;
     }
     newest_view(ring).is_synced(MemberId(id_at(place)))
@@ -36,8 +35,8 @@ fn all_are_enrolled(ring: &Ring) -> bool
         → (member_at (world_of ring.now) y).mirror.missing ≡ Some 0
         → (entry_in (view_in (world_of ring.now) (the_newest (world_of ring.now))).entries y).synced ≡ true) }
 {
-    for place in 0..ring.seats.len() {
-        if ring.seats[place].phase.is_running() && !is_enrolled(ring, place) {
+    for place in 0..ring.members.len() {
+        if ring.members[place].phase.is_running() && !is_enrolled(ring, place) {
             return false;
         }
     }
@@ -47,14 +46,14 @@ fn all_are_enrolled(ring: &Ring) -> bool
 /// Whether the member at a place knows how many messages its mirror lacks, where it runs.
 #[tactic(auto, using(crate::proofs::code::ShownParts::read_member))]
 fn knows(ring: &Ring, place: usize) -> bool
-    requires { place < length ring.now.seats.items }
+    requires { place < length ring.now.members.items }
     ensures { IsTrue result ↔ (runs_at (world_of ring.now) (suc place) ≡ true
         → is_some (member_at (world_of ring.now) (suc place)).mirror.missing ≡ true) }
 {
-    if !ring.seats[place].phase.is_running() {
+    if !ring.members[place].phase.is_running() {
         return true;
     }
-    ring.seats[place].mirror.missing().is_some()
+    ring.members[place].mirror.missing().is_some()
 }
 
 /// Whether each running member knows.
@@ -62,7 +61,7 @@ fn all_know(ring: &Ring) -> bool
     ensures { IsTrue result ↔ ((y : ℕ) → runs_at (world_of ring.now) y ≡ true
         → is_some (member_at (world_of ring.now) y).mirror.missing ≡ true) }
 {
-    for place in 0..ring.seats.len() {
+    for place in 0..ring.members.len() {
         if !knows(ring, place) {
             return false;
         }
@@ -83,7 +82,7 @@ fn master_place(ring: &Ring) -> Option<usize>
     ensures { MatchOption result
         ((m : ℕ) → runs_at (world_of ring.now) m ≡ true
         → is_led (view_in (world_of ring.now) (the_newest (world_of ring.now))).master m ≡ false)
-        (λ place. (place < length ring.now.seats.items) × (runs_at (world_of ring.now) (suc place) ≡ true)
+        (λ place. (place < length ring.now.members.items) × (runs_at (world_of ring.now) (suc place) ≡ true)
         × (is_led (view_in (world_of ring.now) (the_newest (world_of ring.now))).master (suc place) ≡ true)) }
 {
     let master = newest_view(ring).master?;
@@ -93,14 +92,13 @@ fn master_place(ring: &Ring) -> Option<usize>
 /// Whether the master, at a place, has nothing to start with, and each running member knows.
 #[tactic(auto, using(crate::proofs::code::ShownParts::read_member))]
 fn master_rests(ring: &Ring, place: usize) -> bool
-    requires placed { IsPlaced (world_of ring.now) }
-    requires place { place < length ring.now.seats.items }
+    requires { IsPlacedAt ring.now place }
     ensures { IsTrue result ↔ ((late_is (view_in (world_of ring.now) (the_newest (world_of ring.now)))
         (member_at (world_of ring.now) (suc place)).started ≡ false)
         × ((y : ℕ) → runs_at (world_of ring.now) y ≡ true
         → is_some (member_at (world_of ring.now) y).mirror.missing ≡ true)) }
 {
-    if is_late(newest_view(ring), ring.seats[place].started) {
+    if is_late(newest_view(ring), ring.members[place].started) {
         return false;
     }
     all_know(ring)

@@ -9,8 +9,8 @@ ghost use Rattle.ring_world.specs.Placed.{IsPlaced, IsRunningAt};
 ghost use Rattle.ring_world.specs.Shows.{world_of, member_of};
 
 use crate::neighbours::{id_at, newest, newest_view};
+use crate::plain_member::PlainMember;
 use crate::queue_rest::queue_rests;
-use crate::seat::Seat;
 use crate::state::Ring;
 use crate::walk::{is_open, running_place};
 use group_view::{Entry, Mark};
@@ -20,12 +20,12 @@ use ring_rules::Phase;
 #[tactic(auto, using(crate::proofs::code::ShownParts::read_link))]
 fn has_nothing_to_take(ring: &Ring, place: usize) -> bool
     requires { IsRunningAt ring.now place }
-    ensures { IsTrue result ↔ ((s : ℕ) → s < length ring.now.wires.items
+    ensures { IsTrue result ↔ ((s : ℕ) → s < length ring.now.links.items
         → open_is (world_of ring.now) (suc place) s ≡ true
         → holds_nothing (link_at (world_of ring.now) s) ≡ true) }
 {
-    for s in 0..ring.wires.len() {
-        if is_open(ring, place, s) && !ring.wires[s].holds_nothing() {
+    for s in 0..ring.links.len() {
+        if is_open(ring, place, s) && !ring.links[s].holds_nothing() {
             return false;
         }
     }
@@ -33,26 +33,26 @@ fn has_nothing_to_take(ring: &Ring, place: usize) -> bool
 }
 
 /// Whether all that a member published, whose id is given, has come round to it, and its acknowledgement too.
-fn has_come_round(seat: &Seat, id: usize) -> bool
-    ensures { IsTrue result ↔ ((row_at (member_of seat.now) id).retired ≡ length seat.now.log.items) }
+fn has_come_round(member: &PlainMember, id: usize) -> bool
+    ensures { IsTrue result ↔ ((row_at (member_of member.now) id).retired ≡ length member.now.log.items) }
 {
-    seat.retired(id) == seat.log.len() as u64
+    member.retired(id) == member.log.len() as u64
 }
 
 /// Whether the running member at a place rests.
-#[tactic(auto, using(crate::proofs::code::ShownParts::read_member, crate::proofs::code::Found::few_seats))]
+#[tactic(auto, using(crate::proofs::code::ShownParts::read_member, crate::proofs::code::Found::few_members))]
 fn is_resting(ring: &Ring, place: usize) -> bool
     requires { IsRunningAt ring.now place }
     ensures { IsTrue result ↔ IsResting (world_of ring.now) (suc place) }
 {
-    let seat = &ring.seats[place];
-    if !matches!(seat.phase, Phase::Up) {
+    let member = &ring.members[place];
+    if !matches!(member.phase, Phase::Up) {
         return false;
     }
-    if seat.version != newest(ring) {
+    if member.version != newest(ring) {
         return false;
     }
-    if !has_come_round(seat, id_at(place) as usize) {
+    if !has_come_round(member, id_at(place) as usize) {
         return false;
     }
     has_nothing_to_take(ring, place)
@@ -65,8 +65,8 @@ fn all_rest(ring: &Ring) -> bool
     ensures { IsTrue result ↔ ((y : ℕ) → runs_at (world_of ring.now) y ≡ true
         → IsResting (world_of ring.now) y) }
 {
-    for place in 0..ring.seats.len() {
-        if ring.seats[place].phase.is_running() && !is_resting(ring, place) {
+    for place in 0..ring.members.len() {
+        if ring.members[place].phase.is_running() && !is_resting(ring, place) {
             return false;
         }
     }
@@ -101,8 +101,8 @@ fn are_settled(ring: &Ring, entries: &[Entry]) -> bool
 fn nobody_runs(ring: &Ring) -> bool
     ensures { IsTrue result ↔ ((y : ℕ) → runs_at (world_of ring.now) y ≡ false) }
 {
-    for place in 0..ring.seats.len() {
-        if ring.seats[place].phase.is_running() {
+    for place in 0..ring.members.len() {
+        if ring.members[place].phase.is_running() {
             return false;
         }
     }

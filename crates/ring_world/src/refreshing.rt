@@ -1,21 +1,19 @@
 //! A member reads a view, and sends to its right neighbour in it.
-ghost use Rattle.std.specs.Prelude.{◌≡◌, ◌<◌, ◌≤◌, suc, length, nat_eq, Option, Some, None};
+ghost use Rattle.std.specs.Prelude.{◌≡◌, ◌<◌, ◌≤◌, suc, length, Option, Some, None};
 ghost use Rattle.std.specs.Prelude.{vec_len, vec_capacity, OnOk, OnErr, IfSome};
-ghost use Rattle.ring_rules.specs.declared.phase.Phase.TheVariants as phase;
 ghost use Rattle.ring_rules.specs.declared.phase.Ending.TheVariants as ending;
-ghost use Rattle.ring_rules.specs.View.{right_of};
-ghost use Rattle.ring_rules.specs.Machine.{member_at, link_at, view_in, newest as the_newest, is_kept as the_kept};
-ghost use Rattle.ring_rules.specs.Step.{look_at, kept_current as the_kept_current, moved_to, end_out, open_to};
+ghost use Rattle.ring_rules.specs.Machine.{member_at, link_at, newest as the_newest, is_kept as the_kept};
+ghost use Rattle.ring_rules.specs.Step.{look_at, kept_current as the_kept_current, end_out, open_to};
 ghost use Rattle.ring_rules.specs.Step.{opened_link};
 ghost use Rattle.ring_rules.specs.Event.{refreshed};
 ghost use Rattle.ring_world.specs.Placed.{IsPlaced, IsUpAt};
-ghost use Rattle.ring_world.specs.Shows.{world_of, link_of, link_opened};
+ghost use Rattle.ring_world.specs.Shows.{world_of, link_of};
 ghost use Rattle.ring_rules.specs.Step.{sends_to as the_sends_to};
 
 use crate::neighbours::{id_at, is_kept, right_in, view_of};
+use crate::plain_link::PlainLink;
 use crate::state::Ring;
-use crate::wire::Wire;
-use crate::{seats, wires};
+use crate::{plain_links, plain_members};
 use ring_names::OutOfMemory;
 use ring_rules::Ending;
 use std::alloc::Global;
@@ -24,16 +22,16 @@ use std::alloc::Global;
 #[tactic(auto, using(crate::proofs::code::ShownParts::read_link))]
 fn is_link_kept(ring: &Ring, link: usize, version: u32) -> bool
     requires placed { IsPlaced (world_of ring.now) }
-    requires link { link < length ring.now.wires.items }
+    requires link { link < length ring.now.links.items }
     requires upto { version ≤ the_newest (world_of ring.now) }
     ensures { result ≡ the_kept (world_of ring.now) (link_at (world_of ring.now) link) version }
 {
-    let wire = &ring.wires[link];
+    let plain = &ring.links[link];
     is_kept(
         &ring.views,
-        wire.receiver,
-        wire.sender,
-        wire.opened,
+        plain.receiver,
+        plain.sender,
+        plain.opened,
         version,
     )
 }
@@ -47,7 +45,7 @@ fn kept_current(ring: &Ring, place: usize, version: u32) -> Option<usize>
         (λ s. the_kept (world_of ring.now) (link_at (world_of ring.now) s) version)
         (member_at (world_of ring.now) (suc place)).current }
 {
-    match ring.seats[place].current {
+    match ring.members[place].current {
         None => None,
         Some(current) => {
             if is_link_kept(ring, current, version) {
@@ -66,60 +64,60 @@ fn sends_to(ring: &Ring, place: usize, receiver: u32) -> bool
     ensures { result ≡ the_sends_to (world_of ring.now) receiver
         (member_at (world_of ring.now) (suc place)).out }
 {
-    match ring.seats[place].out {
+    match ring.members[place].out {
         None => false,
-        Some(out) => ring.wires[out].receiver == receiver,
+        Some(out) => ring.links[out].receiver == receiver,
     }
 }
 
 /// It has the view of a version, and this of its current link.
 fn look(ring: &mut Ring, place: usize, version: u32, current: Option<usize>)
-    requires place { place < length ring.old.seats.items }
+    requires place { place < length ring.old.members.items }
     requires current { current ≡ the_kept_current
         (λ s. the_kept (world_of ring.old) (link_at (world_of ring.old) s) version)
         (member_at (world_of ring.old) (suc place)).current }
     ensures state { world_of ring.new ≡ look_at (world_of ring.old) (suc place) version }
-    ensures wires { ring.new.wires ≡ ring.old.wires }
-    ensures seats { vec_len ring.new.seats ≡ vec_len ring.old.seats }
-    ensures seats_room { vec_capacity ring.new.seats ≡ vec_capacity ring.old.seats }
+    ensures links { ring.new.links ≡ ring.old.links }
+    ensures members { vec_len ring.new.members ≡ vec_len ring.old.members }
+    ensures members_room { vec_capacity ring.new.members ≡ vec_capacity ring.old.members }
 {
-    seats::look(&mut ring.seats, place, version, current);
+    plain_members::look(&mut ring.members, place, version, current);
 }
 
 /// The link that it sends on ends.
 fn end_sending(ring: &mut Ring, out: Option<usize>)
-    requires { IfSome out (λ o. o < length ring.old.wires.items) }
+    requires { IfSome out (λ o. o < length ring.old.links.items) }
     ensures state { world_of ring.new ≡ end_out ending.Moved (world_of ring.old) out }
-    ensures room { vec_capacity ring.new.wires ≡ vec_capacity ring.old.wires }
-    ensures many { vec_len ring.new.wires ≡ vec_len ring.old.wires }
-    ensures seats { ring.new.seats ≡ ring.old.seats }
+    ensures room { vec_capacity ring.new.links ≡ vec_capacity ring.old.links }
+    ensures many { vec_len ring.new.links ≡ vec_len ring.old.links }
+    ensures members { ring.new.members ≡ ring.old.members }
 {
     if let Some(out) = out {
-        wires::end(&mut ring.wires, out, Ending::Moved);
+        plain_links::end(&mut ring.links, out, Ending::Moved);
     }
 }
 
 /// Makes room for one more link.
-fn make_room(wires: &mut Vec<Wire>) -> Result<(), OutOfMemory>
-    ensures same { wires.new.items ≡ wires.old.items }
-    ensures room { OnOk result (vec_len wires.new < vec_capacity wires.new) }
+fn make_room(links: &mut Vec<PlainLink>) -> Result<(), OutOfMemory>
+    ensures same { links.new.items ≡ links.old.items }
+    ensures room { OnOk result (vec_len links.new < vec_capacity links.new) }
 {
-    wires.reserve(1)?;
+    links.reserve(1)?;
     Ok(())
 }
 
 /// It sends on a new link from now on, for which there is room.
-fn open(ring: &mut Ring, place: usize, receiver: u32, wire: Wire)
-    requires place { place < length ring.old.seats.items }
-    requires room { vec_len ring.old.wires < vec_capacity ring.old.wires }
-    requires wire { link_of wire ≡ opened_link (world_of ring.old) (suc place) receiver }
+fn open(ring: &mut Ring, place: usize, receiver: u32, link: PlainLink)
+    requires place { place < length ring.old.members.items }
+    requires room { vec_len ring.old.links < vec_capacity ring.old.links }
+    requires link { link_of link ≡ opened_link (world_of ring.old) (suc place) receiver }
     ensures state { world_of ring.new ≡ open_to (world_of ring.old) (suc place) receiver }
-    ensures seats { vec_len ring.new.seats ≡ vec_len ring.old.seats }
-    ensures seats_room { vec_capacity ring.new.seats ≡ vec_capacity ring.old.seats }
+    ensures members { vec_len ring.new.members ≡ vec_len ring.old.members }
+    ensures members_room { vec_capacity ring.new.members ≡ vec_capacity ring.old.members }
 {
-    let out = ring.wires.len();
-    ring.wires.push_reserved(wire);
-    seats::set_out(&mut ring.seats, place, out);
+    let out = ring.links.len();
+    ring.links.push_reserved(link);
+    plain_members::set_out(&mut ring.members, place, out);
 }
 
 /// It sends on a new link from now on, and the one before it ends. All that wants memory comes first.
@@ -139,22 +137,22 @@ fn move_to(
         (end_out ending.Moved (look_at (world_of ring.old) (suc place) version)
         (member_at (world_of ring.old) (suc place)).out) (suc place) receiver) }
     ensures err { OnErr result (world_of ring.new ≡ world_of ring.old) }
-    ensures seats { vec_len ring.new.seats ≡ vec_len ring.old.seats }
-    ensures seats_room { vec_capacity ring.new.seats ≡ vec_capacity ring.old.seats }
+    ensures members { vec_len ring.new.members ≡ vec_len ring.old.members }
+    ensures members_room { vec_capacity ring.new.members ≡ vec_capacity ring.old.members }
 {
-    let out = ring.seats[place].out;
-    let wire = Wire::open(
+    let out = ring.members[place].out;
+    let link = PlainLink::open(
         alloc,
         ring.credit,
         id_at(place),
         receiver,
         version,
-        &ring.seats[place],
+        &ring.members[place],
     )?;
-    make_room(&mut ring.wires)?;
+    make_room(&mut ring.links)?;
     look(ring, place, version, current);
     end_sending(ring, out);
-    open(ring, place, receiver, wire);
+    open(ring, place, receiver, link);
     Ok(())
 }
 
@@ -166,16 +164,14 @@ pub(crate) fn refresh(
     place: usize,
     version: u32,
 ) -> Result<(), OutOfMemory>
-    requires placed { IsPlaced (world_of ring.old) }
-    requires place { place < length ring.old.seats.items }
-    requires up { (member_at (world_of ring.old) (suc place)).phase ≡ phase.Up }
+    requires up { IsUpAt ring.old place }
     requires later { (member_at (world_of ring.old) (suc place)).version ≤ version }
     requires upto { version ≤ the_newest (world_of ring.old) }
     ensures ok { OnOk result (world_of ring.new
         ≡ refreshed (world_of ring.old) (suc place) version) }
     ensures err { OnErr result (world_of ring.new ≡ world_of ring.old) }
-    ensures seats { vec_len ring.new.seats ≡ vec_len ring.old.seats }
-    ensures seats_room { vec_capacity ring.new.seats ≡ vec_capacity ring.old.seats }
+    ensures members { vec_len ring.new.members ≡ vec_len ring.old.members }
+    ensures members_room { vec_capacity ring.new.members ≡ vec_capacity ring.old.members }
 {
     let receiver = right_in(view_of(&ring.views, version), id_at(place));
     let current = kept_current(ring, place, version);

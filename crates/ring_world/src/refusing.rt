@@ -1,10 +1,10 @@
 //! A member refuses what a client asked of it.
-ghost use Rattle.std.specs.Prelude.{◌≡◌, ◌<◌, suc, not, length, Option};
+ghost use Rattle.std.specs.Prelude.{◌≡◌, suc, not, Option};
 ghost use Rattle.ring_names.specs.declared.reason.Reason.{Reason};
 ghost use Rattle.ring_names.specs.declared.reason.Reason.TheVariants as reason;
 ghost use Rattle.ring_rules.specs.Refusal.{answer_of, refuse_if};
 ghost use Rattle.ring_rules.specs.Event.{event_of, doing_refusal, is_passing as passes, is_told as told};
-ghost use Rattle.ring_world.specs.Placed.{IsPlaced};
+ghost use Rattle.ring_world.specs.Placed.{IsPlacedAt};
 ghost use Rattle.ring_world.specs.Shows.{world_of};
 
 use crate::asking::{may_ask, may_publish};
@@ -32,8 +32,7 @@ fn is_told(code: u32, answer: Result<(), Reason>) -> bool
 
 /// Whether the member at a place may do what a client asks of it.
 fn may_do(ring: &Ring, place: usize, asked: &Client) -> Result<(), Reason>
-    requires placed { IsPlaced (world_of ring.now) }
-    requires place { place < length ring.now.seats.items }
+    requires { IsPlacedAt ring.now place }
     ensures { result ≡ answer_of (doing_refusal (world_of ring.now) (event_of asked.now) (suc place)) }
 {
     match asked {
@@ -50,8 +49,7 @@ fn may_do(ring: &Ring, place: usize, asked: &Client) -> Result<(), Reason>
 
 /// Whether it may refuse that with this number.
 pub(crate) fn may_refuse(ring: &Ring, place: usize, code: u32, asked: &Client) -> Result<(), Reason>
-    requires placed { IsPlaced (world_of ring.now) }
-    requires place { place < length ring.now.seats.items }
+    requires { IsPlacedAt ring.now place }
     ensures { result ≡ answer_of (refuse_if
         (not (told code (doing_refusal (world_of ring.now) (event_of asked.now) (suc place))))
         reason.NotRefused) }

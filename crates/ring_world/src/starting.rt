@@ -1,16 +1,14 @@
 //! How a ring opens.
-ghost use Rattle.std.specs.Prelude.{◌≡◌, ◌<◌, ◌≤◌, ◌+◌, [], ◌∷◌, suc, true, length, map, IfOk};
+ghost use Rattle.std.specs.Prelude.{◌≡◌, ◌<◌, ◌≤◌, suc, true, length, map, IfOk};
 ghost use Rattle.std.specs.List.{range_with_len};
 ghost use Rattle.group_view.specs.Change.{AreOpeningNames, opening as opening_group};
-ghost use Rattle.group_view.specs.Ring.{is_in};
-ghost use Rattle.ring_rules.specs.View.{ids};
-ghost use Rattle.ring_rules.specs.Step.{opening as the_opening, opening_member, opening_link};
+ghost use Rattle.ring_rules.specs.Step.{opening as the_opening, opening_member as the_opening_member, opening_link as the_opening_link};
 ghost use Rattle.ring_world.specs.Shows.{world_of, member_of, link_of};
 
 use crate::neighbours::{id_at, left_in, right_in};
-use crate::seat::{Seat, opening_rows};
+use crate::plain_link::PlainLink;
+use crate::plain_member::{PlainMember, opening_rows};
 use crate::state::Ring;
-use crate::wire::Wire;
 use group_view::View;
 use queue_mirror::Mirror;
 use ring_names::{CreditSpec, Name, OutOfMemory};
@@ -19,20 +17,20 @@ use std::alloc::Global;
 
 /// The member at a place.
 #[tactic(auto, using(crate::proofs::code::Starts::opening_stands, crate::proofs::code::Starts::name_at))]
-fn opening_seat(
+fn opening_member(
     alloc: Global,
     view: &View,
     names: &[Name],
     place: usize,
-) -> Result<Seat, OutOfMemory>
+) -> Result<PlainMember, OutOfMemory>
     requires view { view.now ≡ opening_group names.now }
     requires place { place < length names.now }
     requires few { length names.now ≤ 64 }
-    ensures { IfOk result (λ seat. member_of seat ≡ opening_member names.now (suc place)) }
+    ensures { IfOk result (λ member. member_of member ≡ the_opening_member names.now (suc place)) }
 {
     let left = left_in(view, id_at(place));
     let rows = opening_rows(alloc, names.len() + 1)?;
-    Ok(Seat {
+    Ok(PlainMember {
         name: names[place],
         phase: Phase::Up,
         version: 1,
@@ -48,56 +46,60 @@ fn opening_seat(
 }
 
 /// A member for each name.
-fn opening_seats(alloc: Global, view: &View, names: &[Name]) -> Result<Vec<Seat>, OutOfMemory>
+fn opening_members(
+    alloc: Global,
+    view: &View,
+    names: &[Name],
+) -> Result<Vec<PlainMember>, OutOfMemory>
     requires view { view.now ≡ opening_group names.now }
     requires few { length names.now ≤ 64 }
     ensures { IfOk result (λ v. map member_of v.items
-        ≡ map (opening_member names.now) (range_with_len 1 (length names.now))) }
+        ≡ map (the_opening_member names.now) (range_with_len 1 (length names.now))) }
 {
-    let mut seats = Vec::new(alloc);
+    let mut members = Vec::new(alloc);
     for place in 0..names.len() {
-        let seat = opening_seat(alloc, view, names, place)?;
-        seats.push(seat)?;
+        let member = opening_member(alloc, view, names, place)?;
+        members.push(member)?;
     }
-    Ok(seats)
+    Ok(members)
 }
 
 /// The link of the member at a place.
 #[tactic(auto, using(crate::proofs::code::Starts::opening_stands))]
-fn opening_wire(
+fn opening_link(
     alloc: Global,
     view: &View,
     names: &[Name],
     place: usize,
     credit: CreditSpec,
-) -> Wire
+) -> PlainLink
     requires view { view.now ≡ opening_group names.now }
     requires place { place < length names.now }
     requires few { length names.now ≤ 64 }
-    ensures { link_of result ≡ opening_link credit names.now (suc place) }
+    ensures { link_of result ≡ the_opening_link credit names.now (suc place) }
 {
     let id = id_at(place);
-    Wire::new(alloc, credit, id, right_in(view, id), 1)
+    PlainLink::new(alloc, credit, id, right_in(view, id), 1)
 }
 
 /// A link for each name.
-fn opening_wires(
+fn opening_links(
     alloc: Global,
     view: &View,
     names: &[Name],
     credit: CreditSpec,
-) -> Result<Vec<Wire>, OutOfMemory>
+) -> Result<Vec<PlainLink>, OutOfMemory>
     requires view { view.now ≡ opening_group names.now }
     requires few { length names.now ≤ 64 }
     ensures { IfOk result (λ v. map link_of v.items
-        ≡ map (opening_link credit names.now) (range_with_len 1 (length names.now))) }
+        ≡ map (the_opening_link credit names.now) (range_with_len 1 (length names.now))) }
 {
-    let mut wires = Vec::new(alloc);
+    let mut links = Vec::new(alloc);
     for place in 0..names.len() {
-        let wire = opening_wire(alloc, view, names, place, credit);
-        wires.push(wire)?;
+        let link = opening_link(alloc, view, names, place, credit);
+        links.push(link)?;
     }
-    Ok(wires)
+    Ok(links)
 }
 
 /// The ring with these members.
@@ -110,13 +112,13 @@ pub(crate) fn opening(
     ensures { IfOk result (λ ring. world_of ring ≡ the_opening credit names.now) }
 {
     let view = View::opening(alloc, names)?;
-    let seats = opening_seats(alloc, &view, names)?;
-    let wires = opening_wires(alloc, &view, names, credit)?;
+    let members = opening_members(alloc, &view, names)?;
+    let links = opening_links(alloc, &view, names, credit)?;
     let mut views = Vec::new(alloc);
     views.push(view)?;
     Ok(Ring {
-        seats,
-        wires,
+        members,
+        links,
         views,
         credit,
     })

@@ -1,6 +1,6 @@
 //! The parts of the machine.
-use crate::seat::Seat;
-use crate::wire::Wire;
+use crate::plain_link::PlainLink;
+use crate::plain_member::PlainMember;
 use group_view::View;
 use ring_names::CreditSpec;
 
@@ -8,8 +8,8 @@ use ring_names::CreditSpec;
 /// version, of which the one at place 0 has version 1; and the credit with which each link opens.
 #[derive(Drop)]
 pub struct Ring {
-    pub(crate) seats: Vec<Seat>,
-    pub(crate) wires: Vec<Wire>,
+    pub(crate) members: Vec<PlainMember>,
+    pub(crate) links: Vec<PlainLink>,
     pub(crate) views: Vec<View>,
     pub(crate) credit: CreditSpec,
 }

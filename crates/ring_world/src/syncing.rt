@@ -1,5 +1,5 @@
 //! A member whose mirror lacks nothing is registered as synchronised.
-ghost use Rattle.std.specs.Prelude.{◌≡◌, ◌<◌, ◌+◌, suc, true, false, length, None, IfOk, OnOk, OnErr};
+ghost use Rattle.std.specs.Prelude.{◌≡◌, ◌+◌, suc, true, false, None, IfOk, OnOk, OnErr};
 ghost use Rattle.group_view.specs.Change.{registered};
 ghost use Rattle.group_view.specs.View.{entry_in};
 ghost use Rattle.promotion.specs.Elect.{installed};
@@ -8,7 +8,7 @@ ghost use Rattle.ring_rules.specs.Machine.{member_at, newest as the_newest};
 ghost use Rattle.ring_rules.specs.Step.{with_view};
 ghost use Rattle.ring_rules.specs.Event.{synced_refusal, synced_view, refreshed};
 ghost use Rattle.ring_rules.specs.View.{is_live};
-ghost use Rattle.ring_world.specs.Placed.{IsReady};
+ghost use Rattle.ring_world.specs.Placed.{IsReadyAt};
 ghost use Rattle.ring_world.specs.Shows.{world_of};
 
 use crate::changing::change;
@@ -37,8 +37,7 @@ fn after_registering(view: &View, id: u32) -> Result<View, OutOfMemory>
 /// The member at a place is registered, and reads the view that follows.
 #[tactic(auto, using(ring_rules::proofs::code::Enables::sync_unsynced))]
 pub(crate) fn sync(alloc: Global, ring: &mut Ring, place: usize) -> Result<(), OutOfMemory>
-    requires ready { IsReady (world_of ring.old) }
-    requires place { place < length ring.old.seats.items }
+    requires ready { IsReadyAt ring.old place }
     requires up { (member_at (world_of ring.old) (suc place)).phase ≡ phase.Up }
     requires enabled { synced_refusal (world_of ring.old) (suc place) ≡ None }
     ensures ok { OnOk result (world_of ring.new

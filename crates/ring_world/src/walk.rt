@@ -1,32 +1,32 @@
 //! The walk of an origin round the ring.
-ghost use Rattle.std.specs.Prelude.{◌≡◌, ◌<◌, ◌≤◌, ◌+◌, ◌++◌, ◌∷◌, [], suc, true, false, ◌&&◌, ◌||◌, not, nat_eq};
-ghost use Rattle.std.specs.Prelude.{nat_le, length, map, reverse, take, drop, position, Option, Some, None};
+ghost use Rattle.std.specs.Prelude.{◌≡◌, ◌<◌, ◌≤◌, ◌+◌, ◌++◌, ◌∷◌, [], suc, true, false, ◌||◌, nat_eq};
+ghost use Rattle.std.specs.Prelude.{length, map, reverse, take, drop, position, Option, Some, None};
 ghost use Rattle.std.specs.Prelude.{option_map, IfSome, IfNone, IfOk, OnOk, All};
 ghost use Rattle.std.specs.List.{filter, flat_map};
 ghost use Rattle.group_view.specs.Ring.{is_in, rotated};
 ghost use Rattle.group_view.specs.View.{ids as ids_of};
 ghost use Rattle.group_view.specs.Parts.{place_of as the_place};
-ghost use Rattle.ring_rules.specs.View.{ids, between};
-ghost use Rattle.ring_rules.specs.Machine.{numbers_at as the_numbers, row_at, member_at, link_at, view_in};
+ghost use Rattle.ring_rules.specs.View.{between};
+ghost use Rattle.ring_rules.specs.Machine.{row_at, member_at};
 ghost use Rattle.ring_rules.specs.Machine.{oldest as the_oldest};
-ghost use Rattle.ring_rules.specs.Machine.{runs as runs_at, newest as the_newest, is_waiting, ring as ring_ids};
-ghost use Rattle.ring_rules.specs.OpenLinks.{is_late as late_is, is_open as open_is, passes as the_test};
+ghost use Rattle.ring_rules.specs.Machine.{runs as runs_at, newest as the_newest, ring as ring_ids};
+ghost use Rattle.ring_rules.specs.OpenLinks.{is_open as open_is, passes as the_test};
 ghost use Rattle.ring_rules.specs.OpenLinks.{number as the_number};
 ghost use Rattle.ring_rules.specs.OpenLinks.{is_place as place_is, packets_of as the_packets, round_trip};
 ghost use Rattle.ring_rules.specs.OpenLinks.{running_on as all_running_on, owner as the_owner, the_walk};
 ghost use Rattle.ring_rules.specs.OpenLinks.{walk_of as the_walk_of, walk_named};
 ghost use Rattle.ring_rules.specs.Event.{id_of as the_id};
-ghost use Rattle.ring_world.specs.Placed.{IsPlaced, IsRunningAt};
+ghost use Rattle.ring_world.specs.Placed.{IsPlaced, IsPlacedAt, IsRunningAt};
 ghost use Rattle.ring_world.specs.declared.walk.Part.TheVariants as part;
 ghost use Rattle.ring_world.specs.declared.walk.Round.TheVariants as kind;
-ghost use Rattle.ring_world.specs.Shows.{world_of, member_of, link_of, packet_of, row_of};
+ghost use Rattle.ring_world.specs.Shows.{world_of, member_of, link_of, packet_of};
 ghost use Rattle.ring_world.specs.Walking.{reads, reads_row, says, counts, said, said_on, stop_says, is_from_left};
 
 use crate::neighbours::{id_at, left_in, newest_view, view_of};
 use crate::places::place_in;
-use crate::seat::Seat;
+use crate::plain_link::{Packet, PlainLink};
+use crate::plain_member::PlainMember;
 use crate::state::Ring;
-use crate::wire::{Packet, Wire};
 use group_view::{Entry, View};
 use ring_names::{MemberId, Name, OutOfMemory};
 use ring_rules::{Numbers, Phase, numbers_at};
@@ -67,10 +67,10 @@ impl Round {
     }
 
     /// Of what a member knows.
-    fn of_seat(self, seat: &Seat, origin: usize) -> u64
-        ensures { result ≡ reads_row self (row_at (member_of seat.now) origin) }
+    fn of_member(self, member: &PlainMember, origin: usize) -> u64
+        ensures { result ≡ reads_row self (row_at (member_of member.now) origin) }
     {
-        let (got, forgot) = seat.got_and_forgot(origin);
+        let (got, forgot) = member.got_and_forgot(origin);
         match self {
             Round::Got => got,
             Round::Forgot => forgot,
@@ -85,10 +85,10 @@ impl Round {
     }
 
     /// Of the oldest packet of a link.
-    fn of_oldest(self, wire: &Wire, origin: usize) -> u64
-        ensures { result ≡ says self origin (the_oldest (link_of wire.now)) }
+    fn of_oldest(self, link: &PlainLink, origin: usize) -> u64
+        ensures { result ≡ says self origin (the_oldest (link_of link.now)) }
     {
-        match wire.packets.first() {
+        match link.packets.first() {
             None => 0,
             Some(packet) => self.of_packet(packet, origin),
         }
@@ -98,42 +98,41 @@ impl Round {
 /// The number of the member at a place: a waiting one has that of its first packet.
 #[tactic(auto, using(crate::proofs::code::Rules::reading, crate::proofs::code::Found::current_within))]
 fn own_number(ring: &Ring, round: Round, origin: usize, place: usize) -> u64
-    requires placed { IsPlaced (world_of ring.now) }
-    requires place { place < length ring.now.seats.items }
+    requires { IsPlacedAt ring.now place }
     ensures { result ≡ the_number (reads round) (reads_row round) (world_of ring.now) origin (suc place) }
 {
-    let seat = &ring.seats[place];
-    if !matches!(seat.phase, Phase::Waiting) {
-        return round.of_seat(seat, origin);
+    let member = &ring.members[place];
+    if !matches!(member.phase, Phase::Waiting) {
+        return round.of_member(member, origin);
     }
-    match seat.current {
+    match member.current {
         None => 0,
-        Some(current) => round.of_oldest(&ring.wires[current], origin),
+        Some(current) => round.of_oldest(&ring.links[current], origin),
     }
 }
 
 /// Whether a link comes from the left neighbour of that view, which it was already when the link opened.
-fn comes_from_left(view: &View, id: u32, wire: &Wire) -> bool
-    ensures { result ≡ is_from_left view.now id (link_of wire.now) }
+fn comes_from_left(view: &View, id: u32, link: &PlainLink) -> bool
+    ensures { result ≡ is_from_left view.now id (link_of link.now) }
 {
-    wire.sender == left_in(view, id) && view.since_of(MemberId(id)) <= wire.opened
+    link.sender == left_in(view, id) && view.since_of(MemberId(id)) <= link.opened
 }
 
 /// Whether a link passes the test at a running member's door.
-fn passes(ring: &Ring, place: usize, wire: &Wire) -> bool
+fn passes(ring: &Ring, place: usize, link: &PlainLink) -> bool
     requires runs { IsRunningAt ring.now place }
-    requires opened { wire.now.opened ≤ the_newest (world_of ring.now) }
-    ensures { result ≡ the_test (world_of ring.now) (suc place) (link_of wire.now) }
+    requires opened { link.now.opened ≤ the_newest (world_of ring.now) }
+    ensures { result ≡ the_test (world_of ring.now) (suc place) (link_of link.now) }
 {
-    let version = ring.seats[place].version.max(wire.opened);
-    comes_from_left(view_of(&ring.views, version), id_at(place), wire)
+    let version = ring.members[place].version.max(link.opened);
+    comes_from_left(view_of(&ring.views, version), id_at(place), link)
 }
 
 /// Whether a member takes from the link of that place.
-fn is_current(seat: &Seat, s: usize) -> bool
-    ensures { result ≡ place_is (member_of seat.now).current s }
+fn is_current(member: &PlainMember, s: usize) -> bool
+    ensures { result ≡ place_is (member_of member.now).current s }
 {
-    match seat.current {
+    match member.current {
         None => false,
         Some(current) => current == s,
     }
@@ -143,14 +142,14 @@ fn is_current(seat: &Seat, s: usize) -> bool
 #[tactic(auto, using(crate::proofs::code::ShownParts::read_member, crate::proofs::code::ShownParts::read_link))]
 pub(crate) fn is_open(ring: &Ring, place: usize, s: usize) -> bool
     requires runs { IsRunningAt ring.now place }
-    requires link { s < length ring.now.wires.items }
+    requires link { s < length ring.now.links.items }
     ensures { result ≡ open_is (world_of ring.now) (suc place) s }
 {
-    if is_current(&ring.seats[place], s) {
+    if is_current(&ring.members[place], s) {
         return true;
     }
-    let wire = &ring.wires[s];
-    wire.receiver == id_at(place) && !wire.over && passes(ring, place, wire)
+    let link = &ring.links[s];
+    link.receiver == id_at(place) && !link.over && passes(ring, place, link)
 }
 
 /// Whether what comes from a sender to the owner is late.
@@ -166,13 +165,12 @@ fn is_late(view: &View, origin: u32, id: u32, sender: u32) -> bool
 /// Whether a link that is open to a member counts.
 #[tactic(auto, using(crate::proofs::code::ShownParts::read_link))]
 fn is_counted(ring: &Ring, part: Part, origin: u32, place: usize, s: usize) -> bool
-    requires placed { IsPlaced (world_of ring.now) }
-    requires place { place < length ring.now.seats.items }
-    requires link { s < length ring.now.wires.items }
+    requires placed { IsPlacedAt ring.now place }
+    requires link { s < length ring.now.links.items }
     ensures { result ≡ counts part (world_of ring.now) origin (suc place) s }
 {
     let view = newest_view(ring);
-    let sender = ring.wires[s].sender;
+    let sender = ring.links[s].sender;
     match part {
         Part::Every => true,
         Part::Early => !is_late(view, origin, id_at(place), sender),
@@ -183,13 +181,13 @@ fn is_counted(ring: &Ring, part: Part, origin: u32, place: usize, s: usize) -> b
 /// The packets that count of a link that is open to a member: a waiting one has its first packet's numbers.
 #[tactic(auto, using(crate::proofs::code::ShownParts::read_member, crate::proofs::code::ShownParts::read_link))]
 fn packets_of(ring: &Ring, place: usize, s: usize) -> &[Packet]
-    requires place { place < length ring.now.seats.items }
-    requires link { s < length ring.now.wires.items }
+    requires place { place < length ring.now.members.items }
+    requires link { s < length ring.now.links.items }
     ensures { map packet_of result.now ≡ the_packets (world_of ring.now) (suc place) s }
 {
-    let seat = &ring.seats[place];
-    let packets = ring.wires[s].packets.as_slice();
-    if packets.is_empty() || !matches!(seat.phase, Phase::Waiting) || !is_current(seat, s) {
+    let member = &ring.members[place];
+    let packets = ring.links[s].packets.as_slice();
+    if packets.is_empty() || !matches!(member.phase, Phase::Waiting) || !is_current(member, s) {
         return packets;
     }
     let (_, behind) = packets.split_at(1);
@@ -221,7 +219,7 @@ fn push_link(
     s: usize,
 ) -> Result<(), OutOfMemory>
     requires runs { IsRunningAt ring.now place }
-    requires link { s < length ring.now.wires.items }
+    requires link { s < length ring.now.links.items }
     ensures { OnOk result (walk.new.items ≡ walk.old.items
         ++ said_on of.round of.part (world_of ring.now) of.origin (suc place)
         (filter (open_is (world_of ring.now) (suc place)) (s ∷ []))) }
@@ -243,7 +241,7 @@ fn push_open(walk: &mut Vec<u64>, ring: &Ring, of: Reading, place: usize) -> Res
     ensures { OnOk result (walk.new.items
         ≡ walk.old.items ++ said of.round of.part (world_of ring.now) of.origin (suc place)) }
 {
-    for s in (0..ring.wires.len()).rev() {
+    for s in (0..ring.links.len()).rev() {
         push_link(walk, ring, of, place, s)?;
     }
     Ok(())
@@ -269,7 +267,7 @@ fn push_stops(
     further: &[usize],
 ) -> Result<(), OutOfMemory>
     requires placed { IsPlaced (world_of ring.now) }
-    requires within { All (λ place. place < length ring.now.seats.items) further.now }
+    requires within { All (λ place. place < length ring.now.members.items) further.now }
     requires running { All (λ place. runs_at (world_of ring.now) (suc place) ≡ true) further.now }
     ensures { OnOk result (walk.new.items
         ≡ walk.old.items ++ flat_map (λ place. stop_says round part.Every (world_of ring.now) origin (suc place))
@@ -296,7 +294,7 @@ fn push_round(
     stops: &[usize],
 ) -> Result<(), OutOfMemory>
     requires placed { IsPlaced (world_of ring.now) }
-    requires within { All (λ place. place < length ring.now.seats.items) stops.now }
+    requires within { All (λ place. place < length ring.now.members.items) stops.now }
     requires running { All (λ place. runs_at (world_of ring.now) (suc place) ≡ true) stops.now }
     ensures { OnOk result (walk.new.items
         ≡ walk.old.items ++ round_trip (reads round) (reads_row round) (world_of ring.now) origin
@@ -325,10 +323,10 @@ pub(crate) fn running_place(ring: &Ring, id: usize) -> Option<usize>
     ensures runs { IfSome result (λ place. runs_at (world_of ring.now) id ≡ true) }
     ensures none { IfNone result (runs_at (world_of ring.now) id ≡ false) }
 {
-    if id == 0 || id > ring.seats.len() {
+    if id == 0 || id > ring.members.len() {
         return None;
     }
-    if ring.seats[id - 1].phase.is_stopped() {
+    if ring.members[id - 1].phase.is_stopped() {
         return None;
     }
     Some(id - 1)
@@ -391,7 +389,7 @@ fn newest_entries(ring: &Ring) -> &[Entry]
 fn running_on(alloc: Global, ring: &Ring, id: u32) -> Result<Vec<usize>, OutOfMemory>
     requires placed { IsPlaced (world_of ring.now) }
     ensures value { IfOk result (λ v. map suc v.items ≡ all_running_on (world_of ring.now) id) }
-    ensures within { IfOk result (λ v. All (λ place. place < length ring.now.seats.items) v.items) }
+    ensures within { IfOk result (λ v. All (λ place. place < length ring.now.members.items) v.items) }
     ensures running { IfOk result (λ v. All (λ place. runs_at (world_of ring.now) (suc place) ≡ true) v.items) }
 {
     let running = running_among(alloc, ring, newest_entries(ring), id)?;
@@ -402,7 +400,7 @@ fn running_on(alloc: Global, ring: &Ring, id: u32) -> Result<Vec<usize>, OutOfMe
 fn owner_of(alloc: Global, ring: &Ring, origin: u32) -> Result<Option<usize>, OutOfMemory>
     requires placed { IsPlaced (world_of ring.now) }
     ensures owner { IfOk result (λ found. option_map suc found ≡ the_owner (world_of ring.now) origin) }
-    ensures within { IfOk result (λ found. IfSome found (λ place. place < length ring.now.seats.items)) }
+    ensures within { IfOk result (λ found. IfSome found (λ place. place < length ring.now.members.items)) }
 {
     let running = running_on(alloc, ring, origin)?;
     Ok(running.first().copied())
@@ -416,9 +414,8 @@ fn push_rounds(
     owner: usize,
     stops: &[usize],
 ) -> Result<(), OutOfMemory>
-    requires placed { IsPlaced (world_of ring.now) }
-    requires owner { owner < length ring.now.seats.items }
-    requires within { All (λ place. place < length ring.now.seats.items) stops.now }
+    requires placed { IsPlacedAt ring.now owner }
+    requires within { All (λ place. place < length ring.now.members.items) stops.now }
     requires running { All (λ place. runs_at (world_of ring.now) (suc place) ≡ true) stops.now }
     ensures { OnOk result (walk.new.items
         ≡ walk.old.items ++ (round_trip (reads kind.Got) (reads_row kind.Got) (world_of ring.now) origin
@@ -428,7 +425,7 @@ fn push_rounds(
 {
     push_round(walk, ring, Round::Got, origin, stops)?;
     push_round(walk, ring, Round::Forgot, origin, stops)?;
-    walk.push(ring.seats[owner].retired(origin as usize))?;
+    walk.push(ring.members[owner].retired(origin as usize))?;
     Ok(())
 }
 
@@ -440,8 +437,7 @@ fn push_walk(
     origin: u32,
     owner: usize,
 ) -> Result<(), OutOfMemory>
-    requires placed { IsPlaced (world_of ring.now) }
-    requires owner { owner < length ring.now.seats.items }
+    requires { IsPlacedAt ring.now owner }
     ensures { OnOk result (walk.new.items
         ≡ walk.old.items ++ the_walk_of (world_of ring.now) origin (Some (suc owner))) }
 {

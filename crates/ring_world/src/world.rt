@@ -166,7 +166,7 @@ impl World {
         ensures value { result + 1 ≡ size (self.now).ring }
         ensures few { result ≤ 64 }
     {
-        self.ring.seats.len() as u32
+        self.ring.members.len() as u32
     }
 
     /// The name of the member of an id, by which the other calls find it. It wants no memory.
@@ -221,6 +221,7 @@ impl World {
 
     /// What a member has published, and how much of it has come round to it: every member that is up has received
     /// that, or counted it by its first packet. It wants no memory.
+    #[tactic(auto, using(crate::proofs::code::Running::running_placed))]
     pub fn counts(&self, by: &Name) -> Counts
         requires { IsSome (id_of (self.now).ring by.now) }
         ensures { result ≡ counts_at (self.now).ring (id_of (self.now).ring by.now) }

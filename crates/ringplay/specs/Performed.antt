@@ -74,7 +74,7 @@ abbrev pub given_of : Text Command → List Command
 given_of script = commands_on script.lines ++ Settle ∷ []
 
 -- The journal is a lawful run. Each member's client events in it are its commands, and at each settling all earlier
--- commands were done or refused and the ring was quiet. Its last state is quiet, each message of a running member is
+-- commands were done or refused and the ring rested. It rests in the last state, each message of a running member is
 -- confirmed there, and every member that is up has heard all these from its base on; and the text is the report of it
 -- and of all refusals.
 pub record IsPlayed (script : Text Command) (journal : List Event) (text : List ℕ) : Type 0 where

@@ -290,6 +290,241 @@ heard a a1
 heard a a2
 heard b b1
 heard c c1
+==== examples/burst_then_kill.script
+play
+# A publisher is killed behind a burst. In a round its first turn does the head of its agenda, its second its own
+# work, and so does each eighth from there on: so all but the last cast are on its link when it stops.
+members a b c
+
+cast b x1
+cast b x2
+cast b x3
+cast b x4
+cast b x5
+cast b x6
+cast b x7
+cast b x8
+cast b x9
+cast b x10
+cast b x11
+cast b x12
+go 4
+kill b
+settle
+=> Done, status 0
+ring view=3 term=1 master=a
+member a up synced
+casts 0 confirmed 0
+publishes 0 confirmed 0
+heard b x1
+heard b x2
+heard b x3
+heard b x4
+heard b x5
+heard b x6
+heard b x7
+heard b x8
+heard b x9
+heard b x10
+heard b x11
+member b erased
+casts 12 confirmed 1
+publishes 0 confirmed 0
+member c up synced
+casts 0 confirmed 0
+publishes 0 confirmed 0
+heard b x1
+heard b x2
+heard b x3
+heard b x4
+heard b x5
+heard b x6
+heard b x7
+heard b x8
+heard b x9
+heard b x10
+heard b x11
+==== examples/newcomer_killed.script
+play
+# A newcomer is killed before it has taken its first packet, so nothing is asked of it any more. Its neighbours close
+# the ring again, and what was on its link is heard by all.
+members a b c
+
+cast a a1
+settle
+
+join a n
+kill n
+cast n n1
+cast a a2
+cast c c1
+settle
+=> Done, status 0
+ring view=4 term=1 master=a
+member a up synced
+casts 2 confirmed 2
+publishes 0 confirmed 0
+heard a a1
+heard a a2
+heard c c1
+member b up synced
+casts 0 confirmed 0
+publishes 0 confirmed 0
+heard a a1
+heard a a2
+heard c c1
+member c up synced
+casts 1 confirmed 1
+publishes 0 confirmed 0
+heard a a1
+heard a a2
+heard c c1
+member n erased
+casts 0 confirmed 0
+publishes 0 confirmed 0
+refused 12 cast n n1
+==== examples/rolling_restart.script
+play
+# A rolling restart: three nodes are replaced in turn, while clients go on publishing. No newcomer's copy of the queue
+# is complete, so with the last of the old ones the queue has no master.
+members a b c
+
+cast a a1
+cast b b1
+cast c c1
+settle
+
+join a d
+cast b b2
+settle
+kill a
+cast c c2
+settle
+
+join b e
+cast d d1
+settle
+kill b
+cast c c3
+settle
+
+join c f
+cast d d2
+settle
+kill c
+cast e e1
+settle
+=> Done, status 0
+ring view=10 term=3 master=none
+member a erased
+casts 1 confirmed 1
+publishes 0 confirmed 0
+member b erased
+casts 2 confirmed 2
+publishes 0 confirmed 0
+member c erased
+casts 3 confirmed 3
+publishes 0 confirmed 0
+member d up missing=?
+casts 2 confirmed 2
+publishes 0 confirmed 0
+heard b b2
+heard c c2
+heard c c3
+heard d d1
+heard d d2
+heard e e1
+member e up missing=?
+casts 1 confirmed 1
+publishes 0 confirmed 0
+heard c c3
+heard d d1
+heard d d2
+heard e e1
+member f up missing=?
+casts 0 confirmed 0
+publishes 0 confirmed 0
+heard d d2
+heard e e1
+==== examples/eight_members.script
+play
+# Eight members, each link with room for one packet.
+members a b c d e f g h
+credit 1 1
+
+cast a a1
+cast d d1
+cast h h1
+go 2
+cast a a2
+cast e e1
+settle
+=> Done, status 0
+ring view=1 term=1 master=a
+member a up synced
+casts 2 confirmed 2
+publishes 0 confirmed 0
+heard a a1
+heard a a2
+heard d d1
+heard e e1
+heard h h1
+member b up synced
+casts 0 confirmed 0
+publishes 0 confirmed 0
+heard a a1
+heard a a2
+heard d d1
+heard e e1
+heard h h1
+member c up synced
+casts 0 confirmed 0
+publishes 0 confirmed 0
+heard a a1
+heard a a2
+heard d d1
+heard e e1
+heard h h1
+member d up synced
+casts 1 confirmed 1
+publishes 0 confirmed 0
+heard a a1
+heard a a2
+heard d d1
+heard e e1
+heard h h1
+member e up synced
+casts 1 confirmed 1
+publishes 0 confirmed 0
+heard a a1
+heard a a2
+heard d d1
+heard e e1
+heard h h1
+member f up synced
+casts 0 confirmed 0
+publishes 0 confirmed 0
+heard a a1
+heard a a2
+heard d d1
+heard e e1
+heard h h1
+member g up synced
+casts 0 confirmed 0
+publishes 0 confirmed 0
+heard a a1
+heard a a2
+heard d d1
+heard e e1
+heard h h1
+member h up synced
+casts 1 confirmed 1
+publishes 0 confirmed 0
+heard a a1
+heard a a2
+heard d d1
+heard e e1
+heard h h1
 ==== examples/all_but_one_killed.script
 play
 # Of four members one is left. It has the others marked dead and erased, and is the master then.

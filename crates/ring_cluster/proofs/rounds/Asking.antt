@@ -1,5 +1,5 @@
 -- What a member has to do by itself, as it is asked.
-use Rattle.std.proofs.Common.{◌≡◌, ◌≢◌, ℕ, ◌-◌, ◌<◌, ◌≤◌, Bool, true, false, not, Option, Some, None, is_some, sym, ap, ◌∙◌}
+use Rattle.std.proofs.Common.{◌≡◌, ◌≢◌, ℕ, ◌<◌, ◌≤◌, Bool, true, false, not, Option, Some, None, is_some, sym, ap, ◌∙◌}
 use Rattle.ring_names.specs.declared.reason.Reason.{Reason}
 use Rattle.ring_rules.specs.declared.event.Event.TheVariants.{Mark}
 use Rattle.ring_rules.specs.declared.phase.Phase.TheVariants.{Stopped}

@@ -1,5 +1,5 @@
--- What a member that stands in a state, where members may stop, holds of it.
-use Rattle.std.proofs.Common.{◌≡◌, ℕ, ◌+◌, ◌-◌, ◌<◌, ◌≤◌, Bool, true, false, not, ◌||◌, nat_eq, List, length, Some, None, refl, sym, ap, ◌∙◌, arith}
+-- What a member that stands in a state, where members may stop, holds of it, and what its ends show.
+use Rattle.std.proofs.Common.{◌≡◌, ℕ, ◌+◌, ◌-◌, ◌<◌, ◌≤◌, Bool, true, false, not, ◌||◌, nat_eq, List, [], length, Some, None, refl, sym, ap, subst, ◌∙◌, arith}
 use Rattle.std.specs.Prelude.{◌&&◌, Option, is_some, option_map, position, bytes_eq}
 use Rattle.std.proofs.lemmas.List.{same_lists, length-map, get_or-map}
 use Rattle.ring_rules.proofs.rings.Maps.{position_map}
@@ -7,26 +7,33 @@ use Rattle.group_view.specs.declared.link.LinkName.{LinkName}
 use Rattle.ring_names.specs.declared.numbers.CreditSpec.{CreditSpec}
 use Rattle.ring_rules.specs.declared.event.Event.{Event}
 use Rattle.activity.specs.Kept.{Kept, got_of}
-use Rattle.ring_rules.specs.Machine.{World, member_at, view_in, newest}
+use Rattle.ring_rules.specs.Machine.{World, member_at, link_at, view_in, newest, runs}
 use Rattle.ring_rules.specs.Step.{size, log_of}
 use Rattle.ring_rules.specs.Lawful.{row_of}
 use Rattle.gm_member.specs.Held.{Held, Incoming}
-use Rattle.gm_member.specs.Parcels.{known_at}
+use Rattle.gm_member.specs.Packets.{known_at}
 use Rattle.gm_member.specs.Stands.{kept_by, held_in, outgoing_in}
 use Rattle.gm_member.proofs.Knowing.{got_kept}
 use Rattle.gm_member.specs.Shown.{out_name_of}
 use Rattle.gm_member.proofs.Fit.{IsFit, reached_fit}
 use Rattle.gm_member.proofs.Facts.{held_known, right_row, version_of_view}
 use Rattle.ring_rules.specs.Work.{is_stale}
-use Rattle.ring_cluster.specs.Holds.{HoldsOf}
+use Rattle.ring_cluster.specs.Holds.{HoldsOf, ShowsOf}
 use Rattle.ring_parties.specs.States.{state}
+use Rattle.ring_parties.specs.Ends.{OutSeen, InSeen, HaveMet, items_in}
 use Rattle.ring_parties.specs.Parties.{Shown, Parties, no_shown, node_at, names_shown}
-use Rattle.ring_parties.specs.Standing.{StandAfter, MemberStands}
+use Rattle.ring_parties.specs.Standing.{Places, StandAfter, MemberStands, has_in, has_out}
 use Rattle.ring_cluster.specs.Agendas.{place_among}
 use Rattle.ring_cluster.specs.Published.{names_in}
 use Rattle.ring_parties.specs.Refused.{id_named}
 use Rattle.ring_cluster.proofs.work.Logged.{names_in_many, name_in_at}
+use Rattle.ring_parties.proofs.lists.Lists.{some_injective}
 use Rattle.ring_parties.proofs.lists.Truth.{made_some}
+use Rattle.ring_parties.proofs.work.Lawful.{IsLawfulAt, lawful_at}
+use Rattle.ring_parties.proofs.meetings.NamedLinks.{out_is_open, out_has, current_has}
+use Rattle.ring_parties.proofs.meetings.Known.{all_know}
+use Rattle.ring_parties.proofs.events.OneEvent.{met_both}
+use Rattle.ring_parties.proofs.events.Ready.{all_settled, settled_items}
 
 -- what a member holds that stands at an id, but for its door
 abbrev pub IsHeld : World → ℕ → Held → Type 0
@@ -67,6 +74,46 @@ member_stands credit names events q x s some lt =
 pub member_holds : (credit : CreditSpec) (names : List (List ℕ)) (events : List Event) (q : Parties) (x : ℕ) → StandAfter credit names events q → 1 ≤ x → x < size (state credit names events) → HoldsOf (state credit names events) x (node_at q (x - 1)).held
 member_holds credit names events q x s some lt =
     held_holds (state credit names events) x (node_at q (x - 1)).held (reached_fit credit names events s.journal.are s.journal.run) (member_stands credit names events q x s some lt)
+
+-- what its ends show
+pub member_shows : (credit : CreditSpec) (names : List (List ℕ)) (events : List Event) (q : Parties) (x : ℕ) → StandAfter credit names events q → 1 ≤ x → x < size (state credit names events) → ShowsOf (state credit names events) x (node_at q (x - 1)).ends
+member_shows credit names events q x s some lt = record {
+  items = ap (option_map (λ (n : InSeen). n.items)) stands.link ∙ items_by (member_at w x).current refl;
+  grants = ap (option_map (λ (o : OutSeen). o.back)) stands.out ∙ grants_by (member_at w x).out refl;
+  moved = λ run o is. moved_by (member_at w x).out refl run o (sym stands.out ∙ is);
+  returned = stands.returned;
+  old_outs = stands.old_outs;
+  old_ins = stands.old_ins;
+}
+  where
+    w : World
+    w = state credit names events
+
+    p : Places
+    p = s.stand.places
+
+    stands : MemberStands w p x (node_at q (x - 1))
+    stands = s.stand.stand.each x some lt
+
+    h : IsLawfulAt credit w
+    h = lawful_at credit names events s.journal.are s.journal.run
+
+    items_by : (c : Option ℕ) → (member_at w x).current ≡ c → option_map (λ (n : InSeen). n.items) (option_map p.ins c) ≡ option_map (λ k. items_in w (link_at w k)) c
+    items_by None e = refl
+    items_by (Some k) e =
+        let there : k < length w.links = (h.fit.own_ends.current x k e).0 in
+        let has : has_in w k ≡ true = current_has credit w x k h e in
+        ap Some (settled_items credit.initial w k (p.outs k) (p.ins k) (all_settled w p k s.stand.met there has) (s.stand.stand.carry k there has))
+
+    grants_by : (c : Option ℕ) → (member_at w x).out ≡ c → option_map (λ (o : OutSeen). o.back) (option_map p.outs c) ≡ option_map (λ k. (link_at w k).flow.grants) c
+    grants_by None e = refl
+    grants_by (Some k) e = ap Some (all_know credit.initial w q s.stand k (h.fit.own_ends.out x k e).0 (out_has credit w x k h e))
+
+    moved_by : (c : Option ℕ) → (member_at w x).out ≡ c → runs w x ≡ true → (o : OutSeen) → option_map p.outs c ≡ Some o → o.waiting ≡ []
+    moved_by None e run o is = cc
+    moved_by (Some k) e run o is =
+        let met : HaveMet (p.outs k) (p.ins k) = met_both (has_out w k) (p.outs k) (p.ins k) (out_has credit w x k h e) (s.stand.met k (h.fit.own_ends.out x k e).0 (out_is_open credit w x k h run e)) in
+        subst (λ (y : OutSeen). y.waiting ≡ []) (some_injective (p.outs k) o is) met.moved
 
 -- the names that they show are those of the members
 pub names_are : (credit : CreditSpec) (names : List (List ℕ)) (events : List Event) (q : Parties) → StandAfter credit names events q → names_shown q ≡ names_in (state credit names events)

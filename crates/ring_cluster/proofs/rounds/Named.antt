@@ -11,6 +11,7 @@ use Rattle.ring_rules.specs.Refusal.{is_empty}
 use Rattle.ring_rules.specs.Event.{by_of, asked_of, event_of, is_asked, is_multicast, is_asked_multicast}
 use Rattle.ring_rules.specs.Work.{LeavesLess}
 use Rattle.ring_rules.specs.Settling.{is_repair}
+use Rattle.ring_rules.proofs.events.Kinds.{event_by, event_multicast}
 use Rattle.ring_rules.proofs.work.Fit as ring
 use Rattle.ring_rules.proofs.work.Settling.{repair_less}
 use Rattle.gm_member.proofs.Fit.{IsFit, reached_fit}
@@ -46,22 +47,12 @@ going_ring c g = ring.reached_fit c.credit c.names c.events g.are g.run
 
 -- ---- what is asked
 
--- by whose event it is done
-pub event_by : (t : Client) → by_of (event_of t) ≡ asked_of t
-event_by (client.Cast by body) = refl
-event_by t = refl
-
--- and answered
+-- by whose event it is answered
 pub answered_by : (t : Client) (o : Option Reason) → by_of (answer_by t o) ≡ asked_of t
 answered_by t None = event_by t
 answered_by t (Some r) = refl
 
--- what is of the ring alone is done by such an event
-pub event_multicast : (t : Client) → is_multicast (event_of t) ≡ is_asked_multicast t
-event_multicast (client.Cast by body) = refl
-event_multicast t = refl
-
--- and answered
+-- what is of the ring alone is answered by such an event
 pub answered_multicast : (t : Client) (o : Option Reason) → is_multicast (answer_by t o) ≡ is_asked_multicast t
 answered_multicast t None = event_multicast t
 answered_multicast t (Some r) = refl
@@ -98,21 +89,6 @@ pub same_stop : (t u : Client) → event_of t ≡ event_of u → is_stop t ≡ i
 same_stop t u e = sym (stop_told t) ∙ ap stops e ∙ stop_told u
 
 -- ---- what leaves less to do
-
-pub step_by : (s : LinkStep) (name : List ℕ) → by_of (step_event s name) ≡ name
-step_by step.Pick name = refl
-step_by step.Take name = refl
-step_by step.TakeEnd name = refl
-step_by step.Gain name = refl
-step_by step.Put name = refl
-
--- and it is of the ring alone
-pub step_multicast : (s : LinkStep) (name : List ℕ) → is_multicast (step_event s name) ≡ true
-step_multicast step.Pick name = refl
-step_multicast step.Take name = refl
-step_multicast step.TakeEnd name = refl
-step_multicast step.Gain name = refl
-step_multicast step.Put name = refl
 
 pub step_less : (c : Seen) (s : LinkStep) (by : List ℕ) → IsGoing c → LeavesLess (state_of c) (step_event s by)
 step_less c s by g = repair_less (state_of c) (going_ring c g) (step_event s by) (by_step s)

@@ -1,5 +1,5 @@
 -- When the members of a state have nothing left to do, those of the opening and those that joined.
-use Rattle.std.proofs.Common.{◌≡◌, ◌≢◌, ℕ, ◌+◌, ◌-◌, ◌<◌, ◌≤◌, true, false, List, Option, None, refl, sym, ap, subst, ◌∙◌, arith}
+use Rattle.std.proofs.Common.{◌≡◌, ◌≢◌, ℕ, ◌+◌, ◌-◌, ◌<◌, ◌≤◌, true, List, Option, None, refl, sym, ap, subst, ◌∙◌, arith}
 use Rattle.std.proofs.lemmas.Bool.{false≢true}
 use Rattle.ring_names.specs.declared.numbers.MemberId.{MemberId}
 use Rattle.ring_names.specs.declared.reason.Reason.{Reason}
@@ -11,6 +11,7 @@ use Rattle.ring_rules.specs.Step.{size}
 use Rattle.ring_rules.specs.Event.{erase_refusal, is_multicast, refusal}
 use Rattle.ring_rules.specs.Idle.{NobodySteps, MarksNobody, ErasesNobody}
 use Rattle.ring_rules.specs.Work.{LeavesLess}
+use Rattle.ring_rules.proofs.events.Kinds.{step_by, step_multicast}
 use Rattle.ring_rules.proofs.walks.Ended.{runs_lt}
 use Rattle.ring_rules.proofs.work.Settling.{no_step, no_mark, someone}
 use Rattle.gm_member.proofs.Fit.{IsFit}
@@ -18,31 +19,31 @@ use Rattle.ring_rules.specs.declared.kind.LinkStep.{LinkStep}
 use Rattle.ring_rules.specs.declared.kind.LinkStep.TheVariants as step
 use Rattle.ring_cluster.specs.declared.driver.OwnTurn.{OwnTurn}
 use Rattle.ring_cluster.specs.declared.driver.OwnTurn.TheVariants as turn
+use Rattle.ring_parties.specs.Parties.{Parties}
 use Rattle.ring_parties.specs.Standing.{StandAfter}
 use Rattle.ring_cluster.specs.Seen.{Seen, state_of, IsGoing, SameButOwed}
-use Rattle.ring_parties.specs.States.{state}
 use Rattle.ring_cluster.specs.Turns.{turn_event, HasTurn, RestsAt}
 use Rattle.ring_rules.specs.Kind.{step_event}
 use Rattle.ring_parties.specs.Refused.{IsRefusalAt}
-use Rattle.ring_cluster.proofs.rounds.Named.{going_fit, going_ring, step_by, step_multicast, step_less, mark_less, erase_less}
+use Rattle.ring_cluster.proofs.rounds.Named.{going_fit, going_ring, step_less, mark_less, erase_less}
 use Rattle.ring_cluster.proofs.rounds.Members.{stale_less, refresh_may, erase_may, waiting_takes_in}
 use Rattle.ring_cluster.proofs.rounds.Settling.{right_there}
 
 -- ---- refusals as the parties tell them
 
 -- of a step of the member at a place
-pub step_told : (c : Seen) (i : ℕ) (s : LinkStep) (r : Option Reason) → i + 1 < size (state_of c) → StandAfter c.credit c.names c.events c.shows → ((by : List ℕ) → IsRefusalAt i (step_event s by) c.shows r)
+pub step_told : (c : Seen) (q : Parties) (i : ℕ) (s : LinkStep) (r : Option Reason) → i + 1 < size (state_of c) → StandAfter c.credit c.names c.events q → ((by : List ℕ) → IsRefusalAt i (step_event s by) q r)
     → r ≡ refusal (state_of c) (step_event s (member_at (state_of c) (i + 1)).name)
-step_told c i s r l st h = let name = (member_at (state_of c) (i + 1)).name in h name c.credit c.names c.events st (l, step_by s name, step_multicast s name)
+step_told c q i s r l st h = let name = (member_at (state_of c) (i + 1)).name in h name c.credit c.names c.events st (l, step_by s name, step_multicast s name)
 
 -- and of the one of a name being marked or erased by it
-pub mark_told : (c : Seen) (i : ℕ) (dead : List ℕ) (r : Option Reason) → i + 1 < size (state_of c) → StandAfter c.credit c.names c.events c.shows → ((by : List ℕ) → IsRefusalAt i (Mark by dead) c.shows r)
+pub mark_told : (c : Seen) (q : Parties) (i : ℕ) (dead : List ℕ) (r : Option Reason) → i + 1 < size (state_of c) → StandAfter c.credit c.names c.events q → ((by : List ℕ) → IsRefusalAt i (Mark by dead) q r)
     → r ≡ refusal (state_of c) (Mark (member_at (state_of c) (i + 1)).name dead)
-mark_told c i dead r l st h = h (member_at (state_of c) (i + 1)).name c.credit c.names c.events st (l, refl, refl)
+mark_told c q i dead r l st h = h (member_at (state_of c) (i + 1)).name c.credit c.names c.events st (l, refl, refl)
 
-pub erase_told : (c : Seen) (i : ℕ) (origin : List ℕ) (r : Option Reason) → i + 1 < size (state_of c) → StandAfter c.credit c.names c.events c.shows → ((by : List ℕ) → IsRefusalAt i (Erase by origin) c.shows r)
+pub erase_told : (c : Seen) (q : Parties) (i : ℕ) (origin : List ℕ) (r : Option Reason) → i + 1 < size (state_of c) → StandAfter c.credit c.names c.events q → ((by : List ℕ) → IsRefusalAt i (Erase by origin) q r)
     → r ≡ refusal (state_of c) (Erase (member_at (state_of c) (i + 1)).name origin)
-erase_told c i origin r l st h = h (member_at (state_of c) (i + 1)).name c.credit c.names c.events st (l, refl, refl)
+erase_told c q i origin r l st h = h (member_at (state_of c) (i + 1)).name c.credit c.names c.events st (l, refl, refl)
 
 -- ---- whom a member that is up may have erased, by its place and that one's name
 

@@ -1,5 +1,5 @@
 -- When a cluster has nothing left to do.
-use Rattle.std.proofs.Common.{◌≡◌, ◌≢◌, ℕ, suc, ◌-◌, ◌<◌, ◌≤◌, Bool, true, false, cond, nat_eq, List, [], ◌∷◌, get_or, None, refl, sym, ap, subst, ◌∙◌, arith}
+use Rattle.std.proofs.Common.{◌≡◌, ◌≢◌, ℕ, suc, ◌<◌, ◌≤◌, Bool, true, false, cond, nat_eq, List, [], ◌∷◌, get_or, None, refl, sym, ap, subst, ◌∙◌, arith}
 use Rattle.std.specs.Prelude.{All, Contains}
 use Rattle.std.proofs.lemmas.List.Elements.{All-contains}
 use Rattle.std.proofs.lemmas.Bool.{false≢true}
@@ -65,6 +65,6 @@ erases_none w y h p lt none =
     let es : List Entry = (view_in w (newest w)).entries in
     at_id (λ k. erase_refusal w y k ≢ None) es p h (dead_in es p (erase_dead w y p none)) none
 
--- where nobody has anything to do any more, it is quiet
+-- where nobody has anything to do any more, the ring rests
 pub worked_rests : (c : Seen) → IsGoing c → NobodySteps (state_of c) → MarksNobody (state_of c) → ErasesNobody (state_of c) → RingRests (state_of c)
 worked_rests c g = run_worked_rests c.credit c.names c.events g.are g.run

@@ -1,11 +1,11 @@
--- A quiet ring has heard all.
-use Rattle.std.proofs.Common.{◌≡◌, ℕ, ◌≤◌, true, false, drop, List, [], ◌∷◌, ◌++◌, length, refl, sym, ap, subst, ◌∙◌, ⊎_elim, arith}
+-- A ring that rests has heard all.
+use Rattle.std.proofs.Common.{◌≡◌, ℕ, ◌≤◌, true, false, drop, List, length, sym, ap, ◌∙◌, ⊎_elim, arith}
 use Rattle.std.proofs.lemmas.Bool.{false≢true}
 use Rattle.std.proofs.lemmas.List.{take_all}
 use Rattle.ring_names.specs.declared.numbers.CreditSpec.{CreditSpec}
 use Rattle.group_view.specs.Change.{AreOpeningNames}
 use Rattle.ring_rules.specs.declared.event.Event.{Event}
-use Rattle.ring_rules.specs.Machine.{World, member_at, runs}
+use Rattle.ring_rules.specs.Machine.{World, runs}
 use Rattle.ring_rules.specs.Step.{log_of, opening}
 use Rattle.ring_rules.specs.Event.{IsRun, last}
 use Rattle.ring_rules.specs.Lawful.{row_of}
@@ -42,7 +42,7 @@ nobody_has w names bases none = record {
   bases = bases;
 }
 
--- a quiet ring has heard all
+-- a ring that rests has heard all
 pub run_quiet_has_heard : (credit : CreditSpec) (names : List (List ℕ)) (events : List Event) → AreOpeningNames names → IsRun (opening credit names) events → RingRests (last (opening credit names) events) → HasHeardAll names (last (opening credit names) events)
 run_quiet_has_heard credit names events are r quiet =
     let w : World = last (opening credit names) events in

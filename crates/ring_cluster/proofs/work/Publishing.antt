@@ -1,5 +1,5 @@
 -- What the events of a journal publish of each name, and that this tells what the logs are.
-use Rattle.std.proofs.Common.{◌≡◌, ◌≢◌, ℕ, zero, suc, ◌+◌, ◌<◌, Bool, true, false, List, [], ◌∷◌, ◌++◌, length, map, set, get_or, bytes_eq, Option, Some, None, if◌then◌else◌, refl, sym, ap, ◌∙◌, ◌-◌, IsSome, subst, arith, Bor}
+use Rattle.std.proofs.Common.{◌≡◌, if◌then◌else◌, ◌≢◌, ℕ, zero, suc, ◌<◌, Bool, true, false, List, [], ◌∷◌, ◌++◌, length, map, set, get_or, bytes_eq, Option, Some, None, refl, sym, ap, ◌∙◌, IsSome, subst, arith, Bor}
 use Rattle.std.specs.List.{position}
 use Rattle.std.specs.declared.vec.Vec.{Vec}
 use Rattle.std.specs.declared.alloc.Global.{Global}
@@ -10,9 +10,8 @@ use Rattle.queue_core.specs.declared.message.Message.{Message}
 use Rattle.queue_core.specs.declared.message.Message.TheVariants as message
 use Rattle.group_view.specs.Change.{AreDifferent}
 use Rattle.ring_rules.specs.declared.event.Event.{Event}
-use Rattle.ring_rules.specs.declared.event.Event.TheVariants.{Cast}
-use Rattle.ring_rules.specs.Kind.{Own, OfQueue, Kind, Says, kind_of}
-use Rattle.ring_rules.specs.Event.{by_of, is_multicast, is_multicast_kind}
+use Rattle.ring_rules.specs.Kind.{Own, Says, kind_of}
+use Rattle.ring_rules.specs.Event.{by_of}
 use Rattle.ring_rules.specs.Published.{told_of, published_as, published_by, published_in}
 use Rattle.ring_rules.proofs.events.Names.{same_bytes, own_bytes}
 use Rattle.ring_parties.proofs.lists.Places.{position_there}
@@ -53,52 +52,34 @@ module _ (names : List (List ℕ)) (before : List Event) (e : Event) where
   stays : (name : List ℕ) → published_by name e ≡ [] → then_published name ≡ published_in name before
   stays name is = grows name [] is ∙ append-nil (published_in name before)
 
-by_test : (by body name : List ℕ) (b : Bool) → bytes_eq by name ≡ b → published_by name (Cast by body) ≡ (if b then Some body ∷ [] else [])
-by_test by body name b e = ap (λ t. if t then Some body ∷ [] else []) e
+-- it says a message of its member's own
+module _ (e : Event) (body : List ℕ) (says : kind_of e ≡ Says (Own body)) where
+  by_test : (name : List ℕ) (b : Bool) → bytes_eq (by_of e) name ≡ b → published_by name e ≡ (if b then Some body ∷ [] else [])
+  by_test name b h = ap (published_as name (by_of e)) says ∙ ap (λ t. if t then Some body ∷ [] else []) h
 
-of_other : (by body name : List ℕ) (b : Bool) → bytes_eq by name ≡ b → (by ≡ name → ⊥) → published_by name (Cast by body) ≡ []
-of_other by body name true e differ = absurd (differ (same_bytes by name e))
-of_other by body name false e differ = by_test by body name false e
+  of_other : (name : List ℕ) (b : Bool) → bytes_eq (by_of e) name ≡ b → (by_of e ≡ name → ⊥) → published_by name e ≡ []
+  of_other name true h differ = absurd (differ (same_bytes (by_of e) name h))
+  of_other name false h differ = by_test name false h
 
--- a cast of a name that isn't among them
-pub cast_of_none : (names : List (List ℕ)) (before : List Event) (by body : List ℕ) → position (λ n. bytes_eq n by) names ≡ None
-    → map (λ name. published_in name before) names ≡ map (λ name. published_in name (before ++ Cast by body ∷ [])) names
-cast_of_none names before by body none =
-    same_each (λ name. published_in name before) (λ name. published_in name (before ++ Cast by body ∷ [])) names []
-    (λ j l. stays names before (Cast by body) (get_or names j [])
-    (of_other by body (get_or names j []) _ refl (λ is. stands_nowhere (λ n. bytes_eq n by) names j [] none l (ap (λ n. bytes_eq n by) (sym is) ∙ own_bytes by))))
+  -- the member isn't among these
+  pub saying_of_none : (names : List (List ℕ)) (before : List Event) → position (λ n. bytes_eq n (by_of e)) names ≡ None
+      → map (λ name. published_in name before) names ≡ map (λ name. published_in name (before ++ e ∷ [])) names
+  saying_of_none names before none =
+      same_each (λ name. published_in name before) (λ name. published_in name (before ++ e ∷ [])) names []
+      (λ j l. stays names before e (get_or names j [])
+      (of_other (get_or names j []) _ refl (λ is. stands_nowhere (λ n. bytes_eq n (by_of e)) names j [] none l (ap (λ n. bytes_eq n (by_of e)) (sym is) ∙ own_bytes (by_of e)))))
 
--- and of one that is
-pub cast_of_one : (names : List (List ℕ)) (before : List Event) (by body : List ℕ) (i : ℕ) → AreDifferent names → position (λ n. bytes_eq n by) names ≡ Some i
-    → set (map (λ name. published_in name before) names) i (get_or (map (λ name. published_in name before) names) i [] ++ Some body ∷ [])
-    ≡ map (λ name. published_in name (before ++ Cast by body ∷ [])) names
-cast_of_one names before by body i differ found =
-    let there = position-Some (λ n. bytes_eq n by) names i [] found in
-    let is : get_or names i [] ≡ by = same_bytes (get_or names i []) by there.1 in
-    more_at (λ name. published_in name before) (λ name. published_in name (before ++ Cast by body ∷ [])) (Some body ∷ []) names i [] there.0
-    (grows names before (Cast by body) (get_or names i []) (Some body ∷ []) (by_test by body (get_or names i []) true (ap (bytes_eq by) is ∙ own_bytes by)))
-    (λ j l ne. stays names before (Cast by body) (get_or names j [])
-    (of_other by body (get_or names j []) _ refl (λ same. ne (differ j i l there.0 (sym same ∙ sym is)))))
-
--- an event that says a message of the member's own is a cast
-casts : (e : Event) (body : List ℕ) → kind_of e ≡ Says (Own body) → e ≡ Cast (by_of e) body
-casts (Cast by other) body h = let same : other ≡ body = cc in ap (Cast by) same
-casts e body h = cc
-
--- an event of the ring alone that is no cast publishes nothing
-none_by : (e : Event) → is_multicast e ≡ true → ((by body : List ℕ) → e ≡ Cast by body → ⊥) → (name : List ℕ) → published_by name e ≡ []
-none_by e multicast other name = by_kind (kind_of e) refl multicast
-  where
-    by_kind : (k : Kind) → kind_of e ≡ k → is_multicast_kind k ≡ true → published_as name (by_of e) k ≡ []
-    by_kind (Says (Own body)) is m = absurd (other (by_of e) body (casts e body is))
-    by_kind (Says (OfQueue q)) is m = absurd (false≢true m)
-    by_kind k is m = refl
-
-pub cast_of_nobody : (names : List (List ℕ)) (before : List Event) (e : Event) → is_multicast e ≡ true → ((by body : List ℕ) → e ≡ Cast by body → ⊥)
-    → map (λ name. published_in name before) names ≡ map (λ name. published_in name (before ++ e ∷ [])) names
-cast_of_nobody names before e cast other =
-    same_each (λ name. published_in name before) (λ name. published_in name (before ++ e ∷ [])) names []
-    (λ j l. stays names before e (get_or names j []) (none_by e cast other (get_or names j [])))
+  -- it is one of them
+  pub saying_of_one : (names : List (List ℕ)) (before : List Event) (i : ℕ) → AreDifferent names → position (λ n. bytes_eq n (by_of e)) names ≡ Some i
+      → set (map (λ name. published_in name before) names) i (get_or (map (λ name. published_in name before) names) i [] ++ Some body ∷ [])
+      ≡ map (λ name. published_in name (before ++ e ∷ [])) names
+  saying_of_one names before i differ found =
+      let there = position-Some (λ n. bytes_eq n (by_of e)) names i [] found in
+      let is : get_or names i [] ≡ by_of e = same_bytes (get_or names i []) (by_of e) there.1 in
+      more_at (λ name. published_in name before) (λ name. published_in name (before ++ e ∷ [])) (Some body ∷ []) names i [] there.0
+      (grows names before e (get_or names i []) (Some body ∷ []) (by_test (get_or names i []) true (ap (bytes_eq (by_of e)) is ∙ own_bytes (by_of e))))
+      (λ j l ne. stays names before e (get_or names j [])
+      (of_other (get_or names j []) _ refl (λ same. ne (differ j i l there.0 (sym same ∙ sym is)))))
 
 -- ---- the logs, by what is told of them
 

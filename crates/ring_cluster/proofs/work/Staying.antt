@@ -21,6 +21,7 @@ use Rattle.ring_rules.specs.Machine.{Member, World, runs_phase, no_member, membe
 use Rattle.ring_rules.specs.Step.{size, log_of, with_member, with_view, published, taker, begun, with_current, stopped, stop_at, moved_to, opened_link, joiner, come_to}
 use Rattle.ring_rules.specs.Event.{id_of, of_member, at_found, at_door, taken_by, refreshed, erased_view, synced_view, op_as, op_done, said, by_of, refused_at, done_as, done_at, refusal, effect, IsRun, last}
 use Rattle.ring_rules.proofs.events.Composed.{end_composed, refresh_composed}
+use Rattle.ring_rules.proofs.events.Kinds.{admits}
 use Rattle.ring_rules.proofs.events.Leaves.{member_leaves, with_opened}
 
 -- ---- phases
@@ -138,11 +139,6 @@ done_names w (Changes change.Register) x none = view_names w x (synced_view w x)
 done_names w Stops x none = end_composed (SameNames w) Halted (stop_at w x) (member_at w x).out (λ o e h. record { many = h.many; name = h.name; phase = h.phase }) (written w x (stopped (member_at w x)) refl (to_stopped (member_at w x).phase))
 done_names w (Reads version) x none = refresh_names w x version
 done_names w (Tells code inner) x none = itself w
-
--- an event of the kind of an admission is one
-admits : (e : Event) (name : List ℕ) → kind_of e ≡ Changes (change.Admit name) → e ≡ Admit (by_of e) name
-admits (Admit by newcomer) name h = let same : newcomer ≡ name = cc in ap (Admit by) same
-admits e name h = cc
 
 -- an event that is no admission leaves the members, by their names
 pub event_same : (w : World) (e : Event) → ((by name : List ℕ) → e ≡ Admit by name → ⊥) → SameNames w (effect w e)

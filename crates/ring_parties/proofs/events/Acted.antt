@@ -13,13 +13,13 @@ use Rattle.registrar.specs.Registry.{Registry}
 use Rattle.registrar.specs.Handled.{with_view, with_stopped}
 use Rattle.activity.specs.declared.packet.Load.{Load}
 use Rattle.gm_member.specs.Held.{at_some}
-use Rattle.ring_parties.specs.declared.undelivered.Undelivered.{Undelivered}
+use Rattle.ring_parties.specs.declared.pending_deposit.PendingDeposit.{PendingDeposit}
 use Rattle.ring_parties.specs.Ends.{OutSeen}
 use Rattle.ring_parties.specs.declared.party.Party.{Party}
-use Rattle.ring_parties.specs.Parties.{Posted, Parties, parties, posted, with_node, shown_in, no_shown, in_seen}
+use Rattle.ring_parties.specs.Parties.{Deposit, Parties, parties, deposit_shown, with_node, shown_in, no_shown, in_seen}
 use Rattle.ring_parties.specs.Behind.{behind}
-use Rattle.ring_parties.specs.Looking.{HasLooked, kept_post}
-use Rattle.ring_parties.specs.Acting.{DoesAlone, Halts, Acts, LooksAt, posting, newest_of, viewing, erasing, joined, LetsIn}
+use Rattle.ring_parties.specs.Looking.{HasLooked, pending_shown}
+use Rattle.ring_parties.specs.Acting.{DoesAlone, Halts, Acts, LooksAt, depositing, newest_of, viewing, erasing, joined, LetsIn}
 use Rattle.ring_parties.specs.Refused.{marked_in, id_named}
 
 -- the member at a place is another
@@ -50,36 +50,36 @@ stop_acts i d nodes nodes' r r' stops e k =
 -- ---- another view
 
 -- the link that it opens waits behind those at the registrar
-posts : (nodes : List Party) (r : Registry (PlainIn Load)) (late : Option Undelivered) → parties nodes r (behind late) ≡ posting (kept_post late) (parties nodes r [])
-posts nodes r None = refl
-posts nodes r (Some u) =
-    ap (λ ps. record (parties nodes r []) { post = ps ++ record { name = u.name; end = Some (in_seen u.link) } ∷ [] }) (sym (append-nil (map posted r.links)))
+pending_deposits : (nodes : List Party) (r : Registry (PlainIn Load)) (pending : Option PendingDeposit) → parties nodes r (behind pending) ≡ depositing (pending_shown pending) (parties nodes r [])
+pending_deposits nodes r None = refl
+pending_deposits nodes r (Some u) =
+    ap (λ ps. record (parties nodes r []) { deposits = ps ++ record { name = u.name; end = Some (in_seen u.link) } ∷ [] }) (sym (append-nil (map deposit_shown r.links)))
 
-pub looks_at : (v : Group) (i : ℕ) (nodes nodes' : List Party) (r : Registry (PlainIn Load)) (late : Option Undelivered) (loose : Option (LinkName × OutSeen))
-    → HasLooked v (get_or (map shown_in nodes) i no_shown) (get_or (map shown_in nodes') i no_shown) (kept_post late) loose
+pub looks_at : (v : Group) (i : ℕ) (nodes nodes' : List Party) (r : Registry (PlainIn Load)) (pending : Option PendingDeposit) (replaced : Option (LinkName × OutSeen))
+    → HasLooked v (get_or (map shown_in nodes) i no_shown) (get_or (map shown_in nodes') i no_shown) (pending_shown pending) replaced
     → map shown_in nodes' ≡ set (map shown_in nodes) i (get_or (map shown_in nodes') i no_shown)
-    → LooksAt v i (parties nodes r []) (parties nodes' r (behind late)) loose
-looks_at v i nodes nodes' r late loose h e = (_, kept_post late, h.looks, posts nodes' r late ∙ ap (posting (kept_post late)) (one_other nodes nodes' r i e))
+    → LooksAt v i (parties nodes r []) (parties nodes' r (behind pending)) replaced
+looks_at v i nodes nodes' r pending replaced h e = (_, pending_shown pending, h.looks, pending_deposits nodes' r pending ∙ ap (depositing (pending_shown pending)) (one_other nodes nodes' r i e))
 
 -- a view follows, and the member at a place has it
-pub follow_acts : (v : Group) (i : ℕ) (nodes nodes' : List Party) (r r' : Registry (PlainIn Load)) (late : Option Undelivered) (loose : Option (LinkName × OutSeen))
-    → HasLooked v (get_or (map shown_in nodes) i no_shown) (get_or (map shown_in nodes') i no_shown) (kept_post late) loose
+pub follow_acts : (v : Group) (i : ℕ) (nodes nodes' : List Party) (r r' : Registry (PlainIn Load)) (pending : Option PendingDeposit) (replaced : Option (LinkName × OutSeen))
+    → HasLooked v (get_or (map shown_in nodes) i no_shown) (get_or (map shown_in nodes') i no_shown) (pending_shown pending) replaced
     → map shown_in nodes' ≡ set (map shown_in nodes) i (get_or (map shown_in nodes') i no_shown)
     → r' ≡ with_view r v
-    → LooksAt v i (viewing v (parties nodes r [])) (parties nodes' r' (behind late)) loose
-follow_acts v i nodes nodes' r r' late loose h e k =
-    subst (λ s. LooksAt v i (parties nodes (with_view r v) []) (parties nodes' s (behind late)) loose) (sym k)
-    (looks_at v i nodes nodes' (with_view r v) late loose h e)
+    → LooksAt v i (viewing v (parties nodes r [])) (parties nodes' r' (behind pending)) replaced
+follow_acts v i nodes nodes' r r' pending replaced h e k =
+    subst (λ s. LooksAt v i (parties nodes (with_view r v) []) (parties nodes' s (behind pending)) replaced) (sym k)
+    (looks_at v i nodes nodes' (with_view r v) pending replaced h e)
 
 -- a view follows, the member at a place has it, and another joins for whom the link is that it opens
-pub lets_in : (v : Group) (credit : CreditSpec) (name : List ℕ) (id i : ℕ) (nodes nodes' : List Party) (m : Party) (r r' : Registry (PlainIn Load)) (opened : Option Undelivered) (loose : Option (LinkName × OutSeen))
-    → HasLooked v (get_or (map shown_in nodes) i no_shown) (get_or (map shown_in nodes') i no_shown) (kept_post opened) loose
+pub lets_in : (v : Group) (credit : CreditSpec) (name : List ℕ) (id i : ℕ) (nodes nodes' : List Party) (m : Party) (r r' : Registry (PlainIn Load)) (opened : Option PendingDeposit) (replaced : Option (LinkName × OutSeen))
+    → HasLooked v (get_or (map shown_in nodes) i no_shown) (get_or (map shown_in nodes') i no_shown) (pending_shown opened) replaced
     → map shown_in nodes' ≡ set (map shown_in nodes) i (get_or (map shown_in nodes') i no_shown)
-    → shown_in m ≡ joined credit name id v (at_some (kept_post opened) None (λ (d : Posted). d.end)) → r' ≡ with_view r v
-    → LetsIn v credit name id i (parties nodes r []) (parties (nodes' ++ m ∷ []) r' []) loose
-lets_in v credit name id i nodes nodes' m r r' opened loose h e is k = (
+    → shown_in m ≡ joined credit name id v (at_some (pending_shown opened) None (λ (d : Deposit). d.end)) → r' ≡ with_view r v
+    → LetsIn v credit name id i (parties nodes r []) (parties (nodes' ++ m ∷ []) r' []) replaced
+lets_in v credit name id i nodes nodes' m r r' opened replaced h e is k = (
   get_or (map shown_in nodes') i no_shown,
-  kept_post opened,
+  pending_shown opened,
   h.looks,
   ap (λ s. parties (nodes' ++ m ∷ []) s []) k
       ∙ ap (λ ns. record (parties nodes (with_view r v) []) { nodes = ns })
@@ -92,8 +92,8 @@ ok_also (Ok x) P Q h p = h x p
 ok_also (Err e) P Q h p = tt
 
 -- it is a mark, or an erasure, of the member of a name
-pub mark_acts : (dead : List ℕ) (i d : ℕ) (q q' : Parties) (loose : Option (LinkName × OutSeen)) → id_named q dead ≡ Some d → LooksAt (marked (newest_of q) d) i (viewing (marked (newest_of q) d) q) q' loose → Acts (Changes (change.Mark dead)) i (marked_in (Changes (change.Mark dead)) q) q q' loose
-mark_acts dead i d q q' loose named = subst (λ c. LooksAt (marked (newest_of q) c) i (viewing (marked (newest_of q) c) q) q' loose) (sym (ap (λ o. at_some o 0 (λ c. c)) named))
+pub mark_acts : (dead : List ℕ) (i d : ℕ) (q q' : Parties) (replaced : Option (LinkName × OutSeen)) → id_named q dead ≡ Some d → LooksAt (marked (newest_of q) d) i (viewing (marked (newest_of q) d) q) q' replaced → Acts (Changes (change.Mark dead)) i (marked_in (Changes (change.Mark dead)) q) q q' replaced
+mark_acts dead i d q q' replaced named = subst (λ c. LooksAt (marked (newest_of q) c) i (viewing (marked (newest_of q) c) q) q' replaced) (sym (ap (λ o. at_some o 0 (λ c. c)) named))
 
-pub erase_acts : (origin : List ℕ) (i p : ℕ) (q q' : Parties) (loose : Option (LinkName × OutSeen)) → id_named q origin ≡ Some p → LooksAt (erasing q p) i (viewing (erasing q p) q) q' loose → Acts (Changes (change.Erase origin)) i (marked_in (Changes (change.Erase origin)) q) q q' loose
-erase_acts origin i p q q' loose named = subst (λ c. LooksAt (erasing q c) i (viewing (erasing q c) q) q' loose) (sym (ap (λ o. at_some o 0 (λ c. c)) named))
+pub erase_acts : (origin : List ℕ) (i p : ℕ) (q q' : Parties) (replaced : Option (LinkName × OutSeen)) → id_named q origin ≡ Some p → LooksAt (erasing q p) i (viewing (erasing q p) q) q' replaced → Acts (Changes (change.Erase origin)) i (marked_in (Changes (change.Erase origin)) q) q q' replaced
+erase_acts origin i p q q' replaced named = subst (λ c. LooksAt (erasing q c) i (viewing (erasing q c) q) q' replaced) (sym (ap (λ o. at_some o 0 (λ c. c)) named))

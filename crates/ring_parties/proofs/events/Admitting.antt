@@ -38,9 +38,9 @@ use Rattle.gm_member.proofs.RefreshStands.{door_sees, looks_at}
 use Rattle.gm_member.proofs.AdmitStands.{come_log, come_same, come_held, come_sees, come_right}
 use Rattle.ring_rules.proofs.work.OwnEnds.{OwnEnds}
 use Rattle.ring_parties.specs.Ends.{OutSeen, opened_out, fresh_in}
-use Rattle.ring_parties.specs.Parties.{Shown, Posted, Parties, no_shown, node_at, with_node}
+use Rattle.ring_parties.specs.Parties.{Shown, Deposit, Parties, no_shown, node_at, with_node}
 use Rattle.ring_parties.specs.Standing.{MemberStands, Stand, is_to}
-use Rattle.ring_parties.specs.Acting.{Loosens, looked_ends, first_sent, newest_of, viewing, waits_at, admitting, joined, joining, LetsIn, Acts}
+use Rattle.ring_parties.specs.Acting.{Replacing, looked_ends, first_sent, newest_of, viewing, waits_at, admitting, joined, joining, LetsIn, Acts}
 use Rattle.ring_parties.proofs.lists.Lists.{none_of_range}
 use Rattle.ring_parties.proofs.work.Lawful.{IsLawfulAt}
 use Rattle.ring_parties.proofs.events.OneEvent.{held_but_door, stands_at}
@@ -296,16 +296,16 @@ record MayLetIn (credit : CreditSpec) (w : World) (x : ℕ) (name : List ℕ) (q
   later : IsGood (refreshed (come_to w x name) x (newest w + 1))
   joins : WaitsThere (refreshed (come_to w x name) x (newest w + 1)) (size w) name (admitted_view w x name) → joining_held credit name (size w) (admitted_view w x name) ≡ held_in (refreshed (come_to w x name) x (newest w + 1)) (size w)
 
-lets_in : (credit : CreditSpec) (w : World) (x : ℕ) (name : List ℕ) (q q' : Parties) (loose : Option (LinkName × OutSeen)) → MayLetIn credit w x name q → Stand credit.initial w q → filter (waits_at x) q.post ≡ []
-    → LetsIn (admitted_view w x name) credit name (size w) (x - 1) q q' loose → StandMoved credit.initial x (refreshed (come_to w x name) x (newest w + 1)) q' loose
-lets_in credit w x name q q' loose k st none (b, new, how, is) =
-    subst (λ u. StandMoved credit.initial x u q' loose) (sym then_is) (subst (λ t. StandMoved credit.initial x u' t loose) (sym is) (opened_moves d (record {
+lets_in : (credit : CreditSpec) (w : World) (x : ℕ) (name : List ℕ) (q q' : Parties) (replaced : Option (LinkName × OutSeen)) → MayLetIn credit w x name q → Stand credit.initial w q → filter (waits_at x) q.deposits ≡ []
+    → LetsIn (admitted_view w x name) credit name (size w) (x - 1) q q' replaced → StandMoved credit.initial x (refreshed (come_to w x name) x (newest w + 1)) q' replaced
+lets_in credit w x name q q' replaced k st none (b, new, how, is) =
+    subst (λ u. StandMoved credit.initial x u q' replaced) (sym then_is) (subst (λ t. StandMoved credit.initial x u' t replaced) (sym is) (opened_moves d (record {
       count = omega (arith, members_are, many_then w x name j f own, st.stand.count);
       each = each;
       views = ap (λ vs. vs ++ g ∷ []) st.stand.views;
       stopped = stopped;
       nobody_else = λ z ge. st.stand.nobody_else z (omega (arith, ge, many_then w x name j f own));
-      post = d.post ∙ ap (map (waiting_at u' d.places)) (sym places_are);
+      deposits = d.deposits ∙ ap (map (waiting_at u' d.places)) (sym places_are);
       within = λ s i. let l : s < length w.links = d.within s (ap (is_in s) (sym places_are) ∙ i) in omega (arith, l, more);
       carry = d.carry;
     })))
@@ -342,21 +342,21 @@ lets_in credit w x name q q' loose k st none (b, new, how, is) =
 
     how_opened : (b ≡ record { held = refreshed_held a.held g; ends = record (looked_ends g a) { out = Some (opened_out a.held.initial (first_sent a g)) } })
         × (new ≡ Some (record { name = ring_link a.held.id (right_of g a.held.id) g.version; end = Some (fresh_in a.held.initial) }))
-        × Loosens a.held.id a.held.out a.ends.out loose
+        × Replacing a.held.id a.held.out a.ends.out replaced
     how_opened = when_true (not (sends_to a.held.out (right_of g a.held.id))) _ (ap not unsent) how.1
 
-    d : StandOpened credit.initial w u' x (newest w + 1) g [] q b loose
-    d = opens_parts credit.initial w u' x (newest w + 1) g (first_then w x name j f own) (kept_to (come_to w x name) (newest w + 1)) [] q b loose
+    d : StandOpened credit.initial w u' x (newest w + 1) g [] q b replaced
+    d = opens_parts credit.initial w u' x (newest w + 1) g (first_then w x name j f own) (kept_to (come_to w x name) (newest w + 1)) [] q b replaced
         (opened w x name j f own credit.initial f.ends (subst IsGood then_is k.later) k.lawful.initial_is k.some) st none how_opened.0 how_opened.2
 
-    places_are : d.places.post ≡ d.before
+    places_are : d.places.deposits ≡ d.before
     places_are = d.waiting ∙ append-nil d.before
 
     more : length u'.links ≡ n + 1
     more = links_more (come_to w x name) x (newest w + 1)
 
     m : Shown
-    m = joined credit name (size w) g (at_some new None (λ (t : Posted). t.end))
+    m = joined credit name (size w) g (at_some new None (λ (t : Deposit). t.end))
 
     members_are : length (set q.nodes (x - 1) b ++ m ∷ []) ≡ length q.nodes + 1
     members_are = length_push (set q.nodes (x - 1) b) m ∙ ap (λ i. i + 1) (length-set q.nodes (x - 1) b)
@@ -374,8 +374,8 @@ lets_in credit w x name q q' loose k st none (b, new, how, is) =
       held = subst (λ u. WaitsThere u (size w) name g → joining_held credit name (size w) g ≡ held_in u (size w)) then_is k.joins (waits_there w x name j f own)
           ∙ ap (λ ds. record (held_in u' (size w)) { door = map (incoming_in u') ds }) (no_door w x name j f own);
       out = sym (ap (λ (y : Member). option_map d.places.outs y.out) came_is);
-      kept = refl;
-      link = ap (λ o. at_some o None (λ (t : Posted). t.end)) end_new ∙ ap Some (sym d.end_is) ∙ sym (ap (λ (y : Member). option_map d.places.ins y.current) came_is);
+      returned = refl;
+      link = ap (λ o. at_some o None (λ (t : Deposit). t.end)) end_new ∙ ap Some (sym d.end_is) ∙ sym (ap (λ (y : Member). option_map d.places.ins y.current) came_is);
       ends = refl;
       old_outs = refl;
       old_ins = refl;
@@ -412,10 +412,10 @@ can_admit w x name g r lt = let up = up_none w x (admit_refusal w name) r in (up
 pub admit_many : (w : World) (x : ℕ) (name : List ℕ) → CanJoin w x → IsFit w → size (done_as w x (Changes (change.Admit name))) ≡ size w + 1
 admit_many w x name can f = ap size (is_then w x name can f f.own_ends) ∙ many_then w x name can f f.own_ends
 
-pub admit_between : (credit : CreditSpec) (w : World) (q q' : Parties) (i d : ℕ) (name : List ℕ) (loose : Option (LinkName × OutSeen)) → IsLawfulAt credit w → IsLawfulAt credit (done_as w (i + 1) (Changes (change.Admit name))) → refused_as w (i + 1) (Changes (change.Admit name)) ≡ None → i + 1 < size w
-    → Stand credit.initial w q → filter (waits_at (i + 1)) q.post ≡ [] → Acts (Changes (change.Admit name)) i d q q' loose → StandMoved credit.initial (i + 1) (done_as w (i + 1) (Changes (change.Admit name))) q' loose
-admit_between credit w q q' i d name loose h h' r lt st none (other, (initial_is, more_is), lets) =
-    lets_in credit w x name q q' loose (record {
+pub admit_between : (credit : CreditSpec) (w : World) (q q' : Parties) (i d : ℕ) (name : List ℕ) (replaced : Option (LinkName × OutSeen)) → IsLawfulAt credit w → IsLawfulAt credit (done_as w (i + 1) (Changes (change.Admit name))) → refused_as w (i + 1) (Changes (change.Admit name)) ≡ None → i + 1 < size w
+    → Stand credit.initial w q → filter (waits_at (i + 1)) q.deposits ≡ [] → Acts (Changes (change.Admit name)) i d q q' replaced → StandMoved credit.initial (i + 1) (done_as w (i + 1) (Changes (change.Admit name))) q' replaced
+admit_between credit w q q' i d name replaced h h' r lt st none (other, (initial_is, more_is), lets) =
+    lets_in credit w x name q q' replaced (record {
       some = omega arith;
       can = can;
       lawful = h;
@@ -447,8 +447,8 @@ admit_between credit w q q' i d name loose h h' r lt st none (other, (initial_is
     joins_same : (id : ℕ) (g : Group) → joining_held other name id g ≡ joining_held credit name id g
     joins_same id g = rw (initial_same, more_same) refl
 
-    at : LetsIn (admitted_view w x name) credit name (size w) (x - 1) q q' loose
-    at = subst (λ k. LetsIn (admitted_view w x name) credit name (size w) k q q' loose) (sym place)
-        (subst (λ k. LetsIn (admitted_view w x name) credit name k i q q' loose) can.new_id
-        (subst (λ g. LetsIn (admitted g x name) credit name g.next_id i q q' loose) newest_then
-        (lets.0, lets.1, lets.2, lets.3 ∙ ap (λ k. joining (record { held = k; ends = record { out = None; kept = None; link = at_some lets.1 None (λ (t : Posted). t.end); door = []; old_outs = []; old_ins = [] } }) (viewing (admitting q i name) (with_node q i lets.0))) (joins_same (newest_of q).next_id (admitting q i name)))))
+    at : LetsIn (admitted_view w x name) credit name (size w) (x - 1) q q' replaced
+    at = subst (λ k. LetsIn (admitted_view w x name) credit name (size w) k q q' replaced) (sym place)
+        (subst (λ k. LetsIn (admitted_view w x name) credit name k i q q' replaced) can.new_id
+        (subst (λ g. LetsIn (admitted g x name) credit name g.next_id i q q' replaced) newest_then
+        (lets.0, lets.1, lets.2, lets.3 ∙ ap (λ k. joining (record { held = k; ends = record { out = None; returned = None; link = at_some lets.1 None (λ (t : Deposit). t.end); door = []; old_outs = []; old_ins = [] } }) (viewing (admitting q i name) (with_node q i lets.0))) (joins_same (newest_of q).next_id (admitting q i name)))))

@@ -10,14 +10,14 @@ use Rattle.activity.specs.declared.packet.Load.{Load}
 use Rattle.gm_member.specs.Held.{Held}
 use Rattle.ring_parties.specs.States.{state}
 use Rattle.ring_parties.specs.declared.party.Party.{Party}
-use Rattle.ring_parties.specs.Parties.{Posted, Parties, parties, node_at, shown_in}
+use Rattle.ring_parties.specs.Parties.{Deposit, Parties, parties, node_at, shown_in}
 use Rattle.ring_parties.specs.Standing.{MemberStands, StandAfter, IsJournal}
 use Rattle.ring_parties.specs.Acting.{IsReady, HasCredit}
 use Rattle.ring_parties.proofs.work.Lawful.{IsLawfulAt, lawful_at}
 use Rattle.ring_parties.proofs.standing.Placing.{GoBetween}
 use Rattle.ring_parties.proofs.work.Fresh.{reached_go}
 use Rattle.ring_parties.proofs.events.Ready.{ready}
-use Rattle.ring_parties.proofs.post.Handing.{none_lent}
+use Rattle.ring_parties.proofs.deposits.Handing.{none_lent}
 
 -- a place among members is one among what they show
 pub shown_inside : (nodes : List Party) (i : ℕ) → i < length nodes → i < length (map shown_in nodes)
@@ -60,5 +60,5 @@ module _ (credit : CreditSpec) (names : List (List ℕ)) (events : List Event) w
       subst (λ k. IsReady (node_at q k)) place (ready credit (state credit names events) q (i + 1) (lawful_after s.journal) s.stand (omega arith) (within_after q i s l))
 
   -- no end that waits at the registrar is lent
-  pub here_after : (nodes : List Party) (r : Registry (PlainIn Load)) (behind : List Posted) → StandAfter credit names events (parties nodes r behind) → AreHere r.links
+  pub here_after : (nodes : List Party) (r : Registry (PlainIn Load)) (behind : List Deposit) → StandAfter credit names events (parties nodes r behind) → AreHere r.links
   here_after nodes r behind s = none_lent credit.initial (state credit names events) nodes r behind s.stand.places s.stand.stand

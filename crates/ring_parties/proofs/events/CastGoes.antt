@@ -1,5 +1,5 @@
 -- Where a member has published, the parties stand in the state after the ring's cast.
-use Rattle.gm_member.specs.Parcels.{places}
+use Rattle.gm_member.specs.Packets.{places}
 use Rattle.std.proofs.Common.{◌≡◌, ℕ, ◌+◌, ◌<◌, ◌≤◌, Bool, List, [], ◌∷◌, length, Option, Some, refl, ap, ◌∙◌, arith}
 use Rattle.queue_core.specs.declared.message.Message.{Message}
 use Rattle.queue_core.specs.declared.message.Message.TheVariants as message
@@ -49,8 +49,8 @@ cast_packets w x m before (k ∷ ks) lt h =
 
 -- ---- the parties
 
-pub cast_goes : (credit : CreditSpec) (w : World) (body : List ℕ) (i d : ℕ) (q q' : Parties) (loose : Option (LinkName × OutSeen)) → IsLawfulAt credit w → i + 1 < size w → Stand credit.initial w q → Acts (Says (Own body)) i d q q' loose → StandMoved credit.initial (i + 1) (done_as w (i + 1) (Says (Own body))) q' loose
-cast_goes credit w body i d q q' loose h lt st (b, casts, is, none) =
+pub cast_goes : (credit : CreditSpec) (w : World) (body : List ℕ) (i d : ℕ) (q q' : Parties) (replaced : Option (LinkName × OutSeen)) → IsLawfulAt credit w → i + 1 < size w → Stand credit.initial w q → Acts (Says (Own body)) i d q q' replaced → StandMoved credit.initial (i + 1) (done_as w (i + 1) (Says (Own body))) q' replaced
+cast_goes credit w body i d q q' replaced h lt st (b, casts, is, none) =
     let x : ℕ = i + 1 in
     let m : Message = message.Cast body in
     let w' : World = publish_at w x m in
@@ -63,10 +63,10 @@ cast_goes credit w body i d q q' loose h lt st (b, casts, is, none) =
       is = casts;
     } in
     let a : MemberStands w p x (node_at q i) = stands_at credit.initial w q p i st.stand lt in
-    goes_so credit.initial x w' (done_as w x (Says (Own body))) (with_node q i b) q' loose refl is none
+    goes_so credit.initial x w' (done_as w x (Says (Own body))) (with_node q i b) q' replaced refl is none
     (steps credit w w' q q.stopped p i b st h lt (record {
       leaves = ways_leave w w' x ways;
-      post = refl;
+      deposits = refl;
       it = ways_stand w w' p p x (node_at q i) b (node_at q i).ends.out (node_at q i).ends.link ways refl (λ s _. refl) its a.out a.link a;
       held = λ y ne. publish_others w x y m h.fit lt ne;
       notices = record { told = same_phases w x (published x m (member_at w x)) q.stopped lt refl; none_told = λ y _ r. r };

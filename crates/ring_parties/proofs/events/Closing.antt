@@ -40,15 +40,15 @@ use Rattle.gm_member.proofs.Doors.{view_version}
 use Rattle.gm_member.proofs.Facts.{refused_there, done_there}
 use Rattle.ring_parties.specs.Ends.{OutSeen}
 use Rattle.ring_parties.specs.declared.party.Party.{Party}
-use Rattle.ring_parties.specs.Parties.{Shown, Posted, Parties, parties, posted, node_at, with_node, shown_in, in_seen}
+use Rattle.ring_parties.specs.Parties.{Shown, Deposit, Parties, parties, deposit_shown, node_at, with_node, shown_in, in_seen}
 use Rattle.ring_parties.specs.States.{state, IsEventIn}
 use Rattle.ring_parties.specs.Standing.{MemberStands, StandAfter, IsJournal}
-use Rattle.ring_parties.specs.Loose.{StandBetween, BetweenAfter, moved_by}
+use Rattle.ring_parties.specs.Replaced.{StandBetween, BetweenAfter, moved_by}
 use Rattle.ring_parties.specs.Meeting.{MayMeet, MeetsIn}
-use Rattle.ring_parties.specs.Acting.{stop_refused, look_refused, posting, newest_of, viewing, erasing, admitting, joining, LooksAt, Acts}
+use Rattle.ring_parties.specs.Acting.{stop_refused, look_refused, depositing, newest_of, viewing, erasing, admitting, joining, LooksAt, Acts}
 use Rattle.ring_parties.specs.Refused.{id_named, NothingWaits, mark_refused, erase_refused, admission_refused, own_refused, act_refused, marked_in, office_of}
 use Rattle.ring_parties.specs.Behind.{behind}
-use Rattle.ring_parties.specs.declared.undelivered.Undelivered.{Undelivered}
+use Rattle.ring_parties.specs.declared.pending_deposit.PendingDeposit.{PendingDeposit}
 use Rattle.ring_parties.proofs.work.Lawful.{IsLawfulAt}
 use Rattle.ring_parties.proofs.events.After.{shown_inside, lawful_after, go_after, within_after, member_after, id_after}
 use Rattle.ring_parties.proofs.events.Found.{named_alike, found_within}
@@ -56,9 +56,9 @@ use Rattle.ring_parties.proofs.events.Refusals.{IsOwn, own_refuses}
 use Rattle.ring_parties.proofs.events.Refusing.{look_refuses, admit_refuses, mark_asked_refuses, nobody_named, erase_refuses}
 use Rattle.ring_parties.proofs.events.EachGoes.{MayGo, each_goes}
 use Rattle.ring_parties.proofs.events.Marking.{refresh_may}
-use Rattle.ring_parties.proofs.meetings.Receivers.{GoesIn, loose_goes_in}
-use Rattle.ring_parties.proofs.meetings.MeetsLoose.{loose_may, loose_meets}
-use Rattle.ring_parties.proofs.post.Handing.{registrar_stands, knows_posted}
+use Rattle.ring_parties.proofs.meetings.Receivers.{GoesIn, replaced_goes_in}
+use Rattle.ring_parties.proofs.meetings.MeetsReplaced.{replaced_may, replaced_meets}
+use Rattle.ring_parties.proofs.deposits.Handing.{registrar_stands, knows_deposited}
 use Rattle.ring_parties.proofs.standing.Frames.{StandMoved}
 
 -- where nothing refuses a member to read the view of a version, the registrar has it, and the member stands in it and may read it
@@ -146,14 +146,14 @@ module _ (credit : CreditSpec) (names : List (List ℕ)) (events : List Event) w
       by_dead dead None e = nobody dead (event.mark_refusal w (i + 1)) e
       by_dead dead (Some d) e = mark_up dead d e (node_at q i).held.phase refl
 
-      by_origin : (origin : List ℕ) (o : Option ℕ) → id_of w origin ≡ o → erase_refused (office_of q) (node_at q i) o ≡ refused_as w (i + 1) (Changes (change.Erase origin))
-      by_origin origin None e = nobody origin (event.erase_refusal w (i + 1)) e
-      by_origin origin (Some p) e = subst (λ j. erase_refused (office_of q) (node_at q j) (Some p) ≡ refused_as w (i + 1) (Changes (change.Erase origin))) (place i)
+      packet_by_id : (origin : List ℕ) (o : Option ℕ) → id_of w origin ≡ o → erase_refused (office_of q) (node_at q i) o ≡ refused_as w (i + 1) (Changes (change.Erase origin))
+      packet_by_id origin None e = nobody origin (event.erase_refusal w (i + 1)) e
+      packet_by_id origin (Some p) e = subst (λ j. erase_refused (office_of q) (node_at q j) (Some p) ≡ refused_as w (i + 1) (Changes (change.Erase origin))) (place i)
           (erase_refuses credit w (office_of q) q (i + 1) p origin (lawful_after credit names events s.journal) (record { views = s.stand.stand.views; stopped = s.stand.stand.stopped; nobody_else = s.stand.stand.nobody_else }) s.stand (omega arith) lt e)
 
       by_kind : (k : Kind) → is_multicast_kind k ≡ true → act_refused k i q ≡ refused_as w (i + 1) k
       by_kind (Changes (change.Mark dead)) m = ap (mark_refused (office_of q) (node_at q i)) (found q dead s) ∙ by_dead dead (id_of w dead) refl
-      by_kind (Changes (change.Erase origin)) m = ap (erase_refused (office_of q) (node_at q i)) (found q origin s) ∙ by_origin origin (id_of w origin) refl
+      by_kind (Changes (change.Erase origin)) m = ap (erase_refused (office_of q) (node_at q i)) (found q origin s) ∙ packet_by_id origin (id_of w origin) refl
       by_kind (Changes (change.Admit name)) m = subst (λ j. up_refused (node_at q j).held (admission_refused (newest_of q) name) ≡ refused_as w (i + 1) (Changes (change.Admit name))) (place i) (admit_refuses credit w q (i + 1) name (omega arith) lt s.stand)
       by_kind (Changes change.Register) m = absurd (false≢true m)
       by_kind (Steps step.Pick) m = pick_up (node_at q i).held.phase refl
@@ -167,8 +167,8 @@ module _ (credit : CreditSpec) (names : List (List ℕ)) (events : List Event) w
 
   -- ---- the event happens
 
-  many_after : (q q' : Parties) (k : Kind) (i d : ℕ) (loose : Option (LinkName × OutSeen)) → Acts k i d q q' loose → length q.nodes ≤ length q'.nodes
-  many_after q q' k i d loose a = by_kind k a
+  many_after : (q q' : Parties) (k : Kind) (i d : ℕ) (replaced : Option (LinkName × OutSeen)) → Acts k i d q q' replaced → length q.nodes ≤ length q'.nodes
+  many_after q q' k i d replaced a = by_kind k a
     where
       as_many : length q'.nodes ≡ length q.nodes → length q.nodes ≤ length q'.nodes
       as_many same = omega (arith, same)
@@ -176,17 +176,17 @@ module _ (credit : CreditSpec) (names : List (List ℕ)) (events : List Event) w
       one : (b : Shown) → q' ≡ with_node q i b → length q.nodes ≤ length q'.nodes
       one b is = as_many (ap (λ (p : Parties). length p.nodes) is ∙ length-set q.nodes i b)
 
-      posted_same : (new : Option Posted) (p : Parties) → (posting new p).nodes ≡ p.nodes
-      posted_same None p = refl
-      posted_same (Some d) p = refl
+      deposit_same : (new : Option Deposit) (p : Parties) → (depositing new p).nodes ≡ p.nodes
+      deposit_same None p = refl
+      deposit_same (Some d) p = refl
 
-      looks : (v : Group) (p : Parties) → p.nodes ≡ q.nodes → LooksAt v i p q' loose → length q.nodes ≤ length q'.nodes
-      looks v p same (b, new, _, is) = as_many (ap (λ (p : Parties). length p.nodes) is ∙ ap length (posted_same new (with_node p i b)) ∙ length-set p.nodes i b ∙ ap length same)
+      looks : (v : Group) (p : Parties) → p.nodes ≡ q.nodes → LooksAt v i p q' replaced → length q.nodes ≤ length q'.nodes
+      looks v p same (b, new, _, is) = as_many (ap (λ (p : Parties). length p.nodes) is ∙ ap length (deposit_same new (with_node p i b)) ∙ length-set p.nodes i b ∙ ap length same)
 
       one_more : (b m : Shown) (v : Group) → q' ≡ joining m (viewing v (with_node q i b)) → length q.nodes ≤ length q'.nodes
       one_more b m v is = omega (arith, ap (λ (p : Parties). length p.nodes) is ∙ length_push (set q.nodes i b) m, length-set q.nodes i b)
 
-      by_kind : (k : Kind) → Acts k i d q q' loose → length q.nodes ≤ length q'.nodes
+      by_kind : (k : Kind) → Acts k i d q q' replaced → length q.nodes ≤ length q'.nodes
       by_kind Stops (b, _, is, _) = as_many (ap (λ (p : Parties). length p.nodes) is ∙ length-set q.nodes i b)
       by_kind (Changes (change.Mark dead)) a = looks (marked (newest_of q) d) (viewing (marked (newest_of q) d) q) refl a
       by_kind (Changes (change.Erase origin)) a = looks (erasing q d) (viewing (erasing q d) q) refl a
@@ -195,9 +195,9 @@ module _ (credit : CreditSpec) (names : List (List ℕ)) (events : List Event) w
       by_kind (Tells code inner) a = as_many (ap (λ (p : Parties). length p.nodes) a.0)
       by_kind k (b, _, is, _) = one b is
 
-  -- a loose end goes to a member
-  loose_goes : (q q' : Parties) (k : Kind) (i d : ℕ) (name : LinkName) (o : OutSeen) → StandAfter credit names events q → i < length q.nodes → Acts k i d q q' (Some (name, o)) → GoesIn (state credit names events) name
-  loose_goes q q' k i d name o s l a = by_kind k a
+  -- a replaced end goes to a member
+  replaced_goes : (q q' : Parties) (k : Kind) (i d : ℕ) (name : LinkName) (o : OutSeen) → StandAfter credit names events q → i < length q.nodes → Acts k i d q q' (Some (name, o)) → GoesIn (state credit names events) name
+  replaced_goes q q' k i d name o s l a = by_kind k a
     where
       w : World
       w = state credit names events
@@ -206,15 +206,15 @@ module _ (credit : CreditSpec) (names : List (List ℕ)) (events : List Event) w
       never k = cc
 
       looks : (v : Group) (p : Parties) → LooksAt v (i + 1 - 1) q p (Some (name, o)) → GoesIn w name
-      looks v p k = loose_goes_in credit w q p v (i + 1) name o (lawful_after credit names events s.journal) (go_after credit names events s.journal) (omega arith) (within_after credit names events q i s l) s.stand k
+      looks v p k = replaced_goes_in credit w q p v (i + 1) name o (lawful_after credit names events s.journal) (go_after credit names events s.journal) (omega arith) (within_after credit names events q i s l) s.stand k
 
       looks_at : (v : Group) (p : Parties) → LooksAt v i q p (Some (name, o)) → GoesIn w name
       looks_at v p k = looks v p (subst (λ j. LooksAt v j q p (Some (name, o))) (sym (place i)) k)
 
       by_kind : (k : Kind) → Acts k i d q q' (Some (name, o)) → GoesIn w name
-      by_kind (Changes (change.Mark dead)) (b, new, how, _) = looks_at (marked (newest_of q) d) (posting new (with_node q i b)) (b, new, how, refl)
-      by_kind (Changes (change.Erase origin)) (b, new, how, _) = looks_at (erasing q d) (posting new (with_node q i b)) (b, new, how, refl)
-      by_kind (Changes (change.Admit name)) a = looks_at (admitting q i name) (posting a.2.1 (with_node q i a.2.0)) (a.2.0, a.2.1, a.2.2, refl)
+      by_kind (Changes (change.Mark dead)) (b, new, how, _) = looks_at (marked (newest_of q) d) (depositing new (with_node q i b)) (b, new, how, refl)
+      by_kind (Changes (change.Erase origin)) (b, new, how, _) = looks_at (erasing q d) (depositing new (with_node q i b)) (b, new, how, refl)
+      by_kind (Changes (change.Admit name)) a = looks_at (admitting q i name) (depositing a.2.1 (with_node q i a.2.0)) (a.2.0, a.2.1, a.2.2, refl)
       by_kind (Reads version) a = looks_at (view_at q.views version) q' a
       by_kind (Tells code inner) a = never a.1
       by_kind k a = never a.3
@@ -246,10 +246,10 @@ module _ (credit : CreditSpec) (names : List (List ℕ)) (events : List Event) w
       by_kind (Steps step.Pick) m e = up (or_else (refuse_if (is_some (member_at w (i + 1)).current) reason.HasCurrentLink) (pick_refusal w (i + 1))) e
       by_kind k m e = m
 
-  pub acted : (q q' : Parties) (e : Event) (i : ℕ) (loose : Option (LinkName × OutSeen)) → StandAfter credit names events q → act_refused (kind_of e) i q ≡ None → id_named q (by_of e) ≡ Some (i + 1)
-      → ((node_at q i).held.phase ≡ Up → NothingWaits (i + 1) q) → is_multicast e ≡ true → length events + 1 < 2 ^ 59 → Acts (kind_of e) i (marked_in (kind_of e) q) q q' loose
-      → BetweenAfter credit names (events ++ e ∷ []) (moved_by (i + 1) (state credit names (events ++ e ∷ []))) q' loose
-  acted q q' e i loose s refused named waits cast few a = record {
+  pub acted : (q q' : Parties) (e : Event) (i : ℕ) (replaced : Option (LinkName × OutSeen)) → StandAfter credit names events q → act_refused (kind_of e) i q ≡ None → id_named q (by_of e) ≡ Some (i + 1)
+      → ((node_at q i).held.phase ≡ Up → NothingWaits (i + 1) q) → is_multicast e ≡ true → length events + 1 < 2 ^ 59 → Acts (kind_of e) i (marked_in (kind_of e) q) q q' replaced
+      → BetweenAfter credit names (events ++ e ∷ []) (moved_by (i + 1) (state credit names (events ++ e ∷ []))) q' replaced
+  acted q q' e i replaced s refused named waits cast few a = record {
     journal = journal;
     stand = stand;
     goes = λ name o k. goes name o (subst (Acts (kind_of e) i (marked_in (kind_of e) q) q q') k a);
@@ -281,36 +281,36 @@ module _ (credit : CreditSpec) (names : List (List ℕ)) (events : List Event) w
       allowed : refused_as w (i + 1) (kind_of e) ≡ None
       allowed = sym (refused_there w (i + 1) e there) ∙ enabled
 
-      stand : StandMoved credit.initial (i + 1) (state credit names (events ++ e ∷ [])) q' loose
-      stand = subst (λ u. StandMoved credit.initial (i + 1) u q' loose) (sym after)
-          (each_goes credit w (kind_of e) i (marked_in (kind_of e) q) q q' loose (lawful_after credit names events s.journal)
+      stand : StandMoved credit.initial (i + 1) (state credit names (events ++ e ∷ [])) q' replaced
+      stand = subst (λ u. StandMoved credit.initial (i + 1) u q' replaced) (sym after)
+          (each_goes credit w (kind_of e) i (marked_in (kind_of e) q) q q' replaced (lawful_after credit names events s.journal)
           (subst (IsLawfulAt credit) after (lawful_after credit names (events ++ e ∷ []) journal))
           allowed (within_after credit names events q i s inside) (may_go q (kind_of e) i s inside allowed waits cast) s.stand a)
 
       goes : (name : LinkName) (o : OutSeen) → Acts (kind_of e) i (marked_in (kind_of e) q) q q' (Some (name, o)) → GoesIn (state credit names (events ++ e ∷ [])) name
       goes name o k =
-          let in_old = loose_goes q q' (kind_of e) i (marked_in (kind_of e) q) name o s inside k in
-          let many : length q.nodes ≤ length q'.nodes = many_after q q' (kind_of e) i (marked_in (kind_of e) q) loose a in
+          let in_old = replaced_goes q q' (kind_of e) i (marked_in (kind_of e) q) name o s inside k in
+          let many : length q.nodes ≤ length q'.nodes = many_after q q' (kind_of e) i (marked_in (kind_of e) q) replaced a in
           (in_old.0, omega (arith, in_old.1, many, s.stand.stand.count, stand.stand.count))
 
   -- there are as many members then
-  pub still_there : (q q' q'' : Parties) (e : Event) (i : ℕ) (loose : Option (LinkName × OutSeen)) (ids : List ℕ) → i < length q.nodes → Acts (kind_of e) i (marked_in (kind_of e) q) q q' loose
-      → BetweenAfter credit names (events ++ e ∷ []) ids q' loose → BetweenAfter credit names (events ++ e ∷ []) ids q'' None → i < length q''.nodes
-  still_there q q' q'' e i loose ids l a b later =
-      let many : length q.nodes ≤ length q'.nodes = many_after q q' (kind_of e) i (marked_in (kind_of e) q) loose a in
+  pub still_there : (q q' q'' : Parties) (e : Event) (i : ℕ) (replaced : Option (LinkName × OutSeen)) (ids : List ℕ) → i < length q.nodes → Acts (kind_of e) i (marked_in (kind_of e) q) q q' replaced
+      → BetweenAfter credit names (events ++ e ∷ []) ids q' replaced → BetweenAfter credit names (events ++ e ∷ []) ids q'' None → i < length q''.nodes
+  still_there q q' q'' e i replaced ids l a b later =
+      let many : length q.nodes ≤ length q'.nodes = many_after q q' (kind_of e) i (marked_in (kind_of e) q) replaced a in
       omega (arith, l, many, b.stand.stand.count, later.stand.stand.count)
 
-  -- ---- the loose end meets its other end
+  -- ---- the replaced end meets its other end
 
-  pub between_may : (ids : List ℕ) (q : Parties) (name : LinkName) (o : OutSeen) (loose : Option (LinkName × OutSeen)) → loose ≡ Some (name, o) → BetweenAfter credit names events ids q loose → MayMeet q name o
-  between_may ids q name o loose e b =
-      loose_may credit (state credit names events) ids q name o (lawful_after credit names events b.journal) (go_after credit names events b.journal) (b.goes name o e)
+  pub between_may : (ids : List ℕ) (q : Parties) (name : LinkName) (o : OutSeen) (replaced : Option (LinkName × OutSeen)) → replaced ≡ Some (name, o) → BetweenAfter credit names events ids q replaced → MayMeet q name o
+  between_may ids q name o replaced e b =
+      replaced_may credit (state credit names events) ids q name o (lawful_after credit names events b.journal) (go_after credit names events b.journal) (b.goes name o e)
       (subst (StandBetween credit.initial (state credit names events) ids q) e b.stand)
 
-  pub between_meets : (ids : List ℕ) (q q' : Parties) (name : LinkName) (o o' : OutSeen) (loose : Option (LinkName × OutSeen)) → loose ≡ Some (name, o) → BetweenAfter credit names events ids q loose → MeetsIn q name o q q' o' → BetweenAfter credit names events ids q' None
-  between_meets ids q q' name o o' loose e b m = record {
+  pub between_meets : (ids : List ℕ) (q q' : Parties) (name : LinkName) (o o' : OutSeen) (replaced : Option (LinkName × OutSeen)) → replaced ≡ Some (name, o) → BetweenAfter credit names events ids q replaced → MeetsIn q name o q q' o' → BetweenAfter credit names events ids q' None
+  between_meets ids q q' name o o' replaced e b m = record {
     journal = b.journal;
-    stand = loose_meets credit (state credit names events) ids q q' name o o' (lawful_after credit names events b.journal) (go_after credit names events b.journal) (b.goes name o e)
+    stand = replaced_meets credit (state credit names events) ids q q' name o o' (lawful_after credit names events b.journal) (go_after credit names events b.journal) (b.goes name o e)
         (subst (StandBetween credit.initial (state credit names events) ids q) e b.stand) m;
     goes = λ other l k. cc;
   }
@@ -321,7 +321,7 @@ module _ (credit : CreditSpec) (names : List (List ℕ)) (events : List Event) w
   few_stand q s =
       omega (arith, (lawful_after credit names events s.journal).fit.few, s.stand.stand.count)
 
-  pub few_after : (nodes : List Party) (r : Registry (PlainIn Load)) (behind : List Posted) → StandAfter credit names events (parties nodes r behind) → length nodes ≤ 64
+  pub few_after : (nodes : List Party) (r : Registry (PlainIn Load)) (behind : List Deposit) → StandAfter credit names events (parties nodes r behind) → length nodes ≤ 64
   few_after nodes r behind s =
       let shown : length (map shown_in nodes) ≡ length nodes = length-map nodes shown_in in
       omega (arith, shown, few_stand (parties nodes r behind) s)
@@ -405,17 +405,17 @@ module _ (credit : CreditSpec) (names : List (List ℕ)) (events : List Event) w
 
   -- ---- what is handed over to the registrar
 
-  last_of : (xs : List Posted) (d e : Posted) → get_or (xs ++ d ∷ []) (length xs) e ≡ d
+  last_of : (xs : List Deposit) (d e : Deposit) → get_or (xs ++ d ∷ []) (length xs) e ≡ d
   last_of [] d e = refl
   last_of (x ∷ xs) d e = last_of xs d e
 
-  known_late : (nodes : List Party) (r : Registry (PlainIn Load)) (d : Posted) → StandAfter credit names events (parties nodes r (d ∷ [])) → (is_known r d.name.from.0 ≡ true) × (is_known r d.name.to.0 ≡ true)
-  known_late nodes r d s =
-      let n : ℕ = length (map posted r.links) in
-      let both = knows_posted credit.initial (state credit names events) nodes r (d ∷ []) s.stand.places n d (lawful_after credit names events s.journal).fit.good s.stand.stand (subst (λ k. n < k) (sym (length_push (map posted r.links) d)) (omega arith)) in
-      let is : get_or (map posted r.links ++ d ∷ []) n d ≡ d = last_of (map posted r.links) d d in
-      (sym (ap (λ (x : Posted). is_known r x.name.from.0) is) ∙ both.0, sym (ap (λ (x : Posted). is_known r x.name.to.0) is) ∙ both.1)
+  known_pending : (nodes : List Party) (r : Registry (PlainIn Load)) (d : Deposit) → StandAfter credit names events (parties nodes r (d ∷ [])) → (is_known r d.name.from.0 ≡ true) × (is_known r d.name.to.0 ≡ true)
+  known_pending nodes r d s =
+      let n : ℕ = length (map deposit_shown r.links) in
+      let both = knows_deposited credit.initial (state credit names events) nodes r (d ∷ []) s.stand.places n d (lawful_after credit names events s.journal).fit.good s.stand.stand (subst (λ k. n < k) (sym (length_push (map deposit_shown r.links) d)) (omega arith)) in
+      let is : get_or (map deposit_shown r.links ++ d ∷ []) n d ≡ d = last_of (map deposit_shown r.links) d d in
+      (sym (ap (λ (x : Deposit). is_known r x.name.from.0) is) ∙ both.0, sym (ap (λ (x : Deposit). is_known r x.name.to.0) is) ∙ both.1)
 
   -- and so of the one that waits before the registrar
-  pub known_handed : (nodes : List Party) (r : Registry (PlainIn Load)) (late : Option Undelivered) (u : Undelivered) → late ≡ Some u → StandAfter credit names events (parties nodes r (behind late)) → (is_known r u.name.from.0 ≡ true) × (is_known r u.name.to.0 ≡ true)
-  known_handed nodes r late u e s = known_late nodes r (record { name = u.name; end = Some (in_seen u.link) }) (subst (λ l. StandAfter credit names events (parties nodes r (behind l))) e s)
+  pub known_handed : (nodes : List Party) (r : Registry (PlainIn Load)) (pending : Option PendingDeposit) (u : PendingDeposit) → pending ≡ Some u → StandAfter credit names events (parties nodes r (behind pending)) → (is_known r u.name.from.0 ≡ true) × (is_known r u.name.to.0 ≡ true)
+  known_handed nodes r pending u e s = known_pending nodes r (record { name = u.name; end = Some (in_seen u.link) }) (subst (λ l. StandAfter credit names events (parties nodes r (behind l))) e s)

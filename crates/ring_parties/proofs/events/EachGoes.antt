@@ -31,25 +31,25 @@ use Rattle.ring_parties.proofs.standing.Frames.{StandMoved}
 -- What a kind needs besides: that no link waits for the member of id x that picks, or has another view, that d is whom it has marked
 -- or erased, and that it is none of the queue.
 abbrev pub MayGo : World → Kind → ℕ → ℕ → Parties → Type 0
-MayGo w (Changes (change.Mark dead)) x d q = (id_of w dead ≡ Some d) × (filter (waits_at x) q.post ≡ [])
-MayGo w (Changes (change.Erase origin)) x d q = (id_of w origin ≡ Some d) × (filter (waits_at x) q.post ≡ [])
-MayGo w (Changes (change.Admit name)) x d q = filter (waits_at x) q.post ≡ []
-MayGo w (Reads version) x d q = filter (waits_at x) q.post ≡ []
-MayGo w (Steps step.Pick) x d q = filter (waits_at x) q.post ≡ []
+MayGo w (Changes (change.Mark dead)) x d q = (id_of w dead ≡ Some d) × (filter (waits_at x) q.deposits ≡ [])
+MayGo w (Changes (change.Erase origin)) x d q = (id_of w origin ≡ Some d) × (filter (waits_at x) q.deposits ≡ [])
+MayGo w (Changes (change.Admit name)) x d q = filter (waits_at x) q.deposits ≡ []
+MayGo w (Reads version) x d q = filter (waits_at x) q.deposits ≡ []
+MayGo w (Steps step.Pick) x d q = filter (waits_at x) q.deposits ≡ []
 MayGo w k x d q = is_multicast_kind k ≡ true
 
-pub each_goes : (credit : CreditSpec) (w : World) (k : Kind) (i d : ℕ) (q q' : Parties) (loose : Option (LinkName × OutSeen)) → IsLawfulAt credit w → IsLawfulAt credit (done_as w (i + 1) k) → refused_as w (i + 1) k ≡ None → i + 1 < size w → MayGo w k (i + 1) d q → Stand credit.initial w q → Acts k i d q q' loose → StandMoved credit.initial (i + 1) (done_as w (i + 1) k) q' loose
-each_goes credit w (Says (Own body)) i d q q' loose h h' r lt may st a = cast_goes credit w body i d q q' loose h lt st a
-each_goes credit w (Says (OfQueue s)) i d q q' loose h h' r lt may st a = absurd (false≢true may)
-each_goes credit w (Steps step.Put) i d q q' loose h h' r lt may st a = put_goes credit w i d q q' loose h r lt st a
-each_goes credit w (Steps step.Take) i d q q' loose h h' r lt may st a = take_goes credit w i d q q' loose h r lt st a
-each_goes credit w (Steps step.TakeEnd) i d q q' loose h h' r lt may st a = end_goes credit w i d q q' loose h r lt st a
-each_goes credit w (Steps step.Gain) i d q q' loose h h' r lt may st a = gain_goes credit w i d q q' loose h r lt st a
-each_goes credit w (Steps step.Pick) i d q q' loose h h' r lt may st a = pick_goes credit w i d q q' loose h r lt may st a
-each_goes credit w (Changes (change.Mark dead)) i d q q' loose h h' r lt may st a = mark_between credit w q q' i d dead loose h r lt may.0 st may.1 a
-each_goes credit w (Changes (change.Erase origin)) i d q q' loose h h' r lt may st a = erase_between credit w q q' i d origin loose h r lt may.0 st may.1 a
-each_goes credit w (Changes (change.Admit name)) i d q q' loose h h' r lt may st a = admit_between credit w q q' i d name loose h h' r lt st may a
-each_goes credit w (Changes change.Register) i d q q' loose h h' r lt may st a = absurd (false≢true may)
-each_goes credit w Stops i d q q' loose h h' r lt may st a = stop_goes credit w i d q q' loose h r lt st a
-each_goes credit w (Reads version) i d q q' loose h h' r lt may st a = refresh_between credit w q q' i d version loose h h' r lt st may a
-each_goes credit w (Tells code inner) i d q q' loose h h' r lt may st a = goes_so credit.initial (i + 1) w w q q' loose refl a.0 a.1 (nothing_moved credit.initial w (i + 1) q st)
+pub each_goes : (credit : CreditSpec) (w : World) (k : Kind) (i d : ℕ) (q q' : Parties) (replaced : Option (LinkName × OutSeen)) → IsLawfulAt credit w → IsLawfulAt credit (done_as w (i + 1) k) → refused_as w (i + 1) k ≡ None → i + 1 < size w → MayGo w k (i + 1) d q → Stand credit.initial w q → Acts k i d q q' replaced → StandMoved credit.initial (i + 1) (done_as w (i + 1) k) q' replaced
+each_goes credit w (Says (Own body)) i d q q' replaced h h' r lt may st a = cast_goes credit w body i d q q' replaced h lt st a
+each_goes credit w (Says (OfQueue s)) i d q q' replaced h h' r lt may st a = absurd (false≢true may)
+each_goes credit w (Steps step.Put) i d q q' replaced h h' r lt may st a = put_goes credit w i d q q' replaced h r lt st a
+each_goes credit w (Steps step.Take) i d q q' replaced h h' r lt may st a = take_goes credit w i d q q' replaced h r lt st a
+each_goes credit w (Steps step.TakeEnd) i d q q' replaced h h' r lt may st a = end_goes credit w i d q q' replaced h r lt st a
+each_goes credit w (Steps step.Gain) i d q q' replaced h h' r lt may st a = gain_goes credit w i d q q' replaced h r lt st a
+each_goes credit w (Steps step.Pick) i d q q' replaced h h' r lt may st a = pick_goes credit w i d q q' replaced h r lt may st a
+each_goes credit w (Changes (change.Mark dead)) i d q q' replaced h h' r lt may st a = mark_between credit w q q' i d dead replaced h r lt may.0 st may.1 a
+each_goes credit w (Changes (change.Erase origin)) i d q q' replaced h h' r lt may st a = erase_between credit w q q' i d origin replaced h r lt may.0 st may.1 a
+each_goes credit w (Changes (change.Admit name)) i d q q' replaced h h' r lt may st a = admit_between credit w q q' i d name replaced h h' r lt st may a
+each_goes credit w (Changes change.Register) i d q q' replaced h h' r lt may st a = absurd (false≢true may)
+each_goes credit w Stops i d q q' replaced h h' r lt may st a = stop_goes credit w i d q q' replaced h r lt st a
+each_goes credit w (Reads version) i d q q' replaced h h' r lt may st a = refresh_between credit w q q' i d version replaced h h' r lt st may a
+each_goes credit w (Tells code inner) i d q q' replaced h h' r lt may st a = goes_so credit.initial (i + 1) w w q q' replaced refl a.0 a.1 (nothing_moved credit.initial w (i + 1) q st)

@@ -120,14 +120,14 @@ module _ (credit : CreditSpec) (w : World) (x s : ℕ) (h : IsLawfulAt credit w)
   -- x stands then without that link
   pub end_it : (p : Places) (a b : Shown) → b ≡ record { held = ended_held a.held; ends = record a.ends { link = None } } → MemberStands w p x a → MemberStands (leave_link w x s) p x b
   end_it p a b e m = goes_stands w (leave_link w x s) p p x a b a.ends.out None
-      (record { doors = end_doors x; to = λ j. ap (λ r. nat_eq r x) (end_same (λ (l : Link). l.receiver) refl j); post = refl; ins = λ j _. refl })
+      (record { doors = end_doors x; to = λ j. ap (λ r. nat_eq r x) (end_same (λ (l : Link). l.receiver) refl j); deposits = refl; ins = λ j _. refl })
       (record { does = λ (g : Held). ended_held g; but_door = λ g ds. refl; stands = end_stands w x s h.fit lt is; is = e })
       (m.out ∙ ap (option_map p.outs) (sym (end_outs x))) (ap (λ (z : Member). option_map p.ins z.current) (sym now)) m
 
 -- ---- the parties
 
-pub end_goes : (credit : CreditSpec) (w : World) (i d : ℕ) (q q' : Parties) (loose : Option (LinkName × OutSeen)) → IsLawfulAt credit w → refused_as w (i + 1) (Steps step.TakeEnd) ≡ None → i + 1 < size w → Stand credit.initial w q → Acts (Steps step.TakeEnd) i d q q' loose → StandMoved credit.initial (i + 1) (done_as w (i + 1) (Steps step.TakeEnd)) q' loose
-end_goes credit w i d q q' loose h enabled lt st (b, (n, rest, ends_link, next, eb), is, none) =
+pub end_goes : (credit : CreditSpec) (w : World) (i d : ℕ) (q q' : Parties) (replaced : Option (LinkName × OutSeen)) → IsLawfulAt credit w → refused_as w (i + 1) (Steps step.TakeEnd) ≡ None → i + 1 < size w → Stand credit.initial w q → Acts (Steps step.TakeEnd) i d q q' replaced → StandMoved credit.initial (i + 1) (done_as w (i + 1) (Steps step.TakeEnd)) q' replaced
+end_goes credit w i d q q' replaced h enabled lt st (b, (n, rest, ends_link, next, eb), is, none) =
     let x : ℕ = i + 1 in
     let p : Places = st.places in
     let acts : running_refusal w x (on_link (member_at w x).current reason.NoCurrentLink (end_refusal w)) ≡ None = enabled in
@@ -136,10 +136,10 @@ end_goes credit w i d q q' loose h enabled lt st (b, (n, rest, ends_link, next, 
     let current : (member_at w x).current ≡ Some s = there.1 in
     let w' : World = leave_link w x s in
     let does : done_as w x (Steps step.TakeEnd) ≡ w' = found_does (member_at w x).current s w (leave_link w x) current in
-    goes_so credit.initial x w' (done_as w x (Steps step.TakeEnd)) (with_node q i b) q' loose does is none
+    goes_so credit.initial x w' (done_as w x (Steps step.TakeEnd)) (with_node q i b) q' replaced does is none
     (steps credit w w' q q.stopped p i b st h lt (record {
       leaves = end_leaves credit w x s h lt current;
-      post = refl;
+      deposits = refl;
       it = end_it credit w x s h lt current p (node_at q i) b eb (stands_at credit.initial w q p i st.stand lt);
       held = λ y ne. end_others w x s y h.fit current ne;
       notices = record { told = same_phases w x (with_current None (member_at w x)) q.stopped lt refl; none_told = λ y _ r. r };

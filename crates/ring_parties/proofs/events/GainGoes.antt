@@ -48,8 +48,8 @@ gain_amount initial w s o o' n amount g c = ap (λ xs. oldest_grant (xs ++ n.giv
 
 -- ---- the parties
 
-pub gain_goes : (credit : CreditSpec) (w : World) (i d : ℕ) (q q' : Parties) (loose : Option (LinkName × OutSeen)) → IsLawfulAt credit w → refused_as w (i + 1) (Steps step.Gain) ≡ None → i + 1 < size w → Stand credit.initial w q → Acts (Steps step.Gain) i d q q' loose → StandMoved credit.initial (i + 1) (done_as w (i + 1) (Steps step.Gain)) q' loose
-gain_goes credit w i d q q' loose h enabled lt st (b, (amount, o, o', ends_out, gains, eb), is, none) =
+pub gain_goes : (credit : CreditSpec) (w : World) (i d : ℕ) (q q' : Parties) (replaced : Option (LinkName × OutSeen)) → IsLawfulAt credit w → refused_as w (i + 1) (Steps step.Gain) ≡ None → i + 1 < size w → Stand credit.initial w q → Acts (Steps step.Gain) i d q q' replaced → StandMoved credit.initial (i + 1) (done_as w (i + 1) (Steps step.Gain)) q' replaced
+gain_goes credit w i d q q' replaced h enabled lt st (b, (amount, o, o', ends_out, gains, eb), is, none) =
     let x : ℕ = i + 1 in
     let p : Places = st.places in
     let on : OnOut w (done_as w x (Steps step.Gain)) x (regained_on w) = on_out credit w x (gain_refusal w) (regained_on w) h enabled lt in
@@ -58,7 +58,7 @@ gain_goes credit w i d q q' loose h enabled lt st (b, (amount, o, o', ends_out, 
     let same_end : p.outs s ≡ o = made_of p.outs (member_at w x).out s o on.is (sym a.out ∙ ends_out) in
     let its : ActsOut [] (amount ∷ []) (p.outs s).ended (p.outs s) o' = subst (λ e. ActsOut [] (amount ∷ []) e.ended e o') (sym same_end) gains in
     let it_is : amount ≡ oldest_grant (link_at w s).flow.grants = gain_amount credit.initial w s (p.outs s) o' (p.ins s) amount its (st.stand.carry s on.within (out_is_open credit w x s h on.run on.is)) in
-    goes_out credit w (done_as w x (Steps step.Gain)) q q' i loose (regained_on w) o' b st h on refl is none (λ y ne. gain_others w x s y h.fit on.is ne)
+    goes_out credit w (done_as w x (Steps step.Gain)) q q' i replaced (regained_on w) o' b st h on refl is none (λ y ne. gain_others w x s y h.fit on.is ne)
     (record {
       does = λ (g : Held). gained_held g amount;
       but_door = λ g ds. refl;

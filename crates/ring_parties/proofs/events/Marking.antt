@@ -24,9 +24,9 @@ use Rattle.ring_rules.proofs.events.Enabled.{up_none}
 use Rattle.ring_rules.proofs.events.Cases.{may_look, may_mark, may_erase}
 use Rattle.ring_rules.proofs.walks.Views.{view_old, left_old}
 use Rattle.ring_rules.proofs.invariants.Happens.{IsGood, mark_good, erase_good, newer_look, newer_good}
-use Rattle.activity.specs.Told.{none_told}
+use Rattle.activity.specs.LastSent.{never_sent}
 use Rattle.activity.specs.Diff.{next_line}
-use Rattle.gm_member.specs.Parcels.{places, known_at, told_at}
+use Rattle.gm_member.specs.Packets.{places, known_at, last_sent_at}
 use Rattle.gm_member.specs.Held.{Held, nothing_sent, lines_on, sends_to, refreshed_held, fresh_out as unsent_on}
 use Rattle.gm_member.specs.View.{ring_link}
 use Rattle.gm_member.specs.Shown.{When}
@@ -43,7 +43,7 @@ use Rattle.gm_member.proofs.RefreshStands.{first_lines}
 use Rattle.ring_parties.specs.Ends.{OutSeen, opened_out, fresh_in}
 use Rattle.ring_parties.specs.Parties.{Parties, node_at, with_node}
 use Rattle.ring_parties.specs.Standing.{Places, Stand, has_in}
-use Rattle.ring_parties.specs.Acting.{Loosens, looked_ends, first_sent, LooksAt, Acts, newest_of, viewing, posting, waits_at}
+use Rattle.ring_parties.specs.Acting.{Replacing, looked_ends, first_sent, LooksAt, Acts, newest_of, viewing, depositing, waits_at}
 use Rattle.ring_parties.proofs.work.Lawful.{IsLawfulAt}
 use Rattle.ring_parties.proofs.meetings.Known.{all_know}
 use Rattle.ring_parties.proofs.standing.Frames.{carries_logs, StandMoved}
@@ -58,9 +58,9 @@ use Rattle.ring_parties.proofs.events.Opens.{opens_on}
 pub first_packet : (w : World) (x i m z n k : ℕ) → IsFit w → lines_on (held_in w x).known (unsent_on i m z n) ≡ lines_in w no_sending (record { version = k; numbers = next_lines true (member_at w x).rows [] })
 unfolding places
 first_packet w x i m z n k f =
-    map-range_same (λ p. next_line true (p + 1) (known_at (held_in w x).known p) (told_at nothing_sent p)) (λ p. line_for true (log_of w (p + 1)) p (numbers_at (record { version = k; numbers = next_lines true (member_at w x).rows [] }) (p + 1)) no_numbers) 64
-    (λ p l. ap (λ a. next_line true (p + 1) a (told_at nothing_sent p)) (held_known w x p l)
-    ∙ ap (next_line true (p + 1) (kept_by (log_of w (p + 1)) (row_at (member_at w x) (p + 1)))) (tabled_at (λ (_ : ℕ). none_told) 64 p none_told l)
+    map-range_same (λ p. next_line true (p + 1) (known_at (held_in w x).known p) (last_sent_at nothing_sent p)) (λ p. line_for true (log_of w (p + 1)) p (numbers_at (record { version = k; numbers = next_lines true (member_at w x).rows [] }) (p + 1)) no_numbers) 64
+    (λ p l. ap (λ a. next_line true (p + 1) a (last_sent_at nothing_sent p)) (held_known w x p l)
+    ∙ ap (next_line true (p + 1) (kept_by (log_of w (p + 1)) (row_at (member_at w x) (p + 1)))) (tabled_at (λ (_ : ℕ). never_sent) 64 p never_sent l)
     ∙ line_same true p (log_of w (p + 1)) (row_at (member_at w x) (p + 1)) no_numbers (right_row w x (p + 1) f) (λ e. cc)
     ∙ ap (λ a. line_for true (log_of w (p + 1)) p a no_numbers) (sym (first_lines (member_at w x).rows (p + 1))))
 
@@ -72,27 +72,27 @@ when_true true A e a = a
 when_true false A e a = absurd (false≢true e)
 
 -- what a member holds for which no link waits
-pub held_whole : (initial : ℕ) (w : World) (q : Parties) (x : ℕ) → 1 ≤ x → x < size w → Stand initial w q → filter (waits_at x) q.post ≡ [] → (node_at q (x - 1)).held ≡ held_in w x
+pub held_whole : (initial : ℕ) (w : World) (q : Parties) (x : ℕ) → 1 ≤ x → x < size w → Stand initial w q → filter (waits_at x) q.deposits ≡ [] → (node_at q (x - 1)).held ≡ held_in w x
 held_whole initial w q x a l st none =
     whole_held w st.places x (node_at q (x - 1)) (st.stand.each x a l) (none_waits initial w q x st none)
 
-pub looks_stand : (initial : ℕ) (u : World) (x v : ℕ) (q q' : Parties) (loose : Option (LinkName × OutSeen)) → IsLooking initial u x v → Stand initial u q → filter (waits_at x) q.post ≡ [] → LooksAt (view_in u v) (x - 1) q q' loose → StandMoved initial x (refreshed u x v) q' loose
-looks_stand initial u x v q q' loose k st none (b, new, how, is) = subst (λ t. StandMoved initial x (refreshed u x v) t loose) (sym is) (by_out (sends_right u x v) refl (subst (λ (h : Held). sends_of h ≡ sends_right u x v) (sym (held_whole initial u q x k.some k.may.is_member st none)) refl))
+pub looks_stand : (initial : ℕ) (u : World) (x v : ℕ) (q q' : Parties) (replaced : Option (LinkName × OutSeen)) → IsLooking initial u x v → Stand initial u q → filter (waits_at x) q.deposits ≡ [] → LooksAt (view_in u v) (x - 1) q q' replaced → StandMoved initial x (refreshed u x v) q' replaced
+looks_stand initial u x v q q' replaced k st none (b, new, how, is) = subst (λ t. StandMoved initial x (refreshed u x v) t replaced) (sym is) (by_out (sends_right u x v) refl (subst (λ (h : Held). sends_of h ≡ sends_right u x v) (sym (held_whole initial u q x k.some k.may.is_member st none)) refl))
   where
     sends_of : Held → Bool
     sends_of h = sends_to h.out (right_of (view_in u v) h.id)
 
-    by_out : (c : Bool) → sends_right u x v ≡ c → sends_of (node_at q (x - 1)).held ≡ sends_right u x v → StandMoved initial x (refreshed u x v) (posting new (with_node q (x - 1) b)) loose
+    by_out : (c : Bool) → sends_right u x v ≡ c → sends_of (node_at q (x - 1)).held ≡ sends_right u x v → StandMoved initial x (refreshed u x v) (depositing new (with_node q (x - 1) b)) replaced
     by_out true e s =
-        let w : (b ≡ record { held = refreshed_held (node_at q (x - 1)).held (view_in u v); ends = looked_ends (view_in u v) (node_at q (x - 1)) }) × (new ≡ None) × (loose ≡ None) = when_true (sends_of (node_at q (x - 1)).held) _ (s ∙ e) how.0 in
-        subst (λ n. StandMoved initial x (refreshed u x v) (posting n (with_node q (x - 1) b)) loose) (sym w.1)
+        let w : (b ≡ record { held = refreshed_held (node_at q (x - 1)).held (view_in u v); ends = looked_ends (view_in u v) (node_at q (x - 1)) }) × (new ≡ None) × (replaced ≡ None) = when_true (sends_of (node_at q (x - 1)).held) _ (s ∙ e) how.0 in
+        subst (λ n. StandMoved initial x (refreshed u x v) (depositing n (with_node q (x - 1) b)) replaced) (sym w.1)
         (subst (StandMoved initial x (refreshed u x v) (with_node q (x - 1) b)) (sym w.2) (looks_on initial u x v q b k e st none w.0))
     by_out false e s =
         let w : (b ≡ record { held = refreshed_held (node_at q (x - 1)).held (view_in u v); ends = record (looked_ends (view_in u v) (node_at q (x - 1))) { out = Some (opened_out (node_at q (x - 1)).held.initial (first_sent (node_at q (x - 1)) (view_in u v))) } })
         × (new ≡ Some (record { name = ring_link (node_at q (x - 1)).held.id (right_of (view_in u v) (node_at q (x - 1)).held.id) (view_in u v).version; end = Some (fresh_in (node_at q (x - 1)).held.initial) }))
-        × Loosens (node_at q (x - 1)).held.id (node_at q (x - 1)).held.out (node_at q (x - 1)).ends.out loose
+        × Replacing (node_at q (x - 1)).held.id (node_at q (x - 1)).held.out (node_at q (x - 1)).ends.out replaced
         = when_true (not (sends_of (node_at q (x - 1)).held)) _ (ap not (s ∙ e)) how.1 in
-        subst (λ n. StandMoved initial x (refreshed u x v) (posting n (with_node q (x - 1) b)) loose) (sym w.1) (opens_on initial u x v q b _ loose k e st none w.0 refl w.2)
+        subst (λ n. StandMoved initial x (refreshed u x v) (depositing n (with_node q (x - 1) b)) replaced) (sym w.1) (opens_on initial u x v q b _ replaced k e st none w.0 refl w.2)
 
 -- ---- a refresh
 
@@ -117,12 +117,12 @@ refresh_looking credit w x v g g' r some lt = record {
 view_is : (w : World) (q : Parties) (v : ℕ) → w.views ≡ no_group ∷ q.views → since.view_at q.views v ≡ view_in w v
 view_is w q v e = ap (λ vs. get_or vs v no_group) (sym e)
 
-pub refresh_between : (credit : CreditSpec) (w : World) (q q' : Parties) (i d v : ℕ) (loose : Option (LinkName × OutSeen)) → IsLawfulAt credit w → IsLawfulAt credit (done_as w (i + 1) (Reads v)) → refused_as w (i + 1) (Reads v) ≡ None → i + 1 < size w
-    → Stand credit.initial w q → filter (waits_at (i + 1)) q.post ≡ [] → Acts (Reads v) i d q q' loose → StandMoved credit.initial (i + 1) (done_as w (i + 1) (Reads v)) q' loose
-refresh_between credit w q q' i d v loose g g' r lt st none acts =
+pub refresh_between : (credit : CreditSpec) (w : World) (q q' : Parties) (i d v : ℕ) (replaced : Option (LinkName × OutSeen)) → IsLawfulAt credit w → IsLawfulAt credit (done_as w (i + 1) (Reads v)) → refused_as w (i + 1) (Reads v) ≡ None → i + 1 < size w
+    → Stand credit.initial w q → filter (waits_at (i + 1)) q.deposits ≡ [] → Acts (Reads v) i d q q' replaced → StandMoved credit.initial (i + 1) (done_as w (i + 1) (Reads v)) q' replaced
+refresh_between credit w q q' i d v replaced g g' r lt st none acts =
     let back : i + 1 - 1 ≡ i = omega arith in
-    let at : LooksAt (view_in w v) (i + 1 - 1) q q' loose = subst (λ k. LooksAt (view_in w v) k q q' loose) (sym back) (subst (λ t. LooksAt t i q q' loose) (view_is w q v st.stand.views) acts) in
-    looks_stand credit.initial w (i + 1) v q q' loose (refresh_looking credit w (i + 1) v g g' r (omega arith) lt) st none at
+    let at : LooksAt (view_in w v) (i + 1 - 1) q q' replaced = subst (λ k. LooksAt (view_in w v) k q q' replaced) (sym back) (subst (λ t. LooksAt t i q q' replaced) (view_is w q v st.stand.views) acts) in
+    looks_stand credit.initial w (i + 1) v q q' replaced (refresh_looking credit w (i + 1) v g g' r (omega arith) lt) st none at
 
 -- ---- a view is added
 
@@ -151,7 +151,7 @@ view_stands initial w g q h own st = record {
     views = ap (λ vs. vs ++ g ∷ []) st.stand.views;
     stopped = st.stand.stopped;
     nobody_else = st.stand.nobody_else;
-    post = st.stand.post;
+    deposits = st.stand.deposits;
     within = st.stand.within;
     carry = λ s l i. carries_logs initial w u (link_at w s) (p.outs s) (p.ins s) (λ y. refl) (st.stand.carry s l (had s l i));
   };
@@ -191,47 +191,47 @@ follow_looking credit w x g h m = record {
 }
 
 -- so the parties stand in the state after that
-follow_stand : (credit : CreditSpec) (w w' : World) (q q' : Parties) (i : ℕ) (g : Group) (loose : Option (LinkName × OutSeen)) → IsLawfulAt credit w → MayFollow w (i + 1) g → w' ≡ refreshed (with_view w g) (i + 1) (newest w + 1)
-    → Stand credit.initial w q → filter (waits_at (i + 1)) q.post ≡ [] → LooksAt g i (viewing g q) q' loose → StandMoved credit.initial (i + 1) w' q' loose
-follow_stand credit w w' q q' i g loose h m is st none looks =
+follow_stand : (credit : CreditSpec) (w w' : World) (q q' : Parties) (i : ℕ) (g : Group) (replaced : Option (LinkName × OutSeen)) → IsLawfulAt credit w → MayFollow w (i + 1) g → w' ≡ refreshed (with_view w g) (i + 1) (newest w + 1)
+    → Stand credit.initial w q → filter (waits_at (i + 1)) q.deposits ≡ [] → LooksAt g i (viewing g q) q' replaced → StandMoved credit.initial (i + 1) w' q' replaced
+follow_stand credit w w' q q' i g replaced h m is st none looks =
     let back : i + 1 - 1 ≡ i = omega arith in
     let u : World = with_view w g in
     let v : ℕ = newest w + 1 in
     let new : view_in u v ≡ g = view_newest w g h.fit.good in
-    let at : LooksAt (view_in u v) (i + 1 - 1) (viewing g q) q' loose = subst (λ k. LooksAt (view_in u v) k (viewing g q) q' loose) (sym back) (subst (λ t. LooksAt t i (viewing g q) q' loose) (sym new) looks) in
-    subst (λ t. StandMoved credit.initial (i + 1) t q' loose) (sym is)
-    (looks_stand credit.initial u (i + 1) v (viewing g q) q' loose (follow_looking credit w (i + 1) g h m) (view_stands credit.initial w g q h.fit.good h.fit.own_ends st) none at)
+    let at : LooksAt (view_in u v) (i + 1 - 1) (viewing g q) q' replaced = subst (λ k. LooksAt (view_in u v) k (viewing g q) q' replaced) (sym back) (subst (λ t. LooksAt t i (viewing g q) q' replaced) (sym new) looks) in
+    subst (λ t. StandMoved credit.initial (i + 1) t q' replaced) (sym is)
+    (looks_stand credit.initial u (i + 1) v (viewing g q) q' replaced (follow_looking credit w (i + 1) g h m) (view_stands credit.initial w g q h.fit.good h.fit.own_ends st) none at)
 
 -- the newest view of the parties is the state's
 pub newest_is : (w : World) (q : Parties) → w.views ≡ no_group ∷ q.views → newest_of q ≡ view_in w (newest w)
 newest_is w q e = let many : length q.views ≡ newest w = omega (arith, ap length e) in ap (since.view_at q.views) many ∙ view_is w q (newest w) e
 
 -- where the parties' view is the state's, made of the newest
-follow_between : (credit : CreditSpec) (w w' : World) (q q' : Parties) (i : ℕ) (made : Group → Group) (loose : Option (LinkName × OutSeen)) → IsLawfulAt credit w → MayFollow w (i + 1) (made (view_in w (newest w)))
-    → w' ≡ refreshed (with_view w (made (view_in w (newest w)))) (i + 1) (newest w + 1) → Stand credit.initial w q → filter (waits_at (i + 1)) q.post ≡ []
-    → LooksAt (made (newest_of q)) i (viewing (made (newest_of q)) q) q' loose → StandMoved credit.initial (i + 1) w' q' loose
-follow_between credit w w' q q' i made loose h m is st none looks =
-    follow_stand credit w w' q q' i (made (view_in w (newest w))) loose h m is st none
-    (subst (λ t. LooksAt (made t) i (viewing (made t) q) q' loose) (newest_is w q st.stand.views) looks)
+follow_between : (credit : CreditSpec) (w w' : World) (q q' : Parties) (i : ℕ) (made : Group → Group) (replaced : Option (LinkName × OutSeen)) → IsLawfulAt credit w → MayFollow w (i + 1) (made (view_in w (newest w)))
+    → w' ≡ refreshed (with_view w (made (view_in w (newest w)))) (i + 1) (newest w + 1) → Stand credit.initial w q → filter (waits_at (i + 1)) q.deposits ≡ []
+    → LooksAt (made (newest_of q)) i (viewing (made (newest_of q)) q) q' replaced → StandMoved credit.initial (i + 1) w' q' replaced
+follow_between credit w w' q q' i made replaced h m is st none looks =
+    follow_stand credit w w' q q' i (made (view_in w (newest w))) replaced h m is st none
+    (subst (λ t. LooksAt (made t) i (viewing (made t) q) q' replaced) (newest_is w q st.stand.views) looks)
 
 -- ---- a mark
 
-pub mark_between : (credit : CreditSpec) (w : World) (q q' : Parties) (i d : ℕ) (dead : List ℕ) (loose : Option (LinkName × OutSeen)) → IsLawfulAt credit w → refused_as w (i + 1) (Changes (change.Mark dead)) ≡ None → i + 1 < size w → id_of w dead ≡ Some d
-    → Stand credit.initial w q → filter (waits_at (i + 1)) q.post ≡ [] → Acts (Changes (change.Mark dead)) i d q q' loose → StandMoved credit.initial (i + 1) (done_as w (i + 1) (Changes (change.Mark dead))) q' loose
-mark_between credit w q q' i d dead loose h r lt there =
+pub mark_between : (credit : CreditSpec) (w : World) (q q' : Parties) (i d : ℕ) (dead : List ℕ) (replaced : Option (LinkName × OutSeen)) → IsLawfulAt credit w → refused_as w (i + 1) (Changes (change.Mark dead)) ≡ None → i + 1 < size w → id_of w dead ≡ Some d
+    → Stand credit.initial w q → filter (waits_at (i + 1)) q.deposits ≡ [] → Acts (Changes (change.Mark dead)) i d q q' replaced → StandMoved credit.initial (i + 1) (done_as w (i + 1) (Changes (change.Mark dead))) q' replaced
+mark_between credit w q q' i d dead replaced h r lt there =
     let a = up_none w (i + 1) (of_member (id_of w dead) (mark_refusal w (i + 1))) r in
     let m : MayMark w (i + 1) d = may_mark w (i + 1) d lt a.0 (found_later (id_of w dead) d (mark_refusal w (i + 1)) there a.1) in
-    follow_between credit w (done_as w (i + 1) (Changes (change.Mark dead))) q q' i (λ g. marked g d) loose h
+    follow_between credit w (done_as w (i + 1) (Changes (change.Mark dead))) q q' i (λ g. marked g d) replaced h
     (record { some = omega arith; is_member = m.is_member; up = m.up; good = mark_good w d m.rests m.lives h.fit.good })
     (found_does (id_of w dead) d w (λ e. refreshed (with_view w (marked (view_in w (newest w)) e)) (i + 1) (newest w + 1)) there)
 
 -- ---- an erasure
 
-pub erase_between : (credit : CreditSpec) (w : World) (q q' : Parties) (i p : ℕ) (origin : List ℕ) (loose : Option (LinkName × OutSeen)) → IsLawfulAt credit w → refused_as w (i + 1) (Changes (change.Erase origin)) ≡ None → i + 1 < size w → id_of w origin ≡ Some p
-    → Stand credit.initial w q → filter (waits_at (i + 1)) q.post ≡ [] → Acts (Changes (change.Erase origin)) i p q q' loose → StandMoved credit.initial (i + 1) (done_as w (i + 1) (Changes (change.Erase origin))) q' loose
-erase_between credit w q q' i p origin loose h r lt there =
+pub erase_between : (credit : CreditSpec) (w : World) (q q' : Parties) (i p : ℕ) (origin : List ℕ) (replaced : Option (LinkName × OutSeen)) → IsLawfulAt credit w → refused_as w (i + 1) (Changes (change.Erase origin)) ≡ None → i + 1 < size w → id_of w origin ≡ Some p
+    → Stand credit.initial w q → filter (waits_at (i + 1)) q.deposits ≡ [] → Acts (Changes (change.Erase origin)) i p q q' replaced → StandMoved credit.initial (i + 1) (done_as w (i + 1) (Changes (change.Erase origin))) q' replaced
+erase_between credit w q q' i p origin replaced h r lt there =
     let a = up_none w (i + 1) (of_member (id_of w origin) (erase_refusal w (i + 1))) r in
     let m : MayErase w (i + 1) p = may_erase w (i + 1) p lt a.0 (found_later (id_of w origin) p (erase_refusal w (i + 1)) there a.1) in
-    follow_between credit w (done_as w (i + 1) (Changes (change.Erase origin))) q q' i (λ g. installed (erased g p)) loose h
+    follow_between credit w (done_as w (i + 1) (Changes (change.Erase origin))) q q' i (λ g. installed (erased g p)) replaced h
     (record { some = omega arith; is_member = m.is_member; up = m.up; good = erase_good w p m.dead h.fit.good })
     (found_does (id_of w origin) p w (λ e. refreshed (with_view w (erased_view w e)) (i + 1) (newest w + 1)) there)

@@ -29,7 +29,7 @@ use Rattle.ring_parties.specs.Parties.{Parties, parties, node_at}
 use Rattle.ring_parties.specs.States.{state}
 use Rattle.ring_parties.specs.Standing.{StandAfter}
 use Rattle.ring_parties.specs.Refused.{admission_refused}
-use Rattle.ring_parties.proofs.post.Handing.{registrar_stands}
+use Rattle.ring_parties.proofs.deposits.Handing.{registrar_stands}
 use Rattle.ring_parties.proofs.events.After.{shown_inside, within_after, lawful_after}
 use Rattle.ring_parties.proofs.events.Refusing.{admit_refuses}
 use Rattle.ring_parties.proofs.events.Marking.{newest_is}

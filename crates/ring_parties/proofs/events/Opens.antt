@@ -23,7 +23,7 @@ use Rattle.ring_rules.proofs.rings.Rounds.{nat_eq-is}
 use Rattle.ring_rules.proofs.invariants.Happens.{IsGood}
 use Rattle.ring_rules.proofs.walks.OpenWalk.{place_is}
 use Rattle.registrar.proofs.Members.{told_refreshed, stopped_same}
-use Rattle.gm_member.specs.Held.{Held, Incoming, is_for, refreshed_held, fresh_out as unsent_on, lines_on, parcel_on}
+use Rattle.gm_member.specs.Held.{Held, Incoming, is_for, refreshed_held, fresh_out as unsent_on, lines_on, packet_on}
 use Rattle.gm_member.specs.View.{ring_link}
 use Rattle.gm_member.specs.Stands.{incoming_in, outgoing_in, waits_for, door_links, held_in, lines_in}
 use Rattle.gm_member.proofs.DoorLists.{filter_agree, filter_more}
@@ -34,11 +34,11 @@ use Rattle.ring_rules.proofs.work.Refreshed.{endless}
 use Rattle.gm_member.proofs.OthersStand.{refresh_others}
 use Rattle.ring_rules.proofs.work.OwnEnds.{OwnEnds}
 use Rattle.gm_member.proofs.RefreshStands.{current_lt, kept_lt, door_stays, refresh_stands}
-use Rattle.ring_parties.specs.Ends.{OutSeen, InSeen, Sent, Carries, HasRested, opened_out, fresh_in, HaveMet}
-use Rattle.ring_parties.specs.Parties.{Shown, Posted, Parties, node_at, with_node}
+use Rattle.ring_parties.specs.Ends.{OutSeen, InSeen, PacketShown, Carries, HasRested, opened_out, fresh_in, HaveMet}
+use Rattle.ring_parties.specs.Parties.{Shown, Deposit, Parties, node_at, with_node}
 use Rattle.ring_parties.specs.Standing.{Places, MemberStands, StandIn, Stand, HaveDone, SendersKnow, name_of, is_to, has_out, has_in}
-use Rattle.ring_parties.specs.Loose.{LooseFits, DroppedHaveMet, OthersHaveMet, moved_by, sender_to}
-use Rattle.ring_parties.specs.Acting.{Loosens, looked_ends, first_sent, sent_of, waits_at, ActsOut}
+use Rattle.ring_parties.specs.Replaced.{ReplacedFits, DroppedHaveMet, OthersHaveMet, moved_by, sender_to}
+use Rattle.ring_parties.specs.Acting.{Replacing, looked_ends, first_sent, sent_of, waits_at, ActsOut}
 use Rattle.ring_parties.proofs.standing.Writing.{placed, placed_same, placed_other, map_agree}
 use Rattle.ring_parties.proofs.standing.Placing.{name_is_unique}
 use Rattle.ring_parties.proofs.standing.Showing.{each_set}
@@ -61,7 +61,7 @@ in_push s n xs e = by_case (is_in s xs) refl (nat_eq s n) refl (sym (is_in-appen
     by_case false k true j h = inr (nat_eq-is s n j)
     by_case false k false j h = absurd (false≢true h)
 
--- two that are loose are one
+-- two that are replaced are one
 some_same : (f g : LinkName × OutSeen) → Some f ≡ Some g → f ≡ g
 some_same f g e = cc
 
@@ -84,23 +84,23 @@ link_was u x v s ne l = get_or_append_left (old_links u x) (new_link u x v ∷ [
 
 -- ---- its old out end
 
--- What becomes of the end on which it sent, and what is loose.
-record OldEnds (u : World) (x : ℕ) (p : Places) (loose : Option (LinkName × OutSeen)) (outs : ℕ → OutSeen) : Type 0 where
+-- What becomes of the end on which it sent, and which end is replaced.
+record OldEnds (u : World) (x : ℕ) (p : Places) (replaced : Option (LinkName × OutSeen)) (outs : ℕ → OutSeen) : Type 0 where
   same : (s : ℕ) → ((member_at u x).out ≡ Some s → ⊥) → outs s ≡ p.outs s
   ends : (s : ℕ) → (member_at u x).out ≡ Some s → ActsOut (None ∷ []) [] true (p.outs s) (outs s)
-  is_loose : (s : ℕ) → (member_at u x).out ≡ Some s → loose ≡ Some (name_of u s, outs s)
-  none : (member_at u x).out ≡ None → loose ≡ None
+  is_replaced : (s : ℕ) → (member_at u x).out ≡ Some s → replaced ≡ Some (name_of u s, outs s)
+  none : (member_at u x).out ≡ None → replaced ≡ None
 
-old_ends : (u : World) (x : ℕ) (p : Places) (loose : Option (LinkName × OutSeen)) → OwnEnds u → Loosens x (option_map (outgoing_in u) (member_at u x).out) (option_map p.outs (member_at u x).out) loose → (outs : ℕ → OutSeen) × OldEnds u x p loose outs
-old_ends u x p loose own = by_out (member_at u x).out refl
+old_ends : (u : World) (x : ℕ) (p : Places) (replaced : Option (LinkName × OutSeen)) → OwnEnds u → Replacing x (option_map (outgoing_in u) (member_at u x).out) (option_map p.outs (member_at u x).out) replaced → (outs : ℕ → OutSeen) × OldEnds u x p replaced outs
+old_ends u x p replaced own = by_out (member_at u x).out refl
   where
-    by_out : (c : Option ℕ) → (member_at u x).out ≡ c → Loosens x (option_map (outgoing_in u) c) (option_map p.outs c) loose → (outs : ℕ → OutSeen) × OldEnds u x p loose outs
+    by_out : (c : Option ℕ) → (member_at u x).out ≡ c → Replacing x (option_map (outgoing_in u) c) (option_map p.outs c) replaced → (outs : ℕ → OutSeen) × OldEnds u x p replaced outs
     by_out None e l = (
       p.outs,
       record {
         same = λ s ne. refl;
         ends = λ s k. (let both : None ≡ Some s = sym e ∙ k in cc);
-        is_loose = λ s k. (let both : None ≡ Some s = sym e ∙ k in cc);
+        is_replaced = λ s k. (let both : None ≡ Some s = sym e ∙ k in cc);
         none = λ k. l;
       },
     )
@@ -111,7 +111,7 @@ old_ends u x p loose own = by_out (member_at u x).out refl
           record {
             same = λ s ne. placed_other p.outs o o' s (λ (same : s ≡ o). ne (e ∙ ap Some (sym same)));
             ends = λ s k. (let both : Some o ≡ Some s = sym e ∙ k in let is : o ≡ s = cc in subst (λ t. ActsOut (None ∷ []) [] true (p.outs t) (placed p.outs o o' t)) is (subst (ActsOut (None ∷ []) [] true (p.outs o)) (sym (placed_same p.outs o o')) l.1));
-            is_loose = λ s k. (let both : Some o ≡ Some s = sym e ∙ k in let is : o ≡ s = cc in
+            is_replaced = λ s k. (let both : Some o ≡ Some s = sym e ∙ k in let is : o ≡ s = cc in
                 l.2 ∙ ap (λ n. Some (n, o')) named ∙ ap (λ k2. Some (name_of u o, k2)) (sym (placed_same p.outs o o')) ∙ ap (λ t. Some (name_of u t, placed p.outs o o' t)) is);
             none = λ k. (let both : Some o ≡ None = sym e ∙ k in cc);
           },
@@ -148,24 +148,24 @@ pub record HasOpened (initial : ℕ) (u u' : World) (x v : ℕ) (view : Group) (
   pub new_waits : (z : ℕ) → z < size u → cond (waits_for u' z (length u.links)) (length u.links ∷ []) [] ≡ filter (is_to u' z) waits
 
 -- The old members stand in u', one of them as another; so do the links that waited, and each link is carried.
-pub record StandOpened (initial : ℕ) (u u' : World) (x v : ℕ) (view : Group) (waits : List ℕ) (q : Parties) (b : Shown) (loose : Option (LinkName × OutSeen)) : Type 0 where
+pub record StandOpened (initial : ℕ) (u u' : World) (x v : ℕ) (view : Group) (waits : List ℕ) (q : Parties) (b : Shown) (replaced : Option (LinkName × OutSeen)) : Type 0 where
   pub places : Places
   pub each : (z : ℕ) → 1 ≤ z → z < size u → MemberStands u' places z (node_at (with_node q (x - 1) b) (z - 1))
   pub before : List ℕ
-  pub waiting : places.post ≡ before ++ waits
-  pub post : q.post ≡ map (waiting_at u' places) before
+  pub waiting : places.deposits ≡ before ++ waits
+  pub deposits : q.deposits ≡ map (waiting_at u' places) before
   pub within : (s : ℕ) → is_in s before ≡ true → s < length u.links
   pub to_old : (z : ℕ) → filter (is_to u' z) before ≡ filter (is_to u z) before
   pub end_is : places.ins (length u.links) ≡ fresh_in initial
   pub named : name_of u' (length u.links) ≡ ring_link x (right_of view x) v
   pub carry : (s : ℕ) → s < length u'.links → has_in u' s ≡ true → Carries u' initial (link_at u' s) (places.outs s) (places.ins s)
-  pub dropped : DroppedHaveMet u' places loose
-  pub fits : LooseFits u' places loose
+  pub dropped : DroppedHaveMet u' places replaced
+  pub fits : ReplacedFits u' places replaced
   pub met : OthersHaveMet u' places (moved_by x u')
   pub known : SendersKnow u' places
 
 -- so they have moved where they stand at these places
-pub opened_moves : {initial : ℕ} {u u' : World} {x v : ℕ} {view : Group} {waits : List ℕ} {q q' : Parties} {b : Shown} {loose : Option (LinkName × OutSeen)} → (d : StandOpened initial u u' x v view waits q b loose) → StandIn initial u' q' d.places → StandMoved initial x u' q' loose
+pub opened_moves : {initial : ℕ} {u u' : World} {x v : ℕ} {view : Group} {waits : List ℕ} {q q' : Parties} {b : Shown} {replaced : Option (LinkName × OutSeen)} → (d : StandOpened initial u u' x v view waits q b replaced) → StandIn initial u' q' d.places → StandMoved initial x u' q' replaced
 opened_moves d stand = record { places = d.places; stand = stand; dropped = d.dropped; fits = d.fits; met = d.met; known = d.known }
 
 -- the replaced link holds its end
@@ -175,16 +175,16 @@ ended_carries w initial l o o' n goes = end_carries initial w l (ended Moved l) 
     ended_by : Option Ending → Option Ending
     ended_by k = (ended Moved (record l { ending = k })).ending
 
-pub opens_parts : (initial : ℕ) (u u' : World) (x v : ℕ) (view : Group) (first : Packet) (kept : ℕ → Bool) (waits : List ℕ) (q : Parties) (b : Shown) (loose : Option (LinkName × OutSeen)) → HasOpened initial u u' x v view first kept waits → Stand initial u q → filter (waits_at x) q.post ≡ []
+pub opens_parts : (initial : ℕ) (u u' : World) (x v : ℕ) (view : Group) (first : Packet) (kept : ℕ → Bool) (waits : List ℕ) (q : Parties) (b : Shown) (replaced : Option (LinkName × OutSeen)) → HasOpened initial u u' x v view first kept waits → Stand initial u q → filter (waits_at x) q.deposits ≡ []
     → b ≡ record { held = refreshed_held (node_at q (x - 1)).held view; ends = record (looked_ends view (node_at q (x - 1))) { out = Some (opened_out (node_at q (x - 1)).held.initial (first_sent (node_at q (x - 1)) view)) } }
-    → Loosens (node_at q (x - 1)).held.id (node_at q (x - 1)).held.out (node_at q (x - 1)).ends.out loose
-    → StandOpened initial u u' x v view waits q b loose
-opens_parts initial u u' x v view first kept waits q b loose k st none eb el = record {
+    → Replacing (node_at q (x - 1)).held.id (node_at q (x - 1)).held.out (node_at q (x - 1)).ends.out replaced
+    → StandOpened initial u u' x v view waits q b replaced
+opens_parts initial u u' x v view first kept waits q b replaced k st none eb el = record {
   places = p';
   each = λ z c m. each_set u u' q p p' x b st.stand.count k.some k.is_member mine other z c m;
-  before = p.post;
+  before = p.deposits;
   waiting = refl;
-  post = st.stand.post ∙ sym posts;
+  deposits = st.stand.deposits ∙ sym pending_deposits;
   within = st.stand.within;
   to_old = to_old;
   end_is = placed_same p.ins n n_new ∙ ap fresh_in initial_at;
@@ -214,10 +214,10 @@ opens_parts initial u u' x v view first kept waits q b loose k st none eb el = r
     held_at : a.held ≡ held_in u x
     held_at = whole_held u p x a h (none_waits initial u q x st none)
 
-    old : (outs : ℕ → OutSeen) × OldEnds u x p loose outs
-    old = old_ends u x p loose k.own
-        (subst (λ o. Loosens x (option_map (outgoing_in u) (member_at u x).out) o loose) h.out
-        (subst (λ (j : Held). Loosens j.id j.out a.ends.out loose) held_at el))
+    old : (outs : ℕ → OutSeen) × OldEnds u x p replaced outs
+    old = old_ends u x p replaced k.own
+        (subst (λ o. Replacing x (option_map (outgoing_in u) (member_at u x).out) o replaced) h.out
+        (subst (λ (j : Held). Replacing j.id j.out a.ends.out replaced) held_at el))
 
     outs : ℕ → OutSeen
     outs = old.0
@@ -229,7 +229,7 @@ opens_parts initial u u' x v view first kept waits q b loose k st none eb el = r
     n_new = fresh_in a.held.initial
 
     p' : Places
-    p' = record { outs = placed outs n o_new; ins = placed p.ins n n_new; post = p.post ++ waits }
+    p' = record { outs = placed outs n o_new; ins = placed p.ins n n_new; deposits = p.deposits ++ waits }
 
     not_new : (s : ℕ) → s < n → s ≢ n
     not_new s l = λ (same : s ≡ n). omega arith
@@ -249,12 +249,12 @@ opens_parts initial u u' x v view first kept waits q b loose k st none eb el = r
     name_new : name_of u' n ≡ ring_link x (right_of view x) v
     name_new = ap (λ (i : Link). ring_link i.sender i.receiver i.opened) k.new
 
-    posts : map (waiting_at u' p') p.post ≡ map (waiting_at u p) p.post
-    posts = map_agree (waiting_at u' p') (waiting_at u p) p.post
+    pending_deposits : map (waiting_at u' p') p.deposits ≡ map (waiting_at u p) p.deposits
+    pending_deposits = map_agree (waiting_at u' p') (waiting_at u p) p.deposits
         (λ s i. ap (λ j. record { name = j; end = Some (p'.ins s) }) (name_old s (st.stand.within s i)) ∙ ap (λ j. record { name = name_of u s; end = Some j }) (ins_old s (st.stand.within s i)))
 
-    to_old : (z : ℕ) → filter (is_to u' z) p.post ≡ filter (is_to u z) p.post
-    to_old z = filter_agree_in (is_to u' z) (is_to u z) p.post (λ s e. ap (λ (i : Link). nat_eq i.receiver z) (k.old s (st.stand.within s e)))
+    to_old : (z : ℕ) → filter (is_to u' z) p.deposits ≡ filter (is_to u z) p.deposits
+    to_old z = filter_agree_in (is_to u' z) (is_to u z) p.deposits (λ s e. ap (λ (i : Link). nat_eq i.receiver z) (k.old s (st.stand.within s e)))
 
     -- the doors, and the links that wait
     door_opens : (z : ℕ) (t : ℕ → Bool) → z < size u → ((s : ℕ) → s < n → waits_for u' z s ≡ t s) → door_links u' z ≡ filter t (range_with_len 0 n) ++ filter (is_to u' z) waits
@@ -264,8 +264,8 @@ opens_parts initial u u' x v view first kept waits q b loose k st none eb el = r
         ∙ ap (λ xs. xs ++ cond (waits_for u' z n) (n ∷ []) []) (filter_agree (waits_for u' z) t 0 n (λ s i j. tests s (omega arith)))
         ∙ ap (λ xs. filter t (range_with_len 0 n) ++ xs) (k.new_waits z m)
 
-    post_opens : (z : ℕ) → filter (is_to u' z) (p.post ++ waits) ≡ filter (is_to u z) p.post ++ filter (is_to u' z) waits
-    post_opens z = filter-append (is_to u' z) p.post waits ∙ ap (λ xs. xs ++ filter (is_to u' z) waits) (to_old z)
+    deposit_opens : (z : ℕ) → filter (is_to u' z) (p.deposits ++ waits) ≡ filter (is_to u z) p.deposits ++ filter (is_to u' z) waits
+    deposit_opens z = filter-append (is_to u' z) p.deposits waits ∙ ap (λ xs. xs ++ filter (is_to u' z) waits) (to_old z)
 
     mine : MemberStands u' p' x b
     mine = looker u u' p p' x view kept a b (Some o_new) k.own k.test h (none_waits initial u q x st none)
@@ -278,7 +278,7 @@ opens_parts initial u u' x v view first kept waits q b loose k st none eb el = r
         (door_opens x (λ s. waits_for u x s && keeps_it u x view s) k.is_member (λ s l. after.waits_here s l)
         ∙ ap (λ xs. xs ++ filter (is_to u' x) waits) (sym (filter_both (waits_for u x) (keeps_it u x view) (range_with_len 0 n)))
         ∙ ap (λ ys. filter (keeps_it u x view) (door_links u x) ++ (ys ++ filter (is_to u' x) waits)) (sym (none_waits initial u q x st none))
-        ∙ ap (λ ys. filter (keeps_it u x view) (door_links u x) ++ ys) (sym (post_opens x)))
+        ∙ ap (λ ys. filter (keeps_it u x view) (door_links u x) ++ ys) (sym (deposit_opens x)))
 
     other : (z : ℕ) → 1 ≤ z → z < size u → z ≢ x → MemberStands u' p' z (node_at q (z - 1))
     other z c m ne = beholder u u' p p' z (node_at q (z - 1)) k.own (st.stand.each z c m) (after.out_other z ne) (after.current_other z ne m)
@@ -289,8 +289,8 @@ opens_parts initial u u' x v view first kept waits q b loose k st none eb el = r
         (λ ds d.
         door_opens z (waits_for u z) m (λ s l. after.waits_other z s ne l)
         ∙ ap (λ xs. xs ++ filter (is_to u' z) waits) d
-        ∙ append_assoc ds (filter (is_to u z) p.post) (filter (is_to u' z) waits)
-        ∙ ap (λ ys. ds ++ ys) (sym (post_opens z)))
+        ∙ append_assoc ds (filter (is_to u z) p.deposits) (filter (is_to u' z) waits)
+        ∙ ap (λ ys. ds ++ ys) (sym (deposit_opens z)))
 
     has : (s : ℕ) → s < n → has_in u' s ≡ true → has_in u s ≡ true
     has s l i = look_has u u' x s view kept k.own after l i
@@ -314,7 +314,7 @@ opens_parts initial u u' x v view first kept waits q b loose k st none eb el = r
     -- the new one holds its first packet, in its out end
     sent_is : first_sent a view ≡ record { view = first.version; lines = lines_in u' no_sending first }
     sent_is =
-        ap (λ (j : Held). sent_of (parcel_on view.version j.known (unsent_on j.initial j.more (right_of view j.id) view.version))) held_at
+        ap (λ (j : Held). sent_of (packet_on view.version j.known (unsent_on j.initial j.more (right_of view j.id) view.version))) held_at
         ∙ ap (λ i. record { view = i; lines = lines_on (held_in u x).known (unsent_on u.initial u.more (right_of view x) i) }) k.numbered
         ∙ ap (λ ls. record { view = v; lines = ls }) (k.lines ∙ sym (same_lines u u' no_sending first after.logs))
         ∙ ap (λ i. record { view = i; lines = lines_in u' no_sending first }) (sym k.first_is)
@@ -322,7 +322,7 @@ opens_parts initial u u' x v view first kept waits q b loose k st none eb el = r
     initial_at : a.held.initial ≡ initial
     initial_at = ap (λ (j : Held). j.initial) held_at ∙ k.initial_is
 
-    opens : (sent : Sent) → sent ≡ record { view = first.version; lines = lines_in u' no_sending first } → Carries u' initial (link_to u x (right_of view x) v first) (opened_out initial sent) (fresh_in initial)
+    opens : (sent : PacketShown) → sent ≡ record { view = first.version; lines = lines_in u' no_sending first } → Carries u' initial (link_to u x (right_of view x) v first) (opened_out initial sent) (fresh_in initial)
     opens sent e = opened_carries initial u' (link_to u x (right_of view x) v first) (Some sent ∷ []) initial (ap (λ s. Some s ∷ []) e) refl refl (omega arith)
 
     carries_new : Carries u' initial (link_at u' n) (p'.outs n) (p'.ins n)
@@ -343,7 +343,7 @@ opens_parts initial u u' x v view first kept waits q b loose k st none eb el = r
     has_none : (s : ℕ) → s < n → (link_at u s).sender ≡ x → has_out u' s ≡ false
     has_none s l from = ap (λ y. is_place (member_at u' y).out s) (after.sender s l ∙ from) ∙ ap (λ c. is_place c s) k.out_here ∙ nat_eq-not n s (λ (same : n ≡ s). not_new s l (sym same))
 
-    dropped : DroppedHaveMet u' p' loose
+    dropped : DroppedHaveMet u' p' replaced
     dropped s l i o = ⊎_elim
         (λ (lt : s < n). by_out lt (is_place (member_at u x).out s) refl)
         (λ (ge : n ≤ s).
@@ -358,9 +358,9 @@ opens_parts initial u u' x v view first kept waits q b loose k st none eb el = r
             (λ (ne : (link_at u s).sender ≢ x). sym (ap (λ y. is_place (member_at u' y).out s) (after.sender s lt) ∙ ap (λ c. is_place c s) (after.out_other (link_at u s).sender ne)) ∙ o)
             (cases_eq (link_at u s).sender x)
 
-        by_out : s < n → (c : Bool) → is_place (member_at u x).out s ≡ c → HasRested (p'.outs s) (p'.ins s) ⊎ (loose ≡ Some (name_of u' s, p'.outs s))
+        by_out : s < n → (c : Bool) → is_place (member_at u x).out s ≡ c → HasRested (p'.outs s) (p'.ins s) ⊎ (replaced ≡ Some (name_of u' s, p'.outs s))
         by_out lt true j =
-            inr (old.1.is_loose s (place_is (member_at u x).out s j) ∙ ap (λ t. Some (t, outs s)) (sym (name_old s lt)) ∙ ap (λ t. Some (name_of u' s, t)) (sym (outs_old s lt)))
+            inr (old.1.is_replaced s (place_is (member_at u x).out s j) ∙ ap (λ t. Some (t, outs s)) (sym (name_old s lt)) ∙ ap (λ t. Some (name_of u' s, t)) (sym (outs_old s lt)))
         by_out lt false j =
             let no : (member_at u x).out ≡ Some s → ⊥ = λ t. false≢true (sym j ∙ ap (λ c. is_place c s) t ∙ nat_eq-same s) in
             let rested : HasRested (p.outs s) (p.ins s) = subst (λ c. HaveDone c (p.outs s) (p.ins s)) (had_none lt j) (st.met s lt (has s lt i)) in
@@ -398,14 +398,14 @@ opens_parts initial u u' x v view first kept waits q b loose k st none eb el = r
         (λ (ge : n ≤ s). let is : s ≡ n = omega (arith, l, k.more) in subst (Knows u' p') (sym is) known_new)
         (cases_lt s n)
 
-    fits : LooseFits u' p' loose
+    fits : ReplacedFits u' p' replaced
     fits s o l i c = by_out (member_at u x).out refl
       where
         by_out : (d : Option ℕ) → (member_at u x).out ≡ d → (has_out u' s ≡ false) × (p'.outs s ≡ o)
         by_out None j = absurd (none-some (name_of u' s, o) (sym (old.1.none j) ∙ c))
         by_out (Some t) j =
             let tn : t < n = (k.own.out x t j).0 in
-            let both : Some (name_of u t, outs t) ≡ Some (name_of u' s, o) = sym (old.1.is_loose t j) ∙ c in
+            let both : Some (name_of u t, outs t) ≡ Some (name_of u' s, o) = sym (old.1.is_replaced t j) ∙ c in
             let same : name_of u' t ≡ name_of u' s = name_old t tn ∙ first_same (name_of u t, outs t) (name_of u' s, o) both in
             let is : t ≡ s = name_is_unique u' t s k.later (omega (arith, tn, k.more)) l same in
             let pair : (name_of u t, outs t) ≡ (name_of u' s, o) = some_same (name_of u t, outs t) (name_of u' s, o) both in
@@ -487,18 +487,18 @@ refresh_opened initial u x v k e = record {
         ∙ waits_new u x v x y.current v k.may k.good k.may.upto (kept_lt n (λ s. is_kept u (link_at u s) v) (member_at u x).current (current_lt u x n (member_at u x).current (λ s i. (k.own.current x s i).0)))
         ∙ to x)
 
-pub opens_on : (initial : ℕ) (u : World) (x v : ℕ) (q : Parties) (b : Shown) (new : Posted) (loose : Option (LinkName × OutSeen)) → IsLooking initial u x v → sends_right u x v ≡ false → Stand initial u q → filter (waits_at x) q.post ≡ []
+pub opens_on : (initial : ℕ) (u : World) (x v : ℕ) (q : Parties) (b : Shown) (new : Deposit) (replaced : Option (LinkName × OutSeen)) → IsLooking initial u x v → sends_right u x v ≡ false → Stand initial u q → filter (waits_at x) q.deposits ≡ []
     → b ≡ record { held = refreshed_held (node_at q (x - 1)).held (view_in u v); ends = record (looked_ends (view_in u v) (node_at q (x - 1))) { out = Some (opened_out (node_at q (x - 1)).held.initial (first_sent (node_at q (x - 1)) (view_in u v))) } }
     → new ≡ record { name = ring_link (node_at q (x - 1)).held.id (right_of (view_in u v) (node_at q (x - 1)).held.id) (view_in u v).version; end = Some (fresh_in (node_at q (x - 1)).held.initial) }
-    → Loosens (node_at q (x - 1)).held.id (node_at q (x - 1)).held.out (node_at q (x - 1)).ends.out loose
-    → StandMoved initial x (refreshed u x v) (record (with_node q (x - 1) b) { post = q.post ++ new ∷ [] }) loose
-opens_on initial u x v q b new loose k e st none eb en el = subst (λ w. StandMoved initial x w (record (with_node q (x - 1) b) { post = q.post ++ new ∷ [] }) loose) (sym is_opened) (opened_moves d (record {
+    → Replacing (node_at q (x - 1)).held.id (node_at q (x - 1)).held.out (node_at q (x - 1)).ends.out replaced
+    → StandMoved initial x (refreshed u x v) (record (with_node q (x - 1) b) { deposits = q.deposits ++ new ∷ [] }) replaced
+opens_on initial u x v q b new replaced k e st none eb en el = subst (λ w. StandMoved initial x w (record (with_node q (x - 1) b) { deposits = q.deposits ++ new ∷ [] }) replaced) (sym is_opened) (opened_moves d (record {
   count = (let same : length (set q.nodes (x - 1) b) ≡ length q.nodes = length-set q.nodes (x - 1) b in omega (arith, same, many, st.stand.count));
   each = λ z c m. d.each z c (omega (arith, m, many));
   views = st.stand.views;
   stopped = λ z c m. st.stand.stopped z c (omega (arith, m, many)) ∙ sym (sym (ap (λ w. is_stopped (member_at w z).phase) is_opened) ∙ stopped_same u (refreshed u x v) z (told_refreshed u x v));
   nobody_else = λ z ge. st.stand.nobody_else z (omega (arith, ge, many));
-  post = ap (λ xs. xs ++ new ∷ []) d.post ∙ ap (λ i. map (waiting_at u' d.places) d.before ++ i ∷ []) new_is ∙ sym (map-append (waiting_at u' d.places) d.before (n ∷ [])) ∙ ap (map (waiting_at u' d.places)) (sym d.waiting);
+  deposits = ap (λ xs. xs ++ new ∷ []) d.deposits ∙ ap (λ i. map (waiting_at u' d.places) d.before ++ i ∷ []) new_is ∙ sym (map-append (waiting_at u' d.places) d.before (n ∷ [])) ∙ ap (map (waiting_at u' d.places)) (sym d.waiting);
   within = λ s i. ⊎_elim
       (λ (j : is_in s d.before ≡ true). let l : s < n = d.within s j in omega (arith, l, more))
       (λ (j : s ≡ n). omega (arith, j, more))
@@ -515,8 +515,8 @@ opens_on initial u x v q b new loose k e st none eb en el = subst (λ w. StandMo
     is_opened : refreshed u x v ≡ u'
     is_opened = refresh_opens u x v k.may.is_member e
 
-    d : StandOpened initial u u' x v (view_in u v) (n ∷ []) q b loose
-    d = opens_parts initial u u' x v (view_in u v) (next_packet (moved_to u x v) no_sending) (kept_to u v) (n ∷ []) q b loose (refresh_opened initial u x v k e) st none eb el
+    d : StandOpened initial u u' x v (view_in u v) (n ∷ []) q b replaced
+    d = opens_parts initial u u' x v (view_in u v) (next_packet (moved_to u x v) no_sending) (kept_to u v) (n ∷ []) q b replaced (refresh_opened initial u x v k e) st none eb el
 
     many : size u' ≡ size u
     many = length-set u.members x (sending_member u x v n)

@@ -8,6 +8,7 @@ use Rattle.std.proofs.lemmas.List.Quantifiers.{position-Some}
 use Rattle.ring_names.specs.declared.numbers.CreditSpec.{CreditSpec}
 use Rattle.ring_names.specs.declared.reason.Reason.TheVariants as reason
 use Rattle.group_view.specs.declared.link.LinkName.{LinkName}
+use Rattle.group_view.proofs.Truth.{none_there}
 use Rattle.ring_rules.specs.declared.kind.LinkStep.TheVariants as step
 use Rattle.ring_rules.specs.Kind.{Steps}
 use Rattle.ring_rules.specs.Refusal.{refuse_if, or_else}
@@ -27,11 +28,10 @@ use Rattle.gm_member.proofs.Doors.{pickable_is_door}
 use Rattle.gm_member.proofs.PickStands.{PicksAt, picked_waits, picks_some, pick_stands, door_link}
 use Rattle.gm_member.proofs.Others.{member_others}
 use Rattle.ring_parties.specs.Ends.{OutSeen}
-use Rattle.ring_parties.specs.Parties.{Shown, Parties, Posted, node_at, with_node}
+use Rattle.ring_parties.specs.Parties.{Shown, Parties, Deposit, node_at, with_node}
 use Rattle.ring_parties.specs.Standing.{Places, MemberStands, Stand, is_to, has_in}
 use Rattle.ring_parties.specs.Acting.{Acts}
 use Rattle.ring_parties.proofs.work.Lawful.{IsLawfulAt}
-use Rattle.ring_parties.proofs.lists.Truth.{none_is}
 use Rattle.ring_parties.proofs.standing.Frames.{way, way_seen, same_of, same_filter, carries_logs, StandMoved}
 use Rattle.ring_parties.proofs.standing.Lookers.{whole_door, whole_held}
 use Rattle.ring_parties.proofs.events.Refreshing.{none_waits}
@@ -40,8 +40,8 @@ use Rattle.ring_parties.proofs.events.Steps.{Leaves, goes_so, same_phases, steps
 
 -- ---- no link waits for a member at the registrar
 
-abbrev pub NonePosted : Parties → ℕ → Type 0
-NonePosted q x = filter (λ (k : Posted). nat_eq k.name.to.0 x) q.post ≡ []
+abbrev pub NoneDeposited : Parties → ℕ → Type 0
+NoneDeposited q x = filter (λ (k : Deposit). nat_eq k.name.to.0 x) q.deposits ≡ []
 
 -- ---- what waits after a pick
 
@@ -112,7 +112,7 @@ door_waits w x s credit h none e =
     let found = position-Some (is_at_door w x) w.links s no_link e in
     (pickable_is_door w x s h.fit.good found.0 (ap (λ c. is_place c s) none) found.1).0
 
-pick_it : (w : World) (p : Places) (x i : ℕ) (a b : Shown) (credit : CreditSpec) → IsLawfulAt credit w → x < size w → (member_at w x).current ≡ None → first_at_door (held_in w x) ≡ Some i → filter (is_to w x) p.post ≡ []
+pick_it : (w : World) (p : Places) (x i : ℕ) (a b : Shown) (credit : CreditSpec) → IsLawfulAt credit w → x < size w → (member_at w x).current ≡ None → first_at_door (held_in w x) ≡ Some i → filter (is_to w x) p.deposits ≡ []
     → MemberStands w p x a → b ≡ record { held = picked_held a.held; ends = record a.ends { link = get_or a.ends.door i None; door = without i a.ends.door } } → MemberStands (current_is w x (Some (door_link w x i))) p x b
 pick_it w p x i a b credit h lt none first nobody m e =
     let s : ℕ = door_link w x i in
@@ -130,7 +130,7 @@ pick_it w p x i a b credit h lt none first nobody m e =
           ap (λ (g : Shown). g.held) e ∙ ap picked_held (whole_held w p x a m nobody) ∙ pick_stands w x i lt h.fit.good none first
           ∙ ap (λ ds. record (held_in w' x) { door = map (incoming_in w') ds }) doors;
       out = ap (λ (g : Shown). g.ends.out) e ∙ m.out ∙ ap (option_map p.outs) (sym (pick_outs w x s lt none here x));
-      kept = ap (λ (g : Shown). g.ends.kept) e ∙ m.kept;
+      returned = ap (λ (g : Shown). g.ends.returned) e ∙ m.returned;
       link =
           ap (λ (g : Shown). g.ends.link) e ∙ ap (λ ds. get_or ds i None) ends ∙ get_or-map (λ j. Some (p.ins j)) (door_links w x) i 0 None at.there
           ∙ ap (λ (z : Member). option_map p.ins z.current) (sym gone);
@@ -139,24 +139,24 @@ pick_it w p x i a b credit h lt none first nobody m e =
       old_ins = ap (λ (g : Shown). g.ends.old_ins) e ∙ m.old_ins;
     }
 
-pub pick_goes : (credit : CreditSpec) (w : World) (i d : ℕ) (q q' : Parties) (loose : Option (LinkName × OutSeen)) → IsLawfulAt credit w → refused_as w (i + 1) (Steps step.Pick) ≡ None → i + 1 < size w → NonePosted q (i + 1) → Stand credit.initial w q → Acts (Steps step.Pick) i d q q' loose → StandMoved credit.initial (i + 1) (done_as w (i + 1) (Steps step.Pick)) q' loose
-pick_goes credit w i d q q' loose h enabled lt nobody st (b, (j, first, eb), is, none_loose) =
+pub pick_goes : (credit : CreditSpec) (w : World) (i d : ℕ) (q q' : Parties) (replaced : Option (LinkName × OutSeen)) → IsLawfulAt credit w → refused_as w (i + 1) (Steps step.Pick) ≡ None → i + 1 < size w → NoneDeposited q (i + 1) → Stand credit.initial w q → Acts (Steps step.Pick) i d q q' replaced → StandMoved credit.initial (i + 1) (done_as w (i + 1) (Steps step.Pick)) q' replaced
+pick_goes credit w i d q q' replaced h enabled lt nobody st (b, (j, first, eb), is, none_replaced) =
     let x : ℕ = i + 1 in
     let p : Places = st.places in
     let a : MemberStands w p x (node_at q i) = stands_at credit.initial w q p i st.stand lt in
-    let empty : filter (is_to w x) p.post ≡ [] = none_waits credit.initial w q x st nobody in
+    let empty : filter (is_to w x) p.deposits ≡ [] = none_waits credit.initial w q x st nobody in
     let acts : up_refusal w x (or_else (refuse_if (is_some (member_at w x).current) reason.HasCurrentLink) (pick_refusal w x)) ≡ None = enabled in
-    let none : (member_at w x).current ≡ None = none_is (member_at w x).current (none_of (is_some (member_at w x).current) reason.HasCurrentLink (pick_refusal w x) (up_later w x _ acts)).0 in
+    let none : (member_at w x).current ≡ None = none_there (member_at w x).current (none_of (is_some (member_at w x).current) reason.HasCurrentLink (pick_refusal w x) (up_later w x _ acts)).0 in
     let first_in : first_at_door (held_in w x) ≡ Some j = ap first_at_door (sym (whole_held w p x (node_at q i) a empty)) ∙ first in
     let s : ℕ = door_link w x j in
     let at : at_door w x ≡ Some s = (picks_some w x j h.fit.good none first_in).found in
     let here : waits_for w x s ≡ true = door_waits w x s credit h none at in
     let w' : World = current_is w x (Some s) in
     let does : done_as w x (Steps step.Pick) ≡ w' = found_does (at_door w x) s w (λ t. current_is w x (Some t)) at in
-    goes_so credit.initial x w' (done_as w x (Steps step.Pick)) (with_node q i b) q' loose does is none_loose
+    goes_so credit.initial x w' (done_as w x (Steps step.Pick)) (with_node q i b) q' replaced does is none_replaced
     (steps credit w w' q q.stopped p i b st h lt (record {
       leaves = pick_leaves w x s lt none here;
-      post = refl;
+      deposits = refl;
       it = pick_it w p x j (node_at q i) b credit h lt none first_in empty a eb;
       held = λ y ne. sym (member_others w x y (with_current (Some s) (member_at w x)) refl ne);
       notices = record { told = same_phases w x (with_current (Some s) (member_at w x)) q.stopped lt refl; none_told = λ y _ r. r };

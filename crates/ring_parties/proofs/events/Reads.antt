@@ -27,11 +27,11 @@ use Rattle.gm_member.specs.Questions.{has_link}
 use Rattle.gm_member.specs.Stands.{held_in}
 use Rattle.gm_member.proofs.PickStands.{pick_refuses}
 use Rattle.ring_parties.specs.declared.party.Party.{Party}
-use Rattle.ring_parties.specs.Parties.{Shown, Posted, Parties, parties, posted, node_at}
+use Rattle.ring_parties.specs.Parties.{Shown, Deposit, Parties, parties, deposit_shown, node_at}
 use Rattle.ring_parties.specs.States.{state}
 use Rattle.ring_parties.specs.Standing.{Stand, StandIn, StandAfter}
 use Rattle.ring_parties.specs.Acting.{waits_at, received, is_kept_by, newest_of}
-use Rattle.ring_parties.specs.Refused.{id_named, with_post, erase_refused, admission_refused, own_refused}
+use Rattle.ring_parties.specs.Refused.{id_named, with_deposits, erase_refused, admission_refused, own_refused}
 use Rattle.ring_parties.proofs.work.Fresh.{reached_fresh}
 use Rattle.ring_parties.proofs.work.Lawful.{IsLawfulAt}
 use Rattle.ring_parties.proofs.events.After.{lawful_after, member_after, id_after}
@@ -39,24 +39,24 @@ use Rattle.ring_parties.proofs.events.Refusals.{IsOwn, own_refuses}
 use Rattle.ring_parties.proofs.events.Found.{named_alike}
 use Rattle.ring_parties.proofs.events.OneEvent.{held_but_door}
 use Rattle.ring_parties.proofs.events.Refusing.{mark_refuses, nobody_named, erase_refuses, admit_refuses}
-use Rattle.ring_parties.proofs.post.Collections.{AreFresh, without_to, none_to, collected}
-use Rattle.ring_parties.proofs.post.Handing.{registrar_stands}
-use Rattle.ring_parties.proofs.post.Waiting.{registrar_waits}
+use Rattle.ring_parties.proofs.deposits.Collections.{AreFresh, without_to, none_to, collected}
+use Rattle.ring_parties.proofs.deposits.Handing.{registrar_stands}
+use Rattle.ring_parties.proofs.deposits.Waiting.{registrar_waits}
 use Rattle.ring_parties.proofs.standing.Lookers.{whole_held}
 
 -- with what waits for it at its door a member holds what the state has for it
 whole_gathered : (initial : ℕ) (w : World) (q : Parties) (x : ℕ) → IsGood w → AreFresh w → 1 ≤ x → x < size w → Stand initial w q
-    → collected_held (node_at q (x - 1)).held (map (received (node_at q (x - 1)).held) (filter (waits_at x) q.post)) ≡ held_in w x
+    → collected_held (node_at q (x - 1)).held (map (received (node_at q (x - 1)).held) (filter (waits_at x) q.deposits)) ≡ held_in w x
 whole_gathered initial w q x g fresh a l st = whole_held w (without_to w x st.places) x after
-    (collected w q st.places x after g fresh st.stand.post (st.stand.each x a l) (record { held = refl; ends = refl })) (none_to w x st.places)
+    (collected w q st.places x after g fresh st.stand.deposits (st.stand.each x a l) (record { held = refl; ends = refl })) (none_to w x st.places)
   where
     m : Shown
     m = node_at q (x - 1)
 
     after : Shown
     after = record {
-      held = collected_held m.held (map (received m.held) (filter (waits_at x) q.post));
-      ends = record m.ends { door = m.ends.door ++ map (λ d. d.end) (filter (is_kept_by m.held) (filter (waits_at x) q.post)) };
+      held = collected_held m.held (map (received m.held) (filter (waits_at x) q.deposits));
+      ends = record m.ends { door = m.ends.door ++ map (λ d. d.end) (filter (is_kept_by m.held) (filter (waits_at x) q.deposits)) };
     }
 
 -- conditions after those on the phase
@@ -88,10 +88,10 @@ module _ (credit : CreditSpec) (names : List (List ℕ)) (events : List Event) (
   lawful : IsLawfulAt credit w
   lawful = lawful_after credit names events s.journal
 
-  whole : with_post (node_at q i).held q.post ≡ held_in w x
+  whole : with_deposits (node_at q i).held q.deposits ≡ held_in w x
   whole =
-      ap (λ y. collected_held (node_at q i).held (map (received (node_at q i).held) (filter (waits_at y) q.post))) (id_after credit names events q i s inside)
-      ∙ subst (λ j. collected_held (node_at q j).held (map (received (node_at q j).held) (filter (waits_at x) q.post)) ≡ held_in w x) place
+      ap (λ y. collected_held (node_at q i).held (map (received (node_at q i).held) (filter (waits_at y) q.deposits))) (id_after credit names events q i s inside)
+      ∙ subst (λ j. collected_held (node_at q j).held (map (received (node_at q j).held) (filter (waits_at x) q.deposits)) ≡ held_in w x) place
       (whole_gathered credit.initial w q x lawful.fit.good (reached_fresh credit names events s.journal.are s.journal.run) some lt s.stand)
 
   -- ---- each kind
@@ -99,7 +99,7 @@ module _ (credit : CreditSpec) (names : List (List ℕ)) (events : List Event) (
   pub own_reads : (k : Kind) → IsOwn k x q → own_refused (newest_of q) k (node_at q i) ≡ refused_as w x k
   own_reads k own = subst (λ j. own_refused (newest_of q) k (node_at q j) ≡ refused_as w x k) place (own_refuses credit w q x lawful s.stand some lt k own)
 
-  pub pick_reads : pick_refused (with_post (node_at q i).held q.post) ≡ refused_as w x (Steps step.Pick)
+  pub pick_reads : pick_refused (with_deposits (node_at q i).held q.deposits) ≡ refused_as w x (Steps step.Pick)
   pick_reads = ap pick_refused whole ∙ pick_refuses w x lawful.fit.good
 
   pub admit_reads : (name : List ℕ) → up_refused (node_at q i).held (admission_refused (newest_of q) name) ≡ refused_as w x (Changes (change.Admit name))
@@ -120,7 +120,7 @@ module _ (credit : CreditSpec) (names : List (List ℕ)) (events : List Event) (
   pub erase_reads_unknown : (origin : List ℕ) → id_named q origin ≡ None → up_refused (node_at q i).held (Some reason.UnknownMember) ≡ refused_as w x (Changes (change.Erase origin))
   erase_reads_unknown origin = nobody_reads origin (event.erase_refusal w x)
 
-  module _ (nodes : List Party) (r : Registry (PlainIn Load)) (behind : List Posted) (is : q ≡ parties nodes r behind) where
+  module _ (nodes : List Party) (r : Registry (PlainIn Load)) (behind : List Deposit) (is : q ≡ parties nodes r behind) where
     rs : StandsIn w r
     rs = registrar_stands credit.initial w nodes r behind s.stand.places (subst (λ p. StandIn credit.initial w p s.stand.places) is s.stand.stand)
 
@@ -129,7 +129,7 @@ module _ (credit : CreditSpec) (names : List (List ℕ)) (events : List Event) (
         (erase_refuses credit w r q x p origin lawful rs s.stand some lt (other_named origin ∙ there))
 
     pub mark_reads : (dead : List ℕ) (d : ℕ) → id_named q dead ≡ Some d
-        → up_refused (node_at q i).held (mark_refusal r (node_at q i).held.id d (node_at q i).held.view.version (has_link (with_post (node_at q i).held q.post))) ≡ refused_as w x (Changes (change.Mark dead))
+        → up_refused (node_at q i).held (mark_refusal r (node_at q i).held.id d (node_at q i).held.view.version (has_link (with_deposits (node_at q i).held q.deposits))) ≡ refused_as w x (Changes (change.Mark dead))
     mark_reads dead d dead_is =
         ap (λ k. up_refused (node_at q i).held (mark_refusal r (node_at q i).held.id d (node_at q i).held.view.version (has_link k))) whole
         ∙ ap (λ (k : Held). up_refused k (mark_refusal r k.id d k.view.version (has_link (held_in w x)))) same
@@ -141,8 +141,8 @@ module _ (credit : CreditSpec) (names : List (List ℕ)) (events : List Event) (
         k : Held
         k = record (held_in w x) { door = (node_at q i).held.door }
 
-        all : with_post k (map posted r.links ++ behind) ≡ held_in w x
-        all = ap (λ h. with_post h (map posted r.links ++ behind)) (sym same) ∙ ap (λ (p : Parties). with_post (node_at q i).held p.post) (sym is) ∙ whole
+        all : with_deposits k (map deposit_shown r.links ++ behind) ≡ held_in w x
+        all = ap (λ h. with_deposits h (map deposit_shown r.links ++ behind)) (sym same) ∙ ap (λ (p : Parties). with_deposits (node_at q i).held p.deposits) (sym is) ∙ whole
 
         u : ℕ
         u = (member_at w x).version

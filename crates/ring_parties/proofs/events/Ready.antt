@@ -9,7 +9,7 @@ use Rattle.ring_rules.specs.Step.{size}
 use Rattle.ring_rules.proofs.runs.LinkCredit.{LinkIsKept}
 use Rattle.gm_member.specs.Held.{Held, Outgoing, Incoming}
 use Rattle.gm_member.specs.Stands.{held_in, outgoing_in, incoming_in}
-use Rattle.ring_parties.specs.Ends.{Sent, OutSeen, InSeen, packets_in, end_items, items_in, Carries, HaveMet}
+use Rattle.ring_parties.specs.Ends.{PacketShown, OutSeen, InSeen, packets_in, end_items, items_in, Carries, HaveMet}
 use Rattle.ring_parties.specs.Parties.{Parties, node_at}
 use Rattle.ring_parties.specs.Standing.{Places, MemberStands, StandIn, Stand, AllHaveMet, HaveDone, has_in, has_out}
 use Rattle.ring_parties.specs.Acting.{IsReady}
@@ -50,13 +50,13 @@ out_room credit w s o n kept goes_on met c some =
 -- ---- the link from which it takes
 
 -- where a packet is first there is one
-first_is_packet : (w : World) (before : Sending) (ks : List Packet) (e : Option Ending) (k : Sent) (rest : List (Option Sent)) → packets_in w before ks ++ end_items e ≡ Some k ∷ rest → 0 < length ks
+first_is_packet : (w : World) (before : Sending) (ks : List Packet) (e : Option Ending) (k : PacketShown) (rest : List (Option PacketShown)) → packets_in w before ks ++ end_items e ≡ Some k ∷ rest → 0 < length ks
 first_is_packet w before [] None k rest h = cc
 first_is_packet w before [] (Some why) k rest h = cc
 first_is_packet w before (x ∷ ks) e k rest h = omega arith
 
 -- the grant that it may bring has a slot
-in_room : (credit : CreditSpec) (w : World) (s : ℕ) (o : OutSeen) (n : InSeen) → LinkIsKept credit.initial credit.more (link_at w s) → length (link_at w s).flow.grants ≤ sum (link_at w s).flow.grants → Settled o n → Carries w credit.initial (link_at w s) o n → (k : Sent) (rest : List (Option Sent)) → n.items ≡ Some k ∷ rest → 0 < n.free
+in_room : (credit : CreditSpec) (w : World) (s : ℕ) (o : OutSeen) (n : InSeen) → LinkIsKept credit.initial credit.more (link_at w s) → length (link_at w s).flow.grants ≤ sum (link_at w s).flow.grants → Settled o n → Carries w credit.initial (link_at w s) o n → (k : PacketShown) (rest : List (Option PacketShown)) → n.items ≡ Some k ∷ rest → 0 < n.free
 in_room credit w s o n kept few k0 c k rest first =
     let some : 0 < length (link_at w s).packets = first_is_packet w (link_at w s).had (link_at w s).packets (link_at w s).ending k rest (sym (settled_items credit.initial w s o n k0 c) ∙ first) in
     let grants : length o.back + length n.given ≡ length (link_at w s).flow.grants = sym (length-append o.back n.given) ∙ ap length c.grants in
@@ -68,7 +68,7 @@ abbrev OutReady : Option Outgoing → Option OutSeen → Type 0
 OutReady a b = MatchOption a ⊤ (λ h. MatchOption b ⊥ (λ o. (o.ended ≡ false) × (0 < h.credit.credit → 1 < o.free)))
 
 abbrev LinkReady : Option Incoming → Option InSeen → Type 0
-LinkReady a b = MatchOption a ⊤ (λ _. MatchOption b ⊥ (λ n. (n.late ≡ None) × ((k : Sent) (rest : List (Option Sent)) → n.items ≡ Some k ∷ rest → 0 < n.free)))
+LinkReady a b = MatchOption a ⊤ (λ _. MatchOption b ⊥ (λ n. (n.late ≡ None) × ((k : PacketShown) (rest : List (Option PacketShown)) → n.items ≡ Some k ∷ rest → 0 < n.free)))
 
 out_ready : (credit : CreditSpec) (w : World) (q : Parties) (p : Places) (x : ℕ) (c : Option ℕ) → IsLawfulAt credit w → StandIn credit.initial w q p → AllHaveMet w p → runs w x ≡ true → (member_at w x).out ≡ c → OutReady (option_map (outgoing_in w) c) (option_map p.outs c)
 out_ready credit w q p x None h st met run e = tt
@@ -102,7 +102,7 @@ ready credit w q x h st some lt =
           subst (λ a. LinkReady a (node_at q (x - 1)).ends.link) (sym (ap (λ (g : Held). g.current) same))
           (subst (LinkReady (option_map (incoming_in w) (member_at w x).current)) (sym m.link)
           (link_ready credit w q p x (member_at w x).current h st.stand st.met refl));
-      kept = m.kept;
+      returned = m.returned;
       old_outs = m.old_outs;
       old_ins = m.old_ins;
     }

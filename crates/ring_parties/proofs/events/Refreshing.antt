@@ -1,4 +1,4 @@
--- A member that refreshes: the parties stand in the state after it, where the end of the link that it replaced is loose.
+-- A member that refreshes: the parties stand in the state after it, where the end that it replaced has still to meet its other.
 use Rattle.std.proofs.Common.{◌≡◌, ◌≢◌, ℕ, ◌-◌, ◌<◌, ◌≤◌, Bool, true, List, [], ◌∷◌, ◌++◌, length, set, map, Some, None, refl, sym, ap, subst, ◌∙◌, arith, ⊎_elim, inl}
 use Rattle.std.specs.Prelude.{◌&&◌, option_map}
 use Rattle.std.specs.List.{filter, range_with_len}
@@ -28,7 +28,7 @@ use Rattle.ring_parties.specs.Standing.{Places, MemberStands, Stand, HaveDone, i
 use Rattle.ring_parties.specs.Acting.{looked_ends, waits_at}
 use Rattle.ring_parties.proofs.standing.Showing.{each_set}
 use Rattle.ring_parties.proofs.meetings.Meetings.{waiting_at}
-use Rattle.ring_parties.proofs.post.Collections.{filter_map}
+use Rattle.ring_parties.proofs.deposits.Collections.{filter_map}
 use Rattle.ring_parties.proofs.events.OneEvent.{met_both}
 use Rattle.ring_parties.proofs.meetings.Known.{known_still}
 use Rattle.ring_parties.proofs.standing.Frames.{carries_logs, StandMoved}
@@ -95,10 +95,10 @@ map_nil : {A : Type 0} (f : ℕ → A) (xs : List ℕ) → map f xs ≡ [] → x
 map_nil f [] e = refl
 map_nil f (x ∷ xs) e = cc
 
-pub none_waits : (initial : ℕ) (w : World) (q : Parties) (x : ℕ) (st : Stand initial w q) → filter (waits_at x) q.post ≡ [] → filter (is_to w x) st.places.post ≡ []
+pub none_waits : (initial : ℕ) (w : World) (q : Parties) (x : ℕ) (st : Stand initial w q) → filter (waits_at x) q.deposits ≡ [] → filter (is_to w x) st.places.deposits ≡ []
 none_waits initial w q x st none =
     let p : Places = st.places in
-    map_nil (waiting_at w p) (filter (is_to w x) p.post) (sym (filter_map (waits_at x) (waiting_at w p) p.post) ∙ sym (ap (filter (waits_at x)) st.stand.post) ∙ none)
+    map_nil (waiting_at w p) (filter (is_to w x) p.deposits) (sym (filter_map (waits_at x) (waiting_at w p) p.deposits) ∙ sym (ap (filter (waits_at x)) st.stand.deposits) ∙ none)
 
 -- ---- it sends on as it did
 
@@ -123,7 +123,7 @@ looks_after u x v m g = record {
     here : member_at (look_at u x v) x ≡ moved_to u x v
     here = member_same u x (moved_to u x v) m.is_member
 
-pub looks_on : (initial : ℕ) (u : World) (x v : ℕ) (q : Parties) (b : Shown) → IsLooking initial u x v → sends_right u x v ≡ true → Stand initial u q → filter (waits_at x) q.post ≡ []
+pub looks_on : (initial : ℕ) (u : World) (x v : ℕ) (q : Parties) (b : Shown) → IsLooking initial u x v → sends_right u x v ≡ true → Stand initial u q → filter (waits_at x) q.deposits ≡ []
     → b ≡ record { held = refreshed_held (node_at q (x - 1)).held (view_in u v); ends = looked_ends (view_in u v) (node_at q (x - 1)) }
     → StandMoved initial x (refreshed u x v) (with_node q (x - 1) b) None
 looks_on initial u x v q b k e st none eb = subst (λ w. StandMoved initial x w (with_node q (x - 1) b) None) (sym (refresh_looks u x v e)) (record {
@@ -140,7 +140,7 @@ looks_on initial u x v q b k e st none eb = subst (λ w. StandMoved initial x w 
     stopped = λ z c m. (let many : length (set u.members x (moved_to u x v)) ≡ size u = length-set u.members x (moved_to u x v) in
         st.stand.stopped z c (omega (arith, m, many)) ∙ sym (sym (ap (λ w. is_stopped (member_at w z).phase) (refresh_looks u x v e)) ∙ stopped_same u (refreshed u x v) z (told_refreshed u x v)));
     nobody_else = λ z ge. (let many : length (set u.members x (moved_to u x v)) ≡ size u = length-set u.members x (moved_to u x v) in st.stand.nobody_else z (omega (arith, ge, many)));
-    post = st.stand.post;
+    deposits = st.stand.deposits;
     within = st.stand.within;
     carry = λ s l h. carries_logs initial u u' (link_at u s) (p.outs s) (p.ins s) after.logs (st.stand.carry s l (look_has u u' x s (view_in u v) (kept_to u v) k.own after l h));
   };

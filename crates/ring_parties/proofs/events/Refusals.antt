@@ -34,7 +34,7 @@ use Rattle.ring_parties.proofs.events.OneEvent.{held_but_door, met_both}
 use Rattle.ring_parties.proofs.standing.Lookers.{whole_held}
 use Rattle.ring_parties.proofs.events.Refreshing.{none_waits}
 use Rattle.ring_parties.proofs.events.Refusing.{look_refuses, telling_refuses}
-use Rattle.ring_parties.proofs.events.PickGoes.{NonePosted}
+use Rattle.ring_parties.proofs.events.PickGoes.{NoneDeposited}
 use Rattle.ring_parties.proofs.events.Ready.{all_settled, settled_items}
 
 -- ---- what stands first on a link
@@ -65,7 +65,7 @@ its_items credit w q p x s m h st met a e =
 -- what makes no view, and isn't of the queue; and where the member of id x picks, no link waits for it at the registrar
 abbrev pub IsOwn : Kind → ℕ → Parties → Type 0
 IsOwn (Changes c) x q = ⊥
-IsOwn (Steps step.Pick) x q = NonePosted q x
+IsOwn (Steps step.Pick) x q = NoneDeposited q x
 IsOwn k x q = is_multicast_kind k ≡ true
 
 -- with a member found

@@ -27,13 +27,13 @@ use Rattle.ring_rules.specs.Event.{id_of, of_member, is_stopped, is_told, is_ask
 use Rattle.ring_rules.specs.Event as event
 use Rattle.ring_rules.proofs.invariants.Happens.{IsGood}
 use Rattle.ring_rules.proofs.events.Refusals.{id_within, cond_or, up_is}
-use Rattle.registrar.specs.declared.standing.Standing.{Standing}
+use Rattle.registrar.specs.declared.waiting_link.WaitingLink.{WaitingLink}
 use Rattle.registrar.specs.Registry.{Registry, is_known, newest as newest_view}
 use Rattle.registrar.specs.Asked.{mark_refusal, erase_refusal, is_ring_from, waits_from, since_in, is_left, is_beside}
 use Rattle.registrar.specs.Stands.{StandsIn}
 use Rattle.registrar.proofs.Judged.{mark_judged, erase_judged}
 use Rattle.activity.specs.Kept.{Kept, got_of}
-use Rattle.gm_member.specs.Parcels.{known_at}
+use Rattle.gm_member.specs.Packets.{known_at}
 use Rattle.gm_member.specs.Held.{Held, up_refused, active_refused, first_at_door}
 use Rattle.gm_member.specs.declared.questions.Ask.{Ask}
 use Rattle.gm_member.specs.declared.questions.Ask.TheVariants as ask
@@ -45,7 +45,7 @@ use Rattle.gm_member.proofs.Facts.{refused_there, held_known, place_few, right_r
 use Rattle.gm_member.proofs.Doors.{view_version}
 use Rattle.gm_member.proofs.PickStands.{first_is}
 use Rattle.ring_parties.specs.declared.party.Party.{Party}
-use Rattle.ring_parties.specs.Parties.{Shown, Posted, Parties, node_at, parties, posted}
+use Rattle.ring_parties.specs.Parties.{Shown, Deposit, Parties, node_at, parties, deposit_shown}
 use Rattle.ring_parties.specs.Standing.{MemberStands, Stand}
 use Rattle.ring_parties.specs.Acting.{look_refused, newest_of, waits_at}
 use Rattle.ring_parties.proofs.work.Lawful.{IsLawfulAt}
@@ -54,7 +54,7 @@ use Rattle.ring_parties.proofs.events.Marking.{held_whole, newest_is}
 use Rattle.ring_parties.proofs.lists.Truth.{made_some}
 use Rattle.group_view.specs.Ring.{is_in}
 use Rattle.ring_parties.specs.Looking.{ask_refused, view_for}
-use Rattle.ring_parties.specs.Refused.{standing_of, office_of, mark_refused, erase_refused, admission_refused, client_refused, telling_refused}
+use Rattle.ring_parties.specs.Refused.{waiting_link_of, office_of, mark_refused, erase_refused, admission_refused, client_refused, telling_refused}
 
 -- ---- a refresh
 
@@ -115,8 +115,8 @@ pub nobody_named : (credit : CreditSpec) (w : World) (q : Parties) (x : ℕ) (ot
 nobody_named credit w q x other later st some lt none =
     ap (λ (k : Held). up_refused k (Some reason.UnknownMember)) (st.stand.each x some lt).held ∙ ap (λ o. up_refusal w x (of_member o later)) (sym none)
 
--- no link of the ring waits at the registrar where none is posted for x
-none_from : (d x since : ℕ) (ps : List Posted) → filter (waits_at x) ps ≡ [] → waits_from (map standing_of ps) d x since ≡ false
+-- no link of the ring waits at the registrar where none was deposited for x
+none_from : (d x since : ℕ) (ps : List Deposit) → filter (waits_at x) ps ≡ [] → waits_from (map waiting_link_of ps) d x since ≡ false
 none_from d x since [] e = refl
 none_from d x since (a ∷ ps) e = by_test (nat_eq a.name.to.0 x) refl e (λ k. none_from d x since ps k)
   where
@@ -125,24 +125,24 @@ none_from d x since (a ∷ ps) e = by_test (nat_eq a.name.to.0 x) refl e (λ k. 
     not_third true false l = refl
     not_third false g l = refl
 
-    by_test : (b : Bool) → nat_eq a.name.to.0 x ≡ b → cond b (a ∷ filter (waits_at x) ps) (filter (waits_at x) ps) ≡ [] → (filter (waits_at x) ps ≡ [] → waits_from (map standing_of ps) d x since ≡ false)
-        → (is_ring_from d x since (standing_of a) || waits_from (map standing_of ps) d x since) ≡ false
+    by_test : (b : Bool) → nat_eq a.name.to.0 x ≡ b → cond b (a ∷ filter (waits_at x) ps) (filter (waits_at x) ps) ≡ [] → (filter (waits_at x) ps ≡ [] → waits_from (map waiting_link_of ps) d x since ≡ false)
+        → (is_ring_from d x since (waiting_link_of a) || waits_from (map waiting_link_of ps) d x since) ≡ false
     by_test true k h ih = cc
     by_test false k h ih =
-        ap (λ b. (is_ring a.name.kind && (nat_eq a.name.from.0 d && (b && nat_le since a.name.view))) || waits_from (map standing_of ps) d x since) k
-        ∙ ap (λ b. b || waits_from (map standing_of ps) d x since) (not_third (is_ring a.name.kind) (nat_eq a.name.from.0 d) (nat_le since a.name.view))
+        ap (λ b. (is_ring a.name.kind && (nat_eq a.name.from.0 d && (b && nat_le since a.name.view))) || waits_from (map waiting_link_of ps) d x since) k
+        ∙ ap (λ b. b || waits_from (map waiting_link_of ps) d x since) (not_third (is_ring a.name.kind) (nat_eq a.name.from.0 d) (nat_le since a.name.view))
         ∙ ih h
 
 -- the member's conditions, and then the registrar's, are the ring's
 pub mark_asked_refuses : (credit : CreditSpec) (w : World) (q : Parties) (x d : ℕ) (dead : List ℕ) (m : Shown) → IsLawfulAt credit w → Stand credit.initial w q → 1 ≤ x → x < size w → id_of w dead ≡ Some d
-    → filter (waits_at x) q.post ≡ [] → m ≡ node_at q (x - 1)
+    → filter (waits_at x) q.deposits ≡ [] → m ≡ node_at q (x - 1)
     → up_refused m.held (mark_refusal (office_of q) x d m.held.view.version (is_some m.held.current || is_some (first_at_door m.held))) ≡ refused_as w x (Changes (change.Mark dead))
 mark_asked_refuses credit w q x d dead m g st some lt there none is =
     let held : m.held ≡ held_in w x = ap (λ (k : Shown). k.held) is ∙ held_whole credit.initial w q x some lt st none in
     let office : StandsIn w (office_of q) = record { views = st.stand.views; stopped = st.stand.stopped; nobody_else = st.stand.nobody_else } in
     ap (λ (k : Held). up_refused k (mark_refusal (office_of q) x d k.view.version (is_some k.current || is_some (first_at_door k)))) held
     ∙ mark_refuses w (office_of q) x d dead g.fit office some lt there
-    (λ left. ap (λ b. has_link (held_in w x) || b) (none_from d x (since_in (view_at q.views (member_at w x).version) x) q.post none) ∙ or-false (has_link (held_in w x)))
+    (λ left. ap (λ b. has_link (held_in w x) || b) (none_from d x (since_in (view_at q.views (member_at w x).version) x) q.deposits none) ∙ or-false (has_link (held_in w x)))
 
 -- ---- an erasure
 
@@ -198,7 +198,7 @@ telling_refuses credit w q x code inner cast some lt st = ap (λ r. refuse_if (n
 -- ---- the registrar, and what is shown of it
 
 -- the same links wait
-same_waits : (d x since : ℕ) (ls : List (Standing (PlainIn Load))) → waits_from (map standing_of (map posted ls ++ [])) d x since ≡ waits_from ls d x since
+same_waits : (d x since : ℕ) (ls : List (WaitingLink (PlainIn Load))) → waits_from (map waiting_link_of (map deposit_shown ls ++ [])) d x since ≡ waits_from ls d x since
 same_waits d x since [] = refl
 same_waits d x since (a ∷ ls) = ap (λ b. is_ring_from d x since a || b) (same_waits d x since ls)
 

@@ -21,10 +21,10 @@ use Rattle.gm_member.proofs.Parts.{current_waits_not, other_waits_not}
 use Rattle.ring_parties.specs.Ends.{OutSeen, InSeen, Carries, HaveMet, HasRested}
 use Rattle.ring_parties.specs.Parties.{Shown, Parties, node_at, with_node}
 use Rattle.ring_parties.specs.Standing.{Places, MemberStands, Stand, name_of, has_out, has_in}
-use Rattle.ring_parties.specs.Loose.{moved_by, sender_to}
+use Rattle.ring_parties.specs.Replaced.{moved_by, sender_to}
 use Rattle.ring_parties.proofs.work.Lawful.{IsLawfulAt}
 use Rattle.ring_parties.proofs.standing.Writing.{placed_same, placed_other, map_agree}
-use Rattle.ring_parties.proofs.standing.Placing.{posted_is}
+use Rattle.ring_parties.proofs.standing.Placing.{deposit_is}
 use Rattle.ring_parties.proofs.meetings.NamedLinks.{out_has, out_is_open}
 use Rattle.ring_parties.proofs.standing.Showing.{with_outs, each_set}
 use Rattle.ring_parties.proofs.meetings.Meetings.{waiting_at}
@@ -34,11 +34,11 @@ use Rattle.ring_parties.proofs.meetings.Known.{known_still, not_left}
 
 -- ---- the event
 
--- where the event changes the state so, the parties are these, and nothing is loose
-pub goes_so : (initial x : ℕ) (w w' : World) (q q' : Parties) (loose : Option (LinkName × OutSeen)) → w' ≡ w → q' ≡ q → loose ≡ None → StandMoved initial x w q None → StandMoved initial x w' q' loose
-goes_so initial x w w' q q' loose ew eq none st =
-    subst (λ v. StandMoved initial x v q' loose) (sym ew)
-    (subst (λ r. StandMoved initial x w r loose) (sym eq)
+-- where the event changes the state so, the parties are these, and nothing is replaced
+pub goes_so : (initial x : ℕ) (w w' : World) (q q' : Parties) (replaced : Option (LinkName × OutSeen)) → w' ≡ w → q' ≡ q → replaced ≡ None → StandMoved initial x w q None → StandMoved initial x w' q' replaced
+goes_so initial x w w' q q' replaced ew eq none st =
+    subst (λ v. StandMoved initial x v q' replaced) (sym ew)
+    (subst (λ r. StandMoved initial x w r replaced) (sym eq)
     (subst (StandMoved initial x w q) (sym none) st))
 
 -- the state in which the members are these, and link s is l
@@ -145,7 +145,7 @@ in_moved x w s e = in_tail (link_at w s).sender x (sender_to x w) (ap (λ c. is_
 -- sends and from which it takes show something else, and they carry these; who gave notice then is in ids.
 pub record Steps (initial : ℕ) (w w' : World) (q : Parties) (ids : List ℕ) (p p' : Places) (x : ℕ) (b : Shown) : Type 0 where
   pub leaves : Leaves w w' x
-  pub post : p'.post ≡ p.post
+  pub deposits : p'.deposits ≡ p.deposits
   pub it : MemberStands w' p' x b
   pub held : (y : ℕ) → y ≢ x → held_in w y ≡ held_in w' y
   pub notices : Notices w w' q.stopped ids
@@ -167,8 +167,8 @@ steps credit w w' q ids p' i b st h lt k = record {
     views = left.views ∙ st.stand.views;
     stopped = λ z c m. k.notices.told z (st.stand.stopped z c (omega (arith, left.size_is)));
     nobody_else = λ z ge. (let beyond : size w ≤ z = omega (arith, ge, left.size_is) in k.notices.none_told z beyond (st.stand.nobody_else z beyond));
-    post = st.stand.post ∙ map_agree (waiting_at w p) (waiting_at w' p') p.post waits_on ∙ ap (map (waiting_at w' p')) (sym k.post);
-    within = λ s e. (let there : s < length w.links = st.stand.within s (ap (is_in s) (sym k.post) ∙ e) in omega (arith, left.many));
+    deposits = st.stand.deposits ∙ map_agree (waiting_at w p) (waiting_at w' p') p.deposits waits_on ∙ ap (map (waiting_at w' p')) (sym k.deposits);
+    within = λ s e. (let there : s < length w.links = st.stand.within s (ap (is_in s) (sym k.deposits) ∙ e) in omega (arith, left.many));
     carry = λ s l has. k.carry s has (st.stand.carry s (omega (arith, left.many)) (left.opens s has));
   };
   dropped = λ s l has lost.
@@ -206,9 +206,9 @@ steps credit w w' q ids p' i b st h lt k = record {
     apart y s waits e = false≢true (sym (taken_waits_not w x y s h.fit.own_ends e) ∙ waits)
 
     -- nor does x take from one that waits at the registrar
-    waits_on : (s : ℕ) → is_in s p.post ≡ true → waiting_at w p s ≡ waiting_at w' p' s
+    waits_on : (s : ℕ) → is_in s p.deposits ≡ true → waiting_at w p s ≡ waiting_at w' p' s
     waits_on s there =
-        let ne : (member_at w x).current ≢ Some s = λ e. apart x s (posted_is w p x s (node_at q i) (stands_at credit.initial w q p i st.stand lt) (h.fit.own_ends.current x s e).1 there).1 e in
+        let ne : (member_at w x).current ≢ Some s = λ e. apart x s (deposit_is w p x s (node_at q i) (stands_at credit.initial w q p i st.stand lt) (h.fit.own_ends.current x s e).1 there).1 e in
         ap (λ n. record (waiting_at w p s) { name = n }) (sym (left.names s)) ∙ ap (λ n. record (waiting_at w' p s) { end = Some n }) (sym (k.ins s ne))
 
     others : (y : ℕ) → 1 ≤ y → y < size w → y ≢ x → MemberStands w' p' y (node_at q (y - 1))
@@ -216,7 +216,7 @@ steps credit w w' q ids p' i b st h lt k = record {
         (record {
           doors = left.doors y ne;
           to = λ s. ap (λ (n : LinkName). nat_eq n.to.0 y) (left.names s);
-          post = k.post;
+          deposits = k.deposits;
           ins = λ s waits. k.ins s (apart y s waits);
         })
         (k.held y ne) (left.outs y ne) (left.currents y ne)
@@ -227,10 +227,10 @@ steps credit w w' q ids p' i b st h lt k = record {
 -- ---- where links go their ways
 
 -- a member that does something stands at its id x then, where its two ends are those of its links
-pub ways_stand : (w w' : World) (p p' : Places) (x : ℕ) (m b : Shown) (out : Option OutSeen) (link : Option InSeen) → SameWays w w' → p'.post ≡ p.post → ((s : ℕ) → waits_for w x s ≡ true → p'.ins s ≡ p.ins s) → Does w w' x m b out link
+pub ways_stand : (w w' : World) (p p' : Places) (x : ℕ) (m b : Shown) (out : Option OutSeen) (link : Option InSeen) → SameWays w w' → p'.deposits ≡ p.deposits → ((s : ℕ) → waits_for w x s ≡ true → p'.ins s ≡ p.ins s) → Does w w' x m b out link
     → out ≡ option_map p'.outs (member_at w x).out → link ≡ option_map p'.ins (member_at w x).current → MemberStands w p x m → MemberStands w' p' x b
-ways_stand w w' p p' x m b out link h post ins does eo el a = goes_stands w w' p p' x m b out link
-    (record { doors = same_doors w w' x h; to = λ s. same_to w w' x s (h.ways s); post = post; ins = ins })
+ways_stand w w' p p' x m b out link h deposits ins does eo el a = goes_stands w w' p p' x m b out link
+    (record { doors = same_doors w w' x h; to = λ s. same_to w w' x s (h.ways s); deposits = deposits; ins = ins })
     does (eo ∙ ap (option_map p'.outs) (sym (h.outs x))) (el ∙ ap (option_map p'.ins) (sym (h.currents x))) a
 
 -- ---- the end with which a member sends
@@ -261,7 +261,7 @@ sends_once credit w ms q ids i s l o b st h lt k =
     let other_link : (j : ℕ) → j ≢ s → link_at w' j ≡ link_at w j = λ j ne. get_or-set_other w.links s j l no_link ne in
     steps credit w w' q ids p' i b st h lt (record {
       leaves = ways_leave w w' x k.ways;
-      post = refl;
+      deposits = refl;
       it = ways_stand w w' p p' x (node_at q i) b (Some o) (node_at q i).ends.link k.ways refl (λ j _. refl) k.does (ap Some (sym here) ∙ ap (option_map p'.outs) (sym k.out)) a.link a;
       held = k.held;
       notices = k.notices;
@@ -276,11 +276,11 @@ sends_once credit w ms q ids i s l o b st h lt k =
     })
 
 -- so where an event writes that link, and nothing else of the state
-pub goes_out : (credit : CreditSpec) (w w' : World) (q q' : Parties) (i : ℕ) (loose : Option (LinkName × OutSeen)) (becomes : ℕ → Link) (o : OutSeen) (b : Shown) (st : Stand credit.initial w q) → IsLawfulAt credit w → (on : OnOut w w' (i + 1) becomes) → way (becomes on.link) ≡ way (link_at w on.link)
-    → q' ≡ with_node q i b → loose ≡ None → ((y : ℕ) → y ≢ i + 1 → held_in w y ≡ held_in (sends_in w w.members on.link (becomes on.link)) y) → Does w (sends_in w w.members on.link (becomes on.link)) (i + 1) (node_at q i) b (Some o) (node_at q i).ends.link
-    → (Carries w credit.initial (link_at w on.link) (st.places.outs on.link) (st.places.ins on.link) → Carries w credit.initial (becomes on.link) o (st.places.ins on.link)) → StandMoved credit.initial (i + 1) w' q' loose
-goes_out credit w w' q q' i loose becomes o b st h on same is none held does carries =
-    goes_so credit.initial (i + 1) (sends_in w w.members on.link (becomes on.link)) w' (with_node q i b) q' loose on.so is none
+pub goes_out : (credit : CreditSpec) (w w' : World) (q q' : Parties) (i : ℕ) (replaced : Option (LinkName × OutSeen)) (becomes : ℕ → Link) (o : OutSeen) (b : Shown) (st : Stand credit.initial w q) → IsLawfulAt credit w → (on : OnOut w w' (i + 1) becomes) → way (becomes on.link) ≡ way (link_at w on.link)
+    → q' ≡ with_node q i b → replaced ≡ None → ((y : ℕ) → y ≢ i + 1 → held_in w y ≡ held_in (sends_in w w.members on.link (becomes on.link)) y) → Does w (sends_in w w.members on.link (becomes on.link)) (i + 1) (node_at q i) b (Some o) (node_at q i).ends.link
+    → (Carries w credit.initial (link_at w on.link) (st.places.outs on.link) (st.places.ins on.link) → Carries w credit.initial (becomes on.link) o (st.places.ins on.link)) → StandMoved credit.initial (i + 1) w' q' replaced
+goes_out credit w w' q q' i replaced becomes o b st h on same is none held does carries =
+    goes_so credit.initial (i + 1) (sends_in w w.members on.link (becomes on.link)) w' (with_node q i b) q' replaced on.so is none
     (sends_once credit w w.members q q.stopped i on.link (becomes on.link) o b st h on.is_member (record {
       out = on.is;
       run = on.run;

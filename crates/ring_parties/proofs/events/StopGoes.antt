@@ -85,7 +85,7 @@ stop_steps credit w i q b None st h lt run e none eb =
     let a : MemberStands w p x m = stands_at credit.initial w q p i st.stand lt in
     steps credit w (stop_at w x) q (q.stopped ++ x ∷ []) p i b st h lt (record {
       leaves = ways_leave w (stop_at w x) x ways;
-      post = refl;
+      deposits = refl;
       it = ways_stand w (stop_at w x) p p x m b b.ends.out m.ends.link ways refl (λ j _. refl) (stop_does w x None m b b.ends.out h.fit lt e eb) (none ∙ ap (option_map p.outs) (sym e)) a.link a;
       held = λ y ne. stop_leaves w x y None h.fit e ne;
       notices = record { told = stop_told w x q.stopped lt; none_told = stop_none_told w x q.stopped lt };
@@ -115,11 +115,11 @@ stop_steps credit w i q b (Some s) st h lt run e (o', ends, now) eb =
       carries = end_carries credit.initial w (link_at w s) l (p.outs s) o' (p.ins s) goes_on refl ended_now refl ends;
     })
 
-pub stop_goes : (credit : CreditSpec) (w : World) (i d : ℕ) (q q' : Parties) (loose : Option (LinkName × OutSeen)) → IsLawfulAt credit w → refused_as w (i + 1) Stops ≡ None → i + 1 < size w → Stand credit.initial w q → Acts Stops i d q q' loose → StandMoved credit.initial (i + 1) (done_as w (i + 1) Stops) q' loose
-stop_goes credit w i d q q' loose h enabled lt st (b, (ends, eb), is, none) =
+pub stop_goes : (credit : CreditSpec) (w : World) (i d : ℕ) (q q' : Parties) (replaced : Option (LinkName × OutSeen)) → IsLawfulAt credit w → refused_as w (i + 1) Stops ≡ None → i + 1 < size w → Stand credit.initial w q → Acts Stops i d q q' replaced → StandMoved credit.initial (i + 1) (done_as w (i + 1) Stops) q' replaced
+stop_goes credit w i d q q' replaced h enabled lt st (b, (ends, eb), is, none) =
     let x : ℕ = i + 1 in
     let a : MemberStands w st.places x (node_at q i) = stands_at credit.initial w q st.places i st.stand lt in
     let run : runs w x ≡ true = running_runs w x None enabled in
     let w' : World = stopped_in w x (member_at w x).out in
-    goes_so credit.initial x w' (done_as w x Stops) (record (with_node q i b) { stopped = q.stopped ++ x ∷ [] }) q' loose refl is none
+    goes_so credit.initial x w' (done_as w x Stops) (record (with_node q i b) { stopped = q.stopped ++ x ∷ [] }) q' replaced refl is none
     (stop_steps credit w i q b (member_at w x).out st h lt run refl (subst (λ c. EndsIts c b.ends.out) a.out ends) eb)

@@ -19,7 +19,7 @@ use Rattle.ring_rules.specs.Step.{size, with_member, with_link, taker, begun, po
 use Rattle.ring_rules.specs.Event.{running_refusal, on_link, take_refusal, holds_nothing, at_found, taken_by, is_stopped, refused_as, done_as}
 use Rattle.ring_rules.proofs.events.Enabled.{running_later, take_effect}
 use Rattle.ring_rules.proofs.events.Refusals.{none_of, not_less}
-use Rattle.gm_member.specs.Parcels.{ByOrigin}
+use Rattle.gm_member.specs.Packets.{PacketById}
 use Rattle.gm_member.specs.Held.{Held, Incoming, at_some, took_from, began_from, took_held}
 use Rattle.gm_member.specs.Stands.{incoming_in, held_in, lines_in, waits_for}
 use Rattle.gm_member.proofs.Parts.{current_waits_not}
@@ -27,7 +27,7 @@ use Rattle.gm_member.proofs.Fit.{IsFit}
 use Rattle.gm_member.proofs.BeginStands.{BeginsFrom, begin_stands}
 use Rattle.gm_member.proofs.TakeStands.{TakesFrom, take_stands}
 use Rattle.gm_member.proofs.Others.{take_others, begin_others}
-use Rattle.ring_parties.specs.Ends.{Sent, OutSeen, InSeen, packet_in, packets_in, end_items, Carries, HasRested}
+use Rattle.ring_parties.specs.Ends.{PacketShown, OutSeen, InSeen, packet_in, packets_in, end_items, Carries, HasRested}
 use Rattle.ring_parties.specs.Parties.{Shown, Parties, node_at, with_node}
 use Rattle.ring_parties.specs.Standing.{Places, MemberStands, Stand}
 use Rattle.ring_parties.specs.Acting.{sent_of, due_of, TakesIn, Acts}
@@ -44,11 +44,11 @@ use Rattle.ring_parties.proofs.events.Steps.{goes_so, ways_leave, same_phases, c
 -- ---- one link
 
 -- what stands behind the first packet
-drop_first : (w : World) (before : Sending) (ks : List Packet) (es : List (Option Sent)) → is_empty ks ≡ false → drop 1 (packets_in w before ks ++ es) ≡ packets_in w (passed (get_or ks 0 no_packet)) (drop 1 ks) ++ es
+drop_first : (w : World) (before : Sending) (ks : List Packet) (es : List (Option PacketShown)) → is_empty ks ≡ false → drop 1 (packets_in w before ks ++ es) ≡ packets_in w (passed (get_or ks 0 no_packet)) (drop 1 ks) ++ es
 drop_first w before [] es e = absurd (false≢true (sym e))
 drop_first w before (k ∷ ks) es e = refl
 
-pub take_carries : (initial : ℕ) (w : World) (l : Link) (o : OutSeen) (n n' : InSeen) (k : Sent) (due : Option ℕ) → is_empty l.packets ≡ false → due ≡ grant_due l.flow.receiver → TakesIn due n k n' → Carries w initial l o n → Carries w initial (popped l) o n'
+pub take_carries : (initial : ℕ) (w : World) (l : Link) (o : OutSeen) (n n' : InSeen) (k : PacketShown) (due : Option ℕ) → is_empty l.packets ≡ false → due ≡ grant_due l.flow.receiver → TakesIn due n k n' → Carries w initial l o n → Carries w initial (popped l) o n'
 take_carries initial w l o n n' k due some ed t c =
     let one_less : length n.items ≡ length n'.items + 1 = omega (arith, ap length t.items) in
     record {
@@ -63,23 +63,23 @@ take_carries initial w l o n n' k due some ed t c =
     }
 
 -- the packet that is taken is the oldest
-first_packet : (w : World) (before : Sending) (ks : List Packet) (es : List (Option Sent)) (k : Sent) (xs : List (Option Sent)) → is_empty ks ≡ false → Some k ∷ xs ≡ packets_in w before ks ++ es → k.lines ≡ lines_in w before (get_or ks 0 no_packet)
+first_packet : (w : World) (before : Sending) (ks : List Packet) (es : List (Option PacketShown)) (k : PacketShown) (xs : List (Option PacketShown)) → is_empty ks ≡ false → Some k ∷ xs ≡ packets_in w before ks ++ es → k.lines ≡ lines_in w before (get_or ks 0 no_packet)
 first_packet w before [] es k xs some e = absurd (false≢true (sym some))
 first_packet w before (packet ∷ ks) es k xs some e =
     let both : Some k ≡ packet_in w before packet = cc in
     let same : k ≡ record { view = packet.version; lines = lines_in w before packet } = cc in
-    ap (λ (a : Sent). a.lines) same
+    ap (λ (a : PacketShown). a.lines) same
 
-pub take_lines : (initial : ℕ) (w : World) (s : ℕ) (o : OutSeen) (n n' : InSeen) (k : Sent) (due : Option ℕ) → is_empty (link_at w s).packets ≡ false → TakesIn due n k n' → Carries w initial (link_at w s) o n → k.lines ≡ lines_in w (link_at w s).had (oldest (link_at w s))
+pub take_lines : (initial : ℕ) (w : World) (s : ℕ) (o : OutSeen) (n n' : InSeen) (k : PacketShown) (due : Option ℕ) → is_empty (link_at w s).packets ≡ false → TakesIn due n k n' → Carries w initial (link_at w s) o n → k.lines ≡ lines_in w (link_at w s).had (oldest (link_at w s))
 take_lines initial w s o n n' k due some t c = first_packet w (link_at w s).had (link_at w s).packets (end_items (link_at w s).ending) k (n'.items ++ o.waiting) some (ap (λ xs. xs ++ o.waiting) (sym t.items) ∙ c.items)
 
 -- the receiver rests as it did
-pub take_rested : (o : OutSeen) (n n' : InSeen) (k : Sent) (due : Option ℕ) → TakesIn due n k n' → HasRested o n → HasRested o n'
+pub take_rested : (o : OutSeen) (n n' : InSeen) (k : PacketShown) (due : Option ℕ) → TakesIn due n k n' → HasRested o n → HasRested o n'
 take_rested o n n' k due t r = record { moved = r.moved; room = omega (arith, r.room, t.room, t.initial) }
 
 -- ---- what the member holds
 
-took_door : (g : Held) (ds : List Incoming) (k : ByOrigin) → took_held (record g { door = ds }) k ≡ record (took_held g k) { door = ds }
+took_door : (g : Held) (ds : List Incoming) (k : PacketById) → took_held (record g { door = ds }) k ≡ record (took_held g k) { door = ds }
 took_door g ds k = by_current g.current
   where
     by_phase : (a : Incoming) (b : Bool) → cond b (began_from (record g { door = ds }) k a) (took_from (record g { door = ds }) k a) ≡ record (cond b (began_from g k a) (took_from g k a)) { door = ds }
@@ -98,7 +98,7 @@ abbrev takes_in : World → ℕ → ℕ → Member → World
 takes_in w x s y = with_link (with_member w x y) s (popped (link_at w s))
 
 -- x takes from link s, and is y then.
-record TakesAs (w : World) (x s : ℕ) (k : ByOrigin) (y : Member) : Type 0 where
+record TakesAs (w : World) (x s : ℕ) (k : PacketById) (y : Member) : Type 0 where
   is_member : x < size w
   current : (member_at w x).current ≡ Some s
   has : is_empty (link_at w s).packets ≡ false
@@ -107,13 +107,13 @@ record TakesAs (w : World) (x s : ℕ) (k : ByOrigin) (y : Member) : Type 0 wher
   stands : k.lines ≡ lines_in w (link_at w s).had (oldest (link_at w s)) → took_held (held_in w x) k ≡ held_in (takes_in w x s y) x
   others : (z : ℕ) → z ≢ x → held_in w z ≡ held_in (takes_in w x s y) z
 
-take_ways : (w : World) (x s : ℕ) (k : ByOrigin) (y : Member) → s < length w.links → TakesAs w x s k y → SameWays w (takes_in w x s y)
+take_ways : (w : World) (x s : ℕ) (k : PacketById) (y : Member) → s < length w.links → TakesAs w x s k y → SameWays w (takes_in w x s y)
 take_ways w x s k y sl t =
     let w1 : World = with_member w x y in
     ways_both w w1 (takes_in w x s y) (member_ways w x y t.is_member t.same.0 t.same.1 t.same.2) (link_ways w1 s (popped (link_at w s)) sl refl)
 
 -- the end of the link s from which x takes shows something else
-take_steps : (credit : CreditSpec) (w : World) (i s : ℕ) (q : Parties) (b : Shown) (n : InSeen) (k : ByOrigin) (y : Member) (st : Stand credit.initial w q) → IsLawfulAt credit w → TakesAs w (i + 1) s k y
+take_steps : (credit : CreditSpec) (w : World) (i s : ℕ) (q : Parties) (b : Shown) (n : InSeen) (k : PacketById) (y : Member) (st : Stand credit.initial w q) → IsLawfulAt credit w → TakesAs w (i + 1) s k y
     → TakesIn (due_of (node_at q i).held) (st.places.ins s) (sent_of k) n → b ≡ record { held = took_held (node_at q i).held k; ends = record (node_at q i).ends { link = Some n } }
     → StandMoved credit.initial (i + 1) (takes_in w (i + 1) s y) (with_node q i b) None
 take_steps credit w i s q b n k y st h t takes e =
@@ -140,7 +140,7 @@ take_steps credit w i s q b n k y st h t takes e =
     let other_link : (j : ℕ) → j ≢ s → link_at w' j ≡ link_at w j = λ j ne. get_or-set_other w.links s j l no_link ne in
     steps credit w w' q q.stopped p' i b st h t.is_member (record {
       leaves = ways_leave w w' x ways;
-      post = refl;
+      deposits = refl;
       it = ways_stand w w' p p' x m b m.ends.out (Some n) ways refl
           (λ j waits. other j (λ (same : j ≡ s). false≢true (sym (current_waits_not w x s t.current) ∙ sym (ap (waits_for w x) same) ∙ waits)))
           its a.out (ap Some (sym here) ∙ ap (option_map p'.ins) (sym t.current)) a;
@@ -162,7 +162,7 @@ take_steps credit w i s q b n k y st h t takes e =
     })
 
 -- of who waits, and of who is up
-takes_as : (w : World) (x s : ℕ) (k : ByOrigin) (f : Phase) → IsFit w → (member_at w x).phase ≡ f → is_stopped f ≡ false → 1 ≤ x → x < size w → (member_at w x).current ≡ Some s → is_empty (link_at w s).packets ≡ false → (oldest (link_at w s)).version ≤ (member_at w x).version
+takes_as : (w : World) (x s : ℕ) (k : PacketById) (f : Phase) → IsFit w → (member_at w x).phase ≡ f → is_stopped f ≡ false → 1 ≤ x → x < size w → (member_at w x).current ≡ Some s → is_empty (link_at w s).packets ≡ false → (oldest (link_at w s)).version ≤ (member_at w x).version
     → (y : Member) × TakesAs w x s k y × (at_found (member_at w x).current w (taken_by (member_at w x).phase w x) ≡ takes_in w x s y)
 takes_as w x s k Waiting f waits runs some lt current has version =
     let t : BeginsFrom w x s = record { some = some; is_member = lt; waits = waits; current = current; has = has; version = version } in (
@@ -194,8 +194,8 @@ takes_as w x s k Up f up runs some lt current has version =
     )
 takes_as w x s k Stopped f rests runs some lt current has version = absurd (false≢true (sym runs))
 
-pub take_goes : (credit : CreditSpec) (w : World) (i d : ℕ) (q q' : Parties) (loose : Option (LinkName × OutSeen)) → IsLawfulAt credit w → refused_as w (i + 1) (Steps step.Take) ≡ None → i + 1 < size w → Stand credit.initial w q → Acts (Steps step.Take) i d q q' loose → StandMoved credit.initial (i + 1) (done_as w (i + 1) (Steps step.Take)) q' loose
-take_goes credit w i d q q' loose h enabled lt st (b, (k, n, n', ends_link, takes, eb), is, none) =
+pub take_goes : (credit : CreditSpec) (w : World) (i d : ℕ) (q q' : Parties) (replaced : Option (LinkName × OutSeen)) → IsLawfulAt credit w → refused_as w (i + 1) (Steps step.Take) ≡ None → i + 1 < size w → Stand credit.initial w q → Acts (Steps step.Take) i d q q' replaced → StandMoved credit.initial (i + 1) (done_as w (i + 1) (Steps step.Take)) q' replaced
+take_goes credit w i d q q' replaced h enabled lt st (b, (k, n, n', ends_link, takes, eb), is, none) =
     let x : ℕ = i + 1 in
     let p : Places = st.places in
     let a : MemberStands w p x (node_at q i) = stands_at credit.initial w q p i st.stand lt in
@@ -211,4 +211,4 @@ take_goes credit w i d q q' loose h enabled lt st (b, (k, n, n', ends_link, take
     let y : Member = t.0 in
     let same_end : p.ins s ≡ n = made_of p.ins (member_at w x).current s n current (sym a.link ∙ ends_link) in
     let its : TakesIn (due_of (node_at q i).held) (p.ins s) (sent_of k) n' = subst (λ e. TakesIn (due_of (node_at q i).held) e (sent_of k) n') (sym same_end) takes in
-    goes_so credit.initial x (takes_in w x s y) (done_as w x (Steps step.Take)) (with_node q i b) q' loose t.2 is none (take_steps credit w i s q b n' k y st h t.1 its eb)
+    goes_so credit.initial x (takes_in w x s y) (done_as w x (Steps step.Take)) (with_node q i b) q' replaced t.2 is none (take_steps credit w i s q b n' k y st h t.1 its eb)

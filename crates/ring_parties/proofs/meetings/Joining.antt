@@ -20,15 +20,15 @@ use Rattle.gm_member.specs.Shown.{in_name_of, out_name_of, in_end}
 use Rattle.gm_member.specs.Stands.{outgoing_in}
 use Rattle.ring_rules.proofs.work.OwnEnds.{OwnEnds}
 use Rattle.ring_parties.specs.Ends.{OutSeen, InSeen, Carries, HaveMet, HasRested, Fits, Meets}
-use Rattle.ring_parties.specs.Parties.{Shown, Posted, Parties, no_shown, node_at, with_node, with_out, with_in}
+use Rattle.ring_parties.specs.Parties.{Shown, Deposit, Parties, no_shown, node_at, with_node, with_out, with_in}
 use Rattle.ring_parties.specs.Standing.{Places, MemberStands, Shows, StandIn, Stand, HaveDone, name_of, has_out, has_in}
-use Rattle.ring_parties.specs.Loose.{StandBetween, DroppedHaveMet, OthersHaveMet}
+use Rattle.ring_parties.specs.Replaced.{StandBetween, DroppedHaveMet, OthersHaveMet}
 use Rattle.ring_parties.proofs.work.Lawful.{IsLawfulAt}
 use Rattle.ring_parties.proofs.standing.Writing.{placed, placed_same, placed_other, at_in}
 use Rattle.ring_parties.proofs.standing.Placing.{GoBetween, name_is_unique, name_found}
-use Rattle.ring_parties.proofs.standing.Showing.{stands_of, with_outs, with_ins, out_shows, out_hidden, in_shows, in_posts}
+use Rattle.ring_parties.proofs.standing.Showing.{stands_of, with_outs, with_ins, out_shows, out_hidden, in_shows, in_all_deposits}
 use Rattle.ring_parties.proofs.meetings.Known.{known_met}
-use Rattle.ring_parties.proofs.meetings.Meetings.{meets_carry, met_rests, found_at, found_posted, found_nowhere, posted_at, posted_place, IsNowhere}
+use Rattle.ring_parties.proofs.meetings.Meetings.{meets_carry, met_rests, found_at, found_deposit, found_nowhere, deposit_at, deposit_place, IsNowhere}
 
 -- ---- what holds of the ends of each link
 
@@ -94,19 +94,19 @@ out_known w initial q p x o name own st a l e named =
     let is : name ≡ name_of w f.0 = cc in
     (f.0, f.1, f.2, f.4, is, f.6)
 
--- ---- a loose end
+-- ---- a replaced end
 
--- of the loose end only one name is that
+-- of the replaced end only one name is that
 pub first_same : (a b : LinkName × OutSeen) → Some a ≡ Some b → a.0 ≡ b.0
 first_same a b e = let is : a ≡ b = cc in ap (λ (c : LinkName × OutSeen). c.0) is
 
--- it rests, or is loose
+-- it rests, or was just replaced
 abbrev pub RestsOr : World → Option (LinkName × OutSeen) → ℕ → OutSeen → InSeen → Type 0
-RestsOr w loose t o n = HasRested o n ⊎ (loose ≡ Some (name_of w t, o))
+RestsOr w replaced t o n = HasRested o n ⊎ (replaced ≡ Some (name_of w t, o))
 
--- what rested when it was dropped still does, and what was loose has met
-loose_dropped : (w : World) (p : Places) (s : ℕ) (name : LinkName) (o : OutSeen) (o' : OutSeen) (n' : InSeen) → IsGood w → s < length w.links → name_of w s ≡ name → HaveMet o' n' → DroppedHaveMet w p (Some (name, o)) → DroppedHaveMet w (with_both p s o' n') None
-loose_dropped w p s name o o' n' g sl named m d t l h none =
+-- what rested when it was dropped still does, and what was just replaced has met
+replaced_dropped : (w : World) (p : Places) (s : ℕ) (name : LinkName) (o : OutSeen) (o' : OutSeen) (n' : InSeen) → IsGood w → s < length w.links → name_of w s ≡ name → HaveMet o' n' → DroppedHaveMet w p (Some (name, o)) → DroppedHaveMet w (with_both p s o' n') None
+replaced_dropped w p s name o o' n' g sl named m d t l h none =
     each_placed (RestsOr w None) p s o' n' t
     (λ same. inl (met_rests o' n' m))
     (λ ne. ⊎_elim
@@ -116,8 +116,8 @@ loose_dropped w p s name o o' n' g sl named m d t l h none =
     absurd (ne (name_is_unique w t s g l sl (sym is ∙ sym named))))
     (d t l h none))
 
--- The link of a loose end, which its receiver may still take from, and what its ends show: its in end is the one that is found.
-record LooseLink (w : World) (p : Places) (name : LinkName) (o : OutSeen) (end : Option InSeen) : Type 0 where
+-- The link of a replaced end, which its receiver may still take from, and what its ends show: its in end is the one that is found.
+record ReplacedLink (w : World) (p : Places) (name : LinkName) (o : OutSeen) (end : Option InSeen) : Type 0 where
   link : ℕ
   within : link < length w.links
   named : name_of w link ≡ name
@@ -127,9 +127,9 @@ record LooseLink (w : World) (p : Places) (name : LinkName) (o : OutSeen) (end :
   out : p.outs link ≡ o
 
 -- at a member
-loose_at : (credit : CreditSpec) (w : World) (ids : List ℕ) (q : Parties) (y place : ℕ) (name : LinkName) (o : OutSeen) → IsLawfulAt credit w → (b : StandBetween credit.initial w ids q (Some (name, o))) → 1 ≤ y → y < size w → in_name_of (node_at q (y - 1)).held place ≡ Some name
-    → LooseLink w b.places name o (in_end (node_at q (y - 1)).ends place)
-loose_at credit w ids q y place name o g b a l named =
+replaced_at : (credit : CreditSpec) (w : World) (ids : List ℕ) (q : Parties) (y place : ℕ) (name : LinkName) (o : OutSeen) → IsLawfulAt credit w → (b : StandBetween credit.initial w ids q (Some (name, o))) → 1 ≤ y → y < size w → in_name_of (node_at q (y - 1)).held place ≡ Some name
+    → ReplacedLink w b.places name o (in_end (node_at q (y - 1)).ends place)
+replaced_at credit w ids q y place name o g b a l named =
     let p : Places = b.places in
     let f = placed_at w credit.initial q p y place name g.fit.good g.fit.own_ends b.stand a l named in
     let s : ℕ = f.0 in
@@ -137,16 +137,16 @@ loose_at credit w ids q y place name o g b a l named =
     let fits : (has_out w s ≡ false) × (p.outs s ≡ o) = b.fits s o f.1 k.1 (ap (λ i. Some (i, o)) (sym f.2)) in
     record { link = s; within = f.1; named = f.2; has = k.1; shown = k.2; none = fits.0; out = fits.1 }
 
--- or in the post
-loose_posted : (credit : CreditSpec) (w : World) (ids : List ℕ) (q : Parties) (j : ℕ) (d : Posted) (name : LinkName) (o : OutSeen) → IsLawfulAt credit w → GoBetween w → (b : StandBetween credit.initial w ids q (Some (name, o))) → j < length q.post → (get_or q.post j d).name ≡ name
-    → LooseLink w b.places name o (get_or q.post j d).end
-loose_posted credit w ids q j d name o g go b l named =
+-- or in the deposits
+replaced_deposited : (credit : CreditSpec) (w : World) (ids : List ℕ) (q : Parties) (j : ℕ) (d : Deposit) (name : LinkName) (o : OutSeen) → IsLawfulAt credit w → GoBetween w → (b : StandBetween credit.initial w ids q (Some (name, o))) → j < length q.deposits → (get_or q.deposits j d).name ≡ name
+    → ReplacedLink w b.places name o (get_or q.deposits j d).end
+replaced_deposited credit w ids q j d name o g go b l named =
     let p : Places = b.places in
-    let f = posted_at credit.initial w q p j d b.stand l in
-    let s : ℕ = get_or p.post j 0 in
-    let sl : s < length w.links = b.stand.within s (at_in p.post j f.0) in
-    let its : name_of w s ≡ name = sym (ap (λ (x : Posted). x.name) f.1) ∙ named in
-    let k = found_posted credit w q p j s d g go b.stand l sl (named ∙ sym its) in
+    let f = deposit_at credit.initial w q p j d b.stand l in
+    let s : ℕ = get_or p.deposits j 0 in
+    let sl : s < length w.links = b.stand.within s (at_in p.deposits j f.0) in
+    let its : name_of w s ≡ name = sym (ap (λ (x : Deposit). x.name) f.1) ∙ named in
+    let k = found_deposit credit w q p j s d g go b.stand l sl (named ∙ sym its) in
     let fits : (has_out w s ≡ false) × (p.outs s ≡ o) = b.fits s o sl k.0 (ap (λ i. Some (i, o)) (sym its)) in
     record { link = s; within = sl; named = its; has = k.0; shown = k.1; none = fits.0; out = fits.1 }
 
@@ -157,11 +157,11 @@ others_met : (w : World) (p : Places) (s : ℕ) (o' : OutSeen) (n' : InSeen) (id
     → OthersHaveMet w p ids → OthersHaveMet w (with_both p s o' n') ids'
 others_met w p s o' n' ids ids' m fewer old t l h o apart = each_placed (λ _ a b. HaveMet a b) p s o' n' t (λ same. m) (λ ne. old t l h o (fewer t ne o apart))
 
--- and nothing is loose
-both_met : {C : ℕ → Type 0} (initial : ℕ) (w : World) (ids ids' : List ℕ) (q q' : Parties) (loose : Option (LinkName × OutSeen)) (b : StandBetween initial w ids q loose) (s : ℕ) (o' : OutSeen) (n' : InSeen) → Meets (b.places.outs s) (b.places.ins s) o' n' → has_in w s ≡ true
+-- and nothing is replaced
+both_met : {C : ℕ → Type 0} (initial : ℕ) (w : World) (ids ids' : List ℕ) (q q' : Parties) (replaced : Option (LinkName × OutSeen)) (b : StandBetween initial w ids q replaced) (s : ℕ) (o' : OutSeen) (n' : InSeen) → Meets (b.places.outs s) (b.places.ins s) o' n' → has_in w s ≡ true
     → Shows C w q' (with_both b.places s o' n') → DroppedHaveMet w (with_both b.places s o' n') None → ((t : ℕ) → t ≢ s → has_out w t ≡ true → is_in (link_at w t).sender ids' ≡ false → is_in (link_at w t).sender ids ≡ false)
     → StandBetween initial w ids' q' None
-both_met initial w ids ids' q q' loose b s o' n' m has shows dropped fewer = record {
+both_met initial w ids ids' q q' replaced b s o' n' m has shows dropped fewer = record {
   places = with_both b.places s o' n';
   stand = stands_of initial w q' (with_both b.places s o' n') shows (met_carry initial w q b.places s o' n' b.stand m);
   dropped = dropped;
@@ -170,37 +170,37 @@ both_met initial w ids ids' q q' loose b s o' n' m has shows dropped fewer = rec
   known = known_met w b.places s o' n' has b.known;
 }
 
--- a loose one has met its other end at a member
-pub loose_met_at : (credit : CreditSpec) (w : World) (ids : List ℕ) (q : Parties) (y place : ℕ) (name : LinkName) (o : OutSeen) (n : InSeen) (o' : OutSeen) (n' : InSeen) → IsLawfulAt credit w → StandBetween credit.initial w ids q (Some (name, o)) → 1 ≤ y → y < size w
+-- a replaced one has met its other end at a member
+pub replaced_met_at : (credit : CreditSpec) (w : World) (ids : List ℕ) (q : Parties) (y place : ℕ) (name : LinkName) (o : OutSeen) (n : InSeen) (o' : OutSeen) (n' : InSeen) → IsLawfulAt credit w → StandBetween credit.initial w ids q (Some (name, o)) → 1 ≤ y → y < size w
     → in_name_of (node_at q (y - 1)).held place ≡ Some name → in_end (node_at q (y - 1)).ends place ≡ Some n → Meets o n o' n'
     → StandBetween credit.initial w ids (with_node q (y - 1) (with_in (node_at q (y - 1)) place n')) None
-loose_met_at credit w ids q y place name o n o' n' g b a l named end m =
+replaced_met_at credit w ids q y place name o n o' n' g b a l named end m =
     let p : Places = b.places in
-    let f : LooseLink w p name o (in_end (node_at q (y - 1)).ends place) = loose_at credit w ids q y place name o g b a l named in
+    let f : ReplacedLink w p name o (in_end (node_at q (y - 1)).ends place) = replaced_at credit w ids q y place name o g b a l named in
     let s : ℕ = f.link in
     let meets : Meets (p.outs s) (p.ins s) o' n' = meets_so o (p.outs s) n (p.ins s) o' n' (in_end (node_at q (y - 1)).ends place) f.out end f.shown m in
     both_met credit.initial w ids ids q (with_node q (y - 1) (with_in (node_at q (y - 1)) place n')) (Some (name, o)) b s o' n' meets f.has
     (in_shows w q (with_outs p s o') y place s n' g.fit.good g.fit.own_ends a l f.within (named ∙ ap Some (sym f.named)) (out_hidden w q p s o' g.fit.own_ends f.none b.stand))
-    (loose_dropped w p s name o o' n' g.fit.good f.within f.named m.met b.dropped) (λ t ne out apart. apart)
+    (replaced_dropped w p s name o o' n' g.fit.good f.within f.named m.met b.dropped) (λ t ne out apart. apart)
 
--- in the post
-pub loose_met_posted : (credit : CreditSpec) (w : World) (ids : List ℕ) (q : Parties) (j : ℕ) (d : Posted) (name : LinkName) (o : OutSeen) (n : InSeen) (o' : OutSeen) (n' : InSeen) → IsLawfulAt credit w → GoBetween w → StandBetween credit.initial w ids q (Some (name, o)) → j < length q.post
-    → (get_or q.post j d).name ≡ name → (get_or q.post j d).end ≡ Some n → Meets o n o' n'
-    → StandBetween credit.initial w ids (record q { post = set q.post j (record { name = name; end = Some n' }) }) None
-loose_met_posted credit w ids q j d name o n o' n' g go b l named end m =
+-- in the deposits
+pub replaced_met_deposited : (credit : CreditSpec) (w : World) (ids : List ℕ) (q : Parties) (j : ℕ) (d : Deposit) (name : LinkName) (o : OutSeen) (n : InSeen) (o' : OutSeen) (n' : InSeen) → IsLawfulAt credit w → GoBetween w → StandBetween credit.initial w ids q (Some (name, o)) → j < length q.deposits
+    → (get_or q.deposits j d).name ≡ name → (get_or q.deposits j d).end ≡ Some n → Meets o n o' n'
+    → StandBetween credit.initial w ids (record q { deposits = set q.deposits j (record { name = name; end = Some n' }) }) None
+replaced_met_deposited credit w ids q j d name o n o' n' g go b l named end m =
     let p : Places = b.places in
-    let f : LooseLink w p name o (get_or q.post j d).end = loose_posted credit w ids q j d name o g go b l named in
+    let f : ReplacedLink w p name o (get_or q.deposits j d).end = replaced_deposited credit w ids q j d name o g go b l named in
     let s : ℕ = f.link in
-    let place = posted_place w credit.initial q p j s d g.fit.good b.stand l f.within (named ∙ sym f.named) in
-    let meets : Meets (p.outs s) (p.ins s) o' n' = meets_so o (p.outs s) n (p.ins s) o' n' (get_or q.post j d).end f.out end f.shown m in
-    subst (λ i. StandBetween credit.initial w ids (record q { post = set q.post j (record { name = i; end = Some n' }) }) None) f.named
-    (both_met credit.initial w ids ids q (record q { post = set q.post j (record { name = name_of w s; end = Some n' }) }) (Some (name, o)) b s o' n' meets f.has
-    (in_posts w q (with_outs p s o') j s n' g.fit.own_ends go place.0 place.1 (out_hidden w q p s o' g.fit.own_ends f.none b.stand))
-    (loose_dropped w p s name o o' n' g.fit.good f.within f.named m.met b.dropped) (λ t ne out apart. apart))
+    let place = deposit_place w credit.initial q p j s d g.fit.good b.stand l f.within (named ∙ sym f.named) in
+    let meets : Meets (p.outs s) (p.ins s) o' n' = meets_so o (p.outs s) n (p.ins s) o' n' (get_or q.deposits j d).end f.out end f.shown m in
+    subst (λ i. StandBetween credit.initial w ids (record q { deposits = set q.deposits j (record { name = i; end = Some n' }) }) None) f.named
+    (both_met credit.initial w ids ids q (record q { deposits = set q.deposits j (record { name = name_of w s; end = Some n' }) }) (Some (name, o)) b s o' n' meets f.has
+    (in_all_deposits w q (with_outs p s o') j s n' g.fit.own_ends go place.0 place.1 (out_hidden w q p s o' g.fit.own_ends f.none b.stand))
+    (replaced_dropped w p s name o o' n' g.fit.good f.within f.named m.met b.dropped) (λ t ne out apart. apart))
 
 -- its other end is nowhere
-pub loose_gone : (credit : CreditSpec) (w : World) (ids : List ℕ) (q : Parties) (name : LinkName) (o : OutSeen) → IsLawfulAt credit w → GoBetween w → StandBetween credit.initial w ids q (Some (name, o)) → IsNowhere q name → StandBetween credit.initial w ids q None
-loose_gone credit w ids q name o g go b none = record {
+pub replaced_gone : (credit : CreditSpec) (w : World) (ids : List ℕ) (q : Parties) (name : LinkName) (o : OutSeen) → IsLawfulAt credit w → GoBetween w → StandBetween credit.initial w ids q (Some (name, o)) → IsNowhere q name → StandBetween credit.initial w ids q None
+replaced_gone credit w ids q name o g go b none = record {
   places = b.places;
   stand = b.stand;
   dropped = λ t l h out. ⊎_elim
@@ -309,39 +309,39 @@ met_at credit w ids q x y place name o n o' n' g some xl out named a l found end
     (out_shows w q p x s o' g.fit.own_ends some xl f.1 met.stand))
     (dropped_more w p s o' n' f.5 met.dropped) (fewer_but w ids x s f.1)
 
--- in the post
-pub met_posted : (credit : CreditSpec) (w : World) (ids : List ℕ) (q : Parties) (x j : ℕ) (d : Posted) (name : LinkName) (o : OutSeen) (n : InSeen) (o' : OutSeen) (n' : InSeen) → IsLawfulAt credit w → GoBetween w → 1 ≤ x → x < size w → (node_at q (x - 1)).ends.out ≡ Some o
-    → out_name_of (node_at q (x - 1)).held ≡ Some name → j < length q.post → (get_or q.post j d).name ≡ name → (get_or q.post j d).end ≡ Some n → Meets o n o' n'
+-- in the deposits
+pub met_deposit : (credit : CreditSpec) (w : World) (ids : List ℕ) (q : Parties) (x j : ℕ) (d : Deposit) (name : LinkName) (o : OutSeen) (n : InSeen) (o' : OutSeen) (n' : InSeen) → IsLawfulAt credit w → GoBetween w → 1 ≤ x → x < size w → (node_at q (x - 1)).ends.out ≡ Some o
+    → out_name_of (node_at q (x - 1)).held ≡ Some name → j < length q.deposits → (get_or q.deposits j d).name ≡ name → (get_or q.deposits j d).end ≡ Some n → Meets o n o' n'
     → StandBetween credit.initial w (x ∷ ids) q None
-    → StandBetween credit.initial w ids (record (with_node q (x - 1) (with_out (node_at q (x - 1)) o')) { post = set q.post j (record { name = name; end = Some n' }) }) None
-met_posted credit w ids q x j d name o n o' n' g go some xl out named l found end m met =
+    → StandBetween credit.initial w ids (record (with_node q (x - 1) (with_out (node_at q (x - 1)) o')) { deposits = set q.deposits j (record { name = name; end = Some n' }) }) None
+met_deposit credit w ids q x j d name o n o' n' g go some xl out named l found end m met =
     let p : Places = met.places in
     let f = out_known w credit.initial q p x o name g.fit.own_ends met.stand some xl out named in
     let s : ℕ = f.0 in
-    let c = found_posted credit w q p j s d g go met.stand l f.2 (found ∙ f.4) in
-    let place = posted_place w credit.initial q p j s d g.fit.good met.stand l f.2 (found ∙ f.4) in
-    let meets : Meets (p.outs s) (p.ins s) o' n' = meets_so o (p.outs s) n (p.ins s) o' n' (get_or q.post j d).end f.3 end c.1 m in
+    let c = found_deposit credit w q p j s d g go met.stand l f.2 (found ∙ f.4) in
+    let place = deposit_place w credit.initial q p j s d g.fit.good met.stand l f.2 (found ∙ f.4) in
+    let meets : Meets (p.outs s) (p.ins s) o' n' = meets_so o (p.outs s) n (p.ins s) o' n' (get_or q.deposits j d).end f.3 end c.1 m in
     let q1 : Parties = with_node q (x - 1) (with_out (node_at q (x - 1)) o') in
-    subst (λ i. StandBetween credit.initial w ids (record q1 { post = set q.post j (record { name = i; end = Some n' }) }) None) (sym f.4)
-    (both_met credit.initial w (x ∷ ids) ids q (record q1 { post = set q.post j (record { name = name_of w s; end = Some n' }) }) None met s o' n' meets c.0
-    (in_posts w q1 (with_outs p s o') j s n' g.fit.own_ends go place.0 place.1 (out_shows w q p x s o' g.fit.own_ends some xl f.1 met.stand))
+    subst (λ i. StandBetween credit.initial w ids (record q1 { deposits = set q.deposits j (record { name = i; end = Some n' }) }) None) (sym f.4)
+    (both_met credit.initial w (x ∷ ids) ids q (record q1 { deposits = set q.deposits j (record { name = name_of w s; end = Some n' }) }) None met s o' n' meets c.0
+    (in_all_deposits w q1 (with_outs p s o') j s n' g.fit.own_ends go place.0 place.1 (out_shows w q p x s o' g.fit.own_ends some xl f.1 met.stand))
     (dropped_more w p s o' n' f.5 met.dropped) (fewer_but w ids x s f.1))
 
 -- ---- the ends that are found are there, and may meet
 
--- of a loose end
-loose_fits : (credit : CreditSpec) (w : World) (ids : List ℕ) (q : Parties) (name : LinkName) (o : OutSeen) (end : Option InSeen) (b : StandBetween credit.initial w ids q (Some (name, o))) → LooseLink w b.places name o end → (n : InSeen) × (end ≡ Some n) × Fits o n
-loose_fits credit w ids q name o end b f =
+-- of a replaced end
+replaced_fits : (credit : CreditSpec) (w : World) (ids : List ℕ) (q : Parties) (name : LinkName) (o : OutSeen) (end : Option InSeen) (b : StandBetween credit.initial w ids q (Some (name, o))) → ReplacedLink w b.places name o end → (n : InSeen) × (end ≡ Some n) × Fits o n
+replaced_fits credit w ids q name o end b f =
     let p : Places = b.places in
     let s : ℕ = f.link in
     (p.ins s, f.shown, subst (λ i. Fits i (p.ins s)) f.out (b.stand.carry s f.within f.has).fits)
 
 -- at a member
-pub loose_there_at : (credit : CreditSpec) (w : World) (ids : List ℕ) (q : Parties) (y place : ℕ) (name : LinkName) (o : OutSeen) → IsLawfulAt credit w → StandBetween credit.initial w ids q (Some (name, o)) → 1 ≤ y → y < size w → in_name_of (node_at q (y - 1)).held place ≡ Some name
+pub replaced_there_at : (credit : CreditSpec) (w : World) (ids : List ℕ) (q : Parties) (y place : ℕ) (name : LinkName) (o : OutSeen) → IsLawfulAt credit w → StandBetween credit.initial w ids q (Some (name, o)) → 1 ≤ y → y < size w → in_name_of (node_at q (y - 1)).held place ≡ Some name
     → (n : InSeen) × (in_end (node_at q (y - 1)).ends place ≡ Some n) × Fits o n
-loose_there_at credit w ids q y place name o g b a l named = loose_fits credit w ids q name o (in_end (node_at q (y - 1)).ends place) b (loose_at credit w ids q y place name o g b a l named)
+replaced_there_at credit w ids q y place name o g b a l named = replaced_fits credit w ids q name o (in_end (node_at q (y - 1)).ends place) b (replaced_at credit w ids q y place name o g b a l named)
 
--- in the post
-pub loose_there_posted : (credit : CreditSpec) (w : World) (ids : List ℕ) (q : Parties) (j : ℕ) (d : Posted) (name : LinkName) (o : OutSeen) → IsLawfulAt credit w → GoBetween w → StandBetween credit.initial w ids q (Some (name, o)) → j < length q.post → (get_or q.post j d).name ≡ name
-    → (n : InSeen) × ((get_or q.post j d).end ≡ Some n) × Fits o n
-loose_there_posted credit w ids q j d name o g go b l named = loose_fits credit w ids q name o (get_or q.post j d).end b (loose_posted credit w ids q j d name o g go b l named)
+-- in the deposits
+pub replaced_there_deposited : (credit : CreditSpec) (w : World) (ids : List ℕ) (q : Parties) (j : ℕ) (d : Deposit) (name : LinkName) (o : OutSeen) → IsLawfulAt credit w → GoBetween w → StandBetween credit.initial w ids q (Some (name, o)) → j < length q.deposits → (get_or q.deposits j d).name ≡ name
+    → (n : InSeen) × ((get_or q.deposits j d).end ≡ Some n) × Fits o n
+replaced_there_deposited credit w ids q j d name o g go b l named = replaced_fits credit w ids q name o (get_or q.deposits j d).end b (replaced_deposited credit w ids q j d name o g go b l named)

@@ -17,11 +17,11 @@ use Rattle.gm_member.specs.Shown.{in_name_of, in_end}
 use Rattle.gm_member.specs.Stands.{incoming_in, waits_for}
 use Rattle.gm_member.proofs.DoorLists.{in_places}
 use Rattle.ring_parties.specs.Ends.{OutSeen, InSeen, Carries, HaveMet, HasRested, Meets}
-use Rattle.ring_parties.specs.Parties.{Shown, Posted, Parties, no_posted, node_at}
+use Rattle.ring_parties.specs.Parties.{Shown, Deposit, Parties, no_deposit, node_at}
 use Rattle.ring_parties.specs.Standing.{Places, MemberStands, StandIn, name_of, is_to, has_in}
 use Rattle.ring_parties.proofs.work.Lawful.{IsLawfulAt}
 use Rattle.ring_parties.proofs.standing.Writing.{in_filter, at_in, in_at}
-use Rattle.ring_parties.proofs.standing.Placing.{GoBetween, StandsAt, name_is_unique, at_receives, at_end, has_parts, waits_has, posted_is, name_stands, stands_named}
+use Rattle.ring_parties.proofs.standing.Placing.{GoBetween, StandsAt, name_is_unique, at_receives, at_end, has_parts, waits_has, deposit_is, name_stands, stands_named}
 use Rattle.group_view.specs.declared.link.LinkName.{LinkName}
 
 -- ---- two ends
@@ -62,41 +62,41 @@ made_at : {B : Type 0} (f : ℕ → B) (xs : List ℕ) (j : ℕ) (d : B) → j <
 made_at f xs j d l = get_or_from_slice_get (map f xs) j (f (get_or xs j 0)) d (slice_get-map f xs j ∙ ap (option_map f) (slice_get-get_or xs j 0 l))
 
 -- a link that waits, as it is shown
-abbrev pub waiting_at : World → Places → ℕ → Posted
+abbrev pub waiting_at : World → Places → ℕ → Deposit
 waiting_at w p s = record { name = name_of w s; end = Some (p.ins s) }
 
-pub post_many : (initial : ℕ) (w : World) (q : Parties) (p : Places) → StandIn initial w q p → length q.post ≡ length p.post
-post_many initial w q p st = ap length st.post ∙ length-map p.post (waiting_at w p)
+pub deposits_many : (initial : ℕ) (w : World) (q : Parties) (p : Places) → StandIn initial w q p → length q.deposits ≡ length p.deposits
+deposits_many initial w q p st = ap length st.deposits ∙ length-map p.deposits (waiting_at w p)
 
 -- where a link waits
-pub posted_at : (initial : ℕ) (w : World) (q : Parties) (p : Places) (j : ℕ) (d : Posted) → StandIn initial w q p → j < length q.post → (j < length p.post) × (get_or q.post j d ≡ waiting_at w p (get_or p.post j 0))
-posted_at initial w q p j d st l =
-    let jl : j < length p.post = omega (arith, post_many initial w q p st) in
-    (jl, ap (λ xs. get_or xs j d) st.post ∙ made_at (waiting_at w p) p.post j d jl)
+pub deposit_at : (initial : ℕ) (w : World) (q : Parties) (p : Places) (j : ℕ) (d : Deposit) → StandIn initial w q p → j < length q.deposits → (j < length p.deposits) × (get_or q.deposits j d ≡ waiting_at w p (get_or p.deposits j 0))
+deposit_at initial w q p j d st l =
+    let jl : j < length p.deposits = omega (arith, deposits_many initial w q p st) in
+    (jl, ap (λ xs. get_or xs j d) st.deposits ∙ made_at (waiting_at w p) p.deposits j d jl)
 
 -- it is the one whose name it has
-pub posted_place : (w : World) (initial : ℕ) (q : Parties) (p : Places) (j s : ℕ) (d : Posted) → IsGood w → StandIn initial w q p → j < length q.post → s < length w.links → (get_or q.post j d).name ≡ name_of w s → (j < length p.post) × (get_or p.post j 0 ≡ s) × (is_in s p.post ≡ true)
-posted_place w initial q p j s d g st l sl e =
-    let k = posted_at initial w q p j d st l in
-    let is : is_in (get_or p.post j 0) p.post ≡ true = at_in p.post j k.0 in
-    let same : get_or p.post j 0 ≡ s = name_is_unique w (get_or p.post j 0) s g (st.within (get_or p.post j 0) is) sl (sym (ap (λ (x : Posted). x.name) k.1) ∙ e) in
-    (k.0, same, subst (λ t. is_in t p.post ≡ true) same is)
+pub deposit_place : (w : World) (initial : ℕ) (q : Parties) (p : Places) (j s : ℕ) (d : Deposit) → IsGood w → StandIn initial w q p → j < length q.deposits → s < length w.links → (get_or q.deposits j d).name ≡ name_of w s → (j < length p.deposits) × (get_or p.deposits j 0 ≡ s) × (is_in s p.deposits ≡ true)
+deposit_place w initial q p j s d g st l sl e =
+    let k = deposit_at initial w q p j d st l in
+    let is : is_in (get_or p.deposits j 0) p.deposits ≡ true = at_in p.deposits j k.0 in
+    let same : get_or p.deposits j 0 ≡ s = name_is_unique w (get_or p.deposits j 0) s g (st.within (get_or p.deposits j 0) is) sl (sym (ap (λ (x : Deposit). x.name) k.1) ∙ e) in
+    (k.0, same, subst (λ t. is_in t p.deposits ≡ true) same is)
 
--- what is found in the post is the end of its link
-pub found_posted : (credit : CreditSpec) (w : World) (q : Parties) (p : Places) (j s : ℕ) (d : Posted) → IsLawfulAt credit w → GoBetween w → StandIn credit.initial w q p → j < length q.post → s < length w.links → (get_or q.post j d).name ≡ name_of w s
-    → (has_in w s ≡ true) × ((get_or q.post j d).end ≡ Some (p.ins s))
-found_posted credit w q p j s d g go st l sl e =
-    let f = posted_place w credit.initial q p j s d g.fit.good st l sl e in
-    let k = posted_at credit.initial w q p j d st l in
+-- what is found in the deposits is the end of its link
+pub found_deposit : (credit : CreditSpec) (w : World) (q : Parties) (p : Places) (j s : ℕ) (d : Deposit) → IsLawfulAt credit w → GoBetween w → StandIn credit.initial w q p → j < length q.deposits → s < length w.links → (get_or q.deposits j d).name ≡ name_of w s
+    → (has_in w s ≡ true) × ((get_or q.deposits j d).end ≡ Some (p.ins s))
+found_deposit credit w q p j s d g go st l sl e =
+    let f = deposit_place w credit.initial q p j s d g.fit.good st l sl e in
+    let k = deposit_at credit.initial w q p j d st l in
     let y = (link_at w s).receiver in
     let r = go.receiver s sl in
-    let i = posted_is w p y s (node_at q (y - 1)) (st.each y r.0 r.1) refl f.2 in
-    (waits_has w y s refl i.1, ap (λ (x : Posted). x.end) k.1 ∙ ap (λ t. Some (p.ins t)) f.1)
+    let i = deposit_is w p y s (node_at q (y - 1)) (st.each y r.0 r.1) refl f.2 in
+    (waits_has w y s refl i.1, ap (λ (x : Deposit). x.end) k.1 ∙ ap (λ t. Some (p.ins t)) f.1)
 
 -- no link of that name stands at its receiver, or waits for it
 pub record IsNowhere (q : Parties) (name : LinkName) : Type 0 where
   pub member : (place : ℕ) → place ≤ length (node_at q (name.to.0 - 1)).held.door → in_name_of (node_at q (name.to.0 - 1)).held place ≡ Some name → ⊥
-  pub post : (j : ℕ) (d : Posted) → j < length q.post → (slice_index_or q.post j d).name ≡ name → ⊥
+  pub deposits : (j : ℕ) (d : Deposit) → j < length q.deposits → (slice_index_or q.deposits j d).name ≡ name → ⊥
 
 -- a link that is found nowhere may not be taken from
 pub found_nowhere : (credit : CreditSpec) (w : World) (q : Parties) (p : Places) (s : ℕ) → IsLawfulAt credit w → GoBetween w → StandIn credit.initial w q p → s < length w.links → IsNowhere q (name_of w s) → has_in w s ≡ false
@@ -124,14 +124,14 @@ found_nowhere credit w q p s g go st sl none = false_from_ne_true (has_in w s) (
         let l : f.0 < length mine.door = f.1 in
         none.member (f.0 + 1) (omega (arith, many, l)) (stands_named w p y (f.0 + 1) s m mine g.fit.own_ends (inr (not_first, omega (arith, back, l), ap (λ i. get_or mine.door i 0) back ∙ f.2)))
 
-    in_post : (j : ℕ) × (j < length p.post) × (get_or p.post j 0 ≡ s) → ⊥
-    in_post f =
-        let l : f.0 < length p.post = f.1 in
-        let jl : f.0 < length q.post = omega (arith, post_many credit.initial w q p st, l) in
-        none.post f.0 (no_posted (name_of w s)) jl (ap (λ (x : Posted). x.name) (posted_at credit.initial w q p f.0 (no_posted (name_of w s)) st jl).1 ∙ ap (name_of w) f.2)
+    in_deposits : (j : ℕ) × (j < length p.deposits) × (get_or p.deposits j 0 ≡ s) → ⊥
+    in_deposits f =
+        let l : f.0 < length p.deposits = f.1 in
+        let jl : f.0 < length q.deposits = omega (arith, deposits_many credit.initial w q p st, l) in
+        none.deposits f.0 (no_deposit (name_of w s)) jl (ap (λ (x : Deposit). x.name) (deposit_at credit.initial w q p f.0 (no_deposit (name_of w s)) st jl).1 ∙ ap (name_of w) f.2)
 
-    by_door : (b : Bool) → is_in s mine.door ≡ b → is_in s (mine.door ++ filter (is_to w y) p.post) ≡ true → ⊥
+    by_door : (b : Bool) → is_in s mine.door ≡ b → is_in s (mine.door ++ filter (is_to w y) p.deposits) ≡ true → ⊥
     by_door true e h = at_door (in_at s mine.door e)
     by_door false e h =
-        let k : is_in s (filter (is_to w y) p.post) ≡ true = sym (is_in-append s mine.door (filter (is_to w y) p.post) ∙ ap (λ b. cond b true (is_in s (filter (is_to w y) p.post))) e) ∙ h in
-        in_post (in_at s p.post (and_parts (is_to w y s) (is_in s p.post) (sym (in_filter (is_to w y) s p.post) ∙ k)).1)
+        let k : is_in s (filter (is_to w y) p.deposits) ≡ true = sym (is_in-append s mine.door (filter (is_to w y) p.deposits) ∙ ap (λ b. cond b true (is_in s (filter (is_to w y) p.deposits))) e) ∙ h in
+        in_deposits (in_at s p.deposits (and_parts (is_to w y s) (is_in s p.deposits) (sym (in_filter (is_to w y) s p.deposits) ∙ k)).1)

@@ -12,17 +12,17 @@ use Rattle.gm_member.specs.Shown.{in_name_of, out_name_of, in_end}
 use Rattle.gm_member.specs.Stands.{incoming_in}
 use Rattle.gm_member.specs.View.{ring_link}
 use Rattle.ring_parties.specs.Ends.{OutSeen, InSeen, Fits, Carries}
-use Rattle.ring_parties.specs.Parties.{Parties, no_shown, no_posted, node_at, with_node, with_out}
+use Rattle.ring_parties.specs.Parties.{Parties, no_shown, no_deposit, node_at, with_node, with_out}
 use Rattle.ring_parties.specs.States.{state}
 use Rattle.ring_parties.specs.Standing.{StandAfter, name_of, has_out}
-use Rattle.ring_parties.specs.Loose.{StandBetween, BetweenAfter, sender_to, moved_by, IsMember, sender_in, MovedAfter}
-use Rattle.ring_parties.specs.Meeting.{IsToMeet, MayMeetOut, MeetsOut, MeetsAt, MeetsPosted, MeetsNone, MeetsIn, receiver_of}
+use Rattle.ring_parties.specs.Replaced.{StandBetween, BetweenAfter, sender_to, moved_by, IsMember, sender_in, MovedAfter}
+use Rattle.ring_parties.specs.Meeting.{IsToMeet, MayMeetOut, MeetsOut, MeetsAt, MeetsDeposit, MeetsNone, MeetsIn, receiver_of}
 use Rattle.ring_parties.proofs.work.Lawful.{IsLawfulAt}
 use Rattle.ring_parties.proofs.standing.Placing.{GoBetween}
 use Rattle.ring_parties.proofs.events.OneEvent.{stands_at}
 use Rattle.ring_parties.proofs.events.After.{lawful_after, go_after}
-use Rattle.ring_parties.proofs.meetings.Meetings.{found_at, found_posted}
-use Rattle.ring_parties.proofs.meetings.Joining.{out_placed, met_all, met_none, met_gone, met_at, met_posted}
+use Rattle.ring_parties.proofs.meetings.Meetings.{found_at, found_deposit}
+use Rattle.ring_parties.proofs.meetings.Joining.{out_placed, met_all, met_none, met_gone, met_at, met_deposit}
 use Rattle.ring_parties.proofs.meetings.Receivers.{GoesIn, out_goes_in}
 
 -- an end that carries a link with an out end may meet it
@@ -36,9 +36,9 @@ may_meet credit w ids q x g go from l met name o named out = record {
   member = λ place e.
       let at = found_at credit w q met.places name.to.0 place found.0 g met.stand goes.0 goes.1 found.2 (e ∙ ap Some is) in
       carried w credit.initial found.0 o (met.places.outs found.0) (met.places.ins found.0) (in_end (receiver_of q name).ends place) found.4 at.2 (met.stand.carry found.0 found.2 at.1);
-  post = λ place within e.
-      let at = found_posted credit w q met.places place found.0 (no_posted name) g go met.stand within found.2 (e ∙ is) in
-      carried w credit.initial found.0 o (met.places.outs found.0) (met.places.ins found.0) (get_or q.post place (no_posted name)).end found.4 at.1 (met.stand.carry found.0 found.2 at.0);
+  deposits = λ place within e.
+      let at = found_deposit credit w q met.places place found.0 (no_deposit name) g go met.stand within found.2 (e ∙ is) in
+      carried w credit.initial found.0 o (met.places.outs found.0) (met.places.ins found.0) (get_or q.deposits place (no_deposit name)).end found.4 at.1 (met.stand.carry found.0 found.2 at.0);
 }
   where
     found : (s : ℕ) × ((member_at w x).out ≡ Some s) × (s < length w.links) × ((link_at w s).sender ≡ x) × (met.places.outs s ≡ o) × (out_name_of (node_at q (x - 1)).held ≡ Some (name_of w s)) × (has_out w s ≡ true)
@@ -73,13 +73,13 @@ meets_more credit w ids q q' x g go some l how met = ⊎_elim
         let goes : GoesIn w name = out_goes_in credit w (x ∷ ids) q x o name g go some l met out named in
         subst (λ r. StandBetween credit.initial w ids r None) (sym (a.parties ∙ ap (with_node (with_node q (x - 1) (with_out (node_at q (x - 1)) o')) (name.to.0 - 1)) a.meets.shows))
         (met_at credit w ids q x name.to.0 a.meets.place name o a.meets.meets.0 o' a.meets.met g some l out named goes.0 goes.1 a.meets.named a.meets.meets.1 a.meets.meets.2 met))
-        (λ (b : MeetsPosted q name o (with_node q (x - 1) (with_out (node_at q (x - 1)) o')) q' o' ⊎ MeetsNone q name o (with_node q (x - 1) (with_out (node_at q (x - 1)) o')) q' o'). ⊎_elim
-        (λ (p : MeetsPosted q name o (with_node q (x - 1) (with_out (node_at q (x - 1)) o')) q' o').
-        subst (λ r. StandBetween credit.initial w ids r None) (sym (p.parties ∙ ap (λ ps. record (with_node q (x - 1) (with_out (node_at q (x - 1)) o')) { post = ps }) p.meets.shows))
-        (met_posted credit w ids q x p.meets.place (no_posted name) name o p.meets.meets.0 o' p.meets.met g go some l out named p.meets.within p.meets.named p.meets.meets.1 p.meets.meets.2 met))
+        (λ (b : MeetsDeposit q name o (with_node q (x - 1) (with_out (node_at q (x - 1)) o')) q' o' ⊎ MeetsNone q name o (with_node q (x - 1) (with_out (node_at q (x - 1)) o')) q' o'). ⊎_elim
+        (λ (p : MeetsDeposit q name o (with_node q (x - 1) (with_out (node_at q (x - 1)) o')) q' o').
+        subst (λ r. StandBetween credit.initial w ids r None) (sym (p.parties ∙ ap (λ ps. record (with_node q (x - 1) (with_out (node_at q (x - 1)) o')) { deposits = ps }) p.meets.shows))
+        (met_deposit credit w ids q x p.meets.place (no_deposit name) name o p.meets.meets.0 o' p.meets.met g go some l out named p.meets.within p.meets.named p.meets.meets.1 p.meets.meets.2 met))
         (λ (n : MeetsNone q name o (with_node q (x - 1) (with_out (node_at q (x - 1)) o')) q' o').
         subst (λ r. StandBetween credit.initial w ids r None) (sym (n.parties ∙ ap (λ z. with_node q (x - 1) (with_out (node_at q (x - 1)) z)) n.out ∙ same_out q (x - 1) o out))
-        (met_gone credit w ids q x o name g go some l out named (record { member = λ place _ h. n.member place h; post = n.post }) met))
+        (met_gone credit w ids q x o name g go some l out named (record { member = λ place _ h. n.member place h; deposits = n.deposits }) met))
         b)
         m
 

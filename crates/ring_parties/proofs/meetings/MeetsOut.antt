@@ -12,8 +12,8 @@ use Rattle.gm_member.specs.View.{ring_link}
 use Rattle.gm_member.specs.Shown.{in_name_of, out_name_of, in_end}
 use Rattle.ring_parties.specs.Ends.{OutSeen, InSeen}
 use Rattle.ring_parties.specs.declared.party.Party.{Party}
-use Rattle.ring_parties.specs.Parties.{parties, Shown, Posted, Parties, EndsSeen, no_shown, node_at, with_node, with_in, with_out, shown_in}
-use Rattle.ring_parties.specs.Meeting.{IsToMeet, MayMeet, MeetsAt, MeetsPosted, MeetsNone, MeetsIn, MayMeetOut, MeetsOut, receiver_of, lent_out}
+use Rattle.ring_parties.specs.Parties.{parties, Shown, Deposit, Parties, EndsSeen, no_shown, node_at, with_node, with_in, with_out, shown_in}
+use Rattle.ring_parties.specs.Meeting.{IsToMeet, MayMeet, MeetsAt, MeetsDeposit, MeetsNone, MeetsIn, MayMeetOut, MeetsOut, receiver_of, lent_out}
 
 -- ---- one member
 
@@ -71,15 +71,15 @@ pub lent_may : (q : Parties) (i : ℕ) (name : LinkName) (o : OutSeen) → i < l
 lent_may q i name o l may = record {
   from_one = may.from_one;
   member = λ place e. subst (IsToMeet o) (sym (lent_end q i (name.to.0 - 1) place l)) (may.member place (ap (λ h. in_name_of h place) (sym (lent_held q i (name.to.0 - 1) l)) ∙ e));
-  post = may.post;
+  deposits = may.deposits;
 }
 
 -- the member from which the out end was lent, once it has met
 pub lent_still : (q q' : Parties) (i : ℕ) (name : LinkName) (o o' : OutSeen) → MeetsIn q name o q q' o' → ((node_at q' i).held ≡ (node_at q i).held) × ((node_at q' i).ends.out ≡ (node_at q i).ends.out)
 lent_still q q' i name o o' m = ⊎_elim
     (λ (a : MeetsAt q name o q q' o'). at_member a)
-    (λ (b : MeetsPosted q name o q q' o' ⊎ MeetsNone q name o q q' o'). ⊎_elim
-    (λ (p : MeetsPosted q name o q q' o'). (ap (λ x. (node_at x i).held) p.parties, ap (λ x. (node_at x i).ends.out) p.parties))
+    (λ (b : MeetsDeposit q name o q q' o' ⊎ MeetsNone q name o q q' o'). ⊎_elim
+    (λ (p : MeetsDeposit q name o q q' o'). (ap (λ x. (node_at x i).held) p.parties, ap (λ x. (node_at x i).ends.out) p.parties))
     (λ (n : MeetsNone q name o q q' o'). (ap (λ x. (node_at x i).held) n.parties, ap (λ x. (node_at x i).ends.out) n.parties))
     b)
     m
@@ -151,15 +151,15 @@ met_out q q' i name o o' il named there m = inr (
   there,
   ⊎_elim
       (λ (a : MeetsAt (lending q i) name o (lending q i) q' o'). inl (at_member a))
-      (λ (b : MeetsPosted (lending q i) name o (lending q i) q' o' ⊎ MeetsNone (lending q i) name o (lending q i) q' o'). ⊎_elim
-      (λ (p : MeetsPosted (lending q i) name o (lending q i) q' o'). inr (inl (record {
-        post = p.post;
+      (λ (b : MeetsDeposit (lending q i) name o (lending q i) q' o' ⊎ MeetsNone (lending q i) name o (lending q i) q' o'). ⊎_elim
+      (λ (p : MeetsDeposit (lending q i) name o (lending q i) q' o'). inr (inl (record {
+        deposits = p.deposits;
         meets = p.meets;
-        parties = ap (λ x. with_node x i (with_out (node_at x i) o')) p.parties ∙ ap (λ ns. record q { nodes = ns; post = p.post }) mine;
+        parties = ap (λ x. with_node x i (with_out (node_at x i) o')) p.parties ∙ ap (λ ns. record q { nodes = ns; deposits = p.deposits }) mine;
       })))
       (λ (n : MeetsNone (lending q i) name o (lending q i) q' o'). inr (inr (record {
         member = λ place e. n.member place (ap (λ h. in_name_of h place) (lent_held q i (name.to.0 - 1) il) ∙ e);
-        post = n.post;
+        deposits = n.deposits;
         parties = ap (λ x. with_node x i (with_out (node_at x i) o')) n.parties ∙ ap (λ ns. record q { nodes = ns }) mine;
         out = n.out;
       })))
@@ -196,13 +196,13 @@ met_out q q' i name o o' il named there m = inr (
 meets_many : (q q' : Parties) (name : LinkName) (o o' : OutSeen) → MeetsIn q name o q q' o' → length q'.nodes ≡ length q.nodes
 meets_many q q' name o o' m = ⊎_elim
     (λ (a : MeetsAt q name o q q' o'). ap (λ (p : Parties). length p.nodes) a.parties ∙ length-set q.nodes (name.to.0 - 1) a.receiver)
-    (λ (b : MeetsPosted q name o q q' o' ⊎ MeetsNone q name o q q' o'). ⊎_elim
-    (λ (p : MeetsPosted q name o q q' o'). ap (λ (x : Parties). length x.nodes) p.parties)
+    (λ (b : MeetsDeposit q name o q q' o' ⊎ MeetsNone q name o q q' o'). ⊎_elim
+    (λ (p : MeetsDeposit q name o q q' o'). ap (λ (x : Parties). length x.nodes) p.parties)
     (λ (n : MeetsNone q name o q q' o'). ap (λ (x : Parties). length x.nodes) n.parties)
     b)
     m
 
-pub still_inside : (ns ms : List Party) (i : ℕ) (y : Party) (r r' : Registry (PlainIn Load)) (back back' : List Posted) (name : LinkName) (o o' : OutSeen) → i < length ns → MeetsIn (parties (set ns i y) r back) name o (parties (set ns i y) r back) (parties ms r' back') o' → i < length ms
+pub still_inside : (ns ms : List Party) (i : ℕ) (y : Party) (r r' : Registry (PlainIn Load)) (back back' : List Deposit) (name : LinkName) (o o' : OutSeen) → i < length ns → MeetsIn (parties (set ns i y) r back) name o (parties (set ns i y) r back) (parties ms r' back') o' → i < length ms
 still_inside ns ms i y r r' back back' name o o' l m =
     omega (arith, l, meets_many (parties (set ns i y) r back) (parties ms r' back') name o o' m, length-map ms shown_in, length-map (set ns i y) shown_in, length-set ns i y)
 
@@ -211,11 +211,11 @@ still_inside ns ms i y r r' back back' name o o' l m =
 shown_at : (ns : List Party) (i : ℕ) (x : Party) → i < length ns → get_or (map shown_in ns) i no_shown ≡ shown_in (get_or ns i x)
 shown_at ns i x l = get_or-map shown_in ns i x no_shown l
 
-lent_parties : (ns : List Party) (i : ℕ) (x y : Party) (r : Registry (PlainIn Load)) (back : List Posted) → i < length ns → shown_in y ≡ lent_out (shown_in (get_or ns i x)) → parties (set ns i y) r back ≡ lending (parties ns r back) i
+lent_parties : (ns : List Party) (i : ℕ) (x y : Party) (r : Registry (PlainIn Load)) (back : List Deposit) → i < length ns → shown_in y ≡ lent_out (shown_in (get_or ns i x)) → parties (set ns i y) r back ≡ lending (parties ns r back) i
 lent_parties ns i x y r back l e =
     ap (λ ms. record (parties ns r back) { nodes = ms }) (map-set shown_in ns i y ∙ ap (set (map shown_in ns) i) (e ∙ ap lent_out (sym (shown_at ns i x l))))
 
-given_parties : (ns : List Party) (i : ℕ) (x y : Party) (r : Registry (PlainIn Load)) (back : List Posted) (o : OutSeen) → i < length ns → shown_in y ≡ with_out (shown_in (get_or ns i x)) o → parties (set ns i y) r back ≡ with_node (parties ns r back) i (with_out (node_at (parties ns r back) i) o)
+given_parties : (ns : List Party) (i : ℕ) (x y : Party) (r : Registry (PlainIn Load)) (back : List Deposit) (o : OutSeen) → i < length ns → shown_in y ≡ with_out (shown_in (get_or ns i x)) o → parties (set ns i y) r back ≡ with_node (parties ns r back) i (with_out (node_at (parties ns r back) i) o)
 given_parties ns i x y r back o l e =
     ap (λ ms. record (parties ns r back) { nodes = ms }) (map-set shown_in ns i y ∙ ap (set (map shown_in ns) i) (e ∙ ap (λ m. with_out m o) (sym (shown_at ns i x l))))
 
@@ -242,7 +242,7 @@ has_lent ns i x y name o l is named there lent = record {
 }
 
 -- an out end that was lent may meet
-pub out_may : (ns : List Party) (i : ℕ) (x y : Party) (r : Registry (PlainIn Load)) (back : List Posted) (name : LinkName) (o : OutSeen) → MayMeetOut (parties ns r back) i → HasLent ns i x y name o → MayMeet (parties (set ns i y) r back) name o
+pub out_may : (ns : List Party) (i : ℕ) (x y : Party) (r : Registry (PlainIn Load)) (back : List Deposit) (name : LinkName) (o : OutSeen) → MayMeetOut (parties ns r back) i → HasLent ns i x y name o → MayMeet (parties (set ns i y) r back) name o
 out_may ns i x y r back name o may h =
     let l = h.within in
     let many : i < length (map shown_in ns) = rw length-map l in
@@ -250,7 +250,7 @@ out_may ns i x y r back name o may h =
     (lent_may (parties ns r back) i name o many (may name o (named_at ns i x name l h.named) (there_at ns i x o l h.there)))
 
 -- the member still sends on the link, and hasn't its end
-pub out_away : (ns ms : List Party) (i : ℕ) (x y z : Party) (r r' : Registry (PlainIn Load)) (back back' : List Posted) (name : LinkName) (o o' : OutSeen) → HasLent ns i x y name o → MeetsIn (parties (set ns i y) r back) name o (parties (set ns i y) r back) (parties ms r' back') o'
+pub out_away : (ns ms : List Party) (i : ℕ) (x y z : Party) (r r' : Registry (PlainIn Load)) (back back' : List Deposit) (name : LinkName) (o o' : OutSeen) → HasLent ns i x y name o → MeetsIn (parties (set ns i y) r back) name o (parties (set ns i y) r back) (parties ms r' back') o'
     → ((shown_in (get_or ms i z)).held ≡ (shown_in (get_or ns i x)).held) × ((shown_in (get_or ms i z)).ends.out ≡ None)
 out_away ns ms i x y z r r' back back' name o o' h m =
     let l = h.within in
@@ -266,8 +266,8 @@ out_away ns ms i x y z r r' back back' name o o' h m =
 pub met_ended : (q q' : Parties) (name : LinkName) (o o' : OutSeen) → MeetsIn q name o q q' o' → o'.ended ≡ o.ended
 met_ended q q' name o o' m = ⊎_elim
     (λ (a : MeetsAt q name o q q' o'). a.meets.meets.2.ended)
-    (λ (b : MeetsPosted q name o q q' o' ⊎ MeetsNone q name o q q' o'). ⊎_elim
-    (λ (p : MeetsPosted q name o q q' o'). p.meets.meets.2.ended)
+    (λ (b : MeetsDeposit q name o q q' o' ⊎ MeetsNone q name o q q' o'). ⊎_elim
+    (λ (p : MeetsDeposit q name o q q' o'). p.meets.meets.2.ended)
     (λ (n : MeetsNone q name o q q' o'). ap (λ e. e.ended) n.out)
     b)
     m
@@ -279,7 +279,7 @@ some_out h (Some l) name e = search rules
 pub out_sends : (a b : Held) (name : LinkName) → b ≡ a → out_name_of a ≡ Some name → IsSome b.out
 out_sends a b name same e = some_out b b.out name (ap out_name_of same ∙ e)
 
-pub out_met : (ns ms : List Party) (i : ℕ) (x y z v : Party) (r r' : Registry (PlainIn Load)) (back back' : List Posted) (name : LinkName) (o o' : OutSeen) → HasLent ns i x y name o → MeetsIn (parties (set ns i y) r back) name o (parties (set ns i y) r back) (parties ms r' back') o' → shown_in v ≡ with_out (shown_in (get_or ms i z)) o'
+pub out_met : (ns ms : List Party) (i : ℕ) (x y z v : Party) (r r' : Registry (PlainIn Load)) (back back' : List Deposit) (name : LinkName) (o o' : OutSeen) → HasLent ns i x y name o → MeetsIn (parties (set ns i y) r back) name o (parties (set ns i y) r back) (parties ms r' back') o' → shown_in v ≡ with_out (shown_in (get_or ms i z)) o'
     → MeetsOut i (parties ns r back) (parties (set ms i v) r' back')
 out_met ns ms i x y z v r r' back back' name o o' h m given =
     let l = h.within in
@@ -290,7 +290,7 @@ out_met ns ms i x y z v r r' back back' name o o' h m given =
     (subst (λ q. MeetsIn q name o q (parties ms r' back') o') (lent_parties ns i x y r back l h.lent) m))
 
 -- a member without an out end
-pub out_none : (ns : List Party) (i : ℕ) (x y : Party) (r : Registry (PlainIn Load)) (back : List Posted) → i < length ns → (shown_in (get_or ns i x)).ends.out ≡ None → shown_in y ≡ shown_in (get_or ns i x) → MeetsOut i (parties ns r back) (parties (set ns i y) r back)
+pub out_none : (ns : List Party) (i : ℕ) (x y : Party) (r : Registry (PlainIn Load)) (back : List Deposit) → i < length ns → (shown_in (get_or ns i x)).ends.out ≡ None → shown_in y ≡ shown_in (get_or ns i x) → MeetsOut i (parties ns r back) (parties (set ns i y) r back)
 out_none ns i x y r back l none same = inl (
   ap (λ (m : Shown). m.ends.out) (shown_at ns i x l) ∙ none,
   ap (λ ms. record (parties ns r back) { nodes = ms }) (map-set shown_in ns i y ∙ ap (set (map shown_in ns) i) (same ∙ sym (shown_at ns i x l)) ∙ set-get_or (map shown_in ns) i no_shown),

@@ -19,9 +19,9 @@ use Rattle.ring_rules.proofs.rings.Lists.{get_or-mapped}
 use Rattle.ring_rules.proofs.rings.Rounds.{nat_eq-is, nat_eq-same}
 use Rattle.ring_rules.proofs.walks.Views.{left_is}
 use Rattle.ring_rules.proofs.invariants.Opening.{opening_ids, in_range}
-use Rattle.gm_member.specs.Parcels.{places}
+use Rattle.gm_member.specs.Packets.{places}
 use Rattle.gm_member.specs.Held.{Held, founded, fresh_in as fresh_incoming, fresh_out as fresh_outgoing}
-use Rattle.gm_member.specs.Stands.{kept_by, told_in, held_in, outgoing_in, incoming_in, waits_for, door_links}
+use Rattle.gm_member.specs.Stands.{kept_by, last_sent_in, held_in, outgoing_in, incoming_in, waits_for, door_links}
 use Rattle.gm_member.proofs.Fit.{IsFit, reached_fit}
 use Rattle.gm_member.proofs.Parts.{held_is, known_by, current_waits_not, other_waits_not}
 use Rattle.ring_parties.specs.Ends.{Carries, fresh_out, fresh_in}
@@ -97,7 +97,7 @@ module _ (credit : CreditSpec) (names : List (List ℕ)) (are : AreOpeningNames 
   out_is : (x : ℕ) → 1 ≤ x → x < size (opening credit names) → outgoing_in (opening credit names) (x - 1) ≡ fresh_outgoing credit.initial credit.more (right_of (opening_group names) x) 1
   out_is x a b =
       let l : x - 1 < length (opening credit names).links = omega (arith, b, a, many, first_size credit names) in
-      ap (λ (k : Link). record { to = k.receiver; opened = k.opened; fresh = k.sending.fresh; told = map (λ p. told_in (numbers_at k.sending.sent (p + 1))) places; credit = k.flow.sender }) (link_is (x - 1) l)
+      ap (λ (k : Link). record { to = k.receiver; opened = k.opened; fresh = k.sending.fresh; last_sent = map (λ p. last_sent_in (numbers_at k.sending.sent (p + 1))) places; credit = k.flow.sender }) (link_is (x - 1) l)
       ∙ ap (λ i. fresh_outgoing credit.initial credit.more (right_of (opening_group names) i) 1) (omega (arith, a))
 
   in_is : (x : ℕ) → 1 ≤ x → x < size (opening credit names) → incoming_in (opening credit names) (left_of (opening_group names) x - 1) ≡ fresh_incoming credit.initial credit.more (left_of (opening_group names) x) 1
@@ -113,7 +113,7 @@ module _ (credit : CreditSpec) (names : List (List ℕ)) (are : AreOpeningNames 
 
   -- the ends of its links, by their places
   abbrev first_places : Places
-  first_places = record { outs = λ _. fresh_out credit.initial; ins = λ _. fresh_in credit.initial; post = [] }
+  first_places = record { outs = λ _. fresh_out credit.initial; ins = λ _. fresh_in credit.initial; deposits = [] }
 
   node_is : (x : ℕ) → 1 ≤ x → x < size (opening credit names) → node_at (opened_parties credit names) (x - 1) ≡ opened_at credit names (x - 1)
   node_is x a b = get_or-map-range_with_len (opened_at credit names) 0 (length names) (x - 1) (x - 1) no_shown (omega (arith, a, b, first_size credit names)) (omega arith)
@@ -130,7 +130,7 @@ module _ (credit : CreditSpec) (names : List (List ℕ)) (are : AreOpeningNames 
         ∙ ap (λ name. founded credit name x (opening_group names)) (name_at x a)
         ∙ ap (λ (h : Held). record h { door = [] }) (sym (held_first x a b));
     out = sym (ap (λ (m : Member). option_map (λ (_ : ℕ). fresh_out credit.initial) m.out) (first_member credit names x a b));
-    kept = refl;
+    returned = refl;
     link = sym (ap (λ (m : Member). option_map (λ (_ : ℕ). fresh_in credit.initial) m.current) (first_member credit names x a b));
     ends = refl;
     old_outs = refl;
@@ -156,7 +156,7 @@ module _ (credit : CreditSpec) (names : List (List ℕ)) (are : AreOpeningNames 
         views = refl;
         stopped = λ x a b. sym (ap (λ (m : Member). is_stopped m.phase) (first_member credit names x a b));
         nobody_else = λ x _. refl;
-        post = refl;
+        deposits = refl;
         within = λ s i. absurd (false≢true i);
         carry = λ s l _. carries_first s l;
       };

@@ -8,7 +8,7 @@ use Rattle.group_view.specs.Link.{is_ring}
 use Rattle.group_view.specs.declared.link.LinkKind.TheVariants.{Ring}
 use Rattle.group_view.specs.declared.link.LinkName.{LinkName}
 use Rattle.group_view.specs.declared.request.Deposited.{Deposited}
-use Rattle.registrar.specs.declared.standing.Standing.{Standing}
+use Rattle.registrar.specs.declared.waiting_link.WaitingLink.{WaitingLink}
 use Rattle.registrar.specs.Registry.{Registry, AreHere, is_for, beside}
 use Rattle.registrar.specs.Handled.{without_links, deposited, links_for}
 use Rattle.activity.specs.declared.packet.Load.{Load}
@@ -16,15 +16,15 @@ use Rattle.gm_member.specs.Held.{Held, asking_held, answered_held, collected_hel
 use Rattle.gm_member.specs.Arrivals.{is_ring_link, joins, arrived_in, incoming_of, given_end, with_arrived}
 use Rattle.gm_member.specs.Shown.{held_of, ends_of}
 use Rattle.ring_parties.specs.Ends.{InSeen}
-use Rattle.ring_parties.specs.Parties.{ANode, Shown, Posted, ends_seen, in_seen, shown_of, posted}
+use Rattle.ring_parties.specs.Parties.{ANode, Shown, Deposit, ends_seen, in_seen, shown_of, deposit_shown}
 use Rattle.ring_parties.specs.Acting.{waits_at, received, is_kept_by, Collects}
 use Rattle.ring_parties.specs.Collecting.{AreOfRing, given_links}
-use Rattle.ring_parties.proofs.post.Handing.{given_to, answered_links}
+use Rattle.ring_parties.proofs.deposits.Handing.{given_to, answered_links}
 
 -- ---- the links that the registrar gives
 
 -- they are all of the ring, where all that wait there are
-pub given_of_ring : (x : ℕ) (ls : List (Standing (PlainIn Load))) → AreOfRing ls → filter is_ring_link (links_for x ls) ≡ links_for x ls
+pub given_of_ring : (x : ℕ) (ls : List (WaitingLink (PlainIn Load))) → AreOfRing ls → filter is_ring_link (links_for x ls) ≡ links_for x ls
 given_of_ring x [] h = refl
 given_of_ring x (a ∷ ls) h = by_test (is_for x a) (given_of_ring x ls (λ k d l. h (suc k) d (omega arith))) (h 0 a (omega arith))
   where
@@ -40,18 +40,18 @@ given_of_ring x (a ∷ ls) h = by_test (is_for x a) (given_of_ring x ls (λ k d 
     by_test false ih e = ih
 
 -- where none waits for a member, none is given, and the others are all
-none_given : (x : ℕ) (ls : List (Standing (PlainIn Load))) → length (filter (is_for x) ls) ≡ 0 → (filter (waits_at x) (map posted ls) ≡ []) × (beside x ls ≡ ls)
+none_given : (x : ℕ) (ls : List (WaitingLink (PlainIn Load))) → length (filter (is_for x) ls) ≡ 0 → (filter (waits_at x) (map deposit_shown ls) ≡ []) × (beside x ls ≡ ls)
 none_given x [] e = (refl, refl)
 none_given x (a ∷ ls) e = by_test (is_for x a) refl (none_given x ls)
   where
-    by_test : (b : Bool) → is_for x a ≡ b → (length (filter (is_for x) ls) ≡ 0 → (filter (waits_at x) (map posted ls) ≡ []) × (beside x ls ≡ ls))
-        → (cond b (posted a ∷ filter (waits_at x) (map posted ls)) (filter (waits_at x) (map posted ls)) ≡ []) × (cond (not b) (a ∷ beside x ls) (beside x ls) ≡ a ∷ ls)
+    by_test : (b : Bool) → is_for x a ≡ b → (length (filter (is_for x) ls) ≡ 0 → (filter (waits_at x) (map deposit_shown ls) ≡ []) × (beside x ls ≡ ls))
+        → (cond b (deposit_shown a ∷ filter (waits_at x) (map deposit_shown ls)) (filter (waits_at x) (map deposit_shown ls)) ≡ []) × (cond (not b) (a ∷ beside x ls) (beside x ls) ≡ a ∷ ls)
     by_test true k ih = absurd (omega (arith, sym (ap (λ b. length (cond b (a ∷ filter (is_for x) ls) (filter (is_for x) ls))) k) ∙ e))
     by_test false k ih =
         let rest = ih (sym (ap (λ b. length (cond b (a ∷ filter (is_for x) ls) (filter (is_for x) ls))) k) ∙ e) in
         (rest.0, ap (λ xs. a ∷ xs) rest.1)
 
-pub collects_none : (a : Shown) (r : Registry (PlainIn Load)) → length (filter (is_for a.held.id) r.links) ≡ 0 → Collects a a (filter (waits_at a.held.id) (map posted r.links))
+pub collects_none : (a : Shown) (r : Registry (PlainIn Load)) → length (filter (is_for a.held.id) r.links) ≡ 0 → Collects a a (filter (waits_at a.held.id) (map deposit_shown r.links))
 collects_none a r e = subst (Collects a a) (sym (none_given a.held.id r.links e).0) (record {
   held = ap (λ ls. record a.held { door = ls }) (sym (append-nil a.held.door));
   ends = ap (λ es. record a.ends { door = es }) (sym (append-nil a.ends.door));
@@ -79,13 +79,13 @@ joins_both h x (d ∷ ds) = by_kind (is_ring_link d) (joins_both h x ds)
     by_kind false ih = ih
 
 -- and their ends
-given_ends : (h : Held) (x : ℕ) (ds : List (Deposited (PlainIn Load))) → map (option_map in_seen) (map given_end (filter (λ d. is_kept_by h (given_to x d)) ds)) ≡ map (λ (d : Posted). d.end) (filter (is_kept_by h) (map (given_to x) ds))
+given_ends : (h : Held) (x : ℕ) (ds : List (Deposited (PlainIn Load))) → map (option_map in_seen) (map given_end (filter (λ d. is_kept_by h (given_to x d)) ds)) ≡ map (λ (d : Deposit). d.end) (filter (is_kept_by h) (map (given_to x) ds))
 given_ends h x [] = refl
 given_ends h x (d ∷ ds) = by_test (is_kept_by h (given_to x d)) (given_ends h x ds)
   where
-    by_test : (b : Bool) → map (option_map in_seen) (map given_end (filter (λ e. is_kept_by h (given_to x e)) ds)) ≡ map (λ (e : Posted). e.end) (filter (is_kept_by h) (map (given_to x) ds))
+    by_test : (b : Bool) → map (option_map in_seen) (map given_end (filter (λ e. is_kept_by h (given_to x e)) ds)) ≡ map (λ (e : Deposit). e.end) (filter (is_kept_by h) (map (given_to x) ds))
         → map (option_map in_seen) (map given_end (cond b (d ∷ filter (λ e. is_kept_by h (given_to x e)) ds) (filter (λ e. is_kept_by h (given_to x e)) ds)))
-        ≡ map (λ (e : Posted). e.end) (cond b (given_to x d ∷ filter (is_kept_by h) (map (given_to x) ds)) (filter (is_kept_by h) (map (given_to x) ds)))
+        ≡ map (λ (e : Deposit). e.end) (cond b (given_to x d ∷ filter (is_kept_by h) (map (given_to x) ds)) (filter (is_kept_by h) (map (given_to x) ds)))
     by_test true ih = ap (λ es. Some (in_seen d.link) ∷ es) ih
     by_test false ih = ih
 
@@ -103,7 +103,7 @@ collects_given m n x ds free none ring held ends = record {
 }
   where
     kept : List (Option InSeen)
-    kept = map (λ (d : Posted). d.end) (filter (is_kept_by (held_of m)) (map (given_to x) ds))
+    kept = map (λ (d : Deposit). d.end) (filter (is_kept_by (held_of m)) (map (given_to x) ds))
 
     door : map (option_map in_seen) ((ends_of m).door ++ map given_end (filter (joins (held_of m).view (held_of m).id) ds)) ≡ (shown_of m).ends.door ++ kept
     door = map-append (option_map in_seen) (ends_of m).door (map given_end (filter (joins (held_of m).view (held_of m).id) ds))
@@ -112,7 +112,7 @@ collects_given m n x ds free none ring held ends = record {
 
 -- of all that wait for it
 pub collects_all : (m n : ANode) (r : Registry (PlainIn Load)) → m.asked ≡ false → (shown_of m).ends.old_ins ≡ [] → AreOfRing r.links → AreHere r.links → held_of n ≡ asking_held (held_of m) → ends_of n ≡ ends_of m
-    → Collects (shown_of m) (given_links n (links_for m.id.0 r.links)) (filter (waits_at m.id.0) (map posted r.links))
+    → Collects (shown_of m) (given_links n (links_for m.id.0 r.links)) (filter (waits_at m.id.0) (map deposit_shown r.links))
 collects_all m n r free none ring here held ends =
     subst (Collects (shown_of m) (given_links n (links_for m.id.0 r.links))) (answered_links m.id.0 r.links here)
     (collects_given m n m.id.0 (links_for m.id.0 r.links) free none (given_of_ring m.id.0 r.links ring) held ends)

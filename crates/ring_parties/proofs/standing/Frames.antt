@@ -1,5 +1,5 @@
 -- What stays where one member and one link are written: the doors, the links that are open, what the packets stand for, and how a member stands.
-use Rattle.gm_member.specs.Parcels.{places}
+use Rattle.gm_member.specs.Packets.{places}
 use Rattle.std.proofs.Common.{◌≡◌, ℕ, suc, ◌+◌, ◌<◌, Bool, true, cond, nat_eq, List, [], ◌∷◌, ◌++◌, length, map, Some, is_some, refl, sym, ap, subst, ◌∙◌, ◌≤◌, false, Option, None, arith, append_assoc, append-nil}
 use Rattle.std.specs.Prelude.{◌||◌, option_map}
 use Rattle.std.specs.List.{filter, range_with_len}
@@ -16,10 +16,10 @@ use Rattle.gm_member.specs.Stands.{incoming_in, waits_for, door_links, door_in, 
 use Rattle.gm_member.proofs.Places.{map-range_same}
 use Rattle.gm_member.proofs.Parts.{Seen, waits_seen, there_same}
 use Rattle.gm_member.proofs.DoorLists.{made_agree}
-use Rattle.ring_parties.specs.Ends.{Sent, OutSeen, InSeen, packet_in, packets_in, end_items, items_in, Carries, fresh_in}
+use Rattle.ring_parties.specs.Ends.{PacketShown, OutSeen, InSeen, packet_in, packets_in, end_items, items_in, Carries, fresh_in}
 use Rattle.ring_parties.specs.Parties.{Shown, Parties}
 use Rattle.ring_parties.specs.Standing.{Places, MemberStands, name_of, is_to, has_out, has_in}
-use Rattle.ring_parties.specs.Loose.{StandBetween, moved_by}
+use Rattle.ring_parties.specs.Replaced.{StandBetween, moved_by}
 use Rattle.group_view.specs.declared.link.LinkName.{LinkName}
 use Rattle.ring_parties.specs.Acting.{ActsOut}
 use Rattle.std.proofs.lemmas.Bool.{false≢true}
@@ -27,7 +27,7 @@ use Rattle.ring_rules.specs.declared.phase.Ending.{Ending}
 
 -- the parties stand in a state after an event of x, in which the ends that it may have moved have still to meet
 abbrev pub StandMoved : ℕ → ℕ → World → Parties → Option (LinkName × OutSeen) → Type 0
-StandMoved initial x w q loose = StandBetween initial w (moved_by x w) q loose
+StandMoved initial x w q replaced = StandBetween initial w (moved_by x w) q replaced
 
 -- ---- lists
 
@@ -190,7 +190,7 @@ pub carries_same : (initial : ℕ) (w w' : World) (s : ℕ) (o : OutSeen) (n : I
 carries_same initial w w' s o n logs e c = subst (λ l. Carries w' initial l o n) (sym e) (carries_logs initial w w' (link_at w s) o n logs c)
 
 -- ends that have just opened carry a link on which these items stand, and for which nothing was given back
-pub opened_carries : (initial : ℕ) (w : World) (l : Link) (items : List (Option Sent)) (free : ℕ) → items ≡ items_in w l → l.flow.grants ≡ [] → l.ending ≡ None → length items + free ≤ initial + 1
+pub opened_carries : (initial : ℕ) (w : World) (l : Link) (items : List (Option PacketShown)) (free : ℕ) → items ≡ items_in w l → l.flow.grants ≡ [] → l.ending ≡ None → length items + free ≤ initial + 1
     → Carries w initial l (record { waiting = items; back = []; initial = initial; free = free; ended = false }) (fresh_in initial)
 opened_carries initial w l items free stand grants goes_on few = record {
   items = stand;
@@ -202,7 +202,7 @@ opened_carries initial w l items free stand grants goes_on few = record {
 }
 
 -- ends carry a link still on whose out end these items were put
-pub acts_carries : (initial : ℕ) (w : World) (l l' : Link) (o o' : OutSeen) (n : InSeen) (items : List (Option Sent)) (is_ended : Bool) → ActsOut items [] is_ended o o' → items_in w l ++ items ≡ items_in w l' → l'.flow.grants ≡ l.flow.grants → is_ended ≡ is_some l'.ending → Carries w initial l o n → Carries w initial l' o' n
+pub acts_carries : (initial : ℕ) (w : World) (l l' : Link) (o o' : OutSeen) (n : InSeen) (items : List (Option PacketShown)) (is_ended : Bool) → ActsOut items [] is_ended o o' → items_in w l ++ items ≡ items_in w l' → l'.flow.grants ≡ l.flow.grants → is_ended ≡ is_some l'.ending → Carries w initial l o n → Carries w initial l' o' n
 acts_carries initial w l l' o o' n items is_ended t stand grants ends c = record {
   items = ap (λ xs. n.items ++ xs) t.waiting ∙ sym (append_assoc n.items o.waiting items) ∙ ap (λ xs. xs ++ items) c.items ∙ stand;
   grants = ap (λ xs. xs ++ n.given) t.back ∙ c.grants ∙ sym grants;
@@ -235,7 +235,7 @@ end_carries initial w l l' o o' n goes_on ep ends eg t = acts_carries initial w 
 pub record SameDoor (w w' : World) (p p' : Places) (y : ℕ) : Type 0 where
   pub doors : door_links w' y ≡ door_links w y
   pub to : (s : ℕ) → is_to w' y s ≡ is_to w y s
-  pub post : p'.post ≡ p.post
+  pub deposits : p'.deposits ≡ p.deposits
   pub ins : (s : ℕ) → waits_for w y s ≡ true → p'.ins s ≡ p.ins s
 
 -- A member does something to what it holds, but for its door, and holds then what the new state has for it; of its ends only those of the links
@@ -250,7 +250,7 @@ pub record Does (w w' : World) (y : ℕ) (m b : Shown) (out : Option OutSeen) (l
 pub goes_stands : (w w' : World) (p p' : Places) (y : ℕ) (m b : Shown) (out : Option OutSeen) (link : Option InSeen) → SameDoor w w' p p' y → Does w w' y m b out link
     → out ≡ option_map p'.outs (member_at w' y).out → link ≡ option_map p'.ins (member_at w' y).current → MemberStands w p y m → MemberStands w' p' y b
 goes_stands w w' p p' y m b out link d g eo el h =
-    let rest : List ℕ = filter (is_to w y) p.post in
+    let rest : List ℕ = filter (is_to w y) p.deposits in
     let same_door : (g.does (held_in w y)).door ≡ door_in w y = ap (λ (a : Held). a.door) (g.but_door (held_in w y) (door_in w y)) in
     let all_same : map (incoming_in w) (door_links w y) ≡ map (incoming_in w') (door_links w' y) = sym same_door ∙ ap (λ (a : Held). a.door) g.stands in
     let parts : map (incoming_in w) (h.door ++ rest) ≡ map (incoming_in w') (h.door ++ rest) =
@@ -259,13 +259,13 @@ goes_stands w w' p p' y m b out link d g eo el h =
     ap (map (λ s. Some (p'.ins s))) (sym h.comes) ∙ made_agree (λ s. Some (p'.ins s)) (λ s. Some (p.ins s)) (waits_for w y) 0 (length w.links) (λ s _ _ e. ap (λ n. Some n) (d.ins s e)) ∙ ap (map (λ s. Some (p.ins s))) h.comes in
     record {
       door = h.door;
-      comes = d.doors ∙ h.comes ∙ ap (λ xs. h.door ++ xs) (same_filter (is_to w y) (is_to w' y) p.post (λ s. sym (d.to s)) ∙ ap (filter (is_to w' y)) (sym d.post));
+      comes = d.doors ∙ h.comes ∙ ap (λ xs. h.door ++ xs) (same_filter (is_to w y) (is_to w' y) p.deposits (λ s. sym (d.to s)) ∙ ap (filter (is_to w' y)) (sym d.deposits));
       held =
           ap (λ (a : Shown). a.held) g.is ∙ ap g.does h.held ∙ g.but_door (held_in w y) (map (incoming_in w) h.door)
           ∙ ap (λ ds. record (g.does (held_in w y)) { door = ds }) (made_first (incoming_in w) (incoming_in w') h.door rest parts)
           ∙ ap (λ (a : Held). record a { door = map (incoming_in w') h.door }) g.stands;
       out = ap (λ (a : Shown). a.ends.out) g.is ∙ eo;
-      kept = ap (λ (a : Shown). a.ends.kept) g.is ∙ h.kept;
+      returned = ap (λ (a : Shown). a.ends.returned) g.is ∙ h.returned;
       link = ap (λ (a : Shown). a.ends.link) g.is ∙ el;
       ends = ap (λ (a : Shown). a.ends.door) g.is ∙ h.ends ∙ sym (made_first (λ s. Some (p'.ins s)) (λ s. Some (p.ins s)) h.door rest ends_made);
       old_outs = ap (λ (a : Shown). a.ends.old_outs) g.is ∙ h.old_outs;

@@ -17,8 +17,8 @@ use Rattle.ring_rules.specs.View.{right_of}
 use Rattle.activity.specs.declared.packet.Load.{Load}
 use Rattle.gm_member.specs.declared.links.OutLink.{OutLink}
 use Rattle.gm_member.specs.declared.links.InLink.{InLink}
-use Rattle.activity.specs.Parcels.{Parcel}
-use Rattle.gm_member.specs.Parcels.{by_origin}
+use Rattle.activity.specs.Packets.{PacketSeen}
+use Rattle.gm_member.specs.Packets.{packet_by_id}
 use Rattle.gm_member.specs.Loads.{as_item}
 use Rattle.gm_member.specs.View.{out_of, in_of, end_of, ring_link, kept_link, stays_at}
 use Rattle.gm_member.specs.Held.{at_some, refreshed_held, sends_to, stays, is_for}
@@ -26,8 +26,8 @@ use Rattle.gm_member.specs.Ends.{EndPuts, Replaces}
 use Rattle.gm_member.specs.Shown.{When, held_of, LooksBy, MovesTo, SendsOn, StaysOn}
 use Rattle.ring_parties.specs.Ends.{OutSeen, opened_out, fresh_in}
 use Rattle.ring_parties.specs.Parties.{ANode, content, out_seen, in_seen, named_out, Shown, shown_of}
-use Rattle.ring_parties.specs.Acting.{IsReady, Looks, Loosens, looked_ends, kept_end, beside, first_sent, sent_of, ActsOut}
-use Rattle.ring_parties.specs.Looking.{first_of, to_post, tidied}
+use Rattle.ring_parties.specs.Acting.{IsReady, Looks, Replacing, looked_ends, kept_end, beside, first_sent, sent_of, ActsOut}
+use Rattle.ring_parties.specs.Looking.{first_of, to_deposit, tidied}
 use Rattle.ring_parties.proofs.standing.Shown.{ends_same, shown_same}
 
 -- ---- the links to the member
@@ -54,9 +54,9 @@ link_kept v x (Some l) = by_test (is_for v x (in_of l)) refl
 -- ---- the link on which it sends
 
 -- the out end of a new link, with its first packet
-opened_seen : (initial : ℕ) (k : Parcel) (o e : PlainOut Load) (n : PlainIn Load) → IsFreshPair initial o n → PlainPuts o (as_item k) e → out_seen e ≡ opened_out initial (sent_of (by_origin k))
+opened_seen : (initial : ℕ) (k : PacketSeen) (o e : PlainOut Load) (n : PlainIn Load) → IsFreshPair initial o n → PlainPuts o (as_item k) e → out_seen e ≡ opened_out initial (sent_of (packet_by_id k))
 opened_seen initial k o e n f p =
-    let waiting : map content e.waiting.items ≡ Some (sent_of (by_origin k)) ∷ [] = ap (map content) p.0 ∙ ap (λ xs. map content (xs ++ as_item k ∷ [])) f.items.0 in
+    let waiting : map content e.waiting.items ≡ Some (sent_of (packet_by_id k)) ∷ [] = ap (map content) p.0 ∙ ap (λ xs. map content (xs ++ as_item k ∷ [])) f.items.0 in
     let back : e.back.items ≡ [] = ap (λ b. b.items) p.2 ∙ f.grants.0 in
     let size : e.initial ≡ initial = p.3 ∙ f.initial.0 in
     let free : e.free ≡ initial = omega (arith, p.1, f.free.0) in
@@ -84,24 +84,24 @@ ended_seen o p g = record {
 }
 
 -- the same of what a member replaces
-loosens : (x : ℕ) (l : Option (OutLink (PlainOut Load))) (old old' : List (LinkName × PlainOut Load)) → map named_out old ≡ [] → Replaces PlainPuts x l old old' → Loosens x (option_map out_of l) (option_map out_seen (at_some l None (λ k. k.end))) (first_of (map named_out old'))
-loosens x None old old' none r = ap first_of (ap (map named_out) r ∙ none)
-loosens x (Some l) old old' none r =
+replacing : (x : ℕ) (l : Option (OutLink (PlainOut Load))) (old old' : List (LinkName × PlainOut Load)) → map named_out old ≡ [] → Replaces PlainPuts x l old old' → Replacing x (option_map out_of l) (option_map out_seen (at_some l None (λ k. k.end))) (first_of (map named_out old'))
+replacing x None old old' none r = ap first_of (ap (map named_out) r ∙ none)
+replacing x (Some l) old old' none r =
     let gets : EndPuts PlainPuts (item.End Moved) l.end (Some r.0) = r.1 in
     let at : l.end ≡ Some gets.0 = gets.2 in
     let new : r.0 ≡ gets.1 = cc gets.3 in
     let first : map named_out old' ≡ (ring_link x l.to.0 l.opened, out_seen r.0) ∷ [] =
     ap (map named_out) r.2 ∙ map-append named_out old ((ring_link x l.to.0 l.opened, r.0) ∷ []) ∙ ap (λ xs. xs ++ (ring_link x l.to.0 l.opened, out_seen r.0) ∷ []) none in
-    subst (λ e. Loosens x (Some (out_of l)) (option_map out_seen e) (first_of (map named_out old'))) (sym at)
+    subst (λ e. Replacing x (Some (out_of l)) (option_map out_seen e) (first_of (map named_out old'))) (sym at)
     (out_seen gets.1, ended_seen gets.0 gets.1 gets.4, ap first_of first ∙ ap (λ o. Some (ring_link x l.to.0 l.opened, out_seen o)) new)
 
 -- ---- the member
 
 -- the ends that stay, and an out end
-ends_looked : (m n : ANode) (v : Group) (out : Option OutSeen) → IsReady (shown_of m) → LooksBy v m n → (shown_of n).ends.out ≡ out → (shown_of n).ends.kept ≡ None → (tidied (shown_of n)).ends ≡ record (looked_ends v (shown_of m)) { out = out }
+ends_looked : (m n : ANode) (v : Group) (out : Option OutSeen) → IsReady (shown_of m) → LooksBy v m n → (shown_of n).ends.out ≡ out → (shown_of n).ends.returned ≡ None → (tidied (shown_of n)).ends ≡ record (looked_ends v (shown_of m)) { out = out }
 ends_looked m n v out ready by eo ek = ends_same (record (looked_ends v (shown_of m)) { out = out }) (tidied (shown_of n)).ends
     eo
-    (ek ∙ sym ready.kept)
+    (ek ∙ sym ready.returned)
     (ap (λ l. option_map in_seen (at_some l None (λ k. k.end))) by.current ∙ link_kept v m.id.0 m.current)
     (ap (λ ls. map (option_map in_seen) (map end_of ls)) by.door ∙ door_beside v m.id.0 m.door.items)
     (sym ready.old_outs)
@@ -112,25 +112,25 @@ abbrev pub asking_as : Bool → ANode → Shown
 asking_as asks m = record (shown_of m) { held = record (held_of m) { asks = asks } }
 
 pub looks_asked : (asks : Bool) (m n : ANode) (v : Group) (requests : List (Request (PlainIn Load))) → IsReady (shown_of m) → held_of n ≡ refreshed_held (asking_as asks m).held v → LooksBy v m n → MovesTo IsFreshPair (λ e. e.free) (λ e. e.ended) PlainPuts v m n requests
-    → Looks v (asking_as asks m) (tidied (shown_of n)) (to_post requests) (first_of (shown_of n).ends.old_outs)
+    → Looks v (asking_as asks m) (tidied (shown_of n)) (to_deposit requests) (first_of (shown_of n).ends.old_outs)
 looks_asked asks m n v requests ready held by moves = (stay (sends_to (held_of m).out (right_of v m.id.0)) refl, go (sends_to (held_of m).out (right_of v m.id.0)) refl)
   where
     stay : (b : Bool) → sends_to (held_of m).out (right_of v m.id.0) ≡ b
-        → When b ((tidied (shown_of n) ≡ record { held = refreshed_held (asking_as asks m).held v; ends = looked_ends v (asking_as asks m) }) × (to_post requests ≡ None) × (first_of (shown_of n).ends.old_outs ≡ None))
+        → When b ((tidied (shown_of n) ≡ record { held = refreshed_held (asking_as asks m).held v; ends = looked_ends v (asking_as asks m) }) × (to_deposit requests ≡ None) × (first_of (shown_of n).ends.old_outs ≡ None))
     stay false e = tt
     stay true e =
         let s : StaysOn m n requests = subst (λ b. When b (StaysOn m n requests)) e moves.0 in
         let out : (shown_of n).ends.out ≡ (shown_of m).ends.out = ap (λ l. option_map out_seen (at_some l None (λ k. k.end))) s.out in
-        let kept : (shown_of n).ends.kept ≡ None = ap (λ l. at_some l None (λ k. k.kept)) s.out ∙ ready.kept in (
+        let kept : (shown_of n).ends.returned ≡ None = ap (λ l. at_some l None (λ k. k.returned)) s.out ∙ ready.returned in (
           shown_same (record { held = refreshed_held (asking_as asks m).held v; ends = looked_ends v (asking_as asks m) }) (tidied (shown_of n)) held (ends_looked m n v (shown_of m).ends.out ready by out kept),
-          ap to_post s.requests_none,
+          ap to_deposit s.requests_none,
           ap first_of (ap (λ old. map named_out old.items) s.old_outs ∙ ready.old_outs),
         )
 
     go : (b : Bool) → sends_to (held_of m).out (right_of v m.id.0) ≡ b
         → When (not b) ((tidied (shown_of n) ≡ record { held = refreshed_held (asking_as asks m).held v; ends = record (looked_ends v (asking_as asks m)) { out = Some (opened_out m.credit.initial (first_sent (asking_as asks m) v)) } })
-        × (to_post requests ≡ Some (record { name = ring_link m.id.0 (right_of v m.id.0) v.version; end = Some (fresh_in m.credit.initial) }))
-        × Loosens m.id.0 (held_of m).out (shown_of m).ends.out (first_of (shown_of n).ends.old_outs))
+        × (to_deposit requests ≡ Some (record { name = ring_link m.id.0 (right_of v m.id.0) v.version; end = Some (fresh_in m.credit.initial) }))
+        × Replacing m.id.0 (held_of m).out (shown_of m).ends.out (first_of (shown_of n).ends.old_outs))
     go true e = tt
     go false e =
         let moved : (to : MemberId) × (to.0 ≡ right_of v m.id.0) × SendsOn IsFreshPair (λ e. e.free) (λ e. e.ended) PlainPuts v.version to m n requests =
@@ -142,15 +142,15 @@ looks_asked asks m n v requests ready held by moves = (stay (sends_to (held_of m
         ∙ ap (λ k. opened_out m.credit.initial (sent_of k)) s.opens.packet.1 in
         let out : (shown_of n).ends.out ≡ Some (opened_out m.credit.initial (first_sent (asking_as asks m) v)) =
         ap (λ l. option_map out_seen (at_some l None (λ k. k.end))) s.out ∙ ap (option_map out_seen) s.opens.there ∙ ap Some opened in
-        let kept : (shown_of n).ends.kept ≡ None = ap (λ l. at_some l None (λ k. k.kept)) s.out ∙ s.opens.kept in (
+        let kept : (shown_of n).ends.returned ≡ None = ap (λ l. at_some l None (λ k. k.returned)) s.out ∙ s.opens.returned in (
           shown_same (record { held = refreshed_held (asking_as asks m).held v; ends = record (looked_ends v (asking_as asks m)) { out = Some (opened_out m.credit.initial (first_sent (asking_as asks m) v)) } }) (tidied (shown_of n)) held
               (ends_looked m n v (Some (opened_out m.credit.initial (first_sent (asking_as asks m) v))) ready by out kept),
-          ap to_post s.opens.deposit ∙ ap (λ i. Some (record { name = record { from = m.id; to = i; view = v.version; kind = Ring }; end = Some (in_seen s.spare.link) })) (ap as_id moved.1)
+          ap to_deposit s.opens.deposit ∙ ap (λ i. Some (record { name = record { from = m.id; to = i; view = v.version; kind = Ring }; end = Some (in_seen s.spare.link) })) (ap as_id moved.1)
               ∙ ap (λ e. Some (record { name = ring_link m.id.0 (right_of v m.id.0) v.version; end = Some e })) (fresh_seen m.credit.initial s.spare.out s.spare.link s.ready.fresh),
-          loosens m.id.0 m.out m.old_outs.items n.old_outs.items ready.old_outs s.old_outs,
+          replacing m.id.0 m.out m.old_outs.items n.old_outs.items ready.old_outs s.old_outs,
         )
 
 -- of a member without a question
 pub looks_shown : (m n : ANode) (v : Group) (requests : List (Request (PlainIn Load))) → IsReady (shown_of m) → held_of n ≡ refreshed_held (held_of m) v → LooksBy v m n → MovesTo IsFreshPair (λ e. e.free) (λ e. e.ended) PlainPuts v m n requests
-    → Looks v (shown_of m) (tidied (shown_of n)) (to_post requests) (first_of (shown_of n).ends.old_outs)
+    → Looks v (shown_of m) (tidied (shown_of n)) (to_deposit requests) (first_of (shown_of n).ends.old_outs)
 looks_shown m n v requests ready held by moves = looks_asked m.asked m n v requests ready held by moves

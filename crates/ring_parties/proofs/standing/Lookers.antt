@@ -21,7 +21,7 @@ use Rattle.ring_parties.specs.Standing.{Places, MemberStands, is_to, has_in}
 use Rattle.ring_parties.specs.Acting.{beside, kept_end, looked_ends}
 use Rattle.ring_parties.proofs.standing.Writing.{in_filter, map_agree}
 use Rattle.ring_parties.proofs.standing.Placing.{stood_is, has_parts, current_has, waits_has}
-use Rattle.ring_parties.proofs.post.Collections.{filter_map}
+use Rattle.ring_parties.proofs.deposits.Collections.{filter_map}
 
 -- ---- lists
 
@@ -54,28 +54,28 @@ for_kept u x v s m h e =
     sym (stays_for u x v (incoming_in u s) h m.upto (omega arith)) ∙ stays_kept u x s v h (h.inv.current.lt x s rx e) (h.inv.current.receiver x s rx e) m.upto
 
 -- where none waits for it, its door is the whole one
-pub whole_door : (u : World) (p : Places) (x : ℕ) (a : Shown) (h : MemberStands u p x a) → filter (is_to u x) p.post ≡ [] → door_links u x ≡ h.door
+pub whole_door : (u : World) (p : Places) (x : ℕ) (a : Shown) (h : MemberStands u p x a) → filter (is_to u x) p.deposits ≡ [] → door_links u x ≡ h.door
 whole_door u p x a h none = h.comes ∙ ap (λ ys. h.door ++ ys) none ∙ append-nil h.door
 
 -- and it holds what the state has for it
-pub whole_held : (u : World) (p : Places) (x : ℕ) (a : Shown) → MemberStands u p x a → filter (is_to u x) p.post ≡ [] → a.held ≡ held_in u x
+pub whole_held : (u : World) (p : Places) (x : ℕ) (a : Shown) → MemberStands u p x a → filter (is_to u x) p.deposits ≡ [] → a.held ≡ held_in u x
 whole_held u p x a h none = h.held ∙ ap (λ d. record (held_in u x) { door = map (incoming_in u) d }) (sym (whole_door u p x a h none))
 
 -- it has a view, of which a test says which link it may take from still
 pub looker : (u u' : World) (p p' : Places) (x : ℕ) (view : Group) (kept : ℕ → Bool) (a b : Shown) (out' : Option OutSeen) → OwnEnds u → ((s : ℕ) → (member_at u x).current ≡ Some s → is_for view x (incoming_in u s) ≡ kept s)
-    → (h : MemberStands u p x a) → filter (is_to u x) p.post ≡ []
+    → (h : MemberStands u p x a) → filter (is_to u x) p.deposits ≡ []
     → b.held ≡ refreshed_held a.held view → b.ends ≡ record (looked_ends view a) { out = out' } → out' ≡ option_map p'.outs (member_at u' x).out
     → (member_at u' x).current ≡ kept_current kept (member_at u x).current
     → ((ds : List Incoming) → record (refreshed_held (held_in u x) view) { door = ds } ≡ record (held_in u' x) { door = ds })
     → ((s : ℕ) → s < length u.links → p'.ins s ≡ p.ins s) → ((s : ℕ) → s < length u.links → incoming_in u' s ≡ incoming_in u s)
-    → door_links u' x ≡ filter (λ s. stays view x (incoming_in u s)) (door_links u x) ++ filter (is_to u' x) p'.post
+    → door_links u' x ≡ filter (λ s. stays view x (incoming_in u s)) (door_links u x) ++ filter (is_to u' x) p'.deposits
     → MemberStands u' p' x b
 looker u u' p p' x view kept a b out' own test h none eh ee eo ec stand ins inc comes = record {
   door = filter keeps h.door;
-  comes = comes ∙ ap (λ d. filter keeps d ++ filter (is_to u' x) p'.post) at;
+  comes = comes ∙ ap (λ d. filter keeps d ++ filter (is_to u' x) p'.deposits) at;
   held = eh ∙ ap (λ k. refreshed_held k view) held_at ∙ stand (kept_door view x (door_in u x)) ∙ ap (λ ds. record (held_in u' x) { door = ds }) doors;
   out = ap (λ (e : EndsSeen). e.out) ee ∙ eo;
-  kept = ap (λ (e : EndsSeen). e.kept) ee ∙ h.kept;
+  returned = ap (λ (e : EndsSeen). e.returned) ee ∙ h.returned;
   link = ap (λ (e : EndsSeen). e.link) ee
       ∙ ap (λ (k : Held). kept_end view k.id k.current a.ends.link) held_at
       ∙ ap (kept_end view x (option_map (incoming_in u) (member_at u x).current)) h.link
@@ -125,14 +125,14 @@ pub beholder : (u u' : World) (p p' : Places) (z : ℕ) (m : Shown) → OwnEnds 
     → ((ds : List Incoming) → record (held_in u z) { door = ds } ≡ record (held_in u' z) { door = ds })
     → ((s : ℕ) → (member_at u z).out ≡ Some s → p'.outs s ≡ p.outs s)
     → ((s : ℕ) → s < length u.links → p'.ins s ≡ p.ins s) → ((s : ℕ) → s < length u.links → incoming_in u' s ≡ incoming_in u s)
-    → ((ds : List ℕ) → door_links u z ≡ ds ++ filter (is_to u z) p.post → door_links u' z ≡ ds ++ filter (is_to u' z) p'.post)
+    → ((ds : List ℕ) → door_links u z ≡ ds ++ filter (is_to u z) p.deposits → door_links u' z ≡ ds ++ filter (is_to u' z) p'.deposits)
     → MemberStands u' p' z m
 beholder u u' p p' z m own h eo ec stand outs ins inc comes = record {
   door = h.door;
   comes = comes h.door h.comes;
   held = h.held ∙ stand (map (incoming_in u) h.door) ∙ ap (λ ds. record (held_in u' z) { door = ds }) (sym (map_agree (incoming_in u') (incoming_in u) h.door (λ s e. inc s (stood_is u p z s m h e).0)));
   out = h.out ∙ sym (there_same p'.outs p.outs (member_at u z).out (λ s e. outs s e)) ∙ sym (ap (option_map p'.outs) eo);
-  kept = h.kept;
+  returned = h.returned;
   link = h.link ∙ sym (there_same p'.ins p.ins (member_at u z).current (λ s e. ins s (own.current z s e).0)) ∙ sym (ap (option_map p'.ins) ec);
   ends = h.ends ∙ sym (map_agree (λ s. Some (p'.ins s)) (λ s. Some (p.ins s)) h.door (λ s e. ap Some (ins s (stood_is u p z s m h e).0)));
   old_outs = h.old_outs;

@@ -1,4 +1,4 @@
--- Where the link of a place stands among the parties: at which member and where there, or in the post.
+-- Where the link of a place stands among the parties: at which member and where there, or in the deposits.
 use Rattle.std.proofs.Common.{◌≡◌, ℕ, ◌-◌, ◌<◌, ◌≤◌, Bool, true, false, cond, not, nat_eq, if◌then◌else◌, List, length, get_or, map, Option, Some, None, refl, sym, ap, subst, ◌∙◌, arith, ⊎_elim, inl, inr}
 use Rattle.std.specs.Prelude.{◌&&◌, ◌||◌, option_map, ◌⊎◌}
 use Rattle.std.specs.List.{filter, range_with_len, slice_get}
@@ -108,28 +108,28 @@ has_parts w s e = by_case (is_current w (link_at w s).receiver s) refl e
 -- what it has at its door is there, waits, and goes to it
 pub stood_is : (w : World) (p : Places) (x s : ℕ) (m : Shown) (h : MemberStands w p x m) → is_in s h.door ≡ true → (s < length w.links) × (waits_for w x s ≡ true) × ((link_at w s).receiver ≡ x)
 stood_is w p x s m h e =
-    in_door_is w x s (ap (is_in s) h.comes ∙ is_in-append s h.door (filter (is_to w x) p.post) ∙ ap (λ b. cond b true (is_in s (filter (is_to w x) p.post))) e)
+    in_door_is w x s (ap (is_in s) h.comes ∙ is_in-append s h.door (filter (is_to w x) p.deposits) ∙ ap (λ b. cond b true (is_in s (filter (is_to w x) p.deposits))) e)
 
 -- and so is what waits for it
-pub posted_is : (w : World) (p : Places) (x s : ℕ) (m : Shown) → MemberStands w p x m → (link_at w s).receiver ≡ x → is_in s p.post ≡ true → (s < length w.links) × (waits_for w x s ≡ true) × ((link_at w s).receiver ≡ x)
-posted_is w p x s m h to e =
-    in_door_is w x s (ap (is_in s) h.comes ∙ is_in-append s h.door (filter (is_to w x) p.post) ∙ later_true (is_in s h.door) (in_filter (is_to w x) s p.post ∙ ap (λ b. b && is_in s p.post) (ap (λ y. nat_eq y x) to ∙ nat_eq-same x) ∙ e))
+pub deposit_is : (w : World) (p : Places) (x s : ℕ) (m : Shown) → MemberStands w p x m → (link_at w s).receiver ≡ x → is_in s p.deposits ≡ true → (s < length w.links) × (waits_for w x s ≡ true) × ((link_at w s).receiver ≡ x)
+deposit_is w p x s m h to e =
+    in_door_is w x s (ap (is_in s) h.comes ∙ is_in-append s h.door (filter (is_to w x) p.deposits) ∙ later_true (is_in s h.door) (in_filter (is_to w x) s p.deposits ∙ ap (λ b. b && is_in s p.deposits) (ap (λ y. nat_eq y x) to ∙ nat_eq-same x) ∙ e))
 
 -- it has none twice
 pub stood_once : (w : World) (p : Places) (x : ℕ) (m : Shown) (h : MemberStands w p x m) → AreDistinct h.door
-stood_once w p x m h = distinct_first h.door (filter (is_to w x) p.post) (subst AreDistinct h.comes (door_distinct w x))
+stood_once w p x m h = distinct_first h.door (filter (is_to w x) p.deposits) (subst AreDistinct h.comes (door_distinct w x))
 
 -- nor does one wait for it twice
-pub posted_once : (w : World) (p : Places) (x : ℕ) (m : Shown) → MemberStands w p x m → AreDistinct (filter (is_to w x) p.post)
-posted_once w p x m h = distinct_second h.door (filter (is_to w x) p.post) (subst AreDistinct h.comes (door_distinct w x))
+pub deposited_once : (w : World) (p : Places) (x : ℕ) (m : Shown) → MemberStands w p x m → AreDistinct (filter (is_to w x) p.deposits)
+deposited_once w p x m h = distinct_second h.door (filter (is_to w x) p.deposits) (subst AreDistinct h.comes (door_distinct w x))
 
 -- what it has doesn't wait any more
-pub stood_not_posted : (w : World) (p : Places) (x s : ℕ) (m : Shown) (h : MemberStands w p x m) → is_in s h.door ≡ true → is_in s p.post ≡ false
-stood_not_posted w p x s m h e =
+pub stood_not_deposited : (w : World) (p : Places) (x s : ℕ) (m : Shown) (h : MemberStands w p x m) → is_in s h.door ≡ true → is_in s p.deposits ≡ false
+stood_not_deposited w p x s m h e =
     let to : (link_at w s).receiver ≡ x = (stood_is w p x s m h e).2 in
-    sym (ap (λ b. b && is_in s p.post) (ap (λ y. nat_eq y x) to ∙ nat_eq-same x))
-    ∙ sym (in_filter (is_to w x) s p.post)
-    ∙ distinct_parts s h.door (filter (is_to w x) p.post) (subst AreDistinct h.comes (door_distinct w x)) e
+    sym (ap (λ b. b && is_in s p.deposits) (ap (λ y. nat_eq y x) to ∙ nat_eq-same x))
+    ∙ sym (in_filter (is_to w x) s p.deposits)
+    ∙ distinct_parts s h.door (filter (is_to w x) p.deposits) (subst AreDistinct h.comes (door_distinct w x)) e
 
 -- ---- a place of a member
 

@@ -14,22 +14,22 @@ use Rattle.gm_member.specs.Shown.{in_name_of}
 use Rattle.ring_rules.proofs.work.OwnEnds.{OwnEnds}
 use Rattle.gm_member.proofs.Parts.{there_same, current_waits_not}
 use Rattle.ring_parties.specs.Ends.{OutSeen, InSeen, Carries}
-use Rattle.ring_parties.specs.Parties.{Shown, Posted, Parties, no_shown, node_at, with_node, with_out, with_in}
+use Rattle.ring_parties.specs.Parties.{Shown, Deposit, Parties, no_shown, node_at, with_node, with_out, with_in}
 use Rattle.ring_parties.specs.Standing.{Places, MemberStands, Shows, StandIn, name_of, is_to, has_out, has_in}
 use Rattle.ring_parties.proofs.standing.Writing.{placed, placed_same, placed_other, at_in, distinct_filter, map_other, set_made}
-use Rattle.ring_parties.proofs.standing.Placing.{GoBetween, StandsAt, at_receives, stood_is, posted_is, stood_once, posted_once, stood_not_posted, name_stands}
+use Rattle.ring_parties.proofs.standing.Placing.{GoBetween, StandsAt, at_receives, stood_is, deposit_is, stood_once, deposited_once, stood_not_deposited, name_stands}
 
 -- ---- the parties, and their ends
 
 -- the parties show the state as they did, and ends carry their links
 pub stands_of : {C : ℕ → Type 0} (initial : ℕ) (w : World) (q : Parties) (p : Places) → Shows C w q p → ((s : ℕ) → s < length w.links → has_in w s ≡ true → Carries w initial (link_at w s) (p.outs s) (p.ins s)) → StandIn initial w q p
-stands_of initial w q p h c = record { count = h.count; each = h.each; views = h.views; stopped = h.stopped; nobody_else = h.nobody_else; post = h.post; within = h.within; carry = c }
+stands_of initial w q p h c = record { count = h.count; each = h.each; views = h.views; stopped = h.stopped; nobody_else = h.nobody_else; deposits = h.deposits; within = h.within; carry = c }
 
 -- and so they do with other members and links that wait, and with other ends at the places, where these show it
-shows_as : {C : ℕ → Type 0} (w : World) (q : Parties) (p : Places) (nodes : List Shown) (post : List Posted) (outs : ℕ → OutSeen) (ins : ℕ → InSeen) → Shows C w q p → length nodes + 1 ≡ size w
-    → ((z : ℕ) → 1 ≤ z → z < size w → MemberStands w (record p { outs = outs; ins = ins }) z (get_or nodes (z - 1) no_shown)) → post ≡ map (λ s. record { name = name_of w s; end = Some (ins s) }) p.post
-    → Shows C w (record q { nodes = nodes; post = post }) (record p { outs = outs; ins = ins })
-shows_as w q p nodes post outs ins h count each posts = record { count = count; each = each; views = h.views; stopped = h.stopped; nobody_else = h.nobody_else; post = posts; within = h.within; carry = h.carry }
+shows_as : {C : ℕ → Type 0} (w : World) (q : Parties) (p : Places) (nodes : List Shown) (deposits : List Deposit) (outs : ℕ → OutSeen) (ins : ℕ → InSeen) → Shows C w q p → length nodes + 1 ≡ size w
+    → ((z : ℕ) → 1 ≤ z → z < size w → MemberStands w (record p { outs = outs; ins = ins }) z (get_or nodes (z - 1) no_shown)) → deposits ≡ map (λ s. record { name = name_of w s; end = Some (ins s) }) p.deposits
+    → Shows C w (record q { nodes = nodes; deposits = deposits }) (record p { outs = outs; ins = ins })
+shows_as w q p nodes deposits outs ins h count each pending_deposits = record { count = count; each = each; views = h.views; stopped = h.stopped; nobody_else = h.nobody_else; deposits = pending_deposits; within = h.within; carry = h.carry }
 
 -- another end is shown
 abbrev pub with_outs : Places → ℕ → OutSeen → Places
@@ -59,7 +59,7 @@ out_as w p x s o m out e h = record {
   comes = h.comes;
   held = h.held;
   out = e;
-  kept = h.kept;
+  returned = h.returned;
   link = h.link;
   ends = h.ends;
   old_outs = h.old_outs;
@@ -75,18 +75,18 @@ out_here w p x s o m e h = out_as w p x s o m (Some o) (sym (ap (option_map (pla
 
 -- of the link on which x sends
 pub out_shows : {C : ℕ → Type 0} (w : World) (q : Parties) (p : Places) (x s : ℕ) (o : OutSeen) → OwnEnds w → 1 ≤ x → x < size w → (member_at w x).out ≡ Some s → Shows C w q p → Shows C w (with_node q (x - 1) (with_out (node_at q (x - 1)) o)) (with_outs p s o)
-out_shows w q p x s o own a l e h = shows_as w q p (set q.nodes (x - 1) (with_out (node_at q (x - 1)) o)) q.post (placed p.outs s o) p.ins h
+out_shows w q p x s o own a l e h = shows_as w q p (set q.nodes (x - 1) (with_out (node_at q (x - 1)) o)) q.deposits (placed p.outs s o) p.ins h
     (let same : length (set q.nodes (x - 1) (with_out (node_at q (x - 1)) o)) ≡ length q.nodes = length-set q.nodes (x - 1) (with_out (node_at q (x - 1)) o) in omega (arith, same, h.count))
     (each_set w w q p (with_outs p s o) x (with_out (node_at q (x - 1)) o) h.count a l (out_here w p x s o (node_at q (x - 1)) e (h.each x a l))
     (λ z c m ne. out_other w p z s o (node_at q (z - 1)) (λ k. ne (sym (own.out z s k).1 ∙ (own.out x s e).1)) (h.each z c m)))
-    h.post
+    h.deposits
 
 -- of one that no member has
 pub out_hidden : {C : ℕ → Type 0} (w : World) (q : Parties) (p : Places) (s : ℕ) (o : OutSeen) → OwnEnds w → has_out w s ≡ false → Shows C w q p → Shows C w q (with_outs p s o)
-out_hidden w q p s o own none h = shows_as w q p q.nodes q.post (placed p.outs s o) p.ins h h.count
+out_hidden w q p s o own none h = shows_as w q p q.nodes q.deposits (placed p.outs s o) p.ins h h.count
     (λ z c m. out_other w p z s o (node_at q (z - 1))
     (λ k. false≢true (sym none ∙ ap (λ y. is_place (member_at w y).out s) (own.out z s k).1 ∙ ap (λ c. is_place c s) k ∙ nat_eq-same s)) (h.each z c m))
-    h.post
+    h.deposits
 
 -- ---- an in end
 
@@ -98,7 +98,7 @@ in_as w p x s n m link door h el ed = record {
   comes = h.comes;
   held = h.held;
   out = h.out;
-  kept = h.kept;
+  returned = h.returned;
   link = el;
   ends = ed;
   old_outs = h.old_outs;
@@ -141,12 +141,12 @@ in_here w p x place s n m h a = ⊎_elim
         (ap Some (placed_same p.ins s n)) (λ k ne. ap Some (placed_other p.ins s n k ne)))
 
 -- what stands at a member doesn't wait for it
-pub at_not_posted : (w : World) (p : Places) (x place s : ℕ) (m : Shown) (h : MemberStands w p x m) → OwnEnds w → StandsAt w x h.door place s → is_in s p.post ≡ false
-at_not_posted w p x place s m h o a = ⊎_elim
+pub at_not_deposited : (w : World) (p : Places) (x place s : ℕ) (m : Shown) (h : MemberStands w p x m) → OwnEnds w → StandsAt w x h.door place s → is_in s p.deposits ≡ false
+at_not_deposited w p x place s m h o a = ⊎_elim
     (λ (c : (nat_eq place 0 ≡ true) × ((member_at w x).current ≡ Some s)).
-    false_from_ne_true (is_in s p.post) (λ i. current_not_waits w x s c.1 (posted_is w p x s m h (o.current x s c.1).1 i).1))
+    false_from_ne_true (is_in s p.deposits) (λ i. current_not_waits w x s c.1 (deposit_is w p x s m h (o.current x s c.1).1 i).1))
     (λ (d : (nat_eq place 0 ≡ false) × (place - 1 < length h.door) × (get_or h.door (place - 1) 0 ≡ s)).
-    stood_not_posted w p x s m h (subst (λ t. is_in t h.door ≡ true) d.2 (at_in h.door (place - 1) d.1)))
+    stood_not_deposited w p x s m h (subst (λ t. is_in t h.door ≡ true) d.2 (at_in h.door (place - 1) d.1)))
     a
 
 -- of a link that stands at a member
@@ -156,27 +156,27 @@ in_shows w q p y place s n g own a l sl named h =
     let mine : MemberStands w p y (node_at q (y - 1)) = h.each y a l in
     let at : StandsAt w y mine.door place s = name_stands w p y place s (node_at q (y - 1)) mine g own sl named in
     let to : (link_at w s).receiver ≡ y = (at_receives w p y place s (node_at q (y - 1)) mine own at).1 in
-    let gone : is_in s p.post ≡ false = at_not_posted w p y place s (node_at q (y - 1)) mine own at in
-    shows_as w q p (set q.nodes (y - 1) (with_in (node_at q (y - 1)) place n)) q.post p.outs (placed p.ins s n) h
+    let gone : is_in s p.deposits ≡ false = at_not_deposited w p y place s (node_at q (y - 1)) mine own at in
+    shows_as w q p (set q.nodes (y - 1) (with_in (node_at q (y - 1)) place n)) q.deposits p.outs (placed p.ins s n) h
     (let same : length (set q.nodes (y - 1) (with_in (node_at q (y - 1)) place n)) ≡ length q.nodes = length-set q.nodes (y - 1) (with_in (node_at q (y - 1)) place n) in omega (arith, same, h.count))
     (each_set w w q p (with_ins p s n) y (with_in (node_at q (y - 1)) place n) h.count a l (in_here w p y place s n (node_at q (y - 1)) mine at)
     (λ z c m ne. in_other w p z s n (node_at q (z - 1)) (h.each z c m) (λ k. ne (sym (own.current z s k).1 ∙ to))
     (false_from_ne_true (is_in s (h.each z c m).door) (λ i. ne (sym (stood_is w p z s (node_at q (z - 1)) (h.each z c m) i).2 ∙ to)))))
-    (h.post ∙ sym (map_other (λ k. record { name = name_of w k; end = Some (p.ins k) }) (λ k. record { name = name_of w k; end = Some (placed p.ins s n k) }) p.post s gone
+    (h.deposits ∙ sym (map_other (λ k. record { name = name_of w k; end = Some (p.ins k) }) (λ k. record { name = name_of w k; end = Some (placed p.ins s n k) }) p.deposits s gone
     (λ k ne. ap (λ i. record { name = name_of w k; end = Some i }) (placed_other p.ins s n k ne))))
 
 -- of one that waits
-pub in_posts : {C : ℕ → Type 0} (w : World) (q : Parties) (p : Places) (j s : ℕ) (n : InSeen) → OwnEnds w → GoBetween w → j < length p.post → get_or p.post j 0 ≡ s → Shows C w q p
-    → Shows C w (record q { post = set q.post j (record { name = name_of w s; end = Some n }) }) (with_ins p s n)
-in_posts w q p j s n own go jl e h =
-    let there : is_in s p.post ≡ true = subst (λ t. is_in t p.post ≡ true) e (at_in p.post j jl) in
+pub in_all_deposits : {C : ℕ → Type 0} (w : World) (q : Parties) (p : Places) (j s : ℕ) (n : InSeen) → OwnEnds w → GoBetween w → j < length p.deposits → get_or p.deposits j 0 ≡ s → Shows C w q p
+    → Shows C w (record q { deposits = set q.deposits j (record { name = name_of w s; end = Some n }) }) (with_ins p s n)
+in_all_deposits w q p j s n own go jl e h =
+    let there : is_in s p.deposits ≡ true = subst (λ t. is_in t p.deposits ≡ true) e (at_in p.deposits j jl) in
     let y : ℕ = (link_at w s).receiver in
     let k : (1 ≤ y) × (y < size w) = go.receiver s (h.within s there) in
-    shows_as w q p q.nodes (set q.post j (record { name = name_of w s; end = Some n })) p.outs (placed p.ins s n) h h.count
+    shows_as w q p q.nodes (set q.deposits j (record { name = name_of w s; end = Some n })) p.outs (placed p.ins s n) h h.count
     (λ z c m. in_other w p z s n (node_at q (z - 1)) (h.each z c m)
-    (λ t. current_not_waits w z s t (posted_is w p z s (node_at q (z - 1)) (h.each z c m) (own.current z s t).1 there).1)
-    (false_from_ne_true (is_in s (h.each z c m).door) (λ i. false≢true (sym (stood_not_posted w p z s (node_at q (z - 1)) (h.each z c m) i) ∙ there))))
-    (ap (λ xs. set xs j (record { name = name_of w s; end = Some n })) h.post
-    ∙ set_made (λ k. record { name = name_of w k; end = Some (p.ins k) }) (λ k. record { name = name_of w k; end = Some (placed p.ins s n k) }) (is_to w y) p.post j s (record { name = name_of w s; end = Some n })
-    (posted_once w p y (node_at q (y - 1)) (h.each y k.0 k.1)) (nat_eq-same y) jl e
+    (λ t. current_not_waits w z s t (deposit_is w p z s (node_at q (z - 1)) (h.each z c m) (own.current z s t).1 there).1)
+    (false_from_ne_true (is_in s (h.each z c m).door) (λ i. false≢true (sym (stood_not_deposited w p z s (node_at q (z - 1)) (h.each z c m) i) ∙ there))))
+    (ap (λ xs. set xs j (record { name = name_of w s; end = Some n })) h.deposits
+    ∙ set_made (λ k. record { name = name_of w k; end = Some (p.ins k) }) (λ k. record { name = name_of w k; end = Some (placed p.ins s n k) }) (is_to w y) p.deposits j s (record { name = name_of w s; end = Some n })
+    (deposited_once w p y (node_at q (y - 1)) (h.each y k.0 k.1)) (nat_eq-same y) jl e
     (ap (λ i. record { name = name_of w s; end = Some i }) (placed_same p.ins s n)) (λ k ne. ap (λ i. record { name = name_of w k; end = Some i }) (placed_other p.ins s n k ne)))

@@ -18,8 +18,8 @@ use Rattle.activity.specs.declared.packet.Load.{Load}
 use Rattle.gm_member.specs.declared.links.OutLink.{OutLink}
 use Rattle.gm_member.specs.declared.links.InLink.{InLink}
 use Rattle.activity.specs.Kept.{Kept}
-use Rattle.activity.specs.Parcels.{Parcel}
-use Rattle.gm_member.specs.Parcels.{by_origin}
+use Rattle.activity.specs.Packets.{PacketSeen}
+use Rattle.gm_member.specs.Packets.{packet_by_id}
 use Rattle.gm_member.specs.Loads.{as_item}
 use Rattle.gm_member.specs.Held.{Held, Outgoing, at_some, up_refused, on_some, put_refused, out_refused, put_held, gain_refused, gained_held, first_at_door, picked_held, without}
 use Rattle.gm_member.specs.View.{out_of, end_of}
@@ -33,12 +33,12 @@ use Rattle.ring_parties.specs.Acting.{IsReady, PutsPacket, Gains, Picks, sent_of
 
 -- ---- what is seen of a member, part by part
 
-pub ends_same : (a b : EndsSeen) → b.out ≡ a.out → b.kept ≡ a.kept → b.link ≡ a.link → b.door ≡ a.door → b.old_outs ≡ a.old_outs → b.old_ins ≡ a.old_ins → b ≡ a
+pub ends_same : (a b : EndsSeen) → b.out ≡ a.out → b.returned ≡ a.returned → b.link ≡ a.link → b.door ≡ a.door → b.old_outs ≡ a.old_outs → b.old_ins ≡ a.old_ins → b ≡ a
 ends_same a b e1 e2 e3 e4 e5 e6 =
     ap (λ x. record b { out = x }) e1
-    ∙ ap (λ x. record b { out = a.out; kept = x }) e2
-    ∙ ap (λ x. record b { out = a.out; kept = a.kept; link = x }) e3
-    ∙ ap (λ x. record b { out = a.out; kept = a.kept; link = a.link; door = x }) e4
+    ∙ ap (λ x. record b { out = a.out; returned = x }) e2
+    ∙ ap (λ x. record b { out = a.out; returned = a.returned; link = x }) e3
+    ∙ ap (λ x. record b { out = a.out; returned = a.returned; link = a.link; door = x }) e4
     ∙ ap (λ x. record a { old_outs = x; old_ins = b.old_ins }) e5
     ∙ ap (λ x. record a { old_ins = x }) e6
 
@@ -49,8 +49,8 @@ shown_same a b e1 e2 = ap (λ x. record b { held = x }) e1 ∙ ap (λ x. record 
 abbrev pub end_there : Option (OutLink (PlainOut Load)) → Option (PlainOut Load)
 end_there l = at_some l None (λ x. x.end)
 
-abbrev pub kept_there : Option (OutLink (PlainOut Load)) → Option ℕ
-kept_there l = at_some l None (λ x. x.kept)
+abbrev pub returned_there : Option (OutLink (PlainOut Load)) → Option ℕ
+returned_there l = at_some l None (λ x. x.returned)
 
 -- what the end of a link to a member shows
 abbrev pub in_there : Option (InLink (PlainIn Load)) → Option InSeen
@@ -58,7 +58,7 @@ in_there l = option_map in_seen (at_some l None (λ x. x.end))
 
 -- ---- a put
 
-shown_put : (o p : PlainOut Load) (k : Parcel) → PlainPuts o (as_item k) p → ActsOut (Some (sent_of (by_origin k)) ∷ []) [] false (out_seen o) (out_seen p)
+shown_put : (o p : PlainOut Load) (k : PacketSeen) → PlainPuts o (as_item k) p → ActsOut (Some (sent_of (packet_by_id k)) ∷ []) [] false (out_seen o) (out_seen p)
 shown_put o p k e = record {
   waiting = ap (map content) e.0 ∙ map-append content o.waiting.items (as_item k ∷ []);
   free = e.1;
@@ -78,7 +78,7 @@ puts_shown m n (l, l', ml, nl', (k, said, (o, p, lo, lp, puts)), kept, (current,
   shown_same (record { held = put_held (held_of m); ends = record (ends_seen (ends_of m)) { out = Some (out_seen p) } }) (shown_of n) held
       (ends_same (record (ends_seen (ends_of m)) { out = Some (out_seen p) }) (ends_seen (ends_of n))
       (ap (option_map out_seen) (ap end_there nl' ∙ lp))
-      (ap kept_there nl' ∙ kept ∙ sym (ap kept_there ml))
+      (ap returned_there nl' ∙ kept ∙ sym (ap returned_there ml))
       (ap in_there current) (ap (λ v. map (option_map in_seen) (map end_of v.items)) door) (ap (λ v. map named_out v.items) old_outs) (ap (λ v. map named_in v.items) old_ins)),
 )
 
@@ -90,11 +90,11 @@ same_looks a b looks = ⊎_elim
     (λ (x : (o : PlainOut Load) × (p : PlainOut Load) × (a ≡ Some o) × (b ≡ Some p) × (p ≡ o)). x.3 ∙ ap Some x.4 ∙ sym x.2)
     looks
 
-pub same_out : (m n : ANode) → LooksOut (λ a b. b ≡ a) m n → (end_there n.out ≡ end_there m.out) × (kept_there n.out ≡ kept_there m.out)
+pub same_out : (m n : ANode) → LooksOut (λ a b. b ≡ a) m n → (end_there n.out ≡ end_there m.out) × (returned_there n.out ≡ returned_there m.out)
 same_out m n looks = ⊎_elim
-    (λ (e : n.out ≡ m.out). (ap end_there e, ap kept_there e))
-    (λ (x : (l : OutLink (PlainOut Load)) × (l' : OutLink (PlainOut Load)) × (m.out ≡ Some l) × (n.out ≡ Some l') × EndLooks (λ a b. b ≡ a) l.end l'.end × (l'.kept ≡ l.kept)).
-    (ap end_there x.3 ∙ same_looks _ _ x.4 ∙ sym (ap end_there x.2), ap kept_there x.3 ∙ x.5 ∙ sym (ap kept_there x.2)))
+    (λ (e : n.out ≡ m.out). (ap end_there e, ap returned_there e))
+    (λ (x : (l : OutLink (PlainOut Load)) × (l' : OutLink (PlainOut Load)) × (m.out ≡ Some l) × (n.out ≡ Some l') × EndLooks (λ a b. b ≡ a) l.end l'.end × (l'.returned ≡ l.returned)).
+    (ap end_there x.3 ∙ same_looks _ _ x.4 ∙ sym (ap end_there x.2), ap returned_there x.3 ∙ x.5 ∙ sym (ap returned_there x.2)))
     looks.1
 
 -- ---- a put that was refused
@@ -173,7 +173,7 @@ none_back_end : (e : Option (PlainOut Load)) → MatchOption e ⊤ (λ o. grants
 none_back_end None h = refl
 none_back_end (Some o) h = ap (λ gs. refuse_if (is_empty gs) NoGrant) h
 
-none_back : (l : Option (OutLink (PlainOut Load))) → MatchOption l ⊤ (λ x. (x.kept ≡ None) × MatchOption x.end ⊤ (λ o. grants o ≡ [])) → refuse_if (is_empty (back_of (option_map out_seen (end_there l)))) NoGrant ≡ Some NoGrant
+none_back : (l : Option (OutLink (PlainOut Load))) → MatchOption l ⊤ (λ x. (x.returned ≡ None) × MatchOption x.end ⊤ (λ o. grants o ≡ [])) → refuse_if (is_empty (back_of (option_map out_seen (end_there l)))) NoGrant ≡ Some NoGrant
 none_back None h = refl
 none_back (Some l) h = none_back_end l.end h.1
 
@@ -199,21 +199,21 @@ shown_gain o p amount e = record {
 }
 
 -- m looked and is n, which keeps the grant as p, which gained it as q
-pub gain_shown : (m n p q : ANode) (amount : ℕ) → IsReady (shown_of m) → LooksOut (λ a b. b ≡ a) m n → KeepsGrant PlainGains amount n p → held_of n ≡ held_of m → held_of p ≡ held_of n → held_of q ≡ gained_held (held_of p) amount → ends_of q ≡ record (ends_of p) { kept = None } → Gains (shown_of m) (shown_of q)
+pub gain_shown : (m n p q : ANode) (amount : ℕ) → IsReady (shown_of m) → LooksOut (λ a b. b ≡ a) m n → KeepsGrant PlainGains amount n p → held_of n ≡ held_of m → held_of p ≡ held_of n → held_of q ≡ gained_held (held_of p) amount → ends_of q ≡ record (ends_of p) { returned = None } → Gains (shown_of m) (shown_of q)
 gain_shown m n p q amount ready looks ((current, door, old_outs, old_ins), l, l', nl, pl, kept, how) hn hp hq ends =
-    let e : (end_there n.out ≡ end_there m.out) × (kept_there n.out ≡ kept_there m.out) = same_out m n looks in
-    let none : l.kept ≡ None = sym (ap kept_there nl) ∙ e.1 ∙ ready.kept in
+    let e : (end_there n.out ≡ end_there m.out) × (returned_there n.out ≡ returned_there m.out) = same_out m n looks in
+    let none : l.returned ≡ None = sym (ap returned_there nl) ∙ e.1 ∙ ready.returned in
     ⊎_elim
-    (λ (x : (l.kept ≡ Some amount) × (l'.end ≡ l.end)). absurd (cc (x.0, none)))
-    (λ (x : (l.kept ≡ None) × (o : PlainOut Load) × (r : PlainOut Load) × (l.end ≡ Some o) × (l'.end ≡ Some r) × PlainGains o amount r). (
+    (λ (x : (l.returned ≡ Some amount) × (l'.end ≡ l.end)). absurd (cc (x.0, none)))
+    (λ (x : (l.returned ≡ None) × (o : PlainOut Load) × (r : PlainOut Load) × (l.end ≡ Some o) × (l'.end ≡ Some r) × PlainGains o amount r). (
       amount,
       out_seen x.1,
       out_seen x.2,
       ap (option_map out_seen) (sym e.0 ∙ ap end_there nl ∙ x.3),
       shown_gain x.1 x.2 amount x.5,
       shown_same (record { held = gained_held (held_of m) amount; ends = record (ends_seen (ends_of m)) { out = Some (out_seen x.2) } }) (shown_of q) (hq ∙ ap (λ h. gained_held h amount) (hp ∙ hn))
-          (ap ends_seen ends ∙ ends_same (record (ends_seen (ends_of m)) { out = Some (out_seen x.2) }) (ends_seen (record (ends_of p) { kept = None }))
-          (ap (option_map out_seen) (ap end_there pl ∙ x.4)) (sym ready.kept)
+          (ap ends_seen ends ∙ ends_same (record (ends_seen (ends_of m)) { out = Some (out_seen x.2) }) (ends_seen (record (ends_of p) { returned = None }))
+          (ap (option_map out_seen) (ap end_there pl ∙ x.4)) (sym ready.returned)
           (ap in_there (current ∙ looks.0.0)) (ap (λ v. map (option_map in_seen) (map end_of v.items)) (door ∙ looks.0.1)) (ap (λ v. map named_out v.items) (old_outs ∙ looks.0.2)) (ap (λ v. map named_in v.items) (old_ins ∙ looks.0.3))),
     ))
     how
@@ -237,7 +237,7 @@ picks_shown m n i first (within, current, door, out, old_outs, old_ins) held =
       first,
       shown_same (record { held = picked_held (held_of m); ends = record (ends_seen (ends_of m)) { link = get_or doors i None; door = without i doors } }) (shown_of n) held
           (ends_same (record (ends_seen (ends_of m)) { link = get_or doors i None; door = without i doors }) (ends_seen (ends_of n))
-          (ap (λ l. option_map out_seen (end_there l)) out) (ap kept_there out)
+          (ap (λ l. option_map out_seen (end_there l)) out) (ap returned_there out)
           (picked_current m.door.items i n.current within current)
           (ap (λ xs. map (option_map in_seen) (map end_of xs)) door ∙ ap (map (option_map in_seen)) (sym (without_made end_of i m.door.items)) ∙ sym (without_made (option_map in_seen) i (map end_of m.door.items)))
           (ap (λ v. map named_out v.items) old_outs) (ap (λ v. map named_in v.items) old_ins)),

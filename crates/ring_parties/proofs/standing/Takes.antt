@@ -20,26 +20,26 @@ use Rattle.gm_member.specs.declared.fault.MemberFault.TheVariants as faults
 use Rattle.gm_member.specs.Faults.{refused_as}
 use Rattle.activity.specs.declared.packet.Load.{Load}
 use Rattle.gm_member.specs.declared.links.InLink.{InLink}
-use Rattle.activity.specs.Parcels.{Parcel}
-use Rattle.gm_member.specs.Parcels.{by_origin}
-use Rattle.gm_member.specs.Loads.{as_item, parcel_in, GrantsIf}
+use Rattle.activity.specs.Packets.{PacketSeen}
+use Rattle.gm_member.specs.Packets.{packet_by_id}
+use Rattle.gm_member.specs.Loads.{as_item, packet_seen, GrantsIf}
 use Rattle.gm_member.specs.Held.{Held, Incoming, at_some, on_some, take_refused, took_held}
 use Rattle.gm_member.specs.View.{in_of, end_of}
 use Rattle.gm_member.specs.Ends.{EndLooks, NothingIsNext, EndIsNext, PacketIsNext, IsTakeRefusal, IsEndRefusal, IsTakeFault}
 use Rattle.gm_member.specs.Shown.{held_of, ends_of, LooksIn, TookOn, SameOut}
 use Rattle.ring_rules.proofs.rests.Asked.{no_version}
-use Rattle.ring_parties.specs.Ends.{Sent, InSeen}
+use Rattle.ring_parties.specs.Ends.{PacketShown, InSeen}
 use Rattle.ring_parties.specs.Parties.{ANode, Shown, content, out_seen, in_seen, named_out, named_in, ends_seen, shown_of}
 use Rattle.ring_parties.specs.Acting.{IsReady, TakesIn, TakesPacket, sent_of, due_of, items_refused, end_refused, first_item, packet_refused, link_end_refused}
 use Rattle.ring_rules.specs.declared.refused.Refused.{Refused}
 use Rattle.ring_rules.specs.declared.refused.Refused.TheVariants.{NotEnabled}
 use Rattle.ring_parties.specs.Tried.{Tries}
 use Rattle.ring_parties.proofs.lists.Grants.{nothing_sent, granted}
-use Rattle.ring_parties.proofs.standing.Shown.{end_there, kept_there, in_there, ends_same, shown_same}
+use Rattle.ring_parties.proofs.standing.Shown.{end_there, returned_there, in_there, ends_same, shown_same}
 
 -- ---- a packet that was taken
 
-shown_take : (due : Option ℕ) (k : Parcel) (i j a b : PlainIn Load) → i.late ≡ None → ((q : Sent) (rest : List (Option Sent)) → (in_seen i).items ≡ Some q ∷ rest → 0 < i.free) → PlainLooked i j → PlainTakes j (as_item k) a → GrantsIf due PlainSends a b → TakesIn due (in_seen i) (sent_of (by_origin k)) (in_seen b)
+shown_take : (due : Option ℕ) (k : PacketSeen) (i j a b : PlainIn Load) → i.late ≡ None → ((q : PacketShown) (rest : List (Option PacketShown)) → (in_seen i).items ≡ Some q ∷ rest → 0 < i.free) → PlainLooked i j → PlainTakes j (as_item k) a → GrantsIf due PlainSends a b → TakesIn due (in_seen i) (sent_of (packet_by_id k)) (in_seen b)
 shown_take due k i j a b late room looked takes grants =
     let first : (j.given.items ≡ i.given.items) × (j.late ≡ None) = nothing_sent i.given.items j.given.items i.late j.late late looked.1.0 in
     let second : (a.given.items ≡ j.given.items) × (a.late ≡ None) = nothing_sent j.given.items a.given.items j.late a.late first.1 takes.1.0 in
@@ -47,12 +47,12 @@ shown_take due k i j a b late room looked takes grants =
     let given : a.given.items ≡ i.given.items = second.0 ∙ first.0 in
     let slots : length a.given.items + a.free ≡ length i.given.items + i.free = takes.1.1 ∙ looked.1.1 in
     let free : 0 < a.free =
-    let l : 0 < i.free = room (sent_of (by_origin k)) (map content a.items.items) (ap (map content) all) in
+    let l : 0 < i.free = room (sent_of (packet_by_id k)) (map content a.items.items) (ap (map content) all) in
     let n : length a.given.items ≡ length i.given.items = ap length given in
     omega arith in
     let last : (b.items ≡ a.items) × (b.given.items ≡ with_grant a.given.items due) × (b.late ≡ None) × (length b.given.items + b.free ≡ length a.given.items + a.free) × (b.initial ≡ a.initial) = granted due a b free second.1 grants in
     record {
-      items = ap (map content) all ∙ ap (λ v. Some (sent_of (by_origin k)) ∷ map content v.items) (sym last.0);
+      items = ap (map content) all ∙ ap (λ v. Some (sent_of (packet_by_id k)) ∷ map content v.items) (sym last.0);
       given = last.1 ∙ ap (λ xs. with_grant xs due) given;
       late = last.2;
       room = last.3 ∙ slots;
@@ -61,7 +61,7 @@ shown_take due k i j a b late room looked takes grants =
 
 -- what a member has that takes from this end
 abbrev IsReadyIn : InSeen → Type 0
-IsReadyIn n = (n.late ≡ None) × ((k : Sent) (rest : List (Option Sent)) → n.items ≡ Some k ∷ rest → 0 < n.free)
+IsReadyIn n = (n.late ≡ None) × ((k : PacketShown) (rest : List (Option PacketShown)) → n.items ≡ Some k ∷ rest → 0 < n.free)
 
 pub ready_in : (m : ANode) (l : InLink (PlainIn Load)) (i : PlainIn Load) → m.current ≡ Some l → l.end ≡ Some i → IsReady (shown_of m) → IsReadyIn (in_seen i)
 ready_in m l i ml li ready =
@@ -74,19 +74,19 @@ in_is m l i ml li = ap in_there ml ∙ ap (option_map in_seen) li
 -- the member with another end of the link from which it takes
 with_link : (m n : ANode) (i : Option InSeen) → in_there n.current ≡ i → SameOut m n → ends_seen (ends_of n) ≡ record (ends_seen (ends_of m)) { link = i }
 with_link m n i is (out, door, old_outs, old_ins) =
-    ends_same (record (ends_seen (ends_of m)) { link = i }) (ends_seen (ends_of n)) (ap (λ x. option_map out_seen (end_there x)) out) (ap kept_there out) is
+    ends_same (record (ends_seen (ends_of m)) { link = i }) (ends_seen (ends_of n)) (ap (λ x. option_map out_seen (end_there x)) out) (ap returned_there out) is
     (ap (λ v. map (option_map in_seen) (map end_of v.items)) door) (ap (λ v. map named_out v.items) old_outs) (ap (λ v. map named_in v.items) old_ins)
 
-pub takes_shown : (m n : ANode) (k : Parcel) → IsReady (shown_of m) → TookOn (λ e. e.late) PlainTakes PlainLooked PlainSends k m n → held_of n ≡ took_held (held_of m) (by_origin k) → TakesPacket (shown_of m) (shown_of n)
+pub takes_shown : (m n : ANode) (k : PacketSeen) → IsReady (shown_of m) → TookOn (λ e. e.late) PlainTakes PlainLooked PlainSends k m n → held_of n ≡ took_held (held_of m) (packet_by_id k) → TakesPacket (shown_of m) (shown_of n)
 takes_shown m n k ready (l, l', ml, nl, (i, j, a, b, li, looked, takes, waits, grants, lb), same) held =
     let h : IsReadyIn (in_seen i) = ready_in m l i ml li ready in
     let due : due_of (held_of m) ≡ grant_due l.counted = ap (λ c. at_some (option_map in_of c) None (λ x. grant_due x.counted)) ml in (
-      by_origin k,
+      packet_by_id k,
       in_seen i,
       in_seen b,
       in_is m l i ml li,
-      subst (λ d. TakesIn d (in_seen i) (sent_of (by_origin k)) (in_seen b)) (sym due) (shown_take (grant_due l.counted) k i j a b h.0 h.1 looked takes grants),
-      shown_same (record { held = took_held (held_of m) (by_origin k); ends = record (ends_seen (ends_of m)) { link = Some (in_seen b) } }) (shown_of n) held (with_link m n (Some (in_seen b)) (in_is n l' b nl lb) same),
+      subst (λ d. TakesIn d (in_seen i) (sent_of (packet_by_id k)) (in_seen b)) (sym due) (shown_take (grant_due l.counted) k i j a b h.0 h.1 looked takes grants),
+      shown_same (record { held = took_held (held_of m) (packet_by_id k); ends = record (ends_seen (ends_of m)) { link = Some (in_seen b) } }) (shown_of n) held (with_link m n (Some (in_seen b)) (in_is n l' b nl lb) same),
     )
 
 -- ---- an end that was looked at
@@ -157,7 +157,7 @@ version_some : (need have : ℕ) → have < need → version_refusal need have �
 version_some need have l = let t : nat_lt have need ≡ true = grind (arith, nat_tests) in rw t refl
 
 -- what the first item shows
-packet_first : (x : Load) (xs : List (Item Load)) (v : ℕ) → IsPrefix (item.Load x ∷ []) xs → items_refused v (map content xs) ≡ version_refusal (parcel_in x).view v
+packet_first : (x : Load) (xs : List (Item Load)) (v : ℕ) → IsPrefix (item.Load x ∷ []) xs → items_refused v (map content xs) ≡ version_refusal (packet_seen x).view v
 packet_first x xs v h = ap (λ ys. items_refused v (map content ys)) (sym h.1)
 
 end_first : (reason : EndReason) (xs : List (Item Load)) (v : ℕ) → IsPrefix (item.End reason ∷ []) xs → items_refused v (map content xs) ≡ Some EndNext
@@ -220,7 +220,7 @@ take_refusal m n fault r is ready looks why = ⊎_elim
     later_take (held_of m) _ x.0 ∙ shown_before m n (λ e. IsTakeFault known waiting (held_of m).view.version fault e) (λ s. items_refused (held_of m).view.version (first_item s) ≡ Some r) ready looks (fault_at (held_of m).view.version r fault is) x.1)
     why
 
-pub take_enabled : (m n : ANode) (k : Parcel) → TookOn (λ e. e.late) PlainTakes PlainLooked PlainSends k m n → k.view ≤ (held_of m).view.version → take_refused (held_of m) None ≡ None → packet_refused (shown_of m) ≡ None
+pub take_enabled : (m n : ANode) (k : PacketSeen) → TookOn (λ e. e.late) PlainTakes PlainLooked PlainSends k m n → k.view ≤ (held_of m).view.version → take_refused (held_of m) None ≡ None → packet_refused (shown_of m) ≡ None
 take_enabled m n k (l, l', ml, nl, (i, j, a, b, li, looked, takes, waits, grants, lb), same) older enabled =
     let all : i.items.items ≡ as_item k ∷ a.items.items = sym (ap (λ v. v.items) looked.0) ∙ takes.0 in
     later_take (held_of m) _ enabled

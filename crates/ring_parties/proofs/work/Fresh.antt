@@ -28,7 +28,7 @@ use Rattle.ring_rules.proofs.work.Places.{IsWritten, KeepsPlaces, left_fails, wr
 use Rattle.ring_rules.proofs.work.Refreshed.{opened_world, old_links, sending_member, link_old, link_new, links_more, refresh_cases}
 use Rattle.gm_member.specs.Stands.{waits_for}
 use Rattle.ring_parties.proofs.standing.Placing.{GoBetween, go_between}
-use Rattle.ring_parties.proofs.post.Collections.{AreFresh}
+use Rattle.ring_parties.proofs.deposits.Collections.{AreFresh}
 
 -- ---- the place of a link that waits
 

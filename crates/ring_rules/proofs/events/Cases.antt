@@ -10,13 +10,14 @@ use Rattle.ring_names.specs.declared.reason.Reason.TheVariants as reason
 use Rattle.group_view.specs.Change.{marked}
 use Rattle.group_view.specs.View.{is_dead, is_alias, entry_in}
 use Rattle.group_view.proofs.Rings.{nat_eq-is}
+use Rattle.group_view.proofs.Truth.{none_there}
 use Rattle.ring_rules.specs.Machine.{Waiting, Up, Halted, World, row_at, member_at, link_at, view_in, newest, runs, runs_phase}
 use Rattle.ring_rules.specs.Step.{size, put_on, gain_on, publish_at, take_from, begin_from, come_to, current_is, leave_link, stop_at, end_out, with_view}
 use Rattle.ring_rules.specs.declared.kind.LinkStep.TheVariants as step
 use Rattle.ring_rules.specs.declared.kind.ViewChange.TheVariants as change
 use Rattle.ring_rules.specs.Event.{Event, Saying, Own, OfQueue, Kind, Says, Steps, Changes, Stops, Reads, Tells, kind_of, MayPublish, op_as, op_refusal, op_done, queue_message, saying_refusal, said, synced_refusal, missing_refusal, synced_view, is_stopped, id_of, of_member, on_link, put_refusal, take_refusal, end_refusal, gain_refusal, version_refusal, refresh_refusal, at_door, mark_refusal, erase_refusal, not_retired, erased_view, admit_refusal, refreshed, by_of, is_for_up_kind, phase_refusal, further_as, doing_as, refused_as, refused_at, refusal, at_found, taken_by, done_as, done_at, effect}
 use Rattle.ring_rules.proofs.events.WhatRefuses.{MayTake, MayBegin, MayLook, MayMark, MayErase, MaySync}
-use Rattle.ring_rules.proofs.events.Refusals.{none_of, refuse_none, none_there, id_within, not_less, not_false, up_or_waits}
+use Rattle.ring_rules.proofs.events.Refusals.{none_of, refuse_none, id_within, not_less, not_false, up_or_waits}
 use Rattle.ring_rules.proofs.events.Enabled.{up_none, take_some, take_version, end_empty, mark_lives, mark_stops, refresh_later, refresh_upto}
 use Rattle.ring_rules.proofs.invariants.FromLeft.{IsGood, version_some}
 

@@ -1,5 +1,5 @@
 -- What it means that no condition of an event fails.
-use Rattle.std.proofs.Common.{cond, ◌≡◌, ℕ, ◌+◌, ◌<◌, ◌≤◌, Bool, true, false, not, nat_lt, bytes_eq, List, [], ◌∷◌, ◌++◌, length, drop, set, Option, Some, None, is_some, ◌⊎◌, inl, inr, refl, sym, ap, ◌∙◌, arith}
+use Rattle.std.proofs.Common.{cond, ◌≡◌, ℕ, ◌+◌, ◌<◌, ◌≤◌, Bool, true, false, not, nat_lt, bytes_eq, List, [], ◌∷◌, ◌++◌, length, drop, set, Option, Some, None, ◌⊎◌, inl, inr, refl, sym, ap, ◌∙◌, arith}
 use Rattle.std.specs.Prelude.{◌||◌, position, option_map}
 use Rattle.std.proofs.lemmas.Bool.{ltb-false}
 use Rattle.std.proofs.lemmas.List.{length-set, set-append_left, length-drop}
@@ -20,11 +20,6 @@ none_of false r later h = (refl, h)
 pub refuse_none : (b : Bool) (r : Reason) → refuse_if b r ≡ None → b ≡ false
 refuse_none true r h = cc
 refuse_none false r h = refl
-
--- a link that isn't there
-pub none_there : {A : Type 0} (o : Option A) → is_some o ≡ false → o ≡ None
-none_there None h = refl
-none_there (Some s) h = cc
 
 -- who hasn't stopped runs
 pub runs_from : (f : Phase) → is_stopped f ≡ false → runs_phase f ≡ true

@@ -1,6 +1,6 @@
 -- The links of a ring in which nobody has a step to do: which of them are open, that they hold nothing, and that neighbours agree.
-use Rattle.ring_rules.proofs.events.Refusals.{none_there}
 use Rattle.group_view.proofs.Lists.{at_range}
+use Rattle.group_view.proofs.Truth.{none_there}
 use Rattle.std.proofs.Common.{◌≡◌, ◌≢◌, ℕ, ◌<◌, Bool, true, false, not, nat_eq, nat_le, max, [], length, sum, Option, Some, None, is_some, refl, sym, ap, subst, ◌∙◌, arith}
 use Rattle.std.specs.Prelude.{◌&&◌, ◌||◌}
 use Rattle.std.proofs.lemmas.Bool.{false≢true, and_parts, and_from, not-true, false_from_ne_true}

@@ -1,14 +1,15 @@
 -- What a member hears of a publisher is the publisher's log, in order.
-use Rattle.std.proofs.Common.{◌≡◌, ◌≢◌, ℕ, zero, suc, ◌+◌, ◌<◌, ◌≤◌, max, Bool, true, false, List, [], ◌∷◌, ◌++◌, length, take, drop, None, refl, sym, ap, subst, ◌∙◌, ⊎_elim, arith, min, get_or}
+use Rattle.std.proofs.Common.{◌≡◌, ◌≢◌, ℕ, zero, suc, ◌+◌, ◌<◌, ◌≤◌, max, Bool, true, false, List, [], ◌∷◌, ◌++◌, length, take, drop, None, refl, sym, ap, subst, ◌∙◌, ⊎_elim, arith, get_or}
 use Rattle.std.proofs.Math.Nat.{max-eq_right}
 use Rattle.std.proofs.lemmas.Bool.{cases_eq, cases_lt}
-use Rattle.std.proofs.lemmas.List.{take-append-le, take-append-drop, take-take, take_all, length_push, drop_all, length-take}
+use Rattle.std.proofs.lemmas.List.{take-append-le, drop-append-le, take-take, take_all, length_push, drop_all, length-take-le}
 use Rattle.queue_core.specs.declared.message.Message.{Message}
 use Rattle.ring_names.specs.declared.numbers.CreditSpec.{CreditSpec}
 use Rattle.ring_rules.proofs.events.Leaves.{come_member}
 use Rattle.ring_rules.specs.declared.numbers.Numbers.{Numbers}
 use Rattle.ring_rules.specs.Rows.{Row, published_row, messages_between, taken_row, no_row}
 use Rattle.group_view.specs.Change.{AreOpeningNames}
+use Rattle.group_view.proofs.Lists.{between_joined}
 use Rattle.ring_rules.specs.Machine.{World, no_member, row_at, numbers_at, member_at, link_at, view_in, oldest}
 use Rattle.ring_rules.specs.Step.{size, log_of, put_on, gain_on, published, publish_at, is_owned, taker, take_from, stopped, stop_at, open_to, opening, begun_row, begun, begin_from, come_to}
 use Rattle.ring_rules.proofs.events.WhatRefuses.{MayTake}
@@ -37,26 +38,9 @@ EachHasHeard w = (q p : ℕ) → HasHeard (log_of w p) (row_of w q p)
 
 -- ---- lists
 
--- what stands behind so many of a list, and what comes behind it
-drop_before : (base : ℕ) (xs ys : List Message) → base ≤ length xs → drop base (xs ++ ys) ≡ drop base xs ++ ys
-drop_before zero xs ys l = refl
-drop_before (suc base) [] ys l = absurd (omega arith)
-drop_before (suc base) (x ∷ xs) ys l = drop_before base xs ys (omega arith)
-
-taken_length : (n : ℕ) (xs : List Message) → n ≤ length xs → length (take n xs) ≡ n
-taken_length n xs l = let e : length (take n xs) ≡ min n (length xs) = length-take n xs in omega arith
-
--- some messages, and those after them up to a greater number
-pub heard_more : (base got upto : ℕ) (log : List Message) → base ≤ got → got ≤ upto → upto ≤ length log → messages_between base got log ++ messages_between got upto log ≡ messages_between base upto log
-heard_more base got upto log b l m =
-    let front : take got (take upto log) ≡ take got log = take-take got upto log l in
-    let long : length (take got log) ≡ got = taken_length got log (omega arith) in
-    sym (drop_before base (take got log) (drop got (take upto log)) (omega arith))
-    ∙ ap (λ xs. drop base (xs ++ drop got (take upto log))) (sym front) ∙ ap (drop base) (take-append-drop got (take upto log))
-
 -- nothing stands between a number and itself
 pub between_none : (n : ℕ) (log : List Message) → n ≤ length log → messages_between n n log ≡ []
-between_none n log l = drop_all n (take n log) (omega (arith, taken_length n log l))
+between_none n log l = drop_all n (take n log) (omega (arith, length-take-le n log l))
 
 -- what is heard by a later state, of one that had got something or had the base: the log that grew, from the number before to
 -- the number after
@@ -69,7 +53,7 @@ heard_later heard heard' log log' base base' got got' e e' b b' l l' grows le ke
     (λ (some : 1 ≤ got).
     let same : base' ≡ base = keeps (omega arith) in
     let front : messages_between base got log' ≡ heard = ap (drop base) (sym (take-take got (length log) log' l) ∙ ap (take got) grows) ∙ sym e in
-    e' ∙ ap (λ n. messages_between n got' log') same ∙ sym (heard_more base got got' log' b le l') ∙ ap (λ xs. xs ++ messages_between got got' log') front
+    e' ∙ ap (λ n. messages_between n got' log') same ∙ sym (between_joined base got got' log' b le l') ∙ ap (λ xs. xs ++ messages_between got got' log') front
     ∙ ap (λ n. heard ++ messages_between n got' log') (let is : got ≡ max got base' = omega arith in is))
     (cases_lt got 1)
 
@@ -84,7 +68,7 @@ pub published_heard : (r : Row) (log : List Message) (m : Message) → r.got ≡
 published_heard r log m whole h = record {
   heard =
       ap (λ xs. xs ++ m ∷ []) (h.heard ∙ ap (drop r.base) (take_all r.got log (omega arith)))
-      ∙ sym (drop_before r.base log (m ∷ []) (omega (arith, h.base, whole)))
+      ∙ sym (drop-append-le r.base log (m ∷ []) (omega (arith, h.base, whole)))
       ∙ ap (drop r.base) (sym (take_all (r.got + 1) (log ++ m ∷ []) (omega (arith, length_push log m))));
   base = omega (arith, h.base);
 }
@@ -118,7 +102,7 @@ taken_heard true log r k gap rises within h = record { heard = h.heard; base = h
 taken_heard false log r k gap rises within h =
     let from : max k.lo r.got ≡ r.got = max-eq_right {n = k.lo} {m = r.got} (gap refl) in
     record {
-      heard = ap (λ a. r.heard ++ messages_between a k.got log) from ∙ ap (λ xs. xs ++ messages_between r.got k.got log) h.heard ∙ heard_more r.base r.got k.got log h.base rises within;
+      heard = ap (λ a. r.heard ++ messages_between a k.got log) from ∙ ap (λ xs. xs ++ messages_between r.got k.got log) h.heard ∙ between_joined r.base r.got k.got log h.base rises within;
       base = omega (arith, h.base, rises);
     }
 

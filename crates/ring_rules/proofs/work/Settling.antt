@@ -6,6 +6,7 @@ use Rattle.ring_names.specs.declared.reason.Reason.{Reason}
 use Rattle.ring_names.specs.declared.reason.Reason.TheVariants as reason
 use Rattle.group_view.specs.Ring.{is_in}
 use Rattle.group_view.proofs.Passing.{live_in, dead_in}
+use Rattle.group_view.proofs.Truth.{none_there}
 use Rattle.group_view.specs.Change.{marked}
 use Rattle.ring_rules.specs.Refusal.{refuse_if, or_else}
 use Rattle.ring_rules.specs.declared.phase.Phase.{Phase}
@@ -17,7 +18,7 @@ use Rattle.ring_rules.specs.declared.event.Event.TheVariants.{Put, Take, TakeEnd
 use Rattle.ring_rules.specs.Event.{id_of, of_member, on_link, is_stopped, running_refusal, up_refusal, put_refusal, take_refusal, end_refusal, gain_refusal, pick_refusal, mark_refusal, erase_refusal, synced_refusal, refresh_refusal, refusal, effect, at_door, at_found, by_of, done_at, erased_view, refused_at, taken_by, version_refusal, refreshed}
 use Rattle.ring_rules.specs.Idle.{HasNoStep, HasNothingToDo, IsIdle}
 use Rattle.ring_rules.proofs.rings.Rounds.{nat_eq-is, nat_eq-same}
-use Rattle.ring_rules.proofs.events.Refusals.{id_within, refuse_none, none_of, none_there, not_less, runs_from, up_or_waits}
+use Rattle.ring_rules.proofs.events.Refusals.{id_within, refuse_none, none_of, not_less, runs_from, up_or_waits}
 use Rattle.ring_rules.proofs.rests.Asked.{no_version}
 use Rattle.ring_rules.proofs.events.Enabled.{mark_lives, take_some, up_none}
 use Rattle.ring_rules.proofs.walks.Ended.{runs_lt}

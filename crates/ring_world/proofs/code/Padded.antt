@@ -3,7 +3,7 @@ use Rattle.std.proofs.Common.{◌≡◌, ℕ, zero, suc, ◌≤◌, List, [], �
 use Rattle.std.proofs.lemmas.List.{take-map, map-append, length-map, take-append-le}
 use Rattle.std.proofs.Math.Seq.{take-length}
 use Rattle.ring_rules.specs.Rows.{Row, no_row}
-use Rattle.ring_world.specs.declared.seat.KnownOrigin.{KnownOrigin}
+use Rattle.ring_world.specs.declared.plain_member.KnownOrigin.{KnownOrigin}
 use Rattle.ring_world.specs.Shows.{row_of, row_in}
 
 -- where no room is found, those that joined go again

@@ -4,7 +4,7 @@ use Rattle.ring_rules.proofs.code.Enables.{running_runs}
 use Rattle.ring_world.proofs.code.Noting.{refusal_stays, refusal_noted, not_noted}
 use Rattle.ring_world.proofs.code.Padded.{known_more, row_more}
 use Rattle.ring_world.proofs.code.Found.{out_at, current_running}
-use Rattle.ring_world.proofs.code.ShownParts.{read_member, read_link, read_row, rewrite_row, rewrite_seat, rewrite_wire, published_rows, published_seats, pushed_wires}
+use Rattle.ring_world.proofs.code.ShownParts.{read_member, read_link, read_row, rewrite_row, rewrite_member, rewrite_link, published_rows, published_members, pushed_links}
 
 -- the member at a place, and a link
 pub ruleset reading = (read_member, read_link)
@@ -24,13 +24,13 @@ pub ruleset happening = (up_phase, up_later, refresh_later, refresh_upto)
 -- what is published: in a row, and of a member
 pub ruleset publishing_rows = (published_rows, rewrite_row, read_row)
 
-pub ruleset publishing = (read_member, read_row, published_seats, rewrite_seat)
+pub ruleset publishing = (read_member, read_row, published_members, rewrite_member)
 
 -- rows that join
 pub ruleset padding = (known_more, row_more)
 
 -- a packet that is put on a link
-pub ruleset putting = (read_link, pushed_wires, rewrite_wire)
+pub ruleset putting = (read_link, pushed_links, rewrite_link)
 
 -- what a World notes
 pub ruleset noting = (refusal_stays, refusal_noted, not_noted)

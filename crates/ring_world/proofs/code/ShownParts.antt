@@ -2,9 +2,9 @@
 use Rattle.std.proofs.Common.{◌≡◌, ℕ, zero, suc, ◌≤◌, arith, ◌-◌, List, ◌∷◌, length, map, get_or, set, ◌<◌, sym, ap, ◌∙◌}
 use Rattle.queue_core.specs.declared.message.Message.{Message}
 use Rattle.ring_rules.specs.Rows.{no_row, published_row}
-use Rattle.ring_world.specs.declared.seat.KnownOrigin.{KnownOrigin}
-use Rattle.ring_world.specs.declared.seat.Seat.{Seat}
-use Rattle.ring_world.specs.declared.wire.Wire.{Wire}
+use Rattle.ring_world.specs.declared.plain_member.KnownOrigin.{KnownOrigin}
+use Rattle.ring_world.specs.declared.plain_member.PlainMember.{PlainMember}
+use Rattle.ring_world.specs.declared.plain_link.PlainLink.{PlainLink}
 use Rattle.std.specs.Prelude.{Option}
 use Rattle.ring_rules.specs.Machine.{Packet, Member, no_member, no_link}
 use Rattle.ring_rules.specs.declared.phase.Ending.{Ending}
@@ -17,22 +17,22 @@ pub use Rattle.ring_rules.proofs.rings.Maps.{position_map, mapped_read, mapped_w
 pub read_row : (rows : List KnownOrigin) (i : ℕ) (x : KnownOrigin) → i < length rows → x ≡ get_or rows i x → row_in rows i ≡ row_of x
 read_row rows i x l e = sym (mapped_read row_of rows i x no_row l e)
 
-pub read_member : (seats : List Seat) (i : ℕ) (x : Seat) → i < length seats → x ≡ get_or seats i x → member_in seats i ≡ member_of x
-read_member seats i x l e = sym (mapped_read member_of seats i x no_member l e)
+pub read_member : (members : List PlainMember) (i : ℕ) (x : PlainMember) → i < length members → x ≡ get_or members i x → member_in members i ≡ member_of x
+read_member members i x l e = sym (mapped_read member_of members i x no_member l e)
 
-pub read_link : (wires : List Wire) (i : ℕ) (x : Wire) → i < length wires → x ≡ get_or wires i x → link_in wires i ≡ link_of x
-read_link wires i x l e = sym (mapped_read link_of wires i x no_link l e)
+pub read_link : (links : List PlainLink) (i : ℕ) (x : PlainLink) → i < length links → x ≡ get_or links i x → link_in links i ≡ link_of x
+read_link links i x l e = sym (mapped_read link_of links i x no_link l e)
 
 -- ---- writes that show nothing
 
 pub rewrite_row : (rows : List KnownOrigin) (i : ℕ) (x y : KnownOrigin) → i < length rows → x ≡ get_or rows i x → row_of y ≡ row_of x → map row_of (set rows i y) ≡ map row_of rows
 rewrite_row rows i x y l e g = mapped_rewrite row_of rows i x y l e g
 
-pub rewrite_seat : (seats : List Seat) (i : ℕ) (x y : Seat) → i < length seats → x ≡ get_or seats i x → member_of y ≡ member_of x → map member_of (set seats i y) ≡ map member_of seats
-rewrite_seat seats i x y l e g = mapped_rewrite member_of seats i x y l e g
+pub rewrite_member : (members : List PlainMember) (i : ℕ) (x y : PlainMember) → i < length members → x ≡ get_or members i x → member_of y ≡ member_of x → map member_of (set members i y) ≡ map member_of members
+rewrite_member members i x y l e g = mapped_rewrite member_of members i x y l e g
 
-pub rewrite_wire : (wires : List Wire) (i : ℕ) (x y : Wire) → i < length wires → x ≡ get_or wires i x → link_of y ≡ link_of x → map link_of (set wires i y) ≡ map link_of wires
-rewrite_wire wires i x y l e g = mapped_rewrite link_of wires i x y l e g
+pub rewrite_link : (links : List PlainLink) (i : ℕ) (x y : PlainLink) → i < length links → x ≡ get_or links i x → link_of y ≡ link_of x → map link_of (set links i y) ≡ map link_of links
+rewrite_link links i x y l e g = mapped_rewrite link_of links i x y l e g
 
 -- ---- publishing
 
@@ -48,34 +48,34 @@ view_read nobody d views (suc v) l = ap (λ k. get_or views k d) (let same : v �
 
 -- ---- members that change
 
-pub published_seats : (seats : List Seat) (i id : ℕ) (x y : Seat) (m : Message) → i < length seats → x ≡ get_or seats i x → member_of y ≡ published id m (member_of x) → map member_of (set seats i y) ≡ set (map member_of seats) i (published id m (member_in seats i))
-published_seats seats i id x y m l e g = mapped_write member_of (published id m) seats i x y no_member l e g
+pub published_members : (members : List PlainMember) (i id : ℕ) (x y : PlainMember) (m : Message) → i < length members → x ≡ get_or members i x → member_of y ≡ published id m (member_of x) → map member_of (set members i y) ≡ set (map member_of members) i (published id m (member_in members i))
+published_members members i id x y m l e g = mapped_write member_of (published id m) members i x y no_member l e g
 
-pub current_seats : (seats : List Seat) (i : ℕ) (x y : Seat) (s : Option ℕ) → i < length seats → x ≡ get_or seats i x → member_of y ≡ with_current s (member_of x) → map member_of (set seats i y) ≡ set (map member_of seats) i (with_current s (member_in seats i))
-current_seats seats i x y s l e g = mapped_write member_of (with_current s) seats i x y no_member l e g
+pub current_members : (members : List PlainMember) (i : ℕ) (x y : PlainMember) (s : Option ℕ) → i < length members → x ≡ get_or members i x → member_of y ≡ with_current s (member_of x) → map member_of (set members i y) ≡ set (map member_of members) i (with_current s (member_in members i))
+current_members members i x y s l e g = mapped_write member_of (with_current s) members i x y no_member l e g
 
-pub stopped_seats : (seats : List Seat) (i : ℕ) (x y : Seat) → i < length seats → x ≡ get_or seats i x → member_of y ≡ stopped (member_of x) → map member_of (set seats i y) ≡ set (map member_of seats) i (stopped (member_in seats i))
-stopped_seats seats i x y l e g = mapped_write member_of stopped seats i x y no_member l e g
+pub stopped_members : (members : List PlainMember) (i : ℕ) (x y : PlainMember) → i < length members → x ≡ get_or members i x → member_of y ≡ stopped (member_of x) → map member_of (set members i y) ≡ set (map member_of members) i (stopped (member_in members i))
+stopped_members members i x y l e g = mapped_write member_of stopped members i x y no_member l e g
 
-pub begun_seats : (seats : List Seat) (i n m : ℕ) (x y : Seat) (k : Packet) → i < length seats → x ≡ get_or seats i x → n ≡ m → member_of y ≡ begun n (member_of x) k → map member_of (set seats i y) ≡ set (map member_of seats) i (begun m (member_in seats i) k)
-begun_seats seats i n m x y k l e same g = mapped_write member_of (λ z. begun m z k) seats i x y no_member l e (g ∙ ap (λ j. begun j (member_of x) k) same)
+pub begun_members : (members : List PlainMember) (i n m : ℕ) (x y : PlainMember) (k : Packet) → i < length members → x ≡ get_or members i x → n ≡ m → member_of y ≡ begun n (member_of x) k → map member_of (set members i y) ≡ set (map member_of members) i (begun m (member_in members i) k)
+begun_members members i n m x y k l e same g = mapped_write member_of (λ z. begun m z k) members i x y no_member l e (g ∙ ap (λ j. begun j (member_of x) k) same)
 
 -- ---- links that change
 
-pub pushed_wires : (wires : List Wire) (i : ℕ) (x y : Wire) (m : Member) → i < length wires → x ≡ get_or wires i x → link_of y ≡ pushed (link_of x) (next_packet m (link_of x).sending) → map link_of (set wires i y) ≡ set (map link_of wires) i (pushed (link_in wires i) (next_packet m (link_in wires i).sending))
-pushed_wires wires i x y m l e g = mapped_write link_of (λ z. pushed z (next_packet m z.sending)) wires i x y no_link l e g
+pub pushed_links : (links : List PlainLink) (i : ℕ) (x y : PlainLink) (m : Member) → i < length links → x ≡ get_or links i x → link_of y ≡ pushed (link_of x) (next_packet m (link_of x).sending) → map link_of (set links i y) ≡ set (map link_of links) i (pushed (link_in links i) (next_packet m (link_in links i).sending))
+pushed_links links i x y m l e g = mapped_write link_of (λ z. pushed z (next_packet m z.sending)) links i x y no_link l e g
 
-pub gained_wires : (wires : List Wire) (i : ℕ) (x y : Wire) → i < length wires → x ≡ get_or wires i x → link_of y ≡ gained_on (link_of x) → map link_of (set wires i y) ≡ set (map link_of wires) i (gained_on (link_in wires i))
-gained_wires wires i x y l e g = mapped_write link_of gained_on wires i x y no_link l e g
+pub gained_links : (links : List PlainLink) (i : ℕ) (x y : PlainLink) → i < length links → x ≡ get_or links i x → link_of y ≡ gained_on (link_of x) → map link_of (set links i y) ≡ set (map link_of links) i (gained_on (link_in links i))
+gained_links links i x y l e g = mapped_write link_of gained_on links i x y no_link l e g
 
-pub finished_wires : (wires : List Wire) (i : ℕ) (x y : Wire) → i < length wires → x ≡ get_or wires i x → link_of y ≡ finished (link_of x) → map link_of (set wires i y) ≡ set (map link_of wires) i (finished (link_in wires i))
-finished_wires wires i x y l e g = mapped_write link_of finished wires i x y no_link l e g
+pub finished_links : (links : List PlainLink) (i : ℕ) (x y : PlainLink) → i < length links → x ≡ get_or links i x → link_of y ≡ finished (link_of x) → map link_of (set links i y) ≡ set (map link_of links) i (finished (link_in links i))
+finished_links links i x y l e g = mapped_write link_of finished links i x y no_link l e g
 
-pub ended_wires : (wires : List Wire) (i : ℕ) (x y : Wire) (why : Ending) → i < length wires → x ≡ get_or wires i x → link_of y ≡ ended why (link_of x) → map link_of (set wires i y) ≡ set (map link_of wires) i (ended why (link_in wires i))
-ended_wires wires i x y why l e g = mapped_write link_of (ended why) wires i x y no_link l e g
+pub ended_links : (links : List PlainLink) (i : ℕ) (x y : PlainLink) (why : Ending) → i < length links → x ≡ get_or links i x → link_of y ≡ ended why (link_of x) → map link_of (set links i y) ≡ set (map link_of links) i (ended why (link_in links i))
+ended_links links i x y why l e g = mapped_write link_of (ended why) links i x y no_link l e g
 
-pub looked_seats : (seats : List Seat) (i v : ℕ) (x y : Seat) (s : Option ℕ) → i < length seats → x ≡ get_or seats i x → member_of y ≡ looked v s (member_of x) → map member_of (set seats i y) ≡ set (map member_of seats) i (looked v s (member_in seats i))
-looked_seats seats i v x y s l e g = mapped_write member_of (looked v s) seats i x y no_member l e g
+pub looked_members : (members : List PlainMember) (i v : ℕ) (x y : PlainMember) (s : Option ℕ) → i < length members → x ≡ get_or members i x → member_of y ≡ looked v s (member_of x) → map member_of (set members i y) ≡ set (map member_of members) i (looked v s (member_in members i))
+looked_members members i v x y s l e g = mapped_write member_of (looked v s) members i x y no_member l e g
 
-pub sending_seats : (seats : List Seat) (i : ℕ) (x y : Seat) (o : Option ℕ) → i < length seats → x ≡ get_or seats i x → member_of y ≡ with_out o (member_of x) → map member_of (set seats i y) ≡ set (map member_of seats) i (with_out o (member_in seats i))
-sending_seats seats i x y o l e g = mapped_write member_of (with_out o) seats i x y no_member l e g
+pub sending_members : (members : List PlainMember) (i : ℕ) (x y : PlainMember) (o : Option ℕ) → i < length members → x ≡ get_or members i x → member_of y ≡ with_out o (member_of x) → map member_of (set members i y) ≡ set (map member_of members) i (with_out o (member_in members i))
+sending_members members i x y o l e g = mapped_write member_of (with_out o) members i x y no_member l e g

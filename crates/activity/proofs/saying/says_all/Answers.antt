@@ -4,7 +4,7 @@ use Rattle.std.proofs.lemmas.List.Folds.{list_all-append}
 use Rattle.activity.specs.Diff.{tells_new}
 use Rattle.activity.specs.Shown.{kept_row}
 use Rattle.activity.proofs.Lists.{item_at}
-use Rattle.activity.proofs.Told.{none_new, says_nothing_new, says_something}
+use Rattle.activity.proofs.LastSent.{none_new, says_nothing_new, says_something}
 use Rattle.activity.proofs.saying.says_all.Goals as goal
 
 pub returns-then-row_is_new : goal.returns-then-row_is_new

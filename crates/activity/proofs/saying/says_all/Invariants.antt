@@ -1,5 +1,5 @@
 use Rattle.std.proofs.Common.{◌≡◌, true, take}
-use Rattle.activity.proofs.Told.{none_new}
+use Rattle.activity.proofs.LastSent.{none_new}
 use Rattle.activity.proofs.saying.says_all.Given as goal
 
 abbrev pub invariant-loop-place : goal.invariant-loop-place

@@ -1,6 +1,6 @@
 use Rattle.std.proofs.Common.{sym, ap, subst, ◌∙◌}
 use Rattle.group_view.specs.Ring.{AreDistinct}
-use Rattle.activity.specs.Parcels.{origins, line_of}
+use Rattle.activity.specs.Packets.{origins, line_of}
 use Rattle.activity.proofs.Next.{distinct_lines, next_found}
 use Rattle.activity.proofs.sending.diff.Goals as goal
 

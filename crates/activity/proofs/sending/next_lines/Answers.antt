@@ -1,6 +1,6 @@
 use Rattle.std.proofs.Common.{◌≡◌, ◌<◌, ◌++◌, ◌∷◌, [], length, take, sym, ap, subst, ◌∙◌, arith}
 use Rattle.std.proofs.lemmas.List.{length-map}
-use Rattle.activity.specs.Kept.{ids_of}
+use Rattle.activity.specs.Kept.{origins_of}
 use Rattle.activity.specs.Diff.{lines_of}
 use Rattle.activity.specs.Shown.{kept_row}
 use Rattle.group_view.specs.Ring.{AreDistinct}
@@ -19,4 +19,4 @@ loop-place-preserved c =
     ∙ ap (lines_of c.args.first c.args.sent.now) (sym at.2)
 
 pub returns-clause-distinct : goal.returns-clause-distinct
-returns-clause-distinct c = subst (λ rows. AreDistinct (ids_of rows)) c.tables.view_is (distinct_ids c.tables.inside.rows.entries c.len-place-end.ensures.unique)
+returns-clause-distinct c = subst (λ rows. AreDistinct (origins_of rows)) c.tables.view_is (distinct_ids c.tables.inside.rows.entries c.len-place-end.ensures.unique)

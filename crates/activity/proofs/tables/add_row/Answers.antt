@@ -1,9 +1,10 @@
 use Rattle.std.proofs.Common.{◌≡◌, None, cond, nat_eq, ap, ◌∙◌}
 use Rattle.std.specs.Map.{lookup}
 use Rattle.indexmap.proofs.CallerLemmas.{insert_entry-new}
-use Rattle.activity.specs.Kept.{has_room, kept_of}
+use Rattle.activity.specs.Kept.{has_room, kept_of, origins_of}
 use Rattle.activity.specs.Shown.{kept_rows}
 use Rattle.activity.proofs.Rows.{same, row_absent, kept_push, room_at_push, room_others_push, reserved_start}
+use Rattle.activity.proofs.Order.{kept_pushed_order}
 use Rattle.activity.proofs.tables.add_row.Goals as goal
 
 pub returns-clause-kept : goal.returns-clause-kept
@@ -24,3 +25,9 @@ returns-clause-others c = λ p m apart.
     let absent : lookup (same c.args.origin) c.args.rows.now.entries ≡ None = row_absent c.args.origin c.args.rows.now.entries c.requires.absent in
     ap (λ es. has_room (kept_rows es) p m) (c.in_ok-insert.ensures.entries ∙ insert_entry-new same c.args.rows.now c.args.origin _ absent)
     ∙ room_others_push c.args.origin c.args.rows.now.entries _ absent p m apart
+
+pub returns-clause-order : goal.returns-clause-order
+returns-clause-order c =
+    let absent : lookup (same c.args.origin) c.args.rows.now.entries ≡ None = row_absent c.args.origin c.args.rows.now.entries c.requires.absent in
+    ap (λ es. origins_of (kept_rows es)) (c.in_ok-insert.ensures.entries ∙ insert_entry-new same c.args.rows.now c.args.origin _ absent)
+    ∙ kept_pushed_order c.args.origin c.args.rows.now.entries _

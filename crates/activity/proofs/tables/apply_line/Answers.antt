@@ -1,8 +1,9 @@
 use Rattle.std.proofs.Common.{sym, ap, ◌∙◌, true≢false}
-use Rattle.activity.specs.Kept.{kept_of, has_room}
+use Rattle.activity.specs.Kept.{kept_of, has_room, origins_of}
 use Rattle.activity.specs.Plan.{change_of, changed, arrivals}
 use Rattle.activity.specs.Shown.{kept_rows}
 use Rattle.activity.proofs.Rows.{room_none, room_spare, kept_found, kept_written, room_others}
+use Rattle.activity.proofs.Order.{kept_set_order}
 use Rattle.activity.proofs.tables.apply_line.Goals as goal
 
 pub returns-in_default-clause-kept : goal.returns-in_default-clause-kept
@@ -21,3 +22,6 @@ returns-clause-kept c = λ p. ap (λ es. kept_of (kept_rows es) p) (c.get_mut.fo
 pub returns-clause-room : goal.returns-clause-room
 returns-clause-room c = λ p n apart. ap (λ es. has_room (kept_rows es) p n) (c.get_mut.follows.holds c.accept.new.self).0
     ∙ room_others c.args.origin c.args.rows.now.entries c.in-Some.table.now c.accept.new.self (sym c.in-Some.ensures.value) p n apart
+
+pub returns-clause-order : goal.returns-clause-order
+returns-clause-order c = ap (λ es. origins_of (kept_rows es)) (c.get_mut.follows.holds c.accept.new.self).0 ∙ kept_set_order c.args.origin c.args.rows.now.entries c.accept.new.self

@@ -24,6 +24,7 @@ pub loop-line-preserved-then-begins : goal.loop-line-preserved-then-begins
 loop-line-preserved-then-begins c = record {
   runs = tt;
   ends = tt;
+  order = c.apply_line.ensures.order ∙ c.loop-line.invariant.order;
   filling = fill_line (kept_rows c.loop-line.rows.entries) c.args.lines.items c.loop-line.line-iterator.rest.items c.in-Some.line c.next.new.self.rest.items c.line.inside.origin.0 c.loop-line.invariant.filling c.in-Some.ensures.steps.0 (ap (λ l. l.origin.0) c.line.view_is)
       (kept_rows c.apply_line.new.rows.entries)
       (c.apply_line.ensures.kept c.line.inside.origin.0
@@ -39,6 +40,7 @@ pub loop-line-preserved : goal.loop-line-preserved
 loop-line-preserved c = record {
   runs = tt;
   ends = tt;
+  order = c.loop-line.invariant.order;
   filling = fill_line (kept_rows c.loop-line.rows.entries) c.args.lines.items c.loop-line.line-iterator.rest.items c.in-Some.line c.next.new.self.rest.items c.line.inside.origin.0 c.loop-line.invariant.filling c.in-Some.ensures.steps.0 (ap (λ l. l.origin.0) c.line.view_is)
       (kept_rows c.loop-line.rows.entries)
       (fill_kept (kept_rows c.loop-line.rows.entries) c.args.lines.items c.loop-line.line-iterator.rest.items c.in-Some.line c.next.new.self.rest.items c.line.inside.origin.0 c.loop-line.invariant.filling c.in-Some.ensures.steps.0 (ap (λ l. l.origin.0) c.line.view_is) ∙ opened_passed c.in-Some.line (sym c.begins.ensures ∙ c.if-begins.false))

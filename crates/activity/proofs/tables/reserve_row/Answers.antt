@@ -1,7 +1,8 @@
 use Rattle.std.proofs.Common.{sym, ap, subst, ◌∙◌, refl, true≢false}
-use Rattle.activity.specs.Kept.{KeepsRows, has_room}
+use Rattle.activity.specs.Kept.{KeepsRows, has_room, origins_of}
 use Rattle.activity.specs.Shown.{kept_rows}
 use Rattle.activity.proofs.Rows.{on_ok, room_none, row_reserved, keeps_reserved, kept_again}
+use Rattle.activity.proofs.Order.{kept_set_order}
 use Rattle.activity.proofs.tables.reserve_row.Goals as goal
 
 pub returns-in_default-clause-ok : goal.returns-in_default-clause-ok
@@ -15,3 +16,7 @@ pub returns-clause-kept : goal.returns-clause-kept
 returns-clause-kept c = subst (λ es. KeepsRows (kept_rows c.args.rows.now.entries) (kept_rows es)) (sym (c.get_mut.follows.holds (record { store = c.reserve.new.self; retired = c.in-Some.table.now.retired; base = c.in-Some.table.now.base })).0)
     (keeps_reserved c.args.origin c.args.rows.now.entries c.in-Some.table.now (record { store = c.reserve.new.self; retired = c.in-Some.table.now.retired; base = c.in-Some.table.now.base }) (sym c.in-Some.ensures.value)
     (kept_again c.in-Some.table.now (record { store = c.reserve.new.self; retired = c.in-Some.table.now.retired; base = c.in-Some.table.now.base }) c.reserve.ensures.kept refl refl) c.reserve.ensures.spare)
+
+pub returns-clause-order : goal.returns-clause-order
+returns-clause-order c = ap (λ es. origins_of (kept_rows es)) (c.get_mut.follows.holds (record { store = c.reserve.new.self; retired = c.in-Some.table.now.retired; base = c.in-Some.table.now.base })).0
+    ∙ kept_set_order c.args.origin c.args.rows.now.entries (record { store = c.reserve.new.self; retired = c.in-Some.table.now.retired; base = c.in-Some.table.now.base })

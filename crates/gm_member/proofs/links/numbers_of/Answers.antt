@@ -1,7 +1,7 @@
 use Rattle.std.proofs.Common.{◌≡◌, map, sym, ap, subst, ◌∙◌}
 use Rattle.group_view.specs.Ring.{AreDistinct}
-use Rattle.activity.specs.Parcels.{origins}
-use Rattle.gm_member.specs.Parcels.{emptied}
+use Rattle.activity.specs.Packets.{origins}
+use Rattle.gm_member.specs.Packets.{emptied}
 use Rattle.gm_member.proofs.Noting.{origins_emptied}
 use Rattle.gm_member.proofs.links.numbers_of.Goals as goal
 

@@ -2,7 +2,7 @@ use Rattle.std.proofs.Common.{rules, ◌∙◌, nat_eq}
 use borrow.Author.Tests.{tests}
 use Rattle.std.proofs.lemmas.Iterator.{YieldsList-from_slice}
 use Rattle.std.proofs.lemmas.Iterator.Search.{find_from_yields_List}
-use Rattle.gm_member.proofs.Parcels.{line_found}
+use Rattle.gm_member.proofs.Packets.{line_found}
 use Rattle.gm_member.proofs.news.line_for.Goals as goal
 
 pub returns-clause-line : goal.returns-clause-line

@@ -1,8 +1,8 @@
 use Rattle.std.proofs.Common.{◌≡◌, ℕ, ◌+◌, ◌++◌, ap, sym, ◌∙◌, arith}
 use Rattle.ring_rules.specs.Step.{is_owned}
 use Rattle.activity.specs.Kept.{kept_of}
-use Rattle.activity.specs.Parcels.{line_of}
-use Rattle.gm_member.specs.Parcels.{by_origin}
+use Rattle.activity.specs.Packets.{line_of}
+use Rattle.gm_member.specs.Packets.{packet_by_id}
 use Rattle.gm_member.specs.View.{all_kept}
 use Rattle.gm_member.specs.News.{line_news, news_below}
 use Rattle.gm_member.proofs.Fresh.{news_more}
@@ -22,4 +22,4 @@ loop-p-preserved c =
 pub returns : goal.returns
 returns c =
     let end : c.loop-p.p ≡ 64 = omega (arith, c.loop-p-test.false, c.loop-p.auto.p-end) in
-    c.loop-p.invariant ∙ ap (λ n. news_below n (λ q. is_owned c.args.view.now c.args.id.0 c.args.from.0 (q + 1)) (all_kept c.args.tables.now) (by_origin c.args.packet.now).lines) end
+    c.loop-p.invariant ∙ ap (λ n. news_below n (λ q. is_owned c.args.view.now c.args.id.0 c.args.from.0 (q + 1)) (all_kept c.args.tables.now) (packet_by_id c.args.packet.now).lines) end

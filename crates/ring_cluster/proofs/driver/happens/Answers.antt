@@ -1,8 +1,8 @@
-use Rattle.std.proofs.Common.{rules, ◌-◌}
+use Rattle.std.proofs.Common.{rules}
 use Rattle.ring_cluster.proofs.rounds.Doing.{own_falls}
 use Rattle.ring_cluster.specs.Seen.{state_of}
 use Rattle.ring_cluster.proofs.rounds.Members.{event_at_place}
-use Rattle.ring_cluster.proofs.post.Owed.{but_handed}
+use Rattle.ring_cluster.proofs.deposits.Owed.{but_handed}
 use Rattle.ring_cluster.proofs.rounds.Counting.{did_none, did_one}
 use Rattle.ring_cluster.proofs.rounds.Turning.{own_works, works_same}
 use Rattle.ring_cluster.proofs.driver.happens.Goals as goal

@@ -1,4 +1,4 @@
-use Rattle.ring_cluster.proofs.post.Owed.{but_refl}
+use Rattle.ring_cluster.proofs.deposits.Owed.{but_refl}
 use Rattle.ring_cluster.proofs.rounds.Turning.{works_refl}
 use Rattle.ring_cluster.proofs.driver.own_turn.Goals as goal
 

@@ -1,5 +1,5 @@
 use Rattle.std.proofs.Common.{sym, ◌∙◌, arith}
-use Rattle.ring_cluster.proofs.post.Owed.{but_refl}
+use Rattle.ring_cluster.proofs.deposits.Owed.{but_refl}
 use Rattle.ring_cluster.proofs.rounds.Members.{members_few}
 use Rattle.ring_cluster.proofs.rounds.Turning.{works_refl}
 use Rattle.ring_cluster.proofs.driver.work_turn.Goals as goal

@@ -8,7 +8,7 @@ use Rattle.gm_member.specs.Held.{Held, answered_held}
 use Rattle.gm_member.specs.Shown.{held_of, ends_of}
 use Rattle.gm_member.proofs.DoorParts.{up_refused_none}
 use Rattle.ring_parties.specs.Parties.{shown_of, ends_seen}
-use Rattle.ring_parties.specs.Looking.{HasLooked, kept_post, loose_seen, without_question, view_for, brought}
+use Rattle.ring_parties.specs.Looking.{HasLooked, pending_shown, replaced_seen, without_question, view_for, brought}
 use Rattle.ring_parties.proofs.events.Questioned.{made_brings, made_answered, made_handled, made_stands, asker_known}
 use Rattle.ring_parties.proofs.looking.ask.Goals as goal
 
@@ -37,8 +37,8 @@ returns-in-Ok-clause-ok c =
     ap (λ (h : Held). record { held = answered_held h; ends = ends_seen (ends_of c.ask.new.self) }) c.in_ok-request.ensures.ok
     ∙ ap (λ e. record { held = answered_held (held_of m); ends = ends_seen e }) c.in_ok-request.ensures.ends
     ∙ ap (λ b. record { held = record (held_of m) { asks = b }; ends = ends_seen (ends_of m) }) (sym free) in
-    subst (λ a. HasLooked (view_for r c.args.node.now.id.0 c.args.what) a (shown_of c.read_answer.new.node) (kept_post c.read_answer.result.opened) (loose_seen c.read_answer.result.loose)) closed
-    (subst (λ v. HasLooked v (without_question (shown_of c.ask.new.self)) (shown_of c.read_answer.new.node) (kept_post c.read_answer.result.opened) (loose_seen c.read_answer.result.loose)) (sym view) c.read_answer.ensures)
+    subst (λ a. HasLooked (view_for r c.args.node.now.id.0 c.args.what) a (shown_of c.read_answer.new.node) (pending_shown c.read_answer.result.opened) (replaced_seen c.read_answer.result.replaced)) closed
+    (subst (λ v. HasLooked v (without_question (shown_of c.ask.new.self)) (shown_of c.read_answer.new.node) (pending_shown c.read_answer.result.opened) (replaced_seen c.read_answer.result.replaced)) (sym view) c.read_answer.ensures)
 
 pub returns-in-Ok-clause-registrar : goal.returns-in-Ok-clause-registrar
 returns-in-Ok-clause-registrar c =

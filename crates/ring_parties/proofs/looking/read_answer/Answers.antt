@@ -4,14 +4,14 @@ use Rattle.ordered_link.specs.Steps.{IsFreshPair}
 use Rattle.activity.specs.declared.packet.Load.{Load}
 use Rattle.gm_member.proofs.Ready.{ready_sound}
 use Rattle.ring_parties.specs.Parties.{shown_of}
-use Rattle.ring_parties.specs.Looking.{HasLooked, to_post, kept_post, loose_seen, tidied, without_question}
+use Rattle.ring_parties.specs.Looking.{HasLooked, to_deposit, pending_shown, replaced_seen, tidied, without_question}
 use Rattle.ring_parties.proofs.standing.Looked.{looks_asked}
 use Rattle.ring_parties.proofs.looking.read_answer.Goals as goal
 
 pub returns : goal.returns
 returns c =
     let sound = ready_sound (λ n o i. IsFreshPair n o i) (λ (o : PlainOut Load). o.free) (λ (o : PlainOut Load). o.ended) c.args.node.now c.requires.spare in
-    subst (λ b. HasLooked c.args.view (without_question (shown_of c.args.node.now)) b (kept_post c.hand_on.result.opened) (loose_seen c.hand_on.result.loose)) (sym c.hand_on.ensures.node)
-    (subst (λ o. HasLooked c.args.view (without_question (shown_of c.args.node.now)) (tidied (shown_of c.answer.new.self)) o (loose_seen c.hand_on.result.loose)) (sym c.hand_on.ensures.opened)
-    (subst (λ l. HasLooked c.args.view (without_question (shown_of c.args.node.now)) (tidied (shown_of c.answer.new.self)) (to_post c.in-Ok.requests.items) l) (sym c.hand_on.ensures.loose)
+    subst (λ b. HasLooked c.args.view (without_question (shown_of c.args.node.now)) b (pending_shown c.hand_on.result.opened) (replaced_seen c.hand_on.result.replaced)) (sym c.hand_on.ensures.node)
+    (subst (λ o. HasLooked c.args.view (without_question (shown_of c.args.node.now)) (tidied (shown_of c.answer.new.self)) o (replaced_seen c.hand_on.result.replaced)) (sym c.hand_on.ensures.opened)
+    (subst (λ l. HasLooked c.args.view (without_question (shown_of c.args.node.now)) (tidied (shown_of c.answer.new.self)) (to_deposit c.in-Ok.requests.items) l) (sym c.hand_on.ensures.replaced)
     (record { looks = looks_asked false c.args.node.now c.answer.new.self c.args.view c.in-Ok.requests.items c.requires.ready (c.in-Ok.ensures.ok sound) c.in-Ok.ensures.links (c.in-Ok.ensures.moves sound) })))

@@ -1,10 +1,10 @@
 use Rattle.std.proofs.Common.{sym, ap, ◌∙◌}
 use Rattle.ring_rules.specs.declared.kind.Kind.TheVariants as shown
 use Rattle.ring_rules.specs.Kind.{kind_of}
+use Rattle.ring_rules.proofs.events.Kinds.{kind_read}
 use Rattle.ring_parties.specs.Parties.{shown_of}
 use Rattle.ring_parties.specs.Acting.{look_refused}
 use Rattle.ring_parties.specs.Refused.{own_refused}
-use Rattle.ring_parties.proofs.events.Kinds.{kind_read}
 use Rattle.ring_parties.proofs.refusing.own_refusal.Goals as goal
 
 pub returns-in-Reads : goal.returns-in-Reads

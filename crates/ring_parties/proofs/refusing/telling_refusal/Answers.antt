@@ -1,4 +1,4 @@
-use Rattle.ring_parties.proofs.events.Kinds.{only_refuses}
+use Rattle.ring_rules.proofs.events.Kinds.{only_refuses}
 use Rattle.ring_parties.proofs.refusing.telling_refusal.Goals as goal
 
 pub unreachable-requires : goal.unreachable-requires

@@ -16,10 +16,10 @@ after_admitting-requires c =
     let x = suc c.args.place in
     subst (λ m. group_refusal c.newest_view.result.now.entries m c.args.name.now ≡ None) (sym c.id_at.ensures)
     (subst (λ g. group_refusal g.entries x c.args.name.now ≡ None) (sym c.newest_view.ensures)
-    (nobody_refuses_admitting w x c.args.name.now (c.requires.ready.lives x c.requires.up) c.requires.enabled))
+    (nobody_refuses_admitting w x c.args.name.now (c.requires.ready.ready.lives x c.requires.up) c.requires.enabled))
 
 pub change-requires-clause-more : goal.change-requires-clause-more
-change-requires-clause-more c = c.requires.ready.admits (suc c.args.place) c.args.name.now c.requires.up c.requires.enabled
+change-requires-clause-more c = c.requires.ready.ready.admits (suc c.args.place) c.args.name.now c.requires.up c.requires.enabled
 
 pub returns-clause-ok : goal.returns-clause-ok
 returns-clause-ok c =
@@ -28,11 +28,11 @@ returns-clause-ok c =
     let x = suc c.args.place in
     let u = world_of c.change.new.ring in
     let j = c.in_ok-joiner.joiner in
-    let before : world_of (record r { seats = c.reserve.new.self }) ≡ w = ap (λ ss. record w { members = no_member ∷ map member_of ss }) c.reserve.ensures.items in
-    let lt : x < size w = omega (arith, length-map r.seats.items member_of, c.requires.place) in
+    let before : world_of (record r { members = c.reserve.new.self }) ≡ w = ap (λ ss. record w { members = no_member ∷ map member_of ss }) c.reserve.ensures.items in
+    let lt : x < size w = omega (arith, length-map r.members.items member_of, c.requires.ready.place) in
     let next : c.in_ok-next.next ≡ admitted_view w x c.args.name.now = grind (arith, common_steps) in
     let after : u ≡ refreshed (with_view w c.in_ok-next.next) x (newest w + 1) = subst (λ z. u ≡ refreshed (with_view z c.in_ok-next.next) x (newest z + 1)) before c.in_ok-change.ensures.ok in
     ap (λ ss. record u { members = no_member ∷ map member_of ss }) c.push_reserved.ensures.items
-    ∙ ap (λ ms. record u { members = no_member ∷ ms }) (map-append member_of c.change.new.ring.seats.items (j ∷ []))
+    ∙ ap (λ ms. record u { members = no_member ∷ ms }) (map-append member_of c.change.new.ring.members.items (j ∷ []))
     ∙ ap (with_joiner u) c.in_ok-joiner.ensures
     ∙ admitted_state w u x c.args.name.now c.in_ok-next.next lt next after

@@ -11,6 +11,6 @@ use Rattle.ring_world.proofs.joining.born_rows.Goals as goal
 pub loop-id-preserved : goal.loop-id-preserved
 loop-id-preserved c =
     let id : ℕ = c.loop-id.id in
-    let f : ℕ → Row = λ p. born_row (get_or (no_member ∷ map member_of c.args.seats.now) p no_member).log in
+    let f : ℕ → Row = λ p. born_row (get_or (no_member ∷ map member_of c.args.members.now) p no_member).log in
     let e : map f (range_with_len 0 (id + 1)) ≡ map f (range_with_len 0 id) ++ f id ∷ [] = map-range_with_len_more f 0 id id (omega arith) in
     grind (arith, common_steps, e, map-append)

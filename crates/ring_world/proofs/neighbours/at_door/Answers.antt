@@ -11,4 +11,4 @@ returns-clause-door c =
     let left : c.left_in-left.result ≡ left_neighbour (world_of c.args.ring.now) (suc c.args.place) = grind (arith, common_steps) in
     let start : c.since_of-since.result ≡ since (world_of c.args.ring.now) (suc c.args.place) = grind (arith, common_steps) in
     door_first c.args.ring.now c.args.place c.left_in-left.result c.since_of-since.result c.first_at_door.result left start
-    (c.first_at_door.ensures ∙ ap (λ id. position (λ wire. stands_at_door id c.left_in-left.result c.since_of-since.result (link_of wire)) c.deref.result.now) c.id_at-id.ensures ∙ ap (position (λ wire. stands_at_door (suc c.args.place) c.left_in-left.result c.since_of-since.result (link_of wire))) c.deref.ensures.value)
+    (c.first_at_door.ensures ∙ ap (λ id. position (λ link. stands_at_door id c.left_in-left.result c.since_of-since.result (link_of link)) c.deref.result.now) c.id_at-id.ensures ∙ ap (position (λ link. stands_at_door (suc c.args.place) c.left_in-left.result c.since_of-since.result (link_of link))) c.deref.ensures.value)

@@ -3,7 +3,7 @@ use Rattle.std.proofs.lemmas.Grind.{common_steps}
 use Rattle.std.specs.List.{range_with_len}
 use Rattle.std.proofs.lemmas.List.FromFn.{map-range_with_len_more}
 use Rattle.std.proofs.lemmas.List.{map-append}
-use Rattle.ring_world.specs.declared.seat.Brought.{Brought}
+use Rattle.ring_world.specs.declared.plain_member.Brought.{Brought}
 use Rattle.ring_rules.specs.Machine.{Packet, Member, no_member, numbers_at}
 use Rattle.ring_rules.specs.Step.{is_owned}
 use Rattle.ring_world.specs.Shows.{News, member_of, packet_of, news_of, news_at}
@@ -15,7 +15,7 @@ loop-origin-preserved c =
     let y : ℕ = suc c.args.place in
     let p : ℕ = c.loop-origin.origin in
     let k : Packet = packet_of c.args.packet.now in
-    let members : List Member = no_member ∷ map member_of c.args.seats.now in
+    let members : List Member = no_member ∷ map member_of c.args.members.now in
     let f : ℕ → News = news_at c.args.view.now members y c.args.sender k in
     let e : map f (range_with_len 0 (p + 1)) ≡ map f (range_with_len 0 p) ++ f p ∷ [] = map-range_with_len_more f 0 p p (omega arith) in
     let own : c.is_owned-own.result ≡ is_owned c.args.view.now y c.args.sender p = c.is_owned-own.ensures ∙ ap (λ i. is_owned c.args.view.now i c.args.sender p) c.id_at-id.ensures in

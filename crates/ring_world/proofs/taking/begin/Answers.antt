@@ -15,18 +15,18 @@ pub returns-clause-ok : goal.returns-clause-ok
 returns-clause-ok c =
     let r = c.args.ring.now in
     let place = c.args.place in
-    let l = c.index_mut-wire.result.now in
-    let many : length c.take_first.new.seats ≡ r.seats.len = omega (arith, c.take_first.auto.seats, c.deref_mut.ensures.len, ap length c.deref_mut.ensures.value, r.seats.ok.0) in
-    ap (λ ss. record (world_of r) { members = no_member ∷ map member_of ss; links = map link_of (set r.wires.items c.args.current c.take_first.new.link) }) (with_items_is r.seats c.take_first.new.seats many)
-    ∙ begin_ring r place c.args.current l c.take_first.new.link c.take_first.new.seats c.requires.current c.index_mut-wire.ensures.value
-    (subst (λ ss. map member_of c.take_first.new.seats ≡ set (map member_of ss) place (begun (suc (length ss)) (member_in ss place) (oldest (link_of l)))) c.deref_mut.ensures.value c.in_ok-take_first.ensures.seats)
+    let l = c.index_mut-link.result.now in
+    let many : length c.take_first.new.members ≡ r.members.len = omega (arith, c.take_first.auto.members, c.deref_mut.ensures.len, ap length c.deref_mut.ensures.value, r.members.ok.0) in
+    ap (λ ss. record (world_of r) { members = no_member ∷ map member_of ss; links = map link_of (set r.links.items c.args.current c.take_first.new.link) }) (with_items_is r.members c.take_first.new.members many)
+    ∙ begin_ring r place c.args.current l c.take_first.new.link c.take_first.new.members c.requires.current c.index_mut-link.ensures.value
+    (subst (λ ss. map member_of c.take_first.new.members ≡ set (map member_of ss) place (begun (suc (length ss)) (member_in ss place) (oldest (link_of l)))) c.deref_mut.ensures.value c.in_ok-take_first.ensures.members)
     c.in_ok-take_first.ensures.link
 
 pub returns-in_err-take_first-clause-err : goal.returns-in_err-take_first-clause-err
 returns-in_err-take_first-clause-err c =
     let r = c.args.ring.now in
-    let many : length c.take_first.new.seats ≡ r.seats.len = omega (arith, c.take_first.auto.seats, c.deref_mut.ensures.len, ap length c.deref_mut.ensures.value, r.seats.ok.0) in
-    let same = ap (λ ss. record (world_of r) { members = no_member ∷ map member_of ss; links = map link_of (set r.wires.items c.args.current c.take_first.new.link) }) (with_items_is r.seats c.take_first.new.seats many)
-    ∙ same_ring r c.args.current c.index_mut-wire.result.now c.take_first.new.link c.take_first.new.seats c.requires.current c.index_mut-wire.ensures.value
-    (subst (λ ss. map member_of c.take_first.new.seats ≡ map member_of ss) c.deref_mut.ensures.value c.in_err-take_first.ensures.err_seats) c.in_err-take_first.ensures.err_link in
+    let many : length c.take_first.new.members ≡ r.members.len = omega (arith, c.take_first.auto.members, c.deref_mut.ensures.len, ap length c.deref_mut.ensures.value, r.members.ok.0) in
+    let same = ap (λ ss. record (world_of r) { members = no_member ∷ map member_of ss; links = map link_of (set r.links.items c.args.current c.take_first.new.link) }) (with_items_is r.members c.take_first.new.members many)
+    ∙ same_ring r c.args.current c.index_mut-link.result.now c.take_first.new.link c.take_first.new.members c.requires.current c.index_mut-link.ensures.value
+    (subst (λ ss. map member_of c.take_first.new.members ≡ map member_of ss) c.deref_mut.ensures.value c.in_err-take_first.ensures.err_members) c.in_err-take_first.ensures.err_link in
     OnErr_of c.from_residual.result same

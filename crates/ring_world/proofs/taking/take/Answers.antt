@@ -25,20 +25,20 @@ returns-clause-ok c =
     let r = c.args.ring.now in
     let place = c.args.place in
     let v = c.view_of-view.result.now in
-    let l = c.index_mut-wire.result.now in
-    let many : length c.take_packet.new.seats ≡ r.seats.len = omega (arith, c.take_packet.auto.seats, c.deref_mut.ensures.len, ap length c.deref_mut.ensures.value, r.seats.ok.0) in
-    ap (λ ss. record (world_of r) { members = no_member ∷ map member_of ss; links = map link_of (set r.wires.items c.args.current c.take_packet.new.wire) }) (with_items_is r.seats c.take_packet.new.seats many)
-    ∙ take_ring r place c.args.current c.index.result.now l c.take_packet.new.wire v c.take_packet.new.seats c.requires.up.place c.index.ensures
+    let l = c.index_mut-link.result.now in
+    let many : length c.take_packet.new.members ≡ r.members.len = omega (arith, c.take_packet.auto.members, c.deref_mut.ensures.len, ap length c.deref_mut.ensures.value, r.members.ok.0) in
+    ap (λ ss. record (world_of r) { members = no_member ∷ map member_of ss; links = map link_of (set r.links.items c.args.current c.take_packet.new.link) }) (with_items_is r.members c.take_packet.new.members many)
+    ∙ take_ring r place c.args.current c.index.result.now l c.take_packet.new.link v c.take_packet.new.members c.requires.up.place c.index.ensures
     (c.view_of-view.ensures ∙ ap (λ vs. get_or (no_group ∷ vs) c.index.result.now.version no_group) c.deref.ensures.value)
-    c.requires.current c.index_mut-wire.ensures.value
-    (subst (λ ss. map member_of c.take_packet.new.seats ≡ set (map member_of ss) place (taken (suc (length ss)) (is_owned v (suc place) l.sender) (logs_of ss) (member_in ss place) (oldest (link_of l)))) c.deref_mut.ensures.value c.in_ok-take_packet.ensures.seats)
-    c.in_ok-take_packet.ensures.wire
+    c.requires.current c.index_mut-link.ensures.value
+    (subst (λ ss. map member_of c.take_packet.new.members ≡ set (map member_of ss) place (taken (suc (length ss)) (is_owned v (suc place) l.sender) (logs_of ss) (member_in ss place) (oldest (link_of l)))) c.deref_mut.ensures.value c.in_ok-take_packet.ensures.members)
+    c.in_ok-take_packet.ensures.link
 
 pub returns-in_err-take_packet-clause-err : goal.returns-in_err-take_packet-clause-err
 returns-in_err-take_packet-clause-err c =
     let r = c.args.ring.now in
-    let many : length c.take_packet.new.seats ≡ r.seats.len = omega (arith, c.take_packet.auto.seats, c.deref_mut.ensures.len, ap length c.deref_mut.ensures.value, r.seats.ok.0) in
-    let same = ap (λ ss. record (world_of r) { members = no_member ∷ map member_of ss; links = map link_of (set r.wires.items c.args.current c.take_packet.new.wire) }) (with_items_is r.seats c.take_packet.new.seats many)
-    ∙ same_ring r c.args.current c.index_mut-wire.result.now c.take_packet.new.wire c.take_packet.new.seats c.requires.current c.index_mut-wire.ensures.value
-    (subst (λ ss. map member_of c.take_packet.new.seats ≡ map member_of ss) c.deref_mut.ensures.value c.in_err-take_packet.ensures.err_seats) c.in_err-take_packet.ensures.err_wire in
+    let many : length c.take_packet.new.members ≡ r.members.len = omega (arith, c.take_packet.auto.members, c.deref_mut.ensures.len, ap length c.deref_mut.ensures.value, r.members.ok.0) in
+    let same = ap (λ ss. record (world_of r) { members = no_member ∷ map member_of ss; links = map link_of (set r.links.items c.args.current c.take_packet.new.link) }) (with_items_is r.members c.take_packet.new.members many)
+    ∙ same_ring r c.args.current c.index_mut-link.result.now c.take_packet.new.link c.take_packet.new.members c.requires.current c.index_mut-link.ensures.value
+    (subst (λ ss. map member_of c.take_packet.new.members ≡ map member_of ss) c.deref_mut.ensures.value c.in_err-take_packet.ensures.err_members) c.in_err-take_packet.ensures.err_link in
     OnErr_of c.from_residual.result same

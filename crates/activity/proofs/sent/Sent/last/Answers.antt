@@ -1,6 +1,6 @@
 use Rattle.std.proofs.Common.{sym, ap, ◌∙◌}
 use Rattle.activity.proofs.Rows.{sent_found, sent_none}
-use Rattle.activity.specs.Told.{sent_of}
+use Rattle.activity.specs.LastSent.{sent_of}
 use Rattle.activity.proofs.sent.Sent.last.Goals as goal
 
 pub returns-in-Some : goal.returns-in-Some

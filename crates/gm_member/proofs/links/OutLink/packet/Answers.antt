@@ -1,6 +1,6 @@
 use Rattle.std.proofs.Common.{◌+◌, ap, ◌∙◌, map}
-use Rattle.activity.specs.Parcels.{line_of}
-use Rattle.gm_member.specs.Parcels.{places}
+use Rattle.activity.specs.Packets.{line_of}
+use Rattle.gm_member.specs.Packets.{places}
 use Rattle.gm_member.proofs.Putting.{lines_are, both_ok}
 use Rattle.gm_member.proofs.links.OutLink.packet.Goals as goal
 

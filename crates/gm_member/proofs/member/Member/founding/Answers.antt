@@ -5,16 +5,16 @@ use Rattle.group_view.specs.View.{Group}
 use Rattle.ring_rules.specs.View.{left_of, right_of}
 use Rattle.ring_rules.specs.declared.phase.Phase.TheVariants.{Up}
 use Rattle.activity.specs.Kept.{KeptRow}
-use Rattle.activity.specs.Told.{ToldRow, sent_of}
+use Rattle.activity.specs.LastSent.{LastSentRow, sent_of}
 use Rattle.gm_member.specs.View.{all_kept, all_sent}
 use Rattle.gm_member.specs.Held.{Held, Incoming, founded}
 use Rattle.gm_member.specs.Within.{IsWithin}
-use Rattle.gm_member.proofs.ToldRight.{nothing_told}
+use Rattle.gm_member.proofs.AllIsSent.{nothing_last_sent}
 use Rattle.gm_member.proofs.Within.{none_within}
 use Rattle.gm_member.proofs.member.Member.founding.Goals as goal
 
 -- what is founded, of its parts
-founded_of : (credit : CreditSpec) (name : List ℕ) (id : ℕ) (view : Group) (rows : List KeptRow) (sent : List ToldRow) (to from version : ℕ) (left : Credit) (counted : Counted) (door : List Incoming)
+founded_of : (credit : CreditSpec) (name : List ℕ) (id : ℕ) (view : Group) (rows : List KeptRow) (sent : List LastSentRow) (to from version : ℕ) (left : Credit) (counted : Counted) (door : List Incoming)
     → rows ≡ [] → sent ≡ [] → to ≡ right_of view id → from ≡ left_of view id → version ≡ view.version → left ≡ full_credit credit.initial credit.more → counted ≡ none_taken credit.initial credit.more → door ≡ []
     → ◌≡◌ {A = Held} (record {
       id = id;
@@ -22,7 +22,7 @@ founded_of : (credit : CreditSpec) (name : List ℕ) (id : ℕ) (view : Group) (
       phase = Up;
       view = view;
       known = all_kept rows;
-      out = Some (record { to = to; opened = version; fresh = true; told = all_sent sent; credit = left });
+      out = Some (record { to = to; opened = version; fresh = true; last_sent = all_sent sent; credit = left });
       current = Some (record { from = from; opened = version; counted = counted });
       door = door;
       asks = false;
@@ -34,8 +34,8 @@ founded_of credit name id view rows sent to from version left counted door r s t
 pub invariant_of-result-2-clause-sent : goal.invariant_of-result-2-clause-sent
 invariant_of-result-2-clause-sent g c = subst (λ s. IsWithin (λ p. sent_of s p) c.new.result) (sym c.new-2.ensures) (none_within c.new.result)
 
-pub invariant_of-result-2-clause-told_right : goal.invariant_of-result-2-clause-told_right
-invariant_of-result-2-clause-told_right g c = nothing_told c.new.result c.new-2.result c.new.ensures c.new-2.ensures
+pub invariant_of-result-2-clause-says_all_is_sent : goal.invariant_of-result-2-clause-says_all_is_sent
+invariant_of-result-2-clause-says_all_is_sent g c = nothing_last_sent c.new.result c.new-2.result c.new.ensures c.new-2.ensures
 
 pub invariant_of-result-2-clause-spared : goal.invariant_of-result-2-clause-spared
 invariant_of-result-2-clause-spared g c = none_within c.new.result

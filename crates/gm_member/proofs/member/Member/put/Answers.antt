@@ -3,7 +3,7 @@ use Rattle.std.proofs.lemmas.Result.{on_ok_weaker}
 use Rattle.ring_names.specs.declared.reason.Reason.TheVariants.{NoOutLink}
 use Rattle.ring_rules.specs.declared.event.Event.TheVariants.{Put}
 use Rattle.gm_member.specs.declared.fault.MemberFault.TheVariants as fault
-use Rattle.gm_member.specs.Held.{Held, Outgoing, put_refused, put_held, on_some, out_refused, parcel_on}
+use Rattle.gm_member.specs.Held.{Held, Outgoing, put_refused, put_held, on_some, out_refused, packet_on}
 use Rattle.gm_member.specs.Stands.{WhereItStands, IsPutPacket}
 use Rattle.gm_member.specs.Shown.{held_of}
 use Rattle.gm_member.proofs.Calls.{up_later, on_ok_both}
@@ -16,10 +16,10 @@ pub put_next-requires : goal.put_next-requires
 put_next-requires g c = is_ready c.args.self.now c.requires
 
 -- who may put sends on a link, and the packet is the ring's
-put_out_lifts : (h : Held) → put_refused h ≡ None → (o : Outgoing) × (h.out ≡ Some o) × WhereItStands h (λ w x. IsPutPacket w x (parcel_on h.view.version h.known o))
+put_out_lifts : (h : Held) → put_refused h ≡ None → (o : Outgoing) × (h.out ≡ Some o) × WhereItStands h (λ w x. IsPutPacket w x (packet_on h.view.version h.known o))
 put_out_lifts h e = by_out h.out refl (up_later h (on_some h.out NoOutLink (out_refused h.known)) e)
   where
-    by_out : (a : Option Outgoing) → h.out ≡ a → on_some a NoOutLink (out_refused h.known) ≡ None → (o : Outgoing) × (h.out ≡ Some o) × WhereItStands h (λ w x. IsPutPacket w x (parcel_on h.view.version h.known o))
+    by_out : (a : Option Outgoing) → h.out ≡ a → on_some a NoOutLink (out_refused h.known) ≡ None → (o : Outgoing) × (h.out ≡ Some o) × WhereItStands h (λ w x. IsPutPacket w x (packet_on h.view.version h.known o))
     by_out None is k = cc
     by_out (Some o) is k = (o, is, put_packet_lifts h o e is)
 

@@ -1,20 +1,20 @@
 use Rattle.std.proofs.Common.{option_map, refl, inr, ap, sym, subst, ◌∙◌, arith, rules}
 use Rattle.std.proofs.lemmas.Result.{on_ok_weaker, on_err_weaker, IfErr-weaker}
 use Rattle.gm_member.specs.View.{all_kept, out_of}
-use Rattle.gm_member.specs.Held.{parcel_on}
+use Rattle.gm_member.specs.Held.{packet_on}
 use Rattle.gm_member.specs.Shown.{held_of}
 use Rattle.gm_member.specs.Ends.{EndSends}
 use Rattle.gm_member.proofs.Calls.{put_out_enabled}
 use Rattle.gm_member.proofs.Ready.{sent_there}
-use Rattle.gm_member.proofs.ToldRight.{put_right}
+use Rattle.gm_member.proofs.AllIsSent.{put_right}
 use Rattle.gm_member.proofs.Within.{above_within}
 use Rattle.gm_member.proofs.member.Member.put_next.Goals as goal
 
 pub invariant_of-self-clause-sent : goal.invariant_of-self-clause-sent
 invariant_of-self-clause-sent g c = above_within c.put-put.new.self.sent c.args.self.now.tables c.put-put.ensures.there
 
-pub invariant_of-self-clause-told_right : goal.invariant_of-self-clause-told_right
-invariant_of-self-clause-told_right g c =
+pub invariant_of-self-clause-says_all_is_sent : goal.invariant_of-self-clause-says_all_is_sent
+invariant_of-self-clause-says_all_is_sent g c =
     c.is_ok-self.ensures.value
     ∙ put_right c.put-put.result (all_kept c.args.self.now.tables) (out_of c.in-Some-out.link) (out_of c.put-put.new.self) c.put-put.ensures.ok c.put-put.ensures.err
     (put_out_enabled (held_of c.args.self.now) (out_of c.in-Some-out.link) (ap (option_map out_of) c.in-Some-out.is) (sym c.put_refusal.ensures ∙ c.in_default.is))
@@ -35,7 +35,7 @@ returns-clause-puts g c = record {
         c.put-put.new.self,
         c.in-Some-out.is,
         refl,
-        subst (λ v. EndSends g.O.LinkOut.puts (parcel_on v (all_kept c.args.self.now.tables) (out_of c.in-Some-out.link)) c.in-Some-out.link.end c.put-put.new.self.end) c.version-version.ensures p,
+        subst (λ v. EndSends g.O.LinkOut.puts (packet_on v (all_kept c.args.self.now.tables) (out_of c.in-Some-out.link)) c.in-Some-out.link.end c.put-put.new.self.end) c.version-version.ensures p,
         c.put-put.ensures.kept,
         (refl, refl, refl, refl),
       ))

@@ -1,34 +1,34 @@
 use Rattle.std.proofs.Common.{refl, sym, ap, subst, ◌∙◌, Option, Some}
 use Rattle.gm_member.specs.View.{all_kept, out_of}
 use Rattle.gm_member.specs.Held.{Held, Outgoing}
-use Rattle.activity.specs.Told.{sent_of}
-use Rattle.gm_member.specs.Spares.{IsSpareFor, OpensOn, told_by_spare}
+use Rattle.activity.specs.LastSent.{sent_of}
+use Rattle.gm_member.specs.Spares.{IsSpareFor, OpensOn, last_sent_by_spare}
 use Rattle.gm_member.specs.Shown.{IsReadyToMove, held_of}
 use Rattle.gm_member.proofs.Moving.{sends_out}
-use Rattle.gm_member.proofs.Putting.{told_by_places}
+use Rattle.gm_member.proofs.Putting.{last_sent_by_places}
 use Rattle.gm_member.proofs.Ready.{ready_there}
 use Rattle.gm_member.specs.Within.{IsWithin}
 use Rattle.gm_member.proofs.Within.{none_within, within_above}
 use Rattle.gm_member.proofs.member.Member.send_to.Goals as goal
 
 pub invariant_of-self-clause-spared : goal.invariant_of-self-clause-spared
-invariant_of-self-clause-spared g c = subst (λ o. IsWithin (told_by_spare o) c.args.self.now.tables) (sym c.take.ensures.after) (none_within c.args.self.now.tables)
+invariant_of-self-clause-spared g c = subst (λ o. IsWithin (last_sent_by_spare o) c.args.self.now.tables) (sym c.take.ensures.after) (none_within c.args.self.now.tables)
 
 pub invariant_of-self-2-clause-sent : goal.invariant_of-self-2-clause-sent
 invariant_of-self-2-clause-sent g c =
     subst (λ s. IsWithin (λ p. sent_of s p) c.move_on.new.self.tables) (sym c.open-link.ensures.sent)
     (subst (IsWithin (λ p. sent_of c.in-Some.spare.sent p)) (sym c.move_on.ensures.tables)
-    (subst (λ o. IsWithin (told_by_spare o) c.args.self.now.tables) (sym c.take.ensures.value ∙ c.in-Some.is) c.args.self.now.spared))
+    (subst (λ o. IsWithin (last_sent_by_spare o) c.args.self.now.tables) (sym c.take.ensures.value ∙ c.in-Some.is) c.args.self.now.spared))
 
 pub says_all-self-requires : goal.says_all-self-requires
 says_all-self-requires g c =
     within_above c.open-link.result.0.sent c.move_on.new.self.tables
     (subst (λ s. IsWithin (λ p. sent_of s p) c.move_on.new.self.tables) (sym c.open-link.ensures.sent)
     (subst (IsWithin (λ p. sent_of c.in-Some.spare.sent p)) (sym c.move_on.ensures.tables)
-    (subst (λ o. IsWithin (told_by_spare o) c.args.self.now.tables) (sym c.take.ensures.value ∙ c.in-Some.is) c.args.self.now.spared)))
+    (subst (λ o. IsWithin (last_sent_by_spare o) c.args.self.now.tables) (sym c.take.ensures.value ∙ c.in-Some.is) c.args.self.now.spared)))
 
-pub invariant_of-self-2-clause-told_right : goal.invariant_of-self-2-clause-told_right
-invariant_of-self-2-clause-told_right g c = c.says_all-self.ensures ∙ told_by_places c.move_on.new.self.tables c.open-link.result.0.sent
+pub invariant_of-self-2-clause-says_all_is_sent : goal.invariant_of-self-2-clause-says_all_is_sent
+invariant_of-self-2-clause-says_all_is_sent g c = c.says_all-self.ensures ∙ last_sent_by_places c.move_on.new.self.tables c.open-link.result.0.sent
 
 pub returns-clause-sends : goal.returns-clause-sends
 returns-clause-sends g c r =

@@ -4,7 +4,7 @@ use Rattle.gm_member.specs.declared.fault.MemberFault.TheVariants as fault
 use Rattle.ring_rules.specs.Machine.{member_at}
 use Rattle.ring_rules.specs.Event.{take_refusal}
 use Rattle.gm_member.specs.Held.{take_refused, took_held}
-use Rattle.gm_member.specs.Parcels.{by_origin}
+use Rattle.gm_member.specs.Packets.{packet_by_id}
 use Rattle.gm_member.specs.Stands.{IsNextPacket}
 use Rattle.gm_member.specs.Shown.{held_of}
 use Rattle.gm_member.proofs.Calls.{if_ok_both}
@@ -18,9 +18,9 @@ returns-clause-steps g c = if_ok_both c.take_next.result
       ok.0,
       ok.4,
       λ credit names events x are r l n s next. (
-        steps_where (MayTakeIt (by_origin ok.0)) (λ w y. IsNextPacket w y (by_origin ok.0)) Take (λ h. took_held h (by_origin ok.0)) (λ w y f a b. take_steps w y (by_origin ok.0) f a b)
+        steps_where (MayTakeIt (packet_by_id ok.0)) (λ w y. IsNextPacket w y (packet_by_id ok.0)) Take (λ h. took_held h (packet_by_id ok.0)) (λ w y f a b. take_steps w y (packet_by_id ok.0) f a b)
             (held_of c.args.self.now) (held_of c.take_next.new.self) (enabled, ok.1) ok.2 credit names events x are r l n s next,
-        news_lift (held_of c.args.self.now) (by_origin ok.0) taken.items (enabled, ok.1) ok.3 credit names events x are r l n s next,
+        news_lift (held_of c.args.self.now) (packet_by_id ok.0) taken.items (enabled, ok.1) ok.3 credit names events x are r l n s next,
       ),
     ))
     c.take_next.ensures.heeds.enabled c.take_next.ensures.takes.ok

@@ -2,32 +2,32 @@ use Rattle.std.proofs.Common.{ℕ, Bool, true, false, List, [], ◌∷◌, ◌++
 use Rattle.credit_flow.specs.Credit.{Credit, sent}
 use Rattle.group_view.specs.declared.link.LinkKind.TheVariants.{Ring}
 use Rattle.group_view.specs.declared.request.Request.TheVariants.{Deposit}
-use Rattle.activity.specs.Told.{Told}
-use Rattle.activity.specs.Parcels.{Carried, Parcel}
-use Rattle.gm_member.specs.Parcels.{ByOrigin, by_origin}
-use Rattle.gm_member.specs.Held.{Outgoing, all_told}
+use Rattle.activity.specs.LastSent.{LastSent}
+use Rattle.activity.specs.Packets.{LineSeen, PacketSeen}
+use Rattle.gm_member.specs.Packets.{PacketById, packet_by_id}
+use Rattle.gm_member.specs.Held.{Outgoing, all_last_sent}
 use Rattle.gm_member.proofs.spare.Spare.open.Goals as goal
 
 -- what the spare link shows once it is open
-abbrev opened_with : ℕ → ℕ → List Told → Credit → Outgoing
-opened_with to version ts k = record { to = to; opened = version; fresh = false; told = ts; credit = k }
+abbrev opened_with : ℕ → ℕ → List LastSent → Credit → Outgoing
+opened_with to version ts k = record { to = to; opened = version; fresh = false; last_sent = ts; credit = k }
 
 -- its first packet
-abbrev packet_with : ℕ → Bool → List (Option Carried) → ByOrigin
+abbrev packet_with : ℕ → Bool → List (Option LineSeen) → PacketById
 packet_with version first lines = record { view = version; first = first; lines = lines }
 
 pub returns-clause-opens : goal.returns-clause-opens
 returns-clause-opens g c = λ known s. record {
   held =
-      ap (λ ts. opened_with c.args.to.0 c.args.version ts c.send.new.self) s.told
-      ∙ ap (opened_with c.args.to.0 c.args.version (all_told known)) (c.send.ensures ∙ ap sent c.new-outgoing.ensures);
-  kept = refl;
+      ap (λ ts. opened_with c.args.to.0 c.args.version ts c.send.new.self) s.last_sent
+      ∙ ap (opened_with c.args.to.0 c.args.version (all_last_sent known)) (c.send.ensures ∙ ap sent c.new-outgoing.ensures);
+  returned = refl;
   end = c.put.new.self;
   there = refl;
   packet = (
     record { stamp = c.packet.inside.stamp; view = c.args.version; first = c.packet.inside.first; lines = c.packet.inside.lines },
-    ap (λ (q : Parcel). packet_with c.args.version q.first (by_origin q).lines) c.packet.view_is
-        ∙ ap (λ b. packet_with c.args.version b (by_origin c.args.self.packet).lines) s.first
+    ap (λ (q : PacketSeen). packet_with c.args.version q.first (packet_by_id q).lines) c.packet.view_is
+        ∙ ap (λ b. packet_with c.args.version b (packet_by_id c.args.self.packet).lines) s.first
         ∙ ap (packet_with c.args.version true) s.lines,
     c.in-Ok.ensures.ok,
   );

@@ -1,4 +1,4 @@
-use Rattle.ring_cluster.proofs.post.Owed.{but_same}
+use Rattle.ring_cluster.proofs.deposits.Owed.{but_same}
 use Rattle.ring_cluster.proofs.rounds.Numbers.{on_err}
 use Rattle.ring_cluster.proofs.cluster.Cluster.answer.Goals as goal
 

@@ -1,9 +1,9 @@
 use Rattle.std.proofs.Common.{◌≡◌, Some, sym, ap, ◌∙◌}
 use Rattle.std.proofs.lemmas.Result.{IfOk-weaker}
 use Rattle.ring_rules.specs.Event.{by_of, event_of, is_multicast, refusal}
+use Rattle.ring_rules.proofs.events.Kinds.{event_by, event_multicast}
 use Rattle.ring_cluster.specs.Seen.{state_of}
 use Rattle.ring_cluster.proofs.rounds.Members.{refused_enabled}
-use Rattle.ring_cluster.proofs.rounds.Named.{event_by, event_multicast}
 use Rattle.ring_cluster.proofs.cluster.Cluster.answer_to.Goals as goal
 
 pub refusal-requires : goal.refusal-requires

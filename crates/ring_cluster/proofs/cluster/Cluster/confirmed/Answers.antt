@@ -1,5 +1,5 @@
 use Rattle.std.proofs.Common.{◌-◌, ap, ◌∙◌}
-use Rattle.gm_member.specs.Parcels.{known_at}
+use Rattle.gm_member.specs.Packets.{known_at}
 use Rattle.gm_member.specs.Shown.{held_of}
 use Rattle.ring_cluster.proofs.cluster.Cluster.confirmed.Goals as goal
 

@@ -1,6 +1,6 @@
 use Rattle.std.proofs.Common.{◌≡◌, refl, ap, ◌∙◌}
 use Rattle.ring_script.specs.declared.command.Command.TheVariants as command
-use Rattle.ring_cluster.proofs.post.Owed.{but_same}
+use Rattle.ring_cluster.proofs.deposits.Owed.{but_same}
 use Rattle.ring_cluster.proofs.rounds.Counting.{each_none, each_beside}
 use Rattle.ring_cluster.proofs.rounds.Doing.{gone_from, gone_into, round_heads, given_after, go_plays, same_plays}
 use Rattle.ring_cluster.proofs.rounds.Turning.{works_same}

@@ -1,9 +1,7 @@
-use Rattle.std.proofs.Common.{List, ℕ, ap, subst, arith}
-use Rattle.ring_rules.specs.declared.event.Event.TheVariants.{Erase}
+use Rattle.std.proofs.Common.{ap, subst, arith}
 use Rattle.ring_rules.specs.Step.{size}
 use Rattle.ring_cluster.specs.Seen.{Seen, state_of}
 use Rattle.ring_parties.specs.Standing.{StandAfter}
-use Rattle.ring_parties.specs.Refused.{IsRefusalAt}
 use Rattle.ring_cluster.proofs.rounds.Asking.{none_told, some_told}
 use Rattle.ring_cluster.proofs.rounds.Holding.{parties_many}
 use Rattle.ring_cluster.proofs.rounds.Resting.{erase_told}
@@ -17,13 +15,13 @@ erase_refusal-refusal-requires-clause-within c =
 pub returns-clause-may : goal.returns-clause-may
 returns-clause-may c =
     none_told c.erase_refusal-refusal.result _ c.is_none.result c.is_none.ensures
-    (erase_told c.args.self.now c.args.place c.args.origin.now c.erase_refusal-refusal.result c.requires
-    (subst (λ (x : Seen). StandAfter x.credit x.names x.events x.shows) c.self.view_is c.self.invariant.standing)
-    (subst (λ (x : Seen). (by : List ℕ) → IsRefusalAt c.args.place (Erase by c.args.origin.now) x.shows c.erase_refusal-refusal.result) c.self.view_is c.erase_refusal-refusal.ensures))
+    (erase_told c.args.self.now (c.self.inside.parties).all c.args.place c.args.origin.now c.erase_refusal-refusal.result c.requires
+    (subst (λ (x : Seen). StandAfter x.credit x.names x.events (c.self.inside.parties).all) c.self.view_is c.self.invariant.standing)
+    c.erase_refusal-refusal.ensures)
 
 pub returns-clause-may_not : goal.returns-clause-may_not
 returns-clause-may_not c =
     some_told c.erase_refusal-refusal.result _ c.is_none.result c.is_none.ensures
-    (erase_told c.args.self.now c.args.place c.args.origin.now c.erase_refusal-refusal.result c.requires
-    (subst (λ (x : Seen). StandAfter x.credit x.names x.events x.shows) c.self.view_is c.self.invariant.standing)
-    (subst (λ (x : Seen). (by : List ℕ) → IsRefusalAt c.args.place (Erase by c.args.origin.now) x.shows c.erase_refusal-refusal.result) c.self.view_is c.erase_refusal-refusal.ensures))
+    (erase_told c.args.self.now (c.self.inside.parties).all c.args.place c.args.origin.now c.erase_refusal-refusal.result c.requires
+    (subst (λ (x : Seen). StandAfter x.credit x.names x.events (c.self.inside.parties).all) c.self.view_is c.self.invariant.standing)
+    c.erase_refusal-refusal.ensures)

@@ -1,9 +1,7 @@
-use Rattle.std.proofs.Common.{List, ℕ, ap, subst, arith}
-use Rattle.ring_rules.specs.Kind.{step_event}
+use Rattle.std.proofs.Common.{ap, subst, arith}
 use Rattle.ring_rules.specs.Step.{size}
 use Rattle.ring_cluster.specs.Seen.{Seen, state_of}
 use Rattle.ring_parties.specs.Standing.{StandAfter}
-use Rattle.ring_parties.specs.Refused.{IsRefusalAt}
 use Rattle.ring_cluster.proofs.rounds.Asking.{none_told, some_told}
 use Rattle.ring_cluster.proofs.rounds.Resting.{step_told}
 use Rattle.ring_cluster.proofs.rounds.Holding.{parties_many}
@@ -17,13 +15,13 @@ step_refusal-refusal-requires-clause-within c =
 pub returns-clause-may : goal.returns-clause-may
 returns-clause-may c =
     none_told c.step_refusal-refusal.result _ c.is_none.result c.is_none.ensures
-    (step_told c.args.self.now c.args.place c.args.step c.step_refusal-refusal.result c.requires
-    (subst (λ (x : Seen). StandAfter x.credit x.names x.events x.shows) c.self.view_is c.self.invariant.standing)
-    (subst (λ (x : Seen). (by : List ℕ) → IsRefusalAt c.args.place (step_event c.args.step by) x.shows c.step_refusal-refusal.result) c.self.view_is c.step_refusal-refusal.ensures))
+    (step_told c.args.self.now (c.self.inside.parties).all c.args.place c.args.step c.step_refusal-refusal.result c.requires
+    (subst (λ (x : Seen). StandAfter x.credit x.names x.events (c.self.inside.parties).all) c.self.view_is c.self.invariant.standing)
+    c.step_refusal-refusal.ensures)
 
 pub returns-clause-may_not : goal.returns-clause-may_not
 returns-clause-may_not c =
     some_told c.step_refusal-refusal.result _ c.is_none.result c.is_none.ensures
-    (step_told c.args.self.now c.args.place c.args.step c.step_refusal-refusal.result c.requires
-    (subst (λ (x : Seen). StandAfter x.credit x.names x.events x.shows) c.self.view_is c.self.invariant.standing)
-    (subst (λ (x : Seen). (by : List ℕ) → IsRefusalAt c.args.place (step_event c.args.step by) x.shows c.step_refusal-refusal.result) c.self.view_is c.step_refusal-refusal.ensures))
+    (step_told c.args.self.now (c.self.inside.parties).all c.args.place c.args.step c.step_refusal-refusal.result c.requires
+    (subst (λ (x : Seen). StandAfter x.credit x.names x.events (c.self.inside.parties).all) c.self.view_is c.self.invariant.standing)
+    c.step_refusal-refusal.ensures)

@@ -1,5 +1,5 @@
 use Rattle.std.proofs.Common.{true, false, inr, refl}
-use Rattle.ring_cluster.proofs.post.Owed.{stepped_is, owing_is}
+use Rattle.ring_cluster.proofs.deposits.Owed.{stepped_is, owing_is}
 use Rattle.ring_cluster.proofs.cluster.Cluster.step.Goals as goal
 
 pub returns-in-Ok-clause-ok : goal.returns-in-Ok-clause-ok

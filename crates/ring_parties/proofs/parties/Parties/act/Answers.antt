@@ -2,10 +2,10 @@ use Rattle.std.proofs.Common.{sym, ap, subst, ⊎_elim, ◌∙◌}
 use Rattle.std.specs.Prelude.{IfOk}
 use Rattle.ring_rules.specs.declared.kind.Kind.TheVariants as shown
 use Rattle.ring_rules.specs.Kind.{kind_of}
-use Rattle.ring_parties.specs.Looking.{loose_seen}
+use Rattle.ring_rules.proofs.events.Kinds.{kind_read}
+use Rattle.ring_parties.specs.Looking.{replaced_seen}
 use Rattle.ring_parties.specs.Acting.{is_alone, Acts}
 use Rattle.ring_parties.specs.Refused.{marked_in}
-use Rattle.ring_parties.proofs.events.Kinds.{kind_read}
 use Rattle.ring_parties.proofs.parties.Parties.act.Goals as goal
 
 pub act_alone-requires-clause-alone : goal.act_alone-requires-clause-alone
@@ -14,5 +14,5 @@ act_alone-requires-clause-alone c = ⊎_elim (λ e. ap is_alone (sym c.kind.ensu
 pub returns-in-Changes-clause-ok : goal.returns-in-Changes-clause-ok
 returns-in-Changes-clause-ok c =
     let q = (c.args.self.now).all in
-    subst (λ k. IfOk c.act_change.result (λ loose. Acts k c.args.i (marked_in k q) q (c.act_change.new.self).all (loose_seen loose)))
+    subst (λ k. IfOk c.act_change.result (λ replaced. Acts k c.args.i (marked_in k q) q (c.act_change.new.self).all (replaced_seen replaced)))
     (sym (kind_read (kind_of c.args.event.now) (shown.Changes c.in-Changes.change) (sym c.in-Changes.is ∙ c.kind.ensures))) c.act_change.ensures.ok

@@ -9,14 +9,14 @@ use Rattle.gm_member.specs.declared.questions.Ask.TheVariants.{Admit}
 use Rattle.gm_member.specs.Held.{at_some, up_refused}
 use Rattle.ring_parties.specs.Behind.{behind}
 use Rattle.ring_parties.specs.Ends.{fresh_in}
-use Rattle.ring_parties.specs.Parties.{Posted, Shown, parties, node_at, shown_of, shown_in}
-use Rattle.ring_parties.specs.Looking.{HasLooked, kept_post, loose_seen, ask_refused}
+use Rattle.ring_parties.specs.Parties.{Deposit, Shown, parties, node_at, shown_of, shown_in}
+use Rattle.ring_parties.specs.Looking.{HasLooked, pending_shown, replaced_seen, ask_refused}
 use Rattle.ring_parties.specs.Acting.{joined, HasCredit, AdmitsAt}
 use Rattle.ring_parties.specs.Refused.{admission_refused}
 use Rattle.ring_parties.proofs.standing.Nodes.{at_read, written_shown}
 use Rattle.ring_parties.proofs.events.Acted.{lets_in}
 use Rattle.ring_parties.proofs.events.Closing.{up_later}
-use Rattle.ring_parties.proofs.post.Delivered.{inside, none_behind, bare, shown_is, here, few, asks_nothing, id_is, is_ready, may_join, unchanged, seen_as}
+use Rattle.ring_parties.proofs.deposits.Delivered.{inside, none_behind, bare, shown_is, here, few, asks_nothing, id_is, is_ready, may_join, unchanged, seen_as}
 use Rattle.ring_parties.proofs.parties.Parties.act_admit.Goals as goal
 
 pub admit_refusal-requires : goal.admit_refusal-requires
@@ -83,8 +83,8 @@ returns-in-Err-clause-judged c =
 pub returns-in-Err-clause-err : goal.returns-in-Err-clause-err
 returns-in-Err-clause-err c =
     let value = c.index_mut.ensures.value ∙ ap (λ ms. get_or ms c.args.i c.index_mut.result.now) c.reserve.ensures.items in
-    ap (λ ms. seen_as (set ms c.args.i (record c.index_mut.result.now { node = c.ask.new.node })) c.ask.new.registrar c.self.inside.late) c.reserve.ensures.items
-    ∙ ap (λ r. seen_as (set c.self.inside.members.items c.args.i (record c.index_mut.result.now { node = c.ask.new.node })) r c.self.inside.late) c.in-Err.ensures.err.1
+    ap (λ ms. seen_as (set ms c.args.i (record c.index_mut.result.now { node = c.ask.new.node })) c.ask.new.registrar c.self.inside.pending_deposit) c.reserve.ensures.items
+    ∙ ap (λ r. seen_as (set c.self.inside.members.items c.args.i (record c.index_mut.result.now { node = c.ask.new.node })) r c.self.inside.pending_deposit) c.in-Err.ensures.err.1
     ∙ unchanged c.self.inside c.args.self.now c.self.view_is c.args.i c.requires.may.within c.index_mut.result.now c.ask.new.node value c.in-Err.ensures.err.0
 
 pub returns-clause-ok : goal.returns-clause-ok
@@ -100,17 +100,17 @@ returns-clause-ok c =
     let name = c.args.name.now in
     let v = admitted (newest r) (c.args.i + 1) name in
     let id : c.index_mut.result.now.node.id.0 ≡ c.args.i + 1 = id_is c.self.inside c.args.self.now c.self.view_is c.requires.may.standing c.args.i c.requires.may.within c.index_mut.result.now value in
-    let has_looked = subst (λ x. HasLooked (admitted (newest r) x name) (shown_in c.index_mut.result.now) (shown_of c.ask.new.node) (kept_post looked.opened) (loose_seen looked.loose)) id c.in-Ok-ask.ensures.ok in
+    let has_looked = subst (λ x. HasLooked (admitted (newest r) x name) (shown_in c.index_mut.result.now) (shown_of c.ask.new.node) (pending_shown looked.opened) (replaced_seen looked.replaced)) id c.in-Ok-ask.ensures.ok in
     let follows = c.in-Ok-ask.ensures.registrar ∙ ap (λ x. with_view r (admitted (newest r) x name)) id in
     let made = c.in-Ok.ensures ∙ ap (λ g. joined c.args.credit name g.next_id (admitted g (c.args.i + 1) name) (Some (fresh_in c.args.credit.initial))) c.view-view.ensures.newest in
-    let seated = c.seat.ensures ∙ ap (λ (m : Shown). record m { ends = record m.ends { link = at_some (kept_post looked.opened) None (λ (d : Posted). d.end) } }) made in
+    let seated = c.seat.ensures ∙ ap (λ (m : Shown). record m { ends = record m.ends { link = at_some (pending_shown looked.opened) None (λ (d : Deposit). d.end) } }) made in
     let members = c.push_reserved.ensures ∙ ap (λ ms. set ms c.args.i party ++ record { node = c.seat.new.node } ∷ []) c.reserve.ensures.items in
-    subst (λ p. AdmitsAt name c.args.i p (parties c.push_reserved.new.members.items c.ask.new.registrar (behind c.self.inside.late)) (loose_seen looked.loose)) (sym old)
-    (subst (λ p. AdmitsAt name c.args.i (parties ns r []) p (loose_seen looked.loose)) (sym (none_behind c.self.inside c.args.self.now c.self.view_is c.requires.may.delivered c.push_reserved.new.members.items c.ask.new.registrar))
-    (subst (λ ms. AdmitsAt name c.args.i (parties ns r []) (parties ms c.ask.new.registrar []) (loose_seen looked.loose)) (sym members) (
+    subst (λ p. AdmitsAt name c.args.i p (parties c.push_reserved.new.members.items c.ask.new.registrar (behind c.self.inside.pending_deposit)) (replaced_seen looked.replaced)) (sym old)
+    (subst (λ p. AdmitsAt name c.args.i (parties ns r []) p (replaced_seen looked.replaced)) (sym (none_behind c.self.inside c.args.self.now c.self.view_is c.requires.may.delivered c.push_reserved.new.members.items c.ask.new.registrar))
+    (subst (λ ms. AdmitsAt name c.args.i (parties ns r []) (parties ms c.ask.new.registrar []) (replaced_seen looked.replaced)) (sym members) (
       c.args.credit,
       subst (λ q. HasCredit c.args.credit (node_at q c.args.i).held) old c.requires.credit,
-      lets_in v c.args.credit name (newest r).next_id c.args.i ns ns' (record { node = c.seat.new.node }) r c.ask.new.registrar looked.opened (loose_seen looked.loose)
-          (at_read (λ a b. HasLooked v a b (kept_post looked.opened) (loose_seen looked.loose)) ns c.args.i c.index_mut.result.now party l value has_looked)
+      lets_in v c.args.credit name (newest r).next_id c.args.i ns ns' (record { node = c.seat.new.node }) r c.ask.new.registrar looked.opened (replaced_seen looked.replaced)
+          (at_read (λ a b. HasLooked v a b (pending_shown looked.opened) (replaced_seen looked.replaced)) ns c.args.i c.index_mut.result.now party l value has_looked)
           (written_shown ns c.args.i party l) seated follows,
     )))

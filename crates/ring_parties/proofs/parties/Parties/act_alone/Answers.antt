@@ -4,7 +4,7 @@ use Rattle.ring_parties.specs.Acting.{DoesAlone}
 use Rattle.ring_rules.proofs.code.Errors.{OnErr_of}
 use Rattle.ring_parties.proofs.standing.Nodes.{at_read, written_shown}
 use Rattle.ring_parties.proofs.events.Acted.{alone_acts}
-use Rattle.ring_parties.proofs.post.Delivered.{inside, unchanged, none_behind, bare, is_ready}
+use Rattle.ring_parties.proofs.deposits.Delivered.{inside, unchanged, none_behind, bare, is_ready}
 use Rattle.ring_parties.proofs.parties.Parties.act_alone.Goals as goal
 
 pub do_alone-requires-clause-ready : goal.do_alone-requires-clause-ready

@@ -1,13 +1,13 @@
 use Rattle.std.proofs.Common.{◌≡◌, Some, ap, subst, sym, ◌∙◌}
 use Rattle.std.specs.Prelude.{option_map}
 use Rattle.group_view.specs.View.{number}
-use Rattle.ring_parties.specs.Looking.{loose_seen}
+use Rattle.ring_parties.specs.Looking.{replaced_seen}
 use Rattle.ring_parties.specs.Parties.{node_at}
 use Rattle.ring_parties.specs.Acting.{erasing, viewing, LooksAt}
 use Rattle.ring_parties.specs.Tried.{IsJudged}
 use Rattle.ring_parties.specs.Refused.{id_named, erase_refused, office_of}
 use Rattle.ring_parties.proofs.events.Acted.{ok_also, erase_acts}
-use Rattle.ring_parties.proofs.post.Delivered.{asks_nothing}
+use Rattle.ring_parties.proofs.deposits.Delivered.{asks_nothing}
 use Rattle.ring_parties.proofs.parties.Parties.act_erase.Goals as goal
 
 pub unknown-requires : goal.unknown-requires
@@ -24,5 +24,5 @@ returns-clause-ok c =
     let q = (c.args.self.now).all in
     let id = c.in-Some.id.0 in
     let named : id_named q c.args.origin.now ≡ Some id = c.id_named.ensures.id ∙ ap (option_map number) c.in-Some.is in
-    ok_also c.act_ask.result (λ loose. LooksAt (erasing q id) c.args.i (viewing (erasing q id) q) (c.act_ask.new.self).all (loose_seen loose)) _
-    (λ loose looks. erase_acts c.args.origin.now c.args.i id q (c.act_ask.new.self).all (loose_seen loose) named looks) c.act_ask.ensures.ok
+    ok_also c.act_ask.result (λ replaced. LooksAt (erasing q id) c.args.i (viewing (erasing q id) q) (c.act_ask.new.self).all (replaced_seen replaced)) _
+    (λ replaced looks. erase_acts c.args.origin.now c.args.i id q (c.act_ask.new.self).all (replaced_seen replaced) named looks) c.act_ask.ensures.ok

@@ -9,10 +9,10 @@ use Rattle.gm_member.specs.Held.{refresh_refused}
 use Rattle.ring_parties.specs.Behind.{behind}
 use Rattle.ring_parties.specs.Parties.{shown_of, shown_in, parties}
 use Rattle.ring_parties.specs.Acting.{look_refused, LooksAt}
-use Rattle.ring_parties.specs.Looking.{HasLooked, kept_post, loose_seen}
+use Rattle.ring_parties.specs.Looking.{HasLooked, pending_shown, replaced_seen}
 use Rattle.ring_parties.proofs.standing.Nodes.{at_read, written_shown}
 use Rattle.ring_parties.proofs.events.Acted.{looks_at}
-use Rattle.ring_parties.proofs.post.Delivered.{inside, shown_is, unchanged, bare, asks_nothing, is_ready, may_look}
+use Rattle.ring_parties.proofs.deposits.Delivered.{inside, shown_is, unchanged, bare, asks_nothing, is_ready, may_look}
 use Rattle.ring_parties.proofs.parties.Parties.act_refresh.Goals as goal
 
 pub look_refusal-requires : goal.look_refusal-requires
@@ -49,8 +49,8 @@ returns-clause-ok c =
     let looked = c.in-Ok-look.looked in
     let l = inside c.self.inside c.args.self.now c.self.view_is c.args.i c.requires.within in
     let v = view_at c.self.inside.registrar.views c.args.version in
-    let has = subst (λ g. HasLooked g (shown_in c.index_mut.result.now) (shown_of c.look.new.node) (kept_post looked.opened) (loose_seen looked.loose)) (c.in-Ok.ensures ∙ c.in-Some-published.ensures.view) c.in-Ok-look.ensures.ok in
-    subst (λ p. LooksAt (view_at p.views c.args.version) c.args.i p (parties (set c.self.inside.members.items c.args.i (record c.index_mut.result.now { node = c.look.new.node })) c.self.inside.registrar (behind looked.opened)) (loose_seen looked.loose)) (sym (bare c.self.inside c.args.self.now c.self.view_is c.requires.delivered))
-    (looks_at v c.args.i c.self.inside.members.items (set c.self.inside.members.items c.args.i (record c.index_mut.result.now { node = c.look.new.node })) c.self.inside.registrar looked.opened (loose_seen looked.loose)
-    (at_read (λ a b. HasLooked v a b (kept_post looked.opened) (loose_seen looked.loose)) c.self.inside.members.items c.args.i c.index_mut.result.now (record c.index_mut.result.now { node = c.look.new.node }) l c.index_mut.ensures.value has)
+    let has = subst (λ g. HasLooked g (shown_in c.index_mut.result.now) (shown_of c.look.new.node) (pending_shown looked.opened) (replaced_seen looked.replaced)) (c.in-Ok.ensures ∙ c.in-Some-published.ensures.view) c.in-Ok-look.ensures.ok in
+    subst (λ p. LooksAt (view_at p.views c.args.version) c.args.i p (parties (set c.self.inside.members.items c.args.i (record c.index_mut.result.now { node = c.look.new.node })) c.self.inside.registrar (behind looked.opened)) (replaced_seen looked.replaced)) (sym (bare c.self.inside c.args.self.now c.self.view_is c.requires.delivered))
+    (looks_at v c.args.i c.self.inside.members.items (set c.self.inside.members.items c.args.i (record c.index_mut.result.now { node = c.look.new.node })) c.self.inside.registrar looked.opened (replaced_seen looked.replaced)
+    (at_read (λ a b. HasLooked v a b (pending_shown looked.opened) (replaced_seen looked.replaced)) c.self.inside.members.items c.args.i c.index_mut.result.now (record c.index_mut.result.now { node = c.look.new.node }) l c.index_mut.ensures.value has)
     (written_shown c.self.inside.members.items c.args.i (record c.index_mut.result.now { node = c.look.new.node }) l))

@@ -1,4 +1,4 @@
-use Rattle.ring_parties.proofs.post.Delivered.{asks_nothing}
+use Rattle.ring_parties.proofs.deposits.Delivered.{asks_nothing}
 use Rattle.ring_parties.proofs.parties.Parties.act_refuse.Goals as goal
 
 pub own_refusal-requires : goal.own_refusal-requires

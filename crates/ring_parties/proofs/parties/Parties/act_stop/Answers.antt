@@ -2,7 +2,7 @@ use Rattle.std.proofs.Common.{set, sym, ◌∙◌, arith}
 use Rattle.ring_parties.specs.Acting.{Halts}
 use Rattle.ring_parties.proofs.standing.Nodes.{at_read, written_shown}
 use Rattle.ring_parties.proofs.events.Acted.{stop_acts}
-use Rattle.ring_parties.proofs.post.Delivered.{inside, none_behind, bare, here, few, asks_nothing, is_ready, unheard}
+use Rattle.ring_parties.proofs.deposits.Delivered.{inside, none_behind, bare, here, few, asks_nothing, is_ready, unheard}
 use Rattle.ring_parties.proofs.parties.Parties.act_stop.Goals as goal
 
 pub stop_refusal-requires : goal.stop_refusal-requires

@@ -10,7 +10,7 @@ use Rattle.ring_parties.specs.Acting.{newest_of}
 use Rattle.ring_parties.specs.Refused.{admission_refused, IsRefusedAs}
 use Rattle.ring_parties.proofs.events.Kinds.{as_told}
 use Rattle.ring_parties.proofs.events.Reads.{admit_reads}
-use Rattle.ring_parties.proofs.post.Delivered.{shown_is, asks_nothing}
+use Rattle.ring_parties.proofs.deposits.Delivered.{shown_is, asks_nothing}
 use Rattle.ring_parties.proofs.parties.Parties.change_refusal.Goals as goal
 
 pub returns-in-Mark : goal.returns-in-Mark

@@ -5,7 +5,7 @@ use Rattle.group_view.specs.View.{number}
 use Rattle.ring_rules.specs.declared.event.Event.TheVariants.{Erase}
 use Rattle.registrar.specs.Asked.{erase_refusal}
 use Rattle.activity.specs.Kept.{got_of}
-use Rattle.gm_member.specs.Parcels.{known_at}
+use Rattle.gm_member.specs.Packets.{known_at}
 use Rattle.gm_member.specs.Held.{up_refused}
 use Rattle.gm_member.proofs.DoorParts.{up_past}
 use Rattle.ring_parties.specs.Behind.{behind}
@@ -13,7 +13,7 @@ use Rattle.ring_parties.specs.Parties.{PartiesSeen, Shown, node_at}
 use Rattle.ring_parties.specs.Refused.{id_named}
 use Rattle.ring_parties.proofs.events.Kinds.{told_as}
 use Rattle.ring_parties.proofs.events.Reads.{up_first, erase_reads, erase_reads_unknown}
-use Rattle.ring_parties.proofs.post.Delivered.{shown_is, asks_nothing}
+use Rattle.ring_parties.proofs.deposits.Delivered.{shown_is, asks_nothing}
 use Rattle.ring_parties.proofs.parties.Parties.erase_refusal.Goals as goal
 
 pub unknown-requires : goal.unknown-requires
@@ -38,7 +38,7 @@ returns-in-Some-up_refusal c = λ by. told_as c.args.i (Erase by c.args.origin.n
     let p = c.in-Some.id.0 in
     let refused : up_refused h None ≡ Some c.in-Some-up_refusal.reason = ap (λ (m : Shown). up_refused m.held None) (sym shown) ∙ sym c.up_refusal.ensures ∙ c.in-Some-up_refusal.is in
     sym (up_first h (erase_refusal c.self.inside.registrar h.id p (got_of (known_at h.known (p - 1))) (known_at h.known (p - 1)).retired h.view.version) c.in-Some-up_refusal.reason refused)
-    ∙ erase_reads credit names events q s c.args.i lt c.self.inside.members.items c.self.inside.registrar (behind c.self.inside.late) (sym (ap (λ (x : PartiesSeen). x.all) c.self.view_is)) c.args.origin.now p named)
+    ∙ erase_reads credit names events q s c.args.i lt c.self.inside.members.items c.self.inside.registrar (behind c.self.inside.pending_deposit) (sym (ap (λ (x : PartiesSeen). x.all) c.self.view_is)) c.args.origin.now p named)
 
 pub returns : goal.returns
 returns c = λ by. told_as c.args.i (Erase by c.args.origin.now) (c.args.self.now).all _ (λ credit names events s lt _.
@@ -57,4 +57,4 @@ returns c = λ by. told_as c.args.i (Erase by c.args.origin.now) (c.args.self.no
     ∙ ap (λ n. erase_refusal r h.id p (got_of (known_at h.known (p - 1))) n c.behind-node.inside.version) (c.numbers_of-kept.ensures.retired ∙ ap (λ (m : Shown). (known_at m.held.known (p - 1)).retired) shown)
     ∙ ap (erase_refusal r h.id p (got_of (known_at h.known (p - 1))) (known_at h.known (p - 1)).retired) version
     ∙ sym (up_past h (erase_refusal r h.id p (got_of (known_at h.known (p - 1))) (known_at h.known (p - 1)).retired h.view.version) up)
-    ∙ erase_reads credit names events q s c.args.i lt c.self.inside.members.items r (behind c.self.inside.late) (sym (ap (λ (x : PartiesSeen). x.all) c.self.view_is)) c.args.origin.now p named)
+    ∙ erase_reads credit names events q s c.args.i lt c.self.inside.members.items r (behind c.self.inside.pending_deposit) (sym (ap (λ (x : PartiesSeen). x.all) c.self.view_is)) c.args.origin.now p named)

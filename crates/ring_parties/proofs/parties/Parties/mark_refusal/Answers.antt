@@ -9,10 +9,10 @@ use Rattle.gm_member.specs.Questions.{has_link}
 use Rattle.gm_member.proofs.DoorParts.{up_past}
 use Rattle.ring_parties.specs.Behind.{behind}
 use Rattle.ring_parties.specs.Parties.{PartiesSeen, Shown, node_at}
-use Rattle.ring_parties.specs.Refused.{id_named, with_post}
+use Rattle.ring_parties.specs.Refused.{id_named, with_deposits}
 use Rattle.ring_parties.proofs.events.Kinds.{told_as}
 use Rattle.ring_parties.proofs.events.Reads.{up_first, mark_reads, mark_reads_unknown}
-use Rattle.ring_parties.proofs.post.Delivered.{shown_is, asks_nothing}
+use Rattle.ring_parties.proofs.deposits.Delivered.{shown_is, asks_nothing}
 use Rattle.ring_parties.proofs.parties.Parties.mark_refusal.Goals as goal
 
 pub unknown-requires : goal.unknown-requires
@@ -35,8 +35,8 @@ returns-in-Some-up_refusal c = λ by. told_as c.args.i (Mark by c.args.dead.now)
     let shown = shown_is c.self.inside c.args.self.now c.self.view_is c.args.i c.requires.within c.index.result.now c.index.ensures in
     let h = (node_at q c.args.i).held in
     let refused : up_refused h None ≡ Some c.in-Some-up_refusal.reason = ap (λ (m : Shown). up_refused m.held None) (sym shown) ∙ sym c.up_refusal.ensures ∙ c.in-Some-up_refusal.is in
-    sym (up_first h (mark_refusal c.self.inside.registrar h.id c.in-Some.id.0 h.view.version (has_link (with_post h q.post))) c.in-Some-up_refusal.reason refused)
-    ∙ mark_reads credit names events q s c.args.i lt c.self.inside.members.items c.self.inside.registrar (behind c.self.inside.late) (sym (ap (λ (x : PartiesSeen). x.all) c.self.view_is)) c.args.dead.now c.in-Some.id.0 named)
+    sym (up_first h (mark_refusal c.self.inside.registrar h.id c.in-Some.id.0 h.view.version (has_link (with_deposits h q.deposits))) c.in-Some-up_refusal.reason refused)
+    ∙ mark_reads credit names events q s c.args.i lt c.self.inside.members.items c.self.inside.registrar (behind c.self.inside.pending_deposit) (sym (ap (λ (x : PartiesSeen). x.all) c.self.view_is)) c.args.dead.now c.in-Some.id.0 named)
 
 pub returns : goal.returns
 returns c = λ by. told_as c.args.i (Mark by c.args.dead.now) (c.args.self.now).all _ (λ credit names events s lt _.
@@ -52,5 +52,5 @@ returns c = λ by. told_as c.args.i (Mark by c.args.dead.now) (c.args.self.now).
     ∙ ap (λ x. mark_refusal r x c.in-Some.id.0 c.behind-node.inside.version c.has_link.result) id
     ∙ ap (λ v. mark_refusal r h.id c.in-Some.id.0 v c.has_link.result) version
     ∙ ap (mark_refusal r h.id c.in-Some.id.0 h.view.version) c.has_link.ensures
-    ∙ sym (up_past h (mark_refusal r h.id c.in-Some.id.0 h.view.version (has_link (with_post h q.post))) up)
-    ∙ mark_reads credit names events q s c.args.i lt c.self.inside.members.items r (behind c.self.inside.late) (sym (ap (λ (x : PartiesSeen). x.all) c.self.view_is)) c.args.dead.now c.in-Some.id.0 named)
+    ∙ sym (up_past h (mark_refusal r h.id c.in-Some.id.0 h.view.version (has_link (with_deposits h q.deposits))) up)
+    ∙ mark_reads credit names events q s c.args.i lt c.self.inside.members.items r (behind c.self.inside.pending_deposit) (sym (ap (λ (x : PartiesSeen). x.all) c.self.view_is)) c.args.dead.now c.in-Some.id.0 named)

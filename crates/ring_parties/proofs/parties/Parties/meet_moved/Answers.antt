@@ -1,5 +1,5 @@
 use Rattle.std.proofs.Common.{◌+◌}
-use Rattle.ring_parties.specs.Loose.{moved_by}
+use Rattle.ring_parties.specs.Replaced.{moved_by}
 use Rattle.ring_parties.specs.States.{state}
 use Rattle.ring_parties.proofs.meetings.MeetsAll.{next_may, first_met, comes_from}
 use Rattle.ring_parties.proofs.parties.Parties.meet_moved.Goals as goal

@@ -4,7 +4,7 @@ use Rattle.ring_parties.specs.Behind.{behind}
 use Rattle.ring_parties.specs.Parties.{out_seen, parties, shown_in, with_out}
 use Rattle.ring_parties.specs.Meeting.{MayMeetOut, MeetsIn, MeetsOut}
 use Rattle.ring_parties.proofs.meetings.MeetsOut.{has_lent, out_may, out_away, out_sends, met_ended, out_met, out_none}
-use Rattle.ring_parties.proofs.post.Delivered.{inside}
+use Rattle.ring_parties.proofs.deposits.Delivered.{inside}
 use Rattle.ring_parties.proofs.parties.Parties.meet_out.Goals as goal
 
 pub returns-in_default : goal.returns-in_default
@@ -13,22 +13,22 @@ returns-in_default c =
     let y = record c.index_mut.result.now { node = c.lend_out.new.node } in
     let none = subst (λ z. (shown_in z).ends.out ≡ None) c.index_mut.ensures.value c.in_default.ensures.none in
     let still = subst (λ z. shown_in y ≡ shown_in z) c.index_mut.ensures.value c.in_default.ensures.still in
-    subst (λ q. MeetsOut c.args.i q.all (parties (set c.self.inside.members.items c.args.i y) c.self.inside.registrar (behind c.self.inside.late))) c.self.view_is
-    (out_none c.self.inside.members.items c.args.i c.index_mut.result.now y c.self.inside.registrar (behind c.self.inside.late) l none still)
+    subst (λ q. MeetsOut c.args.i q.all (parties (set c.self.inside.members.items c.args.i y) c.self.inside.registrar (behind c.self.inside.pending_deposit))) c.self.view_is
+    (out_none c.self.inside.members.items c.args.i c.index_mut.result.now y c.self.inside.registrar (behind c.self.inside.pending_deposit) l none still)
 
 pub meet_in-requires : goal.meet_in-requires
 meet_in-requires c =
     let l = inside c.self.inside c.args.self.now c.self.view_is c.args.i c.requires.within in
     let h = has_lent c.self.inside.members.items c.args.i c.index_mut.result.now (record c.index_mut.result.now { node = c.lend_out.new.node }) c.in-Some.name (out_seen c.in-Some.out) l c.index_mut.ensures.value c.in-Some.ensures.named c.in-Some.ensures.there c.in-Some.ensures.lent in
-    out_may c.self.inside.members.items c.args.i c.index_mut.result.now (record c.index_mut.result.now { node = c.lend_out.new.node }) c.self.inside.registrar (behind c.self.inside.late) c.in-Some.name (out_seen c.in-Some.out) (subst (λ q. MayMeetOut q.all c.args.i) (sym c.self.view_is) c.requires.may) h
+    out_may c.self.inside.members.items c.args.i c.index_mut.result.now (record c.index_mut.result.now { node = c.lend_out.new.node }) c.self.inside.registrar (behind c.self.inside.pending_deposit) c.in-Some.name (out_seen c.in-Some.out) (subst (λ q. MayMeetOut q.all c.args.i) (sym c.self.view_is) c.requires.may) h
 
 pub give_out-requires : goal.give_out-requires
 give_out-requires c =
     let l = inside c.self.inside c.args.self.now c.self.view_is c.args.i c.requires.within in
     let h = has_lent c.self.inside.members.items c.args.i c.index_mut.result.now (record c.index_mut.result.now { node = c.lend_out.new.node }) c.in-Some.name (out_seen c.in-Some.out) l c.index_mut.ensures.value c.in-Some.ensures.named c.in-Some.ensures.there c.in-Some.ensures.lent in
-    let here = parties (set c.self.inside.members.items c.args.i (record c.index_mut.result.now { node = c.lend_out.new.node })) c.self.inside.registrar (behind c.self.inside.late) in
+    let here = parties (set c.self.inside.members.items c.args.i (record c.index_mut.result.now { node = c.lend_out.new.node })) c.self.inside.registrar (behind c.self.inside.pending_deposit) in
     let met = subst (λ q. MeetsIn here c.in-Some.name (out_seen c.in-Some.out) here q.all (out_seen c.meet_in.new.out)) (sym c.self-2.view_is) c.meet_in.ensures in
-    let away = out_away c.self.inside.members.items c.self-2.inside.members.items c.args.i c.index_mut.result.now (record c.index_mut.result.now { node = c.lend_out.new.node }) c.index_mut-2.result.now c.self.inside.registrar c.self-2.inside.registrar (behind c.self.inside.late) (behind c.self-2.inside.late) c.in-Some.name (out_seen c.in-Some.out) (out_seen c.meet_in.new.out) h met in
+    let away = out_away c.self.inside.members.items c.self-2.inside.members.items c.args.i c.index_mut.result.now (record c.index_mut.result.now { node = c.lend_out.new.node }) c.index_mut-2.result.now c.self.inside.registrar c.self-2.inside.registrar (behind c.self.inside.pending_deposit) (behind c.self-2.inside.pending_deposit) c.in-Some.name (out_seen c.in-Some.out) (out_seen c.meet_in.new.out) h met in
     let same = ap (λ z. (shown_in z).held) c.index_mut-2.ensures.value ∙ away.0 in
     record {
       lent = subst (λ z. (shown_in z).ends.out ≡ None) (sym c.index_mut-2.ensures.value) away.1;
@@ -41,8 +41,8 @@ pub returns : goal.returns
 returns c =
     let l = inside c.self.inside c.args.self.now c.self.view_is c.args.i c.requires.within in
     let h = has_lent c.self.inside.members.items c.args.i c.index_mut.result.now (record c.index_mut.result.now { node = c.lend_out.new.node }) c.in-Some.name (out_seen c.in-Some.out) l c.index_mut.ensures.value c.in-Some.ensures.named c.in-Some.ensures.there c.in-Some.ensures.lent in
-    let here = parties (set c.self.inside.members.items c.args.i (record c.index_mut.result.now { node = c.lend_out.new.node })) c.self.inside.registrar (behind c.self.inside.late) in
+    let here = parties (set c.self.inside.members.items c.args.i (record c.index_mut.result.now { node = c.lend_out.new.node })) c.self.inside.registrar (behind c.self.inside.pending_deposit) in
     let met = subst (λ q. MeetsIn here c.in-Some.name (out_seen c.in-Some.out) here q.all (out_seen c.meet_in.new.out)) (sym c.self-2.view_is) c.meet_in.ensures in
     let given = subst (λ z. shown_in (record c.index_mut-2.result.now { node = c.give_out.new.node }) ≡ with_out (shown_in z) (out_seen c.meet_in.new.out)) c.index_mut-2.ensures.value c.give_out.ensures in
-    subst (λ q. MeetsOut c.args.i q.all (parties (set c.self-2.inside.members.items c.args.i (record c.index_mut-2.result.now { node = c.give_out.new.node })) c.self-2.inside.registrar (behind c.self-2.inside.late))) c.self.view_is
-    (out_met c.self.inside.members.items c.self-2.inside.members.items c.args.i c.index_mut.result.now (record c.index_mut.result.now { node = c.lend_out.new.node }) c.index_mut-2.result.now (record c.index_mut-2.result.now { node = c.give_out.new.node }) c.self.inside.registrar c.self-2.inside.registrar (behind c.self.inside.late) (behind c.self-2.inside.late) c.in-Some.name (out_seen c.in-Some.out) (out_seen c.meet_in.new.out) h met given)
+    subst (λ q. MeetsOut c.args.i q.all (parties (set c.self-2.inside.members.items c.args.i (record c.index_mut-2.result.now { node = c.give_out.new.node })) c.self-2.inside.registrar (behind c.self-2.inside.pending_deposit))) c.self.view_is
+    (out_met c.self.inside.members.items c.self-2.inside.members.items c.args.i c.index_mut.result.now (record c.index_mut.result.now { node = c.lend_out.new.node }) c.index_mut-2.result.now (record c.index_mut-2.result.now { node = c.give_out.new.node }) c.self.inside.registrar c.self-2.inside.registrar (behind c.self.inside.pending_deposit) (behind c.self-2.inside.pending_deposit) c.in-Some.name (out_seen c.in-Some.out) (out_seen c.meet_in.new.out) h met given)

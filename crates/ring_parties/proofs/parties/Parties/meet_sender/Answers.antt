@@ -1,4 +1,4 @@
-use Rattle.ring_parties.specs.Loose.{IsMember}
+use Rattle.ring_parties.specs.Replaced.{IsMember}
 use Rattle.ring_parties.proofs.meetings.MeetsAll.{of_name, nobody_left, sender_may, second_met}
 use Rattle.ring_parties.proofs.parties.Parties.meet_sender.Goals as goal
 

@@ -4,13 +4,14 @@ use Rattle.ring_rules.specs.declared.kind.ViewChange.{ViewChange}
 use Rattle.ring_rules.specs.declared.kind.Kind.TheVariants as shown
 use Rattle.ring_rules.specs.Kind.{Kind, Steps, Changes, kind_of, shown_kind, step_event}
 use Rattle.ring_rules.specs.Event.{is_multicast_kind}
+use Rattle.ring_rules.proofs.events.Kinds.{kind_read, step_by, step_kind}
 use Rattle.ring_parties.specs.Parties.{PartiesSeen, Parties, shown_in}
 use Rattle.ring_parties.specs.Acting.{newest_of}
 use Rattle.ring_parties.specs.Refused.{own_refused, IsRefusedAs}
-use Rattle.ring_parties.proofs.events.Kinds.{kind_read, told_as, as_told, step_by}
+use Rattle.ring_parties.proofs.events.Kinds.{told_as, as_told}
 use Rattle.ring_parties.proofs.events.Refusals.{IsOwn}
 use Rattle.ring_parties.proofs.events.Reads.{own_reads}
-use Rattle.ring_parties.proofs.post.Delivered.{shown_is, asks_nothing}
+use Rattle.ring_parties.proofs.deposits.Delivered.{shown_is, asks_nothing}
 use Rattle.ring_parties.proofs.parties.Parties.refusal.Goals as goal
 
 -- what is neither a step nor a change needs no more
@@ -28,7 +29,7 @@ pub returns-in-Links : goal.returns-in-Links
 returns-in-Links c =
     told_as c.args.i c.args.event.now (c.args.self.now).all _
     (subst (λ k. IsRefusedAs c.args.i k (c.args.self.now).all c.step_refusal.result) (sym (kind_read (kind_of c.args.event.now) (shown.Links c.in-Links.step) (sym c.in-Links.is ∙ c.kind.ensures)))
-    (as_told c.args.i (step_event c.in-Links.step) (Steps c.in-Links.step) (c.args.self.now).all c.step_refusal.result (step_by c.in-Links.step) c.step_refusal.ensures))
+    (as_told c.args.i (step_event c.in-Links.step) (Steps c.in-Links.step) (c.args.self.now).all c.step_refusal.result (λ by. (step_by c.in-Links.step by, step_kind c.in-Links.step by)) c.step_refusal.ensures))
 
 pub own_refusal-requires : goal.own_refusal-requires
 own_refusal-requires c = asks_nothing c.self.inside c.args.self.now c.self.view_is c.requires.standing c.args.i c.requires.within c.index.result.now c.index.ensures

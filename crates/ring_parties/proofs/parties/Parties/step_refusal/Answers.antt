@@ -3,20 +3,21 @@ use Rattle.ring_names.specs.declared.reason.Reason.{Reason}
 use Rattle.ring_rules.specs.declared.kind.LinkStep.{LinkStep}
 use Rattle.ring_rules.specs.declared.kind.LinkStep.TheVariants as step
 use Rattle.ring_rules.specs.Kind.{Steps, step_event}
-use Rattle.ring_parties.specs.Acting.{step_refused}
 use Rattle.ring_rules.specs.Event.{refused_as}
+use Rattle.ring_rules.proofs.events.Kinds.{step_kind}
+use Rattle.ring_parties.specs.Acting.{step_refused}
 use Rattle.ring_parties.specs.Parties.{Parties}
 use Rattle.ring_parties.specs.States.{state}
 use Rattle.ring_parties.specs.Refused.{IsRefusalAt, IsRefusedAs}
-use Rattle.ring_parties.proofs.events.Kinds.{told_as, step_by}
+use Rattle.ring_parties.proofs.events.Kinds.{told_as}
 use Rattle.ring_parties.proofs.events.Refusals.{IsOwn}
 use Rattle.ring_parties.proofs.events.Reads.{own_reads, pick_reads}
-use Rattle.ring_parties.proofs.post.Delivered.{shown_is, asks_nothing}
+use Rattle.ring_parties.proofs.deposits.Delivered.{shown_is, asks_nothing}
 use Rattle.ring_parties.proofs.parties.Parties.step_refusal.Goals as goal
 
 -- a step is refused as it is whoever does it
 told : (i : ℕ) (s : LinkStep) (q : Parties) (r : Option Reason) → IsRefusedAs i (Steps s) q r → (by : List ℕ) → IsRefusalAt i (step_event s by) q r
-told i s q r h by = told_as i (step_event s by) q r (subst (λ k. IsRefusedAs i k q r) (sym (step_by s by).1) h)
+told i s q r h by = told_as i (step_event s by) q r (subst (λ k. IsRefusedAs i k q r) (sym (step_kind s by)) h)
 
 -- one that is no pick needs no more
 own_step : (s : LinkStep) (x : ℕ) (q : Parties) → (s ≡ step.Pick → ⊥) → IsOwn (Steps s) x q
