@@ -1,12 +1,11 @@
 //! The links at a member's door.
-ghost use Rattle.std.specs.Prelude.{◌≡◌, ◌+◌, ◌<◌, ◌≤◌, ◌∷◌, ◌++◌, ◌&&◌, ◌||◌, List, true, nat_eq, nat_le, nat_lt};
+ghost use Rattle.std.specs.Prelude.{◌≡◌, ◌+◌, ◌<◌, ◌≤◌, ◌∷◌, ◌++◌, ◌&&◌, ◌||◌, List, true, nat_eq, nat_le};
 ghost use Rattle.std.specs.Prelude.{length, map, position, vec_len, vec_capacity, IfSome};
 ghost use Rattle.group_view.specs.Ring.{is_in};
-ghost use Rattle.group_view.specs.declared.link.LinkName.{LinkName as Name};
 ghost use Rattle.ring_rules.specs.View.{ids};
 ghost use Rattle.gm_member.specs.declared.links.InLink.{InLink as Link};
 ghost use Rattle.gm_member.specs.Held.{is_for as is_the_neighbours, stays as the_stays};
-ghost use Rattle.gm_member.specs.View.{in_of, stays_at, left_link, kept_one, left_one, kept_links, left_links};
+ghost use Rattle.gm_member.specs.View.{in_of, left_link, kept_one, left_one, kept_links, left_links};
 
 use crate::links::InLink;
 use crate::views::{left, since, version};

@@ -40,7 +40,7 @@ pub struct InLink<I> {
 }
 
 impl<O> OutLink<O> {
-    ghost use Rattle.std.specs.Prelude.{◌≡◌, ℕ, ◌+◌, map, IfOk, List, Option};
+    ghost use Rattle.std.specs.Prelude.{◌≡◌, ℕ, ◌+◌, IfOk, List, Option};
     ghost use Rattle.ring_names.specs.declared.reason.Reason.{Reason};
     ghost use Rattle.activity.specs.Kept.{Kept, kept_of};
     ghost use Rattle.activity.specs.LastSent.{sent_of};
@@ -94,7 +94,7 @@ impl<O> OutLink<O> {
 }
 
 impl<O: LinkOut<Load>> OutLink<O> {
-    ghost use Rattle.std.specs.Prelude.{◌≡◌, false, map, OnOk, OnErr, IfErr, None, Some};
+    ghost use Rattle.std.specs.Prelude.{◌≡◌, false, OnOk, OnErr, IfErr, None, Some};
     ghost use Rattle.ring_names.specs.declared.reason.Reason.{Reason};
     ghost use Rattle.activity.specs.Diff.{IsNotAbove};
     ghost use Rattle.gm_member.specs.Held.{out_refused, packet_on, put_on};
@@ -233,9 +233,10 @@ impl<I> InLink<I> {
 }
 
 impl<I: LinkIn<Load>> InLink<I> {
-    ghost use Rattle.std.specs.Prelude.{◌≡◌, ℕ, ◌≤◌, ◌+◌, map, length, OnOk, OnErr, IfOk, IfErr, None, Some, IsSome};
+    ghost use Rattle.std.specs.Prelude.{◌≡◌, ℕ, ◌≤◌, ◌+◌, OnOk, OnErr, IfOk, IfErr, None, Some, IsSome};
     ghost use Rattle.std.specs.Prelude.{MatchOption};
     ghost use Rattle.credit_flow.specs.Credit.{grant_due};
+    ghost use Rattle.ring_rules.specs.Rows.{most_members};
     ghost use Rattle.ring_rules.specs.Step.{is_owned};
     ghost use Rattle.activity.specs.Kept.{KeepsRows, kept_of};
     ghost use Rattle.activity.specs.Packets.{line_of};
@@ -261,7 +262,7 @@ impl<I: LinkIn<Load>> InLink<I> {
         ensures ok { IfOk result (λ r. EndTakes I.waiting I.takes I.looked r.2 self.old.end self.new.end) }
         ensures version { IfOk result (λ r. (packet_seen r.2).view ≤ view.now.version) }
         ensures news { IfOk result (λ r. r.0.items
-            ≡ news_below 64 (λ p. is_owned view.now id.0 self.old.from.0 (p + 1)) (all_kept tables.old)
+            ≡ news_below most_members (λ p. is_owned view.now id.0 self.old.from.0 (p + 1)) (all_kept tables.old)
             (packet_by_id (packet_seen r.2)).lines) }
         ensures plan { IfOk result (λ r. r.1.items
             ≡ changes_of (owned view.now id.0 self.old.from.0) tables.new (packet_seen r.2).lines) }
@@ -320,7 +321,7 @@ impl<I: LinkIn<Load>> InLink<I> {
             self.old.end self.new.end) }
         ensures version { IfOk result (λ r. r.2.view ≤ view.now.version) }
         ensures news { IfOk result (λ r. r.0.items
-            ≡ news_below 64 (λ p. is_owned view.now id.0 self.old.from.0 (p + 1)) (all_kept tables.old)
+            ≡ news_below most_members (λ p. is_owned view.now id.0 self.old.from.0 (p + 1)) (all_kept tables.old)
             (packet_by_id r.2).lines) }
         ensures plan { IfOk result (λ r. r.1.items
             ≡ changes_of (owned view.now id.0 self.old.from.0) tables.new r.2.lines) }

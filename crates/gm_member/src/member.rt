@@ -2,6 +2,7 @@
 ghost use Rattle.std.specs.Prelude.{◌≡◌, ◌+◌, ◌≤◌, ◌<◌, ◌∷◌, ◌++◌, [], true, false};
 ghost use Rattle.std.specs.Vec.{vec_len, vec_capacity};
 ghost use Rattle.group_view.specs.Ring.{is_in};
+ghost use Rattle.ring_rules.specs.Rows.{most_members};
 ghost use Rattle.ring_rules.specs.View.{ids};
 ghost use Rattle.ring_rules.specs.Machine.{is_waiting, runs_phase};
 ghost use Rattle.gm_member.specs.View.{count_of, has_ended, is_up_where, last_sent_on};
@@ -51,7 +52,7 @@ pub struct Member<O: LinkOut<Load>, I> {
     pub(crate) spare: Option<Spare<O, I>>,
     pub(crate) old_outs: Vec<(LinkName, O)>,
     pub(crate) old_ins: Vec<(LinkName, I)>,
-    ghost own: { (1 ≤ id.0) × (id.0 ≤ 64) },
+    ghost own: { (1 ≤ id.0) × (id.0 ≤ most_members) },
     ghost stands: { is_in id.0 (ids view) ≡ true },
     ghost up: { is_up_where asked phase ≡ true },
     ghost sent: { IsWithin (last_sent_on out) tables } by { one_within (last_sent_on out) tables },
@@ -68,7 +69,6 @@ impl<O: LinkPair<Load, In = I>, I: LinkIn<Load> + Drop> Member<O, I> {
     ghost use Rattle.std.specs.Prelude.{IfNone, IsSome, None, Some, Ok, Err, length, false, true, Option};
     ghost use Rattle.std.specs.Prelude.{MatchOption, ◌++◌};
     ghost use Rattle.ring_names.specs.declared.reason.Reason.{Reason};
-    ghost use Rattle.ring_rules.specs.Rows.{most_members};
     ghost use Rattle.ring_rules.specs.declared.event.Event.{Event};
     ghost use Rattle.ring_rules.specs.declared.event.Event.TheVariants.{Put, Take, TakeEnd, Gain, Stop, Pick, Refresh};
     ghost use Rattle.ring_rules.specs.Machine.{member_at, is_waiting, runs_phase, view_in, newest};
@@ -80,20 +80,19 @@ impl<O: LinkPair<Load, In = I>, I: LinkIn<Load> + Drop> Member<O, I> {
     ghost use Rattle.activity.specs.Packets.{PacketSeen};
     ghost use Rattle.gm_member.specs.Packets.{packet_by_id, known_at};
     ghost use Rattle.gm_member.specs.View.{all_kept, ring_link, left_end, kept_link, left_current};
-    ghost use Rattle.gm_member.specs.Ends.{IsPutFault, IsTakeFault, IsEndRefusal, Replaces};
-    ghost use Rattle.gm_member.specs.Held.{founded, joining_held, active_refused, up_refused, published_held};
-    ghost use Rattle.gm_member.specs.Held.{put_refused, put_held, take_refused, took_held, ended_held, stopped_held};
-    ghost use Rattle.gm_member.specs.Held.{gain_refused, gained_held, kept_in, looked_held, sends_to as sends_to_it};
+    ghost use Rattle.gm_member.specs.Ends.{Replaces};
+    ghost use Rattle.gm_member.specs.Held.{founded, joining_held, active_refused, up_refused};
+    ghost use Rattle.gm_member.specs.Held.{put_refused, take_refused, ended_held};
+    ghost use Rattle.gm_member.specs.Held.{gain_refused, kept_in, looked_held, sends_to as sends_to_it};
     ghost use Rattle.gm_member.specs.Held.{first_out, refresh_refused, refreshed_held};
-    ghost use Rattle.gm_member.specs.Held.{first_at_door as the_first_at_door, pick_refused, picked_held, picked_at};
+    ghost use Rattle.gm_member.specs.Held.{first_at_door as the_first_at_door, pick_refused, picked_at};
     ghost use Rattle.gm_member.specs.Held.{Outgoing, packet_on};
     ghost use Rattle.gm_member.specs.Stands.{WhereItStands, StepsTo, SaysIn, with_own_link};
     ghost use Rattle.gm_member.specs.Stands.{IsPutPacket, IsNextPacket, IsNextGrant, IsNextEnd, taken_in};
     ghost use Rattle.gm_member.specs.Stands.{StandsWhereItWaits};
-    ghost use Rattle.gm_member.specs.News.{news_of};
-    ghost use Rattle.gm_member.specs.Shown.{Ends, held_of, ends_of, out_name_of, OutIsReady, InIsReady, PutsOn};
-    ghost use Rattle.gm_member.specs.Shown.{LooksOut, LooksIn, TookOn, LeavesOn, EndsOn, KeepsGrant, NoGrantBack};
-    ghost use Rattle.gm_member.specs.Shown.{GrantIsBack, LooksBy, SpareIsReady, SendsOn, MovesTo, PicksOn};
+    ghost use Rattle.gm_member.specs.Shown.{held_of, ends_of, out_name_of, OutIsReady, InIsReady};
+    ghost use Rattle.gm_member.specs.Shown.{LooksOut, TookOn, EndsOn, KeepsGrant, NoGrantBack};
+    ghost use Rattle.gm_member.specs.Shown.{GrantIsBack, LooksBy, SpareIsReady, SendsOn, PicksOn};
     ghost use Rattle.gm_member.specs.Shown.{KeepsSpare, StaysReady, OutIsOpen, OutIsBack};
     ghost use Rattle.gm_member.specs.Calls.{Heeds, HandsBack, Publishes, Puts, Takes, TakesEnd, Stops, Gains, PicksUp};
     ghost use Rattle.gm_member.specs.Calls.{Reads, IsEvent, RefusesAs, RefusesWhere, SameSelf, SameLinks, KeepsIns};

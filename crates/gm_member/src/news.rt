@@ -1,16 +1,16 @@
 //! What a packet brings a member, as copies.
-ghost use Rattle.std.specs.Prelude.{◌≡◌, ℕ, ◌+◌, ◌-◌, ◌^◌, ◌<◌, ◌≤◌, ◌++◌, ◌∷◌, [], map, length, Option, OnOk};
+ghost use Rattle.std.specs.Prelude.{◌≡◌, ◌+◌, ◌-◌, ◌^◌, ◌<◌, ◌≤◌, ◌++◌, ◌∷◌, [], length, Option, OnOk};
 ghost use Rattle.std.specs.Prelude.{IfOk, IfSome};
-ghost use Rattle.std.specs.Option.{option_map_or, option_copied};
+ghost use Rattle.std.specs.Option.{option_copied};
 ghost use Rattle.ring_rules.specs.Rows.{most_members};
 ghost use Rattle.ring_rules.specs.Step.{is_owned};
 ghost use Rattle.ring_rules.specs.Event.{version_refusal};
 ghost use Rattle.activity.specs.Kept.{KeepsRows, kept_of};
-ghost use Rattle.activity.specs.Packets.{LineSeen, line_of};
-ghost use Rattle.activity.specs.Plan.{owns as owned, change_of, changes_of, AreReady};
+ghost use Rattle.activity.specs.Packets.{line_of};
+ghost use Rattle.activity.specs.Plan.{owns as owned, changes_of, AreReady};
 ghost use Rattle.gm_member.specs.Packets.{packet_by_id};
 ghost use Rattle.gm_member.specs.View.{all_kept};
-ghost use Rattle.gm_member.specs.News.{change_news, line_news, taken_between, taken_at, news_below};
+ghost use Rattle.gm_member.specs.News.{line_news, taken_between, taken_at, news_below};
 
 use crate::taken::Taken;
 use crate::views::owns;

@@ -28,8 +28,7 @@ pub enum Ask {
 impl<O: LinkPair<Load, In = I>, I: LinkIn<Load> + Drop> Member<O, I> {
     ghost use Rattle.std.specs.Prelude.{◌≡◌, ◌⊎◌, ◌+◌, ◌<◌, ◌≤◌, ◌^◌, ◌||◌, ℕ, [], OnOk, OnErr, IfOk, IfErr};
     ghost use Rattle.std.specs.Prelude.{IfSome, IfNone, IsOk, IsSome, None, Some, Ok, Err, length, false, true};
-    ghost use Rattle.std.specs.Prelude.{is_some, vec_len, List};
-    ghost use Rattle.ring_names.specs.declared.reason.Reason.{Reason};
+    ghost use Rattle.std.specs.Prelude.{vec_len, List};
     ghost use Rattle.group_view.specs.Ring.{is_in};
     ghost use Rattle.ring_rules.specs.declared.event.Event.TheVariants.{Mark as TheMark, Refresh as TheRefresh};
     ghost use Rattle.ring_rules.specs.declared.event.Event.TheVariants.{Erase as TheErase, Admit as TheAdmit};

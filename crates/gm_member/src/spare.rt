@@ -30,7 +30,7 @@ pub(crate) struct Spare<O: LinkOut<Load>, I> {
 }
 
 impl<O: LinkPair<Load, In = I>, I: Drop> Spare<O, I> {
-    ghost use Rattle.std.specs.Prelude.{◌≡◌, ◌<◌, List, false, length, map, IfOk, MatchOption};
+    ghost use Rattle.std.specs.Prelude.{◌≡◌, ◌<◌, List, false, IfOk, MatchOption};
     ghost use Rattle.activity.specs.Kept.{Kept};
     ghost use Rattle.activity.specs.Diff.{IsNotAbove};
     ghost use Rattle.gm_member.specs.View.{all_kept};

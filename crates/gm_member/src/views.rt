@@ -3,6 +3,7 @@ ghost use Rattle.std.specs.Prelude.{◌≡◌, ◌+◌, ◌<◌, true};
 ghost use Rattle.group_view.specs.Ring.{is_in};
 ghost use Rattle.group_view.specs.View.{entry_in};
 ghost use Rattle.ring_rules.specs.View.{ids, left_of as the_left, right_of as the_right};
+ghost use Rattle.ring_rules.specs.Rows.{most_members};
 ghost use Rattle.ring_rules.specs.Step.{is_owned};
 
 use group_view::View;
@@ -40,7 +41,7 @@ pub(crate) fn right(view: &View, id: MemberId) -> MemberId
 
 /// Whether a member answers, against a sender, for the origin at a place, whose id is one more.
 pub(crate) fn owns(view: &View, id: MemberId, from: MemberId, place: usize) -> bool
-    requires { place < 64 }
+    requires { place < most_members }
     ensures { result ≡ is_owned view.now id.0 from.0 (place + 1) }
 {
     let origin = MemberId(place as u32 + 1);

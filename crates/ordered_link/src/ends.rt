@@ -3,7 +3,7 @@
 //! old: an item may stand on the link before its receiver knows it, and a slot may be free before its
 //! sender does.
 ghost use Rattle.std.specs.Prelude.{◌≡◌, ℕ, ◌+◌, ◌<◌, ◌≤◌, Bool, true, false, List, [], ◌∷◌, ◌++◌, length, IfOk};
-ghost use Rattle.std.specs.Prelude.{OnOk, IfErr, IsOk, IfSome, IfNone, IsSome, Some, None, Option, MatchOption};
+ghost use Rattle.std.specs.Prelude.{OnOk, IfErr, IsOk, IfSome, IfNone, IsSome, None, Option, MatchOption};
 ghost use Rattle.std.specs.Prelude.{IsTrue, ◌↔◌, ⊤};
 ghost use Rattle.std.specs.Borrow.{sem};
 ghost use denote.Follow.{follows_so};

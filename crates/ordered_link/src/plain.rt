@@ -1,6 +1,6 @@
 //! The plain pair: two ends that share no memory. What is put waits in the out end until the ends
 //! meet, and so do grants in the in end.
-ghost use Rattle.std.specs.Prelude.{◌≡◌, ℕ, ◌+◌, ◌<◌, ◌≤◌, false};
+ghost use Rattle.std.specs.Prelude.{◌≡◌, ◌+◌, ◌<◌, ◌≤◌, false};
 ghost use Rattle.std.specs.Vec.{vec_len, vec_capacity};
 
 use crate::ends::{LinkIn, LinkOut, LinkPair};

@@ -1,6 +1,6 @@
 //! A source and a sink over memory that never fail.
 ghost use Rattle.std.specs.Prelude.{◌≡◌, ℕ, ◌+◌, ◌-◌, ◌<◌, ◌≤◌, ◌↔◌, ◌++◌, List, [], length, take, drop, min, Some};
-ghost use Rattle.std.specs.Prelude.{Ok, IfOk, OnErr, IsOk, MatchResult, true};
+ghost use Rattle.std.specs.Prelude.{Ok, IfOk, IsOk, true};
 ghost use Rattle.std.specs.Io.{ReadsAtMost};
 ghost use Rattle.std.specs.Io.KnownBytes.{ReadConsumes};
 ghost use Rattle.ring_io.specs.Contents.{WriteGains};

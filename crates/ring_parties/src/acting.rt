@@ -1,6 +1,6 @@
 //! An event of a member of the cluster.
-ghost use Rattle.std.specs.Prelude.{◌≡◌, ◌+◌, ◌-◌, ◌<◌, ◌≤◌, ℕ, List, [], true, false, IfSome, IfErr, IfOk, OnOk};
-ghost use Rattle.std.specs.Prelude.{OnErr, Some, None, map, length, position, bytes_eq, option_map};
+ghost use Rattle.std.specs.Prelude.{◌≡◌, ◌+◌, ◌-◌, ◌<◌, ◌≤◌, ℕ, true, IfSome, IfErr, IfOk, OnOk};
+ghost use Rattle.std.specs.Prelude.{OnErr, Some, None, length, position, bytes_eq, option_map};
 ghost use Rattle.registrar.specs.Registry.{AreHere};
 ghost use Rattle.registrar.specs.Handled.{with_stopped};
 ghost use Rattle.registrar.specs.Asked.{stop_refusal as the_stop_refusal};
@@ -99,7 +99,7 @@ fn notify(registrar: &mut Registrar<PlainIn<Load>>, by: MemberId) -> Result<(), 
 }
 
 impl Parties {
-    ghost use Rattle.std.specs.Prelude.{◌≡◌, ◌+◌, ◌<◌, ◌≤◌, ℕ, List, true, false, IfSome, IfOk, OnOk, OnErr, None};
+    ghost use Rattle.std.specs.Prelude.{◌≡◌, ◌+◌, ◌<◌, ◌≤◌, ℕ, true, IfSome, IfOk, OnOk, OnErr, None};
     ghost use Rattle.std.specs.Prelude.{length};
     ghost use Rattle.std.specs.Prelude.{option_map};
     ghost use Rattle.group_view.specs.View.{number};

@@ -1,5 +1,5 @@
 //! A member of the cluster admits another.
-ghost use Rattle.std.specs.Prelude.{◌≡◌, ◌≤◌, ◌<◌, ◌∷◌, ◌++◌, [], true, IsSome, IfOk, OnOk, None};
+ghost use Rattle.std.specs.Prelude.{◌≡◌, ◌≤◌, ◌<◌, ◌∷◌, ◌++◌, [], true, IsSome, IfOk, None};
 ghost use Rattle.std.specs.Vec.{vec_len, vec_capacity};
 ghost use Rattle.group_view.specs.Change.{admitted, admit_refusal as group_refusal};
 ghost use Rattle.group_view.specs.Ring.{is_in};
@@ -76,7 +76,7 @@ fn push_reserved(members: &mut Vec<Party>, party: Party)
 }
 
 impl Parties {
-    ghost use Rattle.std.specs.Prelude.{◌≡◌, ℕ, ◌<◌, List, false, length, IfOk, OnErr};
+    ghost use Rattle.std.specs.Prelude.{◌≡◌, ◌<◌, IfOk, OnErr};
     ghost use Rattle.gm_member.specs.Held.{up_refused};
     ghost use Rattle.ring_parties.specs.Parties.{node_at};
     ghost use Rattle.ring_parties.specs.Standing.{MayAct};

@@ -39,7 +39,7 @@ fn is_up(node: &Node) -> bool
 }
 
 impl Parties {
-    ghost use Rattle.std.specs.Prelude.{◌≡◌, ◌+◌, ◌<◌, false, OnOk, length};
+    ghost use Rattle.std.specs.Prelude.{◌≡◌, ◌+◌, ◌<◌, false, OnOk};
     ghost use Rattle.ring_rules.specs.declared.phase.Phase.TheVariants.{Up};
     ghost use Rattle.ring_parties.specs.Parties.{node_at};
     ghost use Rattle.ring_parties.specs.Standing.{MayAct, StandStill};

@@ -1,5 +1,5 @@
 //! A member over plain ends that has another view.
-ghost use Rattle.std.specs.Prelude.{◌≡◌, ◌≤◌, [], drop, true, length, IfOk, IfErr, OnOk, OnErr, None, Some};
+ghost use Rattle.std.specs.Prelude.{◌≡◌, ◌≤◌, true, length, IfOk, OnOk, OnErr, None, Some};
 ghost use Rattle.ring_names.specs.declared.reason.Reason.{Reason};
 ghost use Rattle.ordered_link.specs.declared.plain.PlainOut.{PlainOut as Out};
 ghost use Rattle.ordered_link.specs.Steps.{IsFreshPair};

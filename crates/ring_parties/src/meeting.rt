@@ -1,5 +1,5 @@
 //! The ends of each link meet.
-ghost use Rattle.std.specs.Prelude.{◌≡◌, ◌+◌, ◌-◌, ◌≤◌, ◌<◌, ℕ, true, false, map, length, IfSome, IfNone, IsSome};
+ghost use Rattle.std.specs.Prelude.{◌≡◌, ◌+◌, ◌-◌, ◌≤◌, ◌<◌, true, false, map, length, IfSome, IfNone, IsSome};
 ghost use Rattle.std.specs.Prelude.{None, Some, slice_index_or, slice_set};
 ghost use Rattle.ring_rules.specs.Machine.{runs_phase};
 ghost use Rattle.gm_member.specs.Shown.{out_name_of};

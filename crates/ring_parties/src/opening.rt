@@ -1,6 +1,5 @@
 //! The opening of a cluster.
 ghost use Rattle.std.specs.Prelude.{◌≡◌, ◌+◌, ◌<◌, ◌≤◌, ◌++◌, ◌∷◌, IfOk, OnOk, [], true, length, map};
-ghost use Rattle.std.specs.Prelude.{slice_index_or};
 ghost use Rattle.std.specs.List.{range_with_len};
 ghost use Rattle.group_view.specs.Change.{opening as opening_group};
 ghost use Rattle.group_view.specs.Ring.{is_in};

@@ -1,6 +1,6 @@
 //! The parties of a cluster.
-ghost use Rattle.std.specs.Prelude.{◌≡◌, ◌-◌, ◌<◌, ◌≤◌, ◌↔◌, ◌∷◌, ◌++◌, [], List, IsSome, IfSome, IfOk};
-ghost use Rattle.std.specs.Prelude.{MatchOption, length, map, drop, slice_index_or, slice_set};
+ghost use Rattle.std.specs.Prelude.{◌≡◌, ◌-◌, ◌<◌, ◌≤◌, ◌↔◌, ◌∷◌, ◌++◌, IsSome, IfSome, IfOk};
+ghost use Rattle.std.specs.Prelude.{length, map, slice_index_or};
 ghost use Rattle.ring_parties.specs.Parties.{shown_of, shown_in, no_shown, node_at, names_shown};
 ghost use Rattle.ring_parties.specs.Acting.{newest_of};
 

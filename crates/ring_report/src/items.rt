@@ -1,6 +1,5 @@
 //! The items of a mirror.
-ghost use Rattle.std.specs.Prelude.{◌≡◌, ◌++◌, OnOk, codes};
-ghost use Rattle.std.specs.Fmt.{decimal};
+ghost use Rattle.std.specs.Prelude.{◌≡◌, ◌++◌, OnOk};
 ghost use Rattle.std.specs.List.{flat_map};
 ghost use Rattle.queue_core.specs.Shown.{item_of};
 ghost use Rattle.ring_report.specs.Report.{item_line, item_lines, told_line};

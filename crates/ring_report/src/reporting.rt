@@ -4,7 +4,7 @@ ghost use Rattle.ring_rules.specs.Step.{size};
 ghost use Rattle.ring_rules.specs.Event.{id_of};
 ghost use Rattle.ring_rules.specs.Machine.{member_at};
 ghost use Rattle.ring_report.specs.Lent.{lent_in};
-ghost use Rattle.ring_report.specs.Report.{report_of, lines_of_member, heard_from, heard_lines, item_lines, stands_at, while_up};
+ghost use Rattle.ring_report.specs.Report.{report_of, lines_of_member, heard_from, heard_lines, item_lines, while_up};
 
 use crate::items::push_items;
 use crate::members::{push_counts, push_messages, push_state};

@@ -26,7 +26,6 @@ pub use Rattle.ring_rules.specs.declared.event.Event.TheVariants.{Cast, Publish,
 use Rattle.ring_rules.specs.declared.event.Client.{Client}
 use Rattle.ring_rules.specs.declared.event.Client.TheVariants as client
 pub use Rattle.ring_rules.specs.Kind.{QueueSaying, Publishes, Does, Saying, Own, OfQueue, Kind, Says, Steps, Changes, Stops, Reads, Tells, kind_of}
-use Rattle.ring_rules.specs.declared.kind.Asking.{Asking}
 use Rattle.ring_rules.specs.declared.kind.Asking.TheVariants as asking
 use Rattle.ring_rules.specs.declared.kind.LinkStep.TheVariants as step
 use Rattle.ring_rules.specs.declared.kind.ViewChange.TheVariants as change

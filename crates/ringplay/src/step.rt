@@ -1,10 +1,9 @@
 //! Playing a step file.
-ghost use Rattle.std.specs.Prelude.{◌≡◌, ℕ, ◌∷◌, ◌++◌, [], true, Some, None, IfOk, OnOk, IfErr, codes, string_bytes};
-ghost use Rattle.std.specs.Fmt.{decimal};
+ghost use Rattle.std.specs.Prelude.{◌≡◌, ◌∷◌, ◌++◌, true, Some, None, IfOk, OnOk, codes, string_bytes};
 ghost use Rattle.ring_script.specs.Reading.{CanOpen, AreMulticast};
 ghost use Rattle.ring_rules.specs.Event.{is_multicast, refusal};
 ghost use Rattle.ring_cluster.specs.Seen.{state_of};
-ghost use Rattle.ring_report.specs.Report.{newline, missing_text as the_missing_text};
+ghost use Rattle.ring_report.specs.Report.{missing_text as the_missing_text};
 ghost use Rattle.ringplay.specs.Step.{happens, enabled_of, kept_text as the_kept_text};
 ghost use Rattle.ringplay.specs.Step.{refused_line, if_refused, refused_lines};
 ghost use Rattle.ringplay.specs.Step.{HasStepped};
