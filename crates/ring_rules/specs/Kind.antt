@@ -70,6 +70,11 @@ abbrev pub own_body_of : Kind → Option (List ℕ)
 own_body_of (Says (Own body)) = Some body
 own_body_of k = None
 
+-- the body of the message that an event of this kind publishes to a queue
+abbrev pub queued_body_of : Kind → Option (List ℕ)
+queued_body_of (Says (OfQueue (Publishes body))) = Some body
+queued_body_of k = None
+
 -- what is done to a queue but for a publish, by an event of this kind
 abbrev pub asking_of : Kind → Option Asking
 asking_of (Says (OfQueue (Does a))) = Some a

@@ -3,7 +3,10 @@ ghost use Rattle.std.specs.Prelude.{◌≡◌};
 ghost use Rattle.ring_rules.specs.Kind.{kind_of, asking_of, client_asking_of, shown_kind, step_event};
 
 use crate::event::{Client, Event};
-use ring_names::{Body, Name, Position};
+use group_view::View;
+use queue_core::Op;
+use queue_mirror::{Master, Mirror};
+use ring_names::{Body, MemberId, Name, Position, Reason};
 
 /// What is done to a queue but for a publish, where its master is asked to or by itself.
 #[derive(Clone, Copy, PartialEq, Eq, Debug)]
@@ -67,6 +70,33 @@ pub enum Kind {
     Tells,
 }
 
+impl Asking {
+    ghost use Rattle.std.specs.Prelude.{◌≡◌};
+    ghost use Rattle.ring_rules.specs.Kind.{Does};
+    ghost use Rattle.ring_rules.specs.Event.{asked_op};
+
+    /// The operation by which a member does it, by its mirror, by its view, and by whether it has started; or the first
+    /// condition that fails, as `Master` has them. It wants no memory.
+    pub fn operation(
+        self,
+        mirror: &Mirror,
+        view: &View,
+        me: MemberId,
+        started: bool,
+    ) -> Result<Op, Reason>
+        ensures { result ≡ asked_op (mirror.now).mirror view.now me.0 started (Does self) }
+    {
+        match self {
+            Asking::Get => Master::get(mirror, view, me, started),
+            Asking::Pop => Master::pop(mirror, view, me, started),
+            Asking::Ack(at) => Master::ack(mirror, view, me, started, at),
+            Asking::Requeue(at) => Master::requeue(mirror, view, me, started, at),
+            Asking::Depth => Master::depth(mirror, view, me, started),
+            Asking::Start => Master::start(mirror, view, me, started),
+        }
+    }
+}
+
 impl LinkStep {
     /// The event by which this member does it.
     pub fn event(self, by: Name) -> Event
@@ -84,7 +114,7 @@ impl LinkStep {
 
 impl Event {
     ghost use Rattle.std.specs.Prelude.{◌≡◌, None, Some, MatchOption};
-    ghost use Rattle.ring_rules.specs.Kind.{kind_of, own_body_of, asking_of, shown_kind};
+    ghost use Rattle.ring_rules.specs.Kind.{kind_of, own_body_of, queued_body_of, asking_of, shown_kind};
 
     /// What the event is, whoever does it.
     pub fn kind(&self) -> Kind
@@ -116,6 +146,17 @@ impl Event {
     {
         match self {
             Event::Cast { body, .. } => Some(body),
+            _ => None,
+        }
+    }
+
+    /// The body of the message that it publishes to a queue, if it publishes one there.
+    pub fn queued_body(&self) -> Option<&Body>
+        ensures { MatchOption result (queued_body_of (kind_of self.now) ≡ None)
+            (λ body. queued_body_of (kind_of self.now) ≡ Some body.now) }
+    {
+        match self {
+            Event::Publish { body, .. } => Some(body),
             _ => None,
         }
     }

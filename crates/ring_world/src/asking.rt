@@ -2,43 +2,27 @@
 ghost use Rattle.std.specs.Prelude.{◌≡◌, ℕ, List, suc, None, Ok, OnOk, OnErr};
 ghost use Rattle.ring_rules.specs.Refusal.{answer_of};
 ghost use Rattle.ring_rules.specs.Kind.{Publishes, Does};
-ghost use Rattle.ring_rules.specs.Event.{asked_op, op_as, op_done, op_refusal, up_refusal};
+ghost use Rattle.ring_rules.specs.Event.{op_as, op_done, op_refusal, up_refusal};
 ghost use Rattle.ring_world.specs.Placed.{IsPlacedAt, IsUpAt};
-ghost use Rattle.ring_world.specs.Shows.{world_of, member_of};
+ghost use Rattle.ring_world.specs.Shows.{world_of};
 
 use crate::arms;
 use crate::neighbours::{id_at, view_at_place};
-use crate::plain_member::PlainMember;
 use crate::state::Ring;
-use group_view::View;
 use queue_core::{Message, Op};
 use queue_mirror::Master;
 use ring_names::{Body, MemberId, OutOfMemory, Reason};
 use ring_rules::Asking;
 
-/// The operation by which a member does it in this view, or the first condition that fails.
-fn answered(member: &PlainMember, view: &View, me: MemberId, asking: Asking) -> Result<Op, Reason>
-    ensures { result ≡ asked_op (member_of member.now).mirror view.now me.0 (member_of member.now).started
-        (Does asking) }
-{
-    match asking {
-        Asking::Get => Master::get(&member.mirror, view, me, member.started),
-        Asking::Pop => Master::pop(&member.mirror, view, me, member.started),
-        Asking::Ack(at) => Master::ack(&member.mirror, view, me, member.started, at),
-        Asking::Requeue(at) => Master::requeue(&member.mirror, view, me, member.started, at),
-        Asking::Depth => Master::depth(&member.mirror, view, me, member.started),
-        Asking::Start => Master::start(&member.mirror, view, me, member.started),
-    }
-}
-
-/// The same, by what the member at a place has.
+/// The operation by which the member at a place does it in its view, or the first condition that fails.
 #[tactic(auto, using(crate::proofs::code::ShownParts::read_member, crate::proofs::code::Found::few_members))]
 fn operation_at(ring: &Ring, place: usize, asking: Asking) -> Result<Op, Reason>
     requires { IsUpAt ring.now place }
     ensures { result ≡ op_as (world_of ring.now) (suc place) (Does asking) }
 {
     let view = view_at_place(ring, place);
-    answered(&ring.members[place], view, MemberId(id_at(place)), asking)
+    let member = &ring.members[place];
+    asking.operation(&member.mirror, view, MemberId(id_at(place)), member.started)
 }
 
 /// Whether there is an operation.
