@@ -1,7 +1,8 @@
 //! Each event's conditions and its step.
 ghost use Rattle.std.specs.Prelude.{◌≡◌, suc, None, OnOk, OnErr};
 ghost use Rattle.ring_rules.specs.Refusal.{answer_of};
-ghost use Rattle.ring_rules.specs.Event.{refusal, refused_at, effect, done_at};
+ghost use Rattle.ring_rules.specs.Kind.{Steps, Changes};
+ghost use Rattle.ring_rules.specs.Event.{refusal, refused_at, doing_as, effect, done_at, done_as};
 ghost use Rattle.ring_world.specs.Placed.{IsPlaced, IsPlacedAt, IsReady, IsReadyAt};
 ghost use Rattle.ring_world.specs.Shows.{world_of};
 
@@ -16,7 +17,7 @@ use crate::state::Ring;
 use crate::syncing::sync;
 use crate::{arms, conditions, membership};
 use ring_names::{OutOfMemory, Reason};
-use ring_rules::Event;
+use ring_rules::{Event, Kind, LinkStep, ViewChange};
 use std::alloc::Global;
 
 /// The first condition of an event that fails.
@@ -30,30 +31,50 @@ pub(crate) fn enabled(ring: &Ring, event: &Event) -> Result<(), Reason>
     }
 }
 
-/// The same of an event of the member at a place.
+/// Whether the member at a place may do a step on its links.
+fn may_step(ring: &Ring, place: usize, step: LinkStep) -> Result<(), Reason>
+    requires { IsPlacedAt ring.now place }
+    ensures { result ≡ answer_of (doing_as (world_of ring.now) (suc place) (Steps step)) }
+{
+    match step {
+        LinkStep::Pick => membership::may_pick(ring, place),
+        LinkStep::Take => conditions::may_take(ring, place),
+        LinkStep::TakeEnd => conditions::may_take_end(ring, place),
+        LinkStep::Gain => conditions::may_gain(ring, place),
+        LinkStep::Put => conditions::may_put(ring, place),
+    }
+}
+
+/// Whether it may have the view changed so.
+fn may_change(ring: &Ring, place: usize, change: ViewChange) -> Result<(), Reason>
+    requires { IsPlacedAt ring.now place }
+    ensures { result ≡ answer_of (doing_as (world_of ring.now) (suc place) (Changes change)) }
+{
+    match change {
+        ViewChange::Mark(dead) => membership::may_mark(ring, place, &dead),
+        ViewChange::Erase(origin) => membership::may_erase(ring, place, &origin),
+        ViewChange::Admit(name) => membership::may_admit(ring, place, &name),
+        ViewChange::Register => membership::may_sync(ring, place),
+    }
+}
+
+/// The first condition that fails of an event of the member at a place.
 fn enabled_at(ring: &Ring, place: usize, event: &Event) -> Result<(), Reason>
     requires { IsPlacedAt ring.now place }
     ensures { result ≡ answer_of (refused_at (world_of ring.now) event.now (suc place)) }
 {
-    match event {
-        Event::Cast { .. } => conditions::may_cast(ring, place),
-        Event::Publish { .. } => may_publish(ring, place),
-        Event::Put { .. } => conditions::may_put(ring, place),
-        Event::Take { .. } => conditions::may_take(ring, place),
-        Event::TakeEnd { .. } => conditions::may_take_end(ring, place),
-        Event::Gain { .. } => conditions::may_gain(ring, place),
-        Event::Stop { .. } => conditions::may_stop(ring, place),
-        Event::Mark { dead, .. } => membership::may_mark(ring, place, dead),
-        Event::Refresh { view, .. } => membership::may_refresh(ring, place, *view),
-        Event::Admit { name, .. } => membership::may_admit(ring, place, name),
-        Event::Pick { .. } => membership::may_pick(ring, place),
-        Event::Erase { origin, .. } => membership::may_erase(ring, place, origin),
-        Event::Synced { .. } => membership::may_sync(ring, place),
-        Event::Refuse { code, inner } => may_refuse(ring, place, *code, inner),
-        _ => match event.asking() {
-            Some(asking) => may_ask(ring, place, asking),
-            None => unreachable!(),
+    match event.kind() {
+        Kind::Says | Kind::Tells => match (event, event.own_body(), event.asking()) {
+            (Event::Refuse { code, inner }, ..) => may_refuse(ring, place, *code, inner),
+            (_, Some(_), _) => conditions::may_cast(ring, place),
+            (_, _, Some(asking)) => may_ask(ring, place, asking),
+            // what is left is a publish
+            _ => may_publish(ring, place),
         },
+        Kind::Links(step) => may_step(ring, place, step),
+        Kind::Changes(change) => may_change(ring, place, change),
+        Kind::Stops => conditions::may_stop(ring, place),
+        Kind::Reads(version) => membership::may_refresh(ring, place, version),
     }
 }
 
@@ -70,6 +91,51 @@ pub(crate) fn step(alloc: Global, ring: &mut Ring, event: &Event) -> Result<(), 
     }
 }
 
+/// The member at a place does a step on its links.
+#[tactic(auto, using(crate::proofs::code::Rules::happening))]
+fn do_step(alloc: Global, ring: &mut Ring, place: usize, step: LinkStep) -> Result<(), OutOfMemory>
+    requires ready { IsReadyAt ring.old place }
+    requires enabled { doing_as (world_of ring.old) (suc place) (Steps step) ≡ None }
+    ensures ok { OnOk result (world_of ring.new ≡ done_as (world_of ring.old) (suc place) (Steps step)) }
+    ensures err { OnErr result (world_of ring.new ≡ world_of ring.old) }
+{
+    match step {
+        LinkStep::Pick => arms::pick(ring, place),
+        LinkStep::Take => arms::take(alloc, ring, place)?,
+        LinkStep::TakeEnd => arms::take_end(ring, place),
+        LinkStep::Gain => arms::gain(ring, place),
+        LinkStep::Put => arms::put(alloc, ring, place)?,
+    }
+    Ok(())
+}
+
+/// It has the view changed.
+#[tactic(auto, using(crate::proofs::code::Rules::happening))]
+fn change_view(
+    alloc: Global,
+    ring: &mut Ring,
+    place: usize,
+    change: ViewChange,
+) -> Result<(), OutOfMemory>
+    requires ready { IsReadyAt ring.old place }
+    requires enabled { doing_as (world_of ring.old) (suc place) (Changes change) ≡ None }
+    ensures ok { OnOk result (world_of ring.new ≡ done_as (world_of ring.old) (suc place) (Changes change)) }
+    ensures err { OnErr result (world_of ring.new ≡ world_of ring.old) }
+{
+    match change {
+        ViewChange::Mark(dead) => match place_in(ring, &dead) {
+            None => unreachable!(),
+            Some(dead) => mark(alloc, ring, place, dead),
+        },
+        ViewChange::Erase(origin) => match place_in(ring, &origin) {
+            None => unreachable!(),
+            Some(origin) => erase(alloc, ring, place, origin),
+        },
+        ViewChange::Admit(name) => admit(alloc, ring, place, &name),
+        ViewChange::Register => sync(alloc, ring, place),
+    }
+}
+
 /// An enabled event of the member at a place happens.
 #[tactic(auto, using(crate::proofs::code::Rules::happening))]
 fn step_at(alloc: Global, ring: &mut Ring, place: usize, event: &Event) -> Result<(), OutOfMemory>
@@ -78,42 +144,20 @@ fn step_at(alloc: Global, ring: &mut Ring, place: usize, event: &Event) -> Resul
     ensures ok { OnOk result (world_of ring.new ≡ done_at (world_of ring.old) event.now (suc place)) }
     ensures err { OnErr result (world_of ring.new ≡ world_of ring.old) }
 {
-    match event {
-        Event::Cast { body, .. } => arms::cast(ring, place, body),
-        Event::Publish { body, .. } => publish(ring, place, body),
-        Event::Put { .. } => arms::put(alloc, ring, place),
-        Event::Take { .. } => arms::take(alloc, ring, place),
-        Event::TakeEnd { .. } => {
-            arms::take_end(ring, place);
-            Ok(())
-        }
-        Event::Gain { .. } => {
-            arms::gain(ring, place);
-            Ok(())
-        }
-        Event::Stop { .. } => {
+    match event.kind() {
+        Kind::Says | Kind::Tells => match (event, event.own_body(), event.asking()) {
+            (Event::Publish { body, .. }, ..) => publish(ring, place, body),
+            (_, Some(body), _) => arms::cast(ring, place, body),
+            (_, _, Some(asking)) => ask(ring, place, asking),
+            // what is left is a refusal, which is told and leaves the ring as it is
+            _ => Ok(()),
+        },
+        Kind::Links(step) => do_step(alloc, ring, place, step),
+        Kind::Changes(change) => change_view(alloc, ring, place, change),
+        Kind::Stops => {
             arms::stop(ring, place);
             Ok(())
         }
-        Event::Mark { dead, .. } => match place_in(ring, dead) {
-            None => unreachable!(),
-            Some(dead) => mark(alloc, ring, place, dead),
-        },
-        Event::Refresh { view, .. } => refresh(alloc, ring, place, *view),
-        Event::Admit { name, .. } => admit(alloc, ring, place, name),
-        Event::Pick { .. } => {
-            arms::pick(ring, place);
-            Ok(())
-        }
-        Event::Erase { origin, .. } => match place_in(ring, origin) {
-            None => unreachable!(),
-            Some(origin) => erase(alloc, ring, place, origin),
-        },
-        Event::Synced { .. } => sync(alloc, ring, place),
-        Event::Refuse { .. } => Ok(()),
-        _ => match event.asking() {
-            Some(asking) => ask(ring, place, asking),
-            None => unreachable!(),
-        },
+        Kind::Reads(version) => refresh(alloc, ring, place, version),
     }
 }

@@ -1,7 +1,7 @@
 //! How a ring opens.
 ghost use Rattle.std.specs.Prelude.{◌≡◌, ◌<◌, ◌≤◌, suc, true, length, map, IfOk};
 ghost use Rattle.std.specs.List.{range_with_len};
-ghost use Rattle.group_view.specs.Change.{AreOpeningNames, opening as opening_group};
+ghost use Rattle.group_view.specs.Change.{AreOpeningNames, most_entries, opening as opening_group};
 ghost use Rattle.ring_rules.specs.Step.{opening as the_opening, opening_member as the_opening_member, opening_link as the_opening_link};
 ghost use Rattle.ring_world.specs.Shows.{world_of, member_of, link_of};
 
@@ -25,7 +25,7 @@ fn opening_member(
 ) -> Result<PlainMember, OutOfMemory>
     requires view { view.now ≡ opening_group names.now }
     requires place { place < length names.now }
-    requires few { length names.now ≤ 64 }
+    requires few { length names.now ≤ most_entries }
     ensures { IfOk result (λ member. member_of member ≡ the_opening_member names.now (suc place)) }
 {
     let left = left_in(view, id_at(place));
@@ -52,7 +52,7 @@ fn opening_members(
     names: &[Name],
 ) -> Result<Vec<PlainMember>, OutOfMemory>
     requires view { view.now ≡ opening_group names.now }
-    requires few { length names.now ≤ 64 }
+    requires few { length names.now ≤ most_entries }
     ensures { IfOk result (λ v. map member_of v.items
         ≡ map (the_opening_member names.now) (range_with_len 1 (length names.now))) }
 {
@@ -75,7 +75,7 @@ fn opening_link(
 ) -> PlainLink
     requires view { view.now ≡ opening_group names.now }
     requires place { place < length names.now }
-    requires few { length names.now ≤ 64 }
+    requires few { length names.now ≤ most_entries }
     ensures { link_of result ≡ the_opening_link credit names.now (suc place) }
 {
     let id = id_at(place);
@@ -90,7 +90,7 @@ fn opening_links(
     credit: CreditSpec,
 ) -> Result<Vec<PlainLink>, OutOfMemory>
     requires view { view.now ≡ opening_group names.now }
-    requires few { length names.now ≤ 64 }
+    requires few { length names.now ≤ most_entries }
     ensures { IfOk result (λ v. map link_of v.items
         ≡ map (the_opening_link credit names.now) (range_with_len 1 (length names.now))) }
 {

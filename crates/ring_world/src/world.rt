@@ -5,7 +5,7 @@ ghost use Rattle.std.specs.Prelude.{IfErr, OnOk};
 ghost use Rattle.std.specs.Prelude.{OnErr};
 ghost use Rattle.ring_names.specs.declared.reason.Reason.{Reason};
 ghost use Rattle.ring_rules.specs.Refusal.{answer_of};
-ghost use Rattle.group_view.specs.Change.{AreOpeningNames};
+ghost use Rattle.group_view.specs.Change.{AreOpeningNames, most_entries};
 ghost use Rattle.ring_rules.specs.Step.{opening as the_opening, size};
 ghost use Rattle.ring_rules.specs.Machine.{view_in, newest, member_at, row_at};
 ghost use Rattle.ring_rules.specs.Rows.{messages_between};
@@ -164,7 +164,7 @@ impl World {
     #[tactic(auto, using(crate::proofs::code::Running::running_placed))]
     pub fn members(&self) -> u32
         ensures value { result + 1 ≡ size (self.now).ring }
-        ensures few { result ≤ 64 }
+        ensures few { result ≤ most_entries }
     {
         self.ring.members.len() as u32
     }
