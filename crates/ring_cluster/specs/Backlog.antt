@@ -1,6 +1,7 @@
 -- How much is left of what clients asked, as one number that falls at each task that is done, refused, or handed on.
 use Rattle.std.specs.Prelude.{ℕ, ◌+◌, ◌-◌, ◌*◌, bytes_eq, if◌then◌else◌, List, Option, Some, None}
 use Rattle.std.specs.List.{sum_by}
+use Rattle.group_view.specs.Change.{most_entries}
 use Rattle.ring_rules.specs.declared.event.Client.{Client}
 use Rattle.ring_rules.specs.declared.event.Client.TheVariants as client
 use Rattle.ring_rules.specs.Machine.{World, member_at}
@@ -8,10 +9,10 @@ use Rattle.ring_cluster.specs.Agendas.{Plan}
 use Rattle.ring_cluster.specs.Handed.{least_running}
 use Rattle.ring_cluster.specs.Seen.{Seen, state_of}
 
--- how many members may still be the running one of least id, where that has this place; there are at most 64
+-- how many members may still be the running one of least id, where that has this place: a view never has more than so many entries
 abbrev pub heirs_from : Option ℕ → ℕ
 heirs_from None = 0
-heirs_from (Some i) = 64 - i
+heirs_from (Some i) = most_entries - i
 
 -- 0 for the running member of least id, and 1 for each other
 abbrev pub is_no_heir : World → Option ℕ → List ℕ → ℕ

@@ -64,7 +64,7 @@ impl Cluster {
     ghost use Rattle.ring_rules.specs.Quiet.{RingRests};
     ghost use Rattle.ring_rules.specs.Refusal.{is_empty};
     ghost use Rattle.ring_rules.specs.Event.{asked_of, is_asked_multicast, is_multicast, refusal};
-    ghost use Rattle.gm_member.specs.Stands.{held_in};
+    ghost use Rattle.gm_member.specs.Stands.{held_in, incoming_in};
     ghost use Rattle.gm_member.specs.Shown.{held_of, ends_of};
     ghost use Rattle.ring_rules.specs.Idle.{NobodySteps, MarksNobody, ErasesNobody};
     ghost use Rattle.ring_cluster.specs.Holds.{HoldsOf, ShowsOf};
@@ -72,7 +72,7 @@ impl Cluster {
     ghost use Rattle.ring_cluster.specs.Published.{logs_in, logs_of};
     ghost use Rattle.ring_cluster.specs.Seen.{Seen, IsGoing, SameButOwed, MayHandOver, state_of};
     ghost use Rattle.ring_parties.specs.States.{IsEventIn};
-    ghost use Rattle.ring_cluster.specs.Seen.{stepped, opening_seen, with_event, owing};
+    ghost use Rattle.ring_cluster.specs.Seen.{IsStepped, opening_seen, with_event, owing, collected_at};
     ghost use Rattle.ring_rules.specs.declared.event.Client.{Client};
     ghost use Rattle.ring_cluster.specs.Plays.{PlaysSoFar, Plays, IsOfMember, commanded, takes_up as is_taken_up};
     ghost use Rattle.ring_cluster.specs.Agendas.{Plan, IsAskedOf, names_of, place_among, with_tasks, with_task, with_asked};
@@ -97,6 +97,7 @@ impl Cluster {
         Ok(cluster)
     }
 
+    #[tactic(auto, using(crate::proofs::rounds::Holding::none_collected))]
     fn founding(alloc: Global, members: &[Name], credit: CreditSpec) -> Result<Cluster, OutOfMemory>
         requires { AreOpeningNames members.now }
         ensures { IfOk result (λ c. c ≡ opening_seen credit members.now) }
@@ -164,14 +165,14 @@ impl Cluster {
     pub fn step(&mut self, event: &Event) -> Result<(), Refused>
         requires multicast { is_multicast event.now ≡ true }
         ensures enabled { OnOk result (refusal (state_of self.old) event.now ≡ None) }
-        ensures ok { OnOk result (self.new ≡ stepped self.old event.now false) }
+        ensures ok { OnOk result (IsStepped self.old event.now false self.new) }
         ensures refused { (r : Reason) → refusal (state_of self.old) event.now ≡ Some r
             → (result ≡ Err (Refused.NotEnabled r)) × (self.new ≡ self.old) }
         ensures reason { IfErr result (λ e. (r : Reason) → e ≡ Refused.NotEnabled r
             → refusal (state_of self.old) event.now ≡ Some r) }
         ensures err { IfErr result (λ e. (self.new ≡ self.old)
             ⊎ ((e ≡ Refused.OutOfMemory) × (refusal (state_of self.old) event.now ≡ None)
-            × (MayHandOver self.old self.new ⊎ (self.new ≡ stepped self.old event.now true)))) }
+            × (MayHandOver self.old self.new ⊎ IsStepped self.old event.now true self.new))) }
     {
         let Some(place) = self.place_of(event) else {
             return Err(Refused::NotEnabled(Reason::UnknownMember));
@@ -647,15 +648,18 @@ impl Cluster {
         self.rounds.number_one();
     }
 
-    /// The member of that id: it stands in the last state of the journal, but for the links at its door that it
-    /// hasn't collected yet, and the ends of its links show what stands on them there. None exactly where the ring has
-    /// no such member.
+    /// The member of that id: it stands in the last state of the journal, but that of the links that wait for it only
+    /// those stand at its door which it has collected, and the ends of its links show what stands on them there. None
+    /// exactly where the ring has no such member.
     pub fn member(&self, id: MemberId) -> Option<&Node>
         ensures there { IsSome result ↔ ((1 ≤ id.0) × (id.0 < size (state_of self.now))) }
         ensures stands { IfSome result (λ m. held_of m.now
-            ≡ record (held_in (state_of self.now) id.0) { door = (held_of m.now).door }) }
+            ≡ record (held_in (state_of self.now) id.0) {
+              door = map (incoming_in (state_of self.now)) (collected_at self.now id.0);
+            }) }
         ensures holds { IfSome result (λ m. HoldsOf (state_of self.now) id.0 (held_of m.now)) }
-        ensures shows { IfSome result (λ m. ShowsOf (state_of self.now) id.0 (ends_seen (ends_of m.now))) }
+        ensures shows { IfSome result (λ m. ShowsOf (state_of self.now) id.0
+            (collected_at self.now id.0) (ends_seen (ends_of m.now))) }
     {
         self.parties.member(id)
     }

@@ -19,7 +19,7 @@ use Rattle.ring_rules.proofs.runs.InOrder.{last_append}
 use Rattle.ring_cluster.specs.Agendas.{Plan, IsAskedOf, names_of, place_among, tasks_in, with_tasks, with_asked}
 use Rattle.ring_cluster.specs.Backlog.{backlog, backlog_of}
 use Rattle.ring_cluster.specs.Handed.{handing, given_to, handed}
-use Rattle.ring_cluster.specs.Seen.{Seen, state_of, IsGoing, SameButOwed, owing, with_event}
+use Rattle.ring_cluster.specs.Seen.{Seen, state_of, IsGoing, SameButOwed, collecting, with_event}
 use Rattle.ring_parties.specs.States.{state}
 use Rattle.ring_cluster.specs.Plays.{IsOfMember, client_of, commanded, asked_event, Serves, Plays, PlaysSoFar, client_event, client_events, answer_to, todo, agenda_of, is_stop, takes_up, is_due, IsDue, performed, GoesOn, HasGoneOn, HasBegun, HeadsAre, AgendasAreEmpty}
 use Rattle.ring_cluster.specs.Turns.{IsMemberAt}
@@ -120,7 +120,7 @@ performed_is i by t ts c c1 d e g at a asks answer s is =
       s.0,
       is
           ∙ ap (λ (y : Seen). record y { agendas = with_tasks y.agendas by (drop 1 (agenda_of y by)) }) s.1
-          ∙ ap (λ us. owing s.0 (record (with_event c e) { agendas = with_tasks (with_asked c.agendas (handing (state_of c) e)) by (drop 1 us) }))
+          ∙ ap (λ us. collecting s.0 (record (with_event c e) { agendas = with_tasks (with_asked c.agendas (handing (state_of c) e)) by (drop 1 us) }))
           (ap (λ x. tasks_in (with_asked c.agendas (handing (state_of c) x)) by) answer ∙ mine c i by t ts g at a asks),
     )
 
@@ -128,7 +128,7 @@ pub performed_goes : (i : ℕ) (by : List ℕ) (c d : Seen) → IsGoing c → Is
 performed_goes i by c d g at p =
     let e : Event = answer_to (state_of c) p.0 in
     let k : Seen = performed c by e p.1 in
-    subst (HasGoneOn c) (sym p.5.1) (e ∷ [], GoesOn-given c k (owing p.5.0 k) (e ∷ []) refl refl refl refl (performed_on c i by p.0 p.1 g at p.2 p.3.0))
+    subst (HasGoneOn c) (sym p.5.1) (e ∷ [], GoesOn-given c k (collecting p.5.0 k) (e ∷ []) refl refl refl refl (performed_on c i by p.0 p.1 g at p.2 p.3.0))
 
 -- it has done or refused one thing more that clients asked of it
 pub performed_more : (i : ℕ) (by : List ℕ) (c d : Seen) → Performs i by c d → length (client_events by c.events) < length (client_events by d.events)

@@ -1,7 +1,11 @@
 -- What a member that stands in a state, where members may stop, holds of it, and what its ends show.
-use Rattle.std.proofs.Common.{◌≡◌, ℕ, ◌+◌, ◌-◌, ◌<◌, ◌≤◌, Bool, true, false, not, ◌||◌, nat_eq, List, [], length, Some, None, refl, sym, ap, subst, ◌∙◌, arith}
+use Rattle.std.proofs.Common.{◌≡◌, ℕ, ◌+◌, ◌-◌, ◌<◌, ◌≤◌, Bool, true, false, not, ◌||◌, nat_eq, List, [], ◌++◌, length, map, take, get_or, Some, None, refl, sym, ap, subst, ◌∙◌, arith}
 use Rattle.std.specs.Prelude.{◌&&◌, Option, is_some, option_map, position, bytes_eq}
+use Rattle.std.specs.List.{filter, range_with_len}
+use Rattle.std.proofs.Math.Seq.{take-append_seam}
+use Rattle.std.proofs.lemmas.Simd.{map-map, splat_is_map}
 use Rattle.std.proofs.lemmas.List.{same_lists, length-map, get_or-map}
+use Rattle.std.proofs.lemmas.List.FromFn.{length-range_with_len}
 use Rattle.ring_rules.proofs.rings.Maps.{position_map}
 use Rattle.group_view.specs.declared.link.LinkName.{LinkName}
 use Rattle.ring_names.specs.declared.numbers.CreditSpec.{CreditSpec}
@@ -12,23 +16,28 @@ use Rattle.ring_rules.specs.Step.{size, log_of}
 use Rattle.ring_rules.specs.Lawful.{row_of}
 use Rattle.gm_member.specs.Held.{Held, Incoming}
 use Rattle.gm_member.specs.Packets.{known_at}
-use Rattle.gm_member.specs.Stands.{kept_by, held_in, outgoing_in}
+use Rattle.gm_member.specs.Stands.{kept_by, held_in, incoming_in, outgoing_in, door_links}
 use Rattle.gm_member.proofs.Knowing.{got_kept}
 use Rattle.gm_member.specs.Shown.{out_name_of}
 use Rattle.gm_member.proofs.Fit.{IsFit, reached_fit}
 use Rattle.gm_member.proofs.Facts.{held_known, right_row, version_of_view}
 use Rattle.ring_rules.specs.Work.{is_stale}
 use Rattle.ring_cluster.specs.Holds.{HoldsOf, ShowsOf}
+use Rattle.ring_cluster.specs.Seen.{collected_by}
 use Rattle.ring_parties.specs.States.{state}
-use Rattle.ring_parties.specs.Ends.{OutSeen, InSeen, HaveMet, items_in}
+use Rattle.ring_parties.specs.Ends.{PacketShown, OutSeen, InSeen, HaveMet, items_in}
+use Rattle.ring_parties.specs.Opened.{opened_at, opened_parties}
 use Rattle.ring_parties.specs.Parties.{Shown, Parties, no_shown, node_at, names_shown}
-use Rattle.ring_parties.specs.Standing.{Places, StandAfter, MemberStands, has_in, has_out}
+use Rattle.ring_parties.specs.Standing.{Places, StandAfter, MemberStands, is_to, has_in, has_out}
 use Rattle.ring_cluster.specs.Agendas.{place_among}
 use Rattle.ring_cluster.specs.Published.{names_in}
 use Rattle.ring_parties.specs.Refused.{id_named}
 use Rattle.ring_cluster.proofs.work.Logged.{names_in_many, name_in_at}
 use Rattle.ring_parties.proofs.lists.Lists.{some_injective}
 use Rattle.ring_parties.proofs.lists.Truth.{made_some}
+use Rattle.ring_parties.proofs.standing.Frames.{made_first}
+use Rattle.ring_parties.proofs.standing.Placing.{in_door_is, waits_has}
+use Rattle.ring_parties.proofs.standing.Writing.{map_agree}
 use Rattle.ring_parties.proofs.work.Lawful.{IsLawfulAt, lawful_at}
 use Rattle.ring_parties.proofs.meetings.NamedLinks.{out_is_open, out_has, current_has}
 use Rattle.ring_parties.proofs.meetings.Known.{all_know}
@@ -66,19 +75,51 @@ held_holds w x h f e = record {
 pub parties_many : (credit : CreditSpec) (names : List (List ℕ)) (events : List Event) (q : Parties) → StandAfter credit names events q → length q.nodes + 1 ≡ size (state credit names events)
 parties_many credit names events q s = s.stand.stand.count
 
-pub member_stands : (credit : CreditSpec) (names : List (List ℕ)) (events : List Event) (q : Parties) (x : ℕ) → StandAfter credit names events q → 1 ≤ x → x < size (state credit names events) → IsHeld (state credit names events) x (node_at q (x - 1)).held
+-- the links at the door of one: the oldest of those that wait for it, as many as it has collected
+abbrev pub at_door : World → Parties → ℕ → List ℕ
+at_door w q x = take (get_or (collected_by q) (x - 1) 0) (door_links w x)
+
+-- those are the ones that stand there
+door_is : (w : World) (p : Places) (q : Parties) (x : ℕ) (m : MemberStands w p x (node_at q (x - 1))) → x - 1 < length q.nodes → at_door w q x ≡ m.door
+door_is w p q x m lt =
+    ap (λ n. take n (door_links w x)) (get_or-map (λ (a : Shown). length a.held.door) q.nodes (x - 1) no_shown 0 lt ∙ ap (λ h. length h.door) m.held ∙ length-map m.door (incoming_in w))
+    ∙ ap (take (length m.door)) m.comes
+    ∙ take-append_seam m.door (filter (is_to w x) p.deposits)
+
+-- in a ring that opens nobody has collected a link
+pub none_collected : (credit : CreditSpec) (names : List (List ℕ)) (q : Parties) → q ≡ opened_parties credit names → collected_by q ≡ map (λ _. 0) names
+none_collected credit names q is =
+    let places : List ℕ = range_with_len 0 (length names) in
+    ap collected_by is
+    ∙ map-map (λ (m : Shown). length m.held.door) (opened_at credit names) places
+    ∙ sym (splat_is_map places (length names) 0 (length-range_with_len 0 (length names)))
+    ∙ splat_is_map names (length names) 0 refl
+
+-- what it holds
+abbrev pub StandsIn : World → ℕ → List ℕ → Held → Type 0
+StandsIn w x links h = h ≡ record (held_in w x) { door = map (incoming_in w) links }
+
+pub member_stands : (credit : CreditSpec) (names : List (List ℕ)) (events : List Event) (q : Parties) (x : ℕ) → StandAfter credit names events q → 1 ≤ x → x < size (state credit names events)
+    → StandsIn (state credit names events) x (at_door (state credit names events) q x) (node_at q (x - 1)).held
 member_stands credit names events q x s some lt =
-    let m : MemberStands (state credit names events) s.stand.places x (node_at q (x - 1)) = s.stand.stand.each x some lt in
-    held_but_door (state credit names events) x (node_at q (x - 1)).held _ m.held
+    let w : World = state credit names events in
+    let m : MemberStands w s.stand.places x (node_at q (x - 1)) = s.stand.stand.each x some lt in
+    m.held ∙ ap (λ ds. record (held_in w x) { door = map (incoming_in w) ds }) (sym (door_is w s.stand.places q x m (omega (arith, some, lt, s.stand.stand.count))))
 
 pub member_holds : (credit : CreditSpec) (names : List (List ℕ)) (events : List Event) (q : Parties) (x : ℕ) → StandAfter credit names events q → 1 ≤ x → x < size (state credit names events) → HoldsOf (state credit names events) x (node_at q (x - 1)).held
 member_holds credit names events q x s some lt =
-    held_holds (state credit names events) x (node_at q (x - 1)).held (reached_fit credit names events s.journal.are s.journal.run) (member_stands credit names events q x s some lt)
+    held_holds (state credit names events) x (node_at q (x - 1)).held (reached_fit credit names events s.journal.are s.journal.run)
+    (held_but_door (state credit names events) x (node_at q (x - 1)).held _ (member_stands credit names events q x s some lt))
 
 -- what its ends show
-pub member_shows : (credit : CreditSpec) (names : List (List ℕ)) (events : List Event) (q : Parties) (x : ℕ) → StandAfter credit names events q → 1 ≤ x → x < size (state credit names events) → ShowsOf (state credit names events) x (node_at q (x - 1)).ends
+pub member_shows : (credit : CreditSpec) (names : List (List ℕ)) (events : List Event) (q : Parties) (x : ℕ) → StandAfter credit names events q → 1 ≤ x → x < size (state credit names events) → ShowsOf (state credit names events) x (at_door (state credit names events) q x) (node_at q (x - 1)).ends
 member_shows credit names events q x s some lt = record {
   items = ap (option_map (λ (n : InSeen). n.items)) stands.link ∙ items_by (member_at w x).current refl;
+  door =
+      ap (map (option_map (λ (n : InSeen). n.items))) stands.ends
+      ∙ map-map (option_map (λ (n : InSeen). n.items)) (λ k. Some (p.ins k)) stands.door
+      ∙ ends_by
+      ∙ ap (map shown_on) (sym (door_is w p q x stands (omega (arith, some, lt, s.stand.stand.count))));
   grants = ap (option_map (λ (o : OutSeen). o.back)) stands.out ∙ grants_by (member_at w x).out refl;
   moved = λ run o is. moved_by (member_at w x).out refl run o (sym stands.out ∙ is);
   returned = stands.returned;
@@ -104,6 +145,19 @@ member_shows credit names events q x s some lt = record {
         let there : k < length w.links = (h.fit.own_ends.current x k e).0 in
         let has : has_in w k ≡ true = current_has credit w x k h e in
         ap Some (settled_items credit.initial w k (p.outs k) (p.ins k) (all_settled w p k s.stand.met there has) (s.stand.stand.carry k there has))
+
+    -- what the link at a place shows at its in end
+    shown_on : ℕ → Option (List (Option PacketShown))
+    shown_on k = Some (items_in w (link_at w k))
+
+    waits_by : map (λ k. Some (p.ins k).items) (door_links w x) ≡ map shown_on (door_links w x)
+    waits_by = map_agree (λ k. Some (p.ins k).items) shown_on (door_links w x) (λ k i.
+        let at = in_door_is w x k i in
+        let has : has_in w k ≡ true = waits_has w x k at.2 at.1 in
+        ap Some (settled_items credit.initial w k (p.outs k) (p.ins k) (all_settled w p k s.stand.met at.0 has) (s.stand.stand.carry k at.0 has)))
+
+    ends_by : map (λ k. Some (p.ins k).items) stands.door ≡ map shown_on stands.door
+    ends_by = made_first (λ k. Some (p.ins k).items) shown_on stands.door (filter (is_to w x) p.deposits) (subst (λ ds. map (λ k. Some (p.ins k).items) ds ≡ map shown_on ds) stands.comes waits_by)
 
     grants_by : (c : Option ℕ) → (member_at w x).out ≡ c → option_map (λ (o : OutSeen). o.back) (option_map p.outs c) ≡ option_map (λ k. (link_at w k).flow.grants) c
     grants_by None e = refl

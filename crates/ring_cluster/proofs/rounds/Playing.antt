@@ -11,7 +11,7 @@ use Rattle.ring_rules.specs.Machine.{World}
 use Rattle.ring_rules.specs.Step.{opening}
 use Rattle.ring_rules.specs.Event.{event_of, last}
 use Rattle.ring_rules.proofs.runs.InOrder.{last_append}
-use Rattle.ring_cluster.specs.Seen.{Seen, state_of, IsGoing, owing, with_event, opening_seen}
+use Rattle.ring_cluster.specs.Seen.{Seen, state_of, IsGoing, collecting, with_event, opening_seen}
 use Rattle.ring_parties.specs.States.{state}
 use Rattle.ring_cluster.specs.Agendas.{tasks_in}
 use Rattle.ring_cluster.specs.Handed.{handing, given_to, handed}
@@ -77,8 +77,8 @@ GoesOn-trans c d e xs ys a b = record {
         omega (arith, so, theirs, before, b.later name j within) in
         subst (λ es. length (client_events name es) ≤ length (agenda_of c name) + length (handed (state_of c) name es)) (sym (take_both count xs ys ge)) h
 
-pub HasGoneOn-owing : (c : Seen) (owes : Bool) → HasGoneOn c (owing owes c)
-HasGoneOn-owing c owes = (
+pub HasGoneOn-collecting : (c : Seen) (x : Bool × List ℕ) → HasGoneOn c (collecting x c)
+HasGoneOn-collecting c x = (
   [],
   record {
     credit = refl;
@@ -90,7 +90,7 @@ HasGoneOn-owing c owes = (
 )
 
 pub HasGoneOn-refl : (c : Seen) → HasGoneOn c c
-HasGoneOn-refl c = HasGoneOn-owing c c.owes
+HasGoneOn-refl c = HasGoneOn-collecting c (c.owes, c.collected)
 
 pub HasGoneOn-trans : (c d e : Seen) → HasGoneOn c d → HasGoneOn d e → HasGoneOn c e
 HasGoneOn-trans c d e a b = (a.0 ++ b.0, GoesOn-trans c d e a.0 b.0 a.1 b.1)
@@ -118,8 +118,8 @@ by_one c d e credit names events h = record {
 }
 
 -- a step of a member of its own
-pub is_own : (e : Event) → ((name : List ℕ) → client_event name e ≡ []) → (c d : Seen) → handing (state_of c) e ≡ None → (owes : Bool) → d ≡ owing owes (with_event c e) → GoesOn c d (e ∷ [])
-is_own e own c d none owes is = subst (λ y. GoesOn c y (e ∷ [])) (sym is) (by_one c (owing owes (with_event c e)) e refl refl refl (λ name.
+pub is_own : (e : Event) → ((name : List ℕ) → client_event name e ≡ []) → (c d : Seen) → handing (state_of c) e ≡ None → (x : Bool × List ℕ) → d ≡ collecting x (with_event c e) → GoesOn c d (e ∷ [])
+is_own e own c d none x is = subst (λ y. GoesOn c y (e ∷ [])) (sym is) (by_one c (collecting x (with_event c e)) e refl refl refl (λ name.
     ap (λ zs. (zs ++ []) ++ todo (agenda_of c name)) (own name)
     ∙ sym (append-nil (todo (agenda_of c name)))
     ∙ ap (λ o. todo (agenda_of c name) ++ (given_to name o ++ [])) (sym none)))

@@ -20,7 +20,7 @@ use Rattle.ring_cluster.specs.Backlog.{backlog_of}
 use Rattle.ring_cluster.specs.Plays.{client_events, agenda_of, answer_to, takes_up, is_due, IsDue, SameGiven, HasBegun, AgendasAreEmpty}
 use Rattle.ring_cluster.specs.Turns.{Works, TakesRound, IsMemberAt, MembersStay, RestsAt, NothingIsDue, DoesAtMost}
 use Rattle.ring_cluster.proofs.deposits.Owed.{but_refl, but_trans}
-use Rattle.ring_cluster.proofs.rounds.Playing.{HasGoneOn-refl, HasGoneOn-owing, HasGoneOn-trans}
+use Rattle.ring_cluster.proofs.rounds.Playing.{HasGoneOn-refl, HasGoneOn-collecting, HasGoneOn-trans}
 use Rattle.ring_cluster.proofs.rounds.Members.{event_stay, event_begun, waiting_takes_in}
 use Rattle.ring_cluster.proofs.rounds.Named.{going_fit, going_ring}
 use Rattle.ring_cluster.proofs.rounds.Counting.{did_task, did_none, did_fewer, did_later, did_more, few_none, few_more, few_each}
@@ -53,7 +53,7 @@ round_trans c d e a b = record {
 -- ---- work
 
 pub works_same : (c d : Seen) → SameButOwed c d → Works c d
-works_same c d e = subst (Works c) (sym e.1) (record { round = record { goes = HasGoneOn-owing c e.0; given = (refl, refl); stay = λ i name h. h; begun = λ i lt h. h; less = omega arith }; agendas = refl })
+works_same c d e = subst (Works c) (sym e.1) (record { round = record { goes = HasGoneOn-collecting c e.0; given = (refl, refl); stay = λ i name h. h; begun = λ i lt h. h; less = omega arith }; agendas = refl })
 
 pub works_refl : (c : Seen) → Works c c
 works_refl c = works_same c c (but_refl c)

@@ -4,9 +4,9 @@ use Rattle.std.proofs.lemmas.Result.{on_ok_weaker}
 use Rattle.ring_rules.specs.Event.{refusal}
 use Rattle.ring_cluster.specs.Kept.{seen_of}
 use Rattle.ring_parties.specs.Parties.{PartiesSeen}
-use Rattle.ring_cluster.specs.Seen.{state_of, owing, with_event}
+use Rattle.ring_cluster.specs.Seen.{state_of, collected_by, collecting, with_event}
 use Rattle.ring_parties.specs.States.{state}
-use Rattle.ring_cluster.proofs.deposits.Owed.{handed_over, on_err_both}
+use Rattle.ring_cluster.proofs.deposits.Owed.{on_err_both}
 use Rattle.ring_cluster.proofs.cluster.Cluster.happen.Goals as goal
 
 pub returns-clause-refused : goal.returns-clause-refused
@@ -15,7 +15,7 @@ returns-clause-refused c = λ r e.
     (ap (λ ns. refusal (state c.self.inside.credit ns c.self.inside.journal.items) c.args.event.now) c.deref.ensures.value ∙ ap (λ x. refusal (state_of x) c.args.event.now) c.self.view_is ∙ e) in
     let journal = subst (λ x. OnErr x (c.step.new.journal.items ≡ c.self.inside.journal.items)) told.0 c.step.ensures.err in (
       told.0,
-      ap (λ (p : PartiesSeen). record (seen_of c.self.inside) { events = c.step.new.journal.items; owes = p.owes }) told.1
+      ap (λ (p : PartiesSeen). record (seen_of c.self.inside) { events = c.step.new.journal.items; owes = p.owes; collected = collected_by p.all }) told.1
           ∙ ap (λ es. record (seen_of c.self.inside) { events = es }) journal
           ∙ c.self.view_is,
     )
@@ -25,9 +25,9 @@ returns-clause-ok c =
     let q = c.step.new.self in
     on_ok_weaker c.step.result
     (λ is. (
-      q.owes,
-      ap (λ es. owing q.owes (record (seen_of c.self.inside) { events = es })) is
-          ∙ ap (λ x. owing q.owes (with_event x c.args.event.now)) c.self.view_is,
+      (q.owes, collected_by q.all),
+      ap (λ es. collecting (q.owes, collected_by q.all) (record (seen_of c.self.inside) { events = es })) is
+          ∙ ap (λ x. collecting (q.owes, collected_by q.all) (with_event x c.args.event.now)) c.self.view_is,
     ))
     c.step.ensures.ok
 
@@ -35,8 +35,10 @@ pub returns-clause-err : goal.returns-clause-err
 returns-clause-err c =
     let q = c.step.new.self in
     on_err_both c.step.result
-    (λ is mono.
-    handed_over c.args.self.now _ q.owes
-    (ap (λ es. owing q.owes (record (seen_of c.self.inside) { events = es })) is ∙ ap (owing q.owes) c.self.view_is)
-    (λ e. sym (ap (λ x. x.owes) c.self.view_is) ∙ mono e))
+    (λ is mono. (
+      (q.owes, collected_by q.all),
+      ap (λ es. collecting (q.owes, collected_by q.all) (record (seen_of c.self.inside) { events = es })) is
+          ∙ ap (collecting (q.owes, collected_by q.all)) c.self.view_is,
+      λ e. sym (ap (λ x. x.owes) c.self.view_is) ∙ mono e,
+    ))
     c.step.ensures.err c.step.ensures.owes

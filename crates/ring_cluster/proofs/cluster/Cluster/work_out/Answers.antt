@@ -2,7 +2,7 @@ use Rattle.std.proofs.Common.{arith, false, refl, sym, ap, subst, ◌∙◌}
 use Rattle.ring_rules.specs.Idle.{NobodySteps, MarksNobody, ErasesNobody}
 use Rattle.ring_cluster.specs.Plays.{AgendasAreEmpty}
 use Rattle.ring_cluster.specs.Seen.{state_of}
-use Rattle.ring_cluster.proofs.deposits.Owed.{but_same}
+use Rattle.ring_cluster.proofs.deposits.Owed.{but_same, but_owing}
 use Rattle.ring_cluster.proofs.rounds.Doing.{gone_from}
 use Rattle.ring_cluster.proofs.rounds.Playing.{HasGoneOn-trans}
 use Rattle.ring_cluster.proofs.rounds.Turning.{works_same}
@@ -44,7 +44,7 @@ pub returns-clause-goes : goal.returns-clause-goes
 returns-clause-goes g c = HasGoneOn-trans c.args.self.now c.work_rounds.new.self c.deliver.new.self c.work_rounds.ensures.goes
     (HasGoneOn-trans c.work_rounds.new.self c.drain.new.cluster c.deliver.new.self
     (gone_from c.work_rounds.new.self c.number_round.new.self c.number_round.new.self c.drain.new.cluster _ _ c.number_round.ensures refl c.drain.ensures.round.goes)
-    (works_same c.drain.new.cluster c.deliver.new.self (false, c.in_ok-deliver.ensures.ok)).round.goes)
+    (works_same c.drain.new.cluster c.deliver.new.self (but_owing c.drain.new.cluster c.deliver.new.self false c.in_ok-deliver.ensures.ok)).round.goes)
 
 pub returns-clause-empty : goal.returns-clause-empty
 returns-clause-empty g c = subst AgendasAreEmpty (sym c.in_ok-deliver.ensures.ok) c.in_ok-drain.ensures.empty
