@@ -7,7 +7,7 @@ use Rattle.group_view.specs.Change.{AreOpeningNames}
 use Rattle.ring_rules.specs.declared.event.Event.{Event}
 use Rattle.ring_rules.specs.Machine.{World, member_at}
 use Rattle.ring_rules.specs.Step.{size, opening}
-use Rattle.ring_rules.specs.Event.{IsRun, is_multicast}
+use Rattle.ring_rules.specs.Event.{IsRun, by_of, is_multicast}
 use Rattle.gm_member.specs.Stands.{door_links}
 use Rattle.ring_cluster.specs.Agendas.{Plan}
 use Rattle.ring_parties.specs.Parties.{Shown, Parties}
@@ -16,6 +16,10 @@ use Rattle.ring_parties.specs.States.{state}
 -- the member at this place of a state has this name
 abbrev pub IsMemberIn : World → ℕ → List ℕ → Type 0
 IsMemberIn w i name = (i + 1 < size w) × ((member_at w (i + 1)).name ≡ name)
+
+-- it is an event of the member at this place of a state, and of the ring alone
+abbrev pub IsMulticastIn : World → ℕ → Event → Type 0
+IsMulticastIn w i e = (i + 1 < size w) × (by_of e ≡ (member_at w (i + 1)).name) × (is_multicast e ≡ true)
 
 -- A cluster is seen as the names and the credit with which its ring opened, its journal, what each member has
 -- still to do, how many rounds were given a number, what it was given: the commands that it took

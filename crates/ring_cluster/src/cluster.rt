@@ -7,6 +7,7 @@ use crate::driver::{drain, round};
 use crate::numbering::Rounds;
 use crate::published::casts_of;
 use group_view::View;
+use queue_mirror::Mirror;
 use ring_io::Gate;
 use ring_names::{Body, CreditSpec, MemberId, Name, OutOfMemory, Reason};
 use ring_parties::{Node, Parties};
@@ -52,7 +53,7 @@ impl Model for Cluster {
 impl Cluster {
     ghost use Rattle.std.specs.Prelude.{◌≡◌, ◌↔◌, ◌≢◌, ◌⊎◌, ℕ, ◌+◌, ◌-◌, ◌<◌, ◌≤◌, ◌^◌, ◌∷◌, ◌++◌, [], List, true};
     ghost use Rattle.std.specs.Prelude.{false, Some, None, Err, IsSome, is_some, MatchOption, IfSome, IfOk, IfErr};
-    ghost use Rattle.std.specs.Prelude.{OnOk, OnErr, length, map, replicate, min, not, drop, slice_set, slice_index_or};
+    ghost use Rattle.std.specs.Prelude.{OnOk, OnErr, length, map, not, drop};
     ghost use Rattle.ring_names.specs.declared.reason.Reason.{Reason};
     ghost use Rattle.ring_script.specs.declared.command.Command.{Command};
     ghost use Rattle.ring_script.specs.declared.command.Command.TheVariants as command;
@@ -70,8 +71,8 @@ impl Cluster {
     ghost use Rattle.ring_cluster.specs.Holds.{HoldsOf, ShowsOf};
     ghost use Rattle.ring_parties.specs.Parties.{ends_seen};
     ghost use Rattle.ring_cluster.specs.Published.{logs_in, logs_of};
-    ghost use Rattle.ring_cluster.specs.Seen.{Seen, IsGoing, SameButOwed, MayHandOver, state_of};
-    ghost use Rattle.ring_parties.specs.States.{IsEventIn};
+    ghost use Rattle.ring_cluster.specs.Seen.{IsGoing, SameButOwed, MayHandOver, state_of};
+    ghost use Rattle.ring_cluster.specs.Seen.{IsMulticastIn};
     ghost use Rattle.ring_cluster.specs.Seen.{IsStepped, opening_seen, with_event, owing, collected_at};
     ghost use Rattle.ring_rules.specs.declared.event.Client.{Client};
     ghost use Rattle.ring_cluster.specs.Plays.{PlaysSoFar, Plays, IsOfMember, commanded, takes_up as is_taken_up};
@@ -161,7 +162,7 @@ impl Cluster {
     /// event that isn't refused the acting member collects the links that wait for it, and what is owed is handed over.
     /// For want of memory no event happens, though some of that may have been done; or the event has happened, and the
     /// cluster owes the registrar a link. A member that is admitted is there at once, since it was got ready before.
-    /// The caller gives no event of the queue, since the members keep no mirrors of it yet.
+    /// The caller gives no event of the queue, of which the driver plays none yet.
     pub fn step(&mut self, event: &Event) -> Result<(), Refused>
         requires multicast { is_multicast event.now ≡ true }
         ensures enabled { OnOk result (refusal (state_of self.old) event.now ≡ None) }
@@ -189,7 +190,7 @@ impl Cluster {
     fn place_of(&self, event: &Event) -> Option<usize>
         requires { is_multicast event.now ≡ true }
         ensures { MatchOption result (refusal (state_of self.now) event.now ≡ Some Reason.UnknownMember)
-            (λ place. IsEventIn (state_of self.now) place event.now) }
+            (λ place. IsMulticastIn (state_of self.now) place event.now) }
     {
         self.is_going();
         self.parties.place_named(event.by())
@@ -197,7 +198,7 @@ impl Cluster {
 
     /// The one event, of the member at a place, as a part of a round.
     pub(crate) fn happen(&mut self, place: usize, event: &Event) -> Result<(), Refused>
-        requires { IsEventIn (state_of self.old) place event.now }
+        requires { IsMulticastIn (state_of self.old) place event.now }
         ensures enabled { OnOk result (refusal (state_of self.old) event.now ≡ None) }
         ensures ok { OnOk result (SameButOwed (with_event self.old event.now) self.new) }
         ensures refused { (r : Reason) → refusal (state_of self.old) event.now ≡ Some r
@@ -281,7 +282,7 @@ impl Cluster {
 
     /// A member answers a client: this event happens, and what it hands on joins its agenda.
     fn answer(&mut self, place: usize, event: &Event) -> Result<(), OutOfMemory>
-        requires at { IsEventIn (state_of self.old) place event.now }
+        requires at { IsMulticastIn (state_of self.old) place event.now }
         requires enabled { refusal (state_of self.old) event.now ≡ None }
         ensures ok { OnOk result (SameButOwed (record (with_event self.old event.now) {
           agendas = with_asked (self.old).agendas (is_handed (state_of self.old) event.now);
@@ -307,7 +308,7 @@ impl Cluster {
     /// An event happens that is enabled.
     #[tactic(auto, using(crate::proofs::deposits::Owed::but_handed))]
     fn happen_enabled(&mut self, place: usize, event: &Event) -> Result<(), OutOfMemory>
-        requires at { IsEventIn (state_of self.old) place event.now }
+        requires at { IsMulticastIn (state_of self.old) place event.now }
         requires enabled { refusal (state_of self.old) event.now ≡ None }
         ensures ok { OnOk result (SameButOwed (with_event self.old event.now) self.new) }
         ensures err { OnErr result (SameButOwed self.old self.new) }
@@ -423,7 +424,7 @@ impl Cluster {
 
     /// Why the ring refuses an event of the member at a place.
     fn refusal(&self, place: usize, event: &Event) -> Option<Reason>
-        requires { IsEventIn (state_of self.now) place event.now }
+        requires { IsMulticastIn (state_of self.now) place event.now }
         ensures { result ≡ refusal (state_of self.now) event.now }
     {
         self.is_going();
@@ -662,6 +663,15 @@ impl Cluster {
             (collected_at self.now id.0) (ends_seen (ends_of m.now))) }
     {
         self.parties.member(id)
+    }
+
+    /// The mirror of the member of that id, as it is in the last state of the journal. None exactly where the ring has no
+    /// such member.
+    pub fn mirror(&self, id: MemberId) -> Option<&Mirror>
+        ensures there { IsSome result ↔ ((1 ≤ id.0) × (id.0 < size (state_of self.now))) }
+        ensures stands { IfSome result (λ m. (m.now).mirror ≡ (member_at (state_of self.now) id.0).mirror) }
+    {
+        self.parties.mirror(id)
     }
 
     /// The newest view of the group, as the registrar has it.

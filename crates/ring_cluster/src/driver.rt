@@ -1,6 +1,6 @@
 //! The turns of the members: rounds, and the drain that ends when nothing is left to do.
-ghost use Rattle.std.specs.Prelude.{◌≡◌, ◌≢◌, ℕ, List, ◌+◌, ◌-◌, ◌<◌, ◌≤◌, ◌∷◌, ◌++◌, ◌||◌, [], true, false, not};
-ghost use Rattle.std.specs.Prelude.{length, IfOk, OnOk, OnErr, MatchOption, None, Contains};
+ghost use Rattle.std.specs.Prelude.{◌≡◌, ◌≢◌, ℕ, List, ◌+◌, ◌-◌, ◌<◌, ◌≤◌, ◌∷◌, ◌++◌, ◌||◌, true, false, not};
+ghost use Rattle.std.specs.Prelude.{OnOk, MatchOption, None, Contains};
 ghost use Rattle.ring_rules.specs.Machine.{member_at, view_in, newest as the_newest, right as the_right};
 ghost use Rattle.ring_rules.specs.Machine.{runs as runs_at};
 ghost use Rattle.ring_rules.specs.Step.{size};
@@ -8,7 +8,7 @@ ghost use Rattle.ring_rules.specs.Refusal.{is_empty};
 ghost use Rattle.ring_rules.specs.Event.{by_of, refusal, erase_refusal, is_asked, is_multicast};
 ghost use Rattle.ring_rules.specs.Idle.{NobodySteps, MarksNobody, ErasesNobody};
 ghost use Rattle.ring_rules.specs.Work.{total, is_stale as the_staleness, LeavesLess};
-ghost use Rattle.ring_cluster.specs.Seen.{Seen, state_of, IsGoing, SameButOwed};
+ghost use Rattle.ring_cluster.specs.Seen.{state_of};
 ghost use Rattle.ring_cluster.specs.Plays.{agenda_of, HasBegun, AgendasAreEmpty};
 ghost use Rattle.ring_cluster.specs.Turns.{Works, DoesOrRests, TakesRound, IsMemberAt};
 ghost use Rattle.ring_cluster.specs.Turns.{MayStep, MayStepNowhere, MarksNoneAt, ErasesNoneAt, RestsAt, DoesAtMost};

@@ -1,4 +1,5 @@
 pub mod events
+pub mod keeping
 pub mod lists
 pub mod meetings
 pub mod deposits

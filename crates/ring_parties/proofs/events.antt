@@ -21,6 +21,7 @@ pub mod Ready
 pub mod Refreshing
 pub mod Refusals
 pub mod Refusing
+pub mod Says
 pub mod Steps
 pub mod StopGoes
 pub mod TakeGoes

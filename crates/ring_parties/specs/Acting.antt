@@ -1,8 +1,7 @@
 -- What an event does to the parties, before the ends of links meet.
-use Rattle.std.specs.Prelude.{◌≡◌, ℕ, ◌+◌, ◌<◌, ◌++◌, ◌∷◌, Bool, true, false, not, cond, List, [], length, Option, Some, None, MatchOption, slice_index_or, map, nat_eq, nat_lt, ⊤}
+use Rattle.std.specs.Prelude.{◌≡◌, ℕ, ◌+◌, ◌<◌, ◌++◌, ◌∷◌, Bool, true, false, not, cond, List, [], length, Option, Some, None, MatchOption, slice_index_or, map, nat_eq, nat_lt, ⊤, Ok}
 use Rattle.std.specs.List.{filter}
 use Rattle.queue_core.specs.declared.message.Message.{Message}
-use Rattle.queue_core.specs.declared.message.Message.TheVariants as message
 use Rattle.ring_names.specs.declared.reason.Reason.{Reason}
 use Rattle.ring_names.specs.declared.reason.Reason.TheVariants as reason
 use Rattle.ring_names.specs.declared.numbers.CreditSpec.{CreditSpec}
@@ -18,7 +17,7 @@ use Rattle.ring_rules.specs.declared.kind.LinkStep.TheVariants as step
 use Rattle.ring_rules.specs.declared.kind.ViewChange.TheVariants as change
 use Rattle.ring_rules.specs.declared.kind.Kind.{Kind as ShownKind}
 use Rattle.ring_rules.specs.declared.kind.Kind.TheVariants as shown
-use Rattle.ring_rules.specs.Kind.{Own, Kind, Says, Steps, Changes, Stops, Reads, Tells}
+use Rattle.ring_rules.specs.Kind.{Kind, Says, Steps, Changes, Stops, Reads, Tells}
 use Rattle.ring_rules.specs.Refusal.{refuse_if, is_empty}
 use Rattle.ring_rules.specs.View.{right_of}
 use Rattle.ring_rules.specs.Machine.{runs_phase}
@@ -28,7 +27,8 @@ use Rattle.gm_member.specs.Held.{Held, joining_held, Outgoing, Incoming, at_some
 use Rattle.gm_member.specs.View.{ring_link}
 use Rattle.gm_member.specs.Shown.{When}
 use Rattle.ring_parties.specs.Ends.{PacketShown, OutSeen, InSeen, opened_out, fresh_in}
-use Rattle.ring_parties.specs.Parties.{EndsSeen, Shown, Deposit, Parties, node_at, with_node}
+use Rattle.ring_parties.specs.Parties.{EndsSeen, Shown, Keeps, Deposit, Parties, node_at, with_node}
+use Rattle.ring_parties.specs.Keeps.{said_by, saying_refused}
 
 -- ---- one end
 
@@ -158,7 +158,7 @@ Picks a b =
     (i : ℕ) × (first_at_door a.held ≡ Some i)
     × (b ≡ record { held = picked_held a.held; ends = record a.ends { link = slice_index_or a.ends.door i None; door = without i a.ends.door } })
 
--- ---- what a member does by itself: it says something, or does a step on its links; of the queue it says nothing yet, as no party keeps a mirror
+-- ---- what a member does by itself: it says something, or does a step on its links; what it says of the queue, by what its party keeps
 
 -- whether what is read of a kind is that
 abbrev pub is_alone : ShownKind → Bool
@@ -183,17 +183,17 @@ DoesStep step.Gain = Gains
 DoesStep step.Pick = Picks
 
 -- the first condition that fails of what it does by itself, or of its stop
-abbrev pub alone_refused : Kind → Shown → Option Reason
-alone_refused (Says s) a = up_refused a.held None
-alone_refused (Steps s) a = step_refused s a
-alone_refused Stops a = stop_refused a
-alone_refused k a = None
+abbrev pub alone_refused : Kind → Keeps → Shown → Option Reason
+alone_refused (Says s) keeps a = up_refused a.held (saying_refused s a.held keeps)
+alone_refused (Steps s) keeps a = step_refused s a
+alone_refused Stops keeps a = stop_refused a
+alone_refused k keeps a = None
 
 -- what it does by itself
-abbrev pub DoesAlone : Kind → Shown → Shown → Type 0
-DoesAlone (Says (Own body)) a b = Casts (message.Cast body) a b
-DoesAlone (Steps s) a b = DoesStep s a b
-DoesAlone k a b = ⊥
+abbrev pub DoesAlone : Kind → Keeps → Shown → Shown → Type 0
+DoesAlone (Says s) keeps a b = (m : Message) × (said_by s a.held keeps ≡ Ok m) × Casts m a b
+DoesAlone (Steps s) keeps a b = DoesStep s a b
+DoesAlone k keeps a b = ⊥
 
 -- ---- a member that has another view
 
@@ -284,15 +284,16 @@ LetsIn v credit name id i q q' replaced =
 abbrev pub AdmitsAt : List ℕ → ℕ → Parties → Parties → Option (LinkName × OutSeen) → Type 0
 AdmitsAt name i q q' replaced = (credit : CreditSpec) × HasCredit credit (node_at q i).held × LetsIn (admitting q i name) credit name (newest_of q).next_id i q q' replaced
 
--- what the member at place i does of a kind; d is the id of the one that is marked or erased; a refusal changes nothing
-abbrev pub Acts : Kind → ℕ → ℕ → Parties → Parties → Option (LinkName × OutSeen) → Type 0
-Acts Stops i d q q' replaced = (b : Shown) × Halts (node_at q i) b × (q' ≡ record (with_node q i b) { stopped = q.stopped ++ (i + 1) ∷ [] }) × (replaced ≡ None)
-Acts (Changes (change.Mark dead)) i d q q' replaced = LooksAt (marked (newest_of q) d) i (viewing (marked (newest_of q) d) q) q' replaced
-Acts (Changes (change.Erase origin)) i d q q' replaced = LooksAt (erasing q d) i (viewing (erasing q d) q) q' replaced
-Acts (Changes (change.Admit name)) i d q q' replaced = AdmitsAt name i q q' replaced
-Acts (Reads version) i d q q' replaced = LooksAt (view_at q.views version) i q q' replaced
-Acts (Tells code inner) i d q q' replaced = (q' ≡ q) × (replaced ≡ None)
-Acts k i d q q' replaced = (b : Shown) × DoesAlone k (node_at q i) b × (q' ≡ with_node q i b) × (replaced ≡ None)
+-- what the member at place i, whose party keeps that, does of a kind; d is the id of the one that is marked or erased; a refusal changes
+-- nothing
+abbrev pub Acts : Kind → Keeps → ℕ → ℕ → Parties → Parties → Option (LinkName × OutSeen) → Type 0
+Acts Stops keeps i d q q' replaced = (b : Shown) × Halts (node_at q i) b × (q' ≡ record (with_node q i b) { stopped = q.stopped ++ (i + 1) ∷ [] }) × (replaced ≡ None)
+Acts (Changes (change.Mark dead)) keeps i d q q' replaced = LooksAt (marked (newest_of q) d) i (viewing (marked (newest_of q) d) q) q' replaced
+Acts (Changes (change.Erase origin)) keeps i d q q' replaced = LooksAt (erasing q d) i (viewing (erasing q d) q) q' replaced
+Acts (Changes (change.Admit name)) keeps i d q q' replaced = AdmitsAt name i q q' replaced
+Acts (Reads version) keeps i d q q' replaced = LooksAt (view_at q.views version) i q q' replaced
+Acts (Tells code inner) keeps i d q q' replaced = (q' ≡ q) × (replaced ≡ None)
+Acts k keeps i d q q' replaced = (b : Shown) × DoesAlone k keeps (node_at q i) b × (q' ≡ with_node q i b) × (replaced ≡ None)
 
 -- ---- collecting
 

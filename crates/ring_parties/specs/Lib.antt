@@ -3,6 +3,7 @@ pub mod Behind
 pub mod Collecting
 pub mod Ends
 pub mod Gathered
+pub mod Keeps
 pub mod Looking
 pub mod Replaced
 pub mod Meeting

@@ -9,6 +9,7 @@ use Rattle.ordered_link.specs.Steps.{PlainPuts, PlainGains}
 use Rattle.group_view.specs.declared.link.LinkName.{LinkName}
 use Rattle.group_view.specs.View.{Group}
 use Rattle.group_view.specs.Since.{no_group}
+use Rattle.queue_mirror.specs.Mirror.{MirrorState}
 use Rattle.ring_rules.specs.declared.phase.Phase.TheVariants as phase
 use Rattle.registrar.specs.Registry.{Registry}
 use Rattle.registrar.specs.declared.waiting_link.WaitingLink.{WaitingLink}
@@ -89,6 +90,19 @@ no_shown = record {
   ends = record { out = None; returned = None; link = None; door = []; old_outs = []; old_ins = [] };
 }
 
+-- ---- the queue
+
+-- What a party keeps of its queue beside its member: the mirror, whether it has started as a master, and the version that its view had
+-- when it last told how many messages there are.
+pub record Keeps : Type 0 where
+  pub mirror : MirrorState
+  pub started : Bool
+  pub told : ℕ
+
+-- what this one keeps
+abbrev pub keeps_in : Party → Keeps
+keeps_in p = record { mirror = p.mirror.mirror; started = p.started; told = p.told }
+
 -- ---- the registrar
 
 -- A link that waits for its receiver: its name, and its end, where it isn't lent.
@@ -118,9 +132,11 @@ pub record Parties : Type 0 where
 abbrev pub parties : List Party → Registry (PlainIn Load) → List Deposit → Parties
 parties members r behind = record { nodes = map shown_in members; views = r.views; stopped = r.stopped; deposits = map deposit_shown r.links ++ behind }
 
--- What is seen of the parties: what they show, and whether the registrar is owed a link that waits behind those which stand there.
+-- What is seen of the parties: what they show, what they keep of their queue, by places, and whether the registrar is owed a link that waits
+-- behind those which stand there.
 pub record PartiesSeen : Type 0 where
   pub all : Parties
+  pub keeps : List Keeps
   pub owes : Bool
 
 -- the member at a place

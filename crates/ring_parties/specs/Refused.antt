@@ -8,12 +8,12 @@ use Rattle.group_view.specs.View.{Group}
 use Rattle.group_view.specs.Change.{is_taken, most_entries}
 use Rattle.ring_rules.specs.declared.event.Event.{Event}
 use Rattle.ring_rules.specs.declared.event.Client.{Client}
-use Rattle.ring_rules.specs.declared.event.Client.TheVariants as client
 use Rattle.ring_rules.specs.declared.kind.ViewChange.TheVariants as change
 use Rattle.ring_rules.specs.Kind.{Kind, Changes, Reads, Tells}
 use Rattle.ring_rules.specs.Refusal.{refuse_if, or_else}
 use Rattle.ring_rules.specs.Step.{size}
-use Rattle.ring_rules.specs.Event.{refusal, refused_as, is_multicast_kind, is_told}
+use Rattle.ring_rules.specs.Kind.{kind_of}
+use Rattle.ring_rules.specs.Event.{event_of, refusal, refused_as, is_told}
 use Rattle.registrar.specs.declared.waiting_link.WaitingLink.{WaitingLink}
 use Rattle.registrar.specs.Registry.{Registry}
 use Rattle.registrar.specs.Asked.{mark_refusal, erase_refusal}
@@ -21,10 +21,11 @@ use Rattle.activity.specs.Kept.{got_of}
 use Rattle.gm_member.specs.Packets.{known_at}
 use Rattle.gm_member.specs.Held.{Held, at_some, up_refused, first_at_door, is_for, collected_held}
 use Rattle.ring_parties.specs.Ends.{InSeen}
-use Rattle.ring_parties.specs.Parties.{Shown, Deposit, Parties, node_at}
-use Rattle.ring_parties.specs.States.{state, IsEventIn}
+use Rattle.ring_parties.specs.Parties.{Shown, Keeps, Deposit, Parties, PartiesSeen, node_at}
+use Rattle.ring_parties.specs.States.{state, IsEventIn, is_played_kind}
+use Rattle.ring_parties.specs.Keeps.{KeepsStand}
 use Rattle.ring_parties.specs.Standing.{StandAfter}
-use Rattle.ring_parties.specs.Acting.{waits_at, received, alone_refused, stop_refused, look_refused, newest_of}
+use Rattle.ring_parties.specs.Acting.{waits_at, received, alone_refused, look_refused, newest_of}
 
 -- the id of the member of that name
 abbrev pub id_named : Parties → List ℕ → Option ℕ
@@ -58,29 +59,31 @@ abbrev pub admission_refused : Group → List ℕ → Option Reason
 admission_refused g name =
     or_else (refuse_if (is_taken g.entries name) reason.NameTaken) (refuse_if (nat_le most_entries (length g.entries)) reason.TooManyMembers)
 
--- why a member doesn't do what a client asks, where this is the newest view; what is asked of the queue can't come yet
-abbrev pub client_refused : Group → Client → Shown → Option Reason
-client_refused g (client.Cast by body) m = up_refused m.held None
-client_refused g (client.Stop by) m = stop_refused m
-client_refused g (client.Admit by name) m = up_refused m.held (admission_refused g name)
-client_refused g inner m = None
+-- why a member doesn't do what a client asks, where this is the newest view: of such a kind
+abbrev pub asked_refused : Group → Keeps → Kind → Shown → Option Reason
+asked_refused g keeps (Changes (change.Admit name)) m = up_refused m.held (admission_refused g name)
+asked_refused g keeps k m = alone_refused k keeps m
+
+-- and by what the client asks
+abbrev pub client_refused : Group → Keeps → Client → Shown → Option Reason
+client_refused g keeps inner m = asked_refused g keeps (kind_of (event_of inner)) m
 
 -- why it doesn't tell the client so with this number
-abbrev pub telling_refused : Group → ℕ → Client → Shown → Option Reason
-telling_refused g code inner m = refuse_if (not (is_told code (client_refused g inner m))) reason.NotRefused
+abbrev pub telling_refused : Group → Keeps → ℕ → Client → Shown → Option Reason
+telling_refused g keeps code inner m = refuse_if (not (is_told code (client_refused g keeps inner m))) reason.NotRefused
 
 -- why it doesn't do what makes no view, where this is the newest
-abbrev pub own_refused : Group → Kind → Shown → Option Reason
-own_refused g (Reads version) m = look_refused g.version m version
-own_refused g (Tells code inner) m = telling_refused g code inner m
-own_refused g k m = alone_refused k m
+abbrev pub own_refused : Group → Keeps → Kind → Shown → Option Reason
+own_refused g keeps (Reads version) m = look_refused g.version m version
+own_refused g keeps (Tells code inner) m = telling_refused g keeps code inner m
+own_refused g keeps k m = alone_refused k keeps m
 
--- the first failing condition of what the member at place i does of a kind
-abbrev pub act_refused : Kind → ℕ → Parties → Option Reason
-act_refused (Changes (change.Mark dead)) i q = mark_refused (office_of q) (node_at q i) (id_named q dead)
-act_refused (Changes (change.Erase origin)) i q = erase_refused (office_of q) (node_at q i) (id_named q origin)
-act_refused (Changes (change.Admit name)) i q = up_refused (node_at q i).held (admission_refused (newest_of q) name)
-act_refused k i q = own_refused (newest_of q) k (node_at q i)
+-- the first failing condition of what the member at place i, whose party keeps that, does of a kind
+abbrev pub act_refused : Kind → Keeps → ℕ → Parties → Option Reason
+act_refused (Changes (change.Mark dead)) keeps i q = mark_refused (office_of q) (node_at q i) (id_named q dead)
+act_refused (Changes (change.Erase origin)) keeps i q = erase_refused (office_of q) (node_at q i) (id_named q origin)
+act_refused (Changes (change.Admit name)) keeps i q = up_refused (node_at q i).held (admission_refused (newest_of q) name)
+act_refused k keeps i q = own_refused (newest_of q) keeps k (node_at q i)
 
 -- the id of the one that is to be marked or erased
 abbrev pub marked_in : Kind → Parties → ℕ
@@ -107,6 +110,10 @@ first_for h (d ∷ ps) = cond (comes_for h d) (Some d.name.view) (first_for h ps
 abbrev pub IsRefusalAt : ℕ → Event → Parties → Option Reason → Type 0
 IsRefusalAt i e q r = (credit : CreditSpec) (names : List (List ℕ)) (events : List Event) → StandAfter credit names events q → IsEventIn (state credit names events) i e → r ≡ refusal (state credit names events) e
 
--- wherever they stand, this is the first failing condition of what the member at a place does of a kind, where that isn't of the queue
+-- the same by all that they keep
+abbrev pub IsRefusalBy : ℕ → Event → PartiesSeen → Option Reason → Type 0
+IsRefusalBy i e p r = (credit : CreditSpec) (names : List (List ℕ)) (events : List Event) → StandAfter credit names events p.all → KeepsStand (state credit names events) p.keeps → IsEventIn (state credit names events) i e → r ≡ refusal (state credit names events) e
+
+-- wherever they stand, this is the first failing condition of what the member at a place does of a kind
 abbrev pub IsRefusedAs : ℕ → Kind → Parties → Option Reason → Type 0
-IsRefusedAs i k q r = (credit : CreditSpec) (names : List (List ℕ)) (events : List Event) → StandAfter credit names events q → i + 1 < size (state credit names events) → is_multicast_kind k ≡ true → r ≡ refused_as (state credit names events) (i + 1) k
+IsRefusedAs i k q r = (credit : CreditSpec) (names : List (List ℕ)) (events : List Event) → StandAfter credit names events q → i + 1 < size (state credit names events) → is_played_kind k ≡ true → r ≡ refused_as (state credit names events) (i + 1) k

@@ -1,6 +1,6 @@
 -- When the parties of a cluster stand in a state of the ring.
 use Rattle.std.specs.Prelude.{◌≡◌, ℕ, ◌+◌, ◌-◌, ◌<◌, ◌≤◌, ◌^◌, ◌++◌, ◌∷◌, Bool, true, false, List, [], length, map, nat_eq, Some, None, option_map}
-use Rattle.std.specs.List.{filter, list_all}
+use Rattle.std.specs.List.{filter}
 use Rattle.ring_names.specs.declared.numbers.CreditSpec.{CreditSpec}
 use Rattle.group_view.specs.declared.link.LinkName.{LinkName}
 use Rattle.group_view.specs.Ring.{is_in}
@@ -10,7 +10,7 @@ use Rattle.ring_rules.specs.declared.event.Event.{Event}
 use Rattle.ring_rules.specs.Machine.{World, member_at, link_at}
 use Rattle.ring_rules.specs.OpenLinks.{is_place, is_open}
 use Rattle.ring_rules.specs.Step.{size, opening}
-use Rattle.ring_rules.specs.Event.{IsRun, is_stopped, is_multicast}
+use Rattle.ring_rules.specs.Event.{IsRun, is_stopped}
 use Rattle.gm_member.specs.View.{ring_link}
 use Rattle.gm_member.specs.Stands.{incoming_in, door_links, held_in}
 use Rattle.ring_parties.specs.Ends.{OutSeen, InSeen, Carries, HaveMet, HasRested}
@@ -92,12 +92,11 @@ pub record Stand (initial : ℕ) (w : World) (q : Parties) : Type 0 where
 
 -- ---- a cluster
 
--- The journal is a run of the ring of fewer than 2^59 events, none of which is of the queue.
+-- The journal is a run of the ring of fewer than 2^59 events.
 pub record IsJournal (credit : CreditSpec) (names : List (List ℕ)) (events : List Event) : Type 0 where
   pub are : AreOpeningNames names
   pub run : IsRun (opening credit names) events
   pub few : length events < 2 ^ 59
-  pub multicast : list_all is_multicast events ≡ true
 
 -- The journal is a run, and the parties stand in its last state.
 pub record StandAfter (credit : CreditSpec) (names : List (List ℕ)) (events : List Event) (q : Parties) : Type 0 where

@@ -1,20 +1,21 @@
 //! An event of a member of the cluster.
-ghost use Rattle.std.specs.Prelude.{◌≡◌, ◌+◌, ◌-◌, ◌<◌, ◌≤◌, ℕ, true, IfSome, IfErr, IfOk, OnOk};
+ghost use Rattle.std.specs.Prelude.{false, ◌≡◌, ◌+◌, ◌-◌, ◌<◌, ◌≤◌, ℕ, true, IfSome, IfErr, IfOk, OnOk};
 ghost use Rattle.std.specs.Prelude.{OnErr, Some, None, length, position, bytes_eq, option_map};
 ghost use Rattle.registrar.specs.Registry.{AreHere};
 ghost use Rattle.registrar.specs.Handled.{with_stopped};
 ghost use Rattle.registrar.specs.Asked.{stop_refusal as the_stop_refusal};
-ghost use Rattle.ring_rules.specs.Kind.{kind_of, shown_kind};
-ghost use Rattle.ring_rules.specs.Event.{is_multicast};
-ghost use Rattle.ring_parties.specs.Parties.{shown_of, shown_in};
+ghost use Rattle.ring_rules.specs.Kind.{Steps, kind_of, shown_kind};
+ghost use Rattle.ring_parties.specs.Parties.{shown_of, shown_in, keeps_in};
+ghost use Rattle.ring_parties.specs.Keeps.{kept_after};
 ghost use Rattle.ring_parties.specs.Acting.{IsReady, step_refused, DoesStep};
 ghost use Rattle.ring_parties.specs.Acting.{is_alone, alone_refused, DoesAlone};
 ghost use Rattle.ring_parties.specs.Tried.{IsJudged, Tries};
 
 use crate::looking::{Replaced, ask, look};
-use crate::node::{Node, cast, gain, pick, put, stop, take, take_end};
+use crate::node::{Node, gain, pick, put, stop, take_end};
 use crate::parties::Parties;
 use crate::party::Party;
+use crate::queue::{say, take_packet};
 use crate::refusing::{look_refusal, own_refusal, stop_refusal, unknown};
 use activity::Load;
 use gm_member::Ask;
@@ -39,47 +40,38 @@ fn first_named(members: &[Party], name: &Name) -> Option<usize>
     members.iter().position(|party| has_name(&party.node, name))
 }
 
-/// The member says what it does by the event, where that is enabled. It is none of the queue, so a message of its own.
-fn say(node: &mut Node, event: &Event) -> Result<(), Refused>
-    requires says { shown_kind (kind_of event.now) ≡ Kind.Says }
-    requires multicast { is_multicast event.now ≡ true }
-    ensures judged { IsJudged (alone_refused (kind_of event.now) (shown_of node.old)) result }
-    ensures ok { OnOk result (DoesAlone (kind_of event.now) (shown_of node.old) (shown_of node.new)) }
-    ensures err { OnErr result (shown_of node.new ≡ shown_of node.old) }
-{
-    match event.own_body() {
-        Some(body) => cast(node, body),
-        None => unreachable!(),
-    }
-}
-
 /// The member does a step on its links, where it is enabled.
-fn do_step(node: &mut Node, step: LinkStep) -> Result<(), Refused>
-    requires { IsReady (shown_of node.old) }
-    ensures { Tries (step_refused step (shown_of node.old)) (DoesStep step)
-        (shown_of node.old) (shown_of node.new) result }
+fn do_step(party: &mut Party, step: LinkStep) -> Result<(), Refused>
+    requires { IsReady (shown_in party.old) }
+    ensures tries { Tries (step_refused step (shown_in party.old)) (DoesStep step)
+        (shown_in party.old) (shown_in party.new) result }
+    ensures keeps { OnOk result (keeps_in party.new ≡ kept_after (Steps step) (shown_in party.old) (keeps_in party.old)) }
+    ensures err { OnErr result (keeps_in party.new ≡ keeps_in party.old) }
 {
     match step {
-        LinkStep::Pick => pick(node),
-        LinkStep::Take => take(node),
-        LinkStep::TakeEnd => take_end(node),
-        LinkStep::Gain => gain(node),
-        LinkStep::Put => put(node),
+        LinkStep::Pick => pick(&mut party.node),
+        LinkStep::Take => take_packet(party),
+        LinkStep::TakeEnd => take_end(&mut party.node),
+        LinkStep::Gain => gain(&mut party.node),
+        LinkStep::Put => put(&mut party.node),
     }
 }
 
-/// The event of a member that does it by itself happens, where it is enabled. It is none of the queue.
-fn do_alone(node: &mut Node, event: &Event) -> Result<(), Refused>
+/// The event of a member that does it by itself happens, where it is enabled.
+fn do_alone(party: &mut Party, event: &Event) -> Result<(), Refused>
     requires alone { is_alone (shown_kind (kind_of event.now)) ≡ true }
-    requires multicast { is_multicast event.now ≡ true }
-    requires ready { IsReady (shown_of node.old) }
-    ensures judged { IsJudged (alone_refused (kind_of event.now) (shown_of node.old)) result }
-    ensures ok { OnOk result (DoesAlone (kind_of event.now) (shown_of node.old) (shown_of node.new)) }
-    ensures err { OnErr result (shown_of node.new ≡ shown_of node.old) }
+    requires free { (shown_in party.old).held.asks ≡ false }
+    requires ready { IsReady (shown_in party.old) }
+    ensures judged { IsJudged (alone_refused (kind_of event.now) (keeps_in party.old) (shown_in party.old)) result }
+    ensures ok { OnOk result (DoesAlone (kind_of event.now) (keeps_in party.old) (shown_in party.old) (shown_in party.new)) }
+    ensures keeps { OnOk result (keeps_in party.new
+        ≡ kept_after (kind_of event.now) (shown_in party.old) (keeps_in party.old)) }
+    ensures err { OnErr result (shown_in party.new ≡ shown_in party.old) }
+    ensures err_keeps { OnErr result (keeps_in party.new ≡ keeps_in party.old) }
 {
     match event.kind() {
-        Kind::Says => say(node, event),
-        Kind::Links(step) => do_step(node, step),
+        Kind::Says => say(party, event),
+        Kind::Links(step) => do_step(party, step),
         _ => unreachable!(),
     }
 }
@@ -105,7 +97,8 @@ impl Parties {
     ghost use Rattle.group_view.specs.View.{number};
     ghost use Rattle.group_view.specs.Since.{view_at};
     ghost use Rattle.ring_rules.specs.Kind.{kind_of, shown_kind, Changes, Stops};
-    ghost use Rattle.ring_rules.specs.Event.{is_multicast, is_multicast_kind};
+    ghost use Rattle.ring_parties.specs.States.{is_played, is_played_kind};
+    ghost use Rattle.ring_parties.specs.Keeps.{keeps_at, all_kept_after};
     ghost use Rattle.ring_parties.specs.Parties.{node_at};
     ghost use Rattle.ring_parties.specs.Standing.{StandSomewhere, MayAct};
     ghost use Rattle.ring_parties.specs.Tried.{IsJudged};
@@ -134,20 +127,23 @@ impl Parties {
         Some(MemberId(place as u32 + 1))
     }
 
-    /// The event of the member at a place happens there, where it is enabled: the out end that the member replaces. It
-    /// is none of the queue, of which the parties keep no mirrors yet.
+    /// The event of the member at a place happens there, where it is enabled: the out end that the member replaces.
+    /// It has no mirror registered, as none of the parties' is yet.
     pub(crate) fn act(
         &mut self,
         credit: CreditSpec,
         i: usize,
         event: &Event,
     ) -> Result<Option<Replaced>, Refused>
-        requires multicast { is_multicast event.now ≡ true }
+        requires played { is_played event.now ≡ true }
         requires may { MayAct self.old i }
         requires credit { HasCredit credit (node_at (self.old).all i).held }
-        ensures judged { IsJudged (act_refused (kind_of event.now) i (self.old).all) result }
-        ensures ok { IfOk result (λ replaced. Acts (kind_of event.now) i (marked_in (kind_of event.now) (self.old).all)
+        ensures judged { IsJudged (act_refused (kind_of event.now) (keeps_at (self.old).keeps i) i (self.old).all) result }
+        ensures ok { IfOk result (λ replaced. Acts (kind_of event.now) (keeps_at (self.old).keeps i) i
+            (marked_in (kind_of event.now) (self.old).all)
             (self.old).all (self.new).all (replaced_seen replaced)) }
+        ensures keeps { OnOk result ((self.new).keeps
+            ≡ all_kept_after (kind_of event.now) i (self.old).all (self.old).keeps) }
         ensures err { OnErr result (self.new ≡ self.old) }
     {
         match event.kind() {
@@ -172,12 +168,15 @@ impl Parties {
     fn act_alone(&mut self, i: usize, event: &Event) -> Result<(), Refused>
         requires may { MayAct self.old i }
         requires alone { is_alone (shown_kind (kind_of event.now)) ≡ true }
-        requires multicast { is_multicast event.now ≡ true }
-        ensures judged { IsJudged (alone_refused (kind_of event.now) (node_at (self.old).all i)) result }
-        ensures ok { OnOk result ((d : ℕ) → Acts (kind_of event.now) i d (self.old).all (self.new).all None) }
+        ensures judged { IsJudged (alone_refused (kind_of event.now) (keeps_at (self.old).keeps i)
+            (node_at (self.old).all i)) result }
+        ensures ok { OnOk result ((d : ℕ) → Acts (kind_of event.now) (keeps_at (self.old).keeps i) i d
+            (self.old).all (self.new).all None) }
+        ensures keeps { OnOk result ((self.new).keeps
+            ≡ all_kept_after (kind_of event.now) i (self.old).all (self.old).keeps) }
         ensures err { OnErr result (self.new ≡ self.old) }
     {
-        do_alone(&mut self.members[i].node, event)?;
+        do_alone(&mut self.members[i], event)?;
         Ok(())
     }
 
@@ -185,7 +184,8 @@ impl Parties {
     fn act_stop(&mut self, i: usize) -> Result<(), Refused>
         requires { MayAct self.old i }
         ensures judged { IsJudged (stop_refused (node_at (self.old).all i)) result }
-        ensures ok { OnOk result ((d : ℕ) → Acts Stops i d (self.old).all (self.new).all None) }
+        ensures ok { OnOk result ((d : ℕ) → Acts Stops (keeps_at (self.old).keeps i) i d (self.old).all (self.new).all None) }
+        ensures keeps { OnOk result ((self.new).keeps ≡ (self.old).keeps) }
         ensures err { OnErr result (self.new ≡ self.old) }
     {
         if let Some(reason) = stop_refusal(&self.members[i].node) {
@@ -205,6 +205,7 @@ impl Parties {
             (node_at (self.old).all i) version) result }
         ensures ok { IfOk result (λ replaced. LooksAt (view_at (self.old).all.views version) i
             (self.old).all (self.new).all (replaced_seen replaced)) }
+        ensures keeps { OnOk result ((self.new).keeps ≡ (self.old).keeps) }
         ensures err { OnErr result (self.new ≡ self.old) }
     {
         if let Some(reason) = look_refusal(
@@ -231,29 +232,31 @@ impl Parties {
     fn act_refuse(&self, i: usize, event: &Event) -> Result<(), Refused>
         requires within { i < length (self.now).all.nodes }
         requires standing { StandSomewhere (self.now).all }
-        ensures { IsJudged (own_refused (newest_of (self.now).all) (kind_of event.now)
+        ensures { IsJudged (own_refused (newest_of (self.now).all) (keeps_at (self.now).keeps i) (kind_of event.now)
             (node_at (self.now).all i)) result }
     {
-        match own_refusal(self.registrar.view(), &self.members[i].node, event) {
+        match own_refusal(self.registrar.view(), &self.members[i], event) {
             Some(reason) => Err(Refused::NotEnabled(reason)),
             None => Ok(()),
         }
     }
 
-    /// The member at a place has the view changed, where it may. Nobody is registered, as the parties keep no mirrors
-    /// yet.
+    /// The member at a place has the view changed, where it may. No mirror is registered yet.
     fn act_change(
         &mut self,
         credit: CreditSpec,
         i: usize,
         change: ViewChange,
     ) -> Result<Option<Replaced>, Refused>
-        requires multicast { is_multicast_kind (Changes change) ≡ true }
+        requires played { is_played_kind (Changes change) ≡ true }
         requires may { MayAct self.old i }
         requires credit { HasCredit credit (node_at (self.old).all i).held }
-        ensures judged { IsJudged (act_refused (Changes change) i (self.old).all) result }
-        ensures ok { IfOk result (λ replaced. Acts (Changes change) i (marked_in (Changes change) (self.old).all)
+        ensures judged { IsJudged (act_refused (Changes change) (keeps_at (self.old).keeps i) i (self.old).all) result }
+        ensures ok { IfOk result (λ replaced. Acts (Changes change) (keeps_at (self.old).keeps i) i
+            (marked_in (Changes change) (self.old).all)
             (self.old).all (self.new).all (replaced_seen replaced)) }
+        ensures keeps { OnOk result ((self.new).keeps
+            ≡ all_kept_after (Changes change) i (self.old).all (self.old).keeps) }
         ensures err { OnErr result (self.new ≡ self.old) }
     {
         match change {
@@ -269,7 +272,8 @@ impl Parties {
         requires { MayAct self.old i }
         ensures judged { IsJudged (mark_refused (office_of (self.old).all) (node_at (self.old).all i)
             (id_named (self.old).all dead.now)) result }
-        ensures ok { IfOk result (λ replaced. Acts (Changes (ViewChange.Mark dead.now)) i
+        ensures keeps { OnOk result ((self.new).keeps ≡ (self.old).keeps) }
+        ensures ok { IfOk result (λ replaced. Acts (Changes (ViewChange.Mark dead.now)) (keeps_at (self.old).keeps i) i
             (marked_in (Changes (ViewChange.Mark dead.now)) (self.old).all) (self.old).all (self.new).all
             (replaced_seen replaced)) }
         ensures err { OnErr result (self.new ≡ self.old) }
@@ -285,7 +289,8 @@ impl Parties {
         requires { MayAct self.old i }
         ensures judged { IsJudged (erase_refused (office_of (self.old).all) (node_at (self.old).all i)
             (id_named (self.old).all origin.now)) result }
-        ensures ok { IfOk result (λ replaced. Acts (Changes (ViewChange.Erase origin.now)) i
+        ensures keeps { OnOk result ((self.new).keeps ≡ (self.old).keeps) }
+        ensures ok { IfOk result (λ replaced. Acts (Changes (ViewChange.Erase origin.now)) (keeps_at (self.old).keeps i) i
             (marked_in (Changes (ViewChange.Erase origin.now)) (self.old).all) (self.old).all (self.new).all
             (replaced_seen replaced)) }
         ensures err { OnErr result (self.new ≡ self.old) }
@@ -301,6 +306,7 @@ impl Parties {
         requires makes { makes_view what ≡ true }
         requires may { MayAct self.old i }
         ensures judged { IsJudged (ask_refused (office_of (self.old).all) (node_at (self.old).all i) what) result }
+        ensures keeps { OnOk result ((self.new).keeps ≡ (self.old).keeps) }
         ensures ok { IfOk result (λ replaced. LooksAt (view_for (office_of (self.old).all) (i + 1) what) i
             (viewing (view_for (office_of (self.old).all) (i + 1) what) (self.old).all) (self.new).all
             (replaced_seen replaced)) }

@@ -76,7 +76,8 @@ fn push_reserved(members: &mut Vec<Party>, party: Party)
 }
 
 impl Parties {
-    ghost use Rattle.std.specs.Prelude.{◌≡◌, ◌<◌, IfOk, OnErr};
+    ghost use Rattle.std.specs.Prelude.{◌≡◌, ◌<◌, ◌++◌, ◌∷◌, [], IfOk, OnOk, OnErr};
+    ghost use Rattle.ring_parties.specs.Keeps.{joining_keeps};
     ghost use Rattle.gm_member.specs.Held.{up_refused};
     ghost use Rattle.ring_parties.specs.Parties.{node_at};
     ghost use Rattle.ring_parties.specs.Standing.{MayAct};
@@ -98,6 +99,7 @@ impl Parties {
         ensures judged { IsJudged (up_refused (node_at (self.old).all i).held
             (admission_refused (newest_of (self.old).all) name.now)) result }
         ensures ok { IfOk result (λ replaced. AdmitsAt name.now i (self.old).all (self.new).all (replaced_seen replaced)) }
+        ensures keeps { OnOk result ((self.new).keeps ≡ (self.old).keeps ++ joining_keeps ∷ []) }
         ensures err { OnErr result (self.new ≡ self.old) }
     {
         let view = self.registrar.view();
@@ -120,7 +122,7 @@ impl Parties {
             Err(refused) => return Err(refused),
         };
         seat(&mut node, looked.opened);
-        push_reserved(&mut self.members, Party { node });
+        push_reserved(&mut self.members, Party::joining(alloc, node));
         Ok(looked.replaced)
     }
 }

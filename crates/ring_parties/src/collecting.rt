@@ -50,6 +50,7 @@ impl Parties {
     pub(crate) fn collect(&mut self, i: usize) -> Result<(), OutOfMemory>
         requires { MayAct self.old i }
         ensures standing { StandStill (self.old).all (self.new).all }
+        ensures keeps { (self.new).keeps ≡ (self.old).keeps }
         ensures delivered { (self.new).owes ≡ false }
         ensures none { OnOk result ((node_at (self.new).all i).held.phase ≡ Up
             → NothingWaits (i + 1) (self.new).all) }

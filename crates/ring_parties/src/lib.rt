@@ -13,6 +13,7 @@ mod opening;
 mod parties;
 mod party;
 mod pending_deposit;
+mod queue;
 mod refusing;
 mod stepping;
 

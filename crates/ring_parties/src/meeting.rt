@@ -4,7 +4,7 @@ ghost use Rattle.std.specs.Prelude.{None, Some, slice_index_or, slice_set};
 ghost use Rattle.ring_rules.specs.Machine.{runs_phase};
 ghost use Rattle.gm_member.specs.Shown.{out_name_of};
 ghost use Rattle.ring_parties.specs.Ends.{Fits, Meets};
-ghost use Rattle.ring_parties.specs.Parties.{shown_of, shown_in, out_seen, in_seen};
+ghost use Rattle.ring_parties.specs.Parties.{shown_of, shown_in, keeps_in, out_seen, in_seen};
 ghost use Rattle.ring_parties.specs.Parties.{with_out, deposit_shown, no_shown};
 ghost use Rattle.ring_parties.specs.Behind.{behind};
 ghost use Rattle.ring_parties.specs.Meeting.{HasNone, NodeMayMeet, NodeMeets, DepositsMayMeet};
@@ -109,6 +109,7 @@ fn meet_member(members: &mut [Party], out: &mut PlainOut<Load>, name: &LinkName)
         (slice_index_or (map shown_in members.old) (name.now.to.0 - 1) no_shown).held name.now }
     ensures still { result ≡ false → map shown_in members.new ≡ map shown_in members.old }
     ensures out { result ≡ false → out_seen out.new ≡ out_seen out.old }
+    ensures keeps { map keeps_in members.new ≡ map keeps_in members.old }
 {
     let receiver = name.to.0 as usize - 1;
     if receiver >= members.len() {
@@ -153,8 +154,9 @@ impl Parties {
     /// Lets an out end meet the in end of the link of that name, wherever that stands. It takes no memory.
     pub(crate) fn meet_in(&mut self, out: &mut PlainOut<Load>, name: &LinkName)
         requires { MayMeet (self.old).all name.now (out_seen out.old) }
-        ensures { MeetsIn (self.old).all name.now (out_seen out.old)
+        ensures meets { MeetsIn (self.old).all name.now (out_seen out.old)
             (self.old).all (self.new).all (out_seen out.new) }
+        ensures keeps { (self.new).keeps ≡ (self.old).keeps }
     {
         if meet_member(&mut self.members, out, name) {
             return;
@@ -169,7 +171,8 @@ impl Parties {
     fn meet_out(&mut self, i: usize)
         requires within { i < length (self.old).all.nodes }
         requires may { MayMeetOut (self.old).all i }
-        ensures { MeetsOut i (self.old).all (self.new).all }
+        ensures meets { MeetsOut i (self.old).all (self.new).all }
+        ensures keeps { (self.new).keeps ≡ (self.old).keeps }
     {
         let Some((name, mut out)) = lend_out(&mut self.members[i].node) else {
             return;
@@ -190,7 +193,8 @@ impl Parties {
     fn meet_sender(&mut self, name: Option<LinkName>)
         requires from { IfSome name (λ n. IsMember n.from.0 (self.old).all) }
         requires between { SendersSomewhere (sender_in name) (self.old).all }
-        ensures { MeetsSenders (sender_in name) (self.old).all (self.new).all }
+        ensures meets { MeetsSenders (sender_in name) (self.old).all (self.new).all }
+        ensures keeps { (self.new).keeps ≡ (self.old).keeps }
     {
         let Some(name) = name else {
             return;
@@ -203,7 +207,8 @@ impl Parties {
     pub(crate) fn meet_moved(&mut self, i: usize)
         requires within { i < length (self.old).all.nodes }
         requires moved { MovedSomewhere i (self.old).all }
-        ensures { MeetsMoved i (self.old).all (self.new).all }
+        ensures meets { MeetsMoved i (self.old).all (self.new).all }
+        ensures keeps { (self.new).keeps ≡ (self.old).keeps }
     {
         let taken = self.taken_from(i);
         self.meet_out(i);

@@ -1,37 +1,21 @@
 //! A member over plain ends, and what it does by itself.
-ghost use Rattle.std.specs.Prelude.{◌≡◌, [], OnOk, OnErr, IsOk, None};
-ghost use Rattle.queue_core.specs.declared.message.Message.TheVariants as message;
-ghost use Rattle.gm_member.specs.Held.{up_refused, put_refused, pick_refused};
+ghost use Rattle.std.specs.Prelude.{◌≡◌, ◌∷◌, ◌≤◌, [], List, Option, length, OnOk, OnErr, IfOk, IsOk, None, Some};
+ghost use Rattle.gm_member.specs.Held.{put_refused, pick_refused};
+ghost use Rattle.ring_parties.specs.Ends.{PacketShown};
+ghost use Rattle.ring_parties.specs.Keeps.{ops_taken, ops_next, messages_on};
 ghost use Rattle.ring_parties.specs.Parties.{shown_of};
 ghost use Rattle.ring_parties.specs.Acting.{IsReady, packet_refused, link_end_refused, grant_refused};
-ghost use Rattle.ring_parties.specs.Acting.{stop_refused, Casts, PutsPacket, TakesPacket, TakesEnd, Gains, Halts};
+ghost use Rattle.ring_parties.specs.Acting.{first_item, stop_refused, PutsPacket, TakesPacket, TakesEnd, Gains, Halts};
 ghost use Rattle.ring_parties.specs.Acting.{Picks};
 ghost use Rattle.ring_parties.specs.Tried.{IsJudged, Tries};
 
 use activity::Load;
-use gm_member::Member;
+use gm_member::{Member, Taken};
 use ordered_link::{PlainIn, PlainOut};
-use queue_core::Message;
-use ring_names::Body;
 use ring_rules::Refused;
 
 /// A member whose links are plain pairs.
 pub type Node = Member<PlainOut<Load>, PlainIn<Load>>;
-
-/// The member publishes the body.
-pub(crate) fn cast(node: &mut Node, body: &Body) -> Result<(), Refused>
-    ensures judged { IsJudged (up_refused (shown_of node.old).held None) result }
-    ensures ok { OnOk result (Casts (message.Cast body.now) (shown_of node.old) (shown_of node.new)) }
-    ensures err { OnErr result (shown_of node.new ≡ shown_of node.old) }
-{
-    let Ok(body) = body.copy() else {
-        return Err(Refused::OutOfMemory);
-    };
-    match node.publish(Message::Cast(body)) {
-        Ok(_number) => Ok(()),
-        Err((_message, fault)) => Err(Refused::from(fault)),
-    }
-}
 
 /// The member puts its next packet, where that is enabled.
 pub(crate) fn put(node: &mut Node) -> Result<(), Refused>
@@ -42,13 +26,20 @@ pub(crate) fn put(node: &mut Node) -> Result<(), Refused>
     Ok(())
 }
 
-/// The member takes the oldest packet of the link from which it takes, where there is one.
-pub(crate) fn take(node: &mut Node) -> Result<(), Refused>
+/// The member takes the oldest packet of the link from which it takes, where there is one: what that brings.
+pub(crate) fn take(node: &mut Node) -> Result<Vec<Taken>, Refused>
     requires { IsReady (shown_of node.old) }
-    ensures { Tries (packet_refused (shown_of node.old)) TakesPacket (shown_of node.old) (shown_of node.new) result }
+    ensures judged { IsJudged (packet_refused (shown_of node.old)) result }
+    ensures ok { OnOk result (TakesPacket (shown_of node.old) (shown_of node.new)) }
+    ensures ops { IfOk result (λ taken. ops_taken taken.items ≡ ops_next (shown_of node.old)) }
+    ensures few { IfOk result (λ taken. (k : PacketShown) (rest : List (Option PacketShown))
+        → first_item (shown_of node.old).ends.link ≡ Some k ∷ rest → length taken.items ≤ messages_on k.lines) }
+    ensures there { OnOk result ((k : PacketShown) × (rest : List (Option PacketShown))
+        × (first_item (shown_of node.old).ends.link ≡ Some k ∷ rest)) }
+    ensures err { OnErr result (shown_of node.new ≡ shown_of node.old) }
 {
-    node.take()?;
-    Ok(())
+    let taken = node.take()?;
+    Ok(taken)
 }
 
 /// The member takes the end of that link, where it is next, and leaves it.

@@ -1,12 +1,13 @@
 //! The opening of a cluster.
-ghost use Rattle.std.specs.Prelude.{◌≡◌, ◌+◌, ◌<◌, ◌≤◌, ◌++◌, ◌∷◌, IfOk, OnOk, [], true, length, map};
+ghost use Rattle.std.specs.Prelude.{◌≡◌, ◌+◌, ◌<◌, ◌≤◌, ◌++◌, ◌∷◌, IfOk, OnOk, [], true, length, map, ℕ};
 ghost use Rattle.std.specs.List.{range_with_len};
 ghost use Rattle.group_view.specs.Change.{opening as opening_group};
 ghost use Rattle.group_view.specs.Ring.{is_in};
 ghost use Rattle.ring_rules.specs.Rows.{most_members};
 ghost use Rattle.ring_rules.specs.View.{ids};
 ghost use Rattle.gm_member.specs.Held.{founded};
-ghost use Rattle.ring_parties.specs.Parties.{shown_of, shown_in};
+ghost use Rattle.ring_parties.specs.Parties.{shown_of, shown_in, keeps_in};
+ghost use Rattle.ring_parties.specs.Keeps.{no_keeps};
 ghost use Rattle.ring_parties.specs.Opened.{opened_ends, opened_at};
 
 use crate::node::Node;
@@ -51,11 +52,13 @@ fn opening_members(
     requires view { view.now ≡ opening_group names.now }
     ensures shown { IfOk result (λ v. map shown_in v.items
         ≡ map (opened_at credit names.now) (range_with_len 0 (length names.now))) }
+    ensures keeps { IfOk result (λ v. map keeps_in v.items
+        ≡ map (λ (k : ℕ). no_keeps) (range_with_len 0 (length names.now))) }
 {
     let mut members = Vec::new(alloc);
     for k in 0..names.len() {
         let node = opening_node(alloc, names[k], k, view, credit)?;
-        push_member(&mut members, Party { node })?;
+        push_member(&mut members, Party::founding(alloc, node))?;
     }
     Ok(members)
 }
@@ -72,6 +75,8 @@ impl Parties {
     ghost use Rattle.std.specs.Prelude.{◌≡◌, [], false, IfOk};
     ghost use Rattle.group_view.specs.Change.{AreOpeningNames};
     ghost use Rattle.ring_parties.specs.Opened.{opened_parties};
+    ghost use Rattle.ring_parties.specs.States.{state};
+    ghost use Rattle.ring_parties.specs.Keeps.{KeepsStand};
     ghost use Rattle.ring_parties.specs.Standing.{StandAfter};
 
     /// The parties of a ring that opens with these members, in ring order.
@@ -83,6 +88,7 @@ impl Parties {
         requires { AreOpeningNames names.now }
         ensures opened { IfOk result (λ p. p.all ≡ opened_parties credit names.now) }
         ensures standing { IfOk result (λ p. StandAfter credit names.now [] p.all) }
+        ensures keeps { IfOk result (λ p. KeepsStand (state credit names.now []) p.keeps) }
         ensures delivered { IfOk result (λ p. p.owes ≡ false) }
     {
         let registrar: Registrar<PlainIn<Load>> = Registrar::opening(alloc, names)?;

@@ -1,7 +1,8 @@
 //! The parties of a cluster.
 ghost use Rattle.std.specs.Prelude.{◌≡◌, ◌-◌, ◌<◌, ◌≤◌, ◌↔◌, ◌∷◌, ◌++◌, IsSome, IfSome, IfOk};
 ghost use Rattle.std.specs.Prelude.{length, map, slice_index_or};
-ghost use Rattle.ring_parties.specs.Parties.{shown_of, shown_in, no_shown, node_at, names_shown};
+ghost use Rattle.ring_parties.specs.Parties.{shown_of, shown_in, no_shown, keeps_in, node_at, names_shown};
+ghost use Rattle.ring_parties.specs.Keeps.{keeps_at};
 ghost use Rattle.ring_parties.specs.Acting.{newest_of};
 
 use crate::node::Node;
@@ -10,6 +11,7 @@ use crate::pending_deposit::PendingDeposit;
 use activity::Load;
 use group_view::View;
 use ordered_link::PlainIn;
+use queue_mirror::Mirror;
 use registrar::Registrar;
 use ring_names::{MemberId, Name, OutOfMemory};
 use std::alloc::Global;
@@ -40,7 +42,17 @@ impl Parties {
         ensures there { IsSome result ↔ ((1 ≤ id.0) × (id.0 ≤ length (self.now).all.nodes)) }
         ensures shown { IfSome result (λ m. shown_of m.now ≡ node_at (self.now).all (id.0 - 1)) }
     {
-        node_of(&self.members, id)
+        let party = party_of(&self.members, id)?;
+        Some(&party.node)
+    }
+
+    /// The mirror of the member of that id, where there is one.
+    pub fn mirror(&self, id: MemberId) -> Option<&Mirror>
+        ensures there { IsSome result ↔ ((1 ≤ id.0) × (id.0 ≤ length (self.now).all.nodes)) }
+        ensures kept { IfSome result (λ m. (m.now).mirror ≡ (keeps_at (self.now).keeps (id.0 - 1)).mirror) }
+    {
+        let party = party_of(&self.members, id)?;
+        Some(&party.mirror)
     }
 
     /// How many members there are.
@@ -71,15 +83,15 @@ impl Parties {
     }
 }
 
-/// The member of that id, where the list has one.
-fn node_of(members: &[Party], id: MemberId) -> Option<&Node>
+/// The party of that id, where the list has one.
+fn party_of(members: &[Party], id: MemberId) -> Option<&Party>
     ensures there { IsSome result ↔ ((1 ≤ id.0) × (id.0 ≤ length members.now)) }
-    ensures shown { IfSome result (λ m. shown_of m.now
+    ensures shown { IfSome result (λ m. shown_in m.now
         ≡ slice_index_or (map shown_in members.now) (id.0 - 1) no_shown) }
+    ensures keeps { IfSome result (λ m. keeps_in m.now ≡ keeps_at (map keeps_in members.now) (id.0 - 1)) }
 {
     if id.0 == 0 {
         return None;
     }
-    let party = members.get(id.0 as usize - 1)?;
-    Some(&party.node)
+    members.get(id.0 as usize - 1)
 }

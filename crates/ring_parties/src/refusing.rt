@@ -7,14 +7,16 @@ ghost use Rattle.ring_names.specs.declared.reason.Reason.{Reason};
 ghost use Rattle.gm_member.specs.Held.{up_refused, take_refused};
 ghost use Rattle.ring_parties.specs.Ends.{PacketShown};
 ghost use Rattle.ring_parties.specs.Behind.{behind};
-ghost use Rattle.ring_parties.specs.Parties.{shown_of, content, deposit_shown};
+ghost use Rattle.ring_parties.specs.Parties.{shown_of, shown_in, keeps_in, content, deposit_shown};
 ghost use Rattle.ring_parties.specs.Acting.{stop_refused, look_refused, packet_refused, link_end_refused};
 ghost use Rattle.ring_parties.specs.Acting.{grant_refused, step_refused, back_of, first_item as the_first};
 ghost use Rattle.ring_parties.specs.Refused.{first_for, admission_refused, client_refused, own_refused};
 
 use crate::node::Node;
 use crate::parties::Parties;
+use crate::party::Party;
 use crate::pending_deposit::PendingDeposit;
+use crate::queue::{ask_refusal, publish_refusal, say_refusal};
 use activity::Load;
 use gm_member::view_refusal;
 use group_view::{MOST_MEMBERS, Request, View};
@@ -93,16 +95,20 @@ pub(crate) fn admit_refusal(view: &View, node: &Node, name: &Name) -> Option<Rea
     None
 }
 
-/// Why a member doesn't do what a client asks, where this is the newest view. Of the queue it is asked nothing yet.
-fn client_refusal(view: &View, node: &Node, asked: &Client) -> Option<Reason>
-    requires { (shown_of node.now).held.asks ≡ false }
-    ensures { result ≡ client_refused view.now asked.now (shown_of node.now) }
+/// Why a member doesn't do what a client asks, where this is the newest view.
+fn client_refusal(view: &View, party: &Party, asked: &Client) -> Option<Reason>
+    requires { (shown_in party.now).held.asks ≡ false }
+    ensures { result ≡ client_refused view.now (keeps_in party.now) asked.now (shown_in party.now) }
 {
     match asked {
-        Client::Cast { by: _, body: _ } => up_refusal(node),
-        Client::Stop { by: _ } => stop_refusal(node),
-        Client::Admit { by: _, name } => admit_refusal(view, node, name),
-        _ => None,
+        Client::Stop { by: _ } => stop_refusal(&party.node),
+        Client::Admit { by: _, name } => admit_refusal(view, &party.node, name),
+        Client::Cast { .. } => up_refusal(&party.node),
+        Client::Publish { .. } => publish_refusal(party),
+        _ => match asked.asking() {
+            Some(asking) => ask_refusal(party, asking),
+            None => unreachable!(),
+        },
     }
 }
 
@@ -124,14 +130,14 @@ fn is_told(code: u32, refusal: &Option<Reason>) -> bool
 }
 
 /// Why a member doesn't tell a client what the event tells it: that what it asks isn't done.
-fn telling_refusal(view: &View, node: &Node, event: &Event) -> Option<Reason>
+fn telling_refusal(view: &View, party: &Party, event: &Event) -> Option<Reason>
     requires tells { shown_kind (kind_of event.now) ≡ Kind.Tells }
-    requires free { (shown_of node.now).held.asks ≡ false }
-    ensures { result ≡ own_refused view.now (kind_of event.now) (shown_of node.now) }
+    requires free { (shown_in party.now).held.asks ≡ false }
+    ensures { result ≡ own_refused view.now (keeps_in party.now) (kind_of event.now) (shown_in party.now) }
 {
     match event {
         Event::Refuse { code, inner } => {
-            if !is_told(*code, &client_refusal(view, node, inner)) {
+            if !is_told(*code, &client_refusal(view, party, inner)) {
                 return Some(Reason::NotRefused);
             }
             None
@@ -155,7 +161,7 @@ fn no_link(node: &Node) -> Option<Reason>
 }
 
 /// What stands first on the link from which a member takes.
-fn first_item(node: &Node) -> Option<&Item<Load>>
+pub(crate) fn first_item(node: &Node) -> Option<&Item<Load>>
     ensures { MatchOption result (the_first (shown_of node.now).ends.link ≡ [])
         (λ item. (rest : List (Option PacketShown)) × (the_first (shown_of node.now).ends.link ≡ content item.now ∷ rest)) }
 {
@@ -235,17 +241,17 @@ fn own_step_refusal(node: &Node, step: LinkStep) -> Option<Reason>
 }
 
 /// Why a member doesn't do what makes no view, where this is the newest; of a pick, by its door alone.
-pub(crate) fn own_refusal(view: &View, node: &Node, event: &Event) -> Option<Reason>
-    requires { (shown_of node.now).held.asks ≡ false }
-    ensures { result ≡ own_refused view.now (kind_of event.now) (shown_of node.now) }
+pub(crate) fn own_refusal(view: &View, party: &Party, event: &Event) -> Option<Reason>
+    requires { (shown_in party.now).held.asks ≡ false }
+    ensures { result ≡ own_refused view.now (keeps_in party.now) (kind_of event.now) (shown_in party.now) }
 {
     match event.kind() {
-        Kind::Says => up_refusal(node),
-        Kind::Links(step) => own_step_refusal(node, step),
+        Kind::Says => say_refusal(party, event),
+        Kind::Links(step) => own_step_refusal(&party.node, step),
         Kind::Changes(_) => None,
-        Kind::Stops => stop_refusal(node),
-        Kind::Reads(version) => look_refusal(node, view.version, version),
-        Kind::Tells => telling_refusal(view, node, event),
+        Kind::Stops => stop_refusal(&party.node),
+        Kind::Reads(version) => look_refusal(&party.node, view.version, version),
+        Kind::Tells => telling_refusal(view, party, event),
     }
 }
 
@@ -292,20 +298,19 @@ impl Parties {
     ghost use Rattle.gm_member.specs.Questions.{has_link};
     ghost use Rattle.ring_parties.specs.Parties.{shown_of, node_at};
     ghost use Rattle.ring_parties.specs.Standing.{StandSomewhere};
-    ghost use Rattle.ring_parties.specs.Refused.{first_for, with_deposits, IsRefusalAt, IsRefusedAs};
+    ghost use Rattle.ring_parties.specs.Refused.{first_for, with_deposits, IsRefusalAt, IsRefusalBy, IsRefusedAs};
 
     /// Why the event of the member at a place is refused, where it is: the first condition that fails. Links that wait
-    /// for the member count as if they had come to its door. An event of the queue is none of the parties yet, which keep
-    /// no mirrors.
+    /// for the member count as if they had come to its door. The registration of a mirror is none of the parties' yet.
     pub fn refusal(&self, i: usize, event: &Event) -> Option<Reason>
         requires within { i < length (self.now).all.nodes }
         requires standing { StandSomewhere (self.now).all }
-        ensures { IsRefusalAt i event.now (self.now).all result }
+        ensures { IsRefusalBy i event.now self.now result }
     {
         match event.kind() {
             Kind::Changes(change) => self.change_refusal(i, change),
             Kind::Links(step) => self.step_refusal(i, step),
-            _ => own_refusal(self.registrar.view(), &self.members[i].node, event),
+            _ => own_refusal(self.registrar.view(), &self.members[i], event),
         }
     }
 

@@ -71,10 +71,11 @@ impl Parties {
     ghost use Rattle.std.specs.Prelude.{Some, None, Err};
     ghost use Rattle.ring_names.specs.declared.reason.Reason.{Reason};
     ghost use Rattle.ring_rules.specs.declared.phase.Phase.TheVariants.{Up};
-    ghost use Rattle.ring_rules.specs.Event.{by_of, is_multicast, refusal};
-    ghost use Rattle.ring_parties.specs.States.{state, IsEventIn};
+    ghost use Rattle.ring_rules.specs.Event.{by_of, refusal};
+    ghost use Rattle.ring_parties.specs.States.{state, IsEventIn, is_played};
     ghost use Rattle.ring_parties.specs.Parties.{node_at};
     ghost use Rattle.ring_parties.specs.Tried.{IsJudged};
+    ghost use Rattle.ring_parties.specs.Keeps.{KeepsStand};
     ghost use Rattle.ring_parties.specs.Standing.{StandAfter, StandSomewhere};
     ghost use Rattle.ring_parties.specs.Replaced.{BetweenSomewhere, MeetsReplaced};
     ghost use Rattle.ring_parties.specs.Looking.{replaced_seen};
@@ -82,8 +83,7 @@ impl Parties {
 
     /// The event of the member at a place happens, where it is enabled, and joins the journal. A refusal changes
     /// nothing. Before an event that isn't refused what the registrar is owed goes there, and the member collects the
-    /// links that wait for it; without memory for that nothing happens. The caller gives no event of the queue, since the
-    /// parties keep no mirrors of it yet.
+    /// links that wait for it; without memory for that nothing happens. The caller gives no registration of a mirror.
     pub fn step(
         &mut self,
         credit: CreditSpec,
@@ -94,7 +94,9 @@ impl Parties {
     ) -> Result<(), Refused>
         requires at { IsEventIn (state credit names.now journal.old.items) i event.now }
         requires standing { StandAfter credit names.now journal.old.items (self.old).all }
+        requires keeps { KeepsStand (state credit names.now journal.old.items) (self.old).keeps }
         ensures standing { StandAfter credit names.now journal.new.items (self.new).all }
+        ensures keeps { KeepsStand (state credit names.now journal.new.items) (self.new).keeps }
         ensures judged { IsJudged (refusal (state credit names.now journal.old.items) event.now) result }
         ensures ok { OnOk result (journal.new.items ≡ journal.old.items ++ event.now ∷ []) }
         ensures refused { (r : Reason) → refusal (state credit names.now journal.old.items) event.now ≡ Some r
@@ -122,8 +124,10 @@ impl Parties {
     ) -> Result<(), OutOfMemory>
         requires at { IsEventIn (state credit names.now journal.old.items) i event.now }
         requires standing { StandAfter credit names.now journal.old.items (self.old).all }
+        requires keeps { KeepsStand (state credit names.now journal.old.items) (self.old).keeps }
         requires enabled { refusal (state credit names.now journal.old.items) event.now ≡ None }
         ensures standing { StandAfter credit names.now journal.new.items (self.new).all }
+        ensures keeps { KeepsStand (state credit names.now journal.new.items) (self.new).keeps }
         ensures ok { OnOk result (journal.new.items ≡ journal.old.items ++ event.now ∷ []) }
         ensures err { OnErr result (journal.new.items ≡ journal.old.items) }
         ensures owes { OnErr result ((self.new).owes ≡ true → (self.old).owes ≡ true) }
@@ -147,13 +151,15 @@ impl Parties {
     ) -> Result<(), OutOfMemory>
         requires within { i < length (self.old).all.nodes }
         requires delivered { (self.old).owes ≡ false }
-        requires multicast { is_multicast event.now ≡ true }
+        requires played { is_played event.now ≡ true }
         requires named { id_named (self.old).all (by_of event.now) ≡ Some (i + 1) }
         requires waits { (node_at (self.old).all i).held.phase ≡ Up → NothingWaits (i + 1) (self.old).all }
         requires few { length events.now + 1 < 2 ^ 59 }
         requires standing { StandAfter credit names.now events.now (self.old).all }
+        requires keeps { KeepsStand (state credit names.now events.now) (self.old).keeps }
         requires enabled { refusal (state credit names.now events.now) event.now ≡ None }
         ensures standing { OnOk result (StandAfter credit names.now (events.now ++ event.now ∷ []) (self.new).all) }
+        ensures keeps { OnOk result (KeepsStand (state credit names.now (events.now ++ event.now ∷ [])) (self.new).keeps) }
         ensures err { OnErr result (self.new ≡ self.old) }
     {
         match self.act(credit, i, event) {
@@ -170,7 +176,8 @@ impl Parties {
     /// An out end that was just replaced meets its other end for the last time, and is dropped.
     fn meet_replaced(&mut self, replaced: Option<Replaced>)
         requires { BetweenSomewhere (self.old).all (replaced_seen replaced) }
-        ensures { MeetsReplaced (self.old).all (replaced_seen replaced) (self.new).all }
+        ensures meets { MeetsReplaced (self.old).all (replaced_seen replaced) (self.new).all }
+        ensures keeps { (self.new).keeps ≡ (self.old).keeps }
     {
         let Some((name, mut out)) = replaced else {
             return;
@@ -182,6 +189,7 @@ impl Parties {
     pub fn hand_over(&mut self) -> Result<(), OutOfMemory>
         requires { StandSomewhere (self.old).all }
         ensures same { (self.new).all ≡ (self.old).all }
+        ensures keeps { (self.new).keeps ≡ (self.old).keeps }
         ensures ok { OnOk result ((self.new).owes ≡ false) }
         ensures owes { OnErr result (((self.old).owes ≡ true) × ((self.new).owes ≡ true)) }
     {

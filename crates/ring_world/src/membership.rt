@@ -2,7 +2,6 @@
 ghost use Rattle.std.specs.Prelude.{◌≡◌, ◌<◌, suc, length, is_some, Some, None};
 ghost use Rattle.ring_names.specs.declared.reason.Reason.TheVariants as reason;
 ghost use Rattle.ring_rules.specs.Refusal.{answer_of, refuse_if, or_else};
-ghost use Rattle.ring_rules.specs.declared.phase.Phase.TheVariants as phase;
 ghost use Rattle.ring_rules.specs.Machine.{member_at};
 ghost use Rattle.ring_rules.specs.Event.{id_of as the_id, of_member, up_refusal, pick_refusal, mark_refusal};
 ghost use Rattle.ring_rules.specs.Event.{refresh_refusal, is_still_taken as still_taken};

@@ -33,7 +33,8 @@ use Rattle.ring_rules.proofs.work.Settling.{repair_less, someone}
 use Rattle.ring_rules.proofs.work.Fit as ring
 use Rattle.gm_member.proofs.Fit.{IsFit, reached_fit}
 use Rattle.ring_cluster.specs.Seen.{Seen, state_of, IsGoing, IsMemberIn, with_event}
-use Rattle.ring_parties.specs.States.{state, IsEventIn}
+use Rattle.ring_parties.specs.States.{state}
+use Rattle.ring_cluster.specs.Seen.{IsMulticastIn}
 use Rattle.ring_cluster.specs.Agendas.{Plan, IsAskedOf, place_among}
 use Rattle.ring_cluster.specs.Backlog.{backlog}
 use Rattle.ring_cluster.specs.Handed.{least_running}
@@ -84,7 +85,7 @@ names_stay c d more g credit names events = subst (KeepsNames (state_of c)) (sym
 -- ---- who acts
 
 -- an event is one of the first member of its name; where there is none, it is refused
-pub event_place_in : (w : World) (e : Event) (o : Option ℕ) → is_multicast e ≡ true → o ≡ place_among (names_in w) (by_of e) → MatchOption o (refusal w e ≡ Some reason.UnknownMember) (λ i. IsEventIn w i e)
+pub event_place_in : (w : World) (e : Event) (o : Option ℕ) → is_multicast e ≡ true → o ≡ place_among (names_in w) (by_of e) → MatchOption o (refusal w e ≡ Some reason.UnknownMember) (λ i. IsMulticastIn w i e)
 event_place_in w e None cast is = ap (λ o. of_member o (refused_at w e)) (id_in w (by_of e) ∙ ap (option_map (λ i. i + 1)) (sym is))
 event_place_in w e (Some i) cast is =
     let there = position-Some (λ n. bytes_eq n (by_of e)) (names_in w) i [] (sym is) in
@@ -92,7 +93,7 @@ event_place_in w e (Some i) cast is =
     (l, sym (same_bytes (get_or (names_in w) i []) (by_of e) there.1) ∙ name_in_at w i [] l, cast)
 
 -- an event of the member of an id is one of that at its place
-pub event_at_place : (w : World) (e : Event) (x : ℕ) → 1 ≤ x → x < size w → by_of e ≡ (member_at w x).name → is_multicast e ≡ true → IsEventIn w (x - 1) e
+pub event_at_place : (w : World) (e : Event) (x : ℕ) → 1 ≤ x → x < size w → by_of e ≡ (member_at w x).name → is_multicast e ≡ true → IsMulticastIn w (x - 1) e
 event_at_place w e x some lt is cast =
     let back : x - 1 + 1 ≡ x = omega arith in
     (omega arith, is ∙ ap (λ k. (member_at w k).name) (sym back), cast)

@@ -25,7 +25,7 @@ use Rattle.ring_cluster.specs.Seen.{Seen, state_of, IsGoing, SameButOwed}
 use Rattle.ring_cluster.specs.Turns.{turn_event, HasTurn, RestsAt}
 use Rattle.ring_rules.specs.Kind.{step_event}
 use Rattle.ring_parties.specs.Refused.{IsRefusalAt}
-use Rattle.ring_cluster.proofs.rounds.Named.{going_fit, going_ring, step_less, mark_less, erase_less}
+use Rattle.ring_cluster.proofs.rounds.Named.{going_fit, going_ring, played, step_less, mark_less, erase_less}
 use Rattle.ring_cluster.proofs.rounds.Members.{stale_less, refresh_may, erase_may, waiting_takes_in}
 use Rattle.ring_cluster.proofs.rounds.Settling.{right_there}
 
@@ -34,7 +34,7 @@ use Rattle.ring_cluster.proofs.rounds.Settling.{right_there}
 -- of a step of the member at a place
 pub step_told : (c : Seen) (q : Parties) (i : ℕ) (s : LinkStep) (r : Option Reason) → i + 1 < size (state_of c) → StandAfter c.credit c.names c.events q → ((by : List ℕ) → IsRefusalAt i (step_event s by) q r)
     → r ≡ refusal (state_of c) (step_event s (member_at (state_of c) (i + 1)).name)
-step_told c q i s r l st h = let name = (member_at (state_of c) (i + 1)).name in h name c.credit c.names c.events st (l, step_by s name, step_multicast s name)
+step_told c q i s r l st h = let name = (member_at (state_of c) (i + 1)).name in h name c.credit c.names c.events st (l, step_by s name, played (step_event s name) (step_multicast s name))
 
 -- and of the one of a name being marked or erased by it
 pub mark_told : (c : Seen) (q : Parties) (i : ℕ) (dead : List ℕ) (r : Option Reason) → i + 1 < size (state_of c) → StandAfter c.credit c.names c.events q → ((by : List ℕ) → IsRefusalAt i (Mark by dead) q r)

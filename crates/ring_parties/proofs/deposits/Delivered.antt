@@ -1,7 +1,7 @@
 -- Parties that owe the registrar nothing, and what holds of them where they stand.
-use Rattle.std.proofs.Common.{◌≡◌, ℕ, ◌+◌, ◌<◌, ◌≤◌, true, false, List, [], length, get_or, set, Option, None, sym, ap, subst, ◌∙◌}
+use Rattle.std.proofs.Common.{◌≡◌, ℕ, ◌+◌, ◌<◌, ◌≤◌, true, false, List, [], length, map, get_or, set, Option, None, sym, ap, subst, ◌∙◌, refl}
 use Rattle.std.specs.Prelude.{is_some}
-use Rattle.std.proofs.lemmas.List.{length-map}
+use Rattle.std.proofs.lemmas.List.{length-map, map-set}
 use Rattle.group_view.proofs.Truth.{none_there}
 use Rattle.ordered_link.specs.declared.plain.PlainIn.{PlainIn}
 use Rattle.registrar.specs.Registry.{Registry, AreHere, is_known, newest}
@@ -13,7 +13,8 @@ use Rattle.ring_parties.specs.declared.parties.Parties.TheInside.{Inside}
 use Rattle.ring_parties.specs.Behind.{behind}
 use Rattle.ring_parties.specs.Gathered.{gathered}
 use Rattle.ring_parties.specs.declared.party.Party.{Party}
-use Rattle.ring_parties.specs.Parties.{ANode, Shown, PartiesSeen, parties, shown_of, shown_in, node_at}
+use Rattle.ring_parties.specs.Parties.{ANode, Shown, Keeps, PartiesSeen, parties, shown_of, shown_in, keeps_in, node_at}
+use Rattle.ring_parties.specs.Keeps.{keeps_at}
 use Rattle.ring_parties.specs.Standing.{StandSomewhere}
 use Rattle.ring_parties.specs.Acting.{IsReady, stop_refused}
 use Rattle.ring_parties.specs.Collecting.{AreOfRing}
@@ -24,12 +25,12 @@ use Rattle.ring_parties.proofs.events.After.{here_after, id_after, free_after, r
 use Rattle.ring_parties.proofs.events.Closing.{few_after, unheard_after, stands_after, MayLookAt}
 use Rattle.ring_parties.proofs.events.Newcomers.{LetsJoin, joins_after}
 use Rattle.ring_parties.proofs.deposits.Gathers.{all_ring, is_known_there}
-use Rattle.ring_parties.proofs.standing.Nodes.{read_shown, same_shown, shown_at}
+use Rattle.ring_parties.proofs.standing.Nodes.{read_shown, same_shown, shown_at, read_keeps, same_keeps}
 use Rattle.ring_parties.proofs.events.Refusing.{ask_same}
 
 -- members, a registrar and a link behind it, as the parties are seen of which they are the parts
 abbrev pub seen_as : List Party → Registry (PlainIn Load) → Option PendingDeposit → PartiesSeen
-seen_as ns r pending = record { all = parties ns r (behind pending); owes = is_some pending }
+seen_as ns r pending = record { all = parties ns r (behind pending); keeps = map keeps_in ns; owes = is_some pending }
 
 module _ (a : Inside) (q : PartiesSeen) (is : gathered a ≡ q) where
   -- a place among the members is one among what they show
@@ -40,11 +41,28 @@ module _ (a : Inside) (q : PartiesSeen) (is : gathered a ≡ q) where
   pub shown_is : (i : ℕ) → i < length q.all.nodes → (x : Party) → x ≡ get_or a.members.items i x → shown_in x ≡ node_at q.all i
   shown_is i l x e = sym (read_shown a.members.items i x (inside i l) e) ∙ ap (λ (y : PartiesSeen). node_at y.all i) is
 
-  -- they show what they showed where the member at a place does
-  pub unchanged : (i : ℕ) → i < length q.all.nodes → (x : Party) (y : ANode) → x ≡ get_or a.members.items i x → shown_of y ≡ shown_in x → seen_as (set a.members.items i (record x { node = y })) a.registrar a.pending_deposit ≡ q
-  unchanged i l x y e k =
-      ap (λ ms. record (seen_as (set a.members.items i (record x { node = y })) a.registrar a.pending_deposit) { all = record (parties a.members.items a.registrar (behind a.pending_deposit)) { nodes = ms } }) (same_shown a.members.items i x (record x { node = y }) (inside i l) e k)
+  -- what its party keeps
+  pub keeps_is : (i : ℕ) → i < length q.all.nodes → (x : Party) → x ≡ get_or a.members.items i x → keeps_in x ≡ keeps_at q.keeps i
+  keeps_is i l x e = sym (read_keeps a.members.items i x (inside i l) e) ∙ ap (λ (y : PartiesSeen). keeps_at y.keeps i) is
+
+  -- all keep what they kept where the party at a place does
+  pub still_kept : (i : ℕ) → i < length q.all.nodes → (x y : Party) → x ≡ get_or a.members.items i x → keeps_in y ≡ keeps_in x → map keeps_in (set a.members.items i y) ≡ q.keeps
+  still_kept i l x y e k = same_keeps a.members.items i x y (inside i l) e k ∙ ap (λ (z : PartiesSeen). z.keeps) is
+
+  -- or another thing there
+  pub then_kept : (i : ℕ) → i < length q.all.nodes → (x y : Party) (keeps : Keeps) → x ≡ get_or a.members.items i x → keeps_in y ≡ keeps → map keeps_in (set a.members.items i y) ≡ set q.keeps i keeps
+  then_kept i l x y keeps e k = map-set keeps_in a.members.items i y ∙ ap (set (map keeps_in a.members.items) i) k ∙ ap (λ (z : PartiesSeen). set z.keeps i keeps) is
+
+  -- they are seen as they were where the party at a place is
+  pub as_before : (i : ℕ) → i < length q.all.nodes → (x y : Party) → x ≡ get_or a.members.items i x → shown_in y ≡ shown_in x → keeps_in y ≡ keeps_in x → seen_as (set a.members.items i y) a.registrar a.pending_deposit ≡ q
+  as_before i l x y e shown keeps =
+      ap (λ ms. record (seen_as (set a.members.items i y) a.registrar a.pending_deposit) { all = record (parties a.members.items a.registrar (behind a.pending_deposit)) { nodes = ms } }) (same_shown a.members.items i x y (inside i l) e shown)
+      ∙ ap (λ ks. record (seen_as a.members.items a.registrar a.pending_deposit) { keeps = ks }) (same_keeps a.members.items i x y (inside i l) e keeps)
       ∙ is
+
+  -- and so where its member shows what it showed
+  pub unchanged : (i : ℕ) → i < length q.all.nodes → (x : Party) (y : ANode) → x ≡ get_or a.members.items i x → shown_of y ≡ shown_in x → seen_as (set a.members.items i (record x { node = y })) a.registrar a.pending_deposit ≡ q
+  unchanged i l x y e k = as_before i l x (record x { node = y }) e k refl
 
   -- where nothing is owed, nothing waits behind the links that stand at the registrar
   pub none_behind : q.owes ≡ false → (ns : List Party) (r : Registry (PlainIn Load)) → parties ns r (behind a.pending_deposit) ≡ parties ns r []

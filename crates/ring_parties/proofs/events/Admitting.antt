@@ -38,7 +38,7 @@ use Rattle.gm_member.proofs.RefreshStands.{door_sees, looks_at}
 use Rattle.gm_member.proofs.AdmitStands.{come_log, come_same, come_held, come_sees, come_right}
 use Rattle.ring_rules.proofs.work.OwnEnds.{OwnEnds}
 use Rattle.ring_parties.specs.Ends.{OutSeen, opened_out, fresh_in}
-use Rattle.ring_parties.specs.Parties.{Shown, Deposit, Parties, no_shown, node_at, with_node}
+use Rattle.ring_parties.specs.Parties.{Shown, Deposit, Parties, no_shown, node_at, with_node, Keeps}
 use Rattle.ring_parties.specs.Standing.{MemberStands, Stand, is_to}
 use Rattle.ring_parties.specs.Acting.{Replacing, looked_ends, first_sent, newest_of, viewing, waits_at, admitting, joined, joining, LetsIn, Acts}
 use Rattle.ring_parties.proofs.lists.Lists.{none_of_range}
@@ -412,9 +412,9 @@ can_admit w x name g r lt = let up = up_none w x (admit_refusal w name) r in (up
 pub admit_many : (w : World) (x : ℕ) (name : List ℕ) → CanJoin w x → IsFit w → size (done_as w x (Changes (change.Admit name))) ≡ size w + 1
 admit_many w x name can f = ap size (is_then w x name can f f.own_ends) ∙ many_then w x name can f f.own_ends
 
-pub admit_between : (credit : CreditSpec) (w : World) (q q' : Parties) (i d : ℕ) (name : List ℕ) (replaced : Option (LinkName × OutSeen)) → IsLawfulAt credit w → IsLawfulAt credit (done_as w (i + 1) (Changes (change.Admit name))) → refused_as w (i + 1) (Changes (change.Admit name)) ≡ None → i + 1 < size w
-    → Stand credit.initial w q → filter (waits_at (i + 1)) q.deposits ≡ [] → Acts (Changes (change.Admit name)) i d q q' replaced → StandMoved credit.initial (i + 1) (done_as w (i + 1) (Changes (change.Admit name))) q' replaced
-admit_between credit w q q' i d name replaced h h' r lt st none (other, (initial_is, more_is), lets) =
+pub admit_between : (credit : CreditSpec) (w : World) (keeps : Keeps) (q q' : Parties) (i d : ℕ) (name : List ℕ) (replaced : Option (LinkName × OutSeen)) → IsLawfulAt credit w → IsLawfulAt credit (done_as w (i + 1) (Changes (change.Admit name))) → refused_as w (i + 1) (Changes (change.Admit name)) ≡ None → i + 1 < size w
+    → Stand credit.initial w q → filter (waits_at (i + 1)) q.deposits ≡ [] → Acts (Changes (change.Admit name)) keeps i d q q' replaced → StandMoved credit.initial (i + 1) (done_as w (i + 1) (Changes (change.Admit name))) q' replaced
+admit_between credit w keeps q q' i d name replaced h h' r lt st none (other, (initial_is, more_is), lets) =
     lets_in credit w x name q q' replaced (record {
       some = omega arith;
       can = can;

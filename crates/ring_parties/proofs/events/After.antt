@@ -10,7 +10,9 @@ use Rattle.activity.specs.declared.packet.Load.{Load}
 use Rattle.gm_member.specs.Held.{Held}
 use Rattle.ring_parties.specs.States.{state}
 use Rattle.ring_parties.specs.declared.party.Party.{Party}
-use Rattle.ring_parties.specs.Parties.{Deposit, Parties, parties, node_at, shown_in}
+use Rattle.ring_rules.specs.Machine.{World}
+use Rattle.ring_parties.specs.Keeps.{KeepsStand, keeps_at, keeps_of}
+use Rattle.ring_parties.specs.Parties.{Keeps, Deposit, Parties, parties, node_at, shown_in}
 use Rattle.ring_parties.specs.Standing.{MemberStands, StandAfter, IsJournal}
 use Rattle.ring_parties.specs.Acting.{IsReady, HasCredit}
 use Rattle.ring_parties.proofs.work.Lawful.{IsLawfulAt, lawful_at}
@@ -18,6 +20,12 @@ use Rattle.ring_parties.proofs.standing.Placing.{GoBetween}
 use Rattle.ring_parties.proofs.work.Fresh.{reached_go}
 use Rattle.ring_parties.proofs.events.Ready.{ready}
 use Rattle.ring_parties.proofs.deposits.Handing.{none_lent}
+
+-- the party at a place keeps what the state has for its member
+pub kept_there : (w : World) (ks : List Keeps) (i : ℕ) → KeepsStand w ks → i + 1 < size w → keeps_at ks i ≡ keeps_of w (i + 1)
+kept_there w ks i s lt =
+    let place : i + 1 - 1 ≡ i = omega arith in
+    subst (λ k. keeps_at ks k ≡ keeps_of w (i + 1)) place (s.each (i + 1) (omega arith) lt)
 
 -- a place among members is one among what they show
 pub shown_inside : (nodes : List Party) (i : ℕ) → i < length nodes → i < length (map shown_in nodes)
@@ -34,6 +42,9 @@ module _ (credit : CreditSpec) (names : List (List ℕ)) (events : List Event) w
   -- the member at a place
   pub within_after : (q : Parties) (i : ℕ) → StandAfter credit names events q → i < length q.nodes → i + 1 < size (state credit names events)
   within_after q i s l = omega (arith, l, s.stand.stand.count)
+
+  pub kept_after : (q : Parties) (ks : List Keeps) (i : ℕ) → StandAfter credit names events q → KeepsStand (state credit names events) ks → i < length q.nodes → keeps_at ks i ≡ keeps_of (state credit names events) (i + 1)
+  kept_after q ks i s keeps l = kept_there (state credit names events) ks i keeps (within_after q i s l)
 
   pub member_after : (q : Parties) (i : ℕ) (s : StandAfter credit names events q) → i < length q.nodes → MemberStands (state credit names events) s.stand.places (i + 1) (node_at q i)
   member_after q i s l =

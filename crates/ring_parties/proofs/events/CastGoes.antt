@@ -1,14 +1,13 @@
--- Where a member has published, the parties stand in the state after the ring's cast.
+-- Where a member has said something, the parties stand in the state in which its message is published.
 use Rattle.gm_member.specs.Packets.{places}
-use Rattle.std.proofs.Common.{◌≡◌, ℕ, ◌+◌, ◌<◌, ◌≤◌, Bool, List, [], ◌∷◌, length, Option, Some, refl, ap, ◌∙◌, arith}
+use Rattle.std.proofs.Common.{◌≡◌, ℕ, ◌+◌, ◌<◌, ◌≤◌, Bool, List, [], ◌∷◌, length, Option, Some, refl, ap, ◌∙◌, arith, sym}
 use Rattle.queue_core.specs.declared.message.Message.{Message}
-use Rattle.queue_core.specs.declared.message.Message.TheVariants as message
 use Rattle.ring_names.specs.declared.numbers.CreditSpec.{CreditSpec}
 use Rattle.group_view.specs.declared.link.LinkName.{LinkName}
-use Rattle.ring_rules.specs.Kind.{Own, Says}
+use Rattle.ring_rules.specs.Kind.{Saying, Says}
 use Rattle.ring_rules.specs.Machine.{World, Packet, Sending, no_member, numbers_at, member_at, link_at}
 use Rattle.ring_rules.specs.Step.{size, log_of, published, publish_at}
-use Rattle.ring_rules.specs.Event.{done_as}
+use Rattle.ring_rules.specs.Event.{done_as, said}
 use Rattle.ring_rules.specs.Compact.{passed}
 use Rattle.ring_rules.specs.Lawful.{PacketsAreWithin}
 use Rattle.ring_rules.specs.declared.numbers.Numbers.{Numbers}
@@ -20,12 +19,14 @@ use Rattle.gm_member.proofs.Places.{map-range_same}
 use Rattle.gm_member.proofs.PublishStands.{publish_stands}
 use Rattle.gm_member.proofs.Others.{publish_others}
 use Rattle.ring_parties.specs.Ends.{OutSeen, packet_in, packets_in}
-use Rattle.ring_parties.specs.Parties.{Parties, node_at, with_node}
+use Rattle.ring_parties.specs.Parties.{Keeps, Parties, node_at, with_node}
+use Rattle.ring_parties.specs.Keeps.{keeps_of}
 use Rattle.ring_parties.specs.Standing.{Places, MemberStands, Stand}
 use Rattle.ring_parties.specs.Acting.{Acts}
 use Rattle.ring_parties.proofs.work.Lawful.{IsLawfulAt}
 use Rattle.ring_parties.proofs.standing.Frames.{SameWays, member_ways, carries_still, Does, StandMoved}
 use Rattle.ring_parties.proofs.events.OneEvent.{stands_at}
+use Rattle.ring_parties.proofs.events.Says.{said_same, said_is}
 use Rattle.ring_parties.proofs.events.Steps.{goes_so, ways_leave, same_phases, steps, ways_stand}
 
 -- ---- packets
@@ -49,10 +50,9 @@ cast_packets w x m before (k ∷ ks) lt h =
 
 -- ---- the parties
 
-pub cast_goes : (credit : CreditSpec) (w : World) (body : List ℕ) (i d : ℕ) (q q' : Parties) (replaced : Option (LinkName × OutSeen)) → IsLawfulAt credit w → i + 1 < size w → Stand credit.initial w q → Acts (Says (Own body)) i d q q' replaced → StandMoved credit.initial (i + 1) (done_as w (i + 1) (Says (Own body))) q' replaced
-cast_goes credit w body i d q q' replaced h lt st (b, casts, is, none) =
+pub cast_goes : (credit : CreditSpec) (w : World) (s : Saying) (keeps : Keeps) (i d : ℕ) (q q' : Parties) (replaced : Option (LinkName × OutSeen)) → IsLawfulAt credit w → keeps ≡ keeps_of w (i + 1) → i + 1 < size w → Stand credit.initial w q → Acts (Says s) keeps i d q q' replaced → StandMoved credit.initial (i + 1) (done_as w (i + 1) (Says s)) q' replaced
+cast_goes credit w s keeps i d q q' replaced h kept lt st (b, (m, says, casts), is, none) =
     let x : ℕ = i + 1 in
-    let m : Message = message.Cast body in
     let w' : World = publish_at w x m in
     let p : Places = st.places in
     let ways : SameWays w w' = member_ways w x (published x m (member_at w x)) lt refl refl refl in
@@ -63,7 +63,8 @@ cast_goes credit w body i d q q' replaced h lt st (b, casts, is, none) =
       is = casts;
     } in
     let a : MemberStands w p x (node_at q i) = stands_at credit.initial w q p i st.stand lt in
-    goes_so credit.initial x w' (done_as w x (Says (Own body))) (with_node q i b) q' replaced refl is none
+    let same : said w x s ≡ w' = said_is w x m s (sym (said_same w x (node_at q i).held keeps (record { view = ap (λ (g : Held). g.view) a.held; id = ap (λ (g : Held). g.id) a.held; keeps = kept }) s) ∙ says) in
+    goes_so credit.initial x w' (done_as w x (Says s)) (with_node q i b) q' replaced same is none
     (steps credit w w' q q.stopped p i b st h lt (record {
       leaves = ways_leave w w' x ways;
       deposits = refl;

@@ -2,8 +2,7 @@
 use Rattle.std.proofs.Common.{◌≡◌, ℕ, zero, suc, ◌+◌, ◌-◌, ◌<◌, ◌≤◌, ◌^◌, true, false, not, nat_lt, cond, List, [], ◌∷◌, ◌++◌, map, length, get_or, set, Option, Some, None, is_some, refl, sym, ap, subst, ◌∙◌, arith}
 use Rattle.std.specs.Prelude.{◌||◌}
 use Rattle.std.proofs.lemmas.List.{length_push, length-set, length-map}
-use Rattle.std.proofs.lemmas.Bool.{false≢true, le-ltb, and_from}
-use Rattle.std.proofs.lemmas.List.Folds.{list_all-append}
+use Rattle.std.proofs.lemmas.Bool.{false≢true, le-ltb}
 use Rattle.ring_names.specs.declared.numbers.CreditSpec.{CreditSpec}
 use Rattle.ring_names.specs.declared.reason.Reason.{Reason}
 use Rattle.ring_names.specs.declared.reason.Reason.TheVariants as reason
@@ -24,7 +23,7 @@ use Rattle.ring_rules.specs.View.{ids}
 use Rattle.ring_rules.specs.Machine.{World, member_at, is_waiting, runs_phase}
 use Rattle.ring_rules.specs.Machine as machine
 use Rattle.ring_rules.specs.Step.{size, opening}
-use Rattle.ring_rules.specs.Event.{by_of, id_of, of_member, is_stopped, is_multicast, is_multicast_kind, up_refusal, refresh_refusal, pick_refusal, refused_as, refusal, done_as, effect}
+use Rattle.ring_rules.specs.Event.{by_of, id_of, of_member, is_stopped, up_refusal, refresh_refusal, pick_refusal, refused_as, refusal, done_as, effect}
 use Rattle.ring_rules.specs.Event as event
 use Rattle.ring_rules.proofs.runs.InOrder.{last_append, run_append}
 use Rattle.ring_rules.proofs.events.WhatRefuses.{MayLook}
@@ -40,8 +39,10 @@ use Rattle.gm_member.proofs.Doors.{view_version}
 use Rattle.gm_member.proofs.Facts.{refused_there, done_there}
 use Rattle.ring_parties.specs.Ends.{OutSeen}
 use Rattle.ring_parties.specs.declared.party.Party.{Party}
-use Rattle.ring_parties.specs.Parties.{Shown, Deposit, Parties, parties, deposit_shown, node_at, with_node, shown_in, in_seen}
-use Rattle.ring_parties.specs.States.{state, IsEventIn}
+use Rattle.ring_parties.specs.Keeps.{KeepsStand, keeps_of, all_kept_after}
+use Rattle.ring_parties.proofs.keeping.Going.{keeps_go}
+use Rattle.ring_parties.specs.Parties.{Shown, Keeps, Deposit, Parties, parties, deposit_shown, node_at, with_node, shown_in, in_seen}
+use Rattle.ring_parties.specs.States.{state, IsEventIn, is_played, is_played_kind}
 use Rattle.ring_parties.specs.Standing.{MemberStands, StandAfter, IsJournal}
 use Rattle.ring_parties.specs.Replaced.{StandBetween, BetweenAfter, moved_by}
 use Rattle.ring_parties.specs.Meeting.{MayMeet, MeetsIn}
@@ -110,8 +111,8 @@ module _ (credit : CreditSpec) (names : List (List ℕ)) (events : List Event) w
   found_place q name i e = omega (arith, (found_within q name (i + 1) e).1)
 
   -- a member refuses what it does of a kind just where the ring does, for the same reason
-  kind_refused : (q : Parties) (k : Kind) (i : ℕ) → StandAfter credit names events q → i < length q.nodes → ((node_at q i).held.phase ≡ Up → NothingWaits (i + 1) q) → is_multicast_kind k ≡ true → act_refused k i q ≡ refused_as (state credit names events) (i + 1) k
-  kind_refused q k i s l waits cast = by_kind k cast
+  kind_refused : (q : Parties) (keeps : Keeps) (k : Kind) (i : ℕ) → StandAfter credit names events q → keeps ≡ keeps_of (state credit names events) (i + 1) → i < length q.nodes → ((node_at q i).held.phase ≡ Up → NothingWaits (i + 1) q) → is_played_kind k ≡ true → act_refused k keeps i q ≡ refused_as (state credit names events) (i + 1) k
+  kind_refused q keeps k i s kept l waits cast = by_kind k cast
     where
       w : World
       w = state credit names events
@@ -119,8 +120,8 @@ module _ (credit : CreditSpec) (names : List (List ℕ)) (events : List Event) w
       lt : i + 1 < size w
       lt = within_after credit names events q i s l
 
-      own : (k : Kind) → IsOwn k (i + 1) q → own_refused (newest_of q) k (node_at q i) ≡ refused_as w (i + 1) k
-      own k a = subst (λ j. own_refused (newest_of q) k (node_at q j) ≡ refused_as w (i + 1) k) (place i) (own_refuses credit w q (i + 1) (lawful_after credit names events s.journal) s.stand (omega arith) lt k a)
+      own : (k : Kind) → IsOwn k (i + 1) q → own_refused (newest_of q) keeps k (node_at q i) ≡ refused_as w (i + 1) k
+      own k a = subst (λ j. own_refused (newest_of q) keeps k (node_at q j) ≡ refused_as w (i + 1) k) (place i) (own_refuses credit w q (i + 1) (lawful_after credit names events s.journal) s.stand (omega arith) lt keeps k kept a)
 
       -- of one that isn't up
       not_up : (f : Phase) → (f ≡ Up → ⊥) → (node_at q i).held.phase ≡ f → (a b : Option Reason) → up_refused (node_at q i).held a ≡ up_refusal w (i + 1) b
@@ -151,7 +152,7 @@ module _ (credit : CreditSpec) (names : List (List ℕ)) (events : List Event) w
       packet_by_id origin (Some p) e = subst (λ j. erase_refused (office_of q) (node_at q j) (Some p) ≡ refused_as w (i + 1) (Changes (change.Erase origin))) (place i)
           (erase_refuses credit w (office_of q) q (i + 1) p origin (lawful_after credit names events s.journal) (record { views = s.stand.stand.views; stopped = s.stand.stand.stopped; nobody_else = s.stand.stand.nobody_else }) s.stand (omega arith) lt e)
 
-      by_kind : (k : Kind) → is_multicast_kind k ≡ true → act_refused k i q ≡ refused_as w (i + 1) k
+      by_kind : (k : Kind) → is_played_kind k ≡ true → act_refused k keeps i q ≡ refused_as w (i + 1) k
       by_kind (Changes (change.Mark dead)) m = ap (mark_refused (office_of q) (node_at q i)) (found q dead s) ∙ by_dead dead (id_of w dead) refl
       by_kind (Changes (change.Erase origin)) m = ap (erase_refused (office_of q) (node_at q i)) (found q origin s) ∙ packet_by_id origin (id_of w origin) refl
       by_kind (Changes (change.Admit name)) m = subst (λ j. up_refused (node_at q j).held (admission_refused (newest_of q) name) ≡ refused_as w (i + 1) (Changes (change.Admit name))) (place i) (admit_refuses credit w q (i + 1) name (omega arith) lt s.stand)
@@ -160,15 +161,15 @@ module _ (credit : CreditSpec) (names : List (List ℕ)) (events : List Event) w
       by_kind k m = own k m
 
   -- and so an event
-  pub refused_is : (q : Parties) (e : Event) (i : ℕ) → StandAfter credit names events q → id_named q (by_of e) ≡ Some (i + 1) → ((node_at q i).held.phase ≡ Up → NothingWaits (i + 1) q)
-      → is_multicast e ≡ true → act_refused (kind_of e) i q ≡ refusal (state credit names events) e
-  refused_is q e i s named waits cast =
-      kind_refused q (kind_of e) i s (found_place q (by_of e) i named) waits cast ∙ sym (refused_there (state credit names events) (i + 1) e (sym (found q (by_of e) s) ∙ named))
+  pub refused_is : (q : Parties) (keeps : Keeps) (e : Event) (i : ℕ) → StandAfter credit names events q → keeps ≡ keeps_of (state credit names events) (i + 1) → id_named q (by_of e) ≡ Some (i + 1) → ((node_at q i).held.phase ≡ Up → NothingWaits (i + 1) q)
+      → is_played e ≡ true → act_refused (kind_of e) keeps i q ≡ refusal (state credit names events) e
+  refused_is q keeps e i s kept named waits cast =
+      kind_refused q keeps (kind_of e) i s kept (found_place q (by_of e) i named) waits cast ∙ sym (refused_there (state credit names events) (i + 1) e (sym (found q (by_of e) s) ∙ named))
 
   -- ---- the event happens
 
-  many_after : (q q' : Parties) (k : Kind) (i d : ℕ) (replaced : Option (LinkName × OutSeen)) → Acts k i d q q' replaced → length q.nodes ≤ length q'.nodes
-  many_after q q' k i d replaced a = by_kind k a
+  many_after : (q q' : Parties) (keeps : Keeps) (k : Kind) (i d : ℕ) (replaced : Option (LinkName × OutSeen)) → Acts k keeps i d q q' replaced → length q.nodes ≤ length q'.nodes
+  many_after q q' keeps k i d replaced a = by_kind k a
     where
       as_many : length q'.nodes ≡ length q.nodes → length q.nodes ≤ length q'.nodes
       as_many same = omega (arith, same)
@@ -186,7 +187,7 @@ module _ (credit : CreditSpec) (names : List (List ℕ)) (events : List Event) w
       one_more : (b m : Shown) (v : Group) → q' ≡ joining m (viewing v (with_node q i b)) → length q.nodes ≤ length q'.nodes
       one_more b m v is = omega (arith, ap (λ (p : Parties). length p.nodes) is ∙ length_push (set q.nodes i b) m, length-set q.nodes i b)
 
-      by_kind : (k : Kind) → Acts k i d q q' replaced → length q.nodes ≤ length q'.nodes
+      by_kind : (k : Kind) → Acts k keeps i d q q' replaced → length q.nodes ≤ length q'.nodes
       by_kind Stops (b, _, is, _) = as_many (ap (λ (p : Parties). length p.nodes) is ∙ length-set q.nodes i b)
       by_kind (Changes (change.Mark dead)) a = looks (marked (newest_of q) d) (viewing (marked (newest_of q) d) q) refl a
       by_kind (Changes (change.Erase origin)) a = looks (erasing q d) (viewing (erasing q d) q) refl a
@@ -196,8 +197,8 @@ module _ (credit : CreditSpec) (names : List (List ℕ)) (events : List Event) w
       by_kind k (b, _, is, _) = one b is
 
   -- a replaced end goes to a member
-  replaced_goes : (q q' : Parties) (k : Kind) (i d : ℕ) (name : LinkName) (o : OutSeen) → StandAfter credit names events q → i < length q.nodes → Acts k i d q q' (Some (name, o)) → GoesIn (state credit names events) name
-  replaced_goes q q' k i d name o s l a = by_kind k a
+  replaced_goes : (q q' : Parties) (keeps : Keeps) (k : Kind) (i d : ℕ) (name : LinkName) (o : OutSeen) → StandAfter credit names events q → i < length q.nodes → Acts k keeps i d q q' (Some (name, o)) → GoesIn (state credit names events) name
+  replaced_goes q q' keeps k i d name o s l a = by_kind k a
     where
       w : World
       w = state credit names events
@@ -211,7 +212,7 @@ module _ (credit : CreditSpec) (names : List (List ℕ)) (events : List Event) w
       looks_at : (v : Group) (p : Parties) → LooksAt v i q p (Some (name, o)) → GoesIn w name
       looks_at v p k = looks v p (subst (λ j. LooksAt v j q p (Some (name, o))) (sym (place i)) k)
 
-      by_kind : (k : Kind) → Acts k i d q q' (Some (name, o)) → GoesIn w name
+      by_kind : (k : Kind) → Acts k keeps i d q q' (Some (name, o)) → GoesIn w name
       by_kind (Changes (change.Mark dead)) (b, new, how, _) = looks_at (marked (newest_of q) d) (depositing new (with_node q i b)) (b, new, how, refl)
       by_kind (Changes (change.Erase origin)) (b, new, how, _) = looks_at (erasing q d) (depositing new (with_node q i b)) (b, new, how, refl)
       by_kind (Changes (change.Admit name)) a = looks_at (admitting q i name) (depositing a.2.1 (with_node q i a.2.0)) (a.2.0, a.2.1, a.2.2, refl)
@@ -221,7 +222,7 @@ module _ (credit : CreditSpec) (names : List (List ℕ)) (events : List Event) w
 
   -- what it needs besides
   may_go : (q : Parties) (k : Kind) (i : ℕ) → StandAfter credit names events q → i < length q.nodes → refused_as (state credit names events) (i + 1) k ≡ None
-      → ((node_at q i).held.phase ≡ Up → NothingWaits (i + 1) q) → is_multicast_kind k ≡ true → MayGo (state credit names events) k (i + 1) (marked_in k q) q
+      → ((node_at q i).held.phase ≡ Up → NothingWaits (i + 1) q) → is_played_kind k ≡ true → MayGo (state credit names events) k (i + 1) (marked_in k q) q
   may_go q k i s l r waits cast = by_kind k cast r
     where
       w : World
@@ -238,7 +239,7 @@ module _ (credit : CreditSpec) (names : List (List ℕ)) (events : List Event) w
           let unknown : Some reason.UnknownMember ≡ None = sym (ap (λ o. of_member o later) (sym (found q other s) ∙ k)) ∙ none in
           cc
 
-      by_kind : (k : Kind) → is_multicast_kind k ≡ true → refused_as w (i + 1) k ≡ None → MayGo w k (i + 1) (marked_in k q) q
+      by_kind : (k : Kind) → is_played_kind k ≡ true → refused_as w (i + 1) k ≡ None → MayGo w k (i + 1) (marked_in k q) q
       by_kind (Changes (change.Mark dead)) m e = (other_is dead (event.mark_refusal w (i + 1)) (id_named q dead) refl e, up (of_member (id_of w dead) (event.mark_refusal w (i + 1))) e)
       by_kind (Changes (change.Erase origin)) m e = (other_is origin (event.erase_refusal w (i + 1)) (id_named q origin) refl e, up (of_member (id_of w origin) (event.erase_refusal w (i + 1))) e)
       by_kind (Changes (change.Admit name)) m e = up (event.admit_refusal w name) e
@@ -246,27 +247,26 @@ module _ (credit : CreditSpec) (names : List (List ℕ)) (events : List Event) w
       by_kind (Steps step.Pick) m e = up (or_else (refuse_if (is_some (member_at w (i + 1)).current) reason.HasCurrentLink) (pick_refusal w (i + 1))) e
       by_kind k m e = m
 
-  pub acted : (q q' : Parties) (e : Event) (i : ℕ) (replaced : Option (LinkName × OutSeen)) → StandAfter credit names events q → act_refused (kind_of e) i q ≡ None → id_named q (by_of e) ≡ Some (i + 1)
-      → ((node_at q i).held.phase ≡ Up → NothingWaits (i + 1) q) → is_multicast e ≡ true → length events + 1 < 2 ^ 59 → Acts (kind_of e) i (marked_in (kind_of e) q) q q' replaced
+  pub acted : (q q' : Parties) (keeps : Keeps) (e : Event) (i : ℕ) (replaced : Option (LinkName × OutSeen)) → StandAfter credit names events q → keeps ≡ keeps_of (state credit names events) (i + 1) → act_refused (kind_of e) keeps i q ≡ None → id_named q (by_of e) ≡ Some (i + 1)
+      → ((node_at q i).held.phase ≡ Up → NothingWaits (i + 1) q) → is_played e ≡ true → length events + 1 < 2 ^ 59 → Acts (kind_of e) keeps i (marked_in (kind_of e) q) q q' replaced
       → BetweenAfter credit names (events ++ e ∷ []) (moved_by (i + 1) (state credit names (events ++ e ∷ []))) q' replaced
-  acted q q' e i replaced s refused named waits cast few a = record {
+  acted q q' keeps e i replaced s kept refused named waits cast few a = record {
     journal = journal;
     stand = stand;
-    goes = λ name o k. goes name o (subst (Acts (kind_of e) i (marked_in (kind_of e) q) q q') k a);
+    goes = λ name o k. goes name o (subst (Acts (kind_of e) keeps i (marked_in (kind_of e) q) q q') k a);
   }
     where
       w : World
       w = state credit names events
 
       enabled : refusal w e ≡ None
-      enabled = sym (refused_is q e i s named waits cast) ∙ refused
+      enabled = sym (refused_is q keeps e i s kept named waits cast) ∙ refused
 
       journal : IsJournal credit names (events ++ e ∷ [])
       journal = record {
         are = s.journal.are;
         run = run_append (opening credit names) events (e ∷ []) s.journal.run (enabled, tt);
         few = subst (λ n. n < 2 ^ 59) (sym (length_push events e)) few;
-        multicast = list_all-append is_multicast events (e ∷ []) ∙ and_from _ _ s.journal.multicast (and_from _ _ cast refl);
       }
 
       inside : i < length q.nodes
@@ -283,21 +283,30 @@ module _ (credit : CreditSpec) (names : List (List ℕ)) (events : List Event) w
 
       stand : StandMoved credit.initial (i + 1) (state credit names (events ++ e ∷ [])) q' replaced
       stand = subst (λ u. StandMoved credit.initial (i + 1) u q' replaced) (sym after)
-          (each_goes credit w (kind_of e) i (marked_in (kind_of e) q) q q' replaced (lawful_after credit names events s.journal)
+          (each_goes credit w (kind_of e) keeps i (marked_in (kind_of e) q) q q' replaced (lawful_after credit names events s.journal)
           (subst (IsLawfulAt credit) after (lawful_after credit names (events ++ e ∷ []) journal))
-          allowed (within_after credit names events q i s inside) (may_go q (kind_of e) i s inside allowed waits cast) s.stand a)
+          allowed (within_after credit names events q i s inside) (may_go q (kind_of e) i s inside allowed waits cast) kept s.stand a)
 
-      goes : (name : LinkName) (o : OutSeen) → Acts (kind_of e) i (marked_in (kind_of e) q) q q' (Some (name, o)) → GoesIn (state credit names (events ++ e ∷ [])) name
+      goes : (name : LinkName) (o : OutSeen) → Acts (kind_of e) keeps i (marked_in (kind_of e) q) q q' (Some (name, o)) → GoesIn (state credit names (events ++ e ∷ [])) name
       goes name o k =
-          let in_old = replaced_goes q q' (kind_of e) i (marked_in (kind_of e) q) name o s inside k in
-          let many : length q.nodes ≤ length q'.nodes = many_after q q' (kind_of e) i (marked_in (kind_of e) q) replaced a in
+          let in_old = replaced_goes q q' keeps (kind_of e) i (marked_in (kind_of e) q) name o s inside k in
+          let many : length q.nodes ≤ length q'.nodes = many_after q q' keeps (kind_of e) i (marked_in (kind_of e) q) replaced a in
           (in_old.0, omega (arith, in_old.1, many, s.stand.stand.count, stand.stand.count))
 
+  -- and the parties keep what their members have then
+  pub kept_on : (q : Parties) (ks : List Keeps) (e : Event) (i : ℕ) → StandAfter credit names events q → KeepsStand (state credit names events) ks → refusal (state credit names events) e ≡ None → id_named q (by_of e) ≡ Some (i + 1)
+      → KeepsStand (state credit names (events ++ e ∷ [])) (all_kept_after (kind_of e) i q ks)
+  kept_on q ks e i s kept enabled named =
+      let there : id_of (state credit names events) (by_of e) ≡ Some (i + 1) = sym (found q (by_of e) s) ∙ named in
+      subst (λ u. KeepsStand u (all_kept_after (kind_of e) i q ks)) (sym (last_append (opening credit names) events (e ∷ []) ∙ done_there (state credit names events) (i + 1) e there))
+      (keeps_go credit (state credit names events) (kind_of e) i q ks (lawful_after credit names events s.journal) (sym (refused_there (state credit names events) (i + 1) e there) ∙ enabled)
+      (within_after credit names events q i s (found_place q (by_of e) i named)) s.stand kept)
+
   -- there are as many members then
-  pub still_there : (q q' q'' : Parties) (e : Event) (i : ℕ) (replaced : Option (LinkName × OutSeen)) (ids : List ℕ) → i < length q.nodes → Acts (kind_of e) i (marked_in (kind_of e) q) q q' replaced
+  pub still_there : (q q' q'' : Parties) (keeps : Keeps) (e : Event) (i : ℕ) (replaced : Option (LinkName × OutSeen)) (ids : List ℕ) → i < length q.nodes → Acts (kind_of e) keeps i (marked_in (kind_of e) q) q q' replaced
       → BetweenAfter credit names (events ++ e ∷ []) ids q' replaced → BetweenAfter credit names (events ++ e ∷ []) ids q'' None → i < length q''.nodes
-  still_there q q' q'' e i replaced ids l a b later =
-      let many : length q.nodes ≤ length q'.nodes = many_after q q' (kind_of e) i (marked_in (kind_of e) q) replaced a in
+  still_there q q' q'' keeps e i replaced ids l a b later =
+      let many : length q.nodes ≤ length q'.nodes = many_after q q' keeps (kind_of e) i (marked_in (kind_of e) q) replaced a in
       omega (arith, l, many, b.stand.stand.count, later.stand.stand.count)
 
   -- ---- the replaced end meets its other end

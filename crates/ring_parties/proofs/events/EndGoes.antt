@@ -23,7 +23,7 @@ use Rattle.gm_member.proofs.DoorParts.{member_same, member_other}
 use Rattle.gm_member.proofs.EndStands.{end_other, end_stands, waits_without}
 use Rattle.gm_member.proofs.Others.{end_others}
 use Rattle.ring_parties.specs.Ends.{OutSeen}
-use Rattle.ring_parties.specs.Parties.{Shown, Parties, node_at, with_node}
+use Rattle.ring_parties.specs.Parties.{Shown, Parties, node_at, with_node, Keeps}
 use Rattle.ring_parties.specs.Standing.{Places, MemberStands, Stand, has_in}
 use Rattle.ring_parties.specs.Acting.{Acts}
 use Rattle.ring_parties.proofs.work.Lawful.{IsLawfulAt}
@@ -126,8 +126,8 @@ module _ (credit : CreditSpec) (w : World) (x s : ℕ) (h : IsLawfulAt credit w)
 
 -- ---- the parties
 
-pub end_goes : (credit : CreditSpec) (w : World) (i d : ℕ) (q q' : Parties) (replaced : Option (LinkName × OutSeen)) → IsLawfulAt credit w → refused_as w (i + 1) (Steps step.TakeEnd) ≡ None → i + 1 < size w → Stand credit.initial w q → Acts (Steps step.TakeEnd) i d q q' replaced → StandMoved credit.initial (i + 1) (done_as w (i + 1) (Steps step.TakeEnd)) q' replaced
-end_goes credit w i d q q' replaced h enabled lt st (b, (n, rest, ends_link, next, eb), is, none) =
+pub end_goes : (credit : CreditSpec) (w : World) (keeps : Keeps) (i d : ℕ) (q q' : Parties) (replaced : Option (LinkName × OutSeen)) → IsLawfulAt credit w → refused_as w (i + 1) (Steps step.TakeEnd) ≡ None → i + 1 < size w → Stand credit.initial w q → Acts (Steps step.TakeEnd) keeps i d q q' replaced → StandMoved credit.initial (i + 1) (done_as w (i + 1) (Steps step.TakeEnd)) q' replaced
+end_goes credit w keeps i d q q' replaced h enabled lt st (b, (n, rest, ends_link, next, eb), is, none) =
     let x : ℕ = i + 1 in
     let p : Places = st.places in
     let acts : running_refusal w x (on_link (member_at w x).current reason.NoCurrentLink (end_refusal w)) ≡ None = enabled in

@@ -13,7 +13,7 @@ use Rattle.gm_member.specs.Stands.{held_in}
 use Rattle.gm_member.proofs.GainStands.{regained_on, gain_stands}
 use Rattle.gm_member.proofs.Others.{gain_others}
 use Rattle.ring_parties.specs.Ends.{OutSeen, InSeen, Carries}
-use Rattle.ring_parties.specs.Parties.{Parties, node_at}
+use Rattle.ring_parties.specs.Parties.{Parties, node_at, Keeps}
 use Rattle.ring_parties.specs.Standing.{Places, MemberStands, Stand}
 use Rattle.ring_parties.specs.Acting.{Acts, ActsOut}
 use Rattle.ring_parties.proofs.work.Lawful.{IsLawfulAt}
@@ -48,8 +48,8 @@ gain_amount initial w s o o' n amount g c = ap (λ xs. oldest_grant (xs ++ n.giv
 
 -- ---- the parties
 
-pub gain_goes : (credit : CreditSpec) (w : World) (i d : ℕ) (q q' : Parties) (replaced : Option (LinkName × OutSeen)) → IsLawfulAt credit w → refused_as w (i + 1) (Steps step.Gain) ≡ None → i + 1 < size w → Stand credit.initial w q → Acts (Steps step.Gain) i d q q' replaced → StandMoved credit.initial (i + 1) (done_as w (i + 1) (Steps step.Gain)) q' replaced
-gain_goes credit w i d q q' replaced h enabled lt st (b, (amount, o, o', ends_out, gains, eb), is, none) =
+pub gain_goes : (credit : CreditSpec) (w : World) (keeps : Keeps) (i d : ℕ) (q q' : Parties) (replaced : Option (LinkName × OutSeen)) → IsLawfulAt credit w → refused_as w (i + 1) (Steps step.Gain) ≡ None → i + 1 < size w → Stand credit.initial w q → Acts (Steps step.Gain) keeps i d q q' replaced → StandMoved credit.initial (i + 1) (done_as w (i + 1) (Steps step.Gain)) q' replaced
+gain_goes credit w keeps i d q q' replaced h enabled lt st (b, (amount, o, o', ends_out, gains, eb), is, none) =
     let x : ℕ = i + 1 in
     let p : Places = st.places in
     let on : OnOut w (done_as w x (Steps step.Gain)) x (regained_on w) = on_out credit w x (gain_refusal w) (regained_on w) h enabled lt in

@@ -41,7 +41,7 @@ use Rattle.gm_member.proofs.OpenDoors.{sends_right}
 use Rattle.ring_rules.proofs.work.OwnEnds.{OwnEnds}
 use Rattle.gm_member.proofs.RefreshStands.{first_lines}
 use Rattle.ring_parties.specs.Ends.{OutSeen, opened_out, fresh_in}
-use Rattle.ring_parties.specs.Parties.{Parties, node_at, with_node}
+use Rattle.ring_parties.specs.Parties.{Parties, node_at, with_node, Keeps}
 use Rattle.ring_parties.specs.Standing.{Places, Stand, has_in}
 use Rattle.ring_parties.specs.Acting.{Replacing, looked_ends, first_sent, LooksAt, Acts, newest_of, viewing, depositing, waits_at}
 use Rattle.ring_parties.proofs.work.Lawful.{IsLawfulAt}
@@ -117,9 +117,9 @@ refresh_looking credit w x v g g' r some lt = record {
 view_is : (w : World) (q : Parties) (v : ℕ) → w.views ≡ no_group ∷ q.views → since.view_at q.views v ≡ view_in w v
 view_is w q v e = ap (λ vs. get_or vs v no_group) (sym e)
 
-pub refresh_between : (credit : CreditSpec) (w : World) (q q' : Parties) (i d v : ℕ) (replaced : Option (LinkName × OutSeen)) → IsLawfulAt credit w → IsLawfulAt credit (done_as w (i + 1) (Reads v)) → refused_as w (i + 1) (Reads v) ≡ None → i + 1 < size w
-    → Stand credit.initial w q → filter (waits_at (i + 1)) q.deposits ≡ [] → Acts (Reads v) i d q q' replaced → StandMoved credit.initial (i + 1) (done_as w (i + 1) (Reads v)) q' replaced
-refresh_between credit w q q' i d v replaced g g' r lt st none acts =
+pub refresh_between : (credit : CreditSpec) (w : World) (keeps : Keeps) (q q' : Parties) (i d v : ℕ) (replaced : Option (LinkName × OutSeen)) → IsLawfulAt credit w → IsLawfulAt credit (done_as w (i + 1) (Reads v)) → refused_as w (i + 1) (Reads v) ≡ None → i + 1 < size w
+    → Stand credit.initial w q → filter (waits_at (i + 1)) q.deposits ≡ [] → Acts (Reads v) keeps i d q q' replaced → StandMoved credit.initial (i + 1) (done_as w (i + 1) (Reads v)) q' replaced
+refresh_between credit w keeps q q' i d v replaced g g' r lt st none acts =
     let back : i + 1 - 1 ≡ i = omega arith in
     let at : LooksAt (view_in w v) (i + 1 - 1) q q' replaced = subst (λ k. LooksAt (view_in w v) k q q' replaced) (sym back) (subst (λ t. LooksAt t i q q' replaced) (view_is w q v st.stand.views) acts) in
     looks_stand credit.initial w (i + 1) v q q' replaced (refresh_looking credit w (i + 1) v g g' r (omega arith) lt) st none at
@@ -216,9 +216,9 @@ follow_between credit w w' q q' i made replaced h m is st none looks =
 
 -- ---- a mark
 
-pub mark_between : (credit : CreditSpec) (w : World) (q q' : Parties) (i d : ℕ) (dead : List ℕ) (replaced : Option (LinkName × OutSeen)) → IsLawfulAt credit w → refused_as w (i + 1) (Changes (change.Mark dead)) ≡ None → i + 1 < size w → id_of w dead ≡ Some d
-    → Stand credit.initial w q → filter (waits_at (i + 1)) q.deposits ≡ [] → Acts (Changes (change.Mark dead)) i d q q' replaced → StandMoved credit.initial (i + 1) (done_as w (i + 1) (Changes (change.Mark dead))) q' replaced
-mark_between credit w q q' i d dead replaced h r lt there =
+pub mark_between : (credit : CreditSpec) (w : World) (keeps : Keeps) (q q' : Parties) (i d : ℕ) (dead : List ℕ) (replaced : Option (LinkName × OutSeen)) → IsLawfulAt credit w → refused_as w (i + 1) (Changes (change.Mark dead)) ≡ None → i + 1 < size w → id_of w dead ≡ Some d
+    → Stand credit.initial w q → filter (waits_at (i + 1)) q.deposits ≡ [] → Acts (Changes (change.Mark dead)) keeps i d q q' replaced → StandMoved credit.initial (i + 1) (done_as w (i + 1) (Changes (change.Mark dead))) q' replaced
+mark_between credit w keeps q q' i d dead replaced h r lt there =
     let a = up_none w (i + 1) (of_member (id_of w dead) (mark_refusal w (i + 1))) r in
     let m : MayMark w (i + 1) d = may_mark w (i + 1) d lt a.0 (found_later (id_of w dead) d (mark_refusal w (i + 1)) there a.1) in
     follow_between credit w (done_as w (i + 1) (Changes (change.Mark dead))) q q' i (λ g. marked g d) replaced h
@@ -227,9 +227,9 @@ mark_between credit w q q' i d dead replaced h r lt there =
 
 -- ---- an erasure
 
-pub erase_between : (credit : CreditSpec) (w : World) (q q' : Parties) (i p : ℕ) (origin : List ℕ) (replaced : Option (LinkName × OutSeen)) → IsLawfulAt credit w → refused_as w (i + 1) (Changes (change.Erase origin)) ≡ None → i + 1 < size w → id_of w origin ≡ Some p
-    → Stand credit.initial w q → filter (waits_at (i + 1)) q.deposits ≡ [] → Acts (Changes (change.Erase origin)) i p q q' replaced → StandMoved credit.initial (i + 1) (done_as w (i + 1) (Changes (change.Erase origin))) q' replaced
-erase_between credit w q q' i p origin replaced h r lt there =
+pub erase_between : (credit : CreditSpec) (w : World) (keeps : Keeps) (q q' : Parties) (i p : ℕ) (origin : List ℕ) (replaced : Option (LinkName × OutSeen)) → IsLawfulAt credit w → refused_as w (i + 1) (Changes (change.Erase origin)) ≡ None → i + 1 < size w → id_of w origin ≡ Some p
+    → Stand credit.initial w q → filter (waits_at (i + 1)) q.deposits ≡ [] → Acts (Changes (change.Erase origin)) keeps i p q q' replaced → StandMoved credit.initial (i + 1) (done_as w (i + 1) (Changes (change.Erase origin))) q' replaced
+erase_between credit w keeps q q' i p origin replaced h r lt there =
     let a = up_none w (i + 1) (of_member (id_of w origin) (erase_refusal w (i + 1))) r in
     let m : MayErase w (i + 1) p = may_erase w (i + 1) p lt a.0 (found_later (id_of w origin) p (erase_refusal w (i + 1)) there a.1) in
     follow_between credit w (done_as w (i + 1) (Changes (change.Erase origin))) q q' i (λ g. installed (erased g p)) replaced h

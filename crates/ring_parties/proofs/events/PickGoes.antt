@@ -28,7 +28,7 @@ use Rattle.gm_member.proofs.Doors.{pickable_is_door}
 use Rattle.gm_member.proofs.PickStands.{PicksAt, picked_waits, picks_some, pick_stands, door_link}
 use Rattle.gm_member.proofs.Others.{member_others}
 use Rattle.ring_parties.specs.Ends.{OutSeen}
-use Rattle.ring_parties.specs.Parties.{Shown, Parties, Deposit, node_at, with_node}
+use Rattle.ring_parties.specs.Parties.{Shown, Parties, Deposit, node_at, with_node, Keeps}
 use Rattle.ring_parties.specs.Standing.{Places, MemberStands, Stand, is_to, has_in}
 use Rattle.ring_parties.specs.Acting.{Acts}
 use Rattle.ring_parties.proofs.work.Lawful.{IsLawfulAt}
@@ -139,8 +139,8 @@ pick_it w p x i a b credit h lt none first nobody m e =
       old_ins = ap (λ (g : Shown). g.ends.old_ins) e ∙ m.old_ins;
     }
 
-pub pick_goes : (credit : CreditSpec) (w : World) (i d : ℕ) (q q' : Parties) (replaced : Option (LinkName × OutSeen)) → IsLawfulAt credit w → refused_as w (i + 1) (Steps step.Pick) ≡ None → i + 1 < size w → NoneDeposited q (i + 1) → Stand credit.initial w q → Acts (Steps step.Pick) i d q q' replaced → StandMoved credit.initial (i + 1) (done_as w (i + 1) (Steps step.Pick)) q' replaced
-pick_goes credit w i d q q' replaced h enabled lt nobody st (b, (j, first, eb), is, none_replaced) =
+pub pick_goes : (credit : CreditSpec) (w : World) (keeps : Keeps) (i d : ℕ) (q q' : Parties) (replaced : Option (LinkName × OutSeen)) → IsLawfulAt credit w → refused_as w (i + 1) (Steps step.Pick) ≡ None → i + 1 < size w → NoneDeposited q (i + 1) → Stand credit.initial w q → Acts (Steps step.Pick) keeps i d q q' replaced → StandMoved credit.initial (i + 1) (done_as w (i + 1) (Steps step.Pick)) q' replaced
+pick_goes credit w keeps i d q q' replaced h enabled lt nobody st (b, (j, first, eb), is, none_replaced) =
     let x : ℕ = i + 1 in
     let p : Places = st.places in
     let a : MemberStands w p x (node_at q i) = stands_at credit.initial w q p i st.stand lt in

@@ -16,7 +16,7 @@ use Rattle.gm_member.proofs.Fit.{IsFit}
 use Rattle.gm_member.proofs.PutStands.{leaving, put_stands, put_packet}
 use Rattle.gm_member.proofs.Others.{put_others}
 use Rattle.ring_parties.specs.Ends.{PacketShown, OutSeen, InSeen, packet_in, packets_in, end_items, Carries}
-use Rattle.ring_parties.specs.Parties.{Shown, Parties, node_at}
+use Rattle.ring_parties.specs.Parties.{Shown, Parties, node_at, Keeps}
 use Rattle.ring_parties.specs.Standing.{Places, MemberStands, Stand}
 use Rattle.ring_parties.specs.Acting.{sent_of, Acts, ActsOut}
 use Rattle.ring_parties.proofs.work.Lawful.{IsLawfulAt}
@@ -51,8 +51,8 @@ put_sent w x s g out f some lt up sends e is =
 
 -- ---- the parties
 
-pub put_goes : (credit : CreditSpec) (w : World) (i d : ℕ) (q q' : Parties) (replaced : Option (LinkName × OutSeen)) → IsLawfulAt credit w → refused_as w (i + 1) (Steps step.Put) ≡ None → i + 1 < size w → Stand credit.initial w q → Acts (Steps step.Put) i d q q' replaced → StandMoved credit.initial (i + 1) (done_as w (i + 1) (Steps step.Put)) q' replaced
-put_goes credit w i d q q' replaced h enabled lt st (b, (out, o, o', held_out, ends_out, puts, eb), is, none) =
+pub put_goes : (credit : CreditSpec) (w : World) (keeps : Keeps) (i d : ℕ) (q q' : Parties) (replaced : Option (LinkName × OutSeen)) → IsLawfulAt credit w → refused_as w (i + 1) (Steps step.Put) ≡ None → i + 1 < size w → Stand credit.initial w q → Acts (Steps step.Put) keeps i d q q' replaced → StandMoved credit.initial (i + 1) (done_as w (i + 1) (Steps step.Put)) q' replaced
+put_goes credit w keeps i d q q' replaced h enabled lt st (b, (out, o, o', held_out, ends_out, puts, eb), is, none) =
     let x : ℕ = i + 1 in
     let p : Places = st.places in
     let m : Shown = node_at q i in

@@ -9,6 +9,7 @@ use Rattle.ordered_link.specs.declared.plain.PlainIn.{PlainIn}
 use Rattle.group_view.specs.Since.{view_at}
 use Rattle.ring_rules.specs.Refusal.{refuse_if, or_else}
 use Rattle.ring_rules.specs.declared.event.Event.{Event}
+use Rattle.ring_rules.specs.declared.kind.LinkStep.{LinkStep}
 use Rattle.ring_rules.specs.declared.kind.LinkStep.TheVariants as step
 use Rattle.ring_rules.specs.declared.kind.ViewChange.TheVariants as change
 use Rattle.ring_rules.specs.Kind.{Kind, Steps, Changes}
@@ -27,15 +28,16 @@ use Rattle.gm_member.specs.Questions.{has_link}
 use Rattle.gm_member.specs.Stands.{held_in}
 use Rattle.gm_member.proofs.PickStands.{pick_refuses}
 use Rattle.ring_parties.specs.declared.party.Party.{Party}
-use Rattle.ring_parties.specs.Parties.{Shown, Deposit, Parties, parties, deposit_shown, node_at}
+use Rattle.ring_parties.specs.Keeps.{keeps_of}
+use Rattle.ring_parties.specs.Parties.{Shown, Keeps, Deposit, Parties, parties, deposit_shown, node_at}
 use Rattle.ring_parties.specs.States.{state}
 use Rattle.ring_parties.specs.Standing.{Stand, StandIn, StandAfter}
-use Rattle.ring_parties.specs.Acting.{waits_at, received, is_kept_by, newest_of}
+use Rattle.ring_parties.specs.Acting.{step_refused, waits_at, received, is_kept_by, newest_of}
 use Rattle.ring_parties.specs.Refused.{id_named, with_deposits, erase_refused, admission_refused, own_refused}
 use Rattle.ring_parties.proofs.work.Fresh.{reached_fresh}
 use Rattle.ring_parties.proofs.work.Lawful.{IsLawfulAt}
 use Rattle.ring_parties.proofs.events.After.{lawful_after, member_after, id_after}
-use Rattle.ring_parties.proofs.events.Refusals.{IsOwn, own_refuses}
+use Rattle.ring_parties.proofs.events.Refusals.{IsOwn, own_refuses, step_refuses}
 use Rattle.ring_parties.proofs.events.Found.{named_alike}
 use Rattle.ring_parties.proofs.events.OneEvent.{held_but_door}
 use Rattle.ring_parties.proofs.events.Refusing.{mark_refuses, nobody_named, erase_refuses, admit_refuses}
@@ -96,8 +98,11 @@ module _ (credit : CreditSpec) (names : List (List ℕ)) (events : List Event) (
 
   -- ---- each kind
 
-  pub own_reads : (k : Kind) → IsOwn k x q → own_refused (newest_of q) k (node_at q i) ≡ refused_as w x k
-  own_reads k own = subst (λ j. own_refused (newest_of q) k (node_at q j) ≡ refused_as w x k) place (own_refuses credit w q x lawful s.stand some lt k own)
+  pub own_reads : (keeps : Keeps) (k : Kind) → keeps ≡ keeps_of w x → IsOwn k x q → own_refused (newest_of q) keeps k (node_at q i) ≡ refused_as w x k
+  own_reads keeps k kept own = subst (λ j. own_refused (newest_of q) keeps k (node_at q j) ≡ refused_as w x k) place (own_refuses credit w q x lawful s.stand some lt keeps k kept own)
+
+  pub step_reads : (l : LinkStep) → IsOwn (Steps l) x q → step_refused l (node_at q i) ≡ refused_as w x (Steps l)
+  step_reads l own = subst (λ j. step_refused l (node_at q j) ≡ refused_as w x (Steps l)) place (step_refuses credit w q x lawful s.stand some lt l own)
 
   pub pick_reads : pick_refused (with_deposits (node_at q i).held q.deposits) ≡ refused_as w x (Steps step.Pick)
   pick_reads = ap pick_refused whole ∙ pick_refuses w x lawful.fit.good

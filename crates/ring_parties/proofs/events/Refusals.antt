@@ -1,21 +1,21 @@
 -- What a member of a cluster whose ends have met refuses, the ring refuses, for the same reason.
 use Rattle.std.proofs.Common.{◌≡◌, ℕ, ◌-◌, ◌<◌, ◌≤◌, true, List, [], ◌∷◌, ◌++◌, length, Option, Some, None, refl, sym, ap, ◌∙◌, append-nil}
-use Rattle.std.proofs.lemmas.Bool.{false≢true}
 use Rattle.std.proofs.lemmas.Option.{none-some}
 use Rattle.std.specs.Prelude.{option_map, slice_index_or}
 use Rattle.ring_names.specs.declared.numbers.CreditSpec.{CreditSpec}
 use Rattle.ring_names.specs.declared.reason.Reason.{Reason}
 use Rattle.ring_names.specs.declared.reason.Reason.TheVariants as reason
 use Rattle.ring_rules.specs.declared.event.Event.TheVariants.{Take, TakeEnd}
+use Rattle.ring_rules.specs.declared.kind.LinkStep.{LinkStep}
 use Rattle.ring_rules.specs.declared.kind.LinkStep.TheVariants as step
-use Rattle.ring_rules.specs.Kind.{Own, OfQueue, Kind, Says, Steps, Changes, Stops, Reads, Tells}
+use Rattle.ring_rules.specs.Kind.{Kind, Says, Steps, Changes, Stops, Reads, Tells}
 use Rattle.ring_rules.specs.declared.phase.Phase.{Phase}
 use Rattle.ring_rules.specs.declared.phase.Phase.TheVariants.{Waiting, Up, Stopped}
 use Rattle.ring_rules.specs.declared.phase.Ending.{Ending}
 use Rattle.ring_rules.specs.Refusal.{refuse_if, or_else, is_empty}
 use Rattle.ring_rules.specs.Machine.{World, Packet, no_packet, member_at, link_at, runs, runs_phase, is_waiting}
 use Rattle.ring_rules.specs.Step.{size}
-use Rattle.ring_rules.specs.Event.{on_link, is_stopped, up_refusal, take_refusal, end_refusal, gain_refusal, version_refusal, refused_as, is_multicast_kind}
+use Rattle.ring_rules.specs.Event.{on_link, is_stopped, up_refusal, take_refusal, end_refusal, gain_refusal, version_refusal, refused_as}
 use Rattle.gm_member.specs.Held.{Held, up_refused, put_refused, take_refused, active_refused, pick_refused, on_some}
 use Rattle.gm_member.proofs.PutStands.{put_refuses}
 use Rattle.gm_member.specs.Stands.{held_in, outgoing_in}
@@ -24,16 +24,18 @@ use Rattle.gm_member.proofs.TakeStands.{nothing_to_take, no_end_to_take, end_is_
 use Rattle.gm_member.proofs.PickStands.{pick_refuses}
 use Rattle.gm_member.proofs.Refusals.{take_refusal_is, end_refusal_is}
 use Rattle.ring_parties.specs.Ends.{packets_in, end_items, items_in, Carries, HaveMet}
-use Rattle.ring_parties.specs.Parties.{Shown, Parties, node_at}
+use Rattle.ring_parties.specs.Parties.{Shown, Keeps, Parties, node_at}
+use Rattle.ring_parties.specs.Keeps.{keeps_of}
+use Rattle.ring_parties.specs.States.{is_played_kind}
 use Rattle.ring_parties.specs.Standing.{Places, MemberStands, StandIn, Stand, AllHaveMet, has_in, has_out}
-use Rattle.ring_parties.specs.Acting.{first_item, items_refused, end_refused, back_of, packet_refused, link_end_refused, grant_refused, newest_of}
+use Rattle.ring_parties.specs.Acting.{step_refused, first_item, items_refused, end_refused, back_of, packet_refused, link_end_refused, grant_refused, newest_of}
 use Rattle.ring_parties.specs.Refused.{own_refused}
 use Rattle.ring_parties.proofs.work.Lawful.{IsLawfulAt}
 use Rattle.ring_parties.proofs.meetings.NamedLinks.{out_is_open, out_has, current_has}
 use Rattle.ring_parties.proofs.events.OneEvent.{held_but_door, met_both}
 use Rattle.ring_parties.proofs.standing.Lookers.{whole_held}
 use Rattle.ring_parties.proofs.events.Refreshing.{none_waits}
-use Rattle.ring_parties.proofs.events.Refusing.{look_refuses, telling_refuses}
+use Rattle.ring_parties.proofs.events.Refusing.{says_refuses, look_refuses, telling_refuses}
 use Rattle.ring_parties.proofs.events.PickGoes.{NoneDeposited}
 use Rattle.ring_parties.proofs.events.Ready.{all_settled, settled_items}
 
@@ -62,11 +64,11 @@ its_items credit w q p x s m h st met a e =
 
 -- ---- each kind
 
--- what makes no view, and isn't of the queue; and where the member of id x picks, no link waits for it at the registrar
+-- what makes no view; and where the member of id x picks, no link waits for it at the registrar
 abbrev pub IsOwn : Kind → ℕ → Parties → Type 0
 IsOwn (Changes c) x q = ⊥
 IsOwn (Steps step.Pick) x q = NoneDeposited q x
-IsOwn k x q = is_multicast_kind k ≡ true
+IsOwn k x q = is_played_kind k ≡ true
 
 -- with a member found
 module _ (credit : CreditSpec) (w : World) (q : Parties) (x : ℕ) (h : IsLawfulAt credit w) (st : Stand credit.initial w q) (some : 1 ≤ x) (lt : x < size w) where
@@ -124,15 +126,18 @@ module _ (credit : CreditSpec) (w : World) (q : Parties) (x : ℕ) (h : IsLawful
       ∙ ap (λ o. up_refusal w x (on_some (option_map (outgoing_in w) (member_at w x).out) reason.NoOutLink (λ _. refuse_if (is_empty (back_of o)) reason.NoGrant))) stands.out
       ∙ gain_by_phase (member_at w x).phase _ _ (λ run. gain_by_out (member_at w x).out run refl)
 
-  pub own_refuses : (k : Kind) → IsOwn k x q → own_refused (newest_of q) k (node_at q (x - 1)) ≡ refused_as w x k
-  own_refuses (Says (Own body)) a = ap (λ (g : Held). up_refused g None) same
-  own_refuses (Says (OfQueue s)) a = absurd (false≢true a)
-  own_refuses (Steps step.Put) a = ap put_refused same ∙ put_refuses w x h.fit
-  own_refuses (Steps step.Take) a = packet_refusal_is
-  own_refuses (Steps step.TakeEnd) a = link_end_refusal_is
-  own_refuses (Steps step.Gain) a = grant_refusal_is
-  own_refuses (Steps step.Pick) a = ap pick_refused (whole_held w p x m stands (none_waits credit.initial w q x st a)) ∙ pick_refuses w x h.fit.good
-  own_refuses (Changes c) a = absurd a
-  own_refuses Stops a = ap (λ (g : Held). active_refused g None) same
-  own_refuses (Reads version) a = look_refuses credit w q x version h st some lt
-  own_refuses (Tells code inner) a = telling_refuses credit w q x code inner a some lt st
+  -- what a step on its links is refused for is told by what it holds and its ends alone
+  pub step_refuses : (s : LinkStep) → IsOwn (Steps s) x q → step_refused s (node_at q (x - 1)) ≡ refused_as w x (Steps s)
+  step_refuses step.Put a = ap put_refused same ∙ put_refuses w x h.fit
+  step_refuses step.Take a = packet_refusal_is
+  step_refuses step.TakeEnd a = link_end_refusal_is
+  step_refuses step.Gain a = grant_refusal_is
+  step_refuses step.Pick a = ap pick_refused (whole_held w p x m stands (none_waits credit.initial w q x st a)) ∙ pick_refuses w x h.fit.good
+
+  pub own_refuses : (keeps : Keeps) (k : Kind) → keeps ≡ keeps_of w x → IsOwn k x q → own_refused (newest_of q) keeps k (node_at q (x - 1)) ≡ refused_as w x k
+  own_refuses keeps (Says s) kept a = says_refuses credit w q x keeps s kept some lt st
+  own_refuses keeps (Steps s) kept a = step_refuses s a
+  own_refuses keeps (Changes c) kept a = absurd a
+  own_refuses keeps Stops kept a = ap (λ (g : Held). active_refused g None) same
+  own_refuses keeps (Reads version) kept a = look_refuses credit w q x version h st some lt
+  own_refuses keeps (Tells code inner) kept a = telling_refuses credit w q x keeps code inner kept some lt st

@@ -2,7 +2,6 @@
 use Rattle.std.proofs.Common.{◌≡◌, ℕ, ◌+◌, ◌-◌, ◌<◌, ◌≤◌, Bool, true, false, cond, nat_eq, nat_lt, nat_le, List, [], ◌∷◌, ◌++◌, map, Option, Some, None, is_some, refl, sym, ap, ◌∙◌, arith, not}
 use Rattle.std.specs.Prelude.{◌&&◌, ◌||◌, option_map}
 use Rattle.std.specs.List.{filter}
-use Rattle.std.proofs.lemmas.Bool.{false≢true}
 use Rattle.std.proofs.Math.Bool.{or-false}
 use Rattle.ring_names.specs.declared.reason.Reason.{Reason}
 use Rattle.ring_names.specs.declared.reason.Reason.TheVariants as reason
@@ -17,13 +16,14 @@ use Rattle.ring_rules.specs.declared.phase.Phase.{Phase}
 use Rattle.ring_rules.specs.declared.phase.Phase.TheVariants.{Waiting, Up, Stopped}
 use Rattle.ring_rules.specs.declared.event.Event.TheVariants.{Mark, Erase}
 use Rattle.ring_rules.specs.declared.kind.ViewChange.TheVariants as change
-use Rattle.ring_rules.specs.Kind.{Changes, Reads, Tells}
+use Rattle.ring_rules.specs.declared.kind.Asking.TheVariants as asking
+use Rattle.ring_rules.specs.Kind.{Own, OfQueue, Publishes, Does, Saying, Says, Changes, Reads, Tells}
 use Rattle.ring_rules.specs.declared.event.Client.{Client}
 use Rattle.ring_rules.specs.declared.event.Client.TheVariants as client
 use Rattle.ring_rules.specs.Machine.{World, member_at, newest, is_waiting}
 use Rattle.ring_rules.specs.Step.{size, log_of}
 use Rattle.ring_rules.specs.Lawful.{row_of}
-use Rattle.ring_rules.specs.Event.{id_of, of_member, is_stopped, is_told, is_asked_multicast, event_of, up_refusal, doing_refusal, refused_as, at_door}
+use Rattle.ring_rules.specs.Event.{id_of, of_member, is_stopped, is_told, event_of, up_refusal, saying_refusal, doing_refusal, refused_as, at_door}
 use Rattle.ring_rules.specs.Event as event
 use Rattle.ring_rules.proofs.invariants.Happens.{IsGood}
 use Rattle.ring_rules.proofs.events.Refusals.{id_within, cond_or, up_is}
@@ -45,9 +45,11 @@ use Rattle.gm_member.proofs.Facts.{refused_there, held_known, place_few, right_r
 use Rattle.gm_member.proofs.Doors.{view_version}
 use Rattle.gm_member.proofs.PickStands.{first_is}
 use Rattle.ring_parties.specs.declared.party.Party.{Party}
-use Rattle.ring_parties.specs.Parties.{Shown, Deposit, Parties, node_at, parties, deposit_shown}
+use Rattle.ring_parties.specs.Keeps.{keeps_of}
+use Rattle.ring_parties.specs.Parties.{Shown, Keeps, Deposit, Parties, node_at, parties, deposit_shown}
 use Rattle.ring_parties.specs.Standing.{MemberStands, Stand}
-use Rattle.ring_parties.specs.Acting.{look_refused, newest_of, waits_at}
+use Rattle.ring_parties.proofs.events.Says.{refused_same}
+use Rattle.ring_parties.specs.Acting.{alone_refused, look_refused, newest_of, waits_at}
 use Rattle.ring_parties.proofs.work.Lawful.{IsLawfulAt}
 use Rattle.ring_parties.proofs.events.OneEvent.{held_but_door}
 use Rattle.ring_parties.proofs.events.Marking.{held_whole, newest_is}
@@ -172,28 +174,39 @@ module _ {I : Type 0} where
 
 -- ---- what a client asks
 
--- a member doesn't do it just where the ring refuses it, for the same reason, where it is of the ring alone
-pub client_refuses : (credit : CreditSpec) (w : World) (q : Parties) (x : ℕ) (inner : Client) → is_asked_multicast inner ≡ true → 1 ≤ x → x < size w → Stand credit.initial w q → client_refused (newest_of q) inner (node_at q (x - 1)) ≡ doing_refusal w (event_of inner) x
-client_refuses credit w q x inner cast some lt st = by_client inner cast
-  where
-    same : (node_at q (x - 1)).held ≡ record (held_in w x) { door = (node_at q (x - 1)).held.door }
-    same = held_but_door w st.places x (node_at q (x - 1)) (st.stand.each x some lt)
+-- a member says nothing just where the ring refuses it, for the same reason
+pub says_refuses : (credit : CreditSpec) (w : World) (q : Parties) (x : ℕ) (keeps : Keeps) (s : Saying) → keeps ≡ keeps_of w x → 1 ≤ x → x < size w → Stand credit.initial w q → alone_refused (Says s) keeps (node_at q (x - 1)) ≡ refused_as w x (Says s)
+says_refuses credit w q x keeps s kept some lt st =
+    let same : (node_at q (x - 1)).held ≡ record (held_in w x) { door = (node_at q (x - 1)).held.door } = held_but_door w st.places x (node_at q (x - 1)) (st.stand.each x some lt) in
+    ap (up_refused (node_at q (x - 1)).held) (refused_same w x (node_at q (x - 1)).held keeps (record { view = ap (λ (k : Held). k.view) same; id = ap (λ (k : Held). k.id) same; keeps = kept }) s)
+    ∙ ap (λ (k : Held). up_refused k (saying_refusal w x s)) same
 
-    by_client : (c : Client) → is_asked_multicast c ≡ true → client_refused (newest_of q) c (node_at q (x - 1)) ≡ doing_refusal w (event_of c) x
-    by_client (client.Cast by body) m = ap (λ (k : Held). up_refused k None) same
-    by_client (client.Stop by) m = ap (λ (k : Held). active_refused k None) same
-    by_client (client.Admit by name) m =
-        ap (λ (k : Held). up_refused k (admission_refused (newest_of q) name)) same
-        ∙ ap (λ g. up_refusal w x (admission_refused g name)) (newest_is w q st.stand.views)
-    by_client c m = absurd (false≢true m)
-
--- so it admits nobody just where the ring does
+-- and admits nobody just where the ring refuses that
 pub admit_refuses : (credit : CreditSpec) (w : World) (q : Parties) (x : ℕ) (name : List ℕ) → 1 ≤ x → x < size w → Stand credit.initial w q → up_refused (node_at q (x - 1)).held (admission_refused (newest_of q) name) ≡ refused_as w x (Changes (change.Admit name))
-admit_refuses credit w q x name some lt st = client_refuses credit w q x (client.Admit (member_at w x).name name) refl some lt st
+admit_refuses credit w q x name some lt st =
+    ap (λ (k : Held). up_refused k (admission_refused (newest_of q) name)) (held_but_door w st.places x (node_at q (x - 1)) (st.stand.each x some lt))
+    ∙ ap (λ g. up_refusal w x (admission_refused g name)) (newest_is w q st.stand.views)
+
+-- and so whatever a client asks
+pub client_refuses : (credit : CreditSpec) (w : World) (q : Parties) (x : ℕ) (keeps : Keeps) (inner : Client) → keeps ≡ keeps_of w x → 1 ≤ x → x < size w → Stand credit.initial w q → client_refused (newest_of q) keeps inner (node_at q (x - 1)) ≡ doing_refusal w (event_of inner) x
+client_refuses credit w q x keeps inner kept some lt st = by_client inner
+  where
+    says : (s : Saying) → alone_refused (Says s) keeps (node_at q (x - 1)) ≡ refused_as w x (Says s)
+    says s = says_refuses credit w q x keeps s kept some lt st
+
+    by_client : (c : Client) → client_refused (newest_of q) keeps c (node_at q (x - 1)) ≡ doing_refusal w (event_of c) x
+    by_client (client.Cast by body) = says (Own body)
+    by_client (client.Publish by body) = says (OfQueue (Publishes body))
+    by_client (client.Get by) = says (OfQueue (Does asking.Get))
+    by_client (client.Pop by) = says (OfQueue (Does asking.Pop))
+    by_client (client.Ack by at) = says (OfQueue (Does (asking.Ack at)))
+    by_client (client.Requeue by at) = says (OfQueue (Does (asking.Requeue at)))
+    by_client (client.Stop by) = ap (λ (k : Held). active_refused k None) (held_but_door w st.places x (node_at q (x - 1)) (st.stand.each x some lt))
+    by_client (client.Admit by name) = admit_refuses credit w q x name some lt st
 
 -- and tells the client so just where the ring does
-pub telling_refuses : (credit : CreditSpec) (w : World) (q : Parties) (x code : ℕ) (inner : Client) → is_asked_multicast inner ≡ true → 1 ≤ x → x < size w → Stand credit.initial w q → telling_refused (newest_of q) code inner (node_at q (x - 1)) ≡ refused_as w x (Tells code inner)
-telling_refuses credit w q x code inner cast some lt st = ap (λ r. refuse_if (not (is_told code r)) reason.NotRefused) (client_refuses credit w q x inner cast some lt st)
+pub telling_refuses : (credit : CreditSpec) (w : World) (q : Parties) (x : ℕ) (keeps : Keeps) (code : ℕ) (inner : Client) → keeps ≡ keeps_of w x → 1 ≤ x → x < size w → Stand credit.initial w q → telling_refused (newest_of q) keeps code inner (node_at q (x - 1)) ≡ refused_as w x (Tells code inner)
+telling_refuses credit w q x keeps code inner kept some lt st = ap (λ r. refuse_if (not (is_told code r)) reason.NotRefused) (client_refuses credit w q x keeps inner kept some lt st)
 
 -- ---- the registrar, and what is shown of it
 

@@ -21,7 +21,7 @@ use Rattle.gm_member.proofs.DoorParts.{member_same, member_other}
 use Rattle.gm_member.proofs.StopStands.{stop_stands}
 use Rattle.gm_member.proofs.Others.{stop_others}
 use Rattle.ring_parties.specs.Ends.{OutSeen}
-use Rattle.ring_parties.specs.Parties.{Shown, Parties, node_at, with_node}
+use Rattle.ring_parties.specs.Parties.{Shown, Parties, node_at, with_node, Keeps}
 use Rattle.ring_parties.specs.Standing.{Places, MemberStands, Stand}
 use Rattle.ring_parties.specs.Acting.{EndsIts, Acts}
 use Rattle.ring_parties.proofs.work.Lawful.{IsLawfulAt}
@@ -115,8 +115,8 @@ stop_steps credit w i q b (Some s) st h lt run e (o', ends, now) eb =
       carries = end_carries credit.initial w (link_at w s) l (p.outs s) o' (p.ins s) goes_on refl ended_now refl ends;
     })
 
-pub stop_goes : (credit : CreditSpec) (w : World) (i d : ℕ) (q q' : Parties) (replaced : Option (LinkName × OutSeen)) → IsLawfulAt credit w → refused_as w (i + 1) Stops ≡ None → i + 1 < size w → Stand credit.initial w q → Acts Stops i d q q' replaced → StandMoved credit.initial (i + 1) (done_as w (i + 1) Stops) q' replaced
-stop_goes credit w i d q q' replaced h enabled lt st (b, (ends, eb), is, none) =
+pub stop_goes : (credit : CreditSpec) (w : World) (keeps : Keeps) (i d : ℕ) (q q' : Parties) (replaced : Option (LinkName × OutSeen)) → IsLawfulAt credit w → refused_as w (i + 1) Stops ≡ None → i + 1 < size w → Stand credit.initial w q → Acts Stops keeps i d q q' replaced → StandMoved credit.initial (i + 1) (done_as w (i + 1) Stops) q' replaced
+stop_goes credit w keeps i d q q' replaced h enabled lt st (b, (ends, eb), is, none) =
     let x : ℕ = i + 1 in
     let a : MemberStands w st.places x (node_at q i) = stands_at credit.initial w q st.places i st.stand lt in
     let run : runs w x ≡ true = running_runs w x None enabled in

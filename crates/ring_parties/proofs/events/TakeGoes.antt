@@ -28,7 +28,7 @@ use Rattle.gm_member.proofs.BeginStands.{BeginsFrom, begin_stands}
 use Rattle.gm_member.proofs.TakeStands.{TakesFrom, take_stands}
 use Rattle.gm_member.proofs.Others.{take_others, begin_others}
 use Rattle.ring_parties.specs.Ends.{PacketShown, OutSeen, InSeen, packet_in, packets_in, end_items, Carries, HasRested}
-use Rattle.ring_parties.specs.Parties.{Shown, Parties, node_at, with_node}
+use Rattle.ring_parties.specs.Parties.{Shown, Parties, node_at, with_node, Keeps}
 use Rattle.ring_parties.specs.Standing.{Places, MemberStands, Stand}
 use Rattle.ring_parties.specs.Acting.{sent_of, due_of, TakesIn, Acts}
 use Rattle.ring_parties.proofs.lists.Grants.{append-with_grant}
@@ -194,8 +194,8 @@ takes_as w x s k Up f up runs some lt current has version =
     )
 takes_as w x s k Stopped f rests runs some lt current has version = absurd (false≢true (sym runs))
 
-pub take_goes : (credit : CreditSpec) (w : World) (i d : ℕ) (q q' : Parties) (replaced : Option (LinkName × OutSeen)) → IsLawfulAt credit w → refused_as w (i + 1) (Steps step.Take) ≡ None → i + 1 < size w → Stand credit.initial w q → Acts (Steps step.Take) i d q q' replaced → StandMoved credit.initial (i + 1) (done_as w (i + 1) (Steps step.Take)) q' replaced
-take_goes credit w i d q q' replaced h enabled lt st (b, (k, n, n', ends_link, takes, eb), is, none) =
+pub take_goes : (credit : CreditSpec) (w : World) (keeps : Keeps) (i d : ℕ) (q q' : Parties) (replaced : Option (LinkName × OutSeen)) → IsLawfulAt credit w → refused_as w (i + 1) (Steps step.Take) ≡ None → i + 1 < size w → Stand credit.initial w q → Acts (Steps step.Take) keeps i d q q' replaced → StandMoved credit.initial (i + 1) (done_as w (i + 1) (Steps step.Take)) q' replaced
+take_goes credit w keeps i d q q' replaced h enabled lt st (b, (k, n, n', ends_link, takes, eb), is, none) =
     let x : ℕ = i + 1 in
     let p : Places = st.places in
     let a : MemberStands w p x (node_at q i) = stands_at credit.initial w q p i st.stand lt in

@@ -25,7 +25,8 @@ use Rattle.gm_member.specs.Stands.{kept_by, last_sent_in, held_in, outgoing_in, 
 use Rattle.gm_member.proofs.Fit.{IsFit, reached_fit}
 use Rattle.gm_member.proofs.Parts.{held_is, known_by, current_waits_not, other_waits_not}
 use Rattle.ring_parties.specs.Ends.{Carries, fresh_out, fresh_in}
-use Rattle.ring_parties.specs.Parties.{node_at, no_shown}
+use Rattle.ring_parties.specs.Parties.{node_at, no_shown, Keeps}
+use Rattle.ring_parties.specs.Keeps.{KeepsStand, no_keeps}
 use Rattle.ring_parties.specs.Opened.{opened_at, opened_parties}
 use Rattle.ring_parties.specs.Standing.{Places, MemberStands, StandAfter, has_out, HaveDone}
 use Rattle.ring_parties.proofs.lists.Lists.{none_of_range}
@@ -145,9 +146,18 @@ module _ (credit : CreditSpec) (names : List (List ℕ)) (are : AreOpeningNames 
   met_first true = record { moved = refl; given = refl; free = omega arith; room = omega arith }
   met_first false = record { moved = refl; room = omega arith }
 
+  -- what its parties keep is what their members have there
+  pub opened_keeps : (ks : List Keeps) → ks ≡ map (λ (k : ℕ). no_keeps) (range_with_len 0 (length names)) → KeepsStand (opening credit names) ks
+  opened_keeps ks is = subst (KeepsStand (opening credit names)) (sym is) (record {
+    count = omega (arith, length-map-range_with_len (λ (k : ℕ). no_keeps) 0 (length names), first_size credit names);
+    each = λ x a b.
+        get_or-map-range_with_len (λ (k : ℕ). no_keeps) 0 (length names) (x - 1) (x - 1) no_keeps (omega (arith, a, b, first_size credit names)) (omega arith)
+        ∙ ap (λ (m : Member). record { mirror = m.mirror; started = m.started; told = m.told }) (sym (first_member credit names x a b));
+  })
+
   pub opened_stand : StandAfter credit names [] (opened_parties credit names)
   opened_stand = record {
-    journal = record { are = are; run = tt; few = omega arith; multicast = refl };
+    journal = record { are = are; run = tt; few = omega arith };
     stand = record {
       places = first_places;
       stand = record {

@@ -21,7 +21,9 @@ use Rattle.gm_member.specs.Faults.{refused_as}
 use Rattle.activity.specs.declared.packet.Load.{Load}
 use Rattle.gm_member.specs.declared.links.InLink.{InLink}
 use Rattle.activity.specs.Packets.{PacketSeen}
-use Rattle.gm_member.specs.Packets.{packet_by_id}
+use Rattle.gm_member.specs.declared.taken.Taken.{Taken}
+use Rattle.gm_member.specs.News.{news_of}
+use Rattle.gm_member.specs.Packets.{PacketById, packet_by_id}
 use Rattle.gm_member.specs.Loads.{as_item, packet_seen, GrantsIf}
 use Rattle.gm_member.specs.Held.{Held, Incoming, at_some, on_some, take_refused, took_held}
 use Rattle.gm_member.specs.View.{in_of, end_of}
@@ -29,11 +31,13 @@ use Rattle.gm_member.specs.Ends.{EndLooks, NothingIsNext, EndIsNext, PacketIsNex
 use Rattle.gm_member.specs.Shown.{held_of, ends_of, LooksIn, TookOn, SameOut}
 use Rattle.ring_rules.proofs.rests.Asked.{no_version}
 use Rattle.ring_parties.specs.Ends.{PacketShown, InSeen}
+use Rattle.ring_parties.specs.Keeps.{ops_taken, ops_first, ops_next, messages_on}
+use Rattle.ring_parties.proofs.keeping.Coming.{news_few}
 use Rattle.ring_parties.specs.Parties.{ANode, Shown, content, out_seen, in_seen, named_out, named_in, ends_seen, shown_of}
 use Rattle.ring_parties.specs.Acting.{IsReady, TakesIn, TakesPacket, sent_of, due_of, items_refused, end_refused, first_item, packet_refused, link_end_refused}
 use Rattle.ring_rules.specs.declared.refused.Refused.{Refused}
 use Rattle.ring_rules.specs.declared.refused.Refused.TheVariants.{NotEnabled}
-use Rattle.ring_parties.specs.Tried.{Tries}
+use Rattle.ring_parties.specs.Tried.{IsJudged, Tries}
 use Rattle.ring_parties.proofs.lists.Grants.{nothing_sent, granted}
 use Rattle.ring_parties.proofs.standing.Shown.{end_there, returned_there, in_there, ends_same, shown_same}
 
@@ -88,6 +92,24 @@ takes_shown m n k ready (l, l', ml, nl, (i, j, a, b, li, looked, takes, waits, g
       subst (λ d. TakesIn d (in_seen i) (sent_of (packet_by_id k)) (in_seen b)) (sym due) (shown_take (grant_due l.counted) k i j a b h.0 h.1 looked takes grants),
       shown_same (record { held = took_held (held_of m) (packet_by_id k); ends = record (ends_seen (ends_of m)) { link = Some (in_seen b) } }) (shown_of n) held (with_link m n (Some (in_seen b)) (in_is n l' b nl lb) same),
     )
+
+-- the packet stood first on the link
+pub take_first : (m n : ANode) (k : PacketSeen) → IsReady (shown_of m) → TookOn (λ e. e.late) PlainTakes PlainLooked PlainSends k m n → (rest : List (Option PacketShown)) × (first_item (shown_of m).ends.link ≡ Some (sent_of (packet_by_id k)) ∷ rest)
+take_first m n k ready (l, l', ml, nl, (i, j, a, b, li, looked, takes, waits, grants, lb), same) =
+    let h : IsReadyIn (in_seen i) = ready_in m l i ml li ready in
+    ((in_seen b).items, ap first_item (in_is m l i ml li) ∙ (shown_take (grant_due l.counted) k i j a b h.0 h.1 looked takes grants).items)
+
+-- the operations that it brings are those of what stands first there
+pub take_ops : (m : ANode) (k : PacketById) (rest : List (Option PacketShown)) (taken : List Taken) → first_item (shown_of m).ends.link ≡ Some (sent_of k) ∷ rest → taken ≡ news_of (held_of m) k → ops_taken taken ≡ ops_next (shown_of m)
+take_ops m k rest taken first is = ap ops_taken is ∙ sym (ap (ops_first (held_of m)) first)
+
+-- and it brings no more messages than its lines have
+pub take_few : (m : ANode) (k : PacketById) (rest : List (Option PacketShown)) (taken : List Taken) → first_item (shown_of m).ends.link ≡ Some (sent_of k) ∷ rest → taken ≡ news_of (held_of m) k
+    → (j : PacketShown) (others : List (Option PacketShown)) → first_item (shown_of m).ends.link ≡ Some j ∷ others → length taken ≤ messages_on j.lines
+take_few m k rest taken first is j others there =
+    let both : Some (sent_of k) ∷ rest ≡ Some j ∷ others = sym first ∙ there in
+    let same : sent_of k ≡ j = cc in
+    subst (λ (p : PacketShown). length taken ≤ messages_on p.lines) same (subst (λ ts. length ts ≤ messages_on k.lines) (sym is) (news_few (held_of m) k))
 
 -- ---- an end that was looked at
 
@@ -268,8 +290,13 @@ refused_only : (fault : MemberFault) (r : Reason) → refused_as fault ≡ NotEn
 refused_only (faults.Refused q) r e = cc
 refused_only faults.OutOfMemory r e = cc
 
--- its fault is a refusal where the first condition that fails is that, and the member shows what it showed
+-- its fault is a refusal where the first condition that fails is that
+pub not_judged : {X : Type 0} (refusal : Option Reason) (fault : MemberFault) (result : Result X Refused) → IsErrAnd result (λ e. e ≡ refused_as fault) → ((r : Reason) → fault ≡ faults.Refused r → refusal ≡ Some r) → IsJudged refusal result
+not_judged refusal fault (Ok a) is why = absurd is
+not_judged refusal fault (Err e) is why = record { enabled = tt; reason = λ r x. why r (refused_only fault r (sym is ∙ x)) }
+
+-- and the member shows what it showed
 pub not_done : (refusal : Option Reason) (does : Shown → Shown → Type 0) (m n : Shown) (fault : MemberFault) (result : Result (Unit {0}) Refused) → IsErrAnd result (λ e. e ≡ refused_as fault) → ((r : Reason) → fault ≡ faults.Refused r → refusal ≡ Some r)
     → n ≡ m → Tries refusal does m n result
 not_done refusal does m n fault (Ok a) is why same = absurd is
-not_done refusal does m n fault (Err e) is why same = record { judged = record { enabled = tt; reason = λ r x. why r (refused_only fault r (sym is ∙ x)) }; ok = tt; err = same }
+not_done refusal does m n fault (Err e) is why same = record { judged = not_judged refusal fault (Err e) is why; ok = tt; err = same }

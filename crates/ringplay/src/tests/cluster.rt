@@ -33,6 +33,8 @@ enum Line {
     Heard(u32, u32, &'static str),
     /// So many messages of the member of that id have come round, where there is one.
     Confirmed(u32, Option<u64>),
+    /// The mirror of the member of that id, where there is one, is known to lack so many messages.
+    Lacks(u32, Option<u64>),
     /// The version of the newest view.
     View(u32),
     /// So many events have happened.
@@ -248,6 +250,11 @@ fn confirmed(cluster: &Cluster, by: u32) -> Option<u64> {
     Some(cluster.member(MemberId(by))?.confirmed())
 }
 
+/// How many messages the mirror of the member of an id lacks, where that is known.
+fn lacked(cluster: &Cluster, by: u32) -> Option<u64> {
+    cluster.mirror(MemberId(by))?.missing()
+}
+
 /// Whether the ring is seen so, or does so.
 fn is_so<R: Threads + Abort + AllocGlobal>(
     rt: &R,
@@ -263,6 +270,7 @@ fn is_so<R: Threads + Abort + AllocGlobal>(
         Line::Settle => settle(rt, cluster, gate)?,
         Line::Heard(by, of, bodies) => return Ok(has_heard(cluster, by, of, bodies)?),
         Line::Confirmed(by, count) => return Ok(confirmed(cluster, by) == count),
+        Line::Lacks(by, count) => return Ok(lacked(cluster, by) == count),
         Line::View(version) => return Ok(cluster.view().version == version),
         Line::Events(count) => return Ok(happened(cluster)? == count),
         Line::Rounds(count) => return Ok(cluster.rounds() == count),
@@ -411,7 +419,7 @@ fn who_is_left_settles_again(rt: HostRuntime) -> Result<(), Fail> {
     play(&rt, "members a b c\ncredit 2 1", &SETTLED_AGAIN)
 }
 
-const NEWCOMER_SETTLES: [Line; 16] = [
+const NEWCOMER_SETTLES: [Line; 18] = [
     Line::Ask("a", "a1"),
     Line::Settle,
     Line::Steps("members a\nadmit a n", 1),
@@ -428,6 +436,8 @@ const NEWCOMER_SETTLES: [Line; 16] = [
     Line::Heard(3, 2, "b1"),
     Line::Confirmed(1, Some(2)),
     Line::Confirmed(2, Some(1)),
+    Line::Lacks(2, Some(0)),
+    Line::Lacks(3, None),
 ];
 
 /// Who is admitted takes its turns in rounds and in the drain as all others do.

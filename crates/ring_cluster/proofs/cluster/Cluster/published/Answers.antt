@@ -22,7 +22,7 @@ casts_of-requires-clause-different c =
 pub casts_of-requires-clause-multicast : goal.casts_of-requires-clause-multicast
 casts_of-requires-clause-multicast c =
     let kept : list_all is_multicast (c.args.self.now).events ≡ true =
-    subst (λ (x : Seen). list_all is_multicast x.events ≡ true) c.self.view_is c.self.invariant.standing.journal.multicast in
+    subst (λ (x : Seen). list_all is_multicast x.events ≡ true) c.self.view_is c.self.invariant.multicast in
     ap (list_all is_multicast) c.events.ensures ∙ kept
 
 pub returns : goal.returns

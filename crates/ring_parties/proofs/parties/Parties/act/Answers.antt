@@ -3,6 +3,7 @@ use Rattle.std.specs.Prelude.{IfOk}
 use Rattle.ring_rules.specs.declared.kind.Kind.TheVariants as shown
 use Rattle.ring_rules.specs.Kind.{kind_of}
 use Rattle.ring_rules.proofs.events.Kinds.{kind_read}
+use Rattle.ring_parties.specs.Keeps.{keeps_at}
 use Rattle.ring_parties.specs.Looking.{replaced_seen}
 use Rattle.ring_parties.specs.Acting.{is_alone, Acts}
 use Rattle.ring_parties.specs.Refused.{marked_in}
@@ -14,5 +15,5 @@ act_alone-requires-clause-alone c = ⊎_elim (λ e. ap is_alone (sym c.kind.ensu
 pub returns-in-Changes-clause-ok : goal.returns-in-Changes-clause-ok
 returns-in-Changes-clause-ok c =
     let q = (c.args.self.now).all in
-    subst (λ k. IfOk c.act_change.result (λ replaced. Acts k c.args.i (marked_in k q) q (c.act_change.new.self).all (replaced_seen replaced)))
+    subst (λ k. IfOk c.act_change.result (λ replaced. Acts k (keeps_at (c.args.self.now).keeps c.args.i) c.args.i (marked_in k q) q (c.act_change.new.self).all (replaced_seen replaced)))
     (sym (kind_read (kind_of c.args.event.now) (shown.Changes c.in-Changes.change) (sym c.in-Changes.is ∙ c.kind.ensures))) c.act_change.ensures.ok

@@ -1,5 +1,6 @@
-use Rattle.std.proofs.Common.{◌≡◌, ◌+◌, ◌∷◌, ◌++◌, [], None, Some, get_or, set, sym, ap, subst, ◌∙◌, arith, rules}
+use Rattle.std.proofs.Common.{◌≡◌, ◌+◌, ◌∷◌, ◌++◌, [], None, Some, map, get_or, set, refl, sym, ap, subst, ◌∙◌, arith, rules}
 use Rattle.std.proofs.lemmas.Option.{none-some}
+use Rattle.std.proofs.lemmas.List.{map-append}
 use Rattle.group_view.specs.Change.{admitted, admit_refusal as group_refusal}
 use Rattle.group_view.specs.Ring.{is_in}
 use Rattle.ring_rules.specs.View.{ids}
@@ -9,14 +10,14 @@ use Rattle.gm_member.specs.declared.questions.Ask.TheVariants.{Admit}
 use Rattle.gm_member.specs.Held.{at_some, up_refused}
 use Rattle.ring_parties.specs.Behind.{behind}
 use Rattle.ring_parties.specs.Ends.{fresh_in}
-use Rattle.ring_parties.specs.Parties.{Deposit, Shown, parties, node_at, shown_of, shown_in}
+use Rattle.ring_parties.specs.Parties.{Deposit, Shown, parties, node_at, shown_of, shown_in, keeps_in}
 use Rattle.ring_parties.specs.Looking.{HasLooked, pending_shown, replaced_seen, ask_refused}
 use Rattle.ring_parties.specs.Acting.{joined, HasCredit, AdmitsAt}
 use Rattle.ring_parties.specs.Refused.{admission_refused}
 use Rattle.ring_parties.proofs.standing.Nodes.{at_read, written_shown}
 use Rattle.ring_parties.proofs.events.Acted.{lets_in}
 use Rattle.ring_parties.proofs.events.Closing.{up_later}
-use Rattle.ring_parties.proofs.deposits.Delivered.{inside, none_behind, bare, shown_is, here, few, asks_nothing, id_is, is_ready, may_join, unchanged, seen_as}
+use Rattle.ring_parties.proofs.deposits.Delivered.{still_kept, inside, none_behind, bare, shown_is, here, few, asks_nothing, id_is, is_ready, may_join, unchanged, seen_as}
 use Rattle.ring_parties.proofs.parties.Parties.act_admit.Goals as goal
 
 pub admit_refusal-requires : goal.admit_refusal-requires
@@ -104,13 +105,24 @@ returns-clause-ok c =
     let follows = c.in-Ok-ask.ensures.registrar ∙ ap (λ x. with_view r (admitted (newest r) x name)) id in
     let made = c.in-Ok.ensures ∙ ap (λ g. joined c.args.credit name g.next_id (admitted g (c.args.i + 1) name) (Some (fresh_in c.args.credit.initial))) c.view-view.ensures.newest in
     let seated = c.seat.ensures ∙ ap (λ (m : Shown). record m { ends = record m.ends { link = at_some (pending_shown looked.opened) None (λ (d : Deposit). d.end) } }) made in
-    let members = c.push_reserved.ensures ∙ ap (λ ms. set ms c.args.i party ++ record { node = c.seat.new.node } ∷ []) c.reserve.ensures.items in
+    let members = c.push_reserved.ensures ∙ ap (λ ms. set ms c.args.i party ++ c.joining.result ∷ []) c.reserve.ensures.items in
     subst (λ p. AdmitsAt name c.args.i p (parties c.push_reserved.new.members.items c.ask.new.registrar (behind c.self.inside.pending_deposit)) (replaced_seen looked.replaced)) (sym old)
     (subst (λ p. AdmitsAt name c.args.i (parties ns r []) p (replaced_seen looked.replaced)) (sym (none_behind c.self.inside c.args.self.now c.self.view_is c.requires.may.delivered c.push_reserved.new.members.items c.ask.new.registrar))
     (subst (λ ms. AdmitsAt name c.args.i (parties ns r []) (parties ms c.ask.new.registrar []) (replaced_seen looked.replaced)) (sym members) (
       c.args.credit,
       subst (λ q. HasCredit c.args.credit (node_at q c.args.i).held) old c.requires.credit,
-      lets_in v c.args.credit name (newest r).next_id c.args.i ns ns' (record { node = c.seat.new.node }) r c.ask.new.registrar looked.opened (replaced_seen looked.replaced)
+      lets_in v c.args.credit name (newest r).next_id c.args.i ns ns' c.joining.result r c.ask.new.registrar looked.opened (replaced_seen looked.replaced)
           (at_read (λ a b. HasLooked v a b (pending_shown looked.opened) (replaced_seen looked.replaced)) ns c.args.i c.index_mut.result.now party l value has_looked)
-          (written_shown ns c.args.i party l) seated follows,
+          (written_shown ns c.args.i party l) (c.joining.ensures.shown ∙ seated) follows,
     )))
+
+pub returns-clause-keeps : goal.returns-clause-keeps
+returns-clause-keeps c =
+    let value = c.index_mut.ensures.value ∙ ap (λ ms. get_or ms c.args.i c.index_mut.result.now) c.reserve.ensures.items in
+    let party = record c.index_mut.result.now { node = c.ask.new.node } in
+    let ns' = set c.self.inside.members.items c.args.i party in
+    let members = c.push_reserved.ensures ∙ ap (λ ms. set ms c.args.i party ++ c.joining.result ∷ []) c.reserve.ensures.items in
+    ap (map keeps_in) members
+    ∙ map-append keeps_in ns' (c.joining.result ∷ [])
+    ∙ ap (λ ks. ks ++ keeps_in c.joining.result ∷ []) (still_kept c.self.inside c.args.self.now c.self.view_is c.args.i c.requires.may.within c.index_mut.result.now party value refl)
+    ∙ ap (λ k. (c.args.self.now).keeps ++ k ∷ []) c.joining.ensures.keeps

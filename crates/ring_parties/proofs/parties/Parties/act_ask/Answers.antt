@@ -1,4 +1,4 @@
-use Rattle.std.proofs.Common.{◌≡◌, ◌+◌, [], set, sym, ap, subst, ◌∙◌, rules}
+use Rattle.std.proofs.Common.{◌≡◌, ◌+◌, [], set, sym, ap, subst, ◌∙◌, rules, refl}
 use Rattle.registrar.specs.Handled.{with_view}
 use Rattle.ring_parties.specs.Behind.{behind}
 use Rattle.ring_parties.specs.Parties.{parties, shown_of, shown_in}
@@ -8,7 +8,7 @@ use Rattle.ring_parties.specs.Refused.{office_of}
 use Rattle.ring_parties.proofs.standing.Nodes.{at_read, written_shown}
 use Rattle.ring_parties.proofs.events.Acted.{follow_acts}
 use Rattle.ring_parties.proofs.events.Refusing.{view_for_same}
-use Rattle.ring_parties.proofs.deposits.Delivered.{seen_as, inside, unchanged, bare, here, id_is, is_ready, ask_is}
+use Rattle.ring_parties.proofs.deposits.Delivered.{still_kept, seen_as, inside, unchanged, bare, here, id_is, is_ready, ask_is}
 use Rattle.ring_parties.proofs.parties.Parties.act_ask.Goals as goal
 
 pub ask-requires-clause-ready : goal.ask-requires-clause-ready
@@ -49,3 +49,6 @@ returns-in-Ok-clause-ok c =
     (follow_acts v c.args.i ns ns' r c.ask.new.registrar looked.opened (replaced_seen looked.replaced)
     (at_read (λ a b. HasLooked v a b (pending_shown looked.opened) (replaced_seen looked.replaced)) ns c.args.i c.index_mut.result.now (record c.index_mut.result.now { node = c.ask.new.node }) l c.index_mut.ensures.value has_looked)
     (written_shown ns c.args.i (record c.index_mut.result.now { node = c.ask.new.node }) l) follows))
+
+pub returns-in-Ok-clause-keeps : goal.returns-in-Ok-clause-keeps
+returns-in-Ok-clause-keeps c = still_kept c.self.inside c.args.self.now c.self.view_is c.args.i c.requires.may.within c.index_mut.result.now (record c.index_mut.result.now { node = c.ask.new.node }) c.index_mut.ensures.value refl

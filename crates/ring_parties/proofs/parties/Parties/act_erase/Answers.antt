@@ -1,6 +1,7 @@
 use Rattle.std.proofs.Common.{◌≡◌, Some, ap, subst, sym, ◌∙◌}
 use Rattle.std.specs.Prelude.{option_map}
 use Rattle.group_view.specs.View.{number}
+use Rattle.ring_parties.specs.Keeps.{keeps_at}
 use Rattle.ring_parties.specs.Looking.{replaced_seen}
 use Rattle.ring_parties.specs.Parties.{node_at}
 use Rattle.ring_parties.specs.Acting.{erasing, viewing, LooksAt}
@@ -25,4 +26,4 @@ returns-clause-ok c =
     let id = c.in-Some.id.0 in
     let named : id_named q c.args.origin.now ≡ Some id = c.id_named.ensures.id ∙ ap (option_map number) c.in-Some.is in
     ok_also c.act_ask.result (λ replaced. LooksAt (erasing q id) c.args.i (viewing (erasing q id) q) (c.act_ask.new.self).all (replaced_seen replaced)) _
-    (λ replaced looks. erase_acts c.args.origin.now c.args.i id q (c.act_ask.new.self).all (replaced_seen replaced) named looks) c.act_ask.ensures.ok
+    (λ replaced looks. erase_acts (keeps_at (c.args.self.now).keeps c.args.i) c.args.origin.now c.args.i id q (c.act_ask.new.self).all (replaced_seen replaced) named looks) c.act_ask.ensures.ok

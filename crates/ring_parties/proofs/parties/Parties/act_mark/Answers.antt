@@ -2,6 +2,7 @@ use Rattle.std.proofs.Common.{◌≡◌, Some, ap, subst, sym, ◌∙◌}
 use Rattle.std.specs.Prelude.{option_map}
 use Rattle.group_view.specs.Change.{marked}
 use Rattle.group_view.specs.View.{number}
+use Rattle.ring_parties.specs.Keeps.{keeps_at}
 use Rattle.ring_parties.specs.Looking.{replaced_seen}
 use Rattle.ring_parties.specs.Parties.{node_at}
 use Rattle.ring_parties.specs.Acting.{newest_of, viewing, LooksAt}
@@ -26,4 +27,4 @@ returns-clause-ok c =
     let id = c.in-Some.id.0 in
     let named : id_named q c.args.dead.now ≡ Some id = c.id_named.ensures.id ∙ ap (option_map number) c.in-Some.is in
     ok_also c.act_ask.result (λ replaced. LooksAt (marked (newest_of q) id) c.args.i (viewing (marked (newest_of q) id) q) (c.act_ask.new.self).all (replaced_seen replaced)) _
-    (λ replaced looks. mark_acts c.args.dead.now c.args.i id q (c.act_ask.new.self).all (replaced_seen replaced) named looks) c.act_ask.ensures.ok
+    (λ replaced looks. mark_acts (keeps_at (c.args.self.now).keeps c.args.i) c.args.dead.now c.args.i id q (c.act_ask.new.self).all (replaced_seen replaced) named looks) c.act_ask.ensures.ok

@@ -1,4 +1,4 @@
-use Rattle.std.proofs.Common.{◌≡◌, None, set, sym, ap, subst, ◌∙◌}
+use Rattle.std.proofs.Common.{◌≡◌, None, set, sym, ap, subst, ◌∙◌, refl}
 use Rattle.std.specs.Prelude.{is_some}
 use Rattle.std.proofs.lemmas.Bool.{false≢true}
 use Rattle.group_view.specs.Ring.{is_in}
@@ -12,7 +12,7 @@ use Rattle.ring_parties.specs.Acting.{look_refused, LooksAt}
 use Rattle.ring_parties.specs.Looking.{HasLooked, pending_shown, replaced_seen}
 use Rattle.ring_parties.proofs.standing.Nodes.{at_read, written_shown}
 use Rattle.ring_parties.proofs.events.Acted.{looks_at}
-use Rattle.ring_parties.proofs.deposits.Delivered.{inside, shown_is, unchanged, bare, asks_nothing, is_ready, may_look}
+use Rattle.ring_parties.proofs.deposits.Delivered.{still_kept, inside, shown_is, unchanged, bare, asks_nothing, is_ready, may_look}
 use Rattle.ring_parties.proofs.parties.Parties.act_refresh.Goals as goal
 
 pub look_refusal-requires : goal.look_refusal-requires
@@ -54,3 +54,6 @@ returns-clause-ok c =
     (looks_at v c.args.i c.self.inside.members.items (set c.self.inside.members.items c.args.i (record c.index_mut.result.now { node = c.look.new.node })) c.self.inside.registrar looked.opened (replaced_seen looked.replaced)
     (at_read (λ a b. HasLooked v a b (pending_shown looked.opened) (replaced_seen looked.replaced)) c.self.inside.members.items c.args.i c.index_mut.result.now (record c.index_mut.result.now { node = c.look.new.node }) l c.index_mut.ensures.value has)
     (written_shown c.self.inside.members.items c.args.i (record c.index_mut.result.now { node = c.look.new.node }) l))
+
+pub returns-clause-keeps : goal.returns-clause-keeps
+returns-clause-keeps c = still_kept c.self.inside c.args.self.now c.self.view_is c.args.i c.requires.within c.index_mut.result.now (record c.index_mut.result.now { node = c.look.new.node }) c.index_mut.ensures.value refl

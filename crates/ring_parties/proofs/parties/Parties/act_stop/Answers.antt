@@ -1,8 +1,9 @@
-use Rattle.std.proofs.Common.{set, sym, ◌∙◌, arith}
+use Rattle.std.proofs.Common.{set, sym, ◌∙◌, arith, refl}
+use Rattle.ring_parties.specs.Keeps.{keeps_at}
 use Rattle.ring_parties.specs.Acting.{Halts}
 use Rattle.ring_parties.proofs.standing.Nodes.{at_read, written_shown}
 use Rattle.ring_parties.proofs.events.Acted.{stop_acts}
-use Rattle.ring_parties.proofs.deposits.Delivered.{inside, none_behind, bare, here, few, asks_nothing, is_ready, unheard}
+use Rattle.ring_parties.proofs.deposits.Delivered.{still_kept, inside, none_behind, bare, here, few, asks_nothing, is_ready, unheard}
 use Rattle.ring_parties.proofs.parties.Parties.act_stop.Goals as goal
 
 pub stop_refusal-requires : goal.stop_refusal-requires
@@ -30,4 +31,7 @@ returns-clause-ok c = λ d.
     let old = bare c.self.inside c.args.self.now c.self.view_is c.requires.delivered in
     let new = none_behind c.self.inside c.args.self.now c.self.view_is c.requires.delivered (set c.self.inside.members.items c.args.i (record c.index_mut.result.now { node = c.stop.new.node })) c.notify.new.registrar in
     rw (old, new)
-    (stop_acts c.args.i d c.self.inside.members.items (set c.self.inside.members.items c.args.i (record c.index_mut.result.now { node = c.stop.new.node })) c.self.inside.registrar c.notify.new.registrar stops (written_shown c.self.inside.members.items c.args.i (record c.index_mut.result.now { node = c.stop.new.node }) l) c.in_ok-notify.ensures.ok)
+    (stop_acts (keeps_at (c.args.self.now).keeps c.args.i) c.args.i d c.self.inside.members.items (set c.self.inside.members.items c.args.i (record c.index_mut.result.now { node = c.stop.new.node })) c.self.inside.registrar c.notify.new.registrar stops (written_shown c.self.inside.members.items c.args.i (record c.index_mut.result.now { node = c.stop.new.node }) l) c.in_ok-notify.ensures.ok)
+
+pub returns-clause-keeps : goal.returns-clause-keeps
+returns-clause-keeps c = still_kept c.self.inside c.args.self.now c.self.view_is c.args.i c.requires.within c.index_mut.result.now (record c.index_mut.result.now { node = c.stop.new.node }) c.index_mut.ensures.value refl

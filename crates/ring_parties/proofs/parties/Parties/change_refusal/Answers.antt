@@ -3,8 +3,8 @@ use Rattle.std.proofs.lemmas.Bool.{false≢true}
 use Rattle.ring_rules.specs.declared.event.Event.TheVariants.{Mark, Erase}
 use Rattle.ring_rules.specs.declared.kind.ViewChange.TheVariants as change
 use Rattle.ring_rules.specs.Kind.{Changes}
-use Rattle.ring_rules.specs.Event.{is_multicast_kind}
 use Rattle.gm_member.specs.Held.{up_refused}
+use Rattle.ring_parties.specs.States.{is_played_kind}
 use Rattle.ring_parties.specs.Parties.{PartiesSeen, Shown, shown_in}
 use Rattle.ring_parties.specs.Acting.{newest_of}
 use Rattle.ring_parties.specs.Refused.{admission_refused, IsRefusedAs}
@@ -39,4 +39,4 @@ returns-in-Admit c =
     ∙ admit_reads credit names events q s c.args.i lt name)
 
 pub returns-in-Register : goal.returns-in-Register
-returns-in-Register c = λ credit names events s lt cast. absurd (false≢true (ap (λ k. is_multicast_kind (Changes k)) (sym c.in-Register.is) ∙ cast))
+returns-in-Register c = λ credit names events s lt cast. absurd (false≢true (ap (λ k. is_played_kind (Changes k)) (sym c.in-Register.is) ∙ cast))

@@ -1,4 +1,4 @@
-use Rattle.std.proofs.Common.{◌+◌, set, sym, ap, subst, ◌∙◌}
+use Rattle.std.proofs.Common.{◌+◌, set, sym, ap, subst, ◌∙◌, refl}
 use Rattle.std.specs.Prelude.{map}
 use Rattle.std.specs.List.{filter}
 use Rattle.registrar.specs.Handled.{without_links}
@@ -8,7 +8,7 @@ use Rattle.ring_parties.specs.Acting.{waits_at, Collects}
 use Rattle.ring_parties.specs.Refused.{NothingWaits}
 use Rattle.ring_parties.proofs.standing.Nodes.{read_shown, at_read, written_shown}
 use Rattle.ring_parties.proofs.deposits.Gathers.{stand_then, nothing_waits}
-use Rattle.ring_parties.proofs.deposits.Delivered.{seen_as, inside, unchanged, none_behind, bare, here, of_ring, asks_nothing, is_ready, known}
+use Rattle.ring_parties.proofs.deposits.Delivered.{still_kept, seen_as, inside, unchanged, none_behind, bare, here, of_ring, asks_nothing, is_ready, known}
 use Rattle.ring_parties.proofs.parties.Parties.collect.Goals as goal
 
 pub collect-requires-clause-free : goal.collect-requires-clause-free
@@ -50,3 +50,9 @@ returns-clause-none c = λ up.
     let others = written_shown c.self.inside.members.items c.args.i (record c.index_mut.result.now { node = c.collect.new.node }) l in
     subst (NothingWaits (c.args.i + 1)) (sym (none_behind c.self.inside c.args.self.now c.self.view_is c.requires.delivered (set c.self.inside.members.items c.args.i (record c.index_mut.result.now { node = c.collect.new.node })) c.collect.new.registrar))
     (nothing_waits h.0 h.1 h.2 c.self.inside.members.items c.self.inside.registrar (subst (StandAfter h.0 h.1 h.2) (bare c.self.inside c.args.self.now c.self.view_is c.requires.delivered) h.3) (set c.self.inside.members.items c.args.i (record c.index_mut.result.now { node = c.collect.new.node })) c.collect.new.registrar c.args.i l after others left)
+
+pub returns-in_err-collect-clause-keeps : goal.returns-in_err-collect-clause-keeps
+returns-in_err-collect-clause-keeps c = still_kept c.self.inside c.args.self.now c.self.view_is c.args.i c.requires.within c.index_mut.result.now (record c.index_mut.result.now { node = c.collect.new.node }) c.index_mut.ensures.value refl
+
+pub returns-clause-keeps : goal.returns-clause-keeps
+returns-clause-keeps c = still_kept c.self.inside c.args.self.now c.self.view_is c.args.i c.requires.within c.index_mut.result.now (record c.index_mut.result.now { node = c.collect.new.node }) c.index_mut.ensures.value refl

@@ -9,6 +9,6 @@ meet_in-requires c =
     let h = c.requires in
     between_may h.0 h.1 h.2 h.3 (c.args.self.now).all c.in-Some.name (out_seen c.in-Some.out) (replaced_seen c.args.replaced) (ap replaced_seen c.in-Some.is) h.4
 
-pub returns : goal.returns
-returns c = λ credit names events ids b.
-    between_meets credit names events ids (c.args.self.now).all (c.meet_in.new.self).all c.in-Some.name (out_seen c.in-Some.out) (out_seen c.meet_in.new.out) (replaced_seen c.args.replaced) (ap replaced_seen c.in-Some.is) b c.meet_in.ensures
+pub returns-clause-meets : goal.returns-clause-meets
+returns-clause-meets c = λ credit names events ids b.
+    between_meets credit names events ids (c.args.self.now).all (c.meet_in.new.self).all c.in-Some.name (out_seen c.in-Some.out) (out_seen c.meet_in.new.out) (replaced_seen c.args.replaced) (ap replaced_seen c.in-Some.is) b c.meet_in.ensures.meets

@@ -11,7 +11,7 @@ use Rattle.ring_parties.specs.States.{state}
 use Rattle.ring_parties.specs.Refused.{IsRefusalAt, IsRefusedAs}
 use Rattle.ring_parties.proofs.events.Kinds.{told_as}
 use Rattle.ring_parties.proofs.events.Refusals.{IsOwn}
-use Rattle.ring_parties.proofs.events.Reads.{own_reads, pick_reads}
+use Rattle.ring_parties.proofs.events.Reads.{step_reads, pick_reads}
 use Rattle.ring_parties.proofs.deposits.Delivered.{shown_is, asks_nothing}
 use Rattle.ring_parties.proofs.parties.Parties.step_refusal.Goals as goal
 
@@ -35,4 +35,4 @@ pub returns-in_default : goal.returns-in_default
 returns-in_default c = told c.args.i c.args.step (c.args.self.now).all _ (λ credit names events s lt _.
     c.own_step_refusal.ensures
     ∙ ap (step_refused c.args.step) (shown_is c.self.inside c.args.self.now c.self.view_is c.args.i c.requires.within c.index.result.now c.index.ensures)
-    ∙ own_reads credit names events (c.args.self.now).all s c.args.i lt (Steps c.args.step) (own_step c.args.step (c.args.i + 1) (c.args.self.now).all c.in_default.not-Pick))
+    ∙ step_reads credit names events (c.args.self.now).all s c.args.i lt c.args.step (own_step c.args.step (c.args.i + 1) (c.args.self.now).all c.in_default.not-Pick))
